@@ -1,0 +1,28 @@
+#!/usr/bin/env bash
+# Runs the proved program with these words and this input. Where it isn't built yet, or a source is newer than it, the
+# program is proved and built first; that is said on standard error, and takes minutes the first time.
+set -u
+top=$(cd "$(dirname "$0")" && pwd)
+program=$top/crates/td/out/td
+
+is_stale() {
+    [ -x "$program" ] || return 0
+    [ -n "$(find "$top/crates" "$top/crates.txt" -name out -prune -o \
+        -type f \( -name '*.rt' -o -name '*.antt' -o -name crates.txt \) -newer "$program" -print -quit)" ]
+}
+
+if is_stale; then
+    echo "td: proving and building the program first" >&2
+    log=$(mktemp)
+    rm -f "$program"
+    # Without words the program ends as a wrong command line does, so its status says nothing of the build.
+    (cd "$top/crates/td" && rt run </dev/null >"$log" 2>&1)
+    if [ ! -x "$program" ]; then
+        cat "$log" >&2
+        rm -f "$log"
+        echo "td: the program was not built" >&2
+        exit 70
+    fi
+    rm -f "$log"
+fi
+exec "$program" "$@"
