@@ -4,4 +4,6 @@
 
 pub mod load;
 pub mod loads;
+pub mod recorder;
+pub mod stream;
 pub mod words;
