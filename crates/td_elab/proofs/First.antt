@@ -1,0 +1,132 @@
+-- The first of a list of breaches.
+use Rattle.std.proofs.Common.{length, ◌≡◌, ◌≢◌, ℕ, ◌<◌, Bool, true, false, if◌then◌else◌, nat_lt, nat_eq, List, [], ◌∷◌, ◌++◌, Option, Some, None, Contains, All, ◌⊎◌, inl, inr, cond, subst, refl, sym, ap, ◌∙◌, arith}
+use Rattle.std.proofs.lemmas.Bool.Decides.{nat_tests}
+use Rattle.std.proofs.lemmas.List.Elements.{All-nil, All-cons, All-contains, Contains-get_or, Contains-append_right}
+use Rattle.td_elab.specs.declared.breach.Code.{Code}
+use Rattle.td_elab.specs.declared.breach.Code.TheVariants.{Unknown, Twice}
+use Rattle.td_elab.specs.declared.breach.Breach.{Breach}
+use Rattle.td_elab.specs.Breach.{rank, is_sooner, sooner, first_of, IsFirst}
+
+-- one step of the order: the first numbers decide, and where they are equal the rest does
+abbrev step : ℕ → ℕ → Bool → Bool
+step a x rest = if nat_eq a x then rest else nat_lt a x
+
+lt_after : (a x u : ℕ) → nat_lt x a ≡ true → nat_lt x u ≡ false → nat_lt a u ≡ false
+lt_after a x u h k = grind (arith, nat_tests)
+
+lt_level : (a x u : ℕ) → nat_lt x a ≡ false → nat_lt a u ≡ false → nat_lt x u ≡ false
+lt_level a x u h k = grind (arith, nat_tests)
+
+step_after : (a x u : ℕ) (p q r : Bool) → (p ≡ true → q ≡ false → r ≡ false) → step x a p ≡ true → step x u q ≡ false → step a u r ≡ false
+step_after a x u p q r rest h k = grind (arith, nat_tests)
+
+step_level : (a x u : ℕ) (p q r : Bool) → (p ≡ false → q ≡ false → r ≡ false) → step x a p ≡ false → step a u q ≡ false → step x u r ≡ false
+step_level a x u p q r rest h k = grind (arith, nat_tests)
+
+-- what stands before one that doesn't stand behind f
+sooner_after : (a b f : Breach) → is_sooner b a ≡ true → is_sooner b f ≡ false → is_sooner a f ≡ false
+sooner_after a b f =
+    step_after a.span.from b.span.from f.span.from _ _ _
+    (step_after (rank a.code) (rank b.code) (rank f.code) _ _ _ (lt_after a.span.to b.span.to f.span.to))
+
+sooner_level : (a b f : Breach) → is_sooner b a ≡ false → is_sooner a f ≡ false → is_sooner b f ≡ false
+sooner_level a b f =
+    step_level a.span.from b.span.from f.span.from _ _ _
+    (step_level (rank a.code) (rank b.code) (rank f.code) _ _ _ (lt_level a.span.to b.span.to f.span.to))
+
+itself : (f : Breach) → is_sooner f f ≡ false
+itself f = grind (arith, nat_tests)
+
+-- what is first among one breach and more
+record Least (a : Breach) (bs : List Breach) (f : Breach) : Type 0 where
+  among : (f ≡ a) ⊎ Contains bs f
+  given : is_sooner a f ≡ false
+  others : All (λ c. is_sooner c f ≡ false) bs
+
+only : (a f : Breach) → f ≡ a → Least a [] f
+only a f e =
+    record {
+      among = inl e;
+      given = ap (λ x. is_sooner x f) (sym e) ∙ itself f;
+      others = All-nil (λ c. is_sooner c f ≡ false);
+    }
+
+there : (b f : Breach) (bs : List Breach) → (f ≡ b) ⊎ Contains bs f → Contains (b ∷ bs) f
+there b f bs (inl e) = subst (Contains (b ∷ bs)) (sym e) (Contains-get_or (b ∷ bs) 0 b (omega arith))
+there b f bs (inr h) = Contains-append_right (b ∷ []) bs f h
+
+least : (a : Breach) (bs : List Breach) (f : Breach) → first_of (Some a) bs ≡ Some f → Least a bs f
+least a [] f e = only a f (cc)
+least a (b ∷ bs) f e = by (least b bs f) (least a bs f) (is_sooner b a) refl e
+  where
+    by : (first_of (Some b) bs ≡ Some f → Least b bs f) → (first_of (Some a) bs ≡ Some f → Least a bs f) → (t : Bool) → is_sooner b a ≡ t → first_of (if t then Some b else Some a) bs ≡ Some f → Least a (b ∷ bs) f
+    by new old true h e =
+        let r = new e in
+        record {
+          among = inr (there b f bs r.among);
+          given = sooner_after a b f h r.given;
+          others = All-cons (λ c. is_sooner c f ≡ false) b bs r.given r.others;
+        }
+    by new old false h e =
+        let r = old e in
+        record {
+          among = elim r.among [ inl s ↦ inl s | inr s ↦ inr (there b f bs (inr s)) ];
+          given = r.given;
+          others = All-cons (λ c. is_sooner c f ≡ false) b bs (sooner_level a b f h r.given) r.others;
+        }
+
+pub found_first : (bs : List Breach) (f : Breach) → first_of None bs ≡ Some f → IsFirst f bs
+found_first [] f e = cc
+found_first (b ∷ bs) f e =
+    let r = least b bs f e in
+    (there b f bs r.among, All-cons (λ c. is_sooner c f ≡ false) b bs r.given r.others)
+
+some_left : (a : Breach) (bs : List Breach) → first_of (Some a) bs ≡ None → ⊥
+some_left a [] e = cc
+some_left a (b ∷ bs) e = by (some_left b bs) (some_left a bs) (is_sooner b a) e
+  where
+    by : (first_of (Some b) bs ≡ None → ⊥) → (first_of (Some a) bs ≡ None → ⊥) → (t : Bool) → first_of (if t then Some b else Some a) bs ≡ None → ⊥
+    by new old true e = new e
+    by new old false e = old e
+
+pub none_found : (bs : List Breach) → first_of None bs ≡ None → bs ≡ []
+none_found [] e = refl
+none_found (b ∷ bs) e = absurd (some_left b bs e)
+
+pub none_among : (bs : List Breach) (b : Breach) → bs ≡ [] → Contains bs b → ⊥
+none_among bs b e h = let n = ap length e in omega (arith, h.1)
+
+-- no two breaches are level
+step_same : (a x : ℕ) (p q : Bool) → step a x p ≡ false → step x a q ≡ false → a ≡ x
+step_same a x p q h k = grind (arith, nat_tests)
+
+step_left : (a x : ℕ) (p : Bool) → a ≡ x → step a x p ≡ false → p ≡ false
+step_left a x p e h = grind (arith, nat_tests)
+
+code_at : ℕ → Code
+code_at n = if nat_eq n 0 then Unknown else Twice
+
+code_rank : (c : Code) → code_at (rank c) ≡ c
+unfolding code_at
+code_rank Unknown = refl
+code_rank Twice = refl
+
+level_same : (a b : Breach) → is_sooner a b ≡ false → is_sooner b a ≡ false → a ≡ b
+level_same a b h k =
+    let from = step_same a.span.from b.span.from _ _ h k in
+    let h2 = step_left a.span.from b.span.from _ from h in
+    let k2 = step_left b.span.from a.span.from _ (sym from) k in
+    let ranks = step_same (rank a.code) (rank b.code) _ _ h2 k2 in
+    let h3 = step_left (rank a.code) (rank b.code) _ ranks h2 in
+    let k3 = step_left (rank b.code) (rank a.code) _ (sym ranks) k2 in
+    let to : a.span.to ≡ b.span.to = grind (arith, nat_tests) in
+    let code = sym (code_rank a.code) ∙ ap code_at ranks ∙ code_rank b.code in
+    ap (λ c. record { code = c; span = a.span }) code
+    ∙ ap (λ n. record { code = b.code; span = record { from = n; to = a.span.to } }) from
+    ∙ ap (λ n. record { code = b.code; span = record { from = b.span.from; to = n } }) to
+
+pub one_first : (bs : List Breach) (a b : Breach) → IsFirst a bs → IsFirst b bs → a ≡ b
+one_first bs a b h k =
+    level_same a b
+    (All-contains (λ c. is_sooner c b ≡ false) bs a k.1 h.0)
+    (All-contains (λ c. is_sooner c a ≡ false) bs b h.1 k.0)

@@ -1,0 +1,6 @@
+pub mod Breach
+pub mod Names
+pub mod Stands
+pub mod Rules
+pub mod Formed
+pub mod Elaborates

@@ -1,0 +1,81 @@
+//! Names, numbered in the order in which they are seen first.
+
+ghost use Rattle.std.specs.Prelude.{◌≡◌, [], OnOk, IfOk};
+ghost use Rattle.td_elab.specs.Names.{with_name, is_seen, number_of};
+
+use indexmap::IndexSet;
+use std::alloc::{AllocError, Global};
+use std::marker::Model;
+use td_num::items::Items;
+use td_num::text::Text;
+
+/// Distinct names in order. A contract sees the list of their bytes.
+#[derive(Drop)]
+pub struct Names {
+    set: IndexSet<Vec<u8>>,
+}
+
+impl Model for Names {
+    ghost use Rattle.std.specs.Prelude.{ℕ, List, length, ◌<◌, ◌^◌};
+    ghost use Rattle.td_elab.specs.Names.{texts};
+
+    ghost Value = { List (List ℕ) };
+
+    ghost view = { λ n. texts n.set.keys };
+
+    ghost invariant = { λ n. length n.set.keys < 2 ^ 32 };
+}
+
+impl Names {
+    /// No names. Takes no memory.
+    pub fn new(alloc: Global) -> Names
+        ensures { result ≡ [] }
+    {
+        Names {
+            set: IndexSet::new(alloc),
+        }
+    }
+
+    /// One more name, unless it was seen. `AllocError`: there was no memory for it, or all 2^32 - 1 numbers are given.
+    pub fn see(&mut self, alloc: Global, name: &[u8]) -> Result<(), AllocError>
+        ensures { OnOk result (self.new ≡ with_name self.old name.now) }
+    {
+        if self.set.contains(name) {
+            return Ok(());
+        }
+        if self.set.len() >= u32::MAX as usize {
+            return Err(AllocError);
+        }
+        let key = Vec::from_slice(alloc, name)?;
+        self.set.insert(key)?;
+        Ok(())
+    }
+
+    /// Whether a name was seen.
+    pub fn contains(&self, name: &[u8]) -> bool
+        ensures { result ≡ is_seen self.now name.now }
+    {
+        self.set.contains(name)
+    }
+
+    /// The number of a name, from 0, and of one that was never seen the count of names.
+    pub fn number(&self, name: &[u8]) -> u32
+        ensures { result ≡ number_of self.now name.now }
+    {
+        match self.set.get_index_of(name) {
+            Some(number) => number as u32,
+            None => self.set.len() as u32,
+        }
+    }
+
+    /// A copy of the names. `AllocError`: there was no memory for it.
+    pub fn texts(&self, alloc: Global) -> Result<Items<Text>, AllocError>
+        ensures { IfOk result (λ t. t ≡ self.now) }
+    {
+        let mut texts = Items::new(alloc);
+        for name in self.set.as_slice() {
+            texts.push(Text::copy_of(alloc, name.as_slice())?)?;
+        }
+        Ok(texts)
+    }
+}

@@ -1,0 +1,63 @@
+//! A source and a sink that never fail.
+
+ghost use Rattle.std.specs.Prelude.{◌≡◌, Ok, Some, None, length};
+
+use crate::copying::{copy_front, rest_at};
+use crate::ends::{Failed, Sink, Source};
+use std::marker::Model;
+
+/// Bytes in memory, read from the front. A contract sees those that are left.
+#[derive(Debug, Drop)]
+pub struct QuietSource {
+    bytes: Vec<u8>,
+    at: usize,
+}
+
+impl Model for QuietSource {
+    ghost use Rattle.std.specs.Prelude.{List, ℕ, drop, length, ◌≤◌};
+
+    ghost Value = { List ℕ };
+
+    ghost view = { λ s. drop s.at s.bytes.items };
+
+    ghost invariant = { λ s. s.at ≤ length s.bytes.items };
+}
+
+impl QuietSource {
+    /// All of these bytes are left to be read. Takes no memory.
+    pub fn over(bytes: Vec<u8>) -> QuietSource
+        ensures { result ≡ bytes.items }
+    {
+        QuietSource { bytes, at: 0 }
+    }
+}
+
+impl Source for QuietSource {
+    ghost left = { λ s. Some s };
+
+    ghost faults = { λ _. 0 };
+
+    /// Reads as many bytes as are left and fit. Takes no memory.
+    fn read(&mut self, buf: &mut [u8]) -> Result<usize, Failed> {
+        let n = copy_front(rest_at(&self.bytes, self.at), buf);
+        self.at += n;
+        Ok(n)
+    }
+}
+
+/// A sink that drops what it takes, and tells nothing of it.
+#[derive(Clone, Copy, PartialEq, Eq, Debug)]
+pub struct QuietSink;
+
+impl Sink for QuietSink {
+    ghost written = { λ _. None };
+
+    ghost faults = { λ _. 0 };
+
+    /// Takes all that it is given.
+    fn write(&mut self, piece: &[u8]) -> Result<usize, Failed>
+        ensures { result ≡ Ok (length piece.now) }
+    {
+        Ok(piece.len())
+    }
+}

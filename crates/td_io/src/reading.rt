@@ -1,0 +1,55 @@
+//! Reading all of a source, up to a limit.
+
+ghost use Rattle.std.specs.Prelude.{◌≡◌, ◌≤◌, ◌+◌, length, IfOk, OnOk, OnErr, IsErrOf};
+ghost use Rattle.std.specs.Io.KnownBytes.{IsAtEnd};
+ghost use Rattle.td_io.specs.Causes.{HasMore, ReadWhole, Rose, TookAtMost};
+
+use crate::ends::Source;
+use std::alloc::Global;
+use thiserror::Error;
+
+/// How many bytes are read at a time, at most.
+const PIECE: usize = 4096;
+
+/// Why a source wasn't read to its end.
+#[derive(Clone, Copy, PartialEq, Eq, Debug, Error)]
+pub enum ReadStop {
+    /// A read failed. The source's count of faults rose in that call, or stands at 2^64 - 1.
+    #[error("a read failed")]
+    Fault,
+    /// The source has more bytes than the limit.
+    #[error("the source has more bytes than the limit")]
+    TooLong,
+    /// There was no memory for the bytes.
+    #[error("out of memory")]
+    NoMemory,
+}
+
+/// Reads a source to its end, at most `limit` bytes. It stops as soon as one byte past the limit was read, so it also
+/// ends over a source that never does, and takes at most 4,096 bytes more than the limit.
+///
+/// `Fault`: a read failed. `TooLong`: the source has more bytes than the limit.
+pub fn read_whole<S: Source>(alloc: Global, src: &mut S, limit: usize) -> Result<Vec<u8>, ReadStop>
+    ensures whole { IfOk result (λ bytes. ReadWhole (S.left src.old) bytes.items) }
+    ensures end { OnOk result (IsAtEnd (S.left src.new)) }
+    ensures short { IfOk result (λ bytes. length bytes.items ≤ limit) }
+    ensures long { IsErrOf result ReadStop.TooLong → HasMore (S.left src.old) limit }
+    ensures fault { IsErrOf result ReadStop.Fault → Rose (S.faults src.old) (S.faults src.new) }
+    ensures later { S.faults src.old ≤ S.faults src.new }
+    ensures taken { OnErr result (TookAtMost (S.left src.old) (S.left src.new) (limit + 4096)) }
+{
+    let mut bytes = Vec::new(alloc);
+    let mut piece = [0u8; PIECE];
+    while bytes.len() <= limit {
+        let Ok(count) = src.read(&mut piece) else {
+            return Err(ReadStop::Fault);
+        };
+        if count == 0 {
+            return Ok(bytes);
+        }
+        if bytes.extend_from_slice(&piece[..count]).is_err() {
+            return Err(ReadStop::NoMemory);
+        }
+    }
+    Err(ReadStop::TooLong)
+}

@@ -1,0 +1,8 @@
+//! Plain memory with a plan of what others store to it, and when. The layer above rests on one promise: load k of a
+//! word gives the value of the last store to it that the plan has before load k, and without one the opening word.
+#![tactic(auto)]
+
+pub mod laws;
+pub mod planned;
+mod play;
+pub mod store;

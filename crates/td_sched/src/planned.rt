@@ -1,0 +1,97 @@
+//! Plain memory to which others store by a plan.
+ghost use Rattle.std.specs.Prelude.{◌≡◌, ◌<◌, ◌^◌, [], length, IfOk};
+
+use crate::play::{play, word_at};
+use crate::store::PlannedStore;
+use std::alloc::{AllocError, Global};
+use std::marker::Model;
+use std::snapshot::Snapshot;
+use td_stream::load::Load;
+use td_stream::words::Words;
+
+/// Words of 64 bits to which the stores of a plan are made, each right before its load. A contract sees the opening
+/// words, the stores as they were given, and the loads made so far.
+#[derive(Drop)]
+pub struct Planned {
+    opening: Snapshot<Vec<u64>>,
+    given: Snapshot<Vec<PlannedStore>>,
+    words: Vec<u64>,
+    /// The stores by rising number, those of one number in the order in which they were given.
+    stores: Vec<PlannedStore>,
+    /// How many of them were made.
+    made: usize,
+    /// With room for one load of each word, so that a load takes no memory.
+    loads: Vec<Load>,
+}
+
+impl Model for Planned {
+    ghost use Rattle.std.specs.Prelude.{vec_capacity};
+    ghost use Rattle.td_sched.specs.Playing.{Playing};
+    ghost use Rattle.td_sched.specs.Played.{IsPlayed};
+
+    ghost Value = { Playing };
+
+    ghost view = { λ p. record { opening = p.opening.value.items; stores = p.given.value.items; loads = p.loads.items } };
+
+    ghost invariant = { λ p. IsPlayed p.opening.value.items p.given.value.items p.words.items p.stores.items p.made p.loads.items (vec_capacity p.loads) };
+}
+
+impl Planned {
+    /// Memory that opens with these words, and to which these stores will be made, in any order here: by rising
+    /// number, and within one number as they stand. A store to a word that isn't there changes nothing. Fewer than
+    /// 2^32 words. `AllocError`: there was no memory for it.
+    pub fn open(
+        alloc: Global,
+        words: &[u64],
+        stores: &[PlannedStore],
+    ) -> Result<Planned, AllocError>
+        requires { length words.now < 2 ^ 32 }
+        ensures opening { IfOk result (λ p. p.opening ≡ words.now) }
+        ensures stores { IfOk result (λ p. p.stores ≡ stores.now) }
+        ensures loads { IfOk result (λ p. p.loads ≡ []) }
+    {
+        let words = Vec::from_slice(alloc, words)?;
+        let opening = Snapshot::of(&words);
+        let mut stores = Vec::from_slice(alloc, stores)?;
+        let given = Snapshot::of(&stores);
+        stores.sort_by_key(|store| store.before)?;
+        let loads = Vec::with_capacity(alloc, words.len())?;
+        Ok(Planned {
+            opening,
+            given,
+            words,
+            stores,
+            made: 0,
+            loads,
+        })
+    }
+}
+
+impl Words for Planned {
+    ghost use Rattle.std.specs.Prelude.{length};
+    ghost use Rattle.td_sched.specs.Playing.{Plays, plays_nothing, plays_on};
+
+    ghost loads = { λ p. p.loads };
+
+    ghost size = { λ p. length p.opening };
+
+    ghost goes = { Plays };
+
+    ghost goes_nowhere = { plays_nothing };
+
+    ghost goes_on = { plays_on };
+
+    ghost same_size = { λ v w p i. length (p.opening i) };
+
+    fn count(&self) -> u32 {
+        self.words.len() as u32
+    }
+
+    fn load(&mut self, i: u32) -> u64 {
+        let number = self.loads.len() as u64;
+        self.made = play(&mut self.words, self.stores.as_slice(), self.made, number);
+        let value = word_at(&self.words, i);
+        self.loads.push_reserved(Load { word: i, value });
+        value
+    }
+}
