@@ -14,7 +14,6 @@ use Rattle.td_core.specs.declared.module.TypeDef.{TypeDef}
 use Rattle.td_core.specs.declared.module.Module.{Module}
 use Rattle.td_core.specs.declared.module.Entry.{Entry}
 use Rattle.td_core.specs.declared.outcome.Reason.TheVariants.{NotEnough, Constraint, Impossible}
-use Rattle.td_core.specs.declared.outcome.Spot.{Spot}
 use Rattle.td_core.specs.declared.outcome.Spot.TheVariants.{Field}
 use Rattle.td_core.specs.Outcome.{Told, Site, accepted, rejected, after_reading, and_then, within}
 use Rattle.td_core.specs.Entries.{entry_definition}

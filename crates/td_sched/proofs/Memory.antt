@@ -1,15 +1,16 @@
 -- What memory holds after stores, and a plan's events.
-use Rattle.std.proofs.Common.{◌≡◌, ℕ, suc, ◌<◌, Bool, true, false, cond, nat_eq, List, [], ◌∷◌, ◌++◌, length, refl, sym, ap, ◌∙◌, subst, arith, slice_index}
+use Rattle.std.proofs.Common.{◌≡◌, ℕ, suc, ◌+◌, ◌<◌, Bool, true, false, cond, nat_eq, List, [], ◌∷◌, ◌++◌, length, refl, sym, ap, ◌∙◌, subst, arith, slice_index}
 use Rattle.std.specs.Prelude.{slice_set, map}
 use Rattle.std.specs.List.{All, filter}
 use Rattle.std.proofs.lemmas.List.{get_or-set_same, get_or-set_other, length-set}
 use Rattle.std.proofs.lemmas.List.Elements.{All-head, All-tail}
 use Rattle.td_stream.specs.declared.load.Load.{Load}
 use Rattle.td_sched.specs.declared.store.PlannedStore.{PlannedStore}
-use Rattle.td_sched.specs.Plan.{numbered, up_to, to_word, last_value, ArePlanned}
+use Rattle.td_sched.specs.Plan.{numbered, up_to, to_word, last_value, at, ArePlanned}
 use Rattle.td_sched.specs.Events.{events, Event, Happens}
 use Rattle.td_sched.specs.Events.Event.{Loaded, Stored}
 use Rattle.td_sched.specs.Played.{stored}
+use Rattle.td_sched.specs.Playing.{Playing, Plays}
 
 pub keeps : (p : PlannedStore → Bool) (x : PlannedStore) (xs : List PlannedStore) → p x ≡ true → filter p (x ∷ xs) ≡ x ∷ filter p xs
 keeps p x xs e = ap (λ b. cond b (x ∷ filter p xs) (filter p xs)) e
@@ -67,3 +68,16 @@ planned_from o stores words k (l ∷ loads) e r h =
     let now = stored o (up_to k stores) in
     let both = subst (λ ws. Happens ws (Loaded l ∷ events stores (suc k) loads)) e (happens_out words (numbered k stores) (Loaded l ∷ events stores (suc k) loads) h) in
     (both.0 ∙ word_after o (up_to k stores) l.word (All-head (λ (l : Load). l.word < length o) l loads r), planned_from o stores now (suc k) loads (sym (stored_both o (up_to k stores) (numbered (suc k) stores))) (All-tail (λ (l : Load). l.word < length o) l loads r) both.1)
+
+-- the last load of the plan
+last_planned : (o : List ℕ) (s : List PlannedStore) (k : ℕ) (xs : List Load) (l : Load) → ArePlanned o s k (xs ++ l ∷ []) → l.value ≡ at o s (k + length xs) l.word
+last_planned o s k [] l h = h.0 ∙ ap (λ n. at o s n l.word) (let z : k ≡ k + 0 = omega arith in z)
+last_planned o s k (x ∷ xs) l h =
+    last_planned o s (suc k) xs l h.1 ∙ ap (λ n. at o s n l.word) (let z : suc k + length xs ≡ k + suc (length xs) = omega arith in z)
+
+-- the next load is what the plan has
+pub next_is : (v w : Playing) (i value : ℕ) → ArePlanned v.opening v.stores 0 v.loads → Plays v w → w.loads ≡ v.loads ++ (record { word = i; value = value }) ∷ [] → value ≡ at v.opening v.stores (length v.loads) i
+next_is v w i value h p e =
+    let all : ArePlanned v.opening v.stores 0 w.loads = subst (λ o. ArePlanned o v.stores 0 w.loads) p.opening (subst (λ s. ArePlanned w.opening s 0 w.loads) p.stores (p.planned h)) in
+    last_planned v.opening v.stores 0 v.loads (record { word = i; value = value }) (subst (ArePlanned v.opening v.stores 0) e all)
+    ∙ ap (λ n. at v.opening v.stores n i) (let z : 0 + length v.loads ≡ length v.loads = omega arith in z)

@@ -6,3 +6,5 @@ pub mod laws;
 pub mod planned;
 mod play;
 pub mod store;
+#[cfg(test)]
+mod tests;

@@ -2,8 +2,12 @@
 //! list that carries the loads made, and the words loaded rise, lie in the message and are exactly those looked at.
 #![tactic(auto)]
 
+pub mod laws;
 pub mod load;
 pub mod loads;
 pub mod recorder;
 pub mod stream;
 pub mod words;
+
+#[cfg(test)]
+mod tests;

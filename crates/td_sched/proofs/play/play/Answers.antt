@@ -19,5 +19,5 @@ stores-preserved c =
       reached = omega (arith, c.stores-test.true);
       same_size = ap length c.put.ensures ∙ (length-set c.stores.words.items s.word s.value ∙ i.same_size);
       words = λ o h. c.put.ensures ∙ (ap (λ ws. slice_set ws s.word s.value) (i.words o h) ∙ (sym (stored_push o (take n stores) s) ∙ ap (stored o) (sym (take_more stores n none c.stores-test.true))));
-      due = λ h. All-more (λ (s : PlannedStore). s.before ≤ c.args.load) stores n none c.stores-test.true (i.due h) c.if-stores-next.true;
+      due = λ h. All-more (λ (s : PlannedStore). s.before ≤ c.args.load) stores n none c.stores-test.true (i.due h) (omega (arith, c.if-stores-next.true));
     }

@@ -1,0 +1,4 @@
+pub mod Ontos
+pub mod PartLemmas
+pub mod Agreements
+pub mod FieldLemmas

@@ -1,0 +1,13 @@
+pub mod Tools
+pub mod Exact
+pub mod One
+pub mod Then
+pub mod Making
+pub mod Maybe
+pub mod All
+pub mod Either
+pub mod Loops
+pub mod Whole
+pub mod Plain
+pub mod Language
+pub mod Refusals

@@ -1,0 +1,157 @@
+-- One production and behind it another.
+use Rattle.std.proofs.Common.{◌≡◌, Bool, true, false, cond, List, [], ◌∷◌, ◌++◌, refl, sym, ap, subst, ◌∙◌, append_assoc, ◌⊎◌, inl, inr}
+use Rattle.td_ast.specs.declared.token.Token.{Token}
+use Rattle.td_ast.specs.Kinds.{number_of_kind}
+use Rattle.td_grammar.specs.Spelling.{Begins}
+use Rattle.td_grammar.specs.Reading.{Got, Bad, Deep, ◌and_then◌, member}
+use Rattle.td_grammar.specs.Grammar.{Grammar, ◌then◌}
+use Rattle.td_grammar.proofs.Tools.{Stops, bind_got, bind_bad, bind_deep, join, nothing_left, got_value, got_rest, member_left, member_right, apart_at, stops_left, stops_right}
+use Rattle.td_grammar.proofs.Exact.{IsRead, IsExact, IsApart, keeps_first}
+
+module _ {A B : Type 0} (g : Grammar A) (h : Grammar B) (G : IsExact g) (H : IsExact h) (apart : IsApart g h) where
+  then_got : (tokens : List Token) (x : A × B) (rest : List Token) → (g then h).reader.read tokens ≡ Got x rest → (mid : List Token) × (g.reader.read tokens ≡ Got x.0 mid) × (h.reader.read mid ≡ Got x.1 rest)
+  then_got tokens x rest e =
+      let p = bind_got (g.reader.read tokens) (λ a mid. h.reader.read mid and_then λ b after. Got (a, b) after) x rest e in
+      let q = bind_got (h.reader.read p.1) (λ b after. Got (p.0, b) after) x rest p.3 in
+      let made : A × B = (p.0, q.0) in
+      let same : made ≡ x = got_value made x q.1 rest q.3 in
+      let after : q.1 ≡ rest = got_rest made x q.1 rest q.3 in
+      let left : p.0 ≡ x.0 = ap (λ (y : A × B). y.0) same in
+      let right : q.0 ≡ x.1 = ap (λ (y : A × B). y.1) same in
+      (p.1, p.2 ∙ ap (λ (a : A). Got a p.1) left, subst (λ (l : List Token). h.reader.read p.1 ≡ Got x.1 l) after (subst (λ (b : B). h.reader.read p.1 ≡ Got b q.1) right q.2))
+
+  then_bad : (tokens rest : List Token) → (g then h).reader.read tokens ≡ Bad rest → (g.reader.read tokens ≡ Bad rest) ⊎ ((a : A) × (mid : List Token) × (g.reader.read tokens ≡ Got a mid) × (h.reader.read mid ≡ Bad rest))
+  then_bad tokens rest e =
+      elim (bind_bad (g.reader.read tokens) (λ a mid. h.reader.read mid and_then λ b after. Got (a, b) after) rest e) [
+        | inl bad ↦ inl bad
+        | inr p ↦ elim (bind_bad (h.reader.read p.1) (λ b after. Got (p.0, b) after) rest p.3) [
+          | inl bad ↦ inr (p.0, p.1, p.2, bad)
+          | inr q ↦ absurd (cc (q.3))
+        ]
+      ]
+
+  then_takes : (tokens : List Token) (x : A × B) (rest : List Token) → (g then h).reader.read tokens ≡ Got x rest → (front : List Token) × (tokens ≡ front ++ rest) × (g then h).Spells x front
+  then_takes tokens x rest e =
+      let p = then_got tokens x rest e in
+      let t = G.takes tokens x.0 p.0 p.1 in
+      let u = H.takes p.0 x.1 rest p.2 in
+      (t.0 ++ u.0, join tokens t.0 p.0 u.0 rest t.1 u.1, (t.0, u.0, refl, t.2, u.2))
+
+  seam_stops : (b : B) (v rest : List Token) → h.Spells b v → Stops (g then h).reader.goes_on rest → Stops g.reader.goes_on (v ++ rest)
+  seam_stops b [] rest q stops = stops_right h.reader.goes_on g.reader.goes_on rest (subst (λ c. Stops (cond c (h.reader.goes_on ++ g.reader.goes_on) h.reader.goes_on) rest) (H.full b q) stops)
+  seam_stops b (t ∷ v) rest q stops = apart_at h.reader.begins g.reader.goes_on (number_of_kind t.kind) apart (H.begun b t v q)
+
+  last_by : (c : Bool) (rest : List Token) → Stops (cond c (h.reader.goes_on ++ g.reader.goes_on) h.reader.goes_on) rest → Stops h.reader.goes_on rest
+  last_by true rest s = stops_left h.reader.goes_on g.reader.goes_on rest s
+  last_by false rest s = s
+
+  then_again : (x : A × B) (front rest : List Token) → (g then h).Spells x front → Stops (g then h).reader.goes_on rest → IsRead x rest ((g then h).reader.read (front ++ rest))
+  then_again x front rest s stops =
+      let u = s.0 in
+      let v = s.1 in
+      let regrouped : front ++ rest ≡ u ++ (v ++ rest) = rw (s.2) (append_assoc u v rest) in
+      elim (G.again x.0 u (v ++ rest) s.3 (seam_stops x.1 v rest s.4 stops)) [
+        | inl got ↦
+            let first : g.reader.read (front ++ rest) ≡ Got x.0 (v ++ rest) = rw regrouped got in
+            elim (H.again x.1 v rest s.4 (last_by h.reader.may_be_empty rest stops)) [
+              | inl second ↦ inl (rw (first, second) refl)
+              | inr over ↦ let second = over.1 in inr (over.0, rw (first, second) refl)
+            ]
+        | inr over ↦ let first : g.reader.read (front ++ rest) ≡ Deep over.0 = rw regrouped over.1 in inr (over.0, rw first refl)
+      ]
+
+  begins_by : (c : Bool) (t : Token) → member g.reader.begins (number_of_kind t.kind) ≡ true → member (cond c (g.reader.begins ++ h.reader.begins) g.reader.begins) (number_of_kind t.kind) ≡ true
+  begins_by true t e = member_left g.reader.begins h.reader.begins (number_of_kind t.kind) e
+  begins_by false t e = e
+
+  begins_at : (x : A × B) (t : Token) (more u v : List Token) → t ∷ more ≡ u ++ v → g.Spells x.0 u → h.Spells x.1 v → member (g then h).reader.begins (number_of_kind t.kind) ≡ true
+  begins_at x t more [] v e p q =
+      let empty : g.reader.may_be_empty ≡ true = G.full x.0 p in
+      rw empty (member_right g.reader.begins h.reader.begins (number_of_kind t.kind) (H.begun x.1 t more (subst (λ (l : List Token). h.Spells x.1 l) (sym e) q)))
+  begins_at x t more (y ∷ u) v e p q = let same : t ≡ y = cc in begins_by g.reader.may_be_empty t (rw same (G.begun x.0 y u p))
+
+  then_full : (x : A × B) → (g then h).Spells x [] → (g then h).reader.may_be_empty ≡ true
+  then_full x s =
+      let none = nothing_left s.0 s.1 s.2 in
+      let left : g.reader.may_be_empty ≡ true = G.full x.0 (subst (λ (l : List Token). g.Spells x.0 l) none.0 s.3) in
+      let right : h.reader.may_be_empty ≡ true = H.full x.1 (subst (λ (l : List Token). h.Spells x.1 l) none.1 s.4) in
+      rw (left, right) refl
+
+  then_ends : (tokens rest : List Token) → (g then h).reader.read tokens ≡ Bad rest → (front : List Token) × (tokens ≡ front ++ rest) × Begins (g then h).Spells front
+  then_ends tokens rest e =
+      elim (then_bad tokens rest e) [
+        | inl bad ↦
+            let t = G.ends tokens rest bad in
+            (t.0, t.1, ((t.2.0, H.some.0), t.2.1 ++ H.some.1, (t.0 ++ t.2.1, H.some.1, sym (append_assoc t.0 t.2.1 H.some.1), t.2.2, H.some.2)))
+        | inr p ↦
+            let t = G.takes tokens p.0 p.1 p.2 in
+            let u = H.ends p.1 rest p.3 in
+            (t.0 ++ u.0, join tokens t.0 p.1 u.0 rest t.1 u.1, ((p.0, u.2.0), u.2.1, (t.0, u.0 ++ u.2.1, append_assoc t.0 u.0 u.2.1, t.2, u.2.2)))
+      ]
+
+  then_keeps_got : (front : List Token) (t : Token) (r s : List Token) (x : A × B) → (g then h).reader.read (front ++ t ∷ r) ≡ Got x (t ∷ r) → (g then h).reader.read (front ++ t ∷ s) ≡ Got x (t ∷ s)
+  then_keeps_got front t r s x e =
+      let p = then_got (front ++ t ∷ r) x (t ∷ r) e in
+      let u = H.takes p.0 x.1 (t ∷ r) p.2 in
+      let first = keeps_first g G front t r s x.0 p.0 u.0 p.1 u.1 in
+      let second : h.reader.read (u.0 ++ t ∷ s) ≡ Got x.1 (t ∷ s) = H.keeps_got u.0 t r s x.1 (subst (λ (l : List Token). h.reader.read l ≡ Got x.1 (t ∷ r)) u.1 p.2) in
+      rw (first, second) refl
+
+  then_keeps_bad : (front : List Token) (t : Token) (r s : List Token) → (g then h).reader.read (front ++ t ∷ r) ≡ Bad (t ∷ r) → (g then h).reader.read (front ++ t ∷ s) ≡ Bad (t ∷ s)
+  then_keeps_bad front t r s e =
+      elim (then_bad (front ++ t ∷ r) (t ∷ r) e) [
+        | inl bad ↦ let first : g.reader.read (front ++ t ∷ s) ≡ Bad (t ∷ s) = G.keeps_bad front t r s bad in rw first refl
+        | inr p ↦
+            let u = H.ends p.1 (t ∷ r) p.3 in
+            let first = keeps_first g G front t r s p.0 p.1 u.0 p.2 u.1 in
+            let second : h.reader.read (u.0 ++ t ∷ s) ≡ Bad (t ∷ s) = H.keeps_bad u.0 t r s (subst (λ (l : List Token). h.reader.read l ≡ Bad (t ∷ r)) u.1 p.3) in
+            rw (first, second) refl
+      ]
+
+  then_was_deep : (tokens rest : List Token) → (g then h).reader.read tokens ≡ Deep rest → (g.reader.read tokens ≡ Deep rest) ⊎ ((a : A) × (mid : List Token) × (g.reader.read tokens ≡ Got a mid) × (h.reader.read mid ≡ Deep rest))
+  then_was_deep tokens rest e =
+      elim (bind_deep (g.reader.read tokens) (λ a mid. h.reader.read mid and_then λ b after. Got (a, b) after) rest e) [
+        | inl over ↦ inl over
+        | inr p ↦ elim (bind_deep (h.reader.read p.1) (λ b after. Got (p.0, b) after) rest p.3) [
+          | inl over ↦ inr (p.0, p.1, p.2, over)
+          | inr q ↦ absurd (cc (q.3))
+        ]
+      ]
+
+  then_deep : (tokens rest : List Token) → (g then h).reader.read tokens ≡ Deep rest → (front : List Token) × (t : Token) × (r : List Token) × (tokens ≡ front ++ t ∷ r) × (rest ≡ t ∷ r) × Begins (g then h).Spells (front ++ t ∷ [])
+  then_deep tokens rest e =
+      elim (then_was_deep tokens rest e) [
+        | inl over ↦
+            let p = G.deep tokens rest over in
+            (p.0, p.1, p.2, p.3, p.4, ((p.5.0, H.some.0), p.5.1 ++ H.some.1, ((p.0 ++ p.1 ∷ []) ++ p.5.1, H.some.1, sym (append_assoc (p.0 ++ p.1 ∷ []) p.5.1 H.some.1), p.5.2, H.some.2)))
+        | inr q ↦
+            let t = G.takes tokens q.0 q.1 q.2 in
+            let p = H.deep q.1 rest q.3 in
+            (t.0 ++ p.0, p.1, p.2, join tokens t.0 q.1 p.0 (p.1 ∷ p.2) t.1 p.3, p.4, ((q.0, p.5.0), p.5.1, (t.0, (p.0 ++ p.1 ∷ []) ++ p.5.1, simp append_assoc, t.2, p.5.2)))
+      ]
+
+  then_keeps_deep : (front : List Token) (t : Token) (r s : List Token) → (g then h).reader.read (front ++ t ∷ r) ≡ Deep (t ∷ r) → (g then h).reader.read (front ++ t ∷ s) ≡ Deep (t ∷ s)
+  then_keeps_deep front t r s e =
+      elim (then_was_deep (front ++ t ∷ r) (t ∷ r) e) [
+        | inl over ↦ let first : g.reader.read (front ++ t ∷ s) ≡ Deep (t ∷ s) = G.keeps_deep front t r s over in rw first refl
+        | inr q ↦
+            let p = H.deep q.1 (t ∷ r) q.3 in
+            let same : q.1 ≡ p.0 ++ t ∷ r = p.3 ∙ ap (λ (l : List Token). p.0 ++ l) (sym p.4) in
+            let first = keeps_first g G front t r s q.0 q.1 p.0 q.2 same in
+            let second : h.reader.read (p.0 ++ t ∷ s) ≡ Deep (t ∷ s) = H.keeps_deep p.0 t r s (subst (λ (l : List Token). h.reader.read l ≡ Deep (t ∷ r)) same q.3) in
+            rw (first, second) refl
+      ]
+
+  pub then_exact : IsExact (g then h)
+  then_exact = record {
+    takes = then_takes;
+    again = then_again;
+    deep = then_deep;
+    keeps_deep = then_keeps_deep;
+    begun = λ x t more s. begins_at x t more s.0 s.1 s.2 s.3 s.4;
+    full = then_full;
+    ends = then_ends;
+    keeps_got = then_keeps_got;
+    keeps_bad = then_keeps_bad;
+    some = ((G.some.0, H.some.0), G.some.1 ++ H.some.1, (G.some.1, H.some.1, refl, G.some.2, H.some.2));
+  }

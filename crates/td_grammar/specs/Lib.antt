@@ -1,0 +1,5 @@
+pub mod Spelling
+pub mod Reading
+pub mod Grammar
+pub mod Productions
+pub mod Laws

@@ -1,0 +1,8 @@
+use Rattle.td_job.proofs.Laws.{complete, exact}
+use Rattle.td_job.proofs.run_job.read_run_job.Goals as goal
+
+pub returns-clause-complete : goal.returns-clause-complete
+returns-clause-complete c = complete c.args.bytes.now c.args.types.now c.parsed_job.result c.parsed_job.ensures.job c.parsed_job.ensures.refused
+
+pub returns-clause-exact : goal.returns-clause-exact
+returns-clause-exact c = exact c.args.bytes.now c.args.types.now c.parsed_job.result c.parsed_job.ensures.job c.parsed_job.ensures.refused

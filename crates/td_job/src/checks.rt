@@ -1,0 +1,111 @@
+//! The fields of a job, each looked at for all that can be wrong with it.
+
+ghost use Rattle.std.specs.Prelude.{◌≡◌, [], ◌⊎◌, IfOk, IfErr, OnOk, Some};
+ghost use Rattle.serde_json.specs.Find.{as_object};
+ghost use Rattle.serde_json.specs.View.{view};
+ghost use Rattle.td_job.specs.Jobs.{field_of, text_of, number_of, EntryFault, IsEntry, IsFirst, list_faults, bytes_faults, given_bytes, length_faults, is_known, name_faults};
+
+use crate::error::{Field, JobError, Path};
+use crate::fields::{field_of, number_of, text_of};
+use hex::FromHexError;
+use serde_json::Value;
+use std::alloc::Global;
+use td_core::entries::entry_named;
+use td_core::module::{Entry, Module};
+use td_num::text::Text;
+
+/// The most bytes that a message has.
+pub(crate) const MOST_BYTES: u64 = 1_048_576;
+
+/// The entry point that a job names. J2: `entry` is missing or no text. J3: no entry point has the name.
+pub(crate) fn entry_of(job: &Value, types: &Module) -> Result<Entry, JobError>
+    ensures ok { IfOk result (λ entry. IsEntry types.now (text_of Field.Entry (view job.now)) entry) }
+    ensures err { IfErr result (λ e. EntryFault types.now (text_of Field.Entry (view job.now)) e) }
+{
+    match text_of(job, Field::Entry) {
+        None => Err(JobError::Form(Path::Named(Field::Entry))),
+        Some(name) => match entry_named(types, name.as_bytes()) {
+            None => Err(JobError::NoEntry),
+            Some(entry) => Ok(entry),
+        },
+    }
+}
+
+/// Tests a list of numbers of which an entry point asks none. J2: the field is no list. J4: it is not empty.
+pub(crate) fn check_list(job: &Value, name: Field) -> Result<(), JobError>
+    ensures ok { OnOk result (list_faults name (field_of name (view job.now)) ≡ []) }
+    ensures err { IfErr result (λ e. IsFirst (list_faults name (field_of name (view job.now))) e) }
+{
+    let Some(value) = field_of(job, name) else {
+        return Ok(());
+    };
+    match value.as_array() {
+        None => Err(JobError::Form(Path::Named(name))),
+        Some(values) => if values.is_empty() {
+            Ok(())
+        } else {
+            Err(JobError::Values(Path::Named(name)))
+        },
+    }
+}
+
+/// The bytes that a job gives. J2: `bytes` is missing or no text. J5: it is not an even number of hexadecimal digits.
+pub(crate) fn bytes_of(alloc: Global, job: &Value) -> Result<Vec<u8>, JobError>
+    ensures ok { IfOk result (λ bytes. (bytes_faults (text_of Field.Bytes (view job.now)) ≡ []) × (given_bytes (view job.now) ≡ bytes.items)) }
+    ensures err { IfErr result (λ e. (e ≡ JobError.NoMemory) ⊎ IsFirst (bytes_faults (text_of Field.Bytes (view job.now))) e) }
+{
+    let Some(text) = text_of(job, Field::Bytes) else {
+        return Err(JobError::Form(Path::Named(Field::Bytes)));
+    };
+    match hex::decode(alloc, text) {
+        Ok(bytes) => Ok(bytes),
+        Err(FromHexError::OutOfMemory) => Err(JobError::NoMemory),
+        Err(_) => Err(JobError::Digits(Path::Named(Field::Bytes))),
+    }
+}
+
+/// The length of the message, in bytes, of those given. J2: `length` is missing or no whole number. J7: it passes the
+/// bytes given. J8: it passes 1,048,576.
+pub(crate) fn length_of(job: &Value, given: usize) -> Result<u32, JobError>
+    ensures ok { IfOk result (λ n. (length_faults given (number_of Field.Length (view job.now)) ≡ []) × (number_of Field.Length (view job.now) ≡ Some n)) }
+    ensures err { IfErr result (λ e. IsFirst (length_faults given (number_of Field.Length (view job.now))) e) }
+{
+    let Some(bytes) = number_of(job, Field::Length) else {
+        return Err(JobError::Form(Path::Named(Field::Length)));
+    };
+    if bytes > given as u64 {
+        Err(JobError::PastBytes(Path::Named(Field::Length)))
+    } else if bytes > MOST_BYTES {
+        Err(JobError::Limit(Path::Named(Field::Length)))
+    } else {
+        Ok(bytes as u32)
+    }
+}
+
+/// Whether a field of this name is one of a job's.
+fn is_known(name: &str) -> bool
+    ensures { result ≡ is_known name.now }
+{
+    name == Field::Entry.name()
+        || name == Field::Args.name()
+        || name == Field::Cells.name()
+        || name == Field::Bytes.name()
+        || name == Field::Length.name()
+}
+
+/// Tests that each field has a known name. J2, at the first other name in byte order.
+pub(crate) fn check_names(alloc: Global, job: &Value) -> Result<(), JobError>
+    ensures ok { OnOk result (name_faults (as_object (view job.now)) ≡ []) }
+    ensures err { IfErr result (λ e. (e ≡ JobError.NoMemory) ⊎ IsFirst (name_faults (as_object (view job.now))) e) }
+{
+    let Some(members) = job.as_object() else {
+        return Ok(());
+    };
+    for (name, _) in members {
+        if !is_known(name.as_str()) {
+            let bytes = Text::copy_of(alloc, name.as_bytes())?;
+            return Err(JobError::Form(Path::Unknown(bytes)));
+        }
+    }
+    Ok(())
+}

@@ -1,0 +1,73 @@
+//! Run jobs.
+
+ghost use Rattle.std.specs.Prelude.{◌≡◌, ◌⊎◌, IfOk, IfErr, MatchResult};
+ghost use Rattle.serde_json.specs.View.{view};
+ghost use Rattle.td_job.specs.Jobs.{IsJob, IsRunJob, HasRoom, FirstFault, RefusedJob};
+
+use crate::checks::{bytes_of, check_list, check_names, entry_of, length_of};
+use crate::error::{Field, JobError};
+use crate::fields::read_json;
+use crate::words::fill_words;
+use serde_json::Value;
+use std::alloc::Global;
+use td_core::module::{Entry, Module};
+use td_num::items::Items;
+
+/// A message to validate, and from where.
+#[derive(Debug, Drop)]
+pub struct RunJob {
+    /// The entry point at which validation begins.
+    pub entry: Entry,
+    /// A value for each of its parameters.
+    pub args: Items<u64>,
+    /// The value that each of its cells begins with.
+    pub cells: Items<u64>,
+    /// The memory's words, the byte of least weight first.
+    pub words: Items<u64>,
+    /// How many bytes of them the message has.
+    pub length: u32,
+}
+
+/// The run job of a parsed text, or its first fault.
+fn job_of(alloc: Global, job: &Value, types: &Module) -> Result<RunJob, JobError>
+    ensures ok { IfOk result (λ j. IsJob types.now (view job.now) j) }
+    ensures room { IfOk result HasRoom }
+    ensures err { IfErr result (λ e. (e ≡ JobError.NoMemory) ⊎ FirstFault types.now (view job.now) e) }
+{
+    let entry = entry_of(job, types)?;
+    check_list(job, Field::Args)?;
+    check_list(job, Field::Cells)?;
+    let bytes = bytes_of(alloc, job)?;
+    let length = length_of(job, bytes.len())?;
+    check_names(alloc, job)?;
+    let words = fill_words(alloc, bytes.as_slice())?;
+    Ok(RunJob {
+        entry,
+        args: Items::new(alloc),
+        cells: Items::new(alloc),
+        words,
+        length,
+    })
+}
+
+/// The run job that the bytes stand for, or their first fault.
+fn parsed_job(alloc: Global, bytes: &[u8], types: &Module) -> Result<RunJob, JobError>
+    ensures job { IfOk result (λ j. IsRunJob bytes.now types.now j) }
+    ensures room { IfOk result HasRoom }
+    ensures refused { IfErr result (λ e. (e ≡ JobError.NoMemory) ⊎ RefusedJob bytes.now types.now e) }
+{
+    let job = read_json(alloc, bytes)?;
+    job_of(alloc, &job, types)
+}
+
+/// The run job that the bytes stand for. J1 to J8: their first fault, each exactly where the definition says so.
+/// `NoMemory`: there was no memory for it.
+pub fn read_run_job(alloc: Global, bytes: &[u8], types: &Module) -> Result<RunJob, JobError>
+    ensures job { IfOk result (λ j. IsRunJob bytes.now types.now j) }
+    ensures room { IfOk result HasRoom }
+    ensures complete { (j : RunJob) → IsRunJob bytes.now types.now j → MatchResult result (λ found. found ≡ j) (λ e. e ≡ JobError.NoMemory) }
+    ensures refused { IfErr result (λ e. (e ≡ JobError.NoMemory) ⊎ RefusedJob bytes.now types.now e) }
+    ensures exact { (e : JobError) → RefusedJob bytes.now types.now e → (result ≡ Err e) ⊎ (result ≡ Err JobError.NoMemory) }
+{
+    parsed_job(alloc, bytes, types)
+}

@@ -1,0 +1,11 @@
+pub mod Answered
+pub mod Closing
+pub mod Complete
+pub mod Numeral
+pub mod Runs
+pub mod Sound
+pub mod Splitting
+pub mod Sorts
+pub mod Values
+pub mod Walk
+pub mod Within

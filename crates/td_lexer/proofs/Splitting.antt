@@ -1,0 +1,139 @@
+-- The tokens of a text are its splitting.
+use Rattle.std.proofs.Common.{◌≡◌, ℕ, zero, suc, ◌+◌, ◌≤◌, ◌<◌, List, [], ◌∷◌, ◌++◌, length, take, drop, Result, Ok, Err, refl, sym, ap, subst, ◌∙◌, arith, inl, inr}
+use Rattle.std.specs.Prelude.{◌⊎◌, ◌↔◌}
+use Rattle.std.proofs.lemmas.List.{append-nil, length-append, drop_at}
+use Rattle.td_ast.specs.declared.token.Token.{Token}
+use Rattle.td_ast.specs.declared.token.TokenKind.{TokenKind}
+use Rattle.td_lexer.specs.declared.error.LexError.{LexError}
+use Rattle.td_lexer.specs.declared.error.LexError.TheVariants.{NoMemory, BadByte, OpenComment, BigNumber}
+use Rattle.td_lexer.specs.declared.piece.Piece.{Piece}
+use Rattle.td_lexer.specs.declared.piece.Piece.TheVariants.{Passed, Found, Bad, Open, Big}
+use Rattle.td_lexer.specs.Scanner.{piece, width, with_token, with_piece, tokens_from, tokens_of}
+use Rattle.td_lexer.specs.Steps.{after_tokens}
+use Rattle.td_lexer.specs.Splits.{Begins, Stands, IsPassed, SplitsUpTo, Splits, IsNothing, IsBigNumber, GoesOn, Fails, IsRefused}
+use Rattle.td_lexer.specs.Splits.SplitsUpTo.{splits_here, splits_passed, splits_token}
+use Rattle.td_lexer.proofs.Walk.{one_piece}
+use Rattle.td_lexer.proofs.Sound.{Sound, piece_sound}
+use Rattle.td_lexer.proofs.Complete.{numeral_some, begins_some, passed_some, stands_found, found_stands, passed_found, open_found, big_found, goes_on_found, nothing_found, found_nothing}
+
+-- ---- a step
+
+abbrev token_at : ℕ → TokenKind → ℕ → Token
+token_at at kind n = record { kind = kind; span = record { from = at; to = at + n } }
+
+-- behind what stands at the front
+behind : (at : ℕ) (p : Piece) (bytes rest : List ℕ) → 0 < length bytes → piece (bytes ++ rest) ≡ p → width p ≡ length bytes → tokens_from at 0 (bytes ++ rest) ≡ with_piece p at (tokens_from (at + length bytes) 0 rest)
+behind at p bytes rest some e wide =
+    let n = length bytes in
+    one_piece at n (bytes ++ rest) some (omega (arith, length-append bytes rest)) (ap width e ∙ wide)
+    ∙ rw (e, drop_at bytes rest n refl) refl
+
+passed_step : (at : ℕ) {bytes rest : List ℕ} → IsPassed bytes rest → tokens_from at 0 (bytes ++ rest) ≡ tokens_from (at + length bytes) 0 rest
+passed_step at {bytes} {rest} h = behind at (Passed (length bytes)) bytes rest (passed_some h) (passed_found h) refl
+
+token_step : (at : ℕ) {kind : TokenKind} {bytes rest : List ℕ} → Stands kind bytes rest → tokens_from at 0 (bytes ++ rest) ≡ with_token (token_at at kind (length bytes)) (tokens_from (at + length bytes) 0 rest)
+token_step at {kind} {bytes} {rest} h = behind at (Found kind (length bytes)) bytes rest (begins_some h.0) (stands_found h) refl
+
+-- what a front that isn't taken answers
+stops : (at : ℕ) (rest : List ℕ) (p : Piece) (error : LexError) → 0 < length rest → piece rest ≡ p → ((r : Result (List Token) LexError) → with_piece p at r ≡ Err error) → tokens_from at 0 rest ≡ Err error
+unfolding tokens_from
+stops at [] p error some e h = absurd (omega arith)
+stops at (b ∷ rest) p error some e h = rw e (h _)
+
+goes_some : (rest : List ℕ) (len : ℕ) → GoesOn rest len → 0 < length rest
+goes_some rest len (base, bytes, after, same, count, numeral, on, longest) = let some = numeral_some base bytes numeral in omega (arith, ap (λ (l : List ℕ). length l) same, length-append bytes after)
+
+big_some : (rest : List ℕ) → IsBigNumber rest → 0 < length rest
+big_some rest (base, bytes, after, same, numeral, big, ends) = let some = numeral_some base bytes numeral in omega (arith, ap (λ (l : List ℕ). length l) same, length-append bytes after)
+
+-- ---- from a splitting to the tokens
+
+after_none : (r : Result (List Token) LexError) → r ≡ after_tokens [] r
+after_none (Ok tokens) = refl
+after_none (Err error) = refl
+
+after_one : (token : Token) (tokens : List Token) (r : Result (List Token) LexError) → with_token token (after_tokens tokens r) ≡ after_tokens (token ∷ tokens) r
+after_one token tokens (Ok others) = refl
+after_one token tokens (Err error) = refl
+
+splits_tokens : {at to : ℕ} {bytes last : List ℕ} {tokens : List Token} → SplitsUpTo at bytes tokens to last → tokens_from at 0 bytes ≡ after_tokens tokens (tokens_from to 0 last)
+splits_tokens {at} {bytes} splits_here = after_none (tokens_from at 0 bytes)
+splits_tokens {at} (splits_passed h more) = passed_step at h ∙ splits_tokens more
+splits_tokens {at} {to} {last} (splits_token {bytes} {kind} {tokens} h more) = token_step at h ∙ ap (with_token (token_at at kind (length bytes))) (splits_tokens more) ∙ after_one (token_at at kind (length bytes)) tokens (tokens_from to 0 last)
+
+none_left : (at : ℕ) → tokens_from at 0 [] ≡ Ok []
+unfolding tokens_from
+none_left at = refl
+
+fails_some : (at : ℕ) (rest : List ℕ) (error : LexError) → Fails at rest error → tokens_from at 0 rest ≡ Err error
+fails_some at rest NoMemory h = absurd h
+fails_some at rest (BadByte place) (inl (here, nothing)) = let e : at + 0 ≡ place = omega arith in stops at rest (Bad 0) (BadByte place) nothing.0 (nothing_found rest nothing) (λ r. ap (λ (n : ℕ). Err (BadByte n)) e)
+fails_some at rest (BadByte place) (inr (len, here, on)) = stops at rest (Bad len) (BadByte place) (goes_some rest len on) (goes_on_found rest len on) (λ r. ap (λ (n : ℕ). Err (BadByte n)) (sym here))
+fails_some at rest (OpenComment place) (here, unclosed) = stops at rest Open (OpenComment place) (omega (arith, ap (λ (l : List ℕ). length l) unclosed.1)) (open_found rest unclosed) (λ r. ap (λ (n : ℕ). Err (OpenComment n)) (sym here))
+fails_some at rest (BigNumber place) (here, big) = stops at rest Big (BigNumber place) (big_some rest big) (big_found rest big) (λ r. ap (λ (n : ℕ). Err (BigNumber n)) (sym here))
+
+-- ---- from the tokens to a splitting
+
+abbrev Reads : ℕ → List ℕ → Result (List Token) LexError → Type 0
+Reads at bytes (Ok tokens) = (to : ℕ) × SplitsUpTo at bytes tokens to []
+Reads at bytes (Err error) = (tokens : List Token) × (to : ℕ) × (rest : List ℕ) × SplitsUpTo at bytes tokens to rest × Fails to rest error
+
+reads_passed : (at : ℕ) {bytes rest : List ℕ} → IsPassed bytes rest → (r : Result (List Token) LexError) → Reads (at + length bytes) rest r → Reads at (bytes ++ rest) r
+reads_passed at h (Ok tokens) (to, more) = (to, splits_passed h more)
+reads_passed at h (Err error) (tokens, to, rest, more, fails) = (tokens, to, rest, splits_passed h more, fails)
+
+reads_token : (at : ℕ) {kind : TokenKind} {bytes rest : List ℕ} → Stands kind bytes rest → (r : Result (List Token) LexError) → Reads (at + length bytes) rest r → Reads at (bytes ++ rest) (with_token (token_at at kind (length bytes)) r)
+reads_token at h (Ok tokens) (to, more) = (to, splits_token h more)
+reads_token at {kind} {bytes} h (Err error) (tokens, to, rest, more, fails) = (token_at at kind (length bytes) ∷ tokens, to, rest, splits_token h more, fails)
+
+reads_none : (at : ℕ) (rest : List ℕ) (error : LexError) → tokens_from at 0 rest ≡ Err error → Fails at rest error → Reads at rest (tokens_from at 0 rest)
+reads_none at rest error e fails = rw e ([], at, rest, splits_here, fails)
+
+reads_all : (fuel at : ℕ) (bytes : List ℕ) → length bytes ≤ fuel → Reads at bytes (tokens_from at 0 bytes)
+reads_all fuel at [] le = rw (none_left at) (at, splits_here)
+reads_all zero at (b ∷ bytes) le = absurd (omega arith)
+reads_all (suc fuel) at (b ∷ bytes) le = by_piece (piece (b ∷ bytes)) refl (piece_sound (b ∷ bytes) (omega arith)) (reads_all fuel)
+  where
+    by_piece : (p : Piece) → piece (b ∷ bytes) ≡ p → Sound (b ∷ bytes) p → ((at : ℕ) (rest : List ℕ) → length rest ≤ fuel → Reads at rest (tokens_from at 0 rest)) → Reads at (b ∷ bytes) (tokens_from at 0 (b ∷ bytes))
+    by_piece (Passed n) e (front, rest, same, len, passed) ih =
+        let some = passed_some passed in
+        let shorter : length rest ≤ fuel = omega (arith, ap (λ (l : List ℕ). length l) same, length-append front rest) in
+        rw (same, passed_step at passed) (reads_passed at passed (tokens_from (at + length front) 0 rest) (ih (at + length front) rest shorter))
+    by_piece (Found kind n) e (front, rest, same, len, begins) ih =
+        let some = begins_some begins in
+        let shorter : length rest ≤ fuel = omega (arith, ap (λ (l : List ℕ). length l) same, length-append front rest) in
+        let stands = found_stands (b ∷ bytes) front rest kind (rw len e) same begins in
+        rw (same, token_step at stands) (reads_token at stands (tokens_from (at + length front) 0 rest) (ih (at + length front) rest shorter))
+    by_piece (Bad n) e (inl (z, plain)) ih =
+        let e0 : piece (b ∷ bytes) ≡ Bad 0 = e ∙ ap (λ (m : ℕ). Bad m) z in
+        let fails : Fails at (b ∷ bytes) (BadByte at) = inl (refl, found_nothing (b ∷ bytes) e0 plain) in
+        reads_none at (b ∷ bytes) (BadByte at) (fails_some at (b ∷ bytes) (BadByte at) fails) fails
+    by_piece (Bad n) e (inr on) ih =
+        let fails : Fails at (b ∷ bytes) (BadByte (at + n)) = inr (n, refl, on) in
+        reads_none at (b ∷ bytes) (BadByte (at + n)) (fails_some at (b ∷ bytes) (BadByte (at + n)) fails) fails
+    by_piece Open e unclosed ih =
+        let fails : Fails at (b ∷ bytes) (OpenComment at) = (refl, unclosed) in
+        reads_none at (b ∷ bytes) (OpenComment at) (fails_some at (b ∷ bytes) (OpenComment at) fails) fails
+    by_piece Big e big ih =
+        let fails : Fails at (b ∷ bytes) (BigNumber at) = (refl, big) in
+        reads_none at (b ∷ bytes) (BigNumber at) (fails_some at (b ∷ bytes) (BigNumber at) fails) fails
+
+-- ---- the laws
+
+pub tokens_law : (text : List ℕ) (tokens : List Token) → (tokens_of text ≡ Ok tokens) ↔ Splits text tokens
+tokens_law text tokens = (there, back)
+  where
+    there : tokens_of text ≡ Ok tokens → Splits text tokens
+    there e = subst (Reads 0 text) e (reads_all (length text) 0 text (omega arith))
+
+    back : Splits text tokens → tokens_of text ≡ Ok tokens
+    back (to, splits) = splits_tokens splits ∙ ap (after_tokens tokens) (none_left to) ∙ ap (λ (l : List Token). Ok l) (append-nil tokens)
+
+pub refusals_law : (text : List ℕ) (error : LexError) → (tokens_of text ≡ Err error) ↔ IsRefused text error
+refusals_law text error = (there, back)
+  where
+    there : tokens_of text ≡ Err error → IsRefused text error
+    there e = subst (Reads 0 text) e (reads_all (length text) 0 text (omega arith))
+
+    back : IsRefused text error → tokens_of text ≡ Err error
+    back (tokens, at, rest, splits, fails) = splits_tokens splits ∙ ap (after_tokens tokens) (fails_some at rest error fails)

@@ -1,0 +1,6 @@
+pub mod Sums
+pub mod Steps
+pub mod Deciding
+pub mod Framing
+pub mod Within
+pub mod Rows

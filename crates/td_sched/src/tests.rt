@@ -1,0 +1,133 @@
+// What planned memory gives, load by load.
+
+ghost use Rattle.std.specs.Prelude.{◌≡◌, ◌<◌, []};
+
+use crate::planned::Planned;
+use crate::store::PlannedStore;
+use std::alloc::{AllocError, Global};
+use std::test::*;
+use td_stream::words::Words;
+
+fn store(before: u64, word: u32, value: u64) -> PlannedStore {
+    PlannedStore {
+        before,
+        word,
+        value,
+    }
+}
+
+// What loads of these words give, which must rise: the first that doesn't, or that isn't there, ends it.
+fn loaded(alloc: Global, planned: &mut Planned, places: &[u32]) -> Result<Vec<u64>, AllocError>
+    requires { planned.old.loads ≡ [] }
+{
+    let mut values = Vec::new(alloc);
+    let mut least = 0;
+    'places: for place in places {
+        if *place < least || planned.count() <= *place {
+            break;
+        }
+        values.push(planned.load(*place))?;
+        least = *place + 1;
+    }
+    Ok(values)
+}
+
+#[test]
+fn stores_come_before_their_loads(rt: HostRuntime) -> Result<(), Fail> {
+    let every = [0, 1, 2, 3];
+    let rows: [(&[PlannedStore], &[u32], &[u64]); 15] = [
+        // no store
+        (&[], &every, &[10, 11, 12, 13]),
+        // before load 0
+        (&[store(0, 0, 99)], &every, &[99, 11, 12, 13]),
+        (&[store(0, 3, 99)], &every, &[10, 11, 12, 99]),
+        // before a later load
+        (&[store(1, 0, 99)], &every, &[10, 11, 12, 13]),
+        (&[store(2, 2, 99)], &every, &[10, 11, 99, 13]),
+        (&[store(3, 2, 99)], &every, &[10, 11, 12, 13]),
+        // loads are counted, and not words
+        (&[store(1, 3, 99)], &[1, 3], &[11, 99]),
+        (&[store(1, 3, 99)], &[3], &[13]),
+        // two of one number: the later in the list holds
+        (&[store(1, 1, 8), store(1, 1, 9)], &every, &[10, 9, 12, 13]),
+        // two of different numbers: the higher number holds, whatever their order in the list
+        (&[store(2, 3, 8), store(1, 3, 9)], &every, &[10, 11, 12, 8]),
+        // of a number that is too late none is made, though it stands first
+        (&[store(3, 2, 8), store(1, 2, 9)], &every, &[10, 11, 9, 13]),
+        // to a word that isn't loaded
+        (&[store(0, 2, 99)], &[1, 3], &[11, 13]),
+        // to a word that isn't there
+        (
+            &[store(0, 4, 98), store(0, 4294967295, 99)],
+            &every,
+            &[10, 11, 12, 13],
+        ),
+        // a number that no load has
+        (
+            &[store(4, 3, 98), store(18446744073709551615, 3, 99)],
+            &every,
+            &[10, 11, 12, 13],
+        ),
+        // a value of all ones, and zero
+        (
+            &[store(0, 0, 18446744073709551615), store(0, 1, 0)],
+            &every,
+            &[18446744073709551615, 0, 12, 13],
+        ),
+    ];
+    for (stores, places, want) in rows {
+        let mut planned = Planned::open(rt.alloc(), &[10, 11, 12, 13], stores)?;
+        let values = loaded(rt.alloc(), &mut planned, places)?;
+        assert_eq!(rt; planned.count(), 4);
+        assert_eq!(rt; values.as_slice(), want);
+    }
+    Ok(())
+}
+
+// A store to word 2m or 2m + 1, right before load 2m or 2m + 1. Every fourth comes too late for its word.
+fn large_store(m: u32) -> PlannedStore
+    requires { m < 65536 }
+{
+    let value = 1000000 + m as u64;
+    match m % 4 {
+        0 => store(2 * m as u64, 2 * m, value),
+        1 => store(2 * m as u64, 2 * m + 1, value),
+        2 => store(2 * m as u64 + 1, 2 * m, value),
+        _ => store(2 * m as u64 + 1, 2 * m + 1, value),
+    }
+}
+
+// What load i of word i gives then, where the word opens with i.
+fn large_value(i: u64) -> u64 {
+    let m = i / 2;
+    let is_odd = i % 2 == 1;
+    let is_stored = match m % 4 {
+        0 => !is_odd,
+        2 => false,
+        _ => is_odd,
+    };
+    if is_stored { 1000000 + m } else { i }
+}
+
+#[test]
+fn a_large_plan_is_played(rt: HostRuntime) -> Result<(), Fail> {
+    let mut words = Vec::new(rt.alloc());
+    let mut places = Vec::new(rt.alloc());
+    for i in 0..131072u32 {
+        words.push(i as u64)?;
+        places.push(i)?;
+    }
+    let mut stores = Vec::new(rt.alloc());
+    for j in 0..65536u64 {
+        stores.push(large_store((j * 40503 % 65536) as u32))?;
+    }
+    assert_eq!(rt; words.len(), 131072);
+    assert_eq!(rt; stores.len(), 65536);
+    let mut planned = Planned::open(rt.alloc(), words.as_slice(), stores.as_slice())?;
+    let values = loaded(rt.alloc(), &mut planned, places.as_slice())?;
+    assert_eq!(rt; values.len(), 131072);
+    for i in 0..131072u32 {
+        assert_eq!(rt; values[i as usize], large_value(i as u64), "word {i}");
+    }
+    Ok(())
+}
