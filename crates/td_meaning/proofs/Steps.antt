@@ -78,7 +78,7 @@ unfolding fields_meaning
 fields_over ty fields env message end p cells e = ap (λ fs. (fields_meaning ty fs env message end p cells).ending) e
 
 -- what was read before, and what follows
-reading_then : (places : List ℕ) (x : Told) (go : ℕ → List ℕ → Told) → and_then (after_reading places x) go ≡ after_reading places (and_then x go)
+pub reading_then : (places : List ℕ) (x : Told) (go : ℕ → List ℕ → Told) → and_then (after_reading places x) go ≡ after_reading places (and_then x go)
 reading_then places x go = by_ending x.ending
   where
     by_ending : (o : Ending) → onward o (places ++ x.reads) go ≡ after_reading places (onward o x.reads go)

@@ -20,8 +20,8 @@ returns-then-not-is_met c =
     let split : drop n parts ≡ part ∷ drop (n + 1) parts = drop_more parts n none c.loop-part-test.true in
     let unmet : is_met part.refinement a.env.now ≡ false = search rules in
     let whole =
-        ap outcome_of (sym (parts_unmet a.ty (drop n parts) (drop (n + 1) parts) part a.env.now a.start a.position a.cells split unmet))
-        ∙ ap (λ (t : Told). outcome_of t.ending) (sym c.loop-part.invariant) in
+    ap outcome_of (sym (parts_unmet a.ty (drop n parts) (drop (n + 1) parts) part a.env.now a.start a.position a.cells split unmet))
+    ∙ ap (λ (t : Told). outcome_of t.ending) (sym c.loop-part.invariant) in
     subst (λ (x : Outcome). IfOk c.failed.result (λ o. o ≡ x)) whole c.failed.ensures
 
 pub loop-part-preserved : goal.loop-part-preserved
