@@ -8,4 +8,6 @@ pub mod memory;
 pub mod quiet;
 pub mod reading;
 pub mod standard;
+#[cfg(test)]
+mod tests;
 pub mod writing;

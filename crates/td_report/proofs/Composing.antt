@@ -1,0 +1,70 @@
+-- Texts that are written one after the other.
+use Rattle.std.proofs.Common.{◌≡◌, ℕ, ◌+◌, ◌<◌, List, [], ◌++◌, length, take, drop, get_or, Option, Some, None, Result, Ok, Err, IsErr, sym, ap, subst, ◌∙◌, append_assoc, arith}
+use Rattle.std.proofs.Math.Seq.{take-append-add, take-append_seam}
+use Rattle.std.proofs.lemmas.List.{take-append-drop}
+use Rattle.std.proofs.lemmas.Grind.{flat_map-append}
+use Rattle.std.proofs.lemmas.List.{take_more, flat_map_more}
+use Rattle.std.specs.List.{flat_map}
+use Rattle.std.specs.Io.KnownBytes.{Appends}
+use Rattle.td_io.specs.Causes.{StartsWritten}
+use Rattle.td_report.specs.Writing.{Writes}
+
+appends_both : (a b c : Option (List ℕ)) (first second : List ℕ) → Appends a b first → Appends b c second → Appends a c (first ++ second)
+appends_both None b c first second p q = tt
+appends_both (Some xs) None c first second p q = absurd p
+appends_both (Some xs) (Some ys) None first second p q = absurd q
+appends_both (Some xs) (Some ys) (Some zs) first second p q = q ∙ ap (λ (l : List ℕ). l ++ second) p ∙ append_assoc xs first second
+
+starts_later : (a b c : Option (List ℕ)) (first second : List ℕ) → Appends a b first → StartsWritten b c second → StartsWritten a c (first ++ second)
+starts_later a b c first second p q =
+    (length first + q.0, subst (λ (l : List ℕ). Appends a c l) (sym (take-append-add first second q.0)) (appends_both a b c first (take q.0 second) p q.1))
+
+starts_longer : (a b : Option (List ℕ)) (first second : List ℕ) → StartsWritten a b first → StartsWritten a b (first ++ second)
+starts_longer a b first second q =
+    let front : List ℕ = take q.0 first in
+    let split : first ++ second ≡ front ++ (drop q.0 first ++ second) = ap (λ (l : List ℕ). l ++ second) (sym (take-append-drop q.0 first)) ∙ append_assoc front (drop q.0 first) second in
+    let same : take (length front) (first ++ second) ≡ front = ap (λ (l : List ℕ). take (length front) l) split ∙ take-append_seam front (drop q.0 first ++ second) in
+    (length front, subst (λ (l : List ℕ). Appends a b l) (sym same) q.1)
+
+-- a text was written, and then another one was, or wasn't
+pub writes_both : {T U E F : Type 0} {a b c : Option (List ℕ)} {x y z : ℕ} {first second : List ℕ} {u : U} {r : Result T E} → Writes {T = U} {E = F} a b x y first (Ok u) → Writes b c y z second r → Writes a c x z (first ++ second) r
+writes_both {a = a} {b = b} {c = c} {x = x} {y = y} {z = z} {first = first} {second = second} {u = u} {r = Ok v} p q = record {
+  written = appends_both a b c first second p.written q.written;
+  prefix = tt;
+  cause = record { later = omega (arith, p.cause.later, q.cause.later); failed = tt };
+}
+writes_both {a = a} {b = b} {c = c} {x = x} {y = y} {z = z} {first = first} {second = second} {u = u} {r = Err e} p q = record {
+  written = tt;
+  prefix = starts_later a b c first second p.written q.prefix;
+  cause = record { later = omega (arith, p.cause.later, q.cause.later); failed = (omega (arith, p.cause.later, q.cause.failed.0), q.cause.failed.1) };
+}
+
+-- a text wasn't written, so the one behind it wasn't either
+pub writes_stopped : {T U E F : Type 0} {a b : Option (List ℕ)} {x y : ℕ} {first : List ℕ} {e : F} (second : List ℕ) (r : Result T E) → IsErr r → Writes {T = U} {E = F} a b x y first (Err e) → Writes {T = T} {E = E} a b x y (first ++ second) r
+writes_stopped second (Ok v) wrong p = absurd (cc wrong)
+writes_stopped {a = a} {b = b} {first = first} second (Err f) wrong p = record {
+  written = tt;
+  prefix = starts_longer a b first second p.prefix;
+  cause = record { later = p.cause.later; failed = p.cause.failed };
+}
+
+-- the same of an equal text
+pub writes_as : {T E : Type 0} {a b : Option (List ℕ)} {x y : ℕ} {text other : List ℕ} {r : Result T E} → other ≡ text → Writes a b x y text r → Writes a b x y other r
+writes_as {a = a} {b = b} {x = x} {y = y} {r = r} e p = subst (λ (l : List ℕ). Writes a b x y l r) (sym e) p
+
+-- the texts of the first i + 1 elements
+each_more : {A : Type 0} (f : A → List ℕ) (xs : List A) (i : ℕ) (d : A) → i < length xs → flat_map f (take (i + 1) xs) ≡ flat_map f (take i xs) ++ f (get_or xs i d)
+each_more f xs i d h = ap (flat_map f) (take_more xs i d h) ∙ sym (flat_map_more f [] (take i xs) (get_or xs i d))
+
+-- the texts of all elements are those of the first i, and those of the rest
+each_split : {A : Type 0} (f : A → List ℕ) (xs : List A) (i : ℕ) → flat_map f xs ≡ flat_map f (take i xs) ++ flat_map f (drop i xs)
+each_split f xs i = ap (flat_map f) (sym (take-append-drop i xs)) ∙ flat_map-append f (take i xs) (drop i xs)
+
+-- the texts of the first i elements were written, and that of the next one
+pub each_written : {A U V E F : Type 0} {a b c : Option (List ℕ)} {x y z : ℕ} {u : U} {v : V} (f : A → List ℕ) (xs : List A) (i : ℕ) (d : A) → i < length xs → Writes {T = U} {E = F} a b x y (flat_map f (take i xs)) (Ok u) → Writes {T = V} {E = E} b c y z (f (get_or xs i d)) (Ok v) → Writes {T = V} {E = E} a c x z (flat_map f (take (i + 1) xs)) (Ok v)
+each_written f xs i d h p q = writes_as (each_more f xs i d h) (writes_both p q)
+
+-- the texts of the first i elements were written, and that of the next one wasn't
+pub each_stopped : {A T U V E F G : Type 0} {a b c : Option (List ℕ)} {x y z : ℕ} {u : U} {e : G} (f : A → List ℕ) (xs : List A) (i : ℕ) (d : A) (r : Result T E) → i < length xs → IsErr r → Writes {T = U} {E = F} a b x y (flat_map f (take i xs)) (Ok u) → Writes {T = V} {E = G} b c y z (f (get_or xs i d)) (Err e) → Writes {T = T} {E = E} a c x z (flat_map f xs) r
+each_stopped f xs i d r h wrong p q =
+    writes_as (each_split f xs (i + 1)) (writes_stopped (flat_map f (drop (i + 1) xs)) r wrong (writes_as (each_more f xs i d h) (writes_both p q)))

@@ -1,0 +1,91 @@
+//! The lines of errors.
+
+ghost use Rattle.std.specs.Prelude.{◌≡◌, ◌≤◌, ◌+◌, ◌^◌, ◌<◌, OnOk, OnErr, length, take, codes, ◌++◌};
+ghost use Rattle.std.specs.Option.{ForSome};
+ghost use Rattle.std.specs.Io.KnownBytes.{Appends};
+ghost use Rattle.td_io.specs.Causes.{HasCause, StartsWritten};
+ghost use Rattle.td_report.specs.ErrorLine.{error_line, line_at, column_at, place_words, behind_blank};
+ghost use Rattle.td_report.specs.Writing.{Writes};
+
+use crate::pieces::write_pieces;
+use itoa::Buffer;
+use td_io::ends::Sink;
+use td_io::writing::WriteFault;
+
+/// A place in a text: its line, and its byte in the line, both from 1.
+#[derive(Clone, Copy, PartialEq, Eq, Debug)]
+struct Position {
+    line: u64,
+    column: u64,
+}
+
+fn position_at(text: &[u8], at: u32) -> Position
+    requires { at ≤ length text.now }
+    ensures line { result.line ≡ line_at text.now at }
+    ensures column { result.column ≡ column_at text.now at }
+{
+    let mut line = 1u64;
+    let mut column = 1u64;
+    for i in 0..at as usize {
+        if text[i] == b'\n' {
+            line += 1;
+            column = 1;
+        } else {
+            column += 1;
+        }
+    }
+    Position { line, column }
+}
+
+fn write_code<E: Sink>(err: &mut E, code: &[u8]) -> Result<(), WriteFault>
+    ensures { Writes (E.written err.old) (E.written err.new) (E.faults err.old) (E.faults err.new) (codes "error " ++ code.now) result }
+{
+    write_pieces(err, &[b"error ", code])
+}
+
+fn write_place<E: Sink>(err: &mut E, text: &[u8], at: Option<u32>) -> Result<(), WriteFault>
+    requires { ForSome at (λ place. place ≤ length text.now) }
+    ensures { Writes (E.written err.old) (E.written err.new) (E.faults err.old) (E.faults err.new) (place_words text.now at) result }
+{
+    let Some(at) = at else {
+        return Ok(());
+    };
+    let position = position_at(text, at);
+    let mut line = Buffer::new();
+    let mut column = Buffer::new();
+    let line = line.format(position.line).as_bytes();
+    let column = column.format(position.column).as_bytes();
+    write_pieces(err, &[b" ", line, b":", column])
+}
+
+fn write_words<E: Sink>(err: &mut E, words: &[u8]) -> Result<(), WriteFault>
+    ensures { Writes (E.written err.old) (E.written err.new) (E.faults err.old) (E.faults err.new) (behind_blank words.now) result }
+{
+    if words.is_empty() {
+        return Ok(());
+    }
+    write_pieces(err, &[b" ", words])
+}
+
+/// Writes the line of an error: `error`, its code, the line and the column of the place `at` (a byte of the text, from
+/// 0, or the text's end) where there is one, and its words. Takes no memory.
+///
+/// `WriteFault`: a write failed. What went out is a front of the line.
+#[tactic(auto, unfolding(crate::specs::ErrorLine::error_line))]
+pub fn front_line<E: Sink>(
+    text: &[u8],
+    at: Option<u32>,
+    code: &[u8],
+    words: &[u8],
+    err: &mut E,
+) -> Result<(), WriteFault>
+    requires { ForSome at (λ place. place ≤ length text.now) }
+    ensures written { OnOk result (Appends (E.written err.old) (E.written err.new) (error_line text.now at code.now words.now)) }
+    ensures prefix { OnErr result (StartsWritten (E.written err.old) (E.written err.new) (error_line text.now at code.now words.now)) }
+    ensures cause { HasCause (E.faults err.old) (E.faults err.new) result }
+{
+    write_code(err, code)?;
+    write_place(err, text, at)?;
+    write_words(err, words)?;
+    write_pieces(err, &[b"\n"])
+}

@@ -1,0 +1,8 @@
+//! The texts of the program: the report of a run, and the lines of errors. The layer above rests on one promise: the
+//! sink gets the whole text that the definition names, or a front of it where a write failed.
+#![tactic(auto)]
+
+pub mod error_line;
+mod hexadecimal;
+mod pieces;
+pub mod report;
