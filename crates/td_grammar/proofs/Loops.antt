@@ -32,9 +32,3 @@ module _ {A : Type 0} (g : Grammar A) (G : IsExact g) (solid : g.reader.may_be_e
 
   pub loop_deep : (rest : List Token) → comes g.reader.begins tokens ≡ true → g.reader.read tokens ≡ Deep rest → with_all front ((all_of g).reader.read tokens) ≡ total → total ≡ Deep rest
   loop_deep rest b e so_far = sym so_far ∙ ap (with_all front) (all_over g G solid tokens rest b e)
-
--- a first one and the others are a list of at least one
-pub first_and_others : {A : Type 0} (x : A) (o : Outcome (List A)) → ((o and_then λ xs rest. Got (x, xs) rest) and_then λ (y, ys) rest. Got (y ∷ ys) rest) ≡ with_first x o
-first_and_others x (Got xs rest) = refl
-first_and_others x (Bad rest) = refl
-first_and_others x (Deep rest) = refl

@@ -30,7 +30,7 @@ module _ {A : Type 0} (g : Grammar A) (G : IsExact g) where
   spelled_is_read : (b : A) (tokens : List Token) → g.Spells b tokens → IsRead b [] (g.reader.read tokens)
   spelled_is_read b tokens s = subst (λ (l : List Token). IsRead b [] (g.reader.read l)) (append-nil tokens) (G.again b tokens [] s refl)
 
-  -- what was read up to a token is no longer spelling's
+  -- a spelling that goes on with this token and more is read whole
   not_longer : (front : List Token) (t : Token) (more : List Token) (b : A) → g.Spells b ((front ++ t ∷ []) ++ more) → IsRead b [] (g.reader.read (front ++ t ∷ more))
   not_longer front t more b s = spelled_is_read b (front ++ t ∷ more) (subst (λ (l : List Token). g.Spells b l) (append_assoc front (t ∷ []) more) s)
 
@@ -42,6 +42,7 @@ module _ {A : Type 0} (g : Grammar A) (G : IsExact g) where
   not_more b o a t rest (inl e) h = cc
   not_more b o a t rest (inr over) h = cc (over.1, h)
 
+  -- what is read is spelled
   pub whole_found : (tokens : List Token) (a : A) (rest : List Token) → read_whole g.reader tokens ≡ Got a rest → g.Spells a tokens
   whole_found tokens a rest e =
       let p = bind_got (g.reader.read tokens) (λ x l. ended x l) a rest e in
@@ -50,6 +51,7 @@ module _ {A : Type 0} (g : Grammar A) (G : IsExact g) where
       let same : tokens ≡ t.0 = t.1 ∙ ap (λ (l : List Token). t.0 ++ l) q.1 ∙ append-nil t.0 in
       subst (λ (x : A). g.Spells x tokens) q.0 (subst (λ (l : List Token). g.Spells p.0 l) (sym same) t.2)
 
+  -- what is spelled is read, or a limit is passed
   pub whole_only : (tokens : List Token) (a : A) → g.Spells a tokens → IsRead a [] (read_whole g.reader tokens)
   whole_only tokens a s =
       elim (spelled_is_read a tokens s) [
@@ -61,6 +63,7 @@ module _ {A : Type 0} (g : Grammar A) (G : IsExact g) where
   none_after_bad front [] e = λ b s. not_bad b (g.reader.read front) [] (spelled_is_read b front s) (subst (λ (l : List Token). g.reader.read l ≡ Bad []) (append-nil front) e)
   none_after_bad front (t ∷ r) e = λ (b, more, s). not_bad b (g.reader.read (front ++ t ∷ more)) (t ∷ more) (not_longer front t more b s) (G.keeps_bad front t r more e)
 
+  -- where reading stops, the token is refused
   pub whole_refused : (tokens rest : List Token) → read_whole g.reader tokens ≡ Bad rest → IsRefusedAt g.Spells tokens rest
   whole_refused tokens rest e =
       elim (bind_bad (g.reader.read tokens) (λ x l. ended x l) rest e) [
@@ -89,7 +92,7 @@ module _ {A : Type 0} (g : Grammar A) (G : IsExact g) where
         | inr p ↦ absurd (ended_not_deep p.0 p.1 rest p.3)
       ]
 
-  -- the place, counted
+  -- the place of the refused token, counted from the front
   pub first_refused : (tokens rest : List Token) → IsRefusedAt g.Spells tokens rest → IsFirstRefused g.Spells tokens (length tokens - length rest)
   first_refused tokens rest h = by_place h.0 rest (length tokens - length rest) h.1 (rw (h.1) (omega (arith, length-append h.0 rest))) h.2 h.3
     where
@@ -137,6 +140,7 @@ module _ {A : Type 0} (g : Grammar A) (G : IsExact g) (plain : IsPlain g) where
         | inr over ↦ absurd (whole_not_deep tokens over.0 over.1)
       ]
 
+  -- at most one value is spelled
   pub whole_unique : (a b : A) (tokens : List Token) → g.Spells a tokens → g.Spells b tokens → a ≡ b
   whole_unique a b tokens s t = got_value a b [] [] (sym (whole_read a tokens s) ∙ whole_read b tokens t)
 

@@ -119,6 +119,11 @@ fn texts_have_a_tree_or_a_refused_token(rt: HostRuntime) -> Result<(), Fail> {
         let wanted = refused.map(|token| ParseError::Unexpected { token });
         assert_eq!(rt; found.err(), wanted, "{text}");
     }
+    Ok(())
+}
+
+#[test]
+fn a_struct_has_its_tree(rt: HostRuntime) -> Result<(), Fail> {
     let tokens = tokens_of(
         rt.alloc(),
         "entrypoint typedef struct _S { UINT8 a ; UINT32BE b { a <= 0x1f } ; } S ;",

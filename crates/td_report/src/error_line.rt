@@ -1,7 +1,6 @@
 //! The lines of errors.
 
 ghost use Rattle.std.specs.Prelude.{◌≡◌, ◌≤◌, ◌+◌, ◌^◌, ◌<◌, OnOk, OnErr, length, take, codes, ◌++◌};
-ghost use Rattle.std.specs.Option.{ForSome};
 ghost use Rattle.std.specs.Io.KnownBytes.{Appends};
 ghost use Rattle.td_io.specs.Causes.{HasCause, StartsWritten};
 ghost use Rattle.td_report.specs.ErrorLine.{error_line, line_at, column_at, place_words, behind_blank};
@@ -19,14 +18,14 @@ struct Position {
     column: u64,
 }
 
-fn position_at(text: &[u8], at: u32) -> Position
+fn position_at(text: &[u8], at: usize) -> Position
     requires { at ≤ length text.now }
     ensures line { result.line ≡ line_at text.now at }
     ensures column { result.column ≡ column_at text.now at }
 {
     let mut line = 1u64;
     let mut column = 1u64;
-    for i in 0..at as usize {
+    for i in 0..at {
         if text[i] == b'\n' {
             line += 1;
             column = 1;
@@ -37,20 +36,30 @@ fn position_at(text: &[u8], at: u32) -> Position
     Position { line, column }
 }
 
-fn write_code<E: Sink>(err: &mut E, code: &[u8]) -> Result<(), WriteFault>
+// The first bytes of a text, or all of it where it has fewer.
+fn first_bytes(text: &[u8], count: u32) -> &[u8]
+    ensures { result.now ≡ take count text.now }
+{
+    match text.get(..count as usize) {
+        Some(first) => first,
+        None => text,
+    }
+}
+
+pub(crate) fn write_code<E: Sink>(err: &mut E, code: &[u8]) -> Result<(), WriteFault>
     ensures { Writes (E.written err.old) (E.written err.new) (E.faults err.old) (E.faults err.new) (codes "error " ++ code.now) result }
 {
     write_pieces(err, &[b"error ", code])
 }
 
 fn write_place<E: Sink>(err: &mut E, text: &[u8], at: Option<u32>) -> Result<(), WriteFault>
-    requires { ForSome at (λ place. place ≤ length text.now) }
     ensures { Writes (E.written err.old) (E.written err.new) (E.faults err.old) (E.faults err.new) (place_words text.now at) result }
 {
     let Some(at) = at else {
         return Ok(());
     };
-    let position = position_at(text, at);
+    let before = first_bytes(text, at);
+    let position = position_at(before, before.len());
     let mut line = Buffer::new();
     let mut column = Buffer::new();
     let line = line.format(position.line).as_bytes();
@@ -58,7 +67,7 @@ fn write_place<E: Sink>(err: &mut E, text: &[u8], at: Option<u32>) -> Result<(),
     write_pieces(err, &[b" ", line, b":", column])
 }
 
-fn write_words<E: Sink>(err: &mut E, words: &[u8]) -> Result<(), WriteFault>
+pub(crate) fn write_words<E: Sink>(err: &mut E, words: &[u8]) -> Result<(), WriteFault>
     ensures { Writes (E.written err.old) (E.written err.new) (E.faults err.old) (E.faults err.new) (behind_blank words.now) result }
 {
     if words.is_empty() {
@@ -68,7 +77,7 @@ fn write_words<E: Sink>(err: &mut E, words: &[u8]) -> Result<(), WriteFault>
 }
 
 /// Writes the line of an error: `error`, its code, the line and the column of the place `at` (a byte of the text, from
-/// 0, or the text's end) where there is one, and its words. Takes no memory.
+/// 0; one past the text's end stands for the end) where there is one, and its words. Takes no memory.
 ///
 /// `WriteFault`: a write failed. What went out is a front of the line.
 #[tactic(auto, unfolding(crate::specs::ErrorLine::error_line))]
@@ -79,7 +88,6 @@ pub fn front_line<E: Sink>(
     words: &[u8],
     err: &mut E,
 ) -> Result<(), WriteFault>
-    requires { ForSome at (λ place. place ≤ length text.now) }
     ensures written { OnOk result (Appends (E.written err.old) (E.written err.new) (error_line text.now at code.now words.now)) }
     ensures prefix { OnErr result (StartsWritten (E.written err.old) (E.written err.new) (error_line text.now at code.now words.now)) }
     ensures cause { HasCause (E.faults err.old) (E.faults err.new) result }

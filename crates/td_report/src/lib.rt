@@ -4,5 +4,8 @@
 
 pub mod error_line;
 mod hexadecimal;
+pub mod path_line;
 mod pieces;
 pub mod report;
+#[cfg(test)]
+mod tests;

@@ -7,7 +7,7 @@ ghost use Rattle.td_sched.specs.Plan.{ArePlanned, at};
 ghost use Rattle.td_sched.specs.Events.{events, Happens};
 ghost use Rattle.td_sched.specs.Playing.{Playing, Plays};
 
-/// Memory that was opened and after that only loaded from: its loads are those of its plan.
+/// Law: of memory that was opened and after that only loaded from, the loads are those of its plan.
 pub fn loads_are_planned()
     ensures { (v w : Playing) → v.loads ≡ [] → Plays v w → ArePlanned v.opening v.stores 0 w.loads }
 {}
@@ -17,8 +17,8 @@ pub fn next_load_is_planned()
     ensures { (v w : Playing) (i value : ℕ) → ArePlanned v.opening v.stores 0 v.loads → Plays v w → w.loads ≡ v.loads ++ (record { word = i; value = value }) ∷ [] → value ≡ at v.opening v.stores (length v.loads) i }
 {}
 
-/// Law: loads are those of a plan exactly where plain memory gives them when its stores and loads happen one by one, the
-/// stores of a number right before the load of that number.
+/// Law: loads are those of a plan exactly where plain memory gives them when its stores and loads happen one by one,
+/// the stores of a number right before the load of that number.
 pub fn planned_loads_happen()
     ensures { (opening : List ℕ) (stores : List PlannedStore) (loads : List Load) → All (λ l. l.word < length opening) loads → ArePlanned opening stores 0 loads ↔ Happens opening (events stores 0 loads) }
 {}

@@ -37,9 +37,9 @@ impl Model for Planned {
 }
 
 impl Planned {
-    /// Memory that opens with these words, and to which these stores will be made, in any order here: by rising
-    /// number, and within one number as they stand. A store to a word that isn't there changes nothing. Fewer than
-    /// 2^32 words. `AllocError`: there was no memory for it.
+    /// Memory that opens with these words, of which there are fewer than 2^32, and to which these stores are made as
+    /// loads come: by rising number, and within one number in the order given here. A store to a word that isn't
+    /// there changes nothing. `AllocError`: there was no memory for this.
     pub fn open(
         alloc: Global,
         words: &[u64],
