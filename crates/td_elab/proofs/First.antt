@@ -130,3 +130,11 @@ one_first bs a b h k =
     level_same a b
     (All-contains (λ c. is_sooner c b ≡ false) bs a k.1 h.0)
     (All-contains (λ c. is_sooner c a ≡ false) bs b h.1 k.0)
+
+-- there is none, or one is first
+pub some_first : (bs : List Breach) → (bs ≡ []) ⊎ ((b : Breach) × IsFirst b bs)
+some_first bs = by (first_of None bs) refl
+  where
+    by : (o : Option Breach) → first_of None bs ≡ o → (bs ≡ []) ⊎ ((b : Breach) × IsFirst b bs)
+    by None e = inl (none_found bs e)
+    by (Some b) e = inr (b, found_first bs b e)

@@ -4,3 +4,4 @@ pub mod Stands
 pub mod Rules
 pub mod Formed
 pub mod Elaborates
+pub mod Laws

@@ -55,12 +55,7 @@ fn check_refinement(name: &[u8], tree: &Option<ComparisonTree>, findings: &mut F
 }
 
 // The field at a place of its struct.
-fn field(
-    alloc: Global,
-    names: &Names,
-    place: u32,
-    tree: &FieldTree,
-) -> Result<Field, AllocError>
+fn field(alloc: Global, names: &Names, place: u32, tree: &FieldTree) -> Result<Field, AllocError>
     ensures { IfOk result (λ f. f ≡ field_of names.now place tree.now) }
 {
     let part = Part {

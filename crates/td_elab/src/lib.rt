@@ -6,6 +6,7 @@
 pub mod breach;
 pub mod elaborate;
 mod fields;
+pub mod laws;
 mod names;
 #[cfg(test)]
 mod tests;

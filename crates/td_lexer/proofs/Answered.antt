@@ -1,5 +1,5 @@
 -- What the answer says of the text.
-use Rattle.std.proofs.Common.{◌≡◌, ℕ, List, Result, Ok, Err, refl, sym, ap, ◌∙◌, inl, inr}
+use Rattle.std.proofs.Common.{◌≡◌, ℕ, List, Result, Ok, Err, refl, inl, inr}
 use Rattle.std.specs.Prelude.{◌⊎◌, IfOk, IfErr, MatchResult}
 use Rattle.std.specs.Global.{Vec}
 use Rattle.td_ast.specs.declared.token.Token.{Token}

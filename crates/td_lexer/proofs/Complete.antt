@@ -1,22 +1,22 @@
 -- What the language's words say of a front, its piece is.
-use Rattle.std.proofs.Common.{◌≡◌, ℕ, zero, suc, ◌+◌, ◌≤◌, ◌<◌, ◌^◌, Bool, true, false, cond, eqb, ltb, List, [], ◌∷◌, ◌++◌, length, take, drop, Option, Some, None, refl, sym, ap, subst, ◌∙◌, arith, inl, inr}
+use Rattle.std.proofs.Common.{◌≡◌, ℕ, suc, ◌+◌, ◌≤◌, ◌<◌, ◌^◌, Bool, true, false, cond, eqb, ltb, List, [], ◌∷◌, ◌++◌, length, take, drop, Option, Some, None, refl, sym, ap, subst, ◌∙◌, arith, inl, inr}
 use Rattle.std.specs.Prelude.{◌&&◌, ◌||◌, ◌⊎◌, not, codes}
-use Rattle.std.proofs.lemmas.Bool.{eqb-true, eqb-false, lt-ltb, le-ltb, ltb-true, cond-true, cond-false, cases_lt}
+use Rattle.std.proofs.lemmas.Bool.{eqb-true, lt-ltb, le-ltb, ltb-true, cond-true, cond-false, cases_lt}
 use Rattle.std.proofs.lemmas.List.{take-append-drop, length-take-le, length-append, take_at, drop_at}
 use Rattle.td_ast.specs.declared.token.Base.{Base}
 use Rattle.td_ast.specs.declared.token.Base.TheVariants.{Decimal, Hexadecimal}
 use Rattle.td_ast.specs.declared.token.TokenKind.{TokenKind}
 use Rattle.td_ast.specs.declared.token.TokenKind.TheVariants.{Name, Number}
 use Rattle.td_lexer.specs.Bytes.{is_blank, is_letter, is_digit, is_word_byte, is_marked_byte, is_in_line, opens, every, first_is, run}
-use Rattle.td_lexer.specs.Spellings.{kind_in, keyword_kind, marked_words, signs_of_two, single_kind, sign_kind, or_else}
+use Rattle.td_lexer.specs.Spellings.{kind_in, marked_words, signs_of_two, single_kind}
 use Rattle.td_lexer.specs.Numerals.{numeral_value}
 use Rattle.td_lexer.specs.declared.piece.Piece.{Piece}
 use Rattle.td_lexer.specs.declared.piece.Piece.TheVariants.{Passed, Found, Bad, Open, Big}
-use Rattle.td_lexer.specs.Scanner.{piece, word_piece, number_piece, sign_piece, name_or, word_kind, number_ends, close_of, closed, marked_length, marked_kind, found_or}
-use Rattle.td_lexer.specs.Splits.{IsName, IsNumeral, Begins, Stands, IsPassed, IsOpenComment, IsBigNumber, GoesOn, IsNothing, is_comment_byte}
+use Rattle.td_lexer.specs.Scanner.{piece, word_piece, number_piece, sign_piece, name_or, word_kind, number_ends, marked_length, marked_kind, found_or}
+use Rattle.td_lexer.specs.Splits.{IsNumeral, Begins, Stands, IsPassed, IsOpenComment, IsBigNumber, GoesOn, IsNothing, is_comment_byte}
 use Rattle.td_lexer.specs.Splits.Begins.{keyword_begins, name_begins, number_begins, marked_begins, sign_begins}
 use Rattle.td_lexer.specs.Splits.IsPassed.{blank_passes, line_passes, block_passes}
-use Rattle.td_lexer.proofs.Within.{and_left, and_right, and_false, marked_within}
+use Rattle.td_lexer.proofs.Within.{and_left, and_right, marked_within}
 use Rattle.td_lexer.proofs.Runs.{run_least, run_all}
 use Rattle.td_lexer.proofs.Sorts.{letter_no_blank, digit_no_blank, digit_no_letter, kind_passes, or_else_cases, is_word_shape, is_marked_shape, is_pair_shape, is_single_shape, is_sign_byte, keyword_shape, marked_shape, pair_shape, single_shape, not_true}
 use Rattle.td_lexer.proofs.Closing.{close_is, close_none}

@@ -1,19 +1,13 @@
 -- The longest number at the front.
-use Rattle.std.proofs.Common.{◌≡◌, ℕ, zero, suc, ◌+◌, ◌≤◌, ◌<◌, ◌^◌, Bool, true, false, cond, eqb, ltb, List, [], ◌∷◌, ◌++◌, length, take, drop, refl, sym, ap, subst, ◌∙◌, arith, inl, inr}
-use Rattle.std.specs.Prelude.{◌&&◌, ◌⊎◌}
-use Rattle.std.proofs.lemmas.Bool.{eqb-true, eqb-false, ltb-true, ltb-false, ne_eqb, lt-ltb, le-ltb}
-use Rattle.std.proofs.lemmas.List.{take-append-drop, length-take-le, take_at, drop_at, length-append}
+use Rattle.std.proofs.Common.{◌≡◌, ℕ, suc, ◌+◌, ◌≤◌, Bool, true, false, cond, eqb, List, [], ◌∷◌, ◌++◌, length, refl, ◌∙◌, arith}
+use Rattle.std.proofs.lemmas.Bool.{eqb-false, ne_eqb}
 use Rattle.td_ast.specs.declared.token.Base.{Base}
 use Rattle.td_ast.specs.declared.token.Base.TheVariants.{Decimal, Hexadecimal}
-use Rattle.td_ast.specs.declared.token.TokenKind.TheVariants.{Number}
 use Rattle.td_lexer.specs.Bytes.{is_digit, is_word_byte, is_hexadecimal, is_hexadecimal_mark, every, first_is, run}
-use Rattle.td_lexer.specs.Numerals.{numeral_value}
-use Rattle.td_lexer.specs.declared.piece.Piece.{Piece}
-use Rattle.td_lexer.specs.declared.piece.Piece.TheVariants.{Passed, Found, Bad, Open, Big}
 use Rattle.td_lexer.specs.Scanner.{hexadecimal_digits, number_ends, number_piece}
-use Rattle.td_lexer.specs.Splits.{IsNumeral, GoesOn}
+use Rattle.td_lexer.specs.Splits.{IsNumeral}
 use Rattle.td_lexer.proofs.Within.{and_left, and_right, and_false}
-use Rattle.td_lexer.proofs.Runs.{run_least, run_all, run_every, run_stops}
+use Rattle.td_lexer.proofs.Runs.{run_least, run_all}
 use Rattle.td_lexer.proofs.Sorts.{digit_no_mark, digit_in_word, mark_in_word, hexadecimal_in_word, first_narrower}
 
 -- how many bytes of a number stand at the front

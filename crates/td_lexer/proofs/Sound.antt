@@ -1,14 +1,13 @@
 -- What stands at the front, in the language's words.
-use Rattle.std.proofs.Common.{◌≡◌, ℕ, zero, suc, ◌+◌, ◌≤◌, ◌<◌, ◌^◌, Bool, true, false, cond, eqb, ltb, List, [], ◌∷◌, ◌++◌, length, take, drop, Option, Some, None, refl, sym, ap, subst, ◌∙◌, arith, inl, inr}
+use Rattle.std.proofs.Common.{◌≡◌, ℕ, zero, suc, ◌+◌, ◌≤◌, ◌<◌, ◌^◌, Bool, true, false, cond, eqb, ltb, List, [], ◌∷◌, ◌++◌, length, take, drop, Option, Some, None, refl, sym, ap, ◌∙◌, arith, inl, inr}
 use Rattle.std.specs.Prelude.{◌&&◌, ◌⊎◌, codes}
-use Rattle.std.proofs.lemmas.Bool.{eqb-true, eqb-false, eq-eqb, ltb-true, ltb-false}
+use Rattle.std.proofs.lemmas.Bool.{eqb-true, eq-eqb, ltb-true, ltb-false}
 use Rattle.std.proofs.lemmas.List.{take-append-drop, length-take-le, length-append}
 use Rattle.td_ast.specs.declared.token.Base.{Base}
 use Rattle.td_ast.specs.declared.token.Base.TheVariants.{Decimal, Hexadecimal}
 use Rattle.td_ast.specs.declared.token.TokenKind.{TokenKind}
-use Rattle.td_ast.specs.declared.token.TokenKind.TheVariants.{Number}
 use Rattle.td_lexer.specs.Bytes.{is_blank, is_letter, is_digit, is_word_byte, is_marked_byte, is_hexadecimal, is_hexadecimal_mark, is_in_line, opens, every, first_is, run}
-use Rattle.td_lexer.specs.Spellings.{kind_in, keyword_kind, marked_words, signs_of_two, single_kind, sign_kind, or_else}
+use Rattle.td_lexer.specs.Spellings.{kind_in, keyword_kind, marked_words, signs_of_two, single_kind, or_else}
 use Rattle.td_lexer.specs.Numerals.{numeral_value}
 use Rattle.td_lexer.specs.declared.piece.Piece.{Piece}
 use Rattle.td_lexer.specs.declared.piece.Piece.TheVariants.{Passed, Found, Bad, Open, Big}
@@ -19,7 +18,7 @@ use Rattle.td_lexer.specs.Splits.IsPassed.{blank_passes, line_passes, block_pass
 use Rattle.td_lexer.proofs.Within.{and_left, and_right, and_false, run_within, run_some, marked_within, hexadecimal_within, no_pair}
 use Rattle.td_lexer.proofs.Runs.{run_every, run_stops}
 use Rattle.td_lexer.proofs.Closing.{Closes, close_found}
-use Rattle.td_lexer.proofs.Numeral.{numeral_within, reach}
+use Rattle.td_lexer.proofs.Numeral.{numeral_within}
 
 -- nothing but a word, a word with a mark or a sign may begin here
 abbrev pub Plain : List ℕ → Type 0

@@ -1,6 +1,6 @@
 -- The tokens of a text are its splitting.
-use Rattle.std.proofs.Common.{◌≡◌, ℕ, zero, suc, ◌+◌, ◌≤◌, ◌<◌, List, [], ◌∷◌, ◌++◌, length, take, drop, Result, Ok, Err, refl, sym, ap, subst, ◌∙◌, arith, inl, inr}
-use Rattle.std.specs.Prelude.{◌⊎◌, ◌↔◌}
+use Rattle.std.proofs.Common.{◌≡◌, ℕ, zero, suc, ◌+◌, ◌≤◌, ◌<◌, List, [], ◌∷◌, ◌++◌, length, Result, Ok, Err, refl, sym, ap, subst, ◌∙◌, arith, inl, inr}
+use Rattle.std.specs.Prelude.{◌↔◌}
 use Rattle.std.proofs.lemmas.List.{append-nil, length-append, drop_at}
 use Rattle.td_ast.specs.declared.token.Token.{Token}
 use Rattle.td_ast.specs.declared.token.TokenKind.{TokenKind}
@@ -10,7 +10,7 @@ use Rattle.td_lexer.specs.declared.piece.Piece.{Piece}
 use Rattle.td_lexer.specs.declared.piece.Piece.TheVariants.{Passed, Found, Bad, Open, Big}
 use Rattle.td_lexer.specs.Scanner.{piece, width, with_token, with_piece, tokens_from, tokens_of}
 use Rattle.td_lexer.specs.Steps.{after_tokens}
-use Rattle.td_lexer.specs.Splits.{Begins, Stands, IsPassed, SplitsUpTo, Splits, IsNothing, IsBigNumber, GoesOn, Fails, IsRefused}
+use Rattle.td_lexer.specs.Splits.{Stands, IsPassed, SplitsUpTo, Splits, IsBigNumber, GoesOn, Fails, IsRefused}
 use Rattle.td_lexer.specs.Splits.SplitsUpTo.{splits_here, splits_passed, splits_token}
 use Rattle.td_lexer.proofs.Walk.{one_piece}
 use Rattle.td_lexer.proofs.Sound.{Sound, piece_sound}

@@ -5,7 +5,7 @@ use Rattle.std.proofs.lemmas.List.{append-nil, drop-drop, drop_all}
 use Rattle.td_ast.specs.declared.token.Token.{Token}
 use Rattle.td_ast.specs.declared.token.TokenKind.{TokenKind}
 use Rattle.td_lexer.specs.declared.piece.Piece.{Piece}
-use Rattle.td_lexer.specs.declared.piece.Piece.TheVariants.{Passed, Found, Bad, Open, Big}
+use Rattle.td_lexer.specs.declared.piece.Piece.TheVariants.{Passed, Found}
 use Rattle.td_lexer.specs.declared.error.LexError.{LexError}
 use Rattle.td_lexer.specs.Scanner.{piece, width, with_piece, with_token, tokens_from, tokens_of}
 use Rattle.td_lexer.specs.Steps.{Steps, tokens_at, after_tokens, IsWithin}

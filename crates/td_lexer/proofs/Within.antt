@@ -1,16 +1,16 @@
 -- A piece is within the bytes.
-use Rattle.std.proofs.Common.{◌≡◌, ℕ, zero, suc, ◌+◌, ◌-◌, ◌≤◌, ◌<◌, Bool, true, false, cond, eqb, ltb, ◌^◌, List, [], ◌∷◌, length, take, drop, take_while, Option, Some, None, refl, sym, ap, subst, ◌∙◌, arith, length-drop, length-take}
-use Rattle.std.specs.Prelude.{IfSome, ◌&&◌, ◌||◌, bytes_eq}
+use Rattle.std.proofs.Common.{◌≡◌, ℕ, suc, ◌+◌, ◌≤◌, ◌<◌, Bool, true, false, cond, eqb, ltb, ◌^◌, List, [], ◌∷◌, length, take, drop, Option, Some, None, refl, arith, length-drop, length-take}
+use Rattle.std.specs.Prelude.{IfSome, ◌&&◌}
 use Rattle.std.proofs.lemmas.List.Sums.{take_while-cons}
 use Rattle.td_ast.specs.declared.token.TokenKind.{TokenKind}
 use Rattle.td_ast.specs.declared.token.Base.{Base}
 use Rattle.td_ast.specs.declared.token.Base.TheVariants.{Decimal, Hexadecimal}
-use Rattle.td_lexer.specs.Bytes.{is_blank, is_letter, is_digit, is_word_byte, is_marked_byte, is_hexadecimal, is_hexadecimal_mark, is_in_line, opens, first_is, run, every}
-use Rattle.td_lexer.specs.Spellings.{Entry, kind_in, signs_of_two, single_kind}
+use Rattle.td_lexer.specs.Bytes.{is_blank, is_letter, is_digit, is_word_byte, is_marked_byte, is_hexadecimal, is_hexadecimal_mark, is_in_line, first_is, run}
+use Rattle.td_lexer.specs.Spellings.{kind_in, signs_of_two, single_kind}
 use Rattle.td_lexer.specs.declared.piece.Piece.{Piece}
-use Rattle.td_lexer.specs.declared.piece.Piece.TheVariants.{Passed, Found, Bad, Open, Big}
+use Rattle.td_lexer.specs.declared.piece.Piece.TheVariants.{Passed, Bad, Big}
 use Rattle.td_lexer.specs.Numerals.{numeral_value}
-use Rattle.td_lexer.specs.Scanner.{piece, width, close_of, closes, closed, one_more, word_piece, number_piece, sign_piece, number_ends, hexadecimal_digits, marked_length, marked_kind, found_or}
+use Rattle.td_lexer.specs.Scanner.{piece, close_of, closes, closed, one_more, word_piece, number_piece, sign_piece, number_ends, hexadecimal_digits, marked_length, marked_kind, found_or}
 use Rattle.td_lexer.specs.Steps.{IsWithin}
 
 pub and_false : (b : Bool) → (b && false) ≡ false

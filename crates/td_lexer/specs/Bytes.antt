@@ -1,5 +1,5 @@
--- Sorts of bytes, and the numbers that digits spell (3D manual, "Lexical structure"; a byte is the code of its ASCII character).
-use Rattle.std.specs.Prelude.{ℕ, ◌+◌, ◌-◌, ◌*◌, Bool, true, false, ◌&&◌, ◌||◌, not, ◌==◌, nat_le, nat_lt, List, [], ◌∷◌, length, take_while, if◌then◌else◌}
+-- Sorts of bytes, and the numbers that digits spell (the grammar's page, "Tokens"). A character's byte is its ASCII code.
+use Rattle.std.specs.Prelude.{ℕ, ◌+◌, ◌-◌, ◌*◌, Bool, true, false, ◌&&◌, ◌||◌, ◌==◌, nat_le, nat_lt, List, [], ◌∷◌, length, take_while, if◌then◌else◌}
 
 -- space, tab, line feed or carriage return
 abbrev pub is_blank : ℕ → Bool

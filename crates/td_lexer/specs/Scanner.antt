@@ -1,6 +1,6 @@
 -- The tokens of a text as a function: what stands at the front of some bytes, and piece by piece the tokens of all.
 -- That it is the splitting that the manual asks for is the law beside it (`Splits`).
-use Rattle.std.specs.Prelude.{◌≡◌, ℕ, zero, suc, ◌+◌, ◌-◌, ◌^◌, Bool, true, false, ◌&&◌, ◌||◌, ◌==◌, nat_lt, List, [], ◌∷◌, length, take, drop, Option, Some, None, Result, Ok, Err, if◌then◌else◌}
+use Rattle.std.specs.Prelude.{◌≡◌, ℕ, zero, suc, ◌+◌, ◌-◌, ◌^◌, Bool, false, ◌&&◌, ◌==◌, nat_lt, List, [], ◌∷◌, take, drop, Option, Some, None, Result, Ok, Err, if◌then◌else◌}
 use Rattle.std.specs.Global.{Vec}
 use Rattle.td_ast.specs.declared.token.Token.{Token}
 use Rattle.td_ast.specs.declared.token.TokenKind.{TokenKind}
@@ -17,14 +17,16 @@ use Rattle.td_lexer.specs.Spellings.{kind_in, keyword_kind, marked_words, signs_
 
 -- ---- words
 
--- the token that a word is
+-- the keyword that was found, or else the word as a name
 abbrev pub name_or : List ℕ → Option TokenKind → TokenKind
 name_or word (Some kind) = kind
 name_or word None = Name word
 
+-- the token that a word is
 abbrev pub word_kind : List ℕ → TokenKind
 word_kind word = name_or word (keyword_kind word)
 
+-- the word at the front: all letters, digits and `_` there
 unfoldable pub word_piece : List ℕ → Piece
 word_piece bytes = Found (word_kind (take (run is_word_byte bytes) bytes)) (run is_word_byte bytes)
 
@@ -41,6 +43,7 @@ number_ends base n bytes =
     if first_is is_word_byte (drop n bytes) then Bad n
     else (if nat_lt (numeral_value base (take n bytes)) (2 ^ 64) then Found (Number (numeral_value base (take n bytes)) base) n else Big)
 
+-- the number at the front
 unfoldable pub number_piece : List ℕ → Piece
 number_piece bytes =
     if hexadecimal_digits bytes == 0 then number_ends Decimal (run is_digit bytes) bytes
@@ -48,6 +51,7 @@ number_piece bytes =
 
 -- ---- comments
 
+-- a place one byte further
 abbrev pub one_more : Option ℕ → Option ℕ
 one_more None = None
 one_more (Some n) = Some (n + 1)
@@ -62,6 +66,7 @@ abbrev pub close_of : List ℕ → Option ℕ
 close_of [] = None
 close_of (a ∷ bytes) = if closes (a ∷ bytes) then Some 2 else one_more (close_of bytes)
 
+-- the comment that ends so many bytes behind its `/*`
 abbrev pub closed : Option ℕ → Piece
 closed None = Open
 closed (Some n) = Passed (n + 2)
@@ -74,6 +79,7 @@ marked_length [] = 0
 marked_length (a ∷ []) = 1
 marked_length (a ∷ b ∷ bytes) = if b == 58 then 2 + run is_marked_byte bytes else 1 + run is_marked_byte (b ∷ bytes)
 
+-- the word with a mark at the front
 abbrev pub marked_kind : List ℕ → Option TokenKind
 marked_kind bytes = if first_is opens bytes then kind_in marked_words (take (marked_length bytes) bytes) else None
 
@@ -82,11 +88,13 @@ abbrev pub found_or : Option TokenKind → ℕ → Piece → Piece
 found_or (Some kind) n other = Found kind n
 found_or None n other = other
 
+-- a word with a mark, else a sign of two bytes, else one of one byte
 unfoldable pub sign_piece : List ℕ → Piece
 sign_piece bytes = found_or (marked_kind bytes) (marked_length bytes) (found_or (kind_in signs_of_two (take 2 bytes)) 2 (found_or (single_kind (take 1 bytes)) 1 (Bad 0)))
 
 -- ---- all
 
+-- what stands at the front
 unfoldable pub piece : List ℕ → Piece
 piece [] = Passed 0
 piece (a ∷ bytes) =
@@ -98,6 +106,7 @@ piece (a ∷ bytes) =
 
 -- ---- the tokens
 
+-- how many bytes a piece has
 abbrev pub width : Piece → ℕ
 width (Passed n) = n
 width (Found kind n) = n
@@ -105,6 +114,7 @@ width (Bad n) = 0
 width Open = 0
 width Big = 0
 
+-- a token before the others
 abbrev pub with_token : Token → Result (List Token) LexError → Result (List Token) LexError
 with_token token (Ok tokens) = Ok (token ∷ tokens)
 with_token token (Err error) = Err error

@@ -1,6 +1,5 @@
--- The fixed spellings of tokens, in the order of the grammar's page (3D manual, "Lexical structure").
-use Rattle.std.specs.Prelude.{ℕ, List, [], ◌∷◌, ◌++◌, Option, Some, None, codes, bytes_eq, if◌then◌else◌}
-use Rattle.td_num.specs.declared.number.NumberType.{NumberType}
+-- The fixed spellings of tokens, in the order of the grammar's page, "Tokens".
+use Rattle.std.specs.Prelude.{ℕ, List, [], ◌∷◌, Option, Some, None, codes, bytes_eq, if◌then◌else◌}
 use Rattle.td_num.specs.declared.number.Width.{Width}
 use Rattle.td_num.specs.declared.number.Width.TheVariants.{One, Two, Four, Eight}
 use Rattle.td_num.specs.declared.number.ByteOrder.{ByteOrder}
@@ -22,10 +21,11 @@ abbrev pub or_else : Option TokenKind → Option TokenKind → Option TokenKind
 or_else (Some kind) other = Some kind
 or_else None other = other
 
+-- the token of a number type
 abbrev pub number : Width → ByteOrder → TokenKind
 number width order = Int (record { width = width; order = order })
 
--- keywords of definitions and types
+-- keywords of definitions and fields
 abbrev pub definition_words : List Entry
 definition_words =
     (codes "typedef", Typedef) ∷ (codes "struct", Struct) ∷ (codes "casetype", Casetype) ∷ (codes "enum", Enum)

@@ -1,6 +1,6 @@
--- The splitting of a text into tokens, as the rules of the language have it (3D manual, "Lexical structure"). The text
+-- The splitting of a text into tokens, as the rules of the language have it (the grammar's page, "Tokens"). The text
 -- is blanks, comments and spellings of tokens, one behind the other. At each place the longest token is taken.
-use Rattle.std.specs.Prelude.{◌≡◌, ℕ, zero, suc, ◌+◌, ◌^◌, ◌<◌, ◌≤◌, ◌++◌, ◌⊎◌, Bool, true, false, ◌||◌, ◌==◌, List, [], ◌∷◌, length, Option, Some, None, codes}
+use Rattle.std.specs.Prelude.{◌≡◌, ℕ, ◌+◌, ◌^◌, ◌<◌, ◌≤◌, ◌++◌, ◌⊎◌, Bool, true, false, ◌||◌, ◌==◌, List, [], ◌∷◌, length, Some, None, codes}
 use Rattle.td_ast.specs.declared.token.Token.{Token}
 use Rattle.td_ast.specs.declared.token.TokenKind.{TokenKind}
 use Rattle.td_ast.specs.declared.token.TokenKind.TheVariants.{Name, Number}
@@ -8,7 +8,7 @@ use Rattle.td_ast.specs.declared.token.Base.{Base}
 use Rattle.td_ast.specs.declared.token.Base.TheVariants.{Decimal, Hexadecimal}
 use Rattle.td_lexer.specs.declared.error.LexError.{LexError}
 use Rattle.td_lexer.specs.declared.error.LexError.TheVariants.{NoMemory, BadByte, OpenComment, BigNumber}
-use Rattle.td_lexer.specs.Bytes.{is_blank, is_letter, is_digit, is_word_byte, is_marked_byte, is_hexadecimal, is_hexadecimal_mark, is_in_line, every, first_is, value_of}
+use Rattle.td_lexer.specs.Bytes.{is_blank, is_letter, is_digit, is_word_byte, is_marked_byte, is_hexadecimal, is_hexadecimal_mark, is_in_line, every, first_is}
 use Rattle.td_lexer.specs.Spellings.{kind_in, keyword_kind, marked_words, sign_kind}
 use Rattle.td_lexer.specs.Numerals.{numeral_value}
 

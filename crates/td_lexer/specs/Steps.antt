@@ -1,6 +1,6 @@
 -- What a step of reading tokens does, and where a piece ends: words for the clauses of private functions alone, which
 -- no public one cites.
-use Rattle.std.specs.Prelude.{◌≡◌, ℕ, ◌+◌, ◌<◌, ◌≤◌, ◌++◌, List, [], ◌∷◌, length, drop, Result, Ok, Err}
+use Rattle.std.specs.Prelude.{◌≡◌, ℕ, ◌<◌, ◌≤◌, ◌++◌, List, length, drop, Result, Ok, Err}
 use Rattle.td_ast.specs.declared.token.Token.{Token}
 use Rattle.td_lexer.specs.declared.piece.Piece.{Piece}
 use Rattle.td_lexer.specs.declared.piece.Piece.TheVariants.{Passed, Found, Bad, Open, Big}

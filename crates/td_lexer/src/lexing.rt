@@ -51,8 +51,8 @@ fn read_all(alloc: Global, bytes: &[u8]) -> Result<Vec<Token>, LexError>
 
 /// The tokens of a text of less than 2^32 bytes, each with its span, in time linear in the text.
 ///
-/// Blanks and comments part tokens and are dropped, and at each place the longest token is taken (3D manual, "Lexical
-/// structure"; `Splits` states it). Bytes are arbitrary: a text needs to be neither ASCII nor UTF-8.
+/// Blanks and comments part tokens and are dropped, and at each place the longest token is taken (the grammar's
+/// page, "Tokens"; `Splits` states it). Bytes are arbitrary: a text needs to be neither ASCII nor UTF-8.
 ///
 /// Errors: each names the first place at which the text doesn't split further. `BadByte`: there no blank, comment or
 /// token begins, or it is a letter, a digit or `_` directly behind a number. `OpenComment`: a `/*` without `*/` begins

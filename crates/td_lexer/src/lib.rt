@@ -1,9 +1,11 @@
-//! The tokens of a module text.
+//! The tokens of a module text. The layer above rests on one promise: `lex` answers exactly the tokens into which the
+//! text splits by the rules of the language, each with its span, or the first place where it splits no further, and why.
 #![tactic(auto)]
 
 mod bytes;
 mod comments;
 mod error;
+mod law;
 mod lexing;
 mod numbers;
 mod piece;
@@ -11,8 +13,8 @@ mod signs;
 mod words;
 
 pub use error::LexError;
+pub use law::tokens_are_the_splitting;
 pub use lexing::lex;
 
-mod law;
-
-pub use law::tokens_are_the_splitting;
+#[cfg(test)]
+mod tests;

@@ -1,4 +1,4 @@
-use Rattle.std.proofs.Common.{◌≡◌, ◌<◌, ◌^◌, ◌*◌, arith, subst, ℕ}
+use Rattle.std.proofs.Common.{◌<◌, ◌^◌, arith, subst, ℕ}
 use Rattle.td_lexer.specs.Bytes.{value_of}
 use Rattle.td_lexer.proofs.Values.{next_within, all_read}
 use Rattle.td_lexer.proofs.numbers.value.Goals as goal

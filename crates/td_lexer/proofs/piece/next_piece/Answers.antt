@@ -1,6 +1,5 @@
 use Rattle.std.proofs.Common.{subst, sym, length}
 use Rattle.std.proofs.lemmas.Result.{IfOk-weaker}
-use Rattle.td_lexer.specs.Scanner.{piece}
 use Rattle.td_lexer.specs.Steps.{IsWithin}
 use Rattle.td_lexer.specs.declared.piece.Piece.{Piece}
 use Rattle.td_lexer.proofs.Within.{piece_within}

@@ -1,0 +1,4 @@
+pub mod WithinLimits
+pub mod Refusals
+pub mod Counts
+pub mod Passes

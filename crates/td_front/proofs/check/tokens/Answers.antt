@@ -1,0 +1,9 @@
+use Rattle.td_front.proofs.Counts.{few_tokens}
+use Rattle.td_front.proofs.Passes.{of_bytes}
+use Rattle.td_front.proofs.check.tokens.Goals as goal
+
+pub returns-in-Ok-clause-few : goal.returns-in-Ok-clause-few
+returns-in-Ok-clause-few c = few_tokens c.args.text.now 0 0 c.in-Ok.tokens.items c.in-Ok.ensures.answer
+
+pub returns-in-Err-clause-refused : goal.returns-in-Err-clause-refused
+returns-in-Err-clause-refused c = of_bytes c.args.text.now c.in-Err.error c.from.result c.from.ensures c.in-Err.ensures.cause
