@@ -1,6 +1,3 @@
-ghost use Rattle.std.specs.Prelude.{◌≤◌, IsTrue, length};
-ghost use Rattle.std.specs.Option.{ForSome};
-
 use crate::error_line::front_line;
 use crate::report::run_report;
 use std::alloc::{AllocError, Global};
@@ -154,15 +151,6 @@ fn reports_stand_line_by_line(rt: HostRuntime) -> Result<(), Fail> {
     Ok(())
 }
 
-fn is_within(text: &[u8], at: Option<u32>) -> bool
-    ensures { IsTrue result → ForSome at (λ place. place ≤ length text.now) }
-{
-    match at {
-        Some(place) => place as usize <= text.len(),
-        None => true,
-    }
-}
-
 #[test]
 fn error_lines_name_line_and_column(rt: HostRuntime) -> Result<(), Fail> {
     let text = b"ab\n\ncd\n".as_slice();
@@ -210,6 +198,13 @@ fn error_lines_name_line_and_column(rt: HostRuntime) -> Result<(), Fail> {
             b"error P1 4:1 x\n".as_slice(),
         ),
         (
+            text,
+            Some(9),
+            b"P1".as_slice(),
+            b"x".as_slice(),
+            b"error P1 4:1 x\n".as_slice(),
+        ),
+        (
             b"ab".as_slice(),
             Some(2),
             b"P1".as_slice(),
@@ -239,7 +234,6 @@ fn error_lines_name_line_and_column(rt: HostRuntime) -> Result<(), Fail> {
         ),
     ] {
         let mut err = MemorySink::with_room(rt.alloc(), 100, Vec::new(rt.alloc()))?;
-        assert!(rt; is_within(text, at));
         assert_eq!(rt; front_line(text, at, code, words, &mut err), Ok(()));
         assert_eq!(rt; err.written(), want);
     }

@@ -15,7 +15,7 @@ pub returns : goal.returns
 returns g c =
     let text : c.as_bytes-index.result.now ≡ decimal c.in-Some.index = c.as_bytes-index.ensures.value ∙ c.format.ensures.text in
     let whole : behind_blank (indexed c.args.name.now c.args.index) ≡ 32 ∷ (c.args.name.now ++ 91 ∷ (c.as_bytes-index.result.now ++ 93 ∷ [])) =
-        ap (λ (o : Option ℕ). behind_blank (indexed c.args.name.now o)) c.in-Some.is
-        ∙ blank_first c.args.name.now (decimal c.in-Some.index)
-        ∙ ap (λ (l : List ℕ). 32 ∷ (c.args.name.now ++ 91 ∷ (l ++ 93 ∷ []))) (sym text) in
+    ap (λ (o : Option ℕ). behind_blank (indexed c.args.name.now o)) c.in-Some.is
+    ∙ blank_first c.args.name.now (decimal c.in-Some.index)
+    ∙ ap (λ (l : List ℕ). 32 ∷ (c.args.name.now ++ 91 ∷ (l ++ 93 ∷ []))) (sym text) in
     writes_as whole c.write_pieces.ensures
