@@ -1,5 +1,5 @@
 -- Bytes stand for one run job alone, or are refused for one cause alone.
-use Rattle.std.proofs.Common.{◌≡◌, ℕ, List, Option, Some, None, Result, Ok, Err, ◌⊎◌, inl, inr, sym, ap, ◌∙◌, subst}
+use Rattle.std.proofs.Common.{length, ◌<◌, ◌≡◌, ℕ, List, Option, Some, None, Result, Ok, Err, ◌⊎◌, inl, inr, sym, ap, ◌∙◌, subst}
 use Rattle.std.proofs.lemmas.Bool.{cases_order}
 use Rattle.std.specs.Prelude.{IfOk, IfErr, MatchResult}
 use Rattle.serde_json.specs.Data.{Data}
@@ -103,3 +103,13 @@ pub exact : (bytes : List ℕ) (types : Module) (answer : Answer) → IfOk answe
 exact bytes types (Ok found) right cause e h = absurd (job_or_refusal bytes types found e right h)
 exact bytes types (Err other) right (inl memory) e h = inr (ap Err memory)
 exact bytes types (Err other) right (inr wrong) e h = inl (ap Err (one_refusal bytes types other e wrong h))
+
+named_within : (types : Module) (name : Option (List ℕ)) (entry : Entry) → IsEntry types name entry → entry.number < length types.entries
+named_within types None entry h = absurd h
+named_within types (Some name) entry h = h.1.named.0
+
+-- the entry point of a job is one of the module's
+pub within : (bytes : List ℕ) (types : Module) (answer : Answer) → IfOk answer (IsRunJob bytes types)
+    → IfOk answer (λ j. j.entry.number < length types.entries)
+within bytes types (Ok j) h = named_within types (text_of field.Entry h.0) j.entry h.2.named
+within bytes types (Err e) h = tt

@@ -1,6 +1,6 @@
 //! Run jobs.
 
-ghost use Rattle.std.specs.Prelude.{◌≡◌, ◌⊎◌, IfOk, IfErr, MatchResult};
+ghost use Rattle.std.specs.Prelude.{◌≡◌, ◌⊎◌, ◌<◌, length, IfOk, IfErr, MatchResult};
 ghost use Rattle.serde_json.specs.View.{view};
 ghost use Rattle.td_job.specs.Jobs.{IsJob, IsRunJob, HasRoom, FirstFault, RefusedJob};
 
@@ -65,6 +65,7 @@ fn parsed_job(alloc: Global, bytes: &[u8], types: &Module) -> Result<RunJob, Job
 pub fn read_run_job(alloc: Global, bytes: &[u8], types: &Module) -> Result<RunJob, JobError>
     ensures job { IfOk result (λ j. IsRunJob bytes.now types.now j) }
     ensures room { IfOk result HasRoom }
+    ensures entry { IfOk result (λ j. j.entry.number < length types.now.entries) }
     ensures complete { (j : RunJob) → IsRunJob bytes.now types.now j → MatchResult result (λ found. found ≡ j) (λ e. e ≡ JobError.NoMemory) }
     ensures refused { IfErr result (λ e. (e ≡ JobError.NoMemory) ⊎ RefusedJob bytes.now types.now e) }
     ensures exact { (e : JobError) → RefusedJob bytes.now types.now e → (result ≡ Err e) ⊎ (result ≡ Err JobError.NoMemory) }

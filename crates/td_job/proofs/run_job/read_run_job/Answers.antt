@@ -1,4 +1,4 @@
-use Rattle.td_job.proofs.Laws.{complete, exact}
+use Rattle.td_job.proofs.Laws.{complete, exact, within}
 use Rattle.td_job.proofs.run_job.read_run_job.Goals as goal
 
 pub returns-clause-complete : goal.returns-clause-complete
@@ -6,3 +6,6 @@ returns-clause-complete c = complete c.args.bytes.now c.args.types.now c.parsed_
 
 pub returns-clause-exact : goal.returns-clause-exact
 returns-clause-exact c = exact c.args.bytes.now c.args.types.now c.parsed_job.result c.parsed_job.ensures.job c.parsed_job.ensures.refused
+
+pub returns-clause-entry : goal.returns-clause-entry
+returns-clause-entry c = within c.args.bytes.now c.args.types.now c.parsed_job.result c.parsed_job.ensures.job
