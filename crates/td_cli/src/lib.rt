@@ -2,5 +2,11 @@
 //! on one promise: what `run_tool` writes is the report of the meaning on every list that carries the loads made.
 #![tactic(auto)]
 
+pub mod given;
 pub mod input;
+pub mod refusal;
+pub mod refuse;
+pub mod run;
+pub mod status;
+pub mod tool;
 pub mod words;

@@ -1,10 +1,10 @@
 -- Steps of a validation, one after the other.
-use Rattle.std.proofs.Common.{rules, ◌≡◌, ⊎_elim, ℕ, ◌+◌, List, [], ◌∷◌, ◌++◌, length, refl, sym, ap, ◌∙◌, subst, arith, append_assoc, append-nil}
+use Rattle.std.proofs.Common.{rules, ◌≡◌, ⊎_elim, ℕ, List, [], ◌∷◌, ◌++◌, refl, sym, ap, ◌∙◌, subst, arith, append_assoc, append-nil}
 use Rattle.td_stream.specs.declared.load.Load.{Load}
 use Rattle.td_stream.specs.declared.stream.Stream.{Stream}
 use Rattle.td_stream.specs.Loads.{Carries, IsLoaded, Exactly}
-use Rattle.td_stream.specs.Held.{Looked, Later}
-use Rattle.td_stream.proofs.Places.{look_more, look_nowhere}
+use Rattle.td_stream.specs.Held.{Later}
+use Rattle.td_stream.proofs.Places.{look_more}
 use Rattle.td_core.specs.declared.module.NameId.{NameId}
 use Rattle.td_core.specs.declared.module.Field.{Field as FieldDef}
 use Rattle.td_core.specs.declared.outcome.TraceFrame.{TraceFrame}
@@ -41,9 +41,6 @@ onto_trans r s t x y z h k = record {
 pub onto_field : {W : Type 0} {loads : W → List Load} (r s t : Stream W) (whole : Told) (ty : NameId) (rest later : List FieldDef) (f : FieldDef) (env b : List ℕ) (end near : ℕ) (cells : List ℕ) (x : Told) → Onto loads r s whole (fields_meaning ty rest env b end s.pos cells) → rest ≡ f ∷ later → near ≡ end → Onto loads s t (fields_meaning ty (f ∷ later) env b near s.pos cells) x → Onto loads r t whole x
 onto_field {W} {loads} r s t whole ty rest later f env b end near cells x first split ends step =
     onto_trans r s t whole (fields_meaning ty rest env b end s.pos cells) x first (subst (λ y. Onto loads s t y x) ((λ i. fields_meaning ty (f ∷ later) env b (ends i) s.pos cells) ∙ ap (λ fs. fields_meaning ty fs env b end s.pos cells) (sym split)) step)
-
-pub onto_is : {W : Type 0} {loads : W → List Load} (s t : Stream W) (seen : List ℕ) (whole rest : Told) → Looked loads s t seen → whole ≡ after_reading seen rest → Onto loads s t whole rest
-onto_is s t seen whole rest h e = record { seen = seen; looked = h; is = e }
 
 -- the outcome of an ending
 outcome_is : (v : Verdict) (p : ℕ) (trace : List TraceFrame) (cells : List ℕ) → IsAt v p trace → outcome_of (ending_of v trace cells) ≡ record { verdict = v; trace = trace; cells = cells }

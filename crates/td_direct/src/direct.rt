@@ -15,14 +15,16 @@ use td_stream::words::Words;
 
 // The definition at place `place` of a module.
 fn definition_at(types: &Module, place: Option<u32>) -> Option<&TypeDef>
-    ensures { MatchOption result (entries.definition_at types.now place ≡ None) (λ d. entries.definition_at types.now place ≡ Some d.now) }
+    ensures { MatchOption result (entries.definition_at types.now place ≡ None)
+        (λ d. entries.definition_at types.now place ≡ Some d.now) }
 {
     types.definitions.as_slice().get(place? as usize)
 }
 
 // The definition at which an entry point begins.
 fn entry_definition(types: &Module, entry: Entry) -> Option<&TypeDef>
-    ensures { MatchOption result (entries.entry_definition types.now entry.number ≡ None) (λ d. entries.entry_definition types.now entry.number ≡ Some d.now) }
+    ensures { MatchOption result (entries.entry_definition types.now entry.number ≡ None)
+        (λ d. entries.entry_definition types.now entry.number ≡ Some d.now) }
 {
     definition_at(
         types,
@@ -50,7 +52,9 @@ pub fn validate_direct<W: Words>(
     ensures rising { IsRising (W.loads words.new) }
     ensures inside { Inside length (W.loads words.new) }
     // on whatever message these words were loaded from, the outcome is the module's
-    ensures told { IfOk result (λ v. (b : List ℕ) → Carries length b (W.loads words.new) → IsTold (W.loads words.new) (meaning types.now entry args.now cells.old b) (record { verdict = v; trace = trace.new; cells = cells.new })) }
+    ensures told { IfOk result (λ v. (b : List ℕ) → Carries length b (W.loads words.new)
+        → IsTold (W.loads words.new) (meaning types.now entry args.now cells.old b)
+        (record { verdict = v; trace = trace.new; cells = cells.new })) }
 {
     trace.clear();
     let Some(definition) = entry_definition(types, entry) else {

@@ -7,11 +7,11 @@ ghost use Rattle.td_core.specs.Outcome.{plain, and_then};
 ghost use Rattle.td_meaning.specs.Meaning.{fields_meaning};
 ghost use Rattle.td_direct.specs.Onto.{Onto, number_field, ending_of, IsAt};
 
-use crate::naming::is_needed;
-use crate::parts::{check_parts, first_name};
+use crate::parts::check_parts;
 use std::alloc::AllocError;
 use td_core::module::{Element, Field, NameId, Part};
 use td_core::outcome::{Reason, Spot, Trace, TraceFrame, Verdict};
+use td_meaning::naming::{first_name, is_needed};
 use td_num::number::{NumberType, byte_count};
 use td_stream::stream::Stream;
 use td_stream::words::Words;
@@ -33,7 +33,12 @@ fn validate_number<W: Words>(
     ensures end { end_of stream.new ≡ end_of stream.old }
     ensures at { IfOk result (λ v. IsAt v (position stream.new) trace.new) }
     // what is left of the struct decides the whole of it
-    ensures told { IfOk result (λ v. (b cells : List ℕ) → Carries (length_of stream.old) b (loads_of W.loads stream.new) → Onto W.loads stream.old stream.new (fields_meaning ty (number_field kind parts.now ∷ later.now) env.old.items b (end_of stream.old) (position stream.old) cells) (and_then (plain (ending_of v trace.new cells)) (fields_meaning ty later.now env.new.items b (end_of stream.old)))) }
+    ensures told { IfOk result (λ v. (b cells : List ℕ) → Carries (length_of stream.old) b (loads_of W.loads stream.new)
+        → Onto W.loads stream.old stream.new
+        (fields_meaning ty (number_field kind parts.now ∷ later.now) env.old.items b
+        (end_of stream.old) (position stream.old) cells)
+        (and_then (plain (ending_of v trace.new cells))
+        (fields_meaning ty later.now env.new.items b (end_of stream.old)))) }
 {
     let start = stream.pos();
     let width = byte_count(kind.width);
@@ -76,7 +81,12 @@ fn validate_field<W: Words>(
     ensures end { end_of stream.new ≡ end_of stream.old }
     ensures at { IfOk result (λ v. IsAt v (position stream.new) trace.new) }
     // what is left of the struct decides the whole of it
-    ensures told { IfOk result (λ v. (b : List ℕ) → Carries (length_of stream.old) b (loads_of W.loads stream.new) → Onto W.loads stream.old stream.new (fields_meaning ty (field.now ∷ later.now) env.old.items b (end_of stream.old) (position stream.old) cells.old) (and_then (plain (ending_of v trace.new cells.new)) (fields_meaning ty later.now env.new.items b (end_of stream.old)))) }
+    ensures told { IfOk result (λ v. (b : List ℕ) → Carries (length_of stream.old) b (loads_of W.loads stream.new)
+        → Onto W.loads stream.old stream.new
+        (fields_meaning ty (field.now ∷ later.now) env.old.items b
+        (end_of stream.old) (position stream.old) cells.old)
+        (and_then (plain (ending_of v trace.new cells.new))
+        (fields_meaning ty later.now env.new.items b (end_of stream.old)))) }
 {
     let parts = field.parts.as_slice();
     match field.element {
@@ -112,7 +122,10 @@ pub fn validate_fields<W: Words>(
     ensures later { Later W.loads W.goes stream.old stream.new }
     ensures whole { IsStream W.loads W.size stream.new }
     ensures at { IfOk result (λ v. IsAt v (position stream.new) trace.new) }
-    ensures told { IfOk result (λ v. (b : List ℕ) → Carries (length_of stream.old) b (loads_of W.loads stream.new) → Onto W.loads stream.old stream.new (fields_meaning ty fields.now env.old.items b (end_of stream.old) (position stream.old) cells.old) (plain (ending_of v trace.new cells.new))) }
+    ensures told { IfOk result (λ v. (b : List ℕ) → Carries (length_of stream.old) b (loads_of W.loads stream.new)
+        → Onto W.loads stream.old stream.new
+        (fields_meaning ty fields.now env.old.items b (end_of stream.old) (position stream.old) cells.old)
+        (plain (ending_of v trace.new cells.new))) }
 {
     'fields: for i in 0..fields.len() {
         match validate_field(ty, &fields[i], after(fields, i), env, cells, trace, stream)? {

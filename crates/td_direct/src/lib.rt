@@ -5,7 +5,6 @@
 
 pub mod direct;
 pub mod fields;
-pub mod naming;
 pub mod parts;
 pub mod recorded;
 #[cfg(test)]

@@ -34,7 +34,9 @@ pub fn validate_recorded<W: Words>(
     ensures rising { IsRising loads.new.list }
     ensures inside { Inside length loads.new.list }
     // on whatever message these words were loaded from, the outcome is the module's
-    ensures told { IfOk result (λ v. (b : List ℕ) → Carries length b loads.new.list → IsTold loads.new.list (meaning types.now entry args.now cells.old b) (record { verdict = v; trace = trace.new; cells = cells.new })) }
+    ensures told { IfOk result (λ v. (b : List ℕ) → Carries length b loads.new.list
+        → IsTold loads.new.list (meaning types.now entry args.now cells.old b)
+        (record { verdict = v; trace = trace.new; cells = cells.new })) }
 {
     let mut recorder = Recorder::over(words, loads);
     validate_direct(

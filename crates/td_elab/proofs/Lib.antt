@@ -2,3 +2,4 @@ pub mod First
 pub mod Steps
 pub mod Reading
 pub mod Forms
+pub mod Numbering

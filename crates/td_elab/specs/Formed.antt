@@ -3,6 +3,7 @@ use Rattle.std.specs.Prelude.{◌≡◌, ℕ, ◌+◌, ◌<◌, List, [], ◌∷
 use Rattle.td_core.specs.declared.module.Comparison.{Comparison}
 use Rattle.td_core.specs.declared.module.Part.{Part}
 use Rattle.td_core.specs.declared.module.Field.{Field}
+use Rattle.td_core.specs.declared.module.TypeDef.{TypeDef}
 use Rattle.td_core.specs.declared.module.Module.{Module}
 
 -- each field has exactly one part
@@ -30,3 +31,11 @@ IsEachInScope m = All (λ d. AreFieldsInScope 0 d.fields) m.definitions
 -- each entry point has a definition
 abbrev pub IsEachEntryThere : Module → Type 0
 IsEachEntryThere m = All (λ place. place < length m.definitions) m.entries
+
+-- the names of a definition and of its fields' parts are among so many names
+abbrev pub AreNamesThere : ℕ → TypeDef → Type 0
+AreNamesThere count d = (d.name.number < count) × All (λ f. All (λ p. p.name.number < count) f.parts) d.fields
+
+-- each name is among those of the module
+abbrev pub IsEachNameThere : Module → Type 0
+IsEachNameThere m = All (λ d. AreNamesThere (length m.names) d) m.definitions

@@ -6,7 +6,7 @@ ghost use Rattle.td_elab.specs.Breach.{first_of, IsFirst};
 ghost use Rattle.td_elab.specs.Rules.{breaches, definition_breaches, definitions_breaches, StandsFor};
 ghost use Rattle.td_elab.specs.Stands.{module_of, all_names, names_after, fields_seen, definition_of, definitions_of};
 ghost use Rattle.td_elab.specs.Elaborates.{error_of, IsCause, IsOnly};
-ghost use Rattle.td_elab.specs.Formed.{HasOnePartEach, IsEachInScope, IsEachEntryThere};
+ghost use Rattle.td_elab.specs.Formed.{HasOnePartEach, IsEachInScope, IsEachEntryThere, IsEachNameThere};
 ghost use Rattle.td_elab.specs.declared.breach.Breach.{Breach};
 ghost use Rattle.td_core.specs.declared.module.Module.{Module};
 
@@ -45,6 +45,7 @@ pub fn elaborate(alloc: Global, tree: &ModuleTree) -> Result<Module, ElabError>
     ensures parts { IfOk result (λ m. HasOnePartEach m) }
     ensures levels { IfOk result (λ m. IsEachInScope m) }
     ensures entries { IfOk result (λ m. IsEachEntryThere m) }
+    ensures names { IfOk result (λ m. IsEachNameThere m) }
 {
     let mut findings = Findings::new();
     let Ok(module) = module(alloc, tree, &mut findings) else {

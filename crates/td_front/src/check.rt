@@ -5,7 +5,7 @@ ghost use Rattle.td_ast.specs.declared.tree.ModuleTree.{ModuleTree};
 ghost use Rattle.td_core.specs.declared.module.Module.{Module};
 ghost use Rattle.td_lexer.specs.Splits.{Splits};
 ghost use Rattle.td_grammar.specs.Productions.{module_text};
-ghost use Rattle.td_elab.specs.Formed.{HasOnePartEach, IsEachInScope, IsEachEntryThere};
+ghost use Rattle.td_elab.specs.Formed.{HasOnePartEach, IsEachInScope, IsEachEntryThere, IsEachNameThere};
 ghost use Rattle.td_front.specs.ModuleText.{IsModuleText, RefusedBy, beginning_of};
 ghost use Rattle.td_front.specs.declared.error.FrontError.{FrontError};
 
@@ -38,6 +38,7 @@ pub fn check_module(alloc: Global, text: &[u8]) -> Result<Module, FrontError>
     ensures parts { IfOk result (λ m. HasOnePartEach m) }
     ensures levels { IfOk result (λ m. IsEachInScope m) }
     ensures entries { IfOk result (λ m. IsEachEntryThere m) }
+    ensures names { IfOk result (λ m. IsEachNameThere m) }
 {
     one_answer_each();
     checked(alloc, text)
@@ -51,6 +52,7 @@ fn checked(alloc: Global, text: &[u8]) -> Result<Module, FrontError>
     ensures parts { IfOk result (λ m. HasOnePartEach m) }
     ensures levels { IfOk result (λ m. IsEachInScope m) }
     ensures entries { IfOk result (λ m. IsEachEntryThere m) }
+    ensures names { IfOk result (λ m. IsEachNameThere m) }
 {
     let tokens = tokens(alloc, text)?;
     let tree = tree(alloc, text, tokens.as_slice())?;

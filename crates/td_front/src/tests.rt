@@ -18,7 +18,7 @@ fn many_fields(alloc: Global, count: u32) -> Result<Vec<u8>, AllocError> {
     let mut fields = Vec::new(alloc);
     for field in 0..count {
         fields.extend_from_slice(b"UINT8 n")?;
-        for bit in 0..8 {
+        for bit in 0u32..8 {
             let digit = if (field >> bit) & 1 == 1 { b'1' } else { b'0' };
             fields.push(digit)?;
         }
@@ -85,7 +85,7 @@ fn a_struct_has_at_most_256_fields(rt: HostRuntime) -> Result<(), Fail> {
     }
     let text = many_fields(rt.alloc(), 257)?;
     assert!(rt; text.len() < 10000);
-    let from = text.len() as u32 - 2;
+    let from = (text.len() as u32).saturating_sub(2);
     let error = FrontError::Limit {
         which: Limit::Fields,
         span: Span { from, to: from + 1 },

@@ -4,7 +4,6 @@ use Rattle.td_core.specs.Outcome.{Ending, plain, and_then}
 use Rattle.td_meaning.specs.Meaning.{fields_meaning, parts_meaning}
 use Rattle.td_stream.proofs.Places.{look_nowhere}
 use Rattle.td_direct.specs.Onto.{Onto, number_field, ending_of}
-use Rattle.td_direct.proofs.Ontos.{onto_is}
 use Rattle.td_direct.proofs.FieldLemmas.{number_is, nothing_is}
 use Rattle.td_direct.proofs.fields.validate_field.Goals as goal
 
@@ -29,4 +28,4 @@ returns-in_ok-check_parts-in-Nothing-clause-told g c = λ b h.
     let known : env ++ 0 ∷ [] ≡ c.as_slice.result.now = pushed ∙ sym c.as_slice.ensures.value in
     let o : Ending = ending_of c.in_ok-check_parts-in-Nothing.field-0 c.check_parts.new.trace cells in
     let told : parts_meaning a.ty f.parts (env ++ 0 ∷ []) s.pos s.pos cells ≡ plain o = (λ i. parts_meaning a.ty (sym c.as_slice-parts.ensures i) (known i) (sym c.pos-pos.ensures i) (sym c.pos-pos.ensures i) cells) ∙ c.in_ok-check_parts-in-Nothing.ensures.told cells in
-    onto_is s s [] _ _ (look_nowhere s s refl) (nothing_is a.ty f a.later.now env b s.end s.pos cells c.in-Nothing.is ∙ (λ i. and_then (told i) (fields_meaning a.ty a.later.now (pushed i) b s.end)))
+    record { seen = []; looked = look_nowhere s s refl; is = nothing_is a.ty f a.later.now env b s.end s.pos cells c.in-Nothing.is ∙ (λ i. and_then (told i) (fields_meaning a.ty a.later.now (pushed i) b s.end)) }

@@ -1,6 +1,7 @@
 use Rattle.std.proofs.Common.{◌≡◌, ℕ, List, [], ◌∷◌, drop, sym, ap, ◌∙◌, subst, arith}
 use Rattle.std.proofs.lemmas.List.{drop_more, drop_all}
 use Rattle.td_core.specs.declared.module.Field.{Field as FieldDef}
+use Rattle.td_core.specs.declared.outcome.Verdict.{Verdict}
 use Rattle.td_core.specs.Outcome.{plain, accepted, and_then}
 use Rattle.td_meaning.specs.Meaning.{fields_meaning}
 use Rattle.td_direct.specs.Onto.{Onto, ending_of, IsAt}
@@ -22,9 +23,10 @@ returns-in-Reject-clause-told g c = λ b h.
     let later : List FieldDef = c.after.result.now in
     let split : drop n fields ≡ f ∷ later = drop_more fields n f c.fields-test.true ∙ (λ k. sym c.index-fields-i.is k ∷ sym c.after.ensures k) in
     let both = carried s0 s t b i.later l h in
-    let x = onto_field s0 s t _ c.args.ty (drop n fields) later f c.fields.env.items b s0.end s.end c.fields.cells _ (i.told b both.0) split i.end (e.told b both.1) in
-    let go = fields_meaning c.args.ty later c.validate_field.new.env.items b s.end in
-    subst (λ v. Onto g.W.Words.loads s0 t (fields_meaning c.args.ty fields c.args.env.now.items b s0.end s0.pos c.args.cells.now) (and_then (plain (ending_of v c.validate_field.new.trace c.validate_field.new.cells)) go)) c.in-Reject.is x
+    let whole = fields_meaning c.args.ty fields c.args.env.now.items b s0.end s0.pos c.args.cells.now in
+    let left = λ (v : Verdict). and_then (plain (ending_of v c.validate_field.new.trace c.validate_field.new.cells)) (fields_meaning c.args.ty later c.validate_field.new.env.items b s.end) in
+    let x = onto_field s0 s t whole c.args.ty (drop n fields) later f c.fields.env.items b s0.end s.end c.fields.cells (left c.in_ok-validate_field.field-0) (i.told b both.0) split i.end (e.told b both.1) in
+    subst (λ v. Onto g.W.Words.loads s0 t whole (left v)) c.in-Reject.is x
 
 pub fields-preserved : goal.fields-preserved
 fields-preserved g c =
@@ -42,15 +44,16 @@ fields-preserved g c =
     let at = subst (λ v. IsAt v t.pos c.validate_field.new.trace) c.in-Accept.is e.at in
     let env = c.validate_field.new.env.items in
     record {
-      later = later_trans g.met.W.Words.goes_on _ _ _ i.later l;
+      later = later_trans g.met.W.Words.goes_on s0 s t i.later l;
       whole = c.validate_field.ensures.whole;
       end = c.validate_field.ensures.end ∙ i.end;
       quiet = at.1;
       told = λ b h.
           let both = carried s0 s t b i.later l h in
-          let x = onto_field s0 s t _ c.args.ty (drop n fields) later f c.fields.env.items b s0.end s.end c.fields.cells _ (i.told b both.0) split i.end (e.told b both.1) in
           let whole = fields_meaning c.args.ty fields c.args.env.now.items b s0.end s0.pos c.args.cells.now in
-          let y = subst (λ v. Onto g.W.Words.loads s0 t whole (and_then (plain (ending_of v c.validate_field.new.trace c.validate_field.new.cells)) (fields_meaning c.args.ty later env b s.end))) c.in-Accept.is x in
+          let left = λ (v : Verdict). and_then (plain (ending_of v c.validate_field.new.trace c.validate_field.new.cells)) (fields_meaning c.args.ty later env b s.end) in
+          let x = onto_field s0 s t whole c.args.ty (drop n fields) later f c.fields.env.items b s0.end s.end c.fields.cells (left c.in_ok-validate_field.field-0) (i.told b both.0) split i.end (e.told b both.1) in
+          let y = subst (λ v. Onto g.W.Words.loads s0 t whole (left v)) c.in-Accept.is x in
           subst (λ (z : List FieldDef × ℕ × ℕ). Onto g.W.Words.loads s0 t whole (fields_meaning c.args.ty z.0 env b z.1 z.2 c.validate_field.new.cells)) (λ k. (c.after.ensures k, i.end k, at.0 k)) y;
     }
 

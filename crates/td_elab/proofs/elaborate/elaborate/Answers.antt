@@ -2,8 +2,9 @@ use Rattle.std.proofs.Common.{sym, ap, ◌∙◌, refl, inl, inr, subst, arith}
 use Rattle.td_elab.specs.Breach.{first_of}
 use Rattle.td_elab.specs.Rules.{breaches}
 use Rattle.td_elab.specs.Elaborates.{error_of}
-use Rattle.td_elab.specs.Formed.{HasOnePartEach, IsEachInScope, IsEachEntryThere}
+use Rattle.td_elab.specs.Formed.{HasOnePartEach, IsEachInScope, IsEachEntryThere, IsEachNameThere}
 use Rattle.td_elab.proofs.Forms.{module_parts, module_scopes, module_entries}
+use Rattle.td_elab.proofs.Numbering.{module_names}
 use Rattle.td_elab.proofs.First.{found_first, none_found, none_among, one_first}
 use Rattle.td_elab.proofs.elaborate.elaborate.Goals as goal
 
@@ -41,3 +42,6 @@ returns-in-None-clause-levels c = subst IsEachInScope (sym c.in-Ok.ensures.core)
 
 pub returns-in-None-clause-entries : goal.returns-in-None-clause-entries
 returns-in-None-clause-entries c = subst IsEachEntryThere (sym c.in-Ok.ensures.core) (module_entries c.args.tree.now.definitions)
+
+pub returns-in-None-clause-names : goal.returns-in-None-clause-names
+returns-in-None-clause-names c = subst IsEachNameThere (sym c.in-Ok.ensures.core) (module_names c.args.tree.now.definitions)

@@ -1,0 +1,53 @@
+//! The line that refuses an input.
+
+ghost use Rattle.std.specs.Prelude.{◌≡◌, ◌≢◌, OnOk, OnErr};
+ghost use Rattle.std.specs.Io.KnownBytes.{Appends};
+ghost use Rattle.td_io.specs.Causes.{HasCause, StartsWritten};
+ghost use Rattle.td_cli.specs.Lines.{job_line, module_line, refusal_line};
+
+use crate::refusal::Refusal;
+use td_front::FrontError;
+use td_front::line_of;
+use td_io::ends::Sink;
+use td_io::writing::WriteFault;
+use td_job::error::JobError;
+use td_report::error_line::front_line;
+use td_report::path_line::path_line;
+
+// Want of memory has no line, and is never held by a refusal.
+fn refuse_module<E: Sink>(input: &[u8], error: &FrontError, err: &mut E) -> Result<(), WriteFault>
+    ensures written { OnOk result (Appends (E.written err.old) (E.written err.new) (module_line input.now error.now)) }
+    ensures prefix { OnErr result (StartsWritten (E.written err.old) (E.written err.new) (module_line input.now error.now)) }
+    ensures cause { HasCause (E.faults err.old) (E.faults err.new) result }
+{
+    let Some(line) = line_of(error) else {
+        return front_line(input, Some(0), b"", b"", err);
+    };
+    front_line(input, Some(line.at), line.code.as_bytes(), line.words.as_bytes(), err)
+}
+
+fn refuse_job<E: Sink>(error: &JobError, err: &mut E) -> Result<(), WriteFault>
+    ensures written { OnOk result (Appends (E.written err.old) (E.written err.new) (job_line error.now)) }
+    ensures prefix { OnErr result (StartsWritten (E.written err.old) (E.written err.new) (job_line error.now)) }
+    ensures cause { HasCause (E.faults err.old) (E.faults err.new) result }
+{
+    let path = error.path();
+    path_line(error.code(), path.name, path.index, err)
+}
+
+/// Writes the line that refuses an input: `error`, a code, for a module text the line and the column at which it is
+/// refused, and words; for a job the path. Takes no memory.
+///
+/// `WriteFault`: a write failed. What went out is a front of the line.
+pub fn refuse<E: Sink>(input: &[u8], refusal: &Refusal, err: &mut E) -> Result<(), WriteFault>
+    ensures written { OnOk result (Appends (E.written err.old) (E.written err.new) (refusal_line input.now refusal.now)) }
+    ensures prefix { OnErr result (StartsWritten (E.written err.old) (E.written err.new) (refusal_line input.now refusal.now)) }
+    ensures cause { HasCause (E.faults err.old) (E.faults err.new) result }
+{
+    match refusal {
+        Refusal::TooLong => front_line(&[], None, b"Z1", b"input too long", err),
+        Refusal::NoJob => front_line(&[], None, b"Z2", b"no job", err),
+        Refusal::BadModule(error) => refuse_module(input, error, err),
+        Refusal::BadJob(error) => refuse_job(error, err),
+    }
+}
