@@ -2,9 +2,8 @@
 //! the tool's status. All that it does is a clause of `run_tool`.
 #![tactic(auto)]
 
-use std::env;
-use std::io;
 use std::process::ExitCode;
+use std::{env, io};
 use td_cli::tool::{run_tool, without_memory};
 use td_io::standard::{StreamSink, StreamSource};
 

@@ -21,8 +21,8 @@ use Rattle.td_cli.specs.Stops.{IsStop, module_stop, job_stop}
 pub one_marker : (input : List ℕ) (n m : ℕ) → IsFirstMarker input n → IsFirstMarker input m → n ≡ m
 one_marker input n m a b =
     elim (cases_order n m) [
-      inl same ↦ same
-    | inr other ↦ elim other [ inl below ↦ absurd (b.before n below a.marker) | inr above ↦ absurd (a.before m above b.marker) ]
+      | inl same ↦ same
+      | inr other ↦ elim other [ inl below ↦ absurd (b.before n below a.marker) | inr above ↦ absurd (a.before m above b.marker) ]
     ]
 
 -- what holds of the text before some first marker holds of that before this one
