@@ -68,7 +68,7 @@ each_named : (final names : List (List ℕ)) (ds : List StructTree) → all_name
 each_named final names [] e = All-nil (AreNamesThere (length final))
 each_named final names (d ∷ ds) e =
     let moved : (name : List ℕ) → is_seen (names_after names d) name ≡ true → is_seen final name ≡ true =
-        λ name seen. subst (λ t. is_seen t name ≡ true) e (all_keep (names_after names d) ds name seen) in
+    λ name seen. subst (λ t. is_seen t name ≡ true) e (all_keep (names_after names d) ds name seen) in
     let own = number_below final d.name.text (moved d.name.text (sees (fields_seen names d.fields) d.name.text)) in
     let fields = fields_named final names 0 d.fields (λ name seen. moved name (keeps (fields_seen names d.fields) d.name.text name seen)) in
     All-cons (AreNamesThere (length final)) (definition_of final d) (definitions_of final ds) (own, fields) (each_named final (names_after names d) ds e)
