@@ -1,11 +1,11 @@
 -- The first of a list of breaches.
-use Rattle.std.proofs.Common.{length, ◌≡◌, ◌≢◌, ℕ, ◌<◌, Bool, true, false, if◌then◌else◌, nat_lt, nat_eq, List, [], ◌∷◌, ◌++◌, Option, Some, None, Contains, All, ◌⊎◌, inl, inr, cond, subst, refl, sym, ap, ◌∙◌, arith}
+use Rattle.std.proofs.Common.{length, ◌≡◌, ℕ, Bool, true, false, if◌then◌else◌, nat_lt, nat_eq, List, [], ◌∷◌, Option, Some, None, Contains, All, ◌⊎◌, inl, inr, subst, refl, sym, ap, ◌∙◌, arith}
 use Rattle.std.proofs.lemmas.Bool.Decides.{nat_tests}
 use Rattle.std.proofs.lemmas.List.Elements.{All-nil, All-cons, All-contains, Contains-get_or, Contains-append_right}
 use Rattle.td_elab.specs.declared.breach.Code.{Code}
 use Rattle.td_elab.specs.declared.breach.Code.TheVariants.{Unknown, Twice}
 use Rattle.td_elab.specs.declared.breach.Breach.{Breach}
-use Rattle.td_elab.specs.Breach.{rank, is_sooner, sooner, first_of, IsFirst}
+use Rattle.td_elab.specs.Breach.{rank, is_sooner, first_of, IsFirst}
 
 -- one step of the order: the first numbers decide, and where they are equal the rest does
 abbrev step : ℕ → ℕ → Bool → Bool

@@ -1,14 +1,12 @@
 -- What holds of each module that a tree stands for.
-use Rattle.std.proofs.Common.{◌≡◌, ℕ, zero, suc, ◌+◌, ◌<◌, List, [], ◌∷◌, ◌++◌, length, map, All, ◌≤◌, Option, Some, None, refl, sym, ap, ◌∙◌, subst, arith, add-one}
+use Rattle.std.proofs.Common.{◌≡◌, ℕ, zero, suc, ◌+◌, ◌<◌, List, [], ◌∷◌, ◌++◌, length, All, ◌≤◌, Option, Some, None, refl, sym, ap, ◌∙◌, arith}
 use Rattle.std.proofs.lemmas.List.{length-map}
 use Rattle.std.proofs.lemmas.List.Elements.{All-nil, All-cons}
 use Rattle.td_num.specs.Numbers.{places_from}
 use Rattle.td_ast.specs.declared.tree.ComparisonTree.{ComparisonTree}
 use Rattle.td_ast.specs.declared.tree.FieldTree.{FieldTree}
 use Rattle.td_ast.specs.declared.tree.StructTree.{StructTree}
-use Rattle.td_core.specs.declared.module.Field.{Field}
 use Rattle.td_core.specs.declared.module.TypeDef.{TypeDef}
-use Rattle.td_core.specs.declared.module.Module.{Module}
 use Rattle.td_elab.specs.Stands.{all_names, comparison_of, field_of, fields_of, definition_of, definitions_of, module_of}
 use Rattle.td_elab.specs.Formed.{HasOnePartEach, IsInScope, AreFieldsInScope, IsEachInScope, IsEachEntryThere}
 

@@ -1,15 +1,13 @@
 -- Each name of a definition or a field has its place among the names of the module.
-use Rattle.std.proofs.Common.{◌≡◌, ℕ, suc, ◌+◌, ◌<◌, Bool, true, false, cond, not, ◌||◌, if◌then◌else◌, List, [], ◌∷◌, ◌++◌, length, All, refl, sym, ap, ◌∙◌, subst, arith}
+use Rattle.std.proofs.Common.{◌≡◌, ℕ, ◌+◌, ◌<◌, Bool, true, false, cond, not, ◌||◌, if◌then◌else◌, List, [], ◌∷◌, ◌++◌, length, All, refl, ap, ◌∙◌, subst, arith}
 use Rattle.std.proofs.lemmas.Slice.Eq.{bytes_eq-Decides}
 use Rattle.std.proofs.lemmas.List.Elements.{All-nil, All-cons}
 use Rattle.std.proofs.lemmas.List.Folds.{list_any-append}
 use Rattle.std.specs.Str.{bytes_eq}
-use Rattle.std.specs.List.{list_any, position_or_len}
 use Rattle.td_ast.specs.declared.tree.FieldTree.{FieldTree}
 use Rattle.td_ast.specs.declared.tree.StructTree.{StructTree}
 use Rattle.td_core.specs.declared.module.Part.{Part}
 use Rattle.td_core.specs.declared.module.Field.{Field}
-use Rattle.td_core.specs.declared.module.TypeDef.{TypeDef}
 use Rattle.td_elab.specs.Names.{is_seen, with_name, number_of}
 use Rattle.td_elab.specs.Stands.{fields_seen, names_after, all_names, comparison_of, field_of, fields_of, definition_of, definitions_of, module_of}
 use Rattle.td_elab.specs.Formed.{AreNamesThere, IsEachNameThere}

@@ -8,14 +8,12 @@ use Rattle.td_lexer.specs.declared.error.LexError.TheVariants.{BadByte as BadByt
 use Rattle.td_lexer.specs.Splits.{IsRefused}
 use Rattle.td_elab.specs.declared.breach.Code.{Code}
 use Rattle.td_elab.specs.declared.breach.Code.TheVariants.{Unknown as UnknownName, Twice as NameTwice}
-use Rattle.td_elab.specs.declared.breach.Breach.{Breach}
 use Rattle.td_elab.specs.declared.elaborate.ElabError.{ElabError}
-use Rattle.td_elab.specs.declared.elaborate.ElabError.TheVariants.{NoMemory as NoNames}
 use Rattle.td_elab.specs.Breach.{IsFirst}
 use Rattle.td_elab.specs.Rules.{breaches}
 use Rattle.td_elab.specs.Elaborates.{error_at, IsCause}
 use Rattle.td_front.specs.declared.error.FrontError.{FrontError}
-use Rattle.td_front.specs.declared.error.FrontError.TheVariants.{BadByte, OpenComment, BigNumber, Unexpected, Limit, Unknown, Twice, NoMemory}
+use Rattle.td_front.specs.declared.error.FrontError.TheVariants.{NoMemory}
 use Rattle.td_front.specs.Errors.{of_lexing, of_elaboration}
 use Rattle.td_front.specs.Limits.{AreWithinLimits}
 use Rattle.td_front.specs.ModuleText.{SpellsTree, IsModuleText, RefusedBy}

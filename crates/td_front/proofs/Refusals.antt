@@ -1,5 +1,5 @@
 -- A text stands for one module or has one refusal.
-use Rattle.std.proofs.Common.{◌≡◌, ℕ, List, [], Option, Some, None, Result, Ok, Err, ◌⊎◌, inl, inr, ◌↔◌, All, length, find, arith, ◌<◌, refl, sym, ap, subst, ◌∙◌}
+use Rattle.std.proofs.Common.{◌≡◌, ℕ, List, [], Option, Some, None, Result, Ok, Err, ◌⊎◌, inl, inr, ◌↔◌, length, find, arith, refl, sym, ap, subst, ◌∙◌}
 use Rattle.td_ast.specs.declared.token.Span.{Span}
 use Rattle.td_ast.specs.declared.token.Token.{Token}
 use Rattle.td_ast.specs.declared.tree.StructTree.{StructTree}
@@ -16,7 +16,7 @@ use Rattle.td_elab.specs.declared.breach.Code.{Code}
 use Rattle.td_elab.specs.declared.breach.Code.TheVariants.{Unknown as UnknownName, Twice as NameTwice}
 use Rattle.td_elab.specs.declared.breach.Breach.{Breach}
 use Rattle.td_elab.specs.Breach.{IsFirst}
-use Rattle.td_elab.specs.Rules.{breaches, StandsFor}
+use Rattle.td_elab.specs.Rules.{breaches}
 use Rattle.td_elab.specs.Stands.{module_of}
 use Rattle.td_elab.specs.Laws.{OneIsFirst, SomeIsFirst}
 use Rattle.td_front.specs.declared.error.FrontError.{FrontError}

@@ -3,7 +3,7 @@ use Rattle.std.proofs.lemmas.List.{append-nil}
 use Rattle.td_elab.specs.Breach.{first_of}
 use Rattle.td_elab.specs.Names.{with_name}
 use Rattle.td_elab.specs.Rules.{definition_breaches, definitions_breaches}
-use Rattle.td_elab.specs.Stands.{definition_of, definitions_of}
+use Rattle.td_elab.specs.Stands.{definitions_of}
 use Rattle.td_elab.proofs.Steps.{split, done, first_append}
 use Rattle.td_elab.proofs.elaborate.definitions.Goals as goal
 

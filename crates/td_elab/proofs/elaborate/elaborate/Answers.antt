@@ -1,4 +1,4 @@
-use Rattle.std.proofs.Common.{sym, ap, ◌∙◌, refl, inl, inr, subst, arith}
+use Rattle.std.proofs.Common.{sym, ap, ◌∙◌, inr, subst}
 use Rattle.td_elab.specs.Breach.{first_of}
 use Rattle.td_elab.specs.Rules.{breaches}
 use Rattle.td_elab.specs.Elaborates.{error_of}

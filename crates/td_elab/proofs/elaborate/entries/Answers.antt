@@ -1,4 +1,4 @@
-use Rattle.std.proofs.Common.{◌≡◌, sym, ap, ◌∙◌, ◌+◌, [], ◌∷◌, ◌++◌, arith}
+use Rattle.std.proofs.Common.{◌≡◌, ap, ◌∙◌, ◌+◌, [], ◌∷◌, ◌++◌, arith}
 use Rattle.td_num.specs.Numbers.{places_from}
 use Rattle.td_elab.proofs.Forms.{places-push}
 use Rattle.td_elab.proofs.elaborate.entries.Goals as goal

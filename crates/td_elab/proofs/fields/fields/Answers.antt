@@ -3,7 +3,7 @@ use Rattle.std.proofs.lemmas.List.{append-nil}
 use Rattle.td_elab.specs.Breach.{first_of}
 use Rattle.td_elab.specs.Names.{with_name}
 use Rattle.td_elab.specs.Rules.{field_breaches, fields_breaches}
-use Rattle.td_elab.specs.Stands.{field_of, fields_of}
+use Rattle.td_elab.specs.Stands.{fields_of}
 use Rattle.td_elab.proofs.Steps.{split, done, first_append}
 use Rattle.td_elab.proofs.fields.fields.Goals as goal
 
