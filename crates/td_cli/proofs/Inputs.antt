@@ -21,8 +21,8 @@ use Rattle.td_cli.specs.Stops.{IsStop, module_stop, job_stop}
 pub one_marker : (input : List ℕ) (n m : ℕ) → IsFirstMarker input n → IsFirstMarker input m → n ≡ m
 one_marker input n m a b =
     elim (cases_order n m) [
-      inl same ↦ same
-    | inr other ↦ elim other [ inl below ↦ absurd (b.before n below a.marker) | inr above ↦ absurd (a.before m above b.marker) ]
+      | inl same ↦ same
+      | inr other ↦ elim other [ inl below ↦ absurd (b.before n below a.marker) | inr above ↦ absurd (a.before m above b.marker) ]
     ]
 
 -- what holds of the text before some first marker holds of that before this one
@@ -85,6 +85,7 @@ job_cause input n types jobs.NoEntry marker text (inr refused) = (n, types, mark
 job_cause input n types (jobs.Form path) marker text (inr refused) = (n, types, marker, text, refused)
 job_cause input n types (jobs.Values path) marker text (inr refused) = (n, types, marker, text, refused)
 job_cause input n types (jobs.Digits path) marker text (inr refused) = (n, types, marker, text, refused)
+job_cause input n types (jobs.NoWord path) marker text (inr refused) = (n, types, marker, text, refused)
 job_cause input n types (jobs.PastBytes path) marker text (inr refused) = (n, types, marker, text, refused)
 job_cause input n types (jobs.Limit path) marker text (inr refused) = (n, types, marker, text, refused)
 

@@ -14,8 +14,7 @@ use std::alloc::Global;
 use td_core::module::Module;
 use td_front::{FrontError, check_module};
 use td_job::error::JobError;
-use td_job::run_job::RunJob;
-use td_job::run_job::read_run_job;
+use td_job::run_job::{RunJob, read_run_job};
 
 /// The module and the job of an input.
 #[derive(Debug, Drop)]

@@ -6,8 +6,7 @@ ghost use Rattle.td_io.specs.Causes.{HasCause, StartsWritten};
 ghost use Rattle.td_cli.specs.Lines.{job_line, module_line, refusal_line};
 
 use crate::refusal::Refusal;
-use td_front::FrontError;
-use td_front::line_of;
+use td_front::{FrontError, line_of};
 use td_io::ends::Sink;
 use td_io::writing::WriteFault;
 use td_job::error::JobError;
@@ -23,7 +22,13 @@ fn refuse_module<E: Sink>(input: &[u8], error: &FrontError, err: &mut E) -> Resu
     let Some(line) = line_of(error) else {
         return front_line(input, Some(0), b"", b"", err);
     };
-    front_line(input, Some(line.at), line.code.as_bytes(), line.words.as_bytes(), err)
+    front_line(
+        input,
+        Some(line.at),
+        line.code.as_bytes(),
+        line.words.as_bytes(),
+        err,
+    )
 }
 
 fn refuse_job<E: Sink>(error: &JobError, err: &mut E) -> Result<(), WriteFault>

@@ -34,7 +34,9 @@ enum ReportStop {
 }
 
 const USAGE: &[u8] = b"usage: td check|tidy|code|run|host|pack|bench N\n";
+
 const READ: &[u8] = b"error read\n";
+
 const MEMORY: &[u8] = b"error memory\n";
 
 // Writes a line to the error stream, and answers the status that was to come, or that of a fault in writing it.
@@ -68,13 +70,7 @@ fn report<O: Sink>(alloc: Global, given: &Given, out: &mut O) -> Result<(), Repo
     let Ok(run) = run_job(alloc, &given.types, &given.job) else {
         return Err(ReportStop::NoMemory);
     };
-    match run_report(
-        &run.outcome,
-        &given.types,
-        given.job.entry,
-        &run.loads,
-        out,
-    ) {
+    match run_report(&run.outcome, &given.types, given.job.entry, &run.loads, out) {
         Ok(()) => Ok(()),
         Err(_) => Err(ReportStop::Fault),
     }

@@ -26,23 +26,23 @@ returns-in-Err-read_run_job-clause-cause c =
 pub returns-in-Err-clause-complete : goal.returns-in-Err-clause-complete
 returns-in-Err-clause-complete c =
     let only : (m : Module) → IsModuleText (text_part c.args.input.now c.in-Some.place) m → c.in-Err.error ≡ front.NoMemory =
-        λ m h. c.in-Err.ensures.complete m (subst (λ (t : List ℕ). IsModuleText t m) (sym c.module_part.ensures) h) in
+    λ m h. c.in-Err.ensures.complete m (subst (λ (t : List ℕ). IsModuleText t m) (sym c.module_part.ensures) h) in
     λ types job given. c.module_stop.ensures ∙ text_stops c.args.input.now c.in-Some.place c.in-Err.error front.NoMemory c.in-Some.ensures only types job given
 
 pub returns-in-Err-read_run_job-clause-complete : goal.returns-in-Err-read_run_job-clause-complete
 returns-in-Err-read_run_job-clause-complete c =
     let one : (m : Module) → IsModuleText (text_part c.args.input.now c.in-Some.place) m → c.in-Ok.types ≡ m =
-        λ m h. c.in-Ok.ensures.complete m (subst (λ (t : List ℕ). IsModuleText t m) (sym c.module_part.ensures) h) in
+    λ m h. c.in-Ok.ensures.complete m (subst (λ (t : List ℕ). IsModuleText t m) (sym c.module_part.ensures) h) in
     let only : (j : RunJob) → IsRunJob (job_part c.args.input.now c.in-Some.place) c.in-Ok.types j → c.in-Err-read_run_job.error ≡ jobs.NoMemory =
-        λ j h. c.in-Err-read_run_job.ensures.complete j (subst (λ (t : List ℕ). IsRunJob t c.in-Ok.types j) (sym c.job_part.ensures) h) in
+    λ j h. c.in-Err-read_run_job.ensures.complete j (subst (λ (t : List ℕ). IsRunJob t c.in-Ok.types j) (sym c.job_part.ensures) h) in
     λ types job given. c.job_stop.ensures ∙ job_stops c.args.input.now c.in-Some.place c.in-Ok.types c.in-Err-read_run_job.error jobs.NoMemory c.in-Some.ensures one only types job given
 
 pub returns-in-Ok-read_run_job-clause-refused : goal.returns-in-Ok-read_run_job-clause-refused
 returns-in-Ok-read_run_job-clause-refused c =
     let one : (m : Module) → IsModuleText (text_part c.args.input.now c.in-Some.place) m → c.in-Ok.types ≡ m =
-        λ m h. c.in-Ok.ensures.complete m (subst (λ (t : List ℕ). IsModuleText t m) (sym c.module_part.ensures) h) in
+    λ m h. c.in-Ok.ensures.complete m (subst (λ (t : List ℕ). IsModuleText t m) (sym c.module_part.ensures) h) in
     let text : (e : FrontError) → RefusedBy (text_part c.args.input.now c.in-Some.place) e → ⊥ =
-        λ e h. c.in-Ok.ensures.exact e (subst (λ (t : List ℕ). RefusedBy t e) (sym c.module_part.ensures) h) in
+    λ e h. c.in-Ok.ensures.exact e (subst (λ (t : List ℕ). RefusedBy t e) (sym c.module_part.ensures) h) in
     let job : (e : JobError) → RefusedJob (job_part c.args.input.now c.in-Some.place) c.in-Ok.types e → ⊥ =
-        λ e h. no_error c.in-Ok-read_run_job.job e jobs.NoMemory (c.in-Ok-read_run_job.ensures.exact e (subst (λ (t : List ℕ). RefusedJob t c.in-Ok.types e) (sym c.job_part.ensures) h)) in
+    λ e h. no_error c.in-Ok-read_run_job.job e jobs.NoMemory (c.in-Ok-read_run_job.ensures.exact e (subst (λ (t : List ℕ). RefusedJob t c.in-Ok.types e) (sym c.job_part.ensures) h)) in
     λ refusal h. absurd (nothing_refuses c.args.input.now c.in-Some.place c.in-Ok.types c.in-Some.ensures one text job refusal h)

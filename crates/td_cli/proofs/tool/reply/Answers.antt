@@ -15,15 +15,15 @@ keeps_same (Some bytes) = refl
 pub returns-in-Ok-refuse-clause-complete : goal.returns-in-Ok-refuse-clause-complete
 returns-in-Ok-refuse-clause-complete g c =
     λ types job given same.
-        let none : c.in-Err-Refused.field-0 ≡ stops.NoMemory = c.in-Err-Refused.ensures.complete types job given in
-        let is = c.in-Err-Refused.field-0-is in
-        cc
+    let none : c.in-Err-Refused.field-0 ≡ stops.NoMemory = c.in-Err-Refused.ensures.complete types job given in
+    let is = c.in-Err-Refused.field-0-is in
+    cc
 
 pub returns-clause-fault : goal.returns-clause-fault
 returns-clause-fault g c =
     λ same.
-        let refusal : Refusal = c.in-Err-Refused.refusal in
-        let refuses : Refuses c.args.input.now refusal = rw c.in-Err-Refused.field-0-is at c.in-Err-Refused.ensures.cause in
-        let P : Refusal → Type 0 = λ r. StartsWritten (g.E.Sink.written c.args.err.now) (g.E.Sink.written c.refuse.new.err) (refusal_line c.args.input.now r) in
-        let front : P refusal = subst P c.in-Err-Refused.refusal-is c.in-Err.ensures.prefix in
-        inr (c.in-Err.ensures.cause.failed, (refusal_line c.args.input.now refusal, inr (refusal, refuses, refl), front), keeps_same (g.O.Sink.written c.args.out.now))
+    let refusal : Refusal = c.in-Err-Refused.refusal in
+    let refuses : Refuses c.args.input.now refusal = rw c.in-Err-Refused.field-0-is at c.in-Err-Refused.ensures.cause in
+    let P : Refusal → Type 0 = λ r. StartsWritten (g.E.Sink.written c.args.err.now) (g.E.Sink.written c.refuse.new.err) (refusal_line c.args.input.now r) in
+    let front : P refusal = subst P c.in-Err-Refused.refusal-is c.in-Err.ensures.prefix in
+    inr (c.in-Err.ensures.cause.failed, (refusal_line c.args.input.now refusal, inr (refusal, refuses, refl), front), keeps_same (g.O.Sink.written c.args.out.now))

@@ -27,13 +27,13 @@ refused_not_done bytes input line end same short never (inr refused) =
 pub returns-in-Ok-clause-complete : goal.returns-in-Ok-clause-complete
 returns-in-Ok-clause-complete g c =
     λ input types job told short given.
-        let same = same_input (g.S.Source.left c.args.src.now) input c.in-Ok.input.items told c.in-Ok.ensures.whole in
-        let P : List ℕ → Type 0 = λ i. IsInput i types job in
-        c.reply.ensures.complete types job (subst P (same ∙ sym c.deref.ensures.value) given)
+    let same = same_input (g.S.Source.left c.args.src.now) input c.in-Ok.input.items told c.in-Ok.ensures.whole in
+    let P : List ℕ → Type 0 = λ i. IsInput i types job in
+    c.reply.ensures.complete types job (subst P (same ∙ sym c.deref.ensures.value) given)
 
 pub returns-in-Ok-clause-not_done : goal.returns-in-Ok-clause-not_done
 returns-in-Ok-clause-not_done g c =
     λ input line told refusal.
-        let same = same_input (g.S.Source.left c.args.src.now) input c.in-Ok.input.items told c.in-Ok.ensures.whole in
-        let P : List ℕ → Type 0 = λ b. length b ≤ input_limit in
-        refused_not_done c.deref.result.now input line c.reply.result (same ∙ sym c.deref.ensures.value) (subst P (sym c.deref.ensures.value) c.in-Ok.ensures.short) c.reply.ensures.not_done refusal
+    let same = same_input (g.S.Source.left c.args.src.now) input c.in-Ok.input.items told c.in-Ok.ensures.whole in
+    let P : List ℕ → Type 0 = λ b. length b ≤ input_limit in
+    refused_not_done c.deref.result.now input line c.reply.result (same ∙ sym c.deref.ensures.value) (subst P (sym c.deref.ensures.value) c.in-Ok.ensures.short) c.reply.ensures.not_done refusal
