@@ -85,6 +85,7 @@ job_cause input n types jobs.NoEntry marker text (inr refused) = (n, types, mark
 job_cause input n types (jobs.Form path) marker text (inr refused) = (n, types, marker, text, refused)
 job_cause input n types (jobs.Values path) marker text (inr refused) = (n, types, marker, text, refused)
 job_cause input n types (jobs.Digits path) marker text (inr refused) = (n, types, marker, text, refused)
+job_cause input n types (jobs.NoWord path) marker text (inr refused) = (n, types, marker, text, refused)
 job_cause input n types (jobs.PastBytes path) marker text (inr refused) = (n, types, marker, text, refused)
 job_cause input n types (jobs.Limit path) marker text (inr refused) = (n, types, marker, text, refused)
 

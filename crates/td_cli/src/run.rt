@@ -1,4 +1,5 @@
-//! One run: the job's words are laid out, and the message in them is validated once.
+//! One run: the job's words are laid out, and the message in them is validated once, while others store to the words by
+//! the job's plan.
 
 ghost use Rattle.std.specs.Prelude.{◌≡◌, ◌<◌, ◌≤◌, ◌*◌, ◌^◌, length, IfOk};
 ghost use Rattle.td_cli.specs.Run.{IsRunOf};
@@ -33,7 +34,8 @@ fn run_on_cells(
 {
     let words = job.words.as_slice();
     let mut loads = Loads::with_room(alloc, words.len() as u32)?;
-    let mut planned = Planned::open(alloc, words, &[])?;
+    let stores = job.stores.as_slice();
+    let mut planned = Planned::open(alloc, words, stores)?;
     let mut trace = Items::new(alloc);
     let args = job.args.as_slice();
     let verdict = validate_recorded(

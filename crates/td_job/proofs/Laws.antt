@@ -6,6 +6,7 @@ use Rattle.serde_json.specs.Data.{Data}
 use Rattle.td_core.specs.declared.module.Module.{Module}
 use Rattle.td_core.specs.declared.module.Entry.{Entry}
 use Rattle.td_core.specs.Entries.{IsFirstNamed}
+use Rattle.td_sched.specs.declared.store.PlannedStore.{PlannedStore}
 use Rattle.td_job.specs.declared.error.Field.TheVariants as field
 use Rattle.td_job.specs.declared.error.JobError.{JobError}
 use Rattle.td_job.specs.declared.error.JobError.TheVariants as fault
@@ -57,12 +58,14 @@ one_job types job a b ha hb =
     let la = ha.as_long in
     let lb = hb.as_long in
     let length : a.length ≡ b.length = cc in
-    let make : Entry → List ℕ → List ℕ → List ℕ → ℕ → RunJob = λ entry args cells words length. record { entry = entry; args = args; cells = cells; words = words; length = length } in
-    ap (λ x. make x a.args a.cells a.words a.length) entry
-    ∙ ap (λ x. make b.entry x a.cells a.words a.length) args
-    ∙ ap (λ x. make b.entry b.args x a.words a.length) cells
-    ∙ ap (λ x. make b.entry b.args b.cells x a.length) words
-    ∙ ap (λ x. make b.entry b.args b.cells b.words x) length
+    let stores = ha.stored ∙ sym hb.stored in
+    let make : Entry → List ℕ → List ℕ → List ℕ → ℕ → List PlannedStore → RunJob = λ entry args cells words length stores. record { entry = entry; args = args; cells = cells; words = words; length = length; stores = stores } in
+    ap (λ x. make x a.args a.cells a.words a.length a.stores) entry
+    ∙ ap (λ x. make b.entry x a.cells a.words a.length a.stores) args
+    ∙ ap (λ x. make b.entry b.args x a.words a.length a.stores) cells
+    ∙ ap (λ x. make b.entry b.args b.cells x a.length a.stores) words
+    ∙ ap (λ x. make b.entry b.args b.cells b.words x a.stores) length
+    ∙ ap (λ x. make b.entry b.args b.cells b.words b.length x) stores
 
 one_value : (bytes : List ℕ) (a b : Data) → Reads bytes a → Reads bytes b → a ≡ b
 one_value bytes a b ha hb = let ia = ha.1 in let ib = hb.1 in cc

@@ -14,6 +14,7 @@ name_of field.Args = codes "args"
 name_of field.Cells = codes "cells"
 name_of field.Bytes = codes "bytes"
 name_of field.Length = codes "length"
+name_of field.Stores = codes "stores"
 
 -- a name, and behind it in brackets the place in a list
 abbrev pub spelled : List ℕ → Option ℕ → List ℕ
@@ -31,6 +32,7 @@ path_of (fault.Form place) = path_bytes place
 path_of fault.NoEntry = name_of field.Entry
 path_of (fault.Values place) = path_bytes place
 path_of (fault.Digits place) = path_bytes place
+path_of (fault.NoWord place) = path_bytes place
 path_of (fault.PastBytes place) = path_bytes place
 path_of (fault.Limit place) = path_bytes place
 path_of fault.NoMemory = []
@@ -41,6 +43,7 @@ code_of (fault.Form place) = codes "J2"
 code_of fault.NoEntry = codes "J3"
 code_of (fault.Values place) = codes "J4"
 code_of (fault.Digits place) = codes "J5"
+code_of (fault.NoWord place) = codes "J6"
 code_of (fault.PastBytes place) = codes "J7"
 code_of (fault.Limit place) = codes "J8"
 code_of fault.NoMemory = []

@@ -1,19 +1,25 @@
 -- What a run job is, and what is wrong with one (own rule).
 --
--- A run job is a JSON object with the fields `entry`, `args`, `cells`, `bytes` and `length`. Its faults stand in that
--- order, each field looked at for all that can be wrong with it, and then the fields of other names; at one place the
--- lower code stands first. The answer is the first fault. A job that is no object has no field.
-use Rattle.std.specs.Prelude.{◌≡◌, ℕ, ◌+◌, ◌*◌, ◌<◌, ◌≤◌, ◌^◌, List, [], ◌∷◌, ◌++◌, length, Bool, ◌||◌, nat_lt, if◌then◌else◌, bytes_eq, IsUtf8, Option, Some, None, option_and_then, Result, Ok, Err, ◌⊎◌}
+-- A run job is a JSON object with the fields `entry`, `args`, `cells`, `bytes`, `length` and `stores`. Its faults stand
+-- in that order, each field looked at for all that can be wrong with it (a list first for its length, and then element
+-- by element), and then the fields of other names; at one place the lower code stands first. The answer is the first
+-- fault. A job that is no object has no field.
+use Rattle.std.specs.Prelude.{◌≡◌, ℕ, ◌+◌, ◌*◌, ◌/◌, ◌<◌, ◌≤◌, ◌^◌, List, [], ◌∷◌, ◌++◌, length, Bool, ◌||◌, nat_lt, nat_le, if◌then◌else◌, bytes_eq, IsUtf8, Option, Some, None, option_and_then, Result, Ok, Err, ◌⊎◌}
+use Rattle.std.specs.List.{All}
 use Rattle.serde_json.specs.Data.{Data, Items, no_items, item, Members, no_members, member}
 use Rattle.serde_json.specs.Read.{read as read_text}
+use Rattle.serde_json.specs.Events.{items_len}
 use Rattle.serde_json.specs.Find.{get, as_str, as_number, as_u64, as_array, as_object}
-use Rattle.hex.specs.Hex.{decode_of}
+use Rattle.hex.specs.Hex.{decode_of, decode_sized}
 use Rattle.hex.specs.declared.error.FromHexError.{FromHexError}
 use Rattle.td_core.specs.declared.module.Module.{Module}
 use Rattle.td_core.specs.declared.module.Entry.{Entry}
 use Rattle.td_core.specs.Entries.{IsEntryNamed, IsFirstNamed}
+use Rattle.td_num.specs.Numbers.{rising_at}
+use Rattle.td_sched.specs.declared.store.PlannedStore.{PlannedStore}
 use Rattle.td_job.specs.declared.error.Field.{Field}
 use Rattle.td_job.specs.declared.error.Field.TheVariants as field
+use Rattle.td_job.specs.declared.error.Path.{Path}
 use Rattle.td_job.specs.declared.error.Path.TheVariants as path
 use Rattle.td_job.specs.declared.error.JobError.{JobError}
 use Rattle.td_job.specs.declared.error.JobError.TheVariants as fault
@@ -99,9 +105,92 @@ abbrev pub length_faults : ℕ → Option ℕ → List JobError
 length_faults given None = fault.Form (path.Named field.Length) ∷ []
 length_faults given (Some n) = fault_if (nat_lt given n) (fault.PastBytes (path.Named field.Length)) ++ fault_if (nat_lt 1048576 n) (fault.Limit (path.Named field.Length))
 
--- a field has one of the five names (J2)
+-- The message's words are those with a byte of it: an eighth of its length in bytes, rounded up. Without a length there
+-- are none.
+abbrev pub words_of : Option ℕ → ℕ
+words_of None = 0
+words_of (Some n) = (n + 7) / 8
+
+abbrev pub message_words : Data → ℕ
+message_words job = words_of (number_of field.Length job)
+
+-- a store as a job spells it: the number of the load before which it is made, from 0, the word's number, from 0, and
+-- the word's bytes as hexadecimal digits
+pub record Spelled : Type 0 where
+  pub before : ℕ
+  pub word : ℕ
+  pub text : List ℕ
+
+-- the store of its three parts, where each has its form
+abbrev pub spelled_by : Option ℕ → Option ℕ → Option (List ℕ) → Option Spelled
+spelled_by None word text = None
+spelled_by (Some before) None text = None
+spelled_by (Some before) (Some word) None = None
+spelled_by (Some before) (Some word) (Some text) = Some (record { before = before; word = word; text = text })
+
+abbrev pub three_parts : Items → Option Spelled
+three_parts no_items = None
+three_parts (item a no_items) = None
+three_parts (item a (item b no_items)) = None
+three_parts (item a (item b (item c no_items))) = spelled_by (whole a) (whole b) (as_str c)
+three_parts (item a (item b (item c (item d others)))) = None
+
+-- a list of exactly a whole number, a whole number and a text; none where the value is anything else
+abbrev pub spelled_store : Data → Option Spelled
+spelled_store value = option_and_then three_parts (as_array value)
+
+-- the word of exactly 16 hexadecimal digits of either case, two for each of its eight bytes: their sum by rising powers
+-- of 256; none where the text is anything else
+abbrev pub word_in : Result (List ℕ) FromHexError → Option ℕ
+word_in (Ok bytes) = Some (rising_at bytes 0 8)
+word_in (Err e) = None
+
+abbrev pub spelled_word : List ℕ → Option ℕ
+spelled_word text = word_in (decode_sized text 8)
+
+-- An element of `stores` is such a list (J2) with the digits of a word (J5) and the number of a word of the message
+-- (J6).
+abbrev pub store_faults : ℕ → Path → Option Spelled → List JobError
+store_faults words place None = fault.Form place ∷ []
+store_faults words place (Some s) = fault_if_none (spelled_word s.text) (fault.Digits place) ++ fault_if (nat_le words s.word) (fault.NoWord place)
+
+abbrev pub each_store_faults : ℕ → ℕ → Items → List JobError
+each_store_faults words i no_items = []
+each_store_faults words i (item value values) = store_faults words (path.Element field.Stores i) (spelled_store value) ++ each_store_faults words (i + 1) values
+
+-- `stores` is a list (J2) of at most 65,536 elements (J8); it may be left out
+abbrev pub plan_faults : ℕ → Option Items → List JobError
+plan_faults words None = fault.Form (path.Named field.Stores) ∷ []
+plan_faults words (Some values) = fault_if (nat_lt 65536 (items_len values)) (fault.Limit (path.Named field.Stores)) ++ each_store_faults words 0 values
+
+abbrev pub stores_faults : ℕ → Option Data → List JobError
+stores_faults words None = []
+stores_faults words (Some value) = plan_faults words (as_array value)
+
+-- the store of an element
+abbrev pub store_with : Spelled → Option ℕ → List PlannedStore
+store_with s None = []
+store_with s (Some value) = record { before = s.before; word = s.word; value = value } ∷ []
+
+abbrev pub store_of : Option Spelled → List PlannedStore
+store_of None = []
+store_of (Some s) = store_with s (spelled_word s.text)
+
+abbrev pub each_store : Items → List PlannedStore
+each_store no_items = []
+each_store (item value values) = store_of (spelled_store value) ++ each_store values
+
+abbrev pub listed_stores : Option Items → List PlannedStore
+listed_stores None = []
+listed_stores (Some values) = each_store values
+
+-- the stores that a job gives, in the order given
+abbrev pub given_stores : Data → List PlannedStore
+given_stores job = listed_stores (option_and_then as_array (field_of field.Stores job))
+
+-- a field has one of the six names (J2)
 abbrev pub is_known : List ℕ → Bool
-is_known name = bytes_eq name (name_of field.Entry) || bytes_eq name (name_of field.Args) || bytes_eq name (name_of field.Cells) || bytes_eq name (name_of field.Bytes) || bytes_eq name (name_of field.Length)
+is_known name = bytes_eq name (name_of field.Entry) || bytes_eq name (name_of field.Args) || bytes_eq name (name_of field.Cells) || bytes_eq name (name_of field.Bytes) || bytes_eq name (name_of field.Length) || bytes_eq name (name_of field.Stores)
 
 abbrev pub member_faults : Members → List JobError
 member_faults no_members = []
@@ -118,6 +207,7 @@ later_faults job =
     ++ list_faults field.Cells (field_of field.Cells job)
     ++ bytes_faults (text_of field.Bytes job)
     ++ length_faults (length (given_bytes job)) (number_of field.Length job)
+    ++ stores_faults (message_words job) (field_of field.Stores job)
     ++ name_faults (as_object job)
 
 pub record IsFirst (faults : List JobError) (e : JobError) : Type 0 where
@@ -136,16 +226,19 @@ pub record IsJob (types : Module) (job : Data) (j : RunJob) : Type 0 where
   pub no_cells : j.cells ≡ []
   pub filled : IsFilled (given_bytes job) j.words
   pub as_long : number_of field.Length job ≡ Some j.length
+  pub stored : j.stores ≡ given_stores job
 
 -- the run job that the bytes stand for
 abbrev pub IsRunJob : List ℕ → Module → RunJob → Type 0
 IsRunJob bytes types j = (job : Data) × Reads bytes job × IsJob types job j
 
--- the words are numbered by 32 bits, and the message ends within them and below the limit
+-- the words are numbered by 32 bits, the message ends within them and below the limit, and each store's word is one of
+-- them
 pub record HasRoom (j : RunJob) : Type 0 where
   pub words : length j.words < 2 ^ 32
   pub ends : j.length ≤ 8 * length j.words
   pub limit : j.length ≤ 1048576
+  pub stores : All (λ (s : PlannedStore). s.word < length j.words) j.stores
 
 -- how the bytes are refused: they aren't JSON (J1), or stand for a job with a fault, of which it is the first
 abbrev pub RefusedJob : List ℕ → Module → JobError → Type 0

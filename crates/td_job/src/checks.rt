@@ -91,6 +91,7 @@ fn is_known(name: &str) -> bool
         || name == Field::Cells.name()
         || name == Field::Bytes.name()
         || name == Field::Length.name()
+        || name == Field::Stores.name()
 }
 
 /// Tests that each field has a known name. J2, at the first other name in byte order.

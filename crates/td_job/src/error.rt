@@ -20,6 +20,8 @@ pub enum Field {
     Bytes,
     /// How many bytes the message has.
     Length,
+    /// What others store to the words, and when.
+    Stores,
 }
 
 /// Where a job is at fault.
@@ -48,9 +50,12 @@ pub enum JobError {
     /// J4: a list is not as long as the entry point asks.
     #[error("a list has another length than the entry point asks")]
     Values(Path),
-    /// J5: a text is not an even number of hexadecimal digits.
-    #[error("a text is not an even number of hexadecimal digits")]
+    /// J5: a text is not an even number of hexadecimal digits, or a store's is not 16.
+    #[error("a text has other hexadecimal digits than it must")]
     Digits(Path),
+    /// J6: a store's word is none of the message's.
+    #[error("a word is none of the message's")]
+    NoWord(Path),
     /// J7: the message is longer than the bytes given.
     #[error("the message is longer than the bytes given")]
     PastBytes(Path),
@@ -92,6 +97,7 @@ impl Field {
             Field::Cells => "cells",
             Field::Bytes => "bytes",
             Field::Length => "length",
+            Field::Stores => "stores",
         }
     }
 }
@@ -128,6 +134,7 @@ impl JobError {
             JobError::NoEntry => b"J3",
             JobError::Values(_) => b"J4",
             JobError::Digits(_) => b"J5",
+            JobError::NoWord(_) => b"J6",
             JobError::PastBytes(_) => b"J7",
             JobError::Limit(_) => b"J8",
             JobError::NoMemory => b"",
@@ -151,6 +158,7 @@ impl JobError {
             JobError::Form(path) => path.parts(),
             JobError::Values(path) => path.parts(),
             JobError::Digits(path) => path.parts(),
+            JobError::NoWord(path) => path.parts(),
             JobError::PastBytes(path) => path.parts(),
             JobError::Limit(path) => path.parts(),
             JobError::NoMemory => PathParts {

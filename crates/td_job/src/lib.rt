@@ -1,12 +1,15 @@
-//! Run jobs: which message is validated, from which entry point, as a JSON text says it. The layer above rests on one
-//! promise: a text is answered with the job that it stands for, or with its first fault in the order of the fields,
-//! each exactly where the definition says so, want of memory apart.
+//! Run jobs: which message is validated, from which entry point, and what others store to it meanwhile, as a JSON text
+//! says it. The layer above rests on one promise: a text is answered with the job that it stands for, or with its first
+//! fault in the order of the fields, each exactly where the definition says so, want of memory apart.
 #![tactic(auto)]
 
 mod checks;
 pub mod error;
 mod fields;
 pub mod run_job;
+#[cfg(test)]
+mod store_tests;
+mod stores;
 #[cfg(test)]
 mod tests;
 mod words;

@@ -7,11 +7,13 @@ ghost use Rattle.td_job.specs.Jobs.{IsJob, IsRunJob, HasRoom, FirstFault, Refuse
 use crate::checks::{bytes_of, check_list, check_names, entry_of, length_of};
 use crate::error::{Field, JobError};
 use crate::fields::read_json;
+use crate::stores::stores_of;
 use crate::words::fill_words;
 use serde_json::Value;
 use std::alloc::Global;
 use td_core::module::{Entry, Module};
 use td_num::items::Items;
+use td_sched::store::PlannedStore;
 
 /// A message to validate, and from where.
 #[derive(Debug, Drop)]
@@ -26,6 +28,8 @@ pub struct RunJob {
     pub words: Items<u64>,
     /// How many bytes of them the message has.
     pub length: u32,
+    /// What others store to the words, and before which load, in the order given.
+    pub stores: Items<PlannedStore>,
 }
 
 /// The run job of a parsed text, or its first fault.
@@ -39,6 +43,7 @@ fn job_of(alloc: Global, job: &Value, types: &Module) -> Result<RunJob, JobError
     check_list(job, Field::Cells)?;
     let bytes = bytes_of(alloc, job)?;
     let length = length_of(job, bytes.len())?;
+    let stores = stores_of(alloc, job, length.div_ceil(8))?;
     check_names(alloc, job)?;
     let words = fill_words(alloc, bytes.as_slice())?;
     Ok(RunJob {
@@ -47,6 +52,7 @@ fn job_of(alloc: Global, job: &Value, types: &Module) -> Result<RunJob, JobError
         cells: Items::new(alloc),
         words,
         length,
+        stores,
     })
 }
 

@@ -29,14 +29,22 @@ fn types(alloc: Global) -> Result<Module, AllocError> {
     })
 }
 
-/// An entry point's place, the arguments, cells and words, and the length.
+/// An entry point's place, the arguments, cells and words, the length, and each store.
 fn job_line(alloc: Global, job: &RunJob) -> Result<String, AllocError> {
     let entry = job.entry.number;
     let args = job.args.as_slice();
     let cells = job.cells.as_slice();
     let words = job.words.as_slice();
     let length = job.length;
-    format!(in alloc; "{entry} {args:?} {cells:?} {words:?} {length}")
+    let mut line = format!(in alloc; "{entry} {args:?} {cells:?} {words:?} {length}")?;
+    for store in job.stores.as_slice() {
+        let before = store.before;
+        let word = store.word;
+        let value = store.value;
+        let part = format!(in alloc; " store {before} {word} {value:016x}")?;
+        line.push_str(part.as_str())?;
+    }
+    Ok(line)
 }
 
 /// The code and the path.
@@ -50,7 +58,7 @@ fn error_line(alloc: Global, error: &JobError) -> Result<String, Fail> {
     }
 }
 
-fn answer(alloc: Global, job: &[u8]) -> Result<String, Fail> {
+pub(crate) fn answer(alloc: Global, job: &[u8]) -> Result<String, Fail> {
     let types = types(alloc)?;
     match read_run_job(alloc, job, &types) {
         Ok(job) => Ok(job_line(alloc, &job)?),
@@ -376,11 +384,15 @@ const ROWS: &[(&str, &str)] = &[
     ("{\"entry\":\"P\",\"bytes\":\"\",\"length\":1}", "J7 length"),
     (
         "{\"entry\":\"P\",\"bytes\":\"\",\"length\":0,\"stores\":[]}",
-        "J2 stores",
+        "0 [] [] [] 0",
     ),
     (
         "{\"entry\":\"P\",\"bytes\":\"\",\"length\":0,\"z\":1,\"stores\":[]}",
-        "J2 stores",
+        "J2 z",
+    ),
+    (
+        "{\"entry\":\"P\",\"bytes\":\"\",\"length\":0,\"store\":[]}",
+        "J2 store",
     ),
     (
         "{\"entry\":\"P\",\"bytes\":\"\",\"length\":0,\"b\":1,\"B\":2}",
@@ -429,6 +441,18 @@ const ROWS: &[(&str, &str)] = &[
     (
         "{\"length\":9,\"bytes\":\"00\",\"entry\":\"P\",\"a\":0}",
         "J7 length",
+    ),
+    (
+        "{\"stores\":null,\"length\":9,\"bytes\":\"00\",\"entry\":\"P\",\"a\":0}",
+        "J7 length",
+    ),
+    (
+        "{\"stores\":null,\"length\":1,\"bytes\":\"00\",\"entry\":\"P\",\"a\":0}",
+        "J2 stores",
+    ),
+    (
+        "{\"stores\":[[]],\"length\":1,\"bytes\":\"00\",\"entry\":\"P\",\"a\":0}",
+        "J2 stores[0]",
     ),
     (
         "{\"length\":1,\"bytes\":\"00\",\"entry\":\"P\",\"a\":0}",

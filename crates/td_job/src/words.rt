@@ -15,7 +15,7 @@ fn byte_or_zero(bytes: &[u8], place: usize) -> u8
 }
 
 /// The word that begins at a place: the eight bytes from there on, that of least weight first.
-fn word_at(bytes: &[u8], start: usize) -> u64
+pub(crate) fn word_at(bytes: &[u8], start: usize) -> u64
     requires { start < length bytes.now }
     ensures { result ≡ rising_at bytes.now start 8 }
 {

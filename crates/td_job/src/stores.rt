@@ -1,0 +1,114 @@
+//! The stores of a job.
+
+ghost use Rattle.std.specs.Prelude.{◌≡◌, ◌<◌, [], ◌∷◌, ◌⊎◌, IfOk, IfErr, option_map};
+ghost use Rattle.std.specs.List.{All};
+ghost use Rattle.serde_json.specs.View.{view, items_view};
+ghost use Rattle.td_job.specs.Jobs.{field_of, IsFirst, spelled_store, spelled_word, store_faults, store_of, each_store, each_store_faults, stores_faults, given_stores};
+
+use crate::error::{Field, JobError, Path};
+use crate::fields::field_of;
+use crate::words::word_at;
+use hex::FromHex;
+use serde_json::Value;
+use std::alloc::Global;
+use td_num::items::Items;
+use td_sched::store::PlannedStore;
+
+/// The most stores that a job has.
+const MOST_STORES: usize = 65_536;
+
+/// The three parts of a store, as a job spells them.
+#[derive(Clone, Copy)]
+struct SpelledStore<'a> {
+    before: u64,
+    word: u64,
+    text: &'a str,
+}
+
+/// The parts of a store. None: the value is no list of exactly a whole number, a whole number and a text.
+fn spelled_store(value: &Value) -> Option<SpelledStore<'_>>
+    ensures { option_map (λ s. record { before = s.before; word = s.word; text = s.text.now }) result ≡ spelled_store (view value.now) }
+{
+    let [before, word, text] = value.as_array()?.as_slice() else {
+        return None;
+    };
+    Some(SpelledStore {
+        before: before.as_u64()?,
+        word: word.as_u64()?,
+        text: text.as_str()?,
+    })
+}
+
+/// The word of 16 hexadecimal digits, two for each byte, that of least weight first. None: the text is anything else.
+fn word_of(text: &str) -> Option<u64>
+    ensures { result ≡ spelled_word text.now }
+{
+    let bytes = <[u8; 8] as FromHex>::from_hex(text).ok()?;
+    Some(word_at(&bytes, 0))
+}
+
+/// The store of an element of the list, at a message of so many words. J2: the element has another form. J5: its text
+/// is not 16 hexadecimal digits. J6: its word is none of the message's.
+fn store_of(value: &Value, index: usize, words: u32) -> Result<PlannedStore, JobError>
+    ensures ok { IfOk result (λ s. (store_faults words (Path.Element Field.Stores index) (spelled_store (view value.now)) ≡ []) × (store_of (spelled_store (view value.now)) ≡ s ∷ [])) }
+    ensures inside { IfOk result (λ s. s.word < words) }
+    ensures err { IfErr result (λ e. IsFirst (store_faults words (Path.Element Field.Stores index) (spelled_store (view value.now))) e) }
+{
+    let place = Path::Element {
+        field: Field::Stores,
+        index,
+    };
+    let Some(spelled) = spelled_store(value) else {
+        return Err(JobError::Form(place));
+    };
+    let Some(value) = word_of(spelled.text) else {
+        return Err(JobError::Digits(place));
+    };
+    if spelled.word >= u64::from(words) {
+        return Err(JobError::NoWord(place));
+    }
+    Ok(PlannedStore {
+        before: spelled.before,
+        word: spelled.word as u32,
+        value,
+    })
+}
+
+/// The stores of a list's elements, at a message of so many words, or the first fault of these.
+fn each_store(alloc: Global, values: &[Value], words: u32) -> Result<Items<PlannedStore>, JobError>
+    ensures ok { IfOk result (λ stores. (each_store_faults words 0 (items_view values.now) ≡ []) × (stores ≡ each_store (items_view values.now))) }
+    ensures inside { IfOk result (λ stores. All (λ s. s.word < words) stores) }
+    ensures err { IfErr result (λ e. (e ≡ JobError.NoMemory) ⊎ IsFirst (each_store_faults words 0 (items_view values.now)) e) }
+{
+    let mut stores = Items::new(alloc);
+    for (index, value) in values.iter().enumerate() {
+        let store = store_of(value, index, words)?;
+        stores.push(store)?;
+    }
+    Ok(stores)
+}
+
+/// The stores that a job makes to a message of so many words, in the order given. J2: `stores` is no list, or an element
+/// has another form. J5: an element's text is not 16 hexadecimal digits. J6: its word is none of the message's. J8: the
+/// list has more than 65,536 elements.
+pub(crate) fn stores_of(
+    alloc: Global,
+    job: &Value,
+    words: u32,
+) -> Result<Items<PlannedStore>, JobError>
+    ensures ok { IfOk result (λ stores. (stores_faults words (field_of Field.Stores (view job.now)) ≡ []) × (stores ≡ given_stores (view job.now))) }
+    ensures inside { IfOk result (λ stores. All (λ s. s.word < words) stores) }
+    ensures err { IfErr result (λ e. (e ≡ JobError.NoMemory) ⊎ IsFirst (stores_faults words (field_of Field.Stores (view job.now))) e) }
+{
+    let Some(value) = field_of(job, Field::Stores) else {
+        return Ok(Items::new(alloc));
+    };
+    match value.as_array() {
+        None => Err(JobError::Form(Path::Named(Field::Stores))),
+        Some(values) => if values.len() > MOST_STORES {
+            Err(JobError::Limit(Path::Named(Field::Stores)))
+        } else {
+            each_store(alloc, values, words)
+        },
+    }
+}
