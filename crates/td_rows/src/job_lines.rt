@@ -270,8 +270,8 @@ const LENGTHS: &[Row] = &[
 
 const OTHERS: &[Row] = &[
     (
-        "{\"entry\":\"P\",\"length\":4,\"bytes\":\"01000003\",\"stores\":[]}",
-        "error J2 stores\n",
+        "{\"entry\":\"P\",\"length\":4,\"bytes\":\"01000003\",\"store\":[]}",
+        "error J2 store\n",
         JOB,
     ),
     (
