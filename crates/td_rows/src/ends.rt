@@ -148,22 +148,36 @@ fn check_out_room(rt: &(impl AllocGlobal + Abort), input: &[u8], room: usize) ->
     check_call(rt, RUN, &mut source, Sinks { out, err }, wanted, "out")
 }
 
-fn check_err_room(
-    rt: &(impl AllocGlobal + Abort),
-    input: &[u8],
-    line: &str,
-    room: usize,
-) -> Result<(), Fail> {
+// A call that ends with a line: its words, its input, the read that fails (0: none), its status and the line.
+#[derive(Clone, Copy)]
+struct Said {
+    words: &'static [&'static str],
+    input: &'static str,
+    fail: u64,
+    status: u8,
+    line: &'static str,
+}
+
+fn check_err_room(rt: &(impl AllocGlobal + Abort), said: Said, room: usize) -> Result<(), Fail> {
     let alloc = rt.alloc();
-    let mut source = source_of(alloc, input)?;
+    let bytes = said.input.as_bytes().to_vec(alloc)?;
+    let mut source = MemorySource::over(bytes, [said.fail].to_vec(alloc)?);
     let out = MemorySink::with_room(alloc, 4096, Vec::new(alloc))?;
     let err = MemorySink::with_room(alloc, room, Vec::new(alloc))?;
+    let line = said.line;
     let wanted = Wanted {
-        status: if room < line.len() { 4 } else { 1 },
+        status: if room < line.len() { 4 } else { said.status },
         out: "",
         err: line.get(..room).unwrap_or(line),
     };
-    check_call(rt, RUN, &mut source, Sinks { out, err }, wanted, line)
+    check_call(
+        rt,
+        said.words,
+        &mut source,
+        Sinks { out, err },
+        wanted,
+        line,
+    )
 }
 
 // What is written before the write with this number fails is a front of the report, and all of it where no write has that
@@ -221,16 +235,56 @@ fn a_sink_without_room_has_a_front(rt: HostRuntime) -> Result<(), Fail> {
     Ok(())
 }
 
+fn check_err_rooms(rt: &(impl AllocGlobal + Abort), said: Said) -> Result<(), Fail> {
+    for room in 0..said.line.len() + 2 {
+        check_err_room(rt, said, room)?;
+    }
+    Ok(())
+}
+
+const LINES: [Said; 5] = [
+    Said {
+        words: RUN,
+        input: "entrypoint @\n%%\n",
+        fail: 0,
+        status: 1,
+        line: "error L1 1:12 bad byte\n",
+    },
+    Said {
+        words: RUN,
+        input: "%%\n",
+        fail: 0,
+        status: 1,
+        line: "error J1 job\n",
+    },
+    Said {
+        words: RUN,
+        input: "",
+        fail: 0,
+        status: 1,
+        line: "error Z2 no job\n",
+    },
+    Said {
+        words: RUN,
+        input: "%%\n",
+        fail: 1,
+        status: 3,
+        line: "error read\n",
+    },
+    Said {
+        words: &["td", "frob"],
+        input: "%%\n",
+        fail: 1,
+        status: 2,
+        line: USAGE,
+    },
+];
+
 #[test]
 fn a_line_without_room_has_a_front(rt: HostRuntime) -> Result<(), Fail> {
-    for (input, line) in [
-        ("entrypoint @\n%%\n", "error L1 1:12 bad byte\n"),
-        ("%%\n", "error J1 job\n"),
-        ("", "error Z2 no job\n"),
-    ] {
-        for room in 0..line.len() + 2 {
-            check_err_room(&rt, input.as_bytes(), line, room)?;
-        }
+    for said in LINES {
+        check_err_rooms(&rt, said)?;
     }
+    println!(rt; "{} rows", LINES.len())?;
     Ok(())
 }
