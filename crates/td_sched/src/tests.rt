@@ -1,10 +1,11 @@
 // What planned memory gives, load by load.
 
-ghost use Rattle.std.specs.Prelude.{◌≡◌, ◌<◌, []};
+ghost use Rattle.std.specs.Prelude.{◌≡◌, ◌<◌, ◌≤◌, []};
 
 use crate::planned::Planned;
 use crate::store::PlannedStore;
 use std::alloc::{AllocError, Global};
+use std::process::Abort;
 use std::test::*;
 use td_stream::words::Words;
 
@@ -109,25 +110,39 @@ fn large_value(i: u64) -> u64 {
     if is_stored { 1000000 + m } else { i }
 }
 
-#[test]
-fn a_large_plan_is_played(rt: HostRuntime) -> Result<(), Fail> {
+// All words of a plan with half as many stores are loaded, in order.
+fn check_large_plan(rt: &(impl AllocGlobal + Abort), half: u32) -> Result<(), Fail>
+    requires some { 0 < half }
+    requires most { half ≤ 65536 }
+{
     let mut words = Vec::new(rt.alloc());
     let mut places = Vec::new(rt.alloc());
-    for i in 0..131072u32 {
+    for i in 0..2 * half {
         words.push(i as u64)?;
         places.push(i)?;
     }
     let mut stores = Vec::new(rt.alloc());
-    for j in 0..65536u64 {
-        stores.push(large_store((j * 40503 % 65536) as u32))?;
+    for j in 0..half as u64 {
+        stores.push(large_store((j * 40503 % half as u64) as u32))?;
     }
-    assert_eq!(rt; words.len(), 131072);
-    assert_eq!(rt; stores.len(), 65536);
+    assert_eq!(rt; words.len(), 2 * half as usize);
+    assert_eq!(rt; stores.len(), half as usize);
     let mut planned = Planned::open(rt.alloc(), words.as_slice(), stores.as_slice())?;
     let values = loaded(rt.alloc(), &mut planned, places.as_slice())?;
-    assert_eq!(rt; values.len(), 131072);
-    for i in 0..131072u32 {
+    assert_eq!(rt; values.len(), 2 * half as usize);
+    for i in 0..2 * half {
         assert_eq!(rt; values[i as usize], large_value(i as u64), "word {i}");
     }
     Ok(())
+}
+
+#[test]
+fn a_large_plan_is_played(rt: HostRuntime) -> Result<(), Fail> {
+    check_large_plan(&rt, 65536)
+}
+
+// Half of the above: bench/plans times both.
+#[test]
+fn a_plan_of_half_the_size_is_played(rt: HostRuntime) -> Result<(), Fail> {
+    check_large_plan(&rt, 32768)
 }
