@@ -4,6 +4,7 @@ ghost use Rattle.std.specs.Prelude.{◌≡◌};
 ghost use Rattle.td_job.specs.Errors.{code_of, path_of, path_bytes, name_of, spelled};
 
 use std::alloc::AllocError;
+use std::fmt;
 use td_num::text::Text;
 use thiserror::Error;
 
@@ -35,32 +36,46 @@ pub enum Path {
     Unknown(Text),
 }
 
-/// Why a job is refused.
+impl fmt::Display for Path {
+    fn fmt<W: fmt::Write>(&self, f: &mut fmt::Formatter<W>) -> fmt::Result {
+        match self {
+            Path::Named(field) => write!(f, "{}", field.name()),
+            Path::Element { field, index } => write!(f, "{}[{index}]", field.name()),
+            Path::Unknown(name) => match str::from_utf8(name.as_slice()) {
+                Ok(name) => write!(f, "{name}"),
+                // A name in JSON is UTF-8, so this isn't met.
+                Err(_) => write!(f, "?"),
+            },
+        }
+    }
+}
+
+/// Why a job is refused. It prints as its error line does: a code and a path.
 #[derive(Debug, Drop, Error)]
 pub enum JobError {
     /// J1: the bytes are not JSON.
-    #[error("the job is not JSON")]
+    #[error("J1 job")]
     NotJson,
     /// J2: a needed field is missing or has another form, or a field has an unknown name.
-    #[error("a field is missing, has another form or an unknown name")]
+    #[error("J2 {0}")]
     Form(Path),
     /// J3: no entry point has the name.
-    #[error("no entry point has the name")]
+    #[error("J3 entry")]
     NoEntry,
     /// J4: a list is not as long as the entry point asks.
-    #[error("a list has another length than the entry point asks")]
+    #[error("J4 {0}")]
     Values(Path),
     /// J5: a text is not an even number of hexadecimal digits, or a store's is not 16.
-    #[error("a text has other hexadecimal digits than it must")]
+    #[error("J5 {0}")]
     Digits(Path),
     /// J6: a store's word is none of the message's.
-    #[error("a word is none of the message's")]
+    #[error("J6 {0}")]
     NoWord(Path),
     /// J7: the message is longer than the bytes given.
-    #[error("the message is longer than the bytes given")]
+    #[error("J7 {0}")]
     PastBytes(Path),
     /// J8: a limit is passed.
-    #[error("a limit is passed")]
+    #[error("J8 {0}")]
     Limit(Path),
     /// There was no memory to read the job.
     #[error("out of memory")]

@@ -48,7 +48,7 @@ fn job_line(alloc: Global, job: &RunJob) -> Result<String, AllocError> {
 }
 
 /// The code and the path.
-fn error_line(alloc: Global, error: &JobError) -> Result<String, Fail> {
+fn code_and_path(alloc: Global, error: &JobError) -> Result<String, Fail> {
     let code = str::from_utf8(error.code())?;
     let path = error.path();
     let name = str::from_utf8(path.name)?;
@@ -56,6 +56,16 @@ fn error_line(alloc: Global, error: &JobError) -> Result<String, Fail> {
         None => Ok(format!(in alloc; "{code} {name}")?),
         Some(index) => Ok(format!(in alloc; "{code} {name}[{index}]")?),
     }
+}
+
+/// The code and the path, where the error prints as these.
+fn error_line(alloc: Global, error: &JobError) -> Result<String, Fail> {
+    let line = code_and_path(alloc, error)?;
+    let printed = error.to_string(alloc)?;
+    if printed.as_str() == line.as_str() {
+        return Ok(line);
+    }
+    Ok(format!(in alloc; "{line}, but printed as {printed}")?)
 }
 
 pub(crate) fn answer(alloc: Global, job: &[u8]) -> Result<String, Fail> {
