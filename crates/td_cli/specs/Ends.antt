@@ -1,8 +1,8 @@
 -- How a call of the tool ends, told by what was left of its source and what was written to its two sinks before and
 -- after (own rule). Where such a list isn't told (`None`), nothing is claimed of it.
-use Rattle.std.specs.Prelude.{◌≡◌, ◌⊎◌, ℕ, ◌≤◌, List, [], length, Option, Some, None}
+use Rattle.std.specs.Prelude.{◌≡◌, ◌⊎◌, ℕ, ◌+◌, ◌≤◌, List, [], length, Option, Some, None}
 use Rattle.std.specs.Io.KnownBytes.{IsAtEnd}
-use Rattle.td_io.specs.Causes.{HasMore, ReadWhole}
+use Rattle.td_io.specs.Causes.{HasMore, ReadWhole, TookAtMost}
 use Rattle.td_cli.specs.declared.refusal.Refusal.{Refusal}
 use Rattle.td_cli.specs.declared.refusal.Refusal.TheVariants.{TooLong}
 use Rattle.td_cli.specs.Words.{IsRun}
@@ -12,6 +12,10 @@ use Rattle.td_cli.specs.Lines.{usage_line, read_line, memory_line, refusal_line}
 -- bytes: 4 MiB
 abbrev pub input_limit : ℕ
 input_limit = 4194304
+
+-- the source was read to its end, or at most 4,096 bytes past the limit were taken of it
+abbrev pub StopsReading : Option (List ℕ) → Option (List ℕ) → Type 0
+StopsReading left left' = IsAtEnd left' ⊎ TookAtMost left left' (input_limit + 4096)
 
 -- the source held this input, which is within the limit
 pub record IsInputOf (left : Option (List ℕ)) (input : List ℕ) : Type 0 where

@@ -8,7 +8,7 @@ ghost use Rattle.td_job.specs.declared.run_job.RunJob.{RunJob};
 ghost use Rattle.td_cli.specs.declared.refusal.Refusal.{Refusal};
 ghost use Rattle.td_cli.specs.Words.{IsRun};
 ghost use Rattle.td_cli.specs.Answers.{IsInput, IsReport, WritesReport, Refuses};
-ghost use Rattle.td_cli.specs.Ends.{IsInputOf, HasReport, HasRefusal, IsErrorLine, IsRunLine, IsReplyLine, input_limit};
+ghost use Rattle.td_cli.specs.Ends.{IsInputOf, StopsReading, HasReport, HasRefusal, IsErrorLine, IsRunLine, IsReplyLine, input_limit};
 ghost use Rattle.td_cli.specs.Lines.{usage_line, read_line, memory_line, refusal_line};
 
 use crate::given::{Given, Stop, read_input};
@@ -111,6 +111,7 @@ fn run<S: Source, O: Sink, E: Sink>(alloc: Global, src: &mut S, out: &mut O, err
     ensures not_usage { result ≢ Status.Usage }
     ensures complete { (input : List ℕ) (types : Module) (job : RunJob) → S.left src.old ≡ Some input → length input ≤ input_limit → IsInput input types job → result ≢ Status.Refused }
     ensures not_done { (input line : List ℕ) → S.left src.old ≡ Some input → HasRefusal (Some input) line → result ≢ Status.Done }
+    ensures taken { StopsReading (S.left src.old) (S.left src.new) }
 {
     match read_whole(alloc, src, INPUT_LIMIT) {
         Ok(input) => reply(alloc, &input, out, err),
@@ -127,7 +128,8 @@ fn run<S: Source, O: Sink, E: Sink>(alloc: Global, src: &mut S, out: &mut O, err
 /// answered here so far, so the answer is never none.
 ///
 /// The words are looked at first; then the source is read to its end, or until one byte past the limit was read; then the
-/// input is answered. See [`Status`] for what is written at each end.
+/// input is answered. A source that has more is taken from by at most 4,096 bytes past the limit, and never read again.
+/// See [`Status`] for what is written at each end.
 pub fn run_alone<S: Source, O: Sink, E: Sink>(
     alloc: Global,
     words: &[String],
@@ -145,6 +147,7 @@ pub fn run_alone<S: Source, O: Sink, E: Sink>(
     ensures no_command { (IsRun (map string_bytes words.now) → ⊥) → (result ≡ Some Status.Usage) ⊎ (result ≡ Some Status.WriteFault) }
     ensures complete { (input : List ℕ) (types : Module) (job : RunJob) → IsRun (map string_bytes words.now) → S.left src.old ≡ Some input → length input ≤ input_limit → IsInput input types job → (result ≢ Some Status.Usage) × (result ≢ Some Status.Refused) }
     ensures not_done { (input line : List ℕ) → IsRun (map string_bytes words.now) → S.left src.old ≡ Some input → HasRefusal (Some input) line → (result ≢ Some Status.Usage) × (result ≢ Some Status.Done) }
+    ensures taken { StopsReading (S.left src.old) (S.left src.new) }
 {
     if !is_run(words) {
         return Some(say(USAGE, Status::Usage, err));
@@ -171,6 +174,7 @@ pub fn run_tool<R: AllocGlobal, S: Source, O: Sink, E: Sink>(
     ensures no_command { (IsRun (map string_bytes words.now) → ⊥) → (result ≡ Status.Usage) ⊎ (result ≡ Status.WriteFault) }
     ensures complete { (input : List ℕ) (types : Module) (job : RunJob) → IsRun (map string_bytes words.now) → S.left src.old ≡ Some input → length input ≤ input_limit → IsInput input types job → (result ≢ Status.Usage) × (result ≢ Status.Refused) }
     ensures not_done { (input line : List ℕ) → IsRun (map string_bytes words.now) → S.left src.old ≡ Some input → HasRefusal (Some input) line → (result ≢ Status.Usage) × (result ≢ Status.Done) }
+    ensures taken { StopsReading (S.left src.old) (S.left src.new) }
 {
     match run_alone(rt.alloc(), words, src, out, err) {
         Some(status) => status,
