@@ -14,3 +14,5 @@ mod limits;
 mod module_lines;
 #[cfg(test)]
 mod reports;
+#[cfg(test)]
+mod stores;

@@ -70,14 +70,18 @@ const ROWS: &[Row] = &[
     },
 ];
 
-// The outcome of the validator over the job's words, and the loads that it made.
-fn direct(alloc: Global, types: &Module, job: &RunJob) -> Result<(Outcome, Loads), AllocError>
+// The outcome of the validator over the job's words and stores, and the loads that it made.
+pub(crate) fn direct(
+    alloc: Global,
+    types: &Module,
+    job: &RunJob,
+) -> Result<(Outcome, Loads), AllocError>
     requires few { length job.now.words < 100 }
     requires room { job.now.length ≤ 8 * length job.now.words }
 {
     let words = job.words.as_slice();
     let mut loads = Loads::with_room(alloc, words.len() as u32)?;
-    let mut planned = Planned::open(alloc, words, &[])?;
+    let mut planned = Planned::open(alloc, words, job.stores.as_slice())?;
     let mut trace = Trace::new(alloc);
     let verdict = validate_recorded(
         alloc,
