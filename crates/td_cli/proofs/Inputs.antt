@@ -1,5 +1,5 @@
 -- What the first marker of an input, and what is known of its two parts, say of the whole.
-use Rattle.std.proofs.Common.{◌≡◌, ◌⊎◌, inl, inr, ℕ, ◌<◌, List, subst, sym, ap, ◌∙◌, Result, Ok, Err}
+use Rattle.std.proofs.Common.{◌≡◌, ◌⊎◌, inl, inr, ℕ, List, subst, sym, ap, Result, Ok, Err}
 use Rattle.std.proofs.lemmas.Bool.{cases_order}
 use Rattle.td_core.specs.declared.module.Module.{Module}
 use Rattle.td_front.specs.declared.error.FrontError.{FrontError}
@@ -9,8 +9,6 @@ use Rattle.td_job.specs.declared.run_job.RunJob.{RunJob}
 use Rattle.td_job.specs.declared.error.JobError.{JobError}
 use Rattle.td_job.specs.declared.error.JobError.TheVariants as jobs
 use Rattle.td_job.specs.Jobs.{IsRunJob, RefusedJob}
-use Rattle.td_cli.specs.declared.given.Stop.{Stop}
-use Rattle.td_cli.specs.declared.given.Stop.TheVariants as stops
 use Rattle.td_cli.specs.declared.refusal.Refusal.{Refusal}
 use Rattle.td_cli.specs.declared.refusal.Refusal.TheVariants.{TooLong, NoJob, BadModule, BadJob}
 use Rattle.td_cli.specs.Input.{IsFirstMarker}

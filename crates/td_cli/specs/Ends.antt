@@ -1,6 +1,6 @@
 -- How a call of the tool ends, told by what was left of its source and what was written to its two sinks before and
 -- after (own rule). Where such a list isn't told (`None`), nothing is claimed of it.
-use Rattle.std.specs.Prelude.{◌≡◌, ◌⊎◌, ℕ, ◌+◌, ◌≤◌, List, [], length, Option, Some, None}
+use Rattle.std.specs.Prelude.{◌≡◌, ◌⊎◌, ℕ, ◌+◌, ◌≤◌, List, [], length, Option}
 use Rattle.std.specs.Io.KnownBytes.{IsAtEnd}
 use Rattle.td_io.specs.Causes.{HasMore, ReadWhole, TookAtMost}
 use Rattle.td_cli.specs.declared.refusal.Refusal.{Refusal}

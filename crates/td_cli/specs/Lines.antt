@@ -1,5 +1,5 @@
 -- The lines that go to the error stream (own rule).
-use Rattle.std.specs.Prelude.{ℕ, List, [], ◌++◌, codes, Option, Some, None}
+use Rattle.std.specs.Prelude.{ℕ, List, [], codes, Some, None}
 use Rattle.td_front.specs.declared.error.FrontError.{FrontError}
 use Rattle.td_front.specs.Lines.{place_of, code_of, words_of}
 use Rattle.td_job.specs.declared.error.JobError.{JobError}

@@ -1,4 +1,4 @@
-use Rattle.std.proofs.Common.{◌≡◌, ℕ, List, subst, sym, ◌∙◌, inl, inr, ◌⊎◌}
+use Rattle.std.proofs.Common.{◌≡◌, ℕ, List, subst, sym, ◌∙◌, ◌⊎◌}
 use Rattle.td_core.specs.declared.module.Module.{Module}
 use Rattle.td_front.specs.declared.error.FrontError.{FrontError}
 use Rattle.td_front.specs.declared.error.FrontError.TheVariants as front
