@@ -14,3 +14,9 @@ Stopped (stops.Deep rest) read = read ≡ Deep rest.now
 abbrev pub Gives : {X A : Type 0} → (X → Outcome A) → Result X Stop → Outcome A → Type 0
 Gives view (Ok x) read = read ≡ view x
 Gives view (Err stop) read = Stopped stop read
+
+-- it stopped at tokens, and not for want of memory: so it is with a function that takes none
+abbrev pub IsAtTokens : Stop → Type 0
+IsAtTokens stops.Memory = ⊥
+IsAtTokens (stops.At rest) = Unit {0}
+IsAtTokens (stops.Deep rest) = Unit {0}

@@ -1,9 +1,9 @@
 //! Productions of one token.
 
-ghost use Rattle.std.specs.Prelude.{◌≡◌};
+ghost use Rattle.std.specs.Prelude.{◌≡◌, IfErr};
 ghost use Rattle.td_grammar.specs.Productions as productions;
 ghost use Rattle.td_grammar.specs.Reading.{Got, comes};
-ghost use Rattle.td_parser.specs.Giving.{Gives};
+ghost use Rattle.td_parser.specs.Giving.{Gives, IsAtTokens};
 
 use crate::stop::Stop;
 use std::alloc::Global;
@@ -16,7 +16,8 @@ pub(crate) fn sign<'a>(
     tokens: &'a [Token],
     wanted: &TokenKind,
 ) -> Result<(Span, &'a [Token]), Stop<'a>>
-    ensures { Gives (λ x. Got x.0 x.1.now) result ((productions.sign wanted.now).reader.read tokens.now) }
+    ensures reading { Gives (λ x. Got x.0 x.1.now) result ((productions.sign wanted.now).reader.read tokens.now) }
+    ensures memory { IfErr result IsAtTokens }
 {
     match tokens {
         [first, rest @ ..] if first.kind.is_kind(wanted) => Ok((first.span, rest)),
@@ -55,7 +56,8 @@ pub(crate) fn name(alloc: Global, tokens: &[Token]) -> Result<(Name, &[Token]), 
 
 /// `NUM`
 pub(crate) fn literal(tokens: &[Token]) -> Result<(Literal, &[Token]), Stop<'_>>
-    ensures { Gives (λ x. Got x.0 x.1.now) result (productions.literal.reader.read tokens.now) }
+    ensures reading { Gives (λ x. Got x.0 x.1.now) result (productions.literal.reader.read tokens.now) }
+    ensures memory { IfErr result IsAtTokens }
 {
     match tokens {
         [
@@ -78,7 +80,8 @@ pub(crate) fn literal(tokens: &[Token]) -> Result<(Literal, &[Token]), Stop<'_>>
 
 /// `INT`
 pub(crate) fn number_type(tokens: &[Token]) -> Result<(TypeTree, &[Token]), Stop<'_>>
-    ensures { Gives (λ x. Got x.0 x.1.now) result (productions.number_type.reader.read tokens.now) }
+    ensures reading { Gives (λ x. Got x.0 x.1.now) result (productions.number_type.reader.read tokens.now) }
+    ensures memory { IfErr result IsAtTokens }
 {
     match tokens {
         [
@@ -130,7 +133,8 @@ fn relation_of(kind: &TokenKind) -> Option<Relation>
 
 /// `REL`
 pub(crate) fn relation(tokens: &[Token]) -> Result<(Relation, &[Token]), Stop<'_>>
-    ensures { Gives (λ x. Got x.0 x.1.now) result (productions.relation.reader.read tokens.now) }
+    ensures reading { Gives (λ x. Got x.0 x.1.now) result (productions.relation.reader.read tokens.now) }
+    ensures memory { IfErr result IsAtTokens }
 {
     let [first, rest @ ..] = tokens else {
         return Err(Stop::At(tokens));
