@@ -1,5 +1,5 @@
 -- The keys of a set, by their bytes.
-use Rattle.std.proofs.Common.{◌≡◌, ℕ, ◌+◌, Bool, true, false, cond, List, [], ◌∷◌, ◌++◌, Some, None, refl, ap, arith, ◌||◌, not, nat_lt, ◌≤◌}
+use Rattle.std.proofs.Common.{◌≡◌, ℕ, suc, length, ◌+◌, Bool, true, false, cond, List, [], ◌∷◌, ◌++◌, Some, None, refl, ap, arith, ◌||◌, not, nat_lt, ◌≤◌}
 use Rattle.std.proofs.lemmas.Bool.{ltb-false}
 use Rattle.std.specs.Str.{bytes_eq}
 use Rattle.std.specs.List.{list_any, position_or_len}
@@ -32,3 +32,8 @@ none_first p len e within = by (nat_lt p len) refl e
     by : (b : Bool) → nat_lt p len ≡ b → None ≡ cond b (Some p) None → len ≡ p
     by true h e = cc
     by false h e = let past : len ≤ p = ltb-false p len h in omega arith
+
+-- as many texts as keys
+pub texts-length : {A : Type 0} (ks : List (Vec ℕ A)) → length (texts ks) ≡ length ks
+texts-length [] = refl
+texts-length (k ∷ ks) = ap suc (texts-length ks)

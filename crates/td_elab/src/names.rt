@@ -1,6 +1,6 @@
 //! Names, numbered in the order in which they are seen first.
 
-ghost use Rattle.std.specs.Prelude.{◌≡◌, [], OnOk, IfOk};
+ghost use Rattle.std.specs.Prelude.{◌≡◌, [], OnOk, IfOk, nat_le, length};
 ghost use Rattle.td_elab.specs.Names.{with_name, is_seen, number_of};
 
 use indexmap::IndexSet;
@@ -36,6 +36,13 @@ impl Names {
         }
     }
 
+    // Whether all 2^32 - 1 numbers are given.
+    fn is_full(&self) -> bool
+        ensures { result ≡ nat_le 4294967295 (length self.now) }
+    {
+        self.set.len() >= u32::MAX as usize
+    }
+
     /// One more name, unless it was seen. `AllocError`: there was no memory for it, or all 2^32 - 1 numbers are given.
     pub fn see(&mut self, alloc: Global, name: &[u8]) -> Result<(), AllocError>
         ensures { OnOk result (self.new ≡ with_name self.old name.now) }
@@ -43,7 +50,7 @@ impl Names {
         if self.set.contains(name) {
             return Ok(());
         }
-        if self.set.len() >= u32::MAX as usize {
+        if self.is_full() {
             return Err(AllocError);
         }
         let key = Vec::from_slice(alloc, name)?;
