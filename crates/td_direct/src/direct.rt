@@ -1,6 +1,6 @@
 //! The validator.
 
-ghost use Rattle.std.specs.Prelude.{◌≡◌, ℕ, ◌*◌, ◌≤◌, List, [], IfOk, MatchOption, Some, None};
+ghost use Rattle.std.specs.Prelude.{◌≡◌, ℕ, ◌*◌, ◌≤◌, List, [], IfOk, OnErr, MatchOption, Some, None};
 ghost use Rattle.td_stream.specs.Loads.{Carries, Inside, IsRising};
 ghost use Rattle.td_core.specs.Entries as entries;
 ghost use Rattle.td_meaning.specs.Meaning.{meaning};
@@ -35,7 +35,7 @@ fn entry_definition(types: &Module, entry: Entry) -> Option<&TypeDef>
 /// Validates the message of `length` bytes in `words`, from an entry point of a module on. The arguments and the cells are
 /// the entry's. The trace is emptied first; afterwards it has the frames of the failure, the innermost first. An entry
 /// point that the module doesn't have rejects as `Impossible`, without a load. `AllocError`: there was no memory for the
-/// values in scope or for a frame; cells and trace are then free.
+/// values in scope or for a frame; the cells are then as before, and the trace is free.
 pub fn validate_direct<W: Words>(
     alloc: Global,
     types: &Module,
@@ -51,6 +51,7 @@ pub fn validate_direct<W: Words>(
     ensures goes { W.goes words.old words.new }
     ensures rising { IsRising (W.loads words.new) }
     ensures inside { Inside length (W.loads words.new) }
+    ensures refused { OnErr result (cells.new ≡ cells.old) }
     // on whatever message these words were loaded from, the outcome is the module's
     ensures told { IfOk result (λ v. (b : List ℕ) → Carries length b (W.loads words.new)
         → IsTold (W.loads words.new) (meaning types.now entry args.now cells.old b)

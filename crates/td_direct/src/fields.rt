@@ -80,6 +80,8 @@ fn validate_field<W: Words>(
     ensures whole { IsStream W.loads W.size stream.new }
     ensures end { end_of stream.new ≡ end_of stream.old }
     ensures at { IfOk result (λ v. IsAt v (position stream.new) trace.new) }
+    // nothing writes a cell yet
+    ensures same_cells { cells.new ≡ cells.old }
     // what is left of the struct decides the whole of it
     ensures told { IfOk result (λ v. (b : List ℕ) → Carries (length_of stream.old) b (loads_of W.loads stream.new)
         → Onto W.loads stream.old stream.new
@@ -122,6 +124,7 @@ pub fn validate_fields<W: Words>(
     ensures later { Later W.loads W.goes stream.old stream.new }
     ensures whole { IsStream W.loads W.size stream.new }
     ensures at { IfOk result (λ v. IsAt v (position stream.new) trace.new) }
+    ensures same_cells { cells.new ≡ cells.old }
     ensures told { IfOk result (λ v. (b : List ℕ) → Carries (length_of stream.old) b (loads_of W.loads stream.new)
         → Onto W.loads stream.old stream.new
         (fields_meaning ty fields.now env.old.items b (end_of stream.old) (position stream.old) cells.old)

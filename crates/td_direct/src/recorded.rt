@@ -1,6 +1,6 @@
 //! A validation whose loads are kept in a list.
 
-ghost use Rattle.std.specs.Prelude.{◌≡◌, ℕ, ◌*◌, ◌≤◌, List, [], IfOk};
+ghost use Rattle.std.specs.Prelude.{◌≡◌, ℕ, ◌*◌, ◌≤◌, List, [], IfOk, OnErr};
 ghost use Rattle.td_stream.specs.Loads.{Carries, Inside, IsRising};
 ghost use Rattle.td_meaning.specs.Meaning.{meaning};
 ghost use Rattle.td_direct.specs.Telling.{IsTold};
@@ -33,6 +33,7 @@ pub fn validate_recorded<W: Words>(
     ensures loads { W.loads words.new ≡ loads.new.list }
     ensures rising { IsRising loads.new.list }
     ensures inside { Inside length loads.new.list }
+    ensures refused { OnErr result (cells.new ≡ cells.old) }
     // on whatever message these words were loaded from, the outcome is the module's
     ensures told { IfOk result (λ v. (b : List ℕ) → Carries length b loads.new.list
         → IsTold loads.new.list (meaning types.now entry args.now cells.old b)

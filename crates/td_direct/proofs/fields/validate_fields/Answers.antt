@@ -48,6 +48,7 @@ fields-preserved g c =
       whole = c.validate_field.ensures.whole;
       end = c.validate_field.ensures.end ∙ i.end;
       quiet = at.1;
+      same_cells = c.validate_field.ensures.same_cells ∙ i.same_cells;
       told = λ b h.
           let both = carried s0 s t b i.later l h in
           let whole = fields_meaning c.args.ty fields c.args.env.now.items b s0.end s0.pos c.args.cells.now in
