@@ -1,13 +1,13 @@
 #!/usr/bin/env bash
-# Runs the proved program with these words and this input. Where it isn't built yet, or a source is newer than it, the
-# program is proved and built first; that is said on standard error, and takes minutes the first time.
+# Runs the proved program with these words and this input. Where it isn't built yet, or a source of a crate that it stands on
+# (all but td_rows) is newer, it is proved and built first; that is said on standard error, and takes minutes the first time.
 set -u
 top=$(cd "$(dirname "$0")" && pwd)
 program=$top/crates/td/out/td
 
 is_stale() {
     [ -x "$program" ] || return 0
-    [ -n "$(find "$top/crates" "$top/crates.txt" -name out -prune -o \
+    [ -n "$(find "$top/crates" "$top/crates.txt" \( -name out -o -name td_rows \) -prune -o \
         -type f \( -name '*.rt' -o -name '*.antt' -o -name crates.txt \) -newer "$program" -print -quit)" ]
 }
 
