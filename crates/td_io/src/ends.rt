@@ -18,7 +18,7 @@ pub trait Source {
     /// The bytes that are left to be read, where the source tells them.
     ghost left: { Self → Option (List ℕ) };
 
-    /// How many reads failed so far. The count never falls, and stands still at 2^64 - 1.
+    /// How many reads failed so far. It rises in a read that fails, up to 2^64 - 1, and stands still in each other.
     ghost faults: { Self → ℕ };
 
     /// Reads bytes to the front of a buffer, and says how many. None, where the buffer isn't empty, are the end.
@@ -35,7 +35,7 @@ pub trait Sink {
     /// The bytes that were written, where the sink tells them.
     ghost written: { Self → Option (List ℕ) };
 
-    /// How many writes failed so far. The count never falls, and stands still at 2^64 - 1.
+    /// How many writes failed so far. It rises in a write that fails, up to 2^64 - 1, and stands still in each other.
     ghost faults: { Self → ℕ };
 
     /// Writes bytes from the front of a piece, and says how many: at least one, where the piece isn't empty.

@@ -28,13 +28,15 @@ pub enum ReadStop {
 /// Reads a source to its end, at most `limit` bytes. It stops as soon as one byte past the limit was read, so it also
 /// ends over a source that never does, and takes at most 4,096 bytes more than the limit.
 ///
-/// `Fault`: a read failed. `TooLong`: the source has more bytes than the limit.
+/// `Fault`: a read failed; at each other end the source's count of faults is as before. `TooLong`: the source has more
+/// bytes than the limit.
 pub fn read_whole<S: Source>(alloc: Global, src: &mut S, limit: usize) -> Result<Vec<u8>, ReadStop>
     ensures whole { IfOk result (λ bytes. ReadWhole (S.left src.old) bytes.items) }
     ensures end { OnOk result (IsAtEnd (S.left src.new)) }
     ensures short { IfOk result (λ bytes. length bytes.items ≤ limit) }
     ensures long { IsErrOf result ReadStop.TooLong → HasMore (S.left src.old) limit }
     ensures fault { IsErrOf result ReadStop.Fault → Rose (S.faults src.old) (S.faults src.new) }
+    ensures quiet { (IsErrOf result ReadStop.Fault → ⊥) → S.faults src.new ≡ S.faults src.old }
     ensures later { S.faults src.old ≤ S.faults src.new }
     ensures taken { OnErr result (TookAtMost (S.left src.old) (S.left src.new) (limit + 4096)) }
 {

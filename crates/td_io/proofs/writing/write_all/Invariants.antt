@@ -1,4 +1,4 @@
-use Rattle.std.proofs.Common.{◌-◌, ◌≤◌, length, take}
+use Rattle.std.proofs.Common.{◌≡◌, ◌-◌, ◌≤◌, length, take}
 use Rattle.std.specs.Io.KnownBytes.{Appends}
 use Rattle.td_io.proofs.writing.write_all.Given as goal
 
@@ -6,7 +6,7 @@ abbrev pub invariant-loop-done : goal.invariant-loop-done
 invariant-loop-done g l = record {
   within : l.done ≤ length l.text;
   written : Appends (g.O.Sink.written l.fn.out) (g.O.Sink.written l.out) (take l.done l.text);
-  later : g.O.Sink.faults l.fn.out ≤ g.O.Sink.faults l.out;
+  quiet : g.O.Sink.faults l.out ≡ g.O.Sink.faults l.fn.out;
 }
 
 abbrev pub decreases-loop-done : goal.decreases-loop-done
