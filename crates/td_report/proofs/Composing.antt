@@ -31,12 +31,12 @@ pub writes_both : {T U E F : Type 0} {a b c : Option (List ℕ)} {x y z : ℕ} {
 writes_both {a = a} {b = b} {c = c} {x = x} {y = y} {z = z} {first = first} {second = second} {u = u} {r = Ok v} p q = record {
   written = appends_both a b c first second p.written q.written;
   prefix = tt;
-  cause = record { later = omega (arith, p.cause.later, q.cause.later); failed = tt };
+  cause = record { later = omega (arith, p.cause.later, q.cause.later); worked = q.cause.worked ∙ p.cause.worked; failed = tt };
 }
 writes_both {a = a} {b = b} {c = c} {x = x} {y = y} {z = z} {first = first} {second = second} {u = u} {r = Err e} p q = record {
   written = tt;
   prefix = starts_later a b c first second p.written q.prefix;
-  cause = record { later = omega (arith, p.cause.later, q.cause.later); failed = (omega (arith, p.cause.later, q.cause.failed.0), q.cause.failed.1) };
+  cause = record { later = omega (arith, p.cause.later, q.cause.later); worked = tt; failed = (omega (arith, p.cause.worked, q.cause.failed.0), q.cause.failed.1) };
 }
 
 -- a text wasn't written, so the one behind it wasn't either
@@ -45,7 +45,7 @@ writes_stopped second (Ok v) wrong p = absurd (cc wrong)
 writes_stopped {a = a} {b = b} {first = first} second (Err f) wrong p = record {
   written = tt;
   prefix = starts_longer a b first second p.prefix;
-  cause = record { later = p.cause.later; failed = p.cause.failed };
+  cause = record { later = p.cause.later; worked = tt; failed = p.cause.failed };
 }
 
 -- the same of an equal text

@@ -2,7 +2,6 @@
 
 ghost use Rattle.std.specs.Prelude.{◌≡◌, OnOk, OnErr, flat_map, codes, decimal};
 ghost use Rattle.std.specs.Io.KnownBytes.{Appends};
-ghost use Rattle.td_core.specs.Entries.{name_bytes};
 ghost use Rattle.td_io.specs.Causes.{HasCause, StartsWritten};
 ghost use Rattle.td_report.specs.Report.{report, reason_word, spot_word, verdict_line, frame_line, frame_lines, load_line};
 ghost use Rattle.td_report.specs.Writing.{Writes};
@@ -10,27 +9,19 @@ ghost use Rattle.td_report.specs.Writing.{Writes};
 use crate::hexadecimal::digits_of;
 use crate::pieces::write_pieces;
 use itoa::Buffer;
-use td_core::module::{Entry, Module, NameId};
+use td_core::entries::name_bytes;
+use td_core::module::{Entry, Module};
 use td_core::outcome::{Outcome, Reason, Spot, TraceFrame, Verdict};
 use td_io::ends::Sink;
 use td_io::writing::WriteFault;
 use td_stream::load::Load;
 use td_stream::loads::Loads;
 
-fn name_of(types: &Module, name: NameId) -> &[u8]
-    ensures { result.now ≡ name_bytes types.now name }
-{
-    match types.names.as_slice().get(name.number as usize) {
-        Some(bytes) => bytes.as_slice(),
-        None => b"",
-    }
-}
-
 fn spot_of(types: &Module, spot: Spot) -> &[u8]
     ensures { result.now ≡ spot_word types.now spot }
 {
     match spot {
-        Spot::Field(name) => name_of(types, name),
+        Spot::Field(name) => name_bytes(types, name),
         Spot::Where => b"where",
         Spot::Switch => b"switch",
     }
@@ -83,7 +74,7 @@ fn write_frame<O: Sink>(out: &mut O, types: &Module, frame: TraceFrame) -> Resul
         out,
         &[
             b"frame ",
-            name_of(types, frame.ty),
+            name_bytes(types, frame.ty),
             b".",
             spot_of(types, frame.field),
             b" ",
