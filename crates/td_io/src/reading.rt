@@ -1,8 +1,9 @@
 //! Reading all of a source, up to a limit.
 
-ghost use Rattle.std.specs.Prelude.{◌≡◌, ◌≤◌, ◌+◌, length, IfOk, OnOk, OnErr, IsErrOf};
+ghost use Rattle.std.specs.Prelude.{◌≤◌, ◌+◌, length, IfOk, OnOk, OnErr, IsErrOf};
 ghost use Rattle.std.specs.Io.KnownBytes.{IsAtEnd};
-ghost use Rattle.td_io.specs.Causes.{HasMore, ReadWhole, Rose, TookAtMost};
+ghost use Rattle.td_io.specs.Causes.{HasMore, ReadWhole, TookAtMost};
+ghost use Rattle.td_io.specs.States.{ReadFails, NoReadFails};
 
 use crate::ends::Source;
 use std::alloc::Global;
@@ -31,14 +32,13 @@ pub enum ReadStop {
 /// `Fault`: a read failed; at each other end the source's count of faults is as before. `TooLong`: the source has more
 /// bytes than the limit.
 pub fn read_whole<S: Source>(alloc: Global, src: &mut S, limit: usize) -> Result<Vec<u8>, ReadStop>
-    ensures whole { IfOk result (λ bytes. ReadWhole (S.left src.old) bytes.items) }
-    ensures end { OnOk result (IsAtEnd (S.left src.new)) }
+    ensures whole { IfOk result (λ bytes. ReadWhole (S.state src.old).left bytes.items) }
+    ensures end { OnOk result (IsAtEnd (S.state src.new).left) }
     ensures short { IfOk result (λ bytes. length bytes.items ≤ limit) }
-    ensures long { IsErrOf result ReadStop.TooLong → HasMore (S.left src.old) limit }
-    ensures fault { IsErrOf result ReadStop.Fault → Rose (S.faults src.old) (S.faults src.new) }
-    ensures quiet { (IsErrOf result ReadStop.Fault → ⊥) → S.faults src.new ≡ S.faults src.old }
-    ensures later { S.faults src.old ≤ S.faults src.new }
-    ensures taken { OnErr result (TookAtMost (S.left src.old) (S.left src.new) (limit + 4096)) }
+    ensures long { IsErrOf result ReadStop.TooLong → HasMore (S.state src.old).left limit }
+    ensures fault { IsErrOf result ReadStop.Fault → ReadFails (S.state src.old) (S.state src.new) }
+    ensures quiet { (IsErrOf result ReadStop.Fault → ⊥) → NoReadFails (S.state src.old) (S.state src.new) }
+    ensures taken { OnErr result (TookAtMost (S.state src.old).left (S.state src.new).left (limit + 4096)) }
 {
     let mut bytes = Vec::new(alloc);
     let mut piece = [0u8; PIECE];

@@ -31,9 +31,7 @@ impl<R: Read> StreamSource<R> {
 }
 
 impl<R: Read> Source for StreamSource<R> {
-    ghost left = { λ _. None };
-
-    ghost faults = { λ s. s };
+    ghost state = { λ s. record { left = None; faults = s } };
 
     /// Reads once. Each error of the reader is a fault.
     fn read(&mut self, buf: &mut [u8]) -> Result<usize, Failed> {
@@ -70,9 +68,7 @@ impl<W: Write> StreamSink<W> {
 }
 
 impl<W: Write> Sink for StreamSink<W> {
-    ghost written = { λ _. None };
-
-    ghost faults = { λ s. s };
+    ghost state = { λ s. record { written = None; faults = s } };
 
     /// Writes once. Each error of the writer is a fault, and so is a write that takes nothing of a piece that isn't
     /// empty.
