@@ -1,6 +1,6 @@
 use Rattle.std.proofs.Common.{◌≡◌, List, ℕ, Option, Some, None, inr, subst, refl}
 use Rattle.std.specs.Io.KnownBytes.{Keeps}
-use Rattle.td_io.specs.Causes.{StartsWritten}
+use Rattle.td_io.specs.States.{SinkState, Stays, WriteFails}
 use Rattle.td_cli.specs.declared.given.Stop.TheVariants as stops
 use Rattle.td_cli.specs.declared.refusal.Refusal.{Refusal}
 use Rattle.td_cli.specs.Answers.{Refuses}
@@ -11,6 +11,9 @@ use Rattle.td_cli.proofs.tool.reply.Goals as goal
 keeps_same : (written : Option (List ℕ)) → Keeps written written
 keeps_same None = tt
 keeps_same (Some bytes) = refl
+
+stays_same : (state : SinkState) → Stays state state
+stays_same state = record { written = keeps_same state.written; faults = refl }
 
 pub returns-in-Ok-refuse-clause-complete : goal.returns-in-Ok-refuse-clause-complete
 returns-in-Ok-refuse-clause-complete g c =
@@ -24,6 +27,6 @@ returns-clause-fault g c =
     λ same.
     let refusal : Refusal = c.in-Err-Refused.refusal in
     let refuses : Refuses c.args.input.now refusal = rw c.in-Err-Refused.field-0-is at c.in-Err-Refused.ensures.cause in
-    let P : Refusal → Type 0 = λ r. StartsWritten (g.E.Sink.written c.args.err.now) (g.E.Sink.written c.refuse.new.err) (refusal_line c.args.input.now r) in
-    let front : P refusal = subst P c.in-Err-Refused.refusal-is c.in-Err.ensures.prefix in
-    inr (c.in-Err.ensures.cause.failed, (refusal_line c.args.input.now refusal, inr (refusal, refuses, refl), front), keeps_same (g.O.Sink.written c.args.out.now))
+    let P : Refusal → Type 0 = λ r. WriteFails (g.E.Sink.state c.args.err.now) (g.E.Sink.state c.refuse.new.err) (refusal_line c.args.input.now r) in
+    let front : P refusal = subst P c.in-Err-Refused.refusal-is c.in-Err.ensures.failed in
+    inr ((refusal_line c.args.input.now refusal, inr (refusal, refuses, refl), front), stays_same (g.O.Sink.state c.args.out.now))
