@@ -171,9 +171,9 @@ pub fn run_alone<S: Source, O: Sink, E: Sink>(
         × Takes (E.state err.old) (E.state err.new) read_line × Stays (O.state out.old) (O.state out.new) }
     ensures memory { result ≡ Some Status.NoMemory → IsRun words.now × NoReadFails (S.state src.old) (S.state src.new)
         × Takes (E.state err.old) (E.state err.new) memory_line × Stays (O.state out.old) (O.state out.new) }
+    // A write of `out` failed, in a report; or one of `err`, in a line.
     ensures fault { result ≡ Some Status.WriteFault →
-        (IsRun words.now
-        × SomeReport (S.state src.old) (S.state src.new) (WriteFails (O.state out.old) (O.state out.new))
+        (IsRun words.now × SomeReport (S.state src.old) (S.state src.new) (WriteFails (O.state out.old) (O.state out.new))
         × Stays (E.state err.old) (E.state err.new))
         ⊎ (SomeErrorLine words.now (S.state src.old) (S.state src.new) (WriteFails (E.state err.old) (E.state err.new))
         × Stays (O.state out.old) (O.state out.new)) }
@@ -213,9 +213,9 @@ pub fn run_tool<R: AllocGlobal, S: Source, O: Sink, E: Sink>(
         × Takes (E.state err.old) (E.state err.new) read_line × Stays (O.state out.old) (O.state out.new) }
     ensures memory { result ≡ Status.NoMemory → IsRun words.now × NoReadFails (S.state src.old) (S.state src.new)
         × Takes (E.state err.old) (E.state err.new) memory_line × Stays (O.state out.old) (O.state out.new) }
+    // A write of `out` failed, in a report; or one of `err`, in a line.
     ensures fault { result ≡ Status.WriteFault →
-        (IsRun words.now
-        × SomeReport (S.state src.old) (S.state src.new) (WriteFails (O.state out.old) (O.state out.new))
+        (IsRun words.now × SomeReport (S.state src.old) (S.state src.new) (WriteFails (O.state out.old) (O.state out.new))
         × Stays (E.state err.old) (E.state err.new))
         ⊎ (SomeErrorLine words.now (S.state src.old) (S.state src.new) (WriteFails (E.state err.old) (E.state err.new))
         × Stays (O.state out.old) (O.state out.new)) }
