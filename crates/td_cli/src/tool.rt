@@ -6,6 +6,7 @@ ghost use Rattle.td_core.specs.declared.module.Module.{Module};
 ghost use Rattle.td_job.specs.declared.run_job.RunJob.{RunJob};
 ghost use Rattle.td_cli.specs.declared.refusal.Refusal.{Refusal};
 ghost use Rattle.td_cli.specs.Words.{IsRun};
+ghost use Rattle.td_cli.specs.Stops.{stop_status, stop_line, unread_status, unread_line};
 ghost use Rattle.td_cli.specs.Answers.{IsInput, IsReport, WritesReport, Refuses};
 ghost use Rattle.td_cli.specs.Ends.{StopsReading, SomeReport, SomeRefusal, SomeErrorLine, IsRunLine, IsReplyLine, HasGoodInput, HasBadInput, input_limit};
 ghost use Rattle.td_cli.specs.Lines.{usage_line, read_line, memory_line, refusal_line};
@@ -58,6 +59,40 @@ pub fn without_memory<E: Sink>(err: &mut E) -> Status
     say(MEMORY, Status::NoMemory, err)
 }
 
+// Writes the line that refuses an input.
+fn tell_refusal<E: Sink>(input: &[u8], refusal: &Refusal, err: &mut E) -> Status
+    ensures said { result ≢ Status.WriteFault → (result ≡ Status.Refused) × Takes (E.state err.old) (E.state err.new) (refusal_line input.now refusal.now) }
+    ensures fault { result ≡ Status.WriteFault → WriteFails (E.state err.old) (E.state err.new) (refusal_line input.now refusal.now) }
+{
+    match refuse(input, refusal, err) {
+        Ok(()) => Status::Refused,
+        Err(_) => Status::WriteFault,
+    }
+}
+
+// Ends a call whose source wasn't read to its end. Takes no memory, so what stopped the reading is told exactly.
+fn tell_unread<E: Sink>(stop: ReadStop, err: &mut E) -> Status
+    ensures said { result ≢ Status.WriteFault → (result ≡ unread_status stop) × Takes (E.state err.old) (E.state err.new) (unread_line stop) }
+    ensures fault { result ≡ Status.WriteFault → WriteFails (E.state err.old) (E.state err.new) (unread_line stop) }
+{
+    match stop {
+        ReadStop::Fault => say(READ, Status::ReadFault, err),
+        ReadStop::TooLong => tell_refusal(&[], &Refusal::TooLong, err),
+        ReadStop::NoMemory => without_memory(err),
+    }
+}
+
+// Ends a call whose input isn't run. Takes no memory, so what stopped it is told exactly.
+fn tell_stop<E: Sink>(input: &[u8], stop: &Stop, err: &mut E) -> Status
+    ensures said { result ≢ Status.WriteFault → (result ≡ stop_status stop.now) × Takes (E.state err.old) (E.state err.new) (stop_line input.now stop.now) }
+    ensures fault { result ≡ Status.WriteFault → WriteFails (E.state err.old) (E.state err.new) (stop_line input.now stop.now) }
+{
+    match stop {
+        Stop::Refused(refusal) => tell_refusal(input, refusal, err),
+        Stop::NoMemory => without_memory(err),
+    }
+}
+
 // Runs the job of an input, and writes its report.
 fn report<O: Sink>(alloc: Global, given: &Given, out: &mut O) -> Result<(), ReportStop>
     requires many { length given.now.job.words < 2 ^ 32 }
@@ -100,11 +135,7 @@ fn reply<O: Sink, E: Sink>(alloc: Global, input: &[u8], out: &mut O, err: &mut E
             Err(ReportStop::Fault) => Status::WriteFault,
             Err(ReportStop::NoMemory) => without_memory(err),
         },
-        Err(Stop::NoMemory) => without_memory(err),
-        Err(Stop::Refused(refusal)) => match refuse(input, &refusal, err) {
-            Ok(()) => Status::Refused,
-            Err(_) => Status::WriteFault,
-        },
+        Err(stop) => tell_stop(input, &stop, err),
     }
 }
 
@@ -130,12 +161,7 @@ fn run<S: Source, O: Sink, E: Sink>(alloc: Global, src: &mut S, out: &mut O, err
 {
     match read_whole(alloc, src, INPUT_LIMIT) {
         Ok(input) => reply(alloc, &input, out, err),
-        Err(ReadStop::Fault) => say(READ, Status::ReadFault, err),
-        Err(ReadStop::NoMemory) => without_memory(err),
-        Err(ReadStop::TooLong) => match refuse(&[], &Refusal::TooLong, err) {
-            Ok(()) => Status::Refused,
-            Err(_) => Status::WriteFault,
-        },
+        Err(stop) => tell_unread(stop, err),
     }
 }
 
