@@ -51,6 +51,12 @@ report_of_run input types job P given written = (
   written.3,
 )
 
+pub returns-in-Ok-report-clause-done : goal.returns-in-Ok-report-clause-done
+returns-in-Ok-report-clause-done g c =
+    λ same.
+    let P : List ℕ → Type 0 = λ text. Takes (g.O.Sink.state c.args.out.now) (g.O.Sink.state c.report.new.out) text in
+    (report_of_run c.args.input.now c.in-Ok.given.types c.in-Ok.given.job P c.in-Ok.ensures.input c.in-Ok-report.ensures.written, stays_same (g.E.Sink.state c.args.err.now))
+
 pub returns-in-Err-Fault-clause-fault : goal.returns-in-Err-Fault-clause-fault
 returns-in-Err-Fault-clause-fault g c =
     λ same.

@@ -1,6 +1,9 @@
 use Rattle.std.proofs.Common.{ap, Some}
 use Rattle.td_cli.proofs.tool.run_tool.Goals as goal
 
+pub returns-clause-refused : goal.returns-clause-refused
+returns-clause-refused g c = λ same. c.in-Some.ensures.refused (ap Some same)
+
 pub returns-clause-fault : goal.returns-clause-fault
 returns-clause-fault g c = λ same. c.in-Some.ensures.fault (ap Some same)
 
