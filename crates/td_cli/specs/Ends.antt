@@ -17,9 +17,13 @@ use Rattle.td_cli.specs.Lines.{usage_line, read_line, memory_line, refusal_line}
 abbrev pub input_limit : ℕ
 input_limit = 4194304
 
--- the source was read to its end, or at most 4,096 bytes past the limit were taken of it
+-- no more bytes were taken of the source than an input may have
+abbrev pub WithinLimit : SourceState → SourceState → Type 0
+WithinLimit old new = TookAtMost old.left new.left input_limit
+
+-- at most 4,096 more were
 abbrev pub StopsReading : SourceState → SourceState → Type 0
-StopsReading old new = IsAtEnd new.left ⊎ TookAtMost old.left new.left (input_limit + 4096)
+StopsReading old new = TookAtMost old.left new.left (input_limit + 4096)
 
 -- the source held this input, which is within the limit
 pub record IsInputOf (source : SourceState) (input : List ℕ) : Type 0 where
@@ -40,12 +44,12 @@ HasRefusal source line =
     (HasMore source.left input_limit × (line ≡ refusal_line [] TooLong))
     ⊎ ((input : List ℕ) × (refusal : Refusal) × IsInputOf source input × Refuses input refusal × (line ≡ refusal_line input refusal))
 
--- the line answers a run in place of a report: a read failed; or none did, and there was no memory, or what the source
--- held is refused
+-- the line answers a run in place of a report: a read failed; or none did, and there was no memory before the limit was
+-- passed, or what the source held is refused
 abbrev pub IsRunLine : SourceState → SourceState → List ℕ → Type 0
 IsRunLine old new line =
     (ReadFails old new × (line ≡ read_line))
-    ⊎ ((NoReadFails old new × (line ≡ memory_line)) ⊎ (NoReadFails old new × HasRefusal old line))
+    ⊎ ((NoReadFails old new × WithinLimit old new × (line ≡ memory_line)) ⊎ (NoReadFails old new × HasRefusal old line))
 
 -- the line answers an input that was read: there was no memory, or the input is refused
 abbrev pub IsReplyLine : List ℕ → List ℕ → Type 0

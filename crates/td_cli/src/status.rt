@@ -17,7 +17,8 @@ pub enum Status {
     /// 4: a write of `out` or of `err` failed; a front of what was to be written went there, and to the other nothing. The
     /// source failed too where that was `error read`.
     WriteFault,
-    /// 5: there was no memory; `error memory` went to `err`, nothing to `out`.
+    /// 5: there was no memory, and no more than the limit was taken of the source; `error memory` went to `err`, nothing to
+    /// `out`.
     NoMemory,
 }
 

@@ -8,7 +8,7 @@ ghost use Rattle.td_cli.specs.declared.refusal.Refusal.{Refusal};
 ghost use Rattle.td_cli.specs.Words.{IsRun};
 ghost use Rattle.td_cli.specs.Stops.{stop_status, stop_line, unread_status, unread_line};
 ghost use Rattle.td_cli.specs.Answers.{IsInput, IsReport, WritesReport, Refuses};
-ghost use Rattle.td_cli.specs.Ends.{StopsReading, SomeReport, SomeRefusal, SomeErrorLine, IsRunLine, IsReplyLine, HasGoodInput, HasBadInput, input_limit};
+ghost use Rattle.td_cli.specs.Ends.{WithinLimit, StopsReading, SomeReport, SomeRefusal, SomeErrorLine, IsRunLine, IsReplyLine, HasGoodInput, HasBadInput, input_limit};
 ghost use Rattle.td_cli.specs.Lines.{usage_line, read_line, memory_line, refusal_line};
 
 use crate::given::{Given, Stop, read_input};
@@ -148,6 +148,7 @@ fn run<S: Source, O: Sink, E: Sink>(alloc: Global, src: &mut S, out: &mut O, err
     ensures read { result ≡ Status.ReadFault → ReadFails (S.state src.old) (S.state src.new)
         × Takes (E.state err.old) (E.state err.new) read_line × Stays (O.state out.old) (O.state out.new) }
     ensures memory { result ≡ Status.NoMemory → NoReadFails (S.state src.old) (S.state src.new)
+        × WithinLimit (S.state src.old) (S.state src.new)
         × Takes (E.state err.old) (E.state err.new) memory_line × Stays (O.state out.old) (O.state out.new) }
     ensures fault { result ≡ Status.WriteFault →
         (SomeReport (S.state src.old) (S.state src.new) (WriteFails (O.state out.old) (O.state out.new))
@@ -195,7 +196,8 @@ pub fn run_alone<S: Source, O: Sink, E: Sink>(
         × Takes (E.state err.old) (E.state err.new) usage_line × Stays (O.state out.old) (O.state out.new) }
     ensures read { result ≡ Some Status.ReadFault → IsRun words.now × ReadFails (S.state src.old) (S.state src.new)
         × Takes (E.state err.old) (E.state err.new) read_line × Stays (O.state out.old) (O.state out.new) }
-    ensures memory { result ≡ Some Status.NoMemory → IsRun words.now × NoReadFails (S.state src.old) (S.state src.new)
+    ensures memory { result ≡ Some Status.NoMemory → IsRun words.now
+        × NoReadFails (S.state src.old) (S.state src.new) × WithinLimit (S.state src.old) (S.state src.new)
         × Takes (E.state err.old) (E.state err.new) memory_line × Stays (O.state out.old) (O.state out.new) }
     // A write of `out` failed, in a report; or one of `err`, in a line.
     ensures fault { result ≡ Some Status.WriteFault →
@@ -237,7 +239,8 @@ pub fn run_tool<R: AllocGlobal, S: Source, O: Sink, E: Sink>(
         × Takes (E.state err.old) (E.state err.new) usage_line × Stays (O.state out.old) (O.state out.new) }
     ensures read { result ≡ Status.ReadFault → IsRun words.now × ReadFails (S.state src.old) (S.state src.new)
         × Takes (E.state err.old) (E.state err.new) read_line × Stays (O.state out.old) (O.state out.new) }
-    ensures memory { result ≡ Status.NoMemory → IsRun words.now × NoReadFails (S.state src.old) (S.state src.new)
+    ensures memory { result ≡ Status.NoMemory → IsRun words.now
+        × NoReadFails (S.state src.old) (S.state src.new) × WithinLimit (S.state src.old) (S.state src.new)
         × Takes (E.state err.old) (E.state err.new) memory_line × Stays (O.state out.old) (O.state out.new) }
     // A write of `out` failed, in a report; or one of `err`, in a line.
     ensures fault { result ≡ Status.WriteFault →
