@@ -1,10 +1,11 @@
 //! The module and the job of an input, or why it has none.
 
-ghost use Rattle.std.specs.Prelude.{◌≡◌, ◌<◌, ◌≤◌, ◌^◌, ◌-◌, ◌*◌, length, IfOk, IfErr, IsErr};
+ghost use Rattle.std.specs.Prelude.{◌≡◌, ◌<◌, ◌≤◌, ◌^◌, ◌-◌, ◌*◌, ℕ, length, IfOk, IfErr, IsErr, IsErrOf};
 ghost use Rattle.td_core.specs.declared.module.Module.{Module};
 ghost use Rattle.td_job.specs.declared.run_job.RunJob.{RunJob};
 ghost use Rattle.td_cli.specs.declared.refusal.Refusal.{Refusal};
 ghost use Rattle.td_cli.specs.Answers.{IsInput, Refuses};
+ghost use Rattle.td_cli.specs.Input.{IsMarker};
 ghost use Rattle.td_cli.specs.Stops as stops;
 ghost use Rattle.td_cli.specs.Stops.{IsStop};
 
@@ -52,7 +53,7 @@ fn job_stop(error: JobError) -> Stop
 /// Reads an input: a module text, the first line that is exactly `%%`, and a job.
 ///
 /// `Refused`: there is no such line, the text is no module, or the job is none for it; the first of these. `NoMemory`:
-/// there was no memory.
+/// there was no memory. The line is looked for without any, so where it is missing that is told in any case.
 pub fn read_input(alloc: Global, input: &[u8]) -> Result<Given, Stop>
     requires { length input.now < 2 ^ 32 - 1 }
     ensures input { IfOk result (λ given. IsInput input.now given.types given.job) }
@@ -61,6 +62,7 @@ pub fn read_input(alloc: Global, input: &[u8]) -> Result<Given, Stop>
     ensures cause { IfErr result (λ stop. IsStop input.now stop) }
     ensures complete { (types : Module) (job : RunJob) → IsInput input.now types job → IfErr result (λ stop. stop ≡ Stop.NoMemory) }
     ensures refused { (refusal : Refusal) → Refuses input.now refusal → IsErr result }
+    ensures no_job { ((n : ℕ) → IsMarker input.now n → ⊥) → IsErrOf result (Stop.Refused Refusal.NoJob) }
 {
     let Some(place) = find_marker(input) else {
         return Err(Stop::Refused(Refusal::NoJob));

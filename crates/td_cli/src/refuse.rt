@@ -1,8 +1,6 @@
 //! The line that refuses an input.
 
-ghost use Rattle.std.specs.Prelude.{◌≡◌, ◌≢◌, OnOk, OnErr};
-ghost use Rattle.std.specs.Io.KnownBytes.{Appends};
-ghost use Rattle.td_io.specs.Causes.{HasCause, StartsWritten};
+ghost use Rattle.td_io.specs.States.{Writes};
 ghost use Rattle.td_cli.specs.Lines.{job_line, module_line, refusal_line};
 
 use crate::refusal::Refusal;
@@ -15,9 +13,7 @@ use td_report::path_line::path_line;
 
 // Want of memory has no line, and is never held by a refusal.
 fn refuse_module<E: Sink>(input: &[u8], error: &FrontError, err: &mut E) -> Result<(), WriteFault>
-    ensures written { OnOk result (Appends (E.written err.old) (E.written err.new) (module_line input.now error.now)) }
-    ensures prefix { OnErr result (StartsWritten (E.written err.old) (E.written err.new) (module_line input.now error.now)) }
-    ensures cause { HasCause (E.faults err.old) (E.faults err.new) result }
+    ensures { Writes (E.state err.old) (E.state err.new) (module_line input.now error.now) result }
 {
     let Some(line) = line_of(error) else {
         return front_line(input, Some(0), b"", b"", err);
@@ -32,9 +28,7 @@ fn refuse_module<E: Sink>(input: &[u8], error: &FrontError, err: &mut E) -> Resu
 }
 
 fn refuse_job<E: Sink>(error: &JobError, err: &mut E) -> Result<(), WriteFault>
-    ensures written { OnOk result (Appends (E.written err.old) (E.written err.new) (job_line error.now)) }
-    ensures prefix { OnErr result (StartsWritten (E.written err.old) (E.written err.new) (job_line error.now)) }
-    ensures cause { HasCause (E.faults err.old) (E.faults err.new) result }
+    ensures { Writes (E.state err.old) (E.state err.new) (job_line error.now) result }
 {
     let path = error.path();
     path_line(error.code(), path.name, path.index, err)
@@ -45,9 +39,7 @@ fn refuse_job<E: Sink>(error: &JobError, err: &mut E) -> Result<(), WriteFault>
 ///
 /// `WriteFault`: a write failed. What went out is a front of the line.
 pub fn refuse<E: Sink>(input: &[u8], refusal: &Refusal, err: &mut E) -> Result<(), WriteFault>
-    ensures written { OnOk result (Appends (E.written err.old) (E.written err.new) (refusal_line input.now refusal.now)) }
-    ensures prefix { OnErr result (StartsWritten (E.written err.old) (E.written err.new) (refusal_line input.now refusal.now)) }
-    ensures cause { HasCause (E.faults err.old) (E.faults err.new) result }
+    ensures { Writes (E.state err.old) (E.state err.new) (refusal_line input.now refusal.now) result }
 {
     match refusal {
         Refusal::TooLong => front_line(&[], None, b"Z1", b"input too long", err),

@@ -3,7 +3,7 @@
 ghost use Rattle.std.specs.Prelude.{◌≡◌};
 ghost use Rattle.td_cli.specs.Status.{number_of};
 
-/// How a call of the tool ends, with the exit status of the process.
+/// How a call of the tool ends, with the exit status of the process. What isn't said to fail didn't.
 #[derive(Clone, Copy, PartialEq, Eq, Debug)]
 pub enum Status {
     /// 0: the command's output went to `out`, nothing to `err`.
@@ -12,11 +12,13 @@ pub enum Status {
     Refused,
     /// 2: the words are no command; the usage line went to `err`, nothing to `out`.
     Usage,
-    /// 3: the source failed; `error read` went to `err`, nothing to `out`.
+    /// 3: a read of the source failed; `error read` went to `err`, nothing to `out`.
     ReadFault,
-    /// 4: `out` or `err` failed; a front of what was to be written went there, and to the other nothing.
+    /// 4: a write of `out` or of `err` failed; a front of what was to be written went there, and to the other nothing. The
+    /// source failed too where that was `error read`.
     WriteFault,
-    /// 5: there was no memory; `error memory` went to `err`, nothing to `out`.
+    /// 5: there was no memory, and no more than the limit was taken of the source; `error memory` went to `err`, nothing to
+    /// `out`.
     NoMemory,
 }
 

@@ -1,6 +1,6 @@
 //! The words of a command line.
 
-ghost use Rattle.std.specs.Prelude.{◌≡◌, IsTrue, ◌↔◌, map, string_bytes};
+ghost use Rattle.std.specs.Prelude.{◌≡◌, IsTrue, ◌↔◌, string_bytes};
 ghost use Rattle.td_cli.specs.Words.{IsRun};
 
 // Whether a word has this text.
@@ -12,7 +12,7 @@ fn is_word(word: &String, text: &str) -> bool
 
 /// Whether the words are those of the command `run`: the program's name, whatever it is, and `run`.
 pub fn is_run(words: &[String]) -> bool
-    ensures { IsTrue result ↔ IsRun (map string_bytes words.now) }
+    ensures { IsTrue result ↔ IsRun words.now }
 {
     match words {
         [_, command] => is_word(command, "run"),

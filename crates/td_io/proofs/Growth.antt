@@ -1,7 +1,8 @@
 -- What a sink holds after several writes, and a source after several reads.
-use Rattle.std.proofs.Common.{◌≡◌, ℕ, ◌+◌, List, ◌++◌, take, drop, Option, Some, None, sym, ap, ◌∙◌, append_assoc}
+use Rattle.std.proofs.Common.{◌≡◌, ℕ, ◌+◌, ◌≤◌, List, ◌++◌, length, take, drop, Option, Some, None, sym, ap, ◌∙◌, append_assoc, arith, length-append, length-take}
 use Rattle.std.proofs.Math.Seq.{take-add}
 use Rattle.std.specs.Io.KnownBytes.{Appends, Consumes}
+use Rattle.td_io.specs.Causes.{TookAtMost}
 
 pub appends_more : (a b c : Option (List ℕ)) (text : List ℕ) (n m : ℕ) (rest : List ℕ) → rest ≡ drop n text → Appends a b (take n text) → Appends b c (take m rest) → Appends a c (take (n + m) text)
 appends_more None b c text n m rest e p q = tt
@@ -14,3 +15,11 @@ consumes_more None b c first second p q = tt
 consumes_more (Some xs) None c first second p q = absurd p
 consumes_more (Some xs) (Some ys) None first second p q = absurd q
 consumes_more (Some xs) (Some ys) (Some zs) first second p q = p ∙ ap (λ (l : List ℕ). first ++ l) q ∙ sym (append_assoc first second zs)
+
+-- after the bytes at most n more were taken
+pub taken_more : (a b c : Option (List ℕ)) (bytes piece : List ℕ) (n most : ℕ) → Consumes a b bytes → Consumes b c (take n piece) → length bytes + n ≤ most → TookAtMost a c most
+taken_more a b c bytes piece n most before more fits = (
+  bytes ++ take n piece,
+  consumes_more a b c bytes (take n piece) before more,
+  omega (arith, length-append bytes (take n piece), length-take n piece),
+)

@@ -1,5 +1,5 @@
 -- The causes of faults, and what was read and written up to them (own rule).
-use Rattle.std.specs.Prelude.{◌≡◌, ℕ, ◌+◌, ◌-◌, ◌^◌, ◌≤◌, ◌<◌, min, List, length, take, Result, OnErr, Some, None}
+use Rattle.std.specs.Prelude.{◌≡◌, ℕ, ◌+◌, ◌-◌, ◌^◌, ◌≤◌, ◌<◌, min, List, length, take, Result, OnOk, OnErr, Some, None}
 use Rattle.std.specs.declared.option.Option.{Option}
 use Rattle.std.specs.Io.KnownBytes.{Appends, Consumes}
 
@@ -9,11 +9,11 @@ next_count n = min (n + 1) (2 ^ 64 - 1)
 
 -- a count of faults of 64 bits rose; one that stands at its end can't, and counts as risen
 abbrev pub Rose : ℕ → ℕ → Type 0
-Rose before now = (next_count before ≤ now) × (now < 2 ^ 64)
+Rose before now = (next_count before ≤ now) × (before ≤ now) × (now < 2 ^ 64)
 
--- a count of faults never falls, and rises in a call that fails
+-- a count of faults stands still in a call that works, and rises in one that fails; so it never falls
 pub record HasCause {T E : Type 0} (before now : ℕ) (result : Result T E) : Type 0 where
-  pub later : before ≤ now
+  pub worked : OnOk result (now ≡ before)
   pub failed : OnErr result (Rose before now)
 
 -- a front of the text was written, where what is written is told

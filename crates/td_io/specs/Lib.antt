@@ -1,2 +1,4 @@
 pub mod Causes
+pub mod States
 pub mod Memory
+pub mod Streams

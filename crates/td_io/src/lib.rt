@@ -1,5 +1,5 @@
-//! Where bytes come from and where they go. The layer above rests on one promise: a source or a sink answers `Failed`
-//! only in a call in which its count of faults rose, so each fault that is handed on has its cause in the count.
+//! Where bytes come from and where they go. The layer above rests on one promise: the count of faults of a source or a
+//! sink rises in each call that answers `Failed`, and stands still in each other, so the counts tell whose fault it was.
 #![tactic(auto)]
 
 mod copying;

@@ -64,9 +64,7 @@ impl MemorySource {
 }
 
 impl Source for MemorySource {
-    ghost left = { λ s. Some s.left };
-
-    ghost faults = { λ s. s.faults };
+    ghost state = { λ s. record { left = Some s.left; faults = s.faults } };
 
     /// Reads as many bytes as are left and fit. Takes no memory.
     fn read(&mut self, buf: &mut [u8]) -> Result<usize, Failed>
@@ -143,9 +141,7 @@ fn push_within(bytes: &mut Vec<u8>, piece: &[u8])
 }
 
 impl Sink for MemorySink {
-    ghost written = { λ s. Some s.written };
-
-    ghost faults = { λ s. s.faults };
+    ghost state = { λ s. record { written = Some s.written; faults = s.faults } };
 
     /// Writes as many bytes as there is room for. Takes no memory.
     fn write(&mut self, piece: &[u8]) -> Result<usize, Failed>

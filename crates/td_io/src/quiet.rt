@@ -33,9 +33,7 @@ impl QuietSource {
 }
 
 impl Source for QuietSource {
-    ghost left = { λ s. Some s };
-
-    ghost faults = { λ _. 0 };
+    ghost state = { λ s. record { left = Some s; faults = 0 } };
 
     /// Reads as many bytes as are left and fit. Takes no memory.
     fn read(&mut self, buf: &mut [u8]) -> Result<usize, Failed> {
@@ -50,9 +48,7 @@ impl Source for QuietSource {
 pub struct QuietSink;
 
 impl Sink for QuietSink {
-    ghost written = { λ _. None };
-
-    ghost faults = { λ _. 0 };
+    ghost state = { λ _. record { written = None; faults = 0 } };
 
     /// Takes all that it is given.
     fn write(&mut self, piece: &[u8]) -> Result<usize, Failed>

@@ -1,8 +1,9 @@
 //! Reading all of a source, up to a limit.
 
-ghost use Rattle.std.specs.Prelude.{◌≡◌, ◌≤◌, ◌+◌, length, IfOk, OnOk, OnErr, IsErrOf};
+ghost use Rattle.std.specs.Prelude.{◌≤◌, ◌+◌, length, IfOk, OnOk, IsErrOf};
 ghost use Rattle.std.specs.Io.KnownBytes.{IsAtEnd};
-ghost use Rattle.td_io.specs.Causes.{HasMore, ReadWhole, Rose, TookAtMost};
+ghost use Rattle.td_io.specs.Causes.{HasMore, ReadWhole, TookAtMost};
+ghost use Rattle.td_io.specs.States.{ReadFails, NoReadFails};
 
 use crate::ends::Source;
 use std::alloc::Global;
@@ -28,28 +29,32 @@ pub enum ReadStop {
 /// Reads a source to its end, at most `limit` bytes. It stops as soon as one byte past the limit was read, so it also
 /// ends over a source that never does, and takes at most 4,096 bytes more than the limit.
 ///
-/// `Fault`: a read failed. `TooLong`: the source has more bytes than the limit.
+/// `Fault`: a read failed; at each other end the source's count of faults is as before. `TooLong`: the source has more
+/// bytes than the limit; that is told whether there is memory or not, so at each other end at most `limit` bytes were taken.
 pub fn read_whole<S: Source>(alloc: Global, src: &mut S, limit: usize) -> Result<Vec<u8>, ReadStop>
-    ensures whole { IfOk result (λ bytes. ReadWhole (S.left src.old) bytes.items) }
-    ensures end { OnOk result (IsAtEnd (S.left src.new)) }
+    ensures whole { IfOk result (λ bytes. ReadWhole (S.state src.old).left bytes.items) }
+    ensures end { OnOk result (IsAtEnd (S.state src.new).left) }
     ensures short { IfOk result (λ bytes. length bytes.items ≤ limit) }
-    ensures long { IsErrOf result ReadStop.TooLong → HasMore (S.left src.old) limit }
-    ensures fault { IsErrOf result ReadStop.Fault → Rose (S.faults src.old) (S.faults src.new) }
-    ensures later { S.faults src.old ≤ S.faults src.new }
-    ensures taken { OnErr result (TookAtMost (S.left src.old) (S.left src.new) (limit + 4096)) }
+    ensures long { IsErrOf result ReadStop.TooLong → HasMore (S.state src.old).left limit }
+    ensures fault { IsErrOf result ReadStop.Fault → ReadFails (S.state src.old) (S.state src.new) }
+    ensures quiet { (IsErrOf result ReadStop.Fault → ⊥) → NoReadFails (S.state src.old) (S.state src.new) }
+    ensures taken { TookAtMost (S.state src.old).left (S.state src.new).left (limit + 4096) }
+    ensures within { (IsErrOf result ReadStop.TooLong → ⊥) → TookAtMost (S.state src.old).left (S.state src.new).left limit }
 {
     let mut bytes = Vec::new(alloc);
     let mut piece = [0u8; PIECE];
-    while bytes.len() <= limit {
+    'pieces: loop {
         let Ok(count) = src.read(&mut piece) else {
             return Err(ReadStop::Fault);
         };
         if count == 0 {
             return Ok(bytes);
         }
+        if count > limit - bytes.len() {
+            return Err(ReadStop::TooLong);
+        }
         if bytes.extend_from_slice(&piece[..count]).is_err() {
             return Err(ReadStop::NoMemory);
         }
     }
-    Err(ReadStop::TooLong)
 }

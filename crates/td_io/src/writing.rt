@@ -1,8 +1,6 @@
 //! Writing all of a text.
 
-ghost use Rattle.std.specs.Prelude.{◌≡◌, OnOk, OnErr};
-ghost use Rattle.std.specs.Io.KnownBytes.{Appends};
-ghost use Rattle.td_io.specs.Causes.{HasCause, StartsWritten};
+ghost use Rattle.td_io.specs.States.{Writes};
 
 use crate::copying::rest_at;
 use crate::ends::{Failed, Sink};
@@ -23,9 +21,7 @@ impl From<Failed> for WriteFault {
 ///
 /// `WriteFault`: a write failed. What went out is a front of the text.
 pub fn write_all<O: Sink>(out: &mut O, text: &[u8]) -> Result<(), WriteFault>
-    ensures written { OnOk result (Appends (O.written out.old) (O.written out.new) text.now) }
-    ensures prefix { OnErr result (StartsWritten (O.written out.old) (O.written out.new) text.now) }
-    ensures cause { HasCause (O.faults out.old) (O.faults out.new) result }
+    ensures { Writes (O.state out.old) (O.state out.new) text.now result }
 {
     let mut done = 0usize;
     while done < text.len() {

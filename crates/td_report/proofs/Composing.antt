@@ -7,7 +7,7 @@ use Rattle.std.proofs.lemmas.List.{take_more, flat_map_more}
 use Rattle.std.specs.List.{flat_map}
 use Rattle.std.specs.Io.KnownBytes.{Appends}
 use Rattle.td_io.specs.Causes.{StartsWritten}
-use Rattle.td_report.specs.Writing.{Writes}
+use Rattle.td_io.specs.States.{SinkState, Writes}
 
 appends_both : (a b c : Option (List ℕ)) (first second : List ℕ) → Appends a b first → Appends b c second → Appends a c (first ++ second)
 appends_both None b c first second p q = tt
@@ -27,30 +27,35 @@ starts_longer a b first second q =
     (length front, subst (λ (l : List ℕ). Appends a b l) (sym same) q.1)
 
 -- a text was written, and then another one was, or wasn't
-pub writes_both : {T U E F : Type 0} {a b c : Option (List ℕ)} {x y z : ℕ} {first second : List ℕ} {u : U} {r : Result T E} → Writes {T = U} {E = F} a b x y first (Ok u) → Writes b c y z second r → Writes a c x z (first ++ second) r
-writes_both {a = a} {b = b} {c = c} {x = x} {y = y} {z = z} {first = first} {second = second} {u = u} {r = Ok v} p q = record {
-  written = appends_both a b c first second p.written q.written;
-  prefix = tt;
-  cause = record { later = omega (arith, p.cause.later, q.cause.later); failed = tt };
+pub writes_both : {T U E F : Type 0} {a b c : SinkState} {first second : List ℕ} {u : U} {r : Result T E} → Writes {T = U} {E = F} a b first (Ok u) → Writes b c second r → Writes a c (first ++ second) r
+writes_both {a = a} {b = b} {c = c} {first = first} {second = second} {r = Ok v} p q = record {
+  done = record {
+    written = appends_both a.written b.written c.written first second p.done.written q.done.written;
+    faults = q.done.faults ∙ p.done.faults;
+  };
+  failed = tt;
 }
-writes_both {a = a} {b = b} {c = c} {x = x} {y = y} {z = z} {first = first} {second = second} {u = u} {r = Err e} p q = record {
-  written = tt;
-  prefix = starts_later a b c first second p.written q.prefix;
-  cause = record { later = omega (arith, p.cause.later, q.cause.later); failed = (omega (arith, p.cause.later, q.cause.failed.0), q.cause.failed.1) };
-}
+writes_both {a = a} {b = b} {c = c} {first = first} {second = second} {r = Err e} p q =
+    let same = p.done.faults in
+    record {
+      done = tt;
+      failed = record {
+        written = starts_later a.written b.written c.written first second p.done.written q.failed.written;
+        faults = (omega (arith, q.failed.faults.0), omega (arith, q.failed.faults.1), q.failed.faults.2);
+      };
+    }
 
 -- a text wasn't written, so the one behind it wasn't either
-pub writes_stopped : {T U E F : Type 0} {a b : Option (List ℕ)} {x y : ℕ} {first : List ℕ} {e : F} (second : List ℕ) (r : Result T E) → IsErr r → Writes {T = U} {E = F} a b x y first (Err e) → Writes {T = T} {E = E} a b x y (first ++ second) r
+pub writes_stopped : {T U E F : Type 0} {a b : SinkState} {first : List ℕ} {e : F} (second : List ℕ) (r : Result T E) → IsErr r → Writes {T = U} {E = F} a b first (Err e) → Writes {T = T} {E = E} a b (first ++ second) r
 writes_stopped second (Ok v) wrong p = absurd (cc wrong)
 writes_stopped {a = a} {b = b} {first = first} second (Err f) wrong p = record {
-  written = tt;
-  prefix = starts_longer a b first second p.prefix;
-  cause = record { later = p.cause.later; failed = p.cause.failed };
+  done = tt;
+  failed = record { written = starts_longer a.written b.written first second p.failed.written; faults = p.failed.faults };
 }
 
 -- the same of an equal text
-pub writes_as : {T E : Type 0} {a b : Option (List ℕ)} {x y : ℕ} {text other : List ℕ} {r : Result T E} → other ≡ text → Writes a b x y text r → Writes a b x y other r
-writes_as {a = a} {b = b} {x = x} {y = y} {r = r} e p = subst (λ (l : List ℕ). Writes a b x y l r) (sym e) p
+pub writes_as : {T E : Type 0} {a b : SinkState} {text other : List ℕ} {r : Result T E} → other ≡ text → Writes a b text r → Writes a b other r
+writes_as {a = a} {b = b} {r = r} e p = subst (λ (l : List ℕ). Writes a b l r) (sym e) p
 
 -- the texts of the first i + 1 elements
 each_more : {A : Type 0} (f : A → List ℕ) (xs : List A) (i : ℕ) (d : A) → i < length xs → flat_map f (take (i + 1) xs) ≡ flat_map f (take i xs) ++ f (get_or xs i d)
@@ -61,10 +66,10 @@ each_split : {A : Type 0} (f : A → List ℕ) (xs : List A) (i : ℕ) → flat_
 each_split f xs i = ap (flat_map f) (sym (take-append-drop i xs)) ∙ flat_map-append f (take i xs) (drop i xs)
 
 -- the texts of the first i elements were written, and that of the next one
-pub each_written : {A U V E F : Type 0} {a b c : Option (List ℕ)} {x y z : ℕ} {u : U} {v : V} (f : A → List ℕ) (xs : List A) (i : ℕ) (d : A) → i < length xs → Writes {T = U} {E = F} a b x y (flat_map f (take i xs)) (Ok u) → Writes {T = V} {E = E} b c y z (f (get_or xs i d)) (Ok v) → Writes {T = V} {E = E} a c x z (flat_map f (take (i + 1) xs)) (Ok v)
+pub each_written : {A U V E F : Type 0} {a b c : SinkState} {u : U} {v : V} (f : A → List ℕ) (xs : List A) (i : ℕ) (d : A) → i < length xs → Writes {T = U} {E = F} a b (flat_map f (take i xs)) (Ok u) → Writes {T = V} {E = E} b c (f (get_or xs i d)) (Ok v) → Writes {T = V} {E = E} a c (flat_map f (take (i + 1) xs)) (Ok v)
 each_written f xs i d h p q = writes_as (each_more f xs i d h) (writes_both p q)
 
 -- the texts of the first i elements were written, and that of the next one wasn't
-pub each_stopped : {A T U V E F G : Type 0} {a b c : Option (List ℕ)} {x y z : ℕ} {u : U} {e : G} (f : A → List ℕ) (xs : List A) (i : ℕ) (d : A) (r : Result T E) → i < length xs → IsErr r → Writes {T = U} {E = F} a b x y (flat_map f (take i xs)) (Ok u) → Writes {T = V} {E = G} b c y z (f (get_or xs i d)) (Err e) → Writes {T = T} {E = E} a c x z (flat_map f xs) r
+pub each_stopped : {A T U V E F G : Type 0} {a b c : SinkState} {u : U} {e : G} (f : A → List ℕ) (xs : List A) (i : ℕ) (d : A) (r : Result T E) → i < length xs → IsErr r → Writes {T = U} {E = F} a b (flat_map f (take i xs)) (Ok u) → Writes {T = V} {E = G} b c (f (get_or xs i d)) (Err e) → Writes {T = T} {E = E} a c (flat_map f xs) r
 each_stopped f xs i d r h wrong p q =
     writes_as (each_split f xs (i + 1)) (writes_stopped (flat_map f (drop (i + 1) xs)) r wrong (writes_as (each_more f xs i d h) (writes_both p q)))

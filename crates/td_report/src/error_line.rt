@@ -1,10 +1,8 @@
 //! The lines of errors.
 
-ghost use Rattle.std.specs.Prelude.{◌≡◌, ◌≤◌, ◌+◌, ◌^◌, ◌<◌, OnOk, OnErr, length, take, codes, ◌++◌};
-ghost use Rattle.std.specs.Io.KnownBytes.{Appends};
-ghost use Rattle.td_io.specs.Causes.{HasCause, StartsWritten};
+ghost use Rattle.std.specs.Prelude.{◌≡◌, ◌≤◌, ◌+◌, ◌^◌, ◌<◌, length, take, codes, ◌++◌};
+ghost use Rattle.td_io.specs.States.{Writes};
 ghost use Rattle.td_report.specs.ErrorLine.{error_line, line_at, column_at, place_words, behind_blank};
-ghost use Rattle.td_report.specs.Writing.{Writes};
 
 use crate::pieces::write_pieces;
 use itoa::Buffer;
@@ -47,13 +45,13 @@ fn first_bytes(text: &[u8], count: u32) -> &[u8]
 }
 
 pub(crate) fn write_code<E: Sink>(err: &mut E, code: &[u8]) -> Result<(), WriteFault>
-    ensures { Writes (E.written err.old) (E.written err.new) (E.faults err.old) (E.faults err.new) (codes "error " ++ code.now) result }
+    ensures { Writes (E.state err.old) (E.state err.new) (codes "error " ++ code.now) result }
 {
     write_pieces(err, &[b"error ", code])
 }
 
 fn write_place<E: Sink>(err: &mut E, text: &[u8], at: Option<u32>) -> Result<(), WriteFault>
-    ensures { Writes (E.written err.old) (E.written err.new) (E.faults err.old) (E.faults err.new) (place_words text.now at) result }
+    ensures { Writes (E.state err.old) (E.state err.new) (place_words text.now at) result }
 {
     let Some(at) = at else {
         return Ok(());
@@ -68,7 +66,7 @@ fn write_place<E: Sink>(err: &mut E, text: &[u8], at: Option<u32>) -> Result<(),
 }
 
 pub(crate) fn write_words<E: Sink>(err: &mut E, words: &[u8]) -> Result<(), WriteFault>
-    ensures { Writes (E.written err.old) (E.written err.new) (E.faults err.old) (E.faults err.new) (behind_blank words.now) result }
+    ensures { Writes (E.state err.old) (E.state err.new) (behind_blank words.now) result }
 {
     if words.is_empty() {
         return Ok(());
@@ -88,9 +86,7 @@ pub fn front_line<E: Sink>(
     words: &[u8],
     err: &mut E,
 ) -> Result<(), WriteFault>
-    ensures written { OnOk result (Appends (E.written err.old) (E.written err.new) (error_line text.now at code.now words.now)) }
-    ensures prefix { OnErr result (StartsWritten (E.written err.old) (E.written err.new) (error_line text.now at code.now words.now)) }
-    ensures cause { HasCause (E.faults err.old) (E.faults err.new) result }
+    ensures { Writes (E.state err.old) (E.state err.new) (error_line text.now at code.now words.now) result }
 {
     write_code(err, code)?;
     write_place(err, text, at)?;

@@ -1,10 +1,8 @@
 //! The lines of errors that have a path.
 
-ghost use Rattle.std.specs.Prelude.{◌≡◌, [], None, OnOk, OnErr};
-ghost use Rattle.std.specs.Io.KnownBytes.{Appends};
-ghost use Rattle.td_io.specs.Causes.{HasCause, StartsWritten};
+ghost use Rattle.std.specs.Prelude.{◌≡◌, [], None};
+ghost use Rattle.td_io.specs.States.{Writes};
 ghost use Rattle.td_report.specs.ErrorLine.{error_line, behind_blank, indexed};
-ghost use Rattle.td_report.specs.Writing.{Writes};
 
 use crate::error_line::{write_code, write_words};
 use crate::pieces::write_pieces;
@@ -13,7 +11,7 @@ use td_io::ends::Sink;
 use td_io::writing::WriteFault;
 
 fn write_path<E: Sink>(err: &mut E, name: &[u8], index: Option<usize>) -> Result<(), WriteFault>
-    ensures { Writes (E.written err.old) (E.written err.new) (E.faults err.old) (E.faults err.new) (behind_blank (indexed name.now index)) result }
+    ensures { Writes (E.state err.old) (E.state err.new) (behind_blank (indexed name.now index)) result }
 {
     let Some(index) = index else {
         return write_words(err, name);
@@ -34,9 +32,7 @@ pub fn path_line<E: Sink>(
     index: Option<usize>,
     err: &mut E,
 ) -> Result<(), WriteFault>
-    ensures written { OnOk result (Appends (E.written err.old) (E.written err.new) (error_line [] None code.now (indexed name.now index))) }
-    ensures prefix { OnErr result (StartsWritten (E.written err.old) (E.written err.new) (error_line [] None code.now (indexed name.now index))) }
-    ensures cause { HasCause (E.faults err.old) (E.faults err.new) result }
+    ensures { Writes (E.state err.old) (E.state err.new) (error_line [] None code.now (indexed name.now index)) result }
 {
     write_code(err, code)?;
     write_path(err, name, index)?;

@@ -1,36 +1,25 @@
 //! The report of a run.
 
-ghost use Rattle.std.specs.Prelude.{◌≡◌, OnOk, OnErr, flat_map, codes, decimal};
-ghost use Rattle.std.specs.Io.KnownBytes.{Appends};
-ghost use Rattle.td_core.specs.Entries.{name_bytes};
-ghost use Rattle.td_io.specs.Causes.{HasCause, StartsWritten};
+ghost use Rattle.std.specs.Prelude.{◌≡◌, flat_map, codes, decimal};
+ghost use Rattle.td_io.specs.States.{Writes};
 ghost use Rattle.td_report.specs.Report.{report, reason_word, spot_word, verdict_line, frame_line, frame_lines, load_line};
-ghost use Rattle.td_report.specs.Writing.{Writes};
 
 use crate::hexadecimal::digits_of;
 use crate::pieces::write_pieces;
 use itoa::Buffer;
-use td_core::module::{Entry, Module, NameId};
+use td_core::entries::name_bytes;
+use td_core::module::{Entry, Module};
 use td_core::outcome::{Outcome, Reason, Spot, TraceFrame, Verdict};
 use td_io::ends::Sink;
 use td_io::writing::WriteFault;
 use td_stream::load::Load;
 use td_stream::loads::Loads;
 
-fn name_of(types: &Module, name: NameId) -> &[u8]
-    ensures { result.now ≡ name_bytes types.now name }
-{
-    match types.names.as_slice().get(name.number as usize) {
-        Some(bytes) => bytes.as_slice(),
-        None => b"",
-    }
-}
-
 fn spot_of(types: &Module, spot: Spot) -> &[u8]
     ensures { result.now ≡ spot_word types.now spot }
 {
     match spot {
-        Spot::Field(name) => name_of(types, name),
+        Spot::Field(name) => name_bytes(types, name),
         Spot::Where => b"where",
         Spot::Switch => b"switch",
     }
@@ -51,7 +40,7 @@ fn word_of(reason: Reason) -> &'static [u8]
 
 #[tactic(auto, unfolding(crate::specs::Report::verdict_line))]
 fn write_verdict<O: Sink>(out: &mut O, verdict: Verdict) -> Result<(), WriteFault>
-    ensures { Writes (O.written out.old) (O.written out.new) (O.faults out.old) (O.faults out.new) (verdict_line verdict) result }
+    ensures { Writes (O.state out.old) (O.state out.new) (verdict_line verdict) result }
 {
     let mut buffer = Buffer::new();
     match verdict {
@@ -75,7 +64,7 @@ fn write_verdict<O: Sink>(out: &mut O, verdict: Verdict) -> Result<(), WriteFaul
 
 #[tactic(auto, unfolding(crate::specs::Report::frame_line))]
 fn write_frame<O: Sink>(out: &mut O, types: &Module, frame: TraceFrame) -> Result<(), WriteFault>
-    ensures { Writes (O.written out.old) (O.written out.new) (O.faults out.old) (O.faults out.new) (frame_line types.now frame) result }
+    ensures { Writes (O.state out.old) (O.state out.new) (frame_line types.now frame) result }
 {
     let mut buffer = Buffer::new();
     let start = buffer.format(frame.start).as_bytes();
@@ -83,7 +72,7 @@ fn write_frame<O: Sink>(out: &mut O, types: &Module, frame: TraceFrame) -> Resul
         out,
         &[
             b"frame ",
-            name_of(types, frame.ty),
+            name_bytes(types, frame.ty),
             b".",
             spot_of(types, frame.field),
             b" ",
@@ -98,7 +87,7 @@ fn write_frames<O: Sink>(
     types: &Module,
     frames: &[TraceFrame],
 ) -> Result<(), WriteFault>
-    ensures { Writes (O.written out.old) (O.written out.new) (O.faults out.old) (O.faults out.new) (flat_map (frame_line types.now) frames.now) result }
+    ensures { Writes (O.state out.old) (O.state out.new) (flat_map (frame_line types.now) frames.now) result }
 {
     for frame in frames {
         write_frame(out, types, *frame)?;
@@ -107,7 +96,7 @@ fn write_frames<O: Sink>(
 }
 
 fn write_trace<O: Sink>(out: &mut O, types: &Module, outcome: &Outcome) -> Result<(), WriteFault>
-    ensures { Writes (O.written out.old) (O.written out.new) (O.faults out.old) (O.faults out.new) (frame_lines types.now outcome.now.verdict outcome.now.trace) result }
+    ensures { Writes (O.state out.old) (O.state out.new) (frame_lines types.now outcome.now.verdict outcome.now.trace) result }
 {
     match outcome.verdict {
         Verdict::Accept { .. } => Ok(()),
@@ -117,7 +106,7 @@ fn write_trace<O: Sink>(out: &mut O, types: &Module, outcome: &Outcome) -> Resul
 
 #[tactic(auto, unfolding(crate::specs::Report::load_line))]
 fn write_load<O: Sink>(out: &mut O, load: Load) -> Result<(), WriteFault>
-    ensures { Writes (O.written out.old) (O.written out.new) (O.faults out.old) (O.faults out.new) (load_line load) result }
+    ensures { Writes (O.state out.old) (O.state out.new) (load_line load) result }
 {
     let mut buffer = Buffer::new();
     let word = buffer.format(load.word).as_bytes();
@@ -125,7 +114,7 @@ fn write_load<O: Sink>(out: &mut O, load: Load) -> Result<(), WriteFault>
 }
 
 fn write_loads<O: Sink>(out: &mut O, loads: &[Load]) -> Result<(), WriteFault>
-    ensures { Writes (O.written out.old) (O.written out.new) (O.faults out.old) (O.faults out.new) (flat_map load_line loads.now) result }
+    ensures { Writes (O.state out.old) (O.state out.new) (flat_map load_line loads.now) result }
 {
     for load in loads {
         write_load(out, *load)?;
@@ -145,9 +134,7 @@ pub fn run_report<O: Sink>(
     loads: &Loads,
     out: &mut O,
 ) -> Result<(), WriteFault>
-    ensures written { OnOk result (Appends (O.written out.old) (O.written out.new) (report outcome.now types.now entry loads.now.list)) }
-    ensures prefix { OnErr result (StartsWritten (O.written out.old) (O.written out.new) (report outcome.now types.now entry loads.now.list)) }
-    ensures cause { HasCause (O.faults out.old) (O.faults out.new) result }
+    ensures { Writes (O.state out.old) (O.state out.new) (report outcome.now types.now entry loads.now.list) result }
 {
     write_verdict(out, outcome.verdict)?;
     write_trace(out, types, outcome)?;

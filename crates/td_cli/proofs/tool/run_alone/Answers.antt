@@ -7,10 +7,10 @@ same_status a b same = cc
 
 pub returns-clause-complete : goal.returns-clause-complete
 returns-clause-complete g c =
-    λ input types job words told short given.
-    (λ same. c.run.ensures.not_usage (same_status _ _ same), λ same. c.run.ensures.complete input types job told short given (same_status _ _ same))
+    λ words good.
+    (λ same. c.run.ensures.not_usage (same_status _ _ same), λ same. c.run.ensures.complete good (same_status _ _ same))
 
 pub returns-clause-not_done : goal.returns-clause-not_done
 returns-clause-not_done g c =
-    λ input line words told refusal.
-    (λ same. c.run.ensures.not_usage (same_status _ _ same), λ same. c.run.ensures.not_done input line told refusal (same_status _ _ same))
+    λ words bad.
+    (λ same. c.run.ensures.not_usage (same_status _ _ same), λ same. c.run.ensures.not_done bad (same_status _ _ same))

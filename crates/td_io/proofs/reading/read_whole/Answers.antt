@@ -1,10 +1,16 @@
-use Rattle.std.proofs.Common.{arith, take, ◌++◌, length-append, length-take}
-use Rattle.td_io.proofs.Growth.{consumes_more}
+use Rattle.std.proofs.Common.{◌+◌, arith}
+use Rattle.td_io.proofs.Growth.{taken_more}
 use Rattle.td_io.proofs.reading.read_whole.Goals as goal
 
+pub returns-then-count-limit-clause-taken : goal.returns-then-count-limit-clause-taken
+returns-then-count-limit-clause-taken g c =
+    taken_more _ _ _ c.pieces.bytes.items c.read.new.buf c.in-Ok.count (c.args.limit + 4096) c.pieces.invariant.read c.in-Ok.ensures.bytes.0 (omega (arith, c.in-Ok.ensures.bound))
+
 pub returns-then-is_err-clause-taken : goal.returns-then-is_err-clause-taken
-returns-then-is_err-clause-taken g c = (
-  c.loop-piece.bytes.items ++ take c.in-Ok.count c.read.new.buf,
-  consumes_more _ _ _ c.loop-piece.bytes.items (take c.in-Ok.count c.read.new.buf) c.loop-piece.invariant.read c.in-Ok.ensures.bytes.0,
-  omega (arith, length-append c.loop-piece.bytes.items (take c.in-Ok.count c.read.new.buf), length-take c.in-Ok.count c.read.new.buf, c.in-Ok.ensures.bound),
-)
+returns-then-is_err-clause-taken g c =
+    taken_more _ _ _ c.pieces.bytes.items c.read.new.buf c.in-Ok.count (c.args.limit + 4096) c.pieces.invariant.read c.in-Ok.ensures.bytes.0 (omega (arith, c.in-Ok.ensures.bound))
+
+pub returns-then-is_err-clause-within : goal.returns-then-is_err-clause-within
+returns-then-is_err-clause-within g c =
+    λ _.
+    taken_more _ _ _ c.pieces.bytes.items c.read.new.buf c.in-Ok.count c.args.limit c.pieces.invariant.read c.in-Ok.ensures.bytes.0 (omega arith)

@@ -1,12 +1,11 @@
 use Rattle.std.proofs.Common.{◌-◌, ◌≤◌, length, take}
-use Rattle.std.specs.Io.KnownBytes.{Appends}
+use Rattle.td_io.specs.States.{Takes}
 use Rattle.td_io.proofs.writing.write_all.Given as goal
 
 abbrev pub invariant-loop-done : goal.invariant-loop-done
 invariant-loop-done g l = record {
   within : l.done ≤ length l.text;
-  written : Appends (g.O.Sink.written l.fn.out) (g.O.Sink.written l.out) (take l.done l.text);
-  later : g.O.Sink.faults l.fn.out ≤ g.O.Sink.faults l.out;
+  taken : Takes (g.O.Sink.state l.fn.out) (g.O.Sink.state l.out) (take l.done l.text);
 }
 
 abbrev pub decreases-loop-done : goal.decreases-loop-done

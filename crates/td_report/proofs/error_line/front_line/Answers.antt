@@ -7,21 +7,17 @@ use Rattle.td_report.proofs.error_line.front_line.Goals as goal
 pub returns-in_err-write_code : goal.returns-in_err-write_code
 returns-in_err-write_code g c =
     let rest = place_words c.args.text.now c.args.at ++ (behind_blank c.args.words.now ++ codes "\n") in
-    let whole = writes_as (error_line_parts c.args.text.now c.args.at c.args.code.now c.args.words.now) (writes_stopped rest c.from_residual.result c.from_residual.ensures.0 c.in_err-write_code.ensures) in
-    record { written = whole.written; prefix = whole.prefix; cause = whole.cause }
+    writes_as (error_line_parts c.args.text.now c.args.at c.args.code.now c.args.words.now) (writes_stopped rest c.from_residual.result c.from_residual.ensures.0 c.in_err-write_code.ensures)
 
 pub returns-in_err-write_place : goal.returns-in_err-write_place
 returns-in_err-write_place g c =
     let rest = behind_blank c.args.words.now ++ codes "\n" in
-    let whole = writes_as (error_line_parts c.args.text.now c.args.at c.args.code.now c.args.words.now) (writes_both c.in_ok-write_code.ensures (writes_stopped rest c.from_residual-in_err-write_place.result c.from_residual-in_err-write_place.ensures.0 c.in_err-write_place.ensures)) in
-    record { written = whole.written; prefix = whole.prefix; cause = whole.cause }
+    writes_as (error_line_parts c.args.text.now c.args.at c.args.code.now c.args.words.now) (writes_both c.in_ok-write_code.ensures (writes_stopped rest c.from_residual-in_err-write_place.result c.from_residual-in_err-write_place.ensures.0 c.in_err-write_place.ensures))
 
 pub returns-in_err-write_words : goal.returns-in_err-write_words
 returns-in_err-write_words g c =
-    let whole = writes_as (error_line_parts c.args.text.now c.args.at c.args.code.now c.args.words.now) (writes_both c.in_ok-write_code.ensures (writes_both c.in_ok-write_place.ensures (writes_stopped (codes "\n") c.from_residual-in_err-write_words.result c.from_residual-in_err-write_words.ensures.0 c.in_err-write_words.ensures))) in
-    record { written = whole.written; prefix = whole.prefix; cause = whole.cause }
+    writes_as (error_line_parts c.args.text.now c.args.at c.args.code.now c.args.words.now) (writes_both c.in_ok-write_code.ensures (writes_both c.in_ok-write_place.ensures (writes_stopped (codes "\n") c.from_residual-in_err-write_words.result c.from_residual-in_err-write_words.ensures.0 c.in_err-write_words.ensures)))
 
 pub returns : goal.returns
 returns g c =
-    let whole = writes_as (error_line_parts c.args.text.now c.args.at c.args.code.now c.args.words.now) (writes_both c.in_ok-write_code.ensures (writes_both c.in_ok-write_place.ensures (writes_both c.in_ok-write_words.ensures c.write_pieces.ensures))) in
-    record { written = whole.written; prefix = whole.prefix; cause = whole.cause }
+    writes_as (error_line_parts c.args.text.now c.args.at c.args.code.now c.args.words.now) (writes_both c.in_ok-write_code.ensures (writes_both c.in_ok-write_place.ensures (writes_both c.in_ok-write_words.ensures c.write_pieces.ensures)))

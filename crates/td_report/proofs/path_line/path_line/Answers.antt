@@ -7,17 +7,14 @@ use Rattle.td_report.proofs.path_line.path_line.Goals as goal
 pub returns-in_err-write_code : goal.returns-in_err-write_code
 returns-in_err-write_code g c =
     let words = indexed c.args.name.now c.args.index in
-    let whole = writes_as (error_line_parts [] None c.args.code.now words) (writes_stopped (behind_blank words ++ codes "\n") c.from_residual.result c.from_residual.ensures.0 c.in_err-write_code.ensures) in
-    record { written = whole.written; prefix = whole.prefix; cause = whole.cause }
+    writes_as (error_line_parts [] None c.args.code.now words) (writes_stopped (behind_blank words ++ codes "\n") c.from_residual.result c.from_residual.ensures.0 c.in_err-write_code.ensures)
 
 pub returns-in_err-write_path : goal.returns-in_err-write_path
 returns-in_err-write_path g c =
     let words = indexed c.args.name.now c.args.index in
-    let whole = writes_as (error_line_parts [] None c.args.code.now words) (writes_both c.in_ok-write_code.ensures (writes_stopped (codes "\n") c.from_residual-in_err-write_path.result c.from_residual-in_err-write_path.ensures.0 c.in_err-write_path.ensures)) in
-    record { written = whole.written; prefix = whole.prefix; cause = whole.cause }
+    writes_as (error_line_parts [] None c.args.code.now words) (writes_both c.in_ok-write_code.ensures (writes_stopped (codes "\n") c.from_residual-in_err-write_path.result c.from_residual-in_err-write_path.ensures.0 c.in_err-write_path.ensures))
 
 pub returns : goal.returns
 returns g c =
     let words = indexed c.args.name.now c.args.index in
-    let whole = writes_as (error_line_parts [] None c.args.code.now words) (writes_both c.in_ok-write_code.ensures (writes_both c.in_ok-write_path.ensures c.write_pieces.ensures)) in
-    record { written = whole.written; prefix = whole.prefix; cause = whole.cause }
+    writes_as (error_line_parts [] None c.args.code.now words) (writes_both c.in_ok-write_code.ensures (writes_both c.in_ok-write_path.ensures c.write_pieces.ensures))

@@ -1,8 +1,8 @@
 use Rattle.std.proofs.Common.{Ok, flat_map, take}
 use Rattle.td_io.specs.declared.writing.WriteFault.{WriteFault}
 use Rattle.td_report.specs.Report.{frame_line}
-use Rattle.td_report.specs.Writing.{Writes}
+use Rattle.td_io.specs.States.{Writes}
 use Rattle.td_report.proofs.report.write_frames.Given as goal
 
 abbrev pub invariant-loop-frame : goal.invariant-loop-frame
-invariant-loop-frame g l = Writes {T = Unit {0}} {E = WriteFault} (g.O.Sink.written l.fn.out) (g.O.Sink.written l.out) (g.O.Sink.faults l.fn.out) (g.O.Sink.faults l.out) (flat_map (frame_line l.types) (take l.frame-index l.frames)) (Ok tt)
+invariant-loop-frame g l = Writes {T = Unit {0}} {E = WriteFault} (g.O.Sink.state l.fn.out) (g.O.Sink.state l.out) (flat_map (frame_line l.types) (take l.frame-index l.frames)) (Ok tt)
