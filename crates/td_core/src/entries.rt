@@ -1,6 +1,6 @@
 //! Entry points, definitions and names by their numbers.
 
-ghost use Rattle.std.specs.Prelude.{◌≡◌, ◌<◌, ◌^◌, ◌↔◌, ℕ, IsTrue, MatchOption, option_copied};
+ghost use Rattle.std.specs.Prelude.{◌≡◌, ◌<◌, ◌^◌, ◌↔◌, ℕ, IsTrue, MatchOption, Some, None};
 ghost use Rattle.td_core.specs.Entries.{entry_definition, name_bytes, IsEntryNamed, IsFirstNamed};
 
 use crate::module::{Entry, Module, NameId, TypeDef};
@@ -8,7 +8,8 @@ use crate::module::{Entry, Module, NameId, TypeDef};
 /// The definition at which an entry point begins; none where the module has no such entry point, or that has no
 /// definition.
 pub fn entry_definition(types: &Module, entry: Entry) -> Option<&TypeDef>
-    ensures { option_copied result ≡ entry_definition types.now entry.number }
+    ensures { MatchOption result (entry_definition types.now entry.number ≡ None)
+        (λ d. entry_definition types.now entry.number ≡ Some d.now) }
 {
     let place = types.entries.as_slice().get(entry.number as usize)?;
     types.definitions.as_slice().get(*place as usize)

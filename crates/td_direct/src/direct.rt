@@ -1,36 +1,17 @@
 //! The validator.
 
-ghost use Rattle.std.specs.Prelude.{◌≡◌, ℕ, ◌*◌, ◌≤◌, List, [], IfOk, OnErr, MatchOption, Some, None};
+ghost use Rattle.std.specs.Prelude.{◌≡◌, ℕ, ◌*◌, ◌≤◌, List, [], IfOk, OnErr};
 ghost use Rattle.td_stream.specs.Loads.{Carries, Inside, IsRising};
-ghost use Rattle.td_core.specs.Entries as entries;
 ghost use Rattle.td_meaning.specs.Meaning.{meaning};
 ghost use Rattle.td_direct.specs.Telling.{IsTold};
 
 use crate::fields::validate_fields;
 use std::alloc::{AllocError, Global};
-use td_core::module::{Entry, Module, TypeDef};
+use td_core::entries::entry_definition;
+use td_core::module::{Entry, Module};
 use td_core::outcome::{Reason, Trace, Verdict};
 use td_stream::stream::Stream;
 use td_stream::words::Words;
-
-// The definition at place `place` of a module.
-fn definition_at(types: &Module, place: Option<u32>) -> Option<&TypeDef>
-    ensures { MatchOption result (entries.definition_at types.now place ≡ None)
-        (λ d. entries.definition_at types.now place ≡ Some d.now) }
-{
-    types.definitions.as_slice().get(place? as usize)
-}
-
-// The definition at which an entry point begins.
-fn entry_definition(types: &Module, entry: Entry) -> Option<&TypeDef>
-    ensures { MatchOption result (entries.entry_definition types.now entry.number ≡ None)
-        (λ d. entries.entry_definition types.now entry.number ≡ Some d.now) }
-{
-    definition_at(
-        types,
-        types.entries.as_slice().get(entry.number as usize).copied(),
-    )
-}
 
 /// Validates the message of `length` bytes in `words`, from an entry point of a module on. The arguments and the cells are
 /// the entry's. The trace is emptied first; afterwards it has the frames of the failure, the innermost first. An entry
