@@ -1,5 +1,5 @@
 -- A field, and what is left after it.
-use Rattle.std.proofs.Common.{◌≡◌, ℕ, ◌+◌, ◌<◌, ◌≤◌, Bool, true, false, cond, List, [], ◌∷◌, ◌++◌, length, refl, sym, ap, ◌∙◌, append_assoc}
+use Rattle.std.proofs.Common.{◌≡◌, ℕ, ◌+◌, ◌<◌, ◌≤◌, Bool, true, false, cond, Some, List, [], ◌∷◌, ◌++◌, length, refl, sym, ap, ◌∙◌, append_assoc}
 use Rattle.std.proofs.lemmas.Bool.{le-leb, lt-leb}
 use Rattle.td_num.specs.Numbers.{bytes_in, number_at, places_from}
 use Rattle.td_num.specs.declared.number.NumberType.{NumberType}
@@ -9,10 +9,14 @@ use Rattle.td_core.specs.declared.module.Extent.{Extent}
 use Rattle.td_core.specs.declared.module.Extent.TheVariants.{Once}
 use Rattle.td_core.specs.declared.module.Part.{Part}
 use Rattle.td_core.specs.declared.module.Field.{Field as FieldDef}
+use Rattle.td_core.specs.declared.module.TypeDef.{TypeDef}
+use Rattle.td_core.specs.declared.module.Module.{Module}
+use Rattle.td_core.specs.declared.module.Entry.{Entry}
 use Rattle.td_core.specs.declared.outcome.Reason.TheVariants.{NotEnough}
+use Rattle.td_core.specs.Entries.{entry_definition}
 use Rattle.td_core.specs.Outcome.{Ending, Accepted, Rejected, Told, plain, after_reading, onward, and_then, within, accepted, rejected, frame_at}
 use Rattle.td_meaning.specs.Naming.{is_refined, is_needed, fields_name}
-use Rattle.td_meaning.specs.Meaning.{parts_meaning, field_site, fields_meaning, shape_meaning, element_reads, element_value, first_name}
+use Rattle.td_meaning.specs.Meaning.{parts_meaning, field_site, fields_meaning, shape_meaning, element_reads, element_value, first_name, definition_meaning, meaning}
 use Rattle.td_direct.specs.Onto.{number_field}
 use Rattle.td_direct.proofs.Agreements.{fields_unnamed, neither}
 use Rattle.td_direct.proofs.PartLemmas.{parts_pass}
@@ -81,3 +85,9 @@ number_is f type e = λ i. record { element = e i; extent = once f.extent i; par
   where
     once : (x : Extent) → x ≡ Once
     once Once = refl
+
+-- the fields of an entry point's definition, over the whole of a message
+pub meaning_is : (m : Module) (entry : Entry) (args cells b : List ℕ) (d : TypeDef) (fields : List FieldDef) (env : List ℕ) (end p : ℕ) → entry_definition m entry.number ≡ Some d → fields ≡ d.fields → env ≡ args → end ≡ length b → p ≡ 0 → fields_meaning d.name fields env b end p cells ≡ meaning m entry args cells b
+meaning_is m entry args cells b d fields env end p def same scope ends start =
+    (λ i. fields_meaning d.name (same i) (scope i) b (ends i) (start i) cells)
+    ∙ sym (ap (λ x. definition_meaning x args (places_from 0 (length cells)) cells b 0 (length b)) def)

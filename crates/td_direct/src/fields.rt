@@ -1,11 +1,11 @@
 //! Fields of a struct, one after the other.
 
-ghost use Rattle.std.specs.Prelude.{◌≡◌, ℕ, ◌∷◌, ◌+◌, ◌<◌, List, [], IfOk, length, drop};
+ghost use Rattle.std.specs.Prelude.{◌≡◌, ℕ, ◌∷◌, ◌+◌, ◌<◌, List, [], IfOk, OnErr, length, drop};
 ghost use Rattle.td_stream.specs.Loads.{Carries};
 ghost use Rattle.td_stream.specs.Held.{IsStream, Later, loads_of, length_of, position, end_of};
 ghost use Rattle.td_core.specs.Outcome.{plain, and_then};
 ghost use Rattle.td_meaning.specs.Meaning.{fields_meaning};
-ghost use Rattle.td_direct.specs.Onto.{Onto, number_field, ending_of, IsAt};
+ghost use Rattle.td_direct.specs.Onto.{Onto, OnlyRead, number_field, ending_of, IsAt};
 
 use crate::parts::check_parts;
 use std::alloc::AllocError;
@@ -39,6 +39,11 @@ fn validate_number<W: Words>(
         (end_of stream.old) (position stream.old) cells)
         (and_then (plain (ending_of v trace.new cells))
         (fields_meaning ty later.now env.new.items b (end_of stream.old)))) }
+    // where there was no memory, no other words were loaded than those of its reads
+    ensures only { OnErr result ((b cells : List ℕ) → Carries (length_of stream.old) b (loads_of W.loads stream.new)
+        → OnlyRead W.loads stream.old stream.new
+        (fields_meaning ty (number_field kind parts.now ∷ later.now) env.old.items b
+        (end_of stream.old) (position stream.old) cells)) }
 {
     let start = stream.pos();
     let width = byte_count(kind.width);
@@ -89,6 +94,11 @@ fn validate_field<W: Words>(
         (end_of stream.old) (position stream.old) cells.old)
         (and_then (plain (ending_of v trace.new cells.new))
         (fields_meaning ty later.now env.new.items b (end_of stream.old)))) }
+    // where there was no memory, no other words were loaded than those of its reads
+    ensures only { OnErr result ((b : List ℕ) → Carries (length_of stream.old) b (loads_of W.loads stream.new)
+        → OnlyRead W.loads stream.old stream.new
+        (fields_meaning ty (field.now ∷ later.now) env.old.items b
+        (end_of stream.old) (position stream.old) cells.old)) }
 {
     let parts = field.parts.as_slice();
     match field.element {
@@ -129,6 +139,10 @@ pub fn validate_fields<W: Words>(
         → Onto W.loads stream.old stream.new
         (fields_meaning ty fields.now env.old.items b (end_of stream.old) (position stream.old) cells.old)
         (plain (ending_of v trace.new cells.new))) }
+    // where there was no memory, no other words were loaded than those of its reads
+    ensures only { OnErr result ((b : List ℕ) → Carries (length_of stream.old) b (loads_of W.loads stream.new)
+        → OnlyRead W.loads stream.old stream.new
+        (fields_meaning ty fields.now env.old.items b (end_of stream.old) (position stream.old) cells.old)) }
 {
     'fields: for i in 0..fields.len() {
         match validate_field(ty, &fields[i], after(fields, i), env, cells, trace, stream)? {
