@@ -1,5 +1,5 @@
 -- A field, and what is left after it.
-use Rattle.std.proofs.Common.{◌≡◌, ℕ, ◌+◌, ◌<◌, ◌≤◌, Bool, true, false, cond, Some, List, [], ◌∷◌, ◌++◌, length, refl, sym, ap, ◌∙◌, append_assoc}
+use Rattle.std.proofs.Common.{◌≡◌, ℕ, ◌+◌, ◌<◌, ◌≤◌, Bool, true, false, cond, ◌||◌, is_some, Option, Some, None, List, [], ◌∷◌, ◌++◌, length, refl, sym, ap, ◌∙◌}
 use Rattle.std.proofs.lemmas.Bool.{le-leb, lt-leb}
 use Rattle.td_num.specs.Numbers.{bytes_in, number_at, places_from}
 use Rattle.td_num.specs.declared.number.NumberType.{NumberType}
@@ -7,6 +7,7 @@ use Rattle.td_core.specs.declared.module.NameId.{NameId}
 use Rattle.td_core.specs.declared.module.Element.TheVariants.{Number, Nothing}
 use Rattle.td_core.specs.declared.module.Extent.{Extent}
 use Rattle.td_core.specs.declared.module.Extent.TheVariants.{Once}
+use Rattle.td_core.specs.declared.module.Comparison.{Comparison}
 use Rattle.td_core.specs.declared.module.Part.{Part}
 use Rattle.td_core.specs.declared.module.Field.{Field as FieldDef}
 use Rattle.td_core.specs.declared.module.TypeDef.{TypeDef}
@@ -16,18 +17,31 @@ use Rattle.td_core.specs.declared.outcome.Reason.TheVariants.{NotEnough}
 use Rattle.td_core.specs.Entries.{entry_definition}
 use Rattle.td_core.specs.Outcome.{Ending, Accepted, Rejected, Told, plain, after_reading, onward, and_then, within, accepted, rejected, frame_at}
 use Rattle.td_meaning.specs.Naming.{is_refined, is_needed, fields_name}
-use Rattle.td_meaning.specs.Meaning.{parts_meaning, field_site, fields_meaning, shape_meaning, element_reads, element_value, first_name, definition_meaning, meaning}
+use Rattle.td_meaning.specs.Meaning.{parts_meaning, refined, field_site, fields_meaning, shape_meaning, element_reads, element_value, first_name, definition_meaning, meaning}
+use Rattle.td_meaning.proofs.Steps.{reading_then}
+use Rattle.td_meaning.proofs.Deciding.{fields_same, agree_more}
 use Rattle.td_direct.specs.Onto.{number_field}
-use Rattle.td_direct.proofs.Agreements.{fields_unnamed, neither}
-use Rattle.td_direct.proofs.PartLemmas.{parts_pass}
 
--- what follows a reading
-reading_then : (places : List ℕ) (x : Told) (go : ℕ → List ℕ → Told) → and_then (after_reading places x) go ≡ after_reading places (and_then x go)
-reading_then places x go = by_ending x.ending
+neither : (a b : Bool) → (a || b) ≡ false → (a ≡ false) × (b ≡ false)
+neither true b h = absurd (let f : true ≡ false = h in cc)
+neither false b h = (refl, h)
+
+-- parts without a refinement pass
+parts_pass : (ty : NameId) (parts : List Part) (env : List ℕ) (start q : ℕ) (cells : List ℕ) → is_refined parts ≡ false → parts_meaning ty parts env start q cells ≡ accepted q cells
+unfolding parts_meaning
+parts_pass ty [] env start q cells h = refl
+parts_pass ty (part ∷ parts) env start q cells h = one part.refinement (λ e. parts_pass ty parts env start q cells e) h
   where
-    by_ending : (o : Ending) → onward o (places ++ x.reads) go ≡ after_reading places (onward o x.reads go)
-    by_ending (Accepted q cells) = λ i. record { ending = (go q cells).ending; reads = append_assoc places x.reads (go q cells).reads i }
-    by_ending (Rejected reason at trace cells) = refl
+    one : (o : Option Comparison) → (is_refined parts ≡ false → parts_meaning ty parts env start q cells ≡ accepted q cells) → (is_some o || is_refined parts) ≡ false → and_then (within (field_site ty part.name start) (refined o env start q cells)) (parts_meaning ty parts env start) ≡ accepted q cells
+    one None go e = go e
+    one (Some t) go e = absurd (let f : true ≡ false = e in cc)
+
+-- an unnamed value may be taken for 0
+fields_unnamed : (ty : NameId) (later : List FieldDef) (env b : List ℕ) (v end p : ℕ) (cells : List ℕ) → fields_name (length env) later ≡ false → fields_meaning ty later (env ++ v ∷ []) b end p cells ≡ fields_meaning ty later (env ++ 0 ∷ []) b end p cells
+fields_unnamed ty later env b v end p cells h =
+    fields_same b b ty later (env ++ v ∷ []) (env ++ 0 ∷ []) end p cells
+    (agree_more (λ i. fields_name i later) env env v 0 (λ i apart named. refl) refl (λ named. absurd (let f : true ≡ false = sym named ∙ h in cc)))
+    (λ k d lt. refl)
 
 pub fields_none : (ty : NameId) (env b : List ℕ) (end p : ℕ) (cells : List ℕ) → fields_meaning ty [] env b end p cells ≡ accepted p cells
 unfolding fields_meaning

@@ -1,10 +1,10 @@
 //! The plain program: a validation over the whole of a message, field by field.
 
-ghost use Rattle.std.specs.Prelude.{◌≡◌, ℕ, ◌+◌, ◌≤◌, ◌<◌, ◌^◌, List, [], ◌∷◌, length, IfOk, MatchOption};
+ghost use Rattle.std.specs.Prelude.{◌≡◌, ℕ, ◌+◌, ◌≤◌, ◌<◌, ◌^◌, List, [], ◌∷◌, length, IfOk, IfSome, MatchOption};
 ghost use Rattle.td_core.specs.declared.module.Field.{Field};
 ghost use Rattle.td_core.specs.declared.outcome.Reason.{Reason};
 ghost use Rattle.td_core.specs.Outcome.{Accepted, Rejected, frame_at, accepted, rejected, outcome_of};
-ghost use Rattle.td_meaning.specs.Meaning.{taken, element_meaning, field_site, parts_meaning, field_meaning, fields_meaning, extended, meaning};
+ghost use Rattle.td_meaning.specs.Meaning.{taken, element_meaning, StandsBefore, field_site, parts_meaning, field_meaning, fields_meaning, extended, meaning};
 
 use crate::naming::first_name;
 use crate::numbers::element_value;
@@ -52,7 +52,8 @@ fn struct_outcome(
     cells: Items<u64>,
 ) -> Result<Outcome, AllocError>
     requires { length message.now < 2 ^ 32 }
-    ensures { IfOk result (λ o. o ≡ outcome_of (fields_meaning definition.now.name definition.now.fields args.now message.now (length message.now) 0 cells).ending) }
+    ensures { IfOk result (λ o. o ≡ outcome_of (fields_meaning definition.now.name definition.now.fields
+        args.now message.now (length message.now) 0 cells).ending) }
 {
     let mut env = Vec::from_slice(alloc, args)?;
     let mut position = 0;
@@ -78,7 +79,7 @@ fn struct_outcome(
     Ok(accepted(alloc, position, cells))
 }
 
-// A field's bytes, and then its parts. Its value comes into scope.
+// A field's bytes, and then its parts. The value of a field that has its bytes comes into scope.
 fn field_outcome(
     alloc: Global,
     ty: NameId,
@@ -89,13 +90,18 @@ fn field_outcome(
     cells: Items<u64>,
 ) -> Result<Outcome, AllocError>
     requires { length message.now < 2 ^ 32 }
-    ensures scope { IfOk result (λ o. env.new.items ≡ extended env.old.items field.now message.now start) }
-    ensures told { IfOk result (λ o. (later : List Field) → o ≡ outcome_of (field_meaning ty field.now later env.old.items message.now (length message.now) start cells).ending) }
+    ensures scope { IfOk result (λ o. (q : ℕ) → o.verdict ≡ Verdict.Accept q
+        → env.new.items ≡ extended env.old.items field.now message.now start) }
+    ensures told { IfOk result (λ o. (later : List Field)
+        → o ≡ outcome_of (field_meaning ty field.now later env.old.items
+        message.now (length message.now) start cells).ending) }
 {
-    env.push(element_value(field.element, message, start))?;
     let parts = field.parts.as_slice();
     match element_end(field.element, start, message.len() as u32) {
-        Some(position) => parts_outcome(alloc, ty, parts, env.as_slice(), start, position, cells),
+        Some(position) => {
+            env.push(element_value(field.element, message, start))?;
+            parts_outcome(alloc, ty, parts, env.as_slice(), start, position, cells)
+        }
         None => failed(
             alloc,
             ty,
@@ -109,7 +115,10 @@ fn field_outcome(
 
 /// The place behind an element; none where too few bytes stand before the end.
 pub fn element_end(element: Element, start: u32, end: u32) -> Option<u32>
-    ensures { (message cells : List ℕ) → MatchOption result (element_meaning element message end start cells ≡ rejected Reason.NotEnough start cells) (λ q. element_meaning element message end start cells ≡ accepted q cells) }
+    ensures told { (message cells : List ℕ) → MatchOption result
+        (element_meaning element message end start cells ≡ rejected Reason.NotEnough start cells)
+        (λ q. element_meaning element message end start cells ≡ accepted q cells) }
+    ensures stands { IfSome result (λ q. StandsBefore element start end) }
 {
     match element {
         Element::Number(kind) => taken(byte_count(kind.width), start, end),
@@ -119,7 +128,10 @@ pub fn element_end(element: Element, start: u32, end: u32) -> Option<u32>
 
 /// The place behind `count` bytes from `start` on; none where fewer stand before the end.
 pub fn taken(count: u32, start: u32, end: u32) -> Option<u32>
-    ensures { (cells : List ℕ) → MatchOption result (taken count end start cells ≡ rejected Reason.NotEnough start cells) (λ q. taken count end start cells ≡ accepted q cells) }
+    ensures told { (cells : List ℕ) → MatchOption result
+        (taken count end start cells ≡ rejected Reason.NotEnough start cells)
+        (λ q. taken count end start cells ≡ accepted q cells) }
+    ensures within { IfSome result (λ q. start + count ≤ end) }
 {
     let behind = start.checked_add(count)?;
     if behind <= end { Some(behind) } else { None }
@@ -164,7 +176,8 @@ fn failed(
     start: u32,
     cells: Items<u64>,
 ) -> Result<Outcome, AllocError>
-    ensures { IfOk result (λ o. o ≡ outcome_of (Rejected reason start (frame_at (field_site ty name start) reason ∷ []) cells)) }
+    ensures { IfOk result (λ o. o ≡
+        outcome_of (Rejected reason start (frame_at (field_site ty name start) reason ∷ []) cells)) }
 {
     let mut trace = Items::new(alloc);
     trace.push(TraceFrame {
