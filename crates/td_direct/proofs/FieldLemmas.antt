@@ -1,5 +1,5 @@
 -- A field, and what is left after it.
-use Rattle.std.proofs.Common.{◌≡◌, ℕ, ◌+◌, ◌<◌, ◌≤◌, Bool, true, false, cond, List, [], ◌∷◌, ◌++◌, length, refl, sym, ap, ◌∙◌, append_assoc}
+use Rattle.std.proofs.Common.{◌≡◌, ℕ, ◌+◌, ◌<◌, ◌≤◌, Bool, true, false, cond, ◌||◌, is_some, Option, Some, None, List, [], ◌∷◌, ◌++◌, length, refl, sym, ap, ◌∙◌}
 use Rattle.std.proofs.lemmas.Bool.{le-leb, lt-leb}
 use Rattle.td_num.specs.Numbers.{bytes_in, number_at, places_from}
 use Rattle.td_num.specs.declared.number.NumberType.{NumberType}
@@ -7,23 +7,41 @@ use Rattle.td_core.specs.declared.module.NameId.{NameId}
 use Rattle.td_core.specs.declared.module.Element.TheVariants.{Number, Nothing}
 use Rattle.td_core.specs.declared.module.Extent.{Extent}
 use Rattle.td_core.specs.declared.module.Extent.TheVariants.{Once}
+use Rattle.td_core.specs.declared.module.Comparison.{Comparison}
 use Rattle.td_core.specs.declared.module.Part.{Part}
 use Rattle.td_core.specs.declared.module.Field.{Field as FieldDef}
+use Rattle.td_core.specs.declared.module.TypeDef.{TypeDef}
+use Rattle.td_core.specs.declared.module.Module.{Module}
+use Rattle.td_core.specs.declared.module.Entry.{Entry}
 use Rattle.td_core.specs.declared.outcome.Reason.TheVariants.{NotEnough}
+use Rattle.td_core.specs.Entries.{entry_definition}
 use Rattle.td_core.specs.Outcome.{Ending, Accepted, Rejected, Told, plain, after_reading, onward, and_then, within, accepted, rejected, frame_at}
 use Rattle.td_meaning.specs.Naming.{is_refined, is_needed, fields_name}
-use Rattle.td_meaning.specs.Meaning.{parts_meaning, field_site, fields_meaning, shape_meaning, element_reads, element_value, first_name}
+use Rattle.td_meaning.specs.Meaning.{parts_meaning, refined, field_site, fields_meaning, shape_meaning, element_reads, element_value, first_name, definition_meaning, meaning}
+use Rattle.td_meaning.proofs.Steps.{reading_then}
+use Rattle.td_meaning.proofs.Deciding.{fields_same, agree_more}
 use Rattle.td_direct.specs.Onto.{number_field}
-use Rattle.td_direct.proofs.Agreements.{fields_unnamed, neither}
-use Rattle.td_direct.proofs.PartLemmas.{parts_pass}
 
--- what follows a reading
-reading_then : (places : List ℕ) (x : Told) (go : ℕ → List ℕ → Told) → and_then (after_reading places x) go ≡ after_reading places (and_then x go)
-reading_then places x go = by_ending x.ending
+neither : (a b : Bool) → (a || b) ≡ false → (a ≡ false) × (b ≡ false)
+neither true b h = absurd (let f : true ≡ false = h in cc)
+neither false b h = (refl, h)
+
+-- parts without a refinement pass
+parts_pass : (ty : NameId) (parts : List Part) (env : List ℕ) (start q : ℕ) (cells : List ℕ) → is_refined parts ≡ false → parts_meaning ty parts env start q cells ≡ accepted q cells
+unfolding parts_meaning
+parts_pass ty [] env start q cells h = refl
+parts_pass ty (part ∷ parts) env start q cells h = one part.refinement (λ e. parts_pass ty parts env start q cells e) h
   where
-    by_ending : (o : Ending) → onward o (places ++ x.reads) go ≡ after_reading places (onward o x.reads go)
-    by_ending (Accepted q cells) = λ i. record { ending = (go q cells).ending; reads = append_assoc places x.reads (go q cells).reads i }
-    by_ending (Rejected reason at trace cells) = refl
+    one : (o : Option Comparison) → (is_refined parts ≡ false → parts_meaning ty parts env start q cells ≡ accepted q cells) → (is_some o || is_refined parts) ≡ false → and_then (within (field_site ty part.name start) (refined o env start q cells)) (parts_meaning ty parts env start) ≡ accepted q cells
+    one None go e = go e
+    one (Some t) go e = absurd (let f : true ≡ false = e in cc)
+
+-- an unnamed value may be taken for 0
+fields_unnamed : (ty : NameId) (later : List FieldDef) (env b : List ℕ) (v end p : ℕ) (cells : List ℕ) → fields_name (length env) later ≡ false → fields_meaning ty later (env ++ v ∷ []) b end p cells ≡ fields_meaning ty later (env ++ 0 ∷ []) b end p cells
+fields_unnamed ty later env b v end p cells h =
+    fields_same b b ty later (env ++ v ∷ []) (env ++ 0 ∷ []) end p cells
+    (agree_more (λ i. fields_name i later) env env v 0 (λ i apart named. refl) refl (λ named. absurd (let f : true ≡ false = sym named ∙ h in cc)))
+    (λ k d lt. refl)
 
 pub fields_none : (ty : NameId) (env b : List ℕ) (end p : ℕ) (cells : List ℕ) → fields_meaning ty [] env b end p cells ≡ accepted p cells
 unfolding fields_meaning
@@ -81,3 +99,9 @@ number_is f type e = λ i. record { element = e i; extent = once f.extent i; par
   where
     once : (x : Extent) → x ≡ Once
     once Once = refl
+
+-- the fields of an entry point's definition, over the whole of a message
+pub meaning_is : (m : Module) (entry : Entry) (args cells b : List ℕ) (d : TypeDef) (fields : List FieldDef) (env : List ℕ) (end p : ℕ) → entry_definition m entry.number ≡ Some d → fields ≡ d.fields → env ≡ args → end ≡ length b → p ≡ 0 → fields_meaning d.name fields env b end p cells ≡ meaning m entry args cells b
+meaning_is m entry args cells b d fields env end p def same scope ends start =
+    (λ i. fields_meaning d.name (same i) (scope i) b (ends i) (start i) cells)
+    ∙ sym (ap (λ x. definition_meaning x args (places_from 0 (length cells)) cells b 0 (length b)) def)

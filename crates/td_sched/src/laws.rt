@@ -14,11 +14,15 @@ pub fn loads_are_planned()
 
 /// Law: load k of word i gives what the plan has in word i at load k, where the loads before it were the plan's.
 pub fn next_load_is_planned()
-    ensures { (v w : Playing) (i value : ℕ) → ArePlanned v.opening v.stores 0 v.loads → Plays v w → w.loads ≡ v.loads ++ (record { word = i; value = value }) ∷ [] → value ≡ at v.opening v.stores (length v.loads) i }
+    ensures { (v w : Playing) (i value : ℕ) → ArePlanned v.opening v.stores 0 v.loads → Plays v w
+        → w.loads ≡ v.loads ++ (record { word = i; value = value }) ∷ []
+        → value ≡ at v.opening v.stores (length v.loads) i }
 {}
 
 /// Law: loads are those of a plan exactly where plain memory gives them when its stores and loads happen one by one,
 /// the stores of a number right before the load of that number.
 pub fn planned_loads_happen()
-    ensures { (opening : List ℕ) (stores : List PlannedStore) (loads : List Load) → All (λ l. l.word < length opening) loads → ArePlanned opening stores 0 loads ↔ Happens opening (events stores 0 loads) }
+    ensures { (opening : List ℕ) (stores : List PlannedStore) (loads : List Load)
+        → All (λ l. l.word < length opening) loads
+        → ArePlanned opening stores 0 loads ↔ Happens opening (events stores 0 loads) }
 {}

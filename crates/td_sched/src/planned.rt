@@ -31,9 +31,11 @@ impl Model for Planned {
 
     ghost Value = { Playing };
 
-    ghost view = { λ p. record { opening = p.opening.value.items; stores = p.given.value.items; loads = p.loads.items } };
+    ghost view = { λ p.
+        record { opening = p.opening.value.items; stores = p.given.value.items; loads = p.loads.items } };
 
-    ghost invariant = { λ p. IsPlayed p.opening.value.items p.given.value.items p.words.items p.stores.items p.made p.loads.items (vec_capacity p.loads) };
+    ghost invariant = { λ p. IsPlayed p.opening.value.items p.given.value.items
+        p.words.items p.stores.items p.made p.loads.items (vec_capacity p.loads) };
 }
 
 impl Planned {

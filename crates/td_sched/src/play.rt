@@ -30,9 +30,12 @@ pub fn play(words: &mut Vec<u64>, stores: &[PlannedStore], from: usize, load: u6
     requires { from ≤ length stores.now }
     ensures reached { result ≤ length stores.now }
     ensures same_size { length words.new.items ≡ length words.old.items }
-    ensures words { (opening : List ℕ) → words.old.items ≡ stored opening (take from stores.now) → words.new.items ≡ stored opening (take result stores.now) }
-    ensures due { All (λ s. s.before ≤ load) (take from stores.now) → All (λ s. s.before ≤ load) (take result stores.now) }
-    ensures stop { (d : PlannedStore) → result < length stores.now → load < (slice_index_or stores.now result d).before }
+    ensures words { (opening : List ℕ) → words.old.items ≡ stored opening (take from stores.now)
+        → words.new.items ≡ stored opening (take result stores.now) }
+    ensures due { All (λ s. s.before ≤ load) (take from stores.now)
+        → All (λ s. s.before ≤ load) (take result stores.now) }
+    ensures stop { (d : PlannedStore) → result < length stores.now
+        → load < (slice_index_or stores.now result d).before }
 {
     let mut next = from;
     'stores: while next < stores.len() && stores[next].before <= load {

@@ -6,7 +6,7 @@ use Rattle.td_core.specs.declared.outcome.Reason.TheVariants.{Constraint}
 use Rattle.td_meaning.specs.Value.{is_met}
 use Rattle.td_core.specs.Outcome.{plain, Rejected, frame_at}
 use Rattle.td_meaning.specs.Meaning.{parts_meaning, field_site}
-use Rattle.td_direct.proofs.PartLemmas.{parts_met, parts_unmet, parts_none}
+use Rattle.td_meaning.proofs.Steps.{parts_met, parts_unmet, parts_over}
 use Rattle.td_direct.proofs.parts.check_parts.Goals as goal
 
 abbrev none : Part
@@ -41,4 +41,4 @@ returns-clause-told c = λ cells.
     let n = c.loop-part.part-index in
     let parts : List Part = a.parts.now in
     let e : drop n parts ≡ [] = drop_all n parts (omega (arith, c.loop-part-test.false)) in
-    c.loop-part.invariant.rest cells ∙ (ap (λ ps. parts_meaning a.ty ps a.env.now a.start a.pos cells) e ∙ parts_none a.ty a.env.now a.start a.pos cells)
+    c.loop-part.invariant.rest cells ∙ parts_over a.ty (drop n parts) a.env.now a.start a.pos cells e

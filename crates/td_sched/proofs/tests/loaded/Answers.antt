@@ -2,7 +2,7 @@ use Rattle.std.proofs.Common.{◌+◌, ◌≤◌, sym, subst}
 use Rattle.std.specs.Prelude.{slice_index_or}
 use Rattle.td_stream.specs.declared.load.Load.{Load}
 use Rattle.td_stream.specs.Loads.{IsNext}
-use Rattle.td_sched.proofs.Rising.{next_later, next_after}
+use Rattle.td_stream.proofs.Rising.{next_later, next_after}
 use Rattle.td_sched.proofs.tests.loaded.Goals as goal
 
 pub places-preserved : goal.places-preserved

@@ -1,6 +1,6 @@
 use Rattle.std.proofs.Common.{rules, ◌≡◌, ◌<◌, ◌≤◌, ◌+◌, length, ap, sym, ◌∙◌, subst, arith, refl, vec_capacity}
 use Rattle.td_stream.specs.declared.load.Load.{Load}
-use Rattle.td_sched.proofs.Rising.{few}
+use Rattle.td_stream.proofs.Rising.{few}
 use Rattle.td_stream.specs.Loads.{IsNext}
 use Rattle.td_sched.specs.Plan.{ArePlanned, at}
 use Rattle.td_sched.specs.Played.{IsPlayed}
