@@ -1,8 +1,8 @@
 //! What stands at the front of a text.
 
-ghost use Rattle.std.specs.Prelude.{◌≡◌, ◌<◌, ◌^◌, IfOk, length};
+ghost use Rattle.std.specs.Prelude.{◌≡◌, ◌<◌, ◌^◌, IfOk, OnErr, length};
 ghost use Rattle.td_lexer.specs.Scanner as scanner;
-ghost use Rattle.td_lexer.specs.Steps.{IsWithin};
+ghost use Rattle.td_lexer.specs.Steps.{IsWithin, HoldsName};
 
 use crate::bytes::{is_blank, is_digit, is_letter, line_run};
 use crate::comments::block_piece;
@@ -31,7 +31,8 @@ pub enum Piece {
 #[tactic(auto, unfolding(crate::specs::Scanner::piece))]
 fn front(alloc: Global, bytes: &[u8]) -> Result<Piece, AllocError>
     requires { (0 < length bytes.now) × (length bytes.now < 2 ^ 32) }
-    ensures { IfOk result (λ piece. piece ≡ scanner.piece bytes.now) }
+    ensures piece { IfOk result (λ piece. piece ≡ scanner.piece bytes.now) }
+    ensures memory { OnErr result (HoldsName (scanner.piece bytes.now)) }
 {
     match bytes {
         [] => Ok(Piece::Passed(0)),
@@ -49,6 +50,7 @@ pub fn next_piece(alloc: Global, bytes: &[u8]) -> Result<Piece, AllocError>
     requires { (0 < length bytes.now) × (length bytes.now < 2 ^ 32) }
     ensures piece { IfOk result (λ piece. piece ≡ scanner.piece bytes.now) }
     ensures within { IfOk result (IsWithin (length bytes.now)) }
+    ensures memory { OnErr result (HoldsName (scanner.piece bytes.now)) }
 {
     front(alloc, bytes)
 }
