@@ -7,7 +7,7 @@ use Rattle.td_lexer.specs.declared.error.LexError.TheVariants.{NoMemory, BadByte
 use Rattle.td_lexer.specs.declared.piece.Piece.{Piece}
 use Rattle.td_lexer.specs.declared.piece.Piece.TheVariants.{Passed, Found, Bad, Open, Big}
 use Rattle.td_lexer.specs.Scanner.{piece}
-use Rattle.td_lexer.specs.Splits.{SplitsUpTo, Splits, HasToken, Fails, IsRefused}
+use Rattle.td_lexer.specs.Splits.{SplitsUpTo, Splits, Fails}
 use Rattle.td_lexer.specs.Splits.SplitsUpTo.{splits_here, splits_passed, splits_token}
 use Rattle.td_lexer.specs.Steps.{IsWithin, reach, end_at, tokens_in, IsToken, HoldsName, BeginsToken, Steps, Stops}
 use Rattle.td_lexer.proofs.Sound.{Sound, piece_sound}

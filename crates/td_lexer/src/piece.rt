@@ -27,7 +27,7 @@ pub enum Piece {
     Big,
 }
 
-/// What stands at the front of the bytes. `AllocError`: there was no memory for a name.
+/// What stands at the front of the bytes. `AllocError`: it is a name, and there was no memory for it.
 #[tactic(auto, unfolding(crate::specs::Scanner::piece))]
 fn front(alloc: Global, bytes: &[u8]) -> Result<Piece, AllocError>
     requires { (0 < length bytes.now) × (length bytes.now < 2 ^ 32) }
@@ -45,7 +45,7 @@ fn front(alloc: Global, bytes: &[u8]) -> Result<Piece, AllocError>
     }
 }
 
-/// What stands at the front of the bytes, within them. `AllocError`: there was no memory for a name.
+/// What stands at the front of the bytes, within them. `AllocError`: it is a name, and there was no memory for it.
 pub fn next_piece(alloc: Global, bytes: &[u8]) -> Result<Piece, AllocError>
     requires { (0 < length bytes.now) × (length bytes.now < 2 ^ 32) }
     ensures piece { IfOk result (λ piece. piece ≡ scanner.piece bytes.now) }

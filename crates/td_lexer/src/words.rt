@@ -137,7 +137,7 @@ fn keyword(word: &[u8]) -> Option<TokenKind>
     }
 }
 
-/// The token that a word is: a keyword, or else a name. `AllocError`: there was no memory for the name.
+/// The token that a word is: a keyword, or else a name. `AllocError`: it is a name, and there was no memory for it.
 fn word_kind(alloc: Global, word: &[u8]) -> Result<TokenKind, AllocError>
     ensures kind { IfOk result (λ kind. kind ≡ scanner.word_kind word.now) }
     ensures memory { OnErr result (IsNameKind (scanner.word_kind word.now)) }
@@ -148,7 +148,8 @@ fn word_kind(alloc: Global, word: &[u8]) -> Result<TokenKind, AllocError>
     }
 }
 
-/// The word at the front of bytes, of which the first is a letter. `AllocError`: there was no memory for its name.
+/// The word at the front of bytes, of which the first is a letter. `AllocError`: it is a name, and there was no memory
+/// for it.
 #[tactic(auto, unfolding(crate::specs::Scanner::word_piece))]
 pub(crate) fn word_piece(alloc: Global, bytes: &[u8]) -> Result<Piece, AllocError>
     ensures piece { IfOk result (λ piece. piece ≡ scanner.word_piece bytes.now) }
