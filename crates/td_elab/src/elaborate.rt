@@ -75,6 +75,7 @@ fn answer(found: Module, first: Option<Breach>) -> Result<Module, ElabError>
     }
 }
 
+// The error that names a breach.
 fn error_of(breach: Breach) -> ElabError
     ensures { result ≡ error_of breach }
 {
@@ -103,7 +104,8 @@ fn module(alloc: Global, tree: &ModuleTree, findings: &mut Findings) -> Result<M
     })
 }
 
-// The names of definitions and fields, as they are seen first.
+// The names of definitions and fields, as they are seen first. `AllocError`: there is a definition, and there was no
+// memory for its names.
 fn all_names(alloc: Global, trees: &[StructTree]) -> Result<Names, AllocError>
     ensures names { IfOk result (λ n. n ≡ all_names [] trees.now) }
     ensures memory { OnErr result (0 < length trees.now) }
@@ -115,6 +117,7 @@ fn all_names(alloc: Global, trees: &[StructTree]) -> Result<Names, AllocError>
     Ok(names)
 }
 
+// The names of a definition's fields, and then its own.
 fn see_definition(alloc: Global, tree: &StructTree, names: &mut Names) -> Result<(), AllocError>
     ensures { OnOk result (names.new ≡ names_after names.old tree.now) }
 {
@@ -122,6 +125,7 @@ fn see_definition(alloc: Global, tree: &StructTree, names: &mut Names) -> Result
     names.see(alloc, tree.name.text.as_slice())
 }
 
+// The names of fields. `AllocError`: there are some, and there was no memory for them.
 fn see_fields(alloc: Global, trees: &[FieldTree], names: &mut Names) -> Result<(), AllocError>
     ensures names { OnOk result (names.new ≡ fields_seen names.old trees.now) }
     ensures memory { OnErr result (0 < length trees.now) }
@@ -154,6 +158,7 @@ fn definitions(
     Ok(definitions)
 }
 
+// The definition, with the names of those before it.
 #[tactic(auto, using(crate::proofs::Steps::first_append))]
 fn definition(
     alloc: Global,
@@ -177,7 +182,7 @@ fn definition(
     })
 }
 
-// The places of the entry points: every definition is one.
+// The places of the entry points, of which there are so many: every definition is one.
 fn entries(alloc: Global, count: u32) -> Result<Items<u32>, AllocError>
     ensures places { IfOk result (λ e. e ≡ places_from 0 count) }
     ensures memory { OnErr result (0 < count) }
