@@ -3,3 +3,4 @@ pub mod Steps
 pub mod Reading
 pub mod Forms
 pub mod Numbering
+pub mod Answering

@@ -1,6 +1,6 @@
 //! The module that a tree stands for, or the first breach of a rule.
 
-ghost use Rattle.std.specs.Prelude.{◌≡◌, ◌<◌, ◌^◌, [], length, OnOk, IfOk, IfErr, MatchResult, All};
+ghost use Rattle.std.specs.Prelude.{◌≡◌, ◌<◌, ◌^◌, [], length, Ok, Err, OnOk, OnErr, IfOk, IfErr, MatchOption, MatchResult, All};
 ghost use Rattle.td_num.specs.Numbers.{places_from};
 ghost use Rattle.td_elab.specs.Breach.{first_of, IsFirst};
 ghost use Rattle.td_elab.specs.Rules.{breaches, definition_breaches, definitions_breaches, StandsFor};
@@ -29,12 +29,24 @@ pub enum ElabError {
     /// N2: a name that was given before; the place is the second.
     #[error("name twice")]
     Twice { span: Span },
+    /// There was no memory for the module.
     #[error("out of memory")]
     NoMemory,
 }
 
+impl From<AllocError> for ElabError {
+    ghost use Rattle.std.specs.Prelude.{◌≡◌};
+    ghost use Rattle.td_elab.specs.declared.elaborate.ElabError.TheVariants.{NoMemory};
+
+    ghost from_gives = { λ _ e. e ≡ NoMemory };
+
+    fn from(_error: AllocError) -> ElabError {
+        ElabError::NoMemory
+    }
+}
+
 /// The module that a tree stands for. Where there is none, the error names the first breach of a rule: the least by
-/// place, then by the order of the rules.
+/// place, then by the order of the rules. `NoMemory`: there is a definition, and there was no memory for the module.
 pub fn elaborate(alloc: Global, tree: &ModuleTree) -> Result<Module, ElabError>
     requires definitions { length tree.now.definitions < 2 ^ 32 }
     requires fields { All (λ d. length d.fields < 2 ^ 32) tree.now.definitions }
@@ -46,17 +58,24 @@ pub fn elaborate(alloc: Global, tree: &ModuleTree) -> Result<Module, ElabError>
     ensures levels { IfOk result (λ m. IsEachInScope m) }
     ensures entries { IfOk result (λ m. IsEachEntryThere m) }
     ensures names { IfOk result (λ m. IsEachNameThere m) }
+    ensures memory { result ≡ Err ElabError.NoMemory → 0 < length tree.now.definitions }
 {
     let mut findings = Findings::new();
-    let Ok(module) = module(alloc, tree, &mut findings) else {
-        return Err(ElabError::NoMemory);
-    };
-    match findings.first {
-        None => Ok(module),
+    let module = module(alloc, tree, &mut findings)?;
+    answer(module, findings.first)
+}
+
+// The module, or the error that names the breach. Takes no memory.
+fn answer(found: Module, first: Option<Breach>) -> Result<Module, ElabError>
+    ensures { MatchOption first (result ≡ Ok found) (λ breach. result ≡ Err (error_of breach)) }
+{
+    match first {
+        None => Ok(found),
         Some(breach) => Err(error_of(breach)),
     }
 }
 
+// The error that names a breach.
 fn error_of(breach: Breach) -> ElabError
     ensures { result ≡ error_of breach }
 {
@@ -73,6 +92,7 @@ fn module(alloc: Global, tree: &ModuleTree, findings: &mut Findings) -> Result<M
     requires fields { All (λ d. length d.fields < 2 ^ 32) tree.now.definitions }
     ensures core { IfOk result (λ m. m ≡ module_of tree.now.definitions) }
     ensures first { OnOk result (findings.new.first ≡ first_of findings.old.first (breaches tree.now)) }
+    ensures memory { OnErr result (0 < length tree.now.definitions) }
 {
     let trees = tree.definitions.as_slice();
     let names = all_names(alloc, trees)?;
@@ -84,9 +104,11 @@ fn module(alloc: Global, tree: &ModuleTree, findings: &mut Findings) -> Result<M
     })
 }
 
-// The names of definitions and fields, as they are seen first.
+// The names of definitions and fields, as they are seen first. `AllocError`: there is a definition, and there was no
+// memory for its names.
 fn all_names(alloc: Global, trees: &[StructTree]) -> Result<Names, AllocError>
-    ensures { IfOk result (λ n. n ≡ all_names [] trees.now) }
+    ensures names { IfOk result (λ n. n ≡ all_names [] trees.now) }
+    ensures memory { OnErr result (0 < length trees.now) }
 {
     let mut names = Names::new(alloc);
     for tree in trees {
@@ -95,6 +117,7 @@ fn all_names(alloc: Global, trees: &[StructTree]) -> Result<Names, AllocError>
     Ok(names)
 }
 
+// The names of a definition's fields, and then its own.
 fn see_definition(alloc: Global, tree: &StructTree, names: &mut Names) -> Result<(), AllocError>
     ensures { OnOk result (names.new ≡ names_after names.old tree.now) }
 {
@@ -102,8 +125,10 @@ fn see_definition(alloc: Global, tree: &StructTree, names: &mut Names) -> Result
     names.see(alloc, tree.name.text.as_slice())
 }
 
+// The names of fields. `AllocError`: there are some, and there was no memory for them.
 fn see_fields(alloc: Global, trees: &[FieldTree], names: &mut Names) -> Result<(), AllocError>
-    ensures { OnOk result (names.new ≡ fields_seen names.old trees.now) }
+    ensures names { OnOk result (names.new ≡ fields_seen names.old trees.now) }
+    ensures memory { OnErr result (0 < length trees.now) }
 {
     for tree in trees {
         names.see(alloc, tree.name.text.as_slice())?;
@@ -121,6 +146,7 @@ fn definitions(
     requires { All (λ d. length d.fields < 2 ^ 32) trees.now }
     ensures core { IfOk result (λ ds. ds ≡ definitions_of names.now trees.now) }
     ensures first { OnOk result (findings.new.first ≡ first_of findings.old.first (definitions_breaches [] trees.now)) }
+    ensures memory { OnErr result (0 < length trees.now) }
 {
     let mut earlier = Names::new(alloc);
     let mut definitions = Items::new(alloc);
@@ -132,6 +158,7 @@ fn definitions(
     Ok(definitions)
 }
 
+// The definition, with the names of those before it.
 #[tactic(auto, using(crate::proofs::Steps::first_append))]
 fn definition(
     alloc: Global,
@@ -155,9 +182,10 @@ fn definition(
     })
 }
 
-// The places of the entry points: every definition is one.
+// The places of the entry points, of which there are so many: every definition is one.
 fn entries(alloc: Global, count: u32) -> Result<Items<u32>, AllocError>
-    ensures { IfOk result (λ e. e ≡ places_from 0 count) }
+    ensures places { IfOk result (λ e. e ≡ places_from 0 count) }
+    ensures memory { OnErr result (0 < count) }
 {
     let mut entries = Items::new(alloc);
     for place in 0..count {

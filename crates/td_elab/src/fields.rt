@@ -1,6 +1,6 @@
 //! The fields of a struct, and the breaches in them.
 
-ghost use Rattle.std.specs.Prelude.{◌≡◌, ◌<◌, ◌^◌, [], OnOk, IfOk, length};
+ghost use Rattle.std.specs.Prelude.{◌≡◌, ◌<◌, ◌^◌, [], OnOk, OnErr, IfOk, length};
 ghost use Rattle.td_elab.specs.Breach.{first_of};
 ghost use Rattle.td_elab.specs.Rules.{refinement_breaches, field_breaches, fields_breaches};
 ghost use Rattle.td_elab.specs.Stands.{comparison_of, field_of, fields_of};
@@ -12,7 +12,7 @@ use td_ast::tree::{ComparisonTree, FieldTree};
 use td_core::module::{Comparison, Element, Extent, Field, NameId, Part};
 use td_num::items::Items;
 
-/// The fields of a struct. `AllocError`: there was no memory for them.
+/// The fields of a struct. `AllocError`: there are some, and there was no memory for them.
 pub fn fields(
     alloc: Global,
     names: &Names,
@@ -22,6 +22,7 @@ pub fn fields(
     requires { length trees.now < 2 ^ 32 }
     ensures core { IfOk result (λ fs. fs ≡ fields_of names.now 0 trees.now) }
     ensures first { OnOk result (findings.new.first ≡ first_of findings.old.first (fields_breaches [] trees.now)) }
+    ensures memory { OnErr result (0 < length trees.now) }
 {
     let mut earlier = Names::new(alloc);
     let mut fields = Items::new(alloc);

@@ -3,7 +3,7 @@
 //! first breach of a rule of names.
 #![tactic(auto)]
 
-pub mod breach;
+mod breach;
 pub mod elaborate;
 mod fields;
 pub mod laws;

@@ -1,6 +1,6 @@
 //! Names, numbered in the order in which they are seen first.
 
-ghost use Rattle.std.specs.Prelude.{◌≡◌, [], OnOk, IfOk, nat_le, length};
+ghost use Rattle.std.specs.Prelude.{◌≡◌, ◌<◌, false, [], OnOk, OnErr, IfOk, nat_le, length};
 ghost use Rattle.td_elab.specs.Names.{with_name, is_seen, number_of};
 
 use indexmap::IndexSet;
@@ -43,11 +43,14 @@ impl Names {
         self.set.len() >= u32::MAX as usize
     }
 
-    /// One more name, unless it was seen. `AllocError`: there was no memory for it, or all 2^32 - 1 numbers are given.
+    /// One more name, unless it was seen. `AllocError`: it wasn't, and there was no memory for it, or all 2^32 - 1
+    /// numbers are given; the names are as before.
     pub fn see(&mut self, alloc: Global, name: &[u8]) -> Result<(), AllocError>
-        ensures { OnOk result (self.new ≡ with_name self.old name.now) }
+        ensures ok { OnOk result (self.new ≡ with_name self.old name.now) }
+        ensures err { OnErr result (self.new ≡ self.old) }
+        ensures unseen { OnErr result (is_seen self.old name.now ≡ false) }
     {
-        if self.set.contains(name) {
+        if self.contains(name) {
             return Ok(());
         }
         if self.is_full() {
@@ -75,9 +78,10 @@ impl Names {
         }
     }
 
-    /// A copy of the names. `AllocError`: there was no memory for it.
+    /// A copy of the names. `AllocError`: there are some, and there was no memory for them.
     pub fn texts(&self, alloc: Global) -> Result<Items<Text>, AllocError>
-        ensures { IfOk result (λ t. t ≡ self.now) }
+        ensures ok { IfOk result (λ t. t ≡ self.now) }
+        ensures memory { OnErr result (0 < length self.now) }
     {
         let mut texts = Items::new(alloc);
         for name in self.set.as_slice() {

@@ -6,6 +6,7 @@ pub mod Runs
 pub mod Sound
 pub mod Splitting
 pub mod Sorts
+pub mod Stepping
 pub mod Values
 pub mod Walk
 pub mod Within

@@ -9,7 +9,7 @@ use Rattle.td_lexer.specs.declared.error.LexError.TheVariants.{NoMemory, BadByte
 use Rattle.td_lexer.specs.declared.piece.Piece.{Piece}
 use Rattle.td_lexer.specs.declared.piece.Piece.TheVariants.{Passed, Found, Bad, Open, Big}
 use Rattle.td_lexer.specs.Scanner.{piece, width, with_token, with_piece, tokens_from, tokens_of}
-use Rattle.td_lexer.specs.Steps.{after_tokens}
+use Rattle.td_lexer.specs.Steps.{end_at}
 use Rattle.td_lexer.specs.Splits.{Stands, IsPassed, SplitsUpTo, Splits, IsBigNumber, GoesOn, Fails, IsRefused}
 use Rattle.td_lexer.specs.Splits.SplitsUpTo.{splits_here, splits_passed, splits_token}
 use Rattle.td_lexer.proofs.Walk.{one_piece}
@@ -48,6 +48,11 @@ big_some rest (base, bytes, after, same, numeral, big, ends) = let some = numera
 
 -- ---- from a splitting to the tokens
 
+-- tokens before the others
+abbrev after_tokens : List Token → Result (List Token) LexError → Result (List Token) LexError
+after_tokens front (Ok tokens) = Ok (front ++ tokens)
+after_tokens front (Err error) = Err error
+
 after_none : (r : Result (List Token) LexError) → r ≡ after_tokens [] r
 after_none (Ok tokens) = refl
 after_none (Err error) = refl
@@ -74,6 +79,23 @@ fails_some at rest (BigNumber place) (here, big) = stops at rest Big (BigNumber 
 
 -- ---- from the tokens to a splitting
 
+-- a piece that is refused
+pub piece_fails : (at : ℕ) (rest : List ℕ) (p : Piece) (error : LexError) → piece rest ≡ p → Sound rest p → end_at p at ≡ Err error → Fails at rest error
+piece_fails at rest (Passed n) error e sound stop = absurd cc
+piece_fails at rest (Found kind n) error e sound stop = absurd cc
+piece_fails at rest (Bad n) error e (inl (z, plain)) stop =
+    let same : BadByte (at + n) ≡ error = cc in
+    subst (Fails at rest) same (inl (omega arith, found_nothing rest (e ∙ ap (λ (m : ℕ). Bad m) z) plain))
+piece_fails at rest (Bad n) error e (inr on) stop =
+    let same : BadByte (at + n) ≡ error = cc in
+    subst (Fails at rest) same (inr (n, refl, on))
+piece_fails at rest Open error e unclosed stop =
+    let same : OpenComment at ≡ error = cc in
+    subst (Fails at rest) same (refl, unclosed)
+piece_fails at rest Big error e big stop =
+    let same : BigNumber at ≡ error = cc in
+    subst (Fails at rest) same (refl, big)
+
 abbrev Reads : ℕ → List ℕ → Result (List Token) LexError → Type 0
 Reads at bytes (Ok tokens) = (to : ℕ) × SplitsUpTo at bytes tokens to []
 Reads at bytes (Err error) = (tokens : List Token) × (to : ℕ) × (rest : List ℕ) × SplitsUpTo at bytes tokens to rest × Fails to rest error
@@ -86,8 +108,8 @@ reads_token : (at : ℕ) {kind : TokenKind} {bytes rest : List ℕ} → Stands k
 reads_token at h (Ok tokens) (to, more) = (to, splits_token h more)
 reads_token at {kind} {bytes} h (Err error) (tokens, to, rest, more, fails) = (token_at at kind (length bytes) ∷ tokens, to, rest, splits_token h more, fails)
 
-reads_none : (at : ℕ) (rest : List ℕ) (error : LexError) → tokens_from at 0 rest ≡ Err error → Fails at rest error → Reads at rest (tokens_from at 0 rest)
-reads_none at rest error e fails = rw e ([], at, rest, splits_here, fails)
+reads_none : (at : ℕ) (rest : List ℕ) (error : LexError) → Fails at rest error → Reads at rest (tokens_from at 0 rest)
+reads_none at rest error fails = rw (fails_some at rest error fails) ([], at, rest, splits_here, fails)
 
 reads_all : (fuel at : ℕ) (bytes : List ℕ) → length bytes ≤ fuel → Reads at bytes (tokens_from at 0 bytes)
 reads_all fuel at [] le = rw (none_left at) (at, splits_here)
@@ -104,19 +126,9 @@ reads_all (suc fuel) at (b ∷ bytes) le = by_piece (piece (b ∷ bytes)) refl (
         let shorter : length rest ≤ fuel = omega (arith, ap (λ (l : List ℕ). length l) same, length-append front rest) in
         let stands = found_stands (b ∷ bytes) front rest kind (rw len e) same begins in
         rw (same, token_step at stands) (reads_token at stands (tokens_from (at + length front) 0 rest) (ih (at + length front) rest shorter))
-    by_piece (Bad n) e (inl (z, plain)) ih =
-        let e0 : piece (b ∷ bytes) ≡ Bad 0 = e ∙ ap (λ (m : ℕ). Bad m) z in
-        let fails : Fails at (b ∷ bytes) (BadByte at) = inl (refl, found_nothing (b ∷ bytes) e0 plain) in
-        reads_none at (b ∷ bytes) (BadByte at) (fails_some at (b ∷ bytes) (BadByte at) fails) fails
-    by_piece (Bad n) e (inr on) ih =
-        let fails : Fails at (b ∷ bytes) (BadByte (at + n)) = inr (n, refl, on) in
-        reads_none at (b ∷ bytes) (BadByte (at + n)) (fails_some at (b ∷ bytes) (BadByte (at + n)) fails) fails
-    by_piece Open e unclosed ih =
-        let fails : Fails at (b ∷ bytes) (OpenComment at) = (refl, unclosed) in
-        reads_none at (b ∷ bytes) (OpenComment at) (fails_some at (b ∷ bytes) (OpenComment at) fails) fails
-    by_piece Big e big ih =
-        let fails : Fails at (b ∷ bytes) (BigNumber at) = (refl, big) in
-        reads_none at (b ∷ bytes) (BigNumber at) (fails_some at (b ∷ bytes) (BigNumber at) fails) fails
+    by_piece (Bad n) e sound ih = reads_none at (b ∷ bytes) (BadByte (at + n)) (piece_fails at (b ∷ bytes) (Bad n) (BadByte (at + n)) e sound refl)
+    by_piece Open e sound ih = reads_none at (b ∷ bytes) (OpenComment at) (piece_fails at (b ∷ bytes) Open (OpenComment at) e sound refl)
+    by_piece Big e sound ih = reads_none at (b ∷ bytes) (BigNumber at) (piece_fails at (b ∷ bytes) Big (BigNumber at) e sound refl)
 
 -- ---- the laws
 

@@ -42,27 +42,28 @@ run_some sort b bytes e = rw (take_while-cons, e) (omega arith)
 ends_within : (n : ℕ) (base : Base) (len : ℕ) (bytes : List ℕ) → 0 < len → len ≤ n → IsWithin n (number_ends base len bytes)
 ends_within n base len bytes pos le = cond_within n (first_is is_word_byte (drop len bytes)) (Bad len) _ (λ e. le) (λ e. cond_within n (ltb (numeral_value base (take len bytes)) (2 ^ 64)) _ Big (λ e. (pos, le)) (λ e. tt))
 
+-- where a first byte is of a sort there is one
+pub first_there : (c : Bool) (sort : ℕ → Bool) (bytes : List ℕ) → (c && first_is sort bytes) ≡ true → 0 < length bytes
+first_there c sort [] e = absurd (cc (e, and_false c))
+first_there c sort (b ∷ bytes) e = omega arith
+
+-- a comment's end has two bytes
+pub closes_two : (bytes : List ℕ) → closes bytes ≡ true → 2 ≤ length bytes
+closes_two [] e = absurd cc
+closes_two (a ∷ bytes) e = let some = first_there (eqb a 42) (λ b. eqb b 47) bytes e in omega arith
+
 close_within : (bytes : List ℕ) → IfSome (close_of bytes) (λ n. n ≤ length bytes)
 close_within [] = tt
 close_within (a ∷ bytes) = by_test (closes (a ∷ bytes)) refl (close_of bytes) (close_within bytes)
   where
     by_test : (b : Bool) → closes (a ∷ bytes) ≡ b → (o : Option ℕ) → IfSome o (λ n. n ≤ length bytes) → IfSome (cond b (Some 2) (one_more o)) (λ n. n ≤ suc (length bytes))
-    by_test true e o h = two_long bytes e
-      where
-        two_long : (bs : List ℕ) → closes (a ∷ bs) ≡ true → 2 ≤ suc (length bs)
-        two_long [] e = absurd (cc (e, and_false (eqb a 42)))
-        two_long (b ∷ bs) e = omega arith
+    by_test true e o h = closes_two (a ∷ bytes) e
     by_test false e None h = tt
     by_test false e (Some n) h = omega arith
 
 closed_within : (bytes : List ℕ) (o : Option ℕ) → 0 < length bytes → IfSome o (λ n. n ≤ length (drop 1 bytes)) → IsWithin (suc (length bytes)) (closed o)
 closed_within bytes None long h = tt
 closed_within bytes (Some n) long h = (omega arith, omega (arith, length-drop 1 bytes))
-
--- where a first byte is of a sort there is one
-pub first_there : (c : Bool) (sort : ℕ → Bool) (bytes : List ℕ) → (c && first_is sort bytes) ≡ true → 0 < length bytes
-first_there c sort [] e = absurd (cc (e, and_false c))
-first_there c sort (b ∷ bytes) e = omega arith
 
 line_within : (bytes : List ℕ) → 0 < length bytes → 2 + run is_in_line (drop 1 bytes) ≤ suc (length bytes)
 line_within bytes long = let le = run_within is_in_line (drop 1 bytes) in omega (arith, length-drop 1 bytes)

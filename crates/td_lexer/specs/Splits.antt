@@ -64,6 +64,10 @@ pub data SplitsUpTo : ℕ → List ℕ → List Token → ℕ → List ℕ → T
 abbrev pub Splits : List ℕ → List Token → Type 0
 Splits text tokens = (to : ℕ) × SplitsUpTo 0 text tokens to []
 
+-- a front of the text splits into blanks, comments and a token or more
+abbrev pub HasToken : List ℕ → Type 0
+HasToken text = (tokens : List Token) × (at : ℕ) × (rest : List ℕ) × SplitsUpTo 0 text tokens at rest × (0 < length tokens)
+
 -- ---- refusals
 
 -- a comment begins that has no end

@@ -1,6 +1,6 @@
 //! Comments.
 
-ghost use Rattle.std.specs.Prelude.{◌≡◌, ◌≤◌, ◌<◌, ◌^◌, ◌+◌, IfSome, length};
+ghost use Rattle.std.specs.Prelude.{◌≡◌, ◌≤◌, ◌<◌, ◌^◌, IfSome, length};
 ghost use Rattle.td_lexer.specs.Scanner as scanner;
 
 use crate::piece::Piece;
@@ -15,11 +15,12 @@ fn closes(bytes: &[u8]) -> bool
     }
 }
 
-/// How many bytes there are up to and with the first end of a comment.
+/// How many bytes there are up to and with the first end of a comment; None where it has no end.
+#[tactic(auto, using(crate::proofs::Within::closes_two))]
 fn close_of(bytes: &[u8]) -> Option<usize>
     requires { length bytes.now < 2 ^ 32 }
     ensures place { result ≡ scanner.close_of bytes.now }
-    ensures within { IfSome result (λ n. n ≤ length bytes.now + 1) }
+    ensures within { IfSome result (λ n. n ≤ length bytes.now) }
 {
     let mut passed = 0usize;
     let mut rest = bytes;

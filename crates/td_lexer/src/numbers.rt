@@ -9,7 +9,7 @@ use crate::bytes::{digit_run, goes_on, hexadecimal_run};
 use crate::piece::Piece;
 use td_ast::token::{Base, TokenKind};
 
-/// The value of a digit.
+/// The value of a digit, a hexadecimal one in either case.
 fn digit_value(b: u8) -> u64
     ensures { result ≡ sorts.digit_value b }
 {
@@ -22,7 +22,7 @@ fn digit_value(b: u8) -> u64
     }
 }
 
-/// The number that digits spell, where it is below 2^64.
+/// The number that digits spell in a base, where it is below 2^64.
 fn value(radix: u64, digits: &[u8]) -> Option<u64>
     requires { 0 < radix }
     ensures { SomeIff result (sorts.value_of radix digits.now < 2 ^ 64) (sorts.value_of radix digits.now) }
@@ -50,7 +50,7 @@ fn numeral_value(base: Base, spelling: &[u8]) -> Option<u64>
     }
 }
 
-/// The piece for a number of so many bytes.
+/// The piece for a number in a base, which is the first so many of the bytes.
 fn number_ends(base: Base, len: usize, bytes: &[u8]) -> Piece
     requires { len ≤ length bytes.now }
     ensures { result ≡ scanner.number_ends base len bytes.now }

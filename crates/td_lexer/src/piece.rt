@@ -1,8 +1,8 @@
 //! What stands at the front of a text.
 
-ghost use Rattle.std.specs.Prelude.{◌≡◌, ◌<◌, ◌^◌, IfOk, length};
+ghost use Rattle.std.specs.Prelude.{◌≡◌, ◌<◌, ◌^◌, IfOk, OnErr, length};
 ghost use Rattle.td_lexer.specs.Scanner as scanner;
-ghost use Rattle.td_lexer.specs.Steps.{IsWithin};
+ghost use Rattle.td_lexer.specs.Steps.{IsWithin, HoldsName};
 
 use crate::bytes::{is_blank, is_digit, is_letter, line_run};
 use crate::comments::block_piece;
@@ -27,11 +27,12 @@ pub enum Piece {
     Big,
 }
 
-/// What stands at the front of the bytes. `AllocError`: there was no memory for a name.
+/// What stands at the front of the bytes. `AllocError`: it is a name, and there was no memory for it.
 #[tactic(auto, unfolding(crate::specs::Scanner::piece))]
 fn front(alloc: Global, bytes: &[u8]) -> Result<Piece, AllocError>
     requires { (0 < length bytes.now) × (length bytes.now < 2 ^ 32) }
-    ensures { IfOk result (λ piece. piece ≡ scanner.piece bytes.now) }
+    ensures piece { IfOk result (λ piece. piece ≡ scanner.piece bytes.now) }
+    ensures memory { OnErr result (HoldsName (scanner.piece bytes.now)) }
 {
     match bytes {
         [] => Ok(Piece::Passed(0)),
@@ -44,11 +45,12 @@ fn front(alloc: Global, bytes: &[u8]) -> Result<Piece, AllocError>
     }
 }
 
-/// What stands at the front of the bytes, within them. `AllocError`: there was no memory for a name.
+/// What stands at the front of the bytes, within them. `AllocError`: it is a name, and there was no memory for it.
 pub fn next_piece(alloc: Global, bytes: &[u8]) -> Result<Piece, AllocError>
     requires { (0 < length bytes.now) × (length bytes.now < 2 ^ 32) }
     ensures piece { IfOk result (λ piece. piece ≡ scanner.piece bytes.now) }
     ensures within { IfOk result (IsWithin (length bytes.now)) }
+    ensures memory { OnErr result (HoldsName (scanner.piece bytes.now)) }
 {
     front(alloc, bytes)
 }

@@ -1,9 +1,10 @@
 //! Keywords and names.
 
-ghost use Rattle.std.specs.Prelude.{◌≡◌, bytes_eq, IfOk};
+ghost use Rattle.std.specs.Prelude.{◌≡◌, bytes_eq, IfOk, OnErr};
 ghost use Rattle.td_lexer.specs.Spellings.{kind_in, definition_words, expression_words, number_types, keyword_kind};
 ghost use Rattle.td_lexer.specs.Spellings as spellings;
 ghost use Rattle.td_lexer.specs.Scanner as scanner;
+ghost use Rattle.td_lexer.specs.Steps.{IsNameKind, HoldsName};
 
 use crate::bytes::word_run;
 use crate::piece::Piece;
@@ -136,9 +137,10 @@ fn keyword(word: &[u8]) -> Option<TokenKind>
     }
 }
 
-/// The token that a word is: a keyword, or else a name. `AllocError`: there was no memory for the name.
+/// The token that a word is: a keyword, or else a name. `AllocError`: it is a name, and there was no memory for it.
 fn word_kind(alloc: Global, word: &[u8]) -> Result<TokenKind, AllocError>
-    ensures { IfOk result (λ kind. kind ≡ scanner.word_kind word.now) }
+    ensures kind { IfOk result (λ kind. kind ≡ scanner.word_kind word.now) }
+    ensures memory { OnErr result (IsNameKind (scanner.word_kind word.now)) }
 {
     match keyword(word) {
         Some(kind) => Ok(kind),
@@ -146,10 +148,12 @@ fn word_kind(alloc: Global, word: &[u8]) -> Result<TokenKind, AllocError>
     }
 }
 
-/// The word at the front of bytes, of which the first is a letter. `AllocError`: there was no memory for its name.
+/// The word at the front of bytes, of which the first is a letter. `AllocError`: it is a name, and there was no memory
+/// for it.
 #[tactic(auto, unfolding(crate::specs::Scanner::word_piece))]
 pub(crate) fn word_piece(alloc: Global, bytes: &[u8]) -> Result<Piece, AllocError>
-    ensures { IfOk result (λ piece. piece ≡ scanner.word_piece bytes.now) }
+    ensures piece { IfOk result (λ piece. piece ≡ scanner.word_piece bytes.now) }
+    ensures memory { OnErr result (HoldsName (scanner.word_piece bytes.now)) }
 {
     let len = word_run(bytes);
     Ok(Piece::Found(word_kind(alloc, &bytes[..len])?, len))

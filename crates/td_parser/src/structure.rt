@@ -1,10 +1,10 @@
 //! Productions of structs.
 
-ghost use Rattle.std.specs.Prelude.{◌≡◌};
+ghost use Rattle.std.specs.Prelude.{◌≡◌, true, OnOk, IfErr};
 ghost use Rattle.td_grammar.specs.Grammar as grammar;
 ghost use Rattle.td_grammar.specs.Productions as productions;
-ghost use Rattle.td_grammar.specs.Reading.{Got, with_first};
-ghost use Rattle.td_parser.specs.Giving.{Gives};
+ghost use Rattle.td_grammar.specs.Reading.{Got, comes, with_first};
+ghost use Rattle.td_parser.specs.Giving.{Gives, OnMemory, IsNext};
 
 use crate::stop::Stop;
 use crate::token::{literal, name, next_is, next_is_number_type, number_type, relation, sign};
@@ -16,7 +16,8 @@ use td_num::items::Items;
 /// `"{" NAME REL NUM "}"`
 #[tactic(auto, unfolding(td_grammar::specs::Productions::refinement))]
 fn refinement(alloc: Global, tokens: &[Token]) -> Result<(ComparisonTree, &[Token]), Stop<'_>>
-    ensures { Gives (λ x. Got x.0 x.1.now) result (productions.refinement.reader.read tokens.now) }
+    ensures reading { Gives (λ x. Got x.0 x.1.now) result (productions.refinement.reader.read tokens.now) }
+    ensures memory { IfErr result (OnMemory (IsNext TokenKind.OpenBrace tokens.now)) }
 {
     let (_, rest) = sign(tokens, &TokenKind::OpenBrace)?;
     let (left, rest) = name(alloc, rest)?;
@@ -37,7 +38,8 @@ fn maybe_refinement(
     alloc: Global,
     tokens: &[Token],
 ) -> Result<(Option<ComparisonTree>, &[Token]), Stop<'_>>
-    ensures { Gives (λ x. Got x.0 x.1.now) result ((grammar.maybe productions.refinement).reader.read tokens.now) }
+    ensures reading { Gives (λ x. Got x.0 x.1.now) result ((grammar.maybe productions.refinement).reader.read tokens.now) }
+    ensures memory { IfErr result (OnMemory (IsNext TokenKind.OpenBrace tokens.now)) }
 {
     if !next_is(tokens, &TokenKind::OpenBrace) {
         return Ok((None, tokens));
@@ -49,7 +51,9 @@ fn maybe_refinement(
 /// `INT NAME [ refinement ] ";"`
 #[tactic(auto, unfolding(td_grammar::specs::Productions::field))]
 fn field(alloc: Global, tokens: &[Token]) -> Result<(FieldTree, &[Token]), Stop<'_>>
-    ensures { Gives (λ x. Got x.0 x.1.now) result (productions.field.reader.read tokens.now) }
+    ensures reading { Gives (λ x. Got x.0 x.1.now) result (productions.field.reader.read tokens.now) }
+    ensures next { OnOk result (comes productions.number_type.reader.begins tokens.now ≡ true) }
+    ensures memory { IfErr result (OnMemory (comes productions.number_type.reader.begins tokens.now ≡ true)) }
 {
     let (kind, rest) = number_type(tokens)?;
     let (name, rest) = name(alloc, rest)?;
@@ -85,7 +89,8 @@ fn fields_from(
 /// `field { field }`
 #[tactic(auto, unfolding(td_grammar::specs::Productions::fields))]
 fn fields(alloc: Global, tokens: &[Token]) -> Result<(Items<FieldTree>, &[Token]), Stop<'_>>
-    ensures { Gives (λ x. Got x.0 x.1.now) result (productions.fields.reader.read tokens.now) }
+    ensures reading { Gives (λ x. Got x.0 x.1.now) result (productions.fields.reader.read tokens.now) }
+    ensures memory { IfErr result (OnMemory (comes productions.number_type.reader.begins tokens.now ≡ true)) }
 {
     let (first, rest) = field(alloc, tokens)?;
     fields_from(alloc, first, rest)
@@ -97,7 +102,8 @@ pub(crate) fn definition(
     alloc: Global,
     tokens: &[Token],
 ) -> Result<(StructTree, &[Token]), Stop<'_>>
-    ensures { Gives (λ x. Got x.0 x.1.now) result (productions.definition.reader.read tokens.now) }
+    ensures reading { Gives (λ x. Got x.0 x.1.now) result (productions.definition.reader.read tokens.now) }
+    ensures memory { IfErr result (OnMemory (IsNext TokenKind.Entrypoint tokens.now)) }
 {
     let (_, rest) = sign(tokens, &TokenKind::Entrypoint)?;
     let (_, rest) = sign(rest, &TokenKind::Typedef)?;

@@ -1,9 +1,9 @@
 //! Productions of one token.
 
-ghost use Rattle.std.specs.Prelude.{◌≡◌, IfErr};
+ghost use Rattle.std.specs.Prelude.{◌≡◌, true, OnOk, IfErr};
 ghost use Rattle.td_grammar.specs.Productions as productions;
 ghost use Rattle.td_grammar.specs.Reading.{Got, comes};
-ghost use Rattle.td_parser.specs.Giving.{Gives, IsAtTokens};
+ghost use Rattle.td_parser.specs.Giving.{Gives, OnMemory, IsNext};
 
 use crate::stop::Stop;
 use std::alloc::Global;
@@ -17,7 +17,8 @@ pub(crate) fn sign<'a>(
     wanted: &TokenKind,
 ) -> Result<(Span, &'a [Token]), Stop<'a>>
     ensures reading { Gives (λ x. Got x.0 x.1.now) result ((productions.sign wanted.now).reader.read tokens.now) }
-    ensures memory { IfErr result IsAtTokens }
+    ensures next { OnOk result (IsNext wanted.now tokens.now) }
+    ensures memory { IfErr result (OnMemory ⊥) }
 {
     match tokens {
         [first, rest @ ..] if first.kind.is_kind(wanted) => Ok((first.span, rest)),
@@ -37,7 +38,8 @@ pub(crate) fn next_is(tokens: &[Token], wanted: &TokenKind) -> bool
 
 /// `NAME`
 pub(crate) fn name(alloc: Global, tokens: &[Token]) -> Result<(Name, &[Token]), Stop<'_>>
-    ensures { Gives (λ x. Got x.0 x.1.now) result (productions.name.reader.read tokens.now) }
+    ensures reading { Gives (λ x. Got x.0 x.1.now) result (productions.name.reader.read tokens.now) }
+    ensures memory { IfErr result (OnMemory (comes productions.name.reader.begins tokens.now ≡ true)) }
 {
     match tokens {
         [
@@ -57,7 +59,7 @@ pub(crate) fn name(alloc: Global, tokens: &[Token]) -> Result<(Name, &[Token]), 
 /// `NUM`
 pub(crate) fn literal(tokens: &[Token]) -> Result<(Literal, &[Token]), Stop<'_>>
     ensures reading { Gives (λ x. Got x.0 x.1.now) result (productions.literal.reader.read tokens.now) }
-    ensures memory { IfErr result IsAtTokens }
+    ensures memory { IfErr result (OnMemory ⊥) }
 {
     match tokens {
         [
@@ -81,7 +83,8 @@ pub(crate) fn literal(tokens: &[Token]) -> Result<(Literal, &[Token]), Stop<'_>>
 /// `INT`
 pub(crate) fn number_type(tokens: &[Token]) -> Result<(TypeTree, &[Token]), Stop<'_>>
     ensures reading { Gives (λ x. Got x.0 x.1.now) result (productions.number_type.reader.read tokens.now) }
-    ensures memory { IfErr result IsAtTokens }
+    ensures next { OnOk result (comes productions.number_type.reader.begins tokens.now ≡ true) }
+    ensures memory { IfErr result (OnMemory ⊥) }
 {
     match tokens {
         [
@@ -134,7 +137,7 @@ fn relation_of(kind: &TokenKind) -> Option<Relation>
 /// `REL`
 pub(crate) fn relation(tokens: &[Token]) -> Result<(Relation, &[Token]), Stop<'_>>
     ensures reading { Gives (λ x. Got x.0 x.1.now) result (productions.relation.reader.read tokens.now) }
-    ensures memory { IfErr result IsAtTokens }
+    ensures memory { IfErr result (OnMemory ⊥) }
 {
     let [first, rest @ ..] = tokens else {
         return Err(Stop::At(tokens));

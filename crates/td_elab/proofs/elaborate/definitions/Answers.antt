@@ -24,19 +24,22 @@ loop-tree-preserved c =
           ∙ ap (λ r. l.definitions ++ definitions_of names r) (sym s)
           ∙ l.invariant.core;
       first =
-          ap (λ t. first_of c.definition.new.findings.first (definitions_breaches t rest)) (c.in_ok-see.ensures ∙ ap (λ n. with_name l.earlier n) c.as_slice.ensures)
+          ap (λ t. first_of c.definition.new.findings.first (definitions_breaches t rest)) (c.in_ok-see.ensures.ok ∙ ap (λ n. with_name l.earlier n) c.as_slice.ensures)
           ∙ ap (λ o. first_of o (definitions_breaches seen rest)) d.first
           ∙ sym (first_append l.findings.first (definition_breaches l.earlier x) (definitions_breaches seen rest))
           ∙ ap (λ r. first_of l.findings.first (definitions_breaches l.earlier r)) (sym s)
           ∙ l.invariant.first;
     }
 
-pub returns : goal.returns
-returns c =
+pub returns-clause-core : goal.returns-clause-core
+returns-clause-core c =
     let l = c.loop-tree in
     let names = c.args.names.now in
     let s = done c.args.trees.now l.tree-index (omega arith) in
-    record {
-      core = sym (append-nil l.definitions) ∙ ap (λ r. l.definitions ++ definitions_of names r) (sym s) ∙ l.invariant.core;
-      first = ap (λ r. first_of l.findings.first (definitions_breaches l.earlier r)) (sym s) ∙ l.invariant.first;
-    }
+    sym (append-nil l.definitions) ∙ ap (λ r. l.definitions ++ definitions_of names r) (sym s) ∙ l.invariant.core
+
+pub returns-clause-first : goal.returns-clause-first
+returns-clause-first c =
+    let l = c.loop-tree in
+    let s = done c.args.trees.now l.tree-index (omega arith) in
+    ap (λ r. first_of l.findings.first (definitions_breaches l.earlier r)) (sym s) ∙ l.invariant.first

@@ -1,47 +1,43 @@
-use Rattle.std.proofs.Common.{sym, ap, ◌∙◌, inr, subst}
+use Rattle.std.proofs.Common.{sym, ap, ◌∙◌}
 use Rattle.td_elab.specs.Breach.{first_of}
 use Rattle.td_elab.specs.Rules.{breaches}
-use Rattle.td_elab.specs.Elaborates.{error_of}
 use Rattle.td_elab.specs.Formed.{HasOnePartEach, IsEachInScope, IsEachEntryThere, IsEachNameThere}
 use Rattle.td_elab.proofs.Forms.{module_parts, module_scopes, module_entries}
 use Rattle.td_elab.proofs.Numbering.{module_names}
-use Rattle.td_elab.proofs.First.{found_first, none_found, none_among, one_first}
+use Rattle.td_elab.proofs.Answering.{answer_stands, answer_cause, answer_complete, answer_refused, answer_holds, answer_memory}
 use Rattle.td_elab.proofs.elaborate.elaborate.Goals as goal
 
-pub returns-in-None-clause-stands : goal.returns-in-None-clause-stands
-returns-in-None-clause-stands c =
-    let bs = breaches c.args.tree.now in
-    (none_found bs (ap (λ o. first_of o bs) (sym c.new-findings.ensures) ∙ sym c.in-Ok.ensures.first ∙ c.in-None.is), c.in-Ok.ensures.core)
+pub returns-clause-stands : goal.returns-clause-stands
+returns-clause-stands c =
+    let first = ap (λ o. first_of o (breaches c.args.tree.now)) (sym c.new-findings.ensures) ∙ sym c.in_ok-module.ensures.first in
+    answer_stands c.args.tree.now c.in_ok-module.module c.in_ok-module.ensures.core c.module.new.findings.first c.answer.result first c.answer.ensures
 
-pub returns-in-None-clause-refused : goal.returns-in-None-clause-refused
-returns-in-None-clause-refused c =
-    let bs = breaches c.args.tree.now in
-    λ b h. none_among bs b (none_found bs (ap (λ o. first_of o bs) (sym c.new-findings.ensures) ∙ sym c.in-Ok.ensures.first ∙ c.in-None.is)) h.0
+pub returns-clause-cause : goal.returns-clause-cause
+returns-clause-cause c =
+    let first = ap (λ o. first_of o (breaches c.args.tree.now)) (sym c.new-findings.ensures) ∙ sym c.in_ok-module.ensures.first in
+    answer_cause c.args.tree.now c.in_ok-module.module c.in_ok-module.ensures.core c.module.new.findings.first c.answer.result first c.answer.ensures
 
-pub returns-in-Some-clause-cause : goal.returns-in-Some-clause-cause
-returns-in-Some-clause-cause c =
-    let bs = breaches c.args.tree.now in
-    inr (c.in-Some.breach, (found_first bs c.in-Some.breach (ap (λ o. first_of o bs) (sym c.new-findings.ensures) ∙ sym c.in-Ok.ensures.first ∙ c.in-Some.is), c.error_of.ensures))
+pub returns-clause-complete : goal.returns-clause-complete
+returns-clause-complete c =
+    let first = ap (λ o. first_of o (breaches c.args.tree.now)) (sym c.new-findings.ensures) ∙ sym c.in_ok-module.ensures.first in
+    answer_complete c.args.tree.now c.in_ok-module.module c.in_ok-module.ensures.core c.module.new.findings.first c.answer.result first c.answer.ensures
 
-pub returns-in-Some-clause-complete : goal.returns-in-Some-clause-complete
-returns-in-Some-clause-complete c =
-    let bs = breaches c.args.tree.now in
-    λ m h. absurd (none_among bs c.in-Some.breach h.0 (found_first bs c.in-Some.breach (ap (λ o. first_of o bs) (sym c.new-findings.ensures) ∙ sym c.in-Ok.ensures.first ∙ c.in-Some.is)).0)
+pub returns-clause-refused : goal.returns-clause-refused
+returns-clause-refused c =
+    let first = ap (λ o. first_of o (breaches c.args.tree.now)) (sym c.new-findings.ensures) ∙ sym c.in_ok-module.ensures.first in
+    answer_refused c.args.tree.now c.in_ok-module.module c.in_ok-module.ensures.core c.module.new.findings.first c.answer.result first c.answer.ensures
 
-pub returns-in-Some-clause-refused : goal.returns-in-Some-clause-refused
-returns-in-Some-clause-refused c =
-    let bs = breaches c.args.tree.now in
-    let mine = found_first bs c.in-Some.breach (ap (λ o. first_of o bs) (sym c.new-findings.ensures) ∙ sym c.in-Ok.ensures.first ∙ c.in-Some.is) in
-    λ b h. inr (c.error_of.ensures ∙ ap error_of (one_first bs c.in-Some.breach b mine h))
+pub returns-clause-parts : goal.returns-clause-parts
+returns-clause-parts c = answer_holds c.args.tree.now c.in_ok-module.module c.in_ok-module.ensures.core HasOnePartEach (module_parts c.args.tree.now.definitions) c.module.new.findings.first c.answer.result c.answer.ensures
 
-pub returns-in-None-clause-parts : goal.returns-in-None-clause-parts
-returns-in-None-clause-parts c = subst HasOnePartEach (sym c.in-Ok.ensures.core) (module_parts c.args.tree.now.definitions)
+pub returns-clause-levels : goal.returns-clause-levels
+returns-clause-levels c = answer_holds c.args.tree.now c.in_ok-module.module c.in_ok-module.ensures.core IsEachInScope (module_scopes c.args.tree.now.definitions) c.module.new.findings.first c.answer.result c.answer.ensures
 
-pub returns-in-None-clause-levels : goal.returns-in-None-clause-levels
-returns-in-None-clause-levels c = subst IsEachInScope (sym c.in-Ok.ensures.core) (module_scopes c.args.tree.now.definitions)
+pub returns-clause-entries : goal.returns-clause-entries
+returns-clause-entries c = answer_holds c.args.tree.now c.in_ok-module.module c.in_ok-module.ensures.core IsEachEntryThere (module_entries c.args.tree.now.definitions) c.module.new.findings.first c.answer.result c.answer.ensures
 
-pub returns-in-None-clause-entries : goal.returns-in-None-clause-entries
-returns-in-None-clause-entries c = subst IsEachEntryThere (sym c.in-Ok.ensures.core) (module_entries c.args.tree.now.definitions)
+pub returns-clause-names : goal.returns-clause-names
+returns-clause-names c = answer_holds c.args.tree.now c.in_ok-module.module c.in_ok-module.ensures.core IsEachNameThere (module_names c.args.tree.now.definitions) c.module.new.findings.first c.answer.result c.answer.ensures
 
-pub returns-in-None-clause-names : goal.returns-in-None-clause-names
-returns-in-None-clause-names c = subst IsEachNameThere (sym c.in-Ok.ensures.core) (module_names c.args.tree.now.definitions)
+pub returns-clause-memory : goal.returns-clause-memory
+returns-clause-memory c = λ e. absurd (answer_memory c.module.new.findings.first c.in_ok-module.module c.answer.result c.answer.ensures e)

@@ -23,19 +23,22 @@ loop-place-preserved c =
           ∙ ap (λ r. l.fields ++ fields_of names l.place r) (sym s)
           ∙ l.invariant.core;
       first =
-          ap (λ t. first_of c.check_field.new.findings.first (fields_breaches t rest)) (c.in_ok-see.ensures ∙ ap (λ n. with_name l.earlier n) c.as_slice.ensures)
+          ap (λ t. first_of c.check_field.new.findings.first (fields_breaches t rest)) (c.in_ok-see.ensures.ok ∙ ap (λ n. with_name l.earlier n) c.as_slice.ensures)
           ∙ ap (λ o. first_of o (fields_breaches seen rest)) c.check_field.ensures
           ∙ sym (first_append l.findings.first (field_breaches l.earlier x) (fields_breaches seen rest))
           ∙ ap (λ r. first_of l.findings.first (fields_breaches l.earlier r)) (sym s)
           ∙ l.invariant.first;
     }
 
-pub returns : goal.returns
-returns c =
+pub returns-clause-core : goal.returns-clause-core
+returns-clause-core c =
     let l = c.loop-place in
     let names = c.args.names.now in
     let s = done c.args.trees.now l.place (omega arith) in
-    record {
-      core = sym (append-nil l.fields) ∙ ap (λ r. l.fields ++ fields_of names l.place r) (sym s) ∙ l.invariant.core;
-      first = ap (λ r. first_of l.findings.first (fields_breaches l.earlier r)) (sym s) ∙ l.invariant.first;
-    }
+    sym (append-nil l.fields) ∙ ap (λ r. l.fields ++ fields_of names l.place r) (sym s) ∙ l.invariant.core
+
+pub returns-clause-first : goal.returns-clause-first
+returns-clause-first c =
+    let l = c.loop-place in
+    let s = done c.args.trees.now l.place (omega arith) in
+    ap (λ r. first_of l.findings.first (fields_breaches l.earlier r)) (sym s) ∙ l.invariant.first

@@ -1,20 +1,29 @@
-use Rattle.std.proofs.Common.{refl, ◌+◌}
-use Rattle.td_lexer.specs.declared.piece.Piece.TheVariants.{Bad, Open, Big}
-use Rattle.td_lexer.specs.declared.error.LexError.TheVariants.{BadByte, OpenComment, BigNumber}
-use Rattle.td_lexer.proofs.Walk.{step_passed, step_found, step_stops, tail_whole}
+use Rattle.std.proofs.Common.{arith, length-drop, refl}
+use Rattle.std.proofs.lemmas.Result.{err_from_is_err_and}
+use Rattle.td_lexer.proofs.Walk.{tail_whole}
+use Rattle.td_lexer.proofs.Stepping.{reach_within, name_token, step_goes, step_stops, step_starves}
 use Rattle.td_lexer.proofs.lexing.step.Goals as goal
 
-pub returns-in-Passed : goal.returns-in-Passed
-returns-in-Passed c = step_passed c.args.at c.args.bytes.now c.args.tokens.now.items c.requires.inside c.in-Passed.n (rw (tail_whole c.args.at c.args.bytes.now, c.in-Passed.is) at c.in_ok-n.ensures.piece) (rw (tail_whole c.args.at c.args.bytes.now, c.in-Passed.is) at c.in_ok-n.ensures.within)
+pub end_of-requires : goal.end_of-requires
+end_of-requires c =
+    let within = reach_within _ _ (rw tail_whole at c.in_ok-piece.ensures.within) in
+    omega (arith, within, length-drop c.args.at c.args.bytes.now)
 
-pub returns-in_ok-push-in-Found : goal.returns-in_ok-push-in-Found
-returns-in_ok-push-in-Found c = rw c.in_ok-push-in-Found.ensures.items (step_found c.args.at c.args.bytes.now c.args.tokens.now.items c.requires.inside c.in-Found.kind c.in-Found.n (rw (tail_whole c.args.at c.args.bytes.now, c.in-Found.is) at c.in_ok-n.ensures.piece) (rw (tail_whole c.args.at c.args.bytes.now, c.in-Found.is) at c.in_ok-n.ensures.within))
+pub returns-in_err-piece : goal.returns-in_err-piece
+returns-in_err-piece c =
+    let p = err_from_is_err_and c.from_residual.result c.from_residual.ensures.1 in
+    rw (p.1, p.2) (step_starves c.args.at c.args.bytes.now c.args.tokens.now.items c.requires.inside _ refl c.args.tokens.now.items (name_token _ (rw tail_whole at c.in_err-piece.ensures.memory)))
 
-pub returns-in-Bad : goal.returns-in-Bad
-returns-in-Bad c = step_stops c.args.at c.args.bytes.now c.args.tokens.now.items c.requires.inside (Bad c.in-Bad.n) (rw (tail_whole c.args.at c.args.bytes.now, c.in-Bad.is) at c.in_ok-n.ensures.piece) (BadByte (c.args.at + c.in-Bad.n)) (λ r. refl)
+pub returns-in_err-end : goal.returns-in_err-end
+returns-in_err-end c =
+    let p = err_from_is_err_and c.from_residual-in_err-end.result c.from_residual-in_err-end.ensures.1 in
+    rw (p.1, p.2) (step_stops c.args.at c.args.bytes.now c.args.tokens.now.items c.requires.inside c.in_ok-piece.piece (rw tail_whole at c.in_ok-piece.ensures.piece) _ c.args.tokens.now.items c.in_err-end.ensures)
 
-pub returns-in-Open : goal.returns-in-Open
-returns-in-Open c = step_stops c.args.at c.args.bytes.now c.args.tokens.now.items c.requires.inside Open (rw (tail_whole c.args.at c.args.bytes.now, c.in-Open.is) at c.in_ok-n.ensures.piece) (OpenComment c.args.at) (λ r. refl)
+pub returns-in_err-keep : goal.returns-in_err-keep
+returns-in_err-keep c =
+    let p = err_from_is_err_and c.from_residual-in_err-keep.result c.from_residual-in_err-keep.ensures.1 in
+    rw (p.1, p.2) (step_starves c.args.at c.args.bytes.now c.args.tokens.now.items c.requires.inside c.in_ok-piece.piece (rw tail_whole at c.in_ok-piece.ensures.piece) c.keep.new.tokens.items c.in_err-keep.ensures.memory)
 
-pub returns-in-Big : goal.returns-in-Big
-returns-in-Big c = step_stops c.args.at c.args.bytes.now c.args.tokens.now.items c.requires.inside Big (rw (tail_whole c.args.at c.args.bytes.now, c.in-Big.is) at c.in_ok-n.ensures.piece) (BigNumber c.args.at) (λ r. refl)
+pub returns : goal.returns
+returns c =
+    step_goes c.args.at c.args.bytes.now c.args.tokens.now.items c.requires.inside c.in_ok-piece.piece (rw tail_whole at c.in_ok-piece.ensures.piece) c.in_ok-end.end c.keep.new.tokens.items (rw tail_whole at c.in_ok-piece.ensures.within) c.in_ok-end.ensures c.in_ok-keep.ensures.kept
