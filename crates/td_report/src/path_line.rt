@@ -2,8 +2,9 @@
 
 ghost use Rattle.std.specs.Prelude.{◌≡◌, [], None, OnOk, OnErr};
 ghost use Rattle.std.specs.Io.KnownBytes.{Appends};
+ghost use Rattle.td_core.specs.Paths.{indexed};
 ghost use Rattle.td_io.specs.Causes.{HasCause, StartsWritten};
-ghost use Rattle.td_report.specs.ErrorLine.{error_line, behind_blank, indexed};
+ghost use Rattle.td_report.specs.ErrorLine.{error_line, behind_blank};
 ghost use Rattle.td_report.specs.Writing.{Writes};
 
 use crate::error_line::{write_code, write_words};
