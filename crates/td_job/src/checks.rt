@@ -1,6 +1,6 @@
 //! The fields of a job, each looked at for all that can be wrong with it.
 
-ghost use Rattle.std.specs.Prelude.{◌≡◌, ◌≢◌, ◌%◌, [], ◌⊎◌, length, IsOk, IfOk, IfErr, OnOk, IsSomeAnd, Some};
+ghost use Rattle.std.specs.Prelude.{◌≡◌, ◌≢◌, ◌%◌, [], ◌⊎◌, length, IsOk, IfOk, IfErr, OnOk, IsSomeAnd, MatchOption, Some};
 ghost use Rattle.serde_json.specs.Find.{as_object};
 ghost use Rattle.serde_json.specs.View.{view};
 ghost use Rattle.td_job.specs.Jobs.{field_of, text_of, number_of, EntryFault, IsEntry, IsFirst, list_faults, bytes_faults, given_bytes, length_faults, is_known, name_faults};
@@ -107,6 +107,19 @@ fn is_known(name: &str) -> bool
         || name == Field::Stores.name()
 }
 
+/// The first name in byte order of a field that no job has. None: each field has a known name.
+fn unknown_name(job: &Value) -> Option<&str>
+    ensures { MatchOption result (name_faults (as_object (view job.now)) ≡ []) (λ name. IsFirst (name_faults (as_object (view job.now))) (JobError.Form (Path.Unknown name.now))) }
+{
+    let members = job.as_object()?;
+    for (name, _) in members {
+        if !is_known(name.as_str()) {
+            return Some(name.as_str());
+        }
+    }
+    None
+}
+
 /// Tests that each field has a known name. J2, at the first other name in byte order. `NoMemory`: there was no memory
 /// for that name; never where each name is known.
 pub(crate) fn check_names(alloc: Global, job: &Value) -> Result<(), JobError>
@@ -114,14 +127,9 @@ pub(crate) fn check_names(alloc: Global, job: &Value) -> Result<(), JobError>
     ensures err { IfErr result (λ e. (e ≡ JobError.NoMemory) ⊎ IsFirst (name_faults (as_object (view job.now))) e) }
     ensures known { name_faults (as_object (view job.now)) ≡ [] → IsOk result }
 {
-    let Some(members) = job.as_object() else {
+    let Some(name) = unknown_name(job) else {
         return Ok(());
     };
-    for (name, _) in members {
-        if !is_known(name.as_str()) {
-            let bytes = Text::copy_of(alloc, name.as_bytes())?;
-            return Err(JobError::Form(Path::Unknown(bytes)));
-        }
-    }
-    Ok(())
+    let bytes = Text::copy_of(alloc, name.as_bytes())?;
+    Err(JobError::Form(Path::Unknown(bytes)))
 }
