@@ -15,7 +15,7 @@ use td_core::module::{Entry, Module};
 use td_num::text::Text;
 
 /// The most bytes that a message has.
-pub(crate) const MOST_BYTES: u64 = 1_048_576;
+const MOST_BYTES: u64 = 1_048_576;
 
 /// The entry point that a job names. J2: `entry` is missing or no text. J3: no entry point has the name.
 pub(crate) fn entry_of(job: &Value, types: &Module) -> Result<Entry, JobError>

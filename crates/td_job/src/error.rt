@@ -119,6 +119,7 @@ impl Field {
 }
 
 impl Path {
+    /// The name, and the place in a list where there is one. Takes no memory.
     fn parts(&self) -> PathParts<'_>
         ensures { indexed result.name.now result.index ≡ path_bytes self.now }
     {

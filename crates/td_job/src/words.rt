@@ -37,8 +37,8 @@ fn word_count(bytes: usize) -> Option<u32>
     Some(count as u32)
 }
 
-/// The words that bytes fill, zero bytes making the last one whole. `AllocError`: there was no memory for them, or they
-/// are more than 32 bits number.
+/// The words that bytes fill, the byte of least weight first, zero bytes making the last one whole. `AllocError`: there
+/// was no memory for them, or they are more than 32 bits number.
 pub(crate) fn fill_words(alloc: Global, bytes: &[u8]) -> Result<Items<u64>, AllocError>
     ensures filled { IfOk result (λ words. IsFilled bytes.now words) }
     ensures few { IfOk result (λ words. length words < 2 ^ 32) }
