@@ -1,11 +1,14 @@
 //! The module for which a text stands.
 
-ghost use Rattle.std.specs.Prelude.{◌≡◌, ◌<◌, ◌≤◌, ◌-◌, ◌^◌, ◌⊎◌, ℕ, length, IfOk, IfErr, MatchResult};
+ghost use Rattle.std.specs.Prelude.{◌≡◌, ◌<◌, ◌≤◌, ◌-◌, ◌^◌, ◌⊎◌, ℕ, length, OnOk, IfOk, IfErr, MatchResult};
+ghost use Rattle.td_ast.specs.declared.token.Span.{Span};
 ghost use Rattle.td_ast.specs.declared.tree.ModuleTree.{ModuleTree};
 ghost use Rattle.td_core.specs.declared.module.Module.{Module};
 ghost use Rattle.td_lexer.specs.Splits.{Splits};
 ghost use Rattle.td_grammar.specs.Productions.{module_text};
 ghost use Rattle.td_elab.specs.Formed.{HasOnePartEach, IsEachInScope, IsEachEntryThere, IsEachNameThere};
+ghost use Rattle.td_front.specs.Errors.{of_parsing};
+ghost use Rattle.td_front.specs.Limits.{AreWithinLimits, IsFirstOver};
 ghost use Rattle.td_front.specs.ModuleText.{IsModuleText, RefusedBy, beginning_of};
 ghost use Rattle.td_front.specs.declared.error.FrontError.{FrontError};
 
@@ -56,12 +59,7 @@ fn checked(alloc: Global, text: &[u8]) -> Result<Module, FrontError>
 {
     let tokens = tokens(alloc, text)?;
     let tree = tree(alloc, text, tokens.as_slice())?;
-    if let Some(span) = first_over(&tree) {
-        return Err(FrontError::Limit {
-            which: Limit::Fields,
-            span,
-        });
-    }
+    check_limits(&tree)?;
     match elaborate(alloc, &tree) {
         Ok(module) => Ok(module),
         Err(error) => Err(FrontError::from(error)),
@@ -91,11 +89,35 @@ fn tree(alloc: Global, text: &[u8], tokens: &[Token]) -> Result<ModuleTree, Fron
 {
     match parse(alloc, tokens) {
         Ok(tree) => Ok(tree),
-        Err(ParseError::NoMemory) => Err(FrontError::NoMemory),
-        Err(ParseError::Unexpected { token }) => {
-            let at = beginning_of(text, tokens, token);
-            Err(FrontError::Unexpected { token, at })
-        }
+        Err(error) => Err(of_parsing(text, tokens, error)),
+    }
+}
+
+// An error of the parser over the tokens of a text, as an error of the whole. Takes no memory.
+fn of_parsing(text: &[u8], tokens: &[Token], error: ParseError) -> FrontError
+    requires { length text.now < 2 ^ 32 - 1 }
+    ensures { result ≡ of_parsing text.now tokens.now error }
+{
+    match error {
+        ParseError::NoMemory => FrontError::NoMemory,
+        ParseError::Unexpected { token } => FrontError::Unexpected {
+            token,
+            at: beginning_of(text, tokens, token),
+        },
+    }
+}
+
+// Tests the limits of a tree. X1, at the first definition that passes one. Takes no memory.
+fn check_limits(tree: &ModuleTree) -> Result<(), FrontError>
+    ensures ok { OnOk result (AreWithinLimits tree.now) }
+    ensures err { IfErr result (λ e. (span : Span) × (e ≡ FrontError.Limit Limit.Fields span) × IsFirstOver tree.now span) }
+{
+    match first_over(tree) {
+        None => Ok(()),
+        Some(span) => Err(FrontError::Limit {
+            which: Limit::Fields,
+            span,
+        }),
     }
 }
 

@@ -6,13 +6,16 @@ ghost use Rattle.td_front.specs.Limits.{AreWithinLimits, IsFirstOver};
 use td_ast::token::Span;
 use td_ast::tree::ModuleTree;
 
-/// The name of the first definition with more than 256 fields.
-pub fn first_over(tree: &ModuleTree) -> Option<Span>
+/// The most fields that a definition has.
+const MOST_FIELDS: usize = 256;
+
+/// The name of the first definition with more than 256 fields. None: no definition has more.
+pub(crate) fn first_over(tree: &ModuleTree) -> Option<Span>
     ensures { MatchOption result (AreWithinLimits tree.now) (λ span. IsFirstOver tree.now span) }
 {
     let definitions = tree.definitions.as_slice();
     for definition in definitions {
-        if definition.fields.len() > 256 {
+        if definition.fields.len() > MOST_FIELDS {
             return Some(definition.name.span);
         }
     }

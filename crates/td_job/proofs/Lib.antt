@@ -2,3 +2,4 @@ pub mod Bytes
 pub mod Elements
 pub mod Laws
 pub mod Members
+pub mod Texts

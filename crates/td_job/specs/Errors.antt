@@ -1,5 +1,6 @@
 -- The codes and the paths of error lines (own rule).
-use Rattle.std.specs.Prelude.{ℕ, List, [], ◌++◌, Option, Some, None, codes, decimal}
+use Rattle.std.specs.Prelude.{ℕ, List, [], Some, codes}
+use Rattle.td_core.specs.Paths.{indexed}
 use Rattle.td_job.specs.declared.error.Field.{Field}
 use Rattle.td_job.specs.declared.error.Field.TheVariants as field
 use Rattle.td_job.specs.declared.error.Path.{Path}
@@ -16,14 +17,9 @@ name_of field.Bytes = codes "bytes"
 name_of field.Length = codes "length"
 name_of field.Stores = codes "stores"
 
--- a name, and behind it in brackets the place in a list
-abbrev pub spelled : List ℕ → Option ℕ → List ℕ
-spelled name None = name
-spelled name (Some index) = name ++ codes "[" ++ decimal index ++ codes "]"
-
 abbrev pub path_bytes : Path → List ℕ
 path_bytes (path.Named name) = name_of name
-path_bytes (path.Element name index) = spelled (name_of name) (Some index)
+path_bytes (path.Element name index) = indexed (name_of name) (Some index)
 path_bytes (path.Unknown name) = name
 
 abbrev pub path_of : JobError → List ℕ

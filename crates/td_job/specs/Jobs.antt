@@ -4,7 +4,7 @@
 -- in that order, each field looked at for all that can be wrong with it (a list first for its length, and then element
 -- by element), and then the fields of other names; at one place the lower code stands first. The answer is the first
 -- fault. A job that is no object has no field.
-use Rattle.std.specs.Prelude.{◌≡◌, ℕ, ◌+◌, ◌*◌, ◌/◌, ◌<◌, ◌≤◌, ◌^◌, List, [], ◌∷◌, ◌++◌, length, Bool, ◌||◌, nat_lt, nat_le, if◌then◌else◌, bytes_eq, IsUtf8, Option, Some, None, option_and_then, Result, Ok, Err, ◌⊎◌}
+use Rattle.std.specs.Prelude.{◌≡◌, ℕ, ◌+◌, ◌*◌, ◌/◌, ◌%◌, ◌<◌, ◌≤◌, ◌^◌, List, [], ◌∷◌, ◌++◌, length, Bool, ◌||◌, nat_lt, nat_le, if◌then◌else◌, bytes_eq, IsUtf8, Option, Some, None, option_and_then, IsSomeAnd, Result, Ok, Err, ◌⊎◌}
 use Rattle.std.specs.List.{All}
 use Rattle.serde_json.specs.Data.{Data, Items, no_items, item, Members, no_members, member}
 use Rattle.serde_json.specs.Read.{read as read_text}
@@ -217,6 +217,15 @@ pub record IsFirst (faults : List JobError) (e : JobError) : Type 0 where
 -- the first fault of a job
 abbrev pub FirstFault : Module → Data → JobError → Type 0
 FirstFault types job e = EntryFault types (text_of field.Entry job) e ⊎ ((entry : Entry) × IsEntry types (text_of field.Entry job) entry × IsFirst (later_faults job) e)
+
+-- memory may be lacking for a job: what is looked at before memory is taken has no fault, which is the entry point, the
+-- two lists, and the number of digits
+pub record MayLackMemory (types : Module) (job : Data) : Type 0 where
+  pub entry : Entry
+  pub named : IsEntry types (text_of field.Entry job) entry
+  pub args : list_faults field.Args (field_of field.Args job) ≡ []
+  pub cells : list_faults field.Cells (field_of field.Cells job) ≡ []
+  pub even : IsSomeAnd (text_of field.Bytes job) (λ text. length text % 2 ≡ 0)
 
 -- the run job that a job without a fault is
 pub record IsJob (types : Module) (job : Data) (j : RunJob) : Type 0 where

@@ -1,6 +1,6 @@
 //! The fields of a job, each looked at for all that can be wrong with it.
 
-ghost use Rattle.std.specs.Prelude.{◌≡◌, [], ◌⊎◌, IfOk, IfErr, OnOk, Some};
+ghost use Rattle.std.specs.Prelude.{◌≡◌, ◌≢◌, ◌%◌, [], ◌⊎◌, length, IsOk, IfOk, IfErr, OnOk, IsSomeAnd, MatchOption, Some};
 ghost use Rattle.serde_json.specs.Find.{as_object};
 ghost use Rattle.serde_json.specs.View.{view};
 ghost use Rattle.td_job.specs.Jobs.{field_of, text_of, number_of, EntryFault, IsEntry, IsFirst, list_faults, bytes_faults, given_bytes, length_faults, is_known, name_faults};
@@ -15,7 +15,7 @@ use td_core::module::{Entry, Module};
 use td_num::text::Text;
 
 /// The most bytes that a message has.
-pub(crate) const MOST_BYTES: u64 = 1_048_576;
+const MOST_BYTES: u64 = 1_048_576;
 
 /// The entry point that a job names. J2: `entry` is missing or no text. J3: no entry point has the name.
 pub(crate) fn entry_of(job: &Value, types: &Module) -> Result<Entry, JobError>
@@ -49,18 +49,31 @@ pub(crate) fn check_list(job: &Value, name: Field) -> Result<(), JobError>
     }
 }
 
+/// The cause of an error of reading hexadecimal digits: want of memory exactly where it was that, else J5. Takes no
+/// memory.
+fn fault_of(error: FromHexError) -> JobError
+    ensures memory { error ≡ FromHexError.OutOfMemory → result ≡ JobError.NoMemory }
+    ensures digits { error ≢ FromHexError.OutOfMemory → result ≡ JobError.Digits (Path.Named Field.Bytes) }
+{
+    match error {
+        FromHexError::OutOfMemory => JobError::NoMemory,
+        _ => JobError::Digits(Path::Named(Field::Bytes)),
+    }
+}
+
 /// The bytes that a job gives. J2: `bytes` is missing or no text. J5: it is not an even number of hexadecimal digits.
+/// `NoMemory`: there was no memory for the bytes; never where the number of digits is odd.
 pub(crate) fn bytes_of(alloc: Global, job: &Value) -> Result<Vec<u8>, JobError>
     ensures ok { IfOk result (λ bytes. (bytes_faults (text_of Field.Bytes (view job.now)) ≡ []) × (given_bytes (view job.now) ≡ bytes.items)) }
     ensures err { IfErr result (λ e. (e ≡ JobError.NoMemory) ⊎ IsFirst (bytes_faults (text_of Field.Bytes (view job.now))) e) }
+    ensures memory { result ≡ Err JobError.NoMemory → IsSomeAnd (text_of Field.Bytes (view job.now)) (λ text. length text % 2 ≡ 0) }
 {
     let Some(text) = text_of(job, Field::Bytes) else {
         return Err(JobError::Form(Path::Named(Field::Bytes)));
     };
     match hex::decode(alloc, text) {
         Ok(bytes) => Ok(bytes),
-        Err(FromHexError::OutOfMemory) => Err(JobError::NoMemory),
-        Err(_) => Err(JobError::Digits(Path::Named(Field::Bytes))),
+        Err(error) => Err(fault_of(error)),
     }
 }
 
@@ -94,19 +107,29 @@ fn is_known(name: &str) -> bool
         || name == Field::Stores.name()
 }
 
-/// Tests that each field has a known name. J2, at the first other name in byte order.
+/// The first name in byte order of a field that no job has. None: each field has a known name.
+fn unknown_name(job: &Value) -> Option<&str>
+    ensures { MatchOption result (name_faults (as_object (view job.now)) ≡ []) (λ name. IsFirst (name_faults (as_object (view job.now))) (JobError.Form (Path.Unknown name.now))) }
+{
+    let members = job.as_object()?;
+    for (name, _) in members {
+        if !is_known(name.as_str()) {
+            return Some(name.as_str());
+        }
+    }
+    None
+}
+
+/// Tests that each field has a known name. J2, at the first other name in byte order. `NoMemory`: there was no memory
+/// for that name; never where each name is known.
 pub(crate) fn check_names(alloc: Global, job: &Value) -> Result<(), JobError>
     ensures ok { OnOk result (name_faults (as_object (view job.now)) ≡ []) }
     ensures err { IfErr result (λ e. (e ≡ JobError.NoMemory) ⊎ IsFirst (name_faults (as_object (view job.now))) e) }
+    ensures known { name_faults (as_object (view job.now)) ≡ [] → IsOk result }
 {
-    let Some(members) = job.as_object() else {
+    let Some(name) = unknown_name(job) else {
         return Ok(());
     };
-    for (name, _) in members {
-        if !is_known(name.as_str()) {
-            let bytes = Text::copy_of(alloc, name.as_bytes())?;
-            return Err(JobError::Form(Path::Unknown(bytes)));
-        }
-    }
-    Ok(())
+    let bytes = Text::copy_of(alloc, name.as_bytes())?;
+    Err(JobError::Form(Path::Unknown(bytes)))
 }

@@ -1,7 +1,8 @@
 //! What can be wrong with a job, and where.
 
 ghost use Rattle.std.specs.Prelude.{◌≡◌};
-ghost use Rattle.td_job.specs.Errors.{code_of, path_of, path_bytes, name_of, spelled};
+ghost use Rattle.td_core.specs.Paths.{indexed};
+ghost use Rattle.td_job.specs.Errors.{code_of, path_of, path_bytes, name_of};
 
 use std::alloc::AllocError;
 use std::fmt;
@@ -118,8 +119,9 @@ impl Field {
 }
 
 impl Path {
+    /// The name, and the place in a list where there is one. Takes no memory.
     fn parts(&self) -> PathParts<'_>
-        ensures { spelled result.name.now result.index ≡ path_bytes self.now }
+        ensures { indexed result.name.now result.index ≡ path_bytes self.now }
     {
         match self {
             Path::Named(field) => PathParts {
@@ -159,7 +161,7 @@ impl JobError {
     /// The path of its error line, such as `args[3]`, in parts. Takes no memory. Want of memory has no path, and none
     /// is given.
     pub fn path(&self) -> PathParts<'_>
-        ensures { spelled result.name.now result.index ≡ path_of self.now }
+        ensures { indexed result.name.now result.index ≡ path_of self.now }
     {
         match self {
             JobError::NotJson => PathParts {

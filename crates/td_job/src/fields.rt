@@ -1,26 +1,37 @@
 //! JSON, and the fields of a job.
 
-ghost use Rattle.std.specs.Prelude.{◌≡◌, ◌⊎◌, IfOk, IfErr, option_map};
+ghost use Rattle.std.specs.Prelude.{◌≡◌, ◌<◌, ◌⊎◌, length, IfOk, IfErr, option_map};
 ghost use Rattle.serde_json.specs.Data.{Data};
+ghost use Rattle.serde_json.specs.Errors.{IsMemory};
 ghost use Rattle.serde_json.specs.View.{view};
 ghost use Rattle.td_job.specs.Jobs.{Reads, field_of, text_of, number_of};
 
 use crate::error::{Field, JobError};
-use serde_json::Value;
+use serde_json::{Error, Value};
 use std::alloc::Global;
 
-/// The value that the bytes stand for. J1: they are not JSON.
+/// The cause of an error of the JSON reader: want of memory exactly where the reader says so, else J1. Takes no memory.
+fn fault_of(error: &Error) -> JobError
+    ensures memory { IsMemory error.now → result ≡ JobError.NoMemory }
+    ensures refused { ¬ IsMemory error.now → result ≡ JobError.NotJson }
+{
+    if error.is_memory() {
+        JobError::NoMemory
+    } else {
+        JobError::NotJson
+    }
+}
+
+/// The value that the bytes stand for. J1: they are not JSON. `NoMemory`: there was no memory for it; never where there
+/// are no bytes.
 pub(crate) fn read_json(alloc: Global, bytes: &[u8]) -> Result<Value, JobError>
     ensures ok { IfOk result (λ job. Reads bytes.now (view job)) }
     ensures err { IfErr result (λ e. (e ≡ JobError.NoMemory) ⊎ ((e ≡ JobError.NotJson) × ((job : Data) → Reads bytes.now job → ⊥))) }
+    ensures memory { result ≡ Err JobError.NoMemory → 0 < length bytes.now }
 {
     match Value::from_slice(alloc, bytes) {
         Ok(job) => Ok(job),
-        Err(e) => if e.is_memory() {
-            Err(JobError::NoMemory)
-        } else {
-            Err(JobError::NotJson)
-        },
+        Err(error) => Err(fault_of(&error)),
     }
 }
 

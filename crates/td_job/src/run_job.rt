@@ -2,7 +2,7 @@
 
 ghost use Rattle.std.specs.Prelude.{◌≡◌, ◌⊎◌, ◌<◌, length, IfOk, IfErr, MatchResult};
 ghost use Rattle.serde_json.specs.View.{view};
-ghost use Rattle.td_job.specs.Jobs.{IsJob, IsRunJob, HasRoom, FirstFault, RefusedJob};
+ghost use Rattle.td_job.specs.Jobs.{IsJob, IsRunJob, HasRoom, MayLackMemory, FirstFault, RefusedJob};
 
 use crate::checks::{bytes_of, check_list, check_names, entry_of, length_of};
 use crate::error::{Field, JobError};
@@ -37,6 +37,7 @@ fn job_of(alloc: Global, job: &Value, types: &Module) -> Result<RunJob, JobError
     ensures ok { IfOk result (λ j. IsJob types.now (view job.now) j) }
     ensures room { IfOk result HasRoom }
     ensures err { IfErr result (λ e. (e ≡ JobError.NoMemory) ⊎ FirstFault types.now (view job.now) e) }
+    ensures memory { result ≡ Err JobError.NoMemory → MayLackMemory types.now (view job.now) }
 {
     let entry = entry_of(job, types)?;
     check_list(job, Field::Args)?;
@@ -61,13 +62,14 @@ fn parsed_job(alloc: Global, bytes: &[u8], types: &Module) -> Result<RunJob, Job
     ensures job { IfOk result (λ j. IsRunJob bytes.now types.now j) }
     ensures room { IfOk result HasRoom }
     ensures refused { IfErr result (λ e. (e ≡ JobError.NoMemory) ⊎ RefusedJob bytes.now types.now e) }
+    ensures memory { result ≡ Err JobError.NoMemory → 0 < length bytes.now }
 {
     let job = read_json(alloc, bytes)?;
     job_of(alloc, &job, types)
 }
 
 /// The run job that the bytes stand for. J1 to J8: their first fault, each exactly where the definition says so.
-/// `NoMemory`: there was no memory for it.
+/// `NoMemory`: there was no memory for it; never where there are no bytes.
 pub fn read_run_job(alloc: Global, bytes: &[u8], types: &Module) -> Result<RunJob, JobError>
     ensures job { IfOk result (λ j. IsRunJob bytes.now types.now j) }
     ensures room { IfOk result HasRoom }
@@ -75,6 +77,7 @@ pub fn read_run_job(alloc: Global, bytes: &[u8], types: &Module) -> Result<RunJo
     ensures complete { (j : RunJob) → IsRunJob bytes.now types.now j → MatchResult result (λ found. found ≡ j) (λ e. e ≡ JobError.NoMemory) }
     ensures refused { IfErr result (λ e. (e ≡ JobError.NoMemory) ⊎ RefusedJob bytes.now types.now e) }
     ensures exact { (e : JobError) → RefusedJob bytes.now types.now e → (result ≡ Err e) ⊎ (result ≡ Err JobError.NoMemory) }
+    ensures memory { result ≡ Err JobError.NoMemory → 0 < length bytes.now }
 {
     parsed_job(alloc, bytes, types)
 }

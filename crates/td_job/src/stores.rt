@@ -1,17 +1,18 @@
 //! The stores of a job.
 
-ghost use Rattle.std.specs.Prelude.{◌≡◌, ◌<◌, [], ◌∷◌, ◌⊎◌, IfOk, IfErr, option_map};
+ghost use Rattle.std.specs.Prelude.{◌≡◌, ℕ, ◌<◌, [], ◌∷◌, ◌⊎◌, IfOk, IfErr, option_map};
 ghost use Rattle.std.specs.List.{All};
 ghost use Rattle.serde_json.specs.View.{view, items_view};
 ghost use Rattle.td_job.specs.Jobs.{field_of, IsFirst, spelled_store, spelled_word, store_faults, store_of, each_store, each_store_faults, stores_faults, given_stores};
 
 use crate::error::{Field, JobError, Path};
 use crate::fields::field_of;
-use crate::words::word_at;
 use hex::FromHex;
 use serde_json::Value;
 use std::alloc::Global;
+use td_num::bytes::load_le;
 use td_num::items::Items;
+use td_num::number::Width;
 use td_sched::store::PlannedStore;
 
 /// The most stores that a job has.
@@ -44,7 +45,7 @@ fn word_of(text: &str) -> Option<u64>
     ensures { result ≡ spelled_word text.now }
 {
     let bytes = <[u8; 8] as FromHex>::from_hex(text).ok()?;
-    Some(word_at(&bytes, 0))
+    Some(load_le(&bytes, Width::Eight))
 }
 
 /// The store of an element of the list, at a message of so many words. J2: the element has another form. J5: its text
@@ -88,6 +89,26 @@ fn each_store(alloc: Global, values: &[Value], words: u32) -> Result<Items<Plann
     Ok(stores)
 }
 
+/// The elements of `stores`; none where it is left out. J2: it is no list. J8: it has more than 65,536 elements. Takes
+/// no memory.
+fn listed_stores(job: &Value) -> Result<&[Value], JobError>
+    ensures ok { IfOk result (λ values. (words : ℕ) → stores_faults words (field_of Field.Stores (view job.now)) ≡ each_store_faults words 0 (items_view values.now)) }
+    ensures given { IfOk result (λ values. given_stores (view job.now) ≡ each_store (items_view values.now)) }
+    ensures err { IfErr result (λ e. (words : ℕ) → IsFirst (stores_faults words (field_of Field.Stores (view job.now))) e) }
+{
+    let Some(value) = field_of(job, Field::Stores) else {
+        return Ok(&[]);
+    };
+    match value.as_array() {
+        None => Err(JobError::Form(Path::Named(Field::Stores))),
+        Some(values) => if values.len() > MOST_STORES {
+            Err(JobError::Limit(Path::Named(Field::Stores)))
+        } else {
+            Ok(values.as_slice())
+        },
+    }
+}
+
 /// The stores that a job makes to a message of so many words, in the order given. J2: `stores` is no list, or an element
 /// has another form. J5: an element's text is not 16 hexadecimal digits. J6: its word is none of the message's. J8: the
 /// list has more than 65,536 elements.
@@ -100,15 +121,6 @@ pub(crate) fn stores_of(
     ensures inside { IfOk result (λ stores. All (λ s. s.word < words) stores) }
     ensures err { IfErr result (λ e. (e ≡ JobError.NoMemory) ⊎ IsFirst (stores_faults words (field_of Field.Stores (view job.now))) e) }
 {
-    let Some(value) = field_of(job, Field::Stores) else {
-        return Ok(Items::new(alloc));
-    };
-    match value.as_array() {
-        None => Err(JobError::Form(Path::Named(Field::Stores))),
-        Some(values) => if values.len() > MOST_STORES {
-            Err(JobError::Limit(Path::Named(Field::Stores)))
-        } else {
-            each_store(alloc, values, words)
-        },
-    }
+    let values = listed_stores(job)?;
+    each_store(alloc, values, words)
 }

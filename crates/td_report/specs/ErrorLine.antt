@@ -29,8 +29,3 @@ behind_blank (first ∷ more) = codes " " ++ first ∷ more
 -- `error CODE LINE:COLUMN WORDS` and a line feed
 unfoldable pub error_line : List ℕ → Option ℕ → List ℕ → List ℕ → List ℕ
 error_line text at code words = codes "error " ++ code ++ place_words text at ++ behind_blank words ++ codes "\n"
-
--- a name, and behind it in brackets the place in a list, where there is one
-abbrev pub indexed : List ℕ → Option ℕ → List ℕ
-indexed name None = name
-indexed name (Some index) = name ++ codes "[" ++ decimal index ++ codes "]"

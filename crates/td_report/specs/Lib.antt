@@ -1,2 +1,3 @@
 pub mod Report
 pub mod ErrorLine
+pub mod Laws

@@ -4,6 +4,7 @@
 
 pub mod error_line;
 mod hexadecimal;
+pub mod laws;
 pub mod path_line;
 mod pieces;
 pub mod report;

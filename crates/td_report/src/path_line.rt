@@ -1,8 +1,9 @@
 //! The lines of errors that have a path.
 
 ghost use Rattle.std.specs.Prelude.{◌≡◌, [], None};
+ghost use Rattle.td_core.specs.Paths.{indexed};
 ghost use Rattle.td_io.specs.States.{Writes};
-ghost use Rattle.td_report.specs.ErrorLine.{error_line, behind_blank, indexed};
+ghost use Rattle.td_report.specs.ErrorLine.{error_line, behind_blank};
 
 use crate::error_line::{write_code, write_words};
 use crate::pieces::write_pieces;

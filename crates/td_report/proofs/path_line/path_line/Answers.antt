@@ -1,5 +1,6 @@
 use Rattle.std.proofs.Common.{◌++◌, [], None, codes}
-use Rattle.td_report.specs.ErrorLine.{behind_blank, indexed}
+use Rattle.td_core.specs.Paths.{indexed}
+use Rattle.td_report.specs.ErrorLine.{behind_blank}
 use Rattle.td_report.proofs.Composing.{writes_both, writes_stopped, writes_as}
 use Rattle.td_report.proofs.Parts.{error_line_parts}
 use Rattle.td_report.proofs.path_line.path_line.Goals as goal

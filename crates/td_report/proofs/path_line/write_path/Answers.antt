@@ -1,5 +1,6 @@
 use Rattle.std.proofs.Common.{◌≡◌, List, Option, [], ◌∷◌, ◌++◌, ℕ, refl, ap, sym, ◌∙◌, append_assoc, codes, decimal}
-use Rattle.td_report.specs.ErrorLine.{behind_blank, indexed}
+use Rattle.td_core.specs.Paths.{indexed}
+use Rattle.td_report.specs.ErrorLine.{behind_blank}
 use Rattle.td_report.proofs.Composing.{writes_as}
 use Rattle.td_report.proofs.path_line.write_path.Goals as goal
 
