@@ -1,10 +1,14 @@
 -- The keys of a set, by their bytes.
-use Rattle.std.proofs.Common.{◌≡◌, ℕ, suc, length, ◌+◌, Bool, true, false, cond, List, [], ◌∷◌, ◌++◌, Some, None, refl, ap, arith, ◌||◌, not, nat_lt, ◌≤◌}
+use Rattle.std.proofs.Common.{◌≡◌, ℕ, suc, length, ◌+◌, Bool, true, false, cond, List, [], ◌∷◌, ◌++◌, Some, None, refl, ap, arith, ◌||◌, not, nat_lt, ◌≤◌, if◌then◌else◌}
 use Rattle.std.proofs.lemmas.Bool.{ltb-false}
 use Rattle.std.specs.Str.{bytes_eq}
 use Rattle.std.specs.List.{list_any, position_or_len}
 use Rattle.std.specs.declared.vec.Vec.{Vec}
-use Rattle.td_elab.specs.Names.{number_of, texts}
+use Rattle.td_elab.specs.Names.{is_seen, with_name, number_of, texts}
+
+-- a name that was seen isn't put there again
+pub with_seen : (names : List (List ℕ)) (name : List ℕ) → is_seen names name ≡ true → with_name names name ≡ names
+with_seen names name seen = ap (λ b. if b then names else names ++ name ∷ []) seen
 
 pub any_texts : {A : Type 0} (name : List ℕ) (ks : List (Vec ℕ A)) → list_any (bytes_eq name) (texts ks) ≡ list_any (λ k. bytes_eq name k.items) ks
 any_texts name [] = refl

@@ -45,6 +45,7 @@ impl Names {
 
     /// One more name, unless it was seen. `AllocError`: it wasn't, and there was no memory for it, or all 2^32 - 1
     /// numbers are given; the names are as before.
+    #[tactic(auto, using(crate::proofs::Reading::with_seen))]
     pub fn see(&mut self, alloc: Global, name: &[u8]) -> Result<(), AllocError>
         ensures ok { OnOk result (self.new ≡ with_name self.old name.now) }
         ensures err { OnErr result (self.new ≡ self.old) }

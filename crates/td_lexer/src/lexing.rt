@@ -58,6 +58,7 @@ fn step(alloc: Global, bytes: &[u8], at: usize, tokens: &mut Vec<Token>) -> Resu
 }
 
 /// Reads piece after piece to the end.
+#[tactic(auto, using(crate::proofs::Stepping::steps_end))]
 fn read_all(alloc: Global, bytes: &[u8]) -> Result<Vec<Token>, LexError>
     requires { length bytes.now < 2 ^ 32 }
     ensures tokens { IfOk result (λ found. Splits bytes.now found.items) }

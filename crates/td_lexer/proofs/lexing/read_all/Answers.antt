@@ -1,6 +1,6 @@
 use Rattle.std.proofs.Common.{arith}
 use Rattle.std.proofs.lemmas.Result.{err_from_is_err_and}
-use Rattle.td_lexer.proofs.Stepping.{steps_begin, steps_go, steps_stop, steps_end}
+use Rattle.td_lexer.proofs.Stepping.{steps_begin, steps_go, steps_stop}
 use Rattle.td_lexer.proofs.lexing.read_all.Goals as goal
 
 pub loop-at-init : goal.loop-at-init
@@ -16,6 +16,3 @@ loop-at-preserved c = record {
   within = c.in_ok-at.ensures.1;
   so_far = steps_go c.args.bytes.now c.loop-at.at c.loop-at.tokens.items c.step.new.tokens.items c.loop-at.invariant.so_far _ c.in_ok-at.ensures;
 }
-
-pub returns-clause-tokens : goal.returns-clause-tokens
-returns-clause-tokens c = steps_end c.args.bytes.now c.loop-at.at c.loop-at.tokens.items c.loop-at-test.false c.loop-at.invariant.so_far

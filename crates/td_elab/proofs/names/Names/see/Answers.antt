@@ -3,12 +3,6 @@ use Rattle.td_elab.specs.Names.{texts, is_seen}
 use Rattle.td_elab.proofs.Reading.{any_texts, texts-push}
 use Rattle.td_elab.proofs.names.Names.see.Goals as goal
 
-pub returns-then-contains-clause-ok : goal.returns-then-contains-clause-ok
-returns-then-contains-clause-ok c =
-    let name = c.args.name.now in
-    let there = sym c.contains.ensures ∙ c.if-contains.true in
-    sym (ap (λ b. if b then c.args.self.now else c.args.self.now ++ name ∷ []) there)
-
 pub returns-clause-ok : goal.returns-clause-ok
 returns-clause-ok c =
     let keys = c.self.inside.set.keys in
