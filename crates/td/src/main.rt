@@ -1,19 +1,22 @@
-//! The program `td`: makes a source and sinks of the system's standard streams, runs the tool on its words, and ends with
-//! the tool's status. All that it does is a clause of `run_tool`.
+//! The program `td`: it makes a source and sinks of the system's standard streams, hands them and its words to
+//! [`run_tool`], and ends with the tool's status.
+//!
+//! `main` has no clause of its own: that it does just this is seen here and in the rows that run the built program. What
+//! `run_tool` says of the streams' bytes holds of every source and sink; those of the system tell nothing of theirs.
 #![tactic(auto)]
 
 use std::process::ExitCode;
 use std::{env, io};
-use td_cli::tool::{run_tool, without_memory};
-use td_io::standard::{StreamSink, StreamSource};
+use td_cli::{finish_out_of_memory, run_tool};
+use td_io::{ReaderSource, WriterSink};
 
 fn main(rt: HostRuntime) -> ExitCode {
-    let mut src = StreamSource::over(rt.stdin());
-    let mut out = StreamSink::over(rt.stdout());
-    let mut err = StreamSink::over(rt.stderr());
+    let mut src = ReaderSource::over(rt.stdin());
+    let mut out = WriterSink::over(rt.stdout());
+    let mut err = WriterSink::over(rt.stderr());
     let status = match words(&rt) {
         Ok(words) => run_tool(&rt, words.as_slice(), &mut src, &mut out, &mut err),
-        Err(error) if error.kind() == io::ErrorKind::OutOfMemory => without_memory(&mut err),
+        Err(error) if error.kind() == io::ErrorKind::OutOfMemory => finish_out_of_memory(&mut err),
         // A word that is no text makes the command line a wrong one, as no word does.
         Err(_) => run_tool(&rt, &[], &mut src, &mut out, &mut err),
     };

@@ -1,5 +1,5 @@
--- What an input is answered: a report, or one line that refuses it.
-use Rattle.std.specs.Prelude.{◌≡◌, ℕ, ◌+◌, List, take, drop}
+-- What each command answers an input, and what refuses its input (own rule). One case a command.
+use Rattle.std.specs.Prelude.{◌≡◌, ℕ, ◌+◌, ◌<◌, ◌≤◌, List, length, take, drop}
 use Rattle.td_core.specs.declared.module.Module.{Module}
 use Rattle.td_core.specs.declared.outcome.Outcome.{Outcome}
 use Rattle.td_stream.specs.declared.load.Load.{Load}
@@ -7,10 +7,16 @@ use Rattle.td_front.specs.ModuleText.{IsModuleText, RefusedBy}
 use Rattle.td_job.specs.declared.run_job.RunJob.{RunJob}
 use Rattle.td_job.specs.Jobs.{IsRunJob, RefusedJob}
 use Rattle.td_report.specs.Report.{report}
+use Rattle.td_report.specs.Summary.{summary}
+use Rattle.td_cli.specs.declared.command.Command.{Command}
+use Rattle.td_cli.specs.declared.command.Command.TheVariants.{Check as CheckCommand, Run as RunCommand}
 use Rattle.td_cli.specs.declared.refusal.Refusal.{Refusal}
 use Rattle.td_cli.specs.declared.refusal.Refusal.TheVariants.{TooLong, NoJob, BadModule, BadJob}
+use Rattle.td_cli.specs.declared.tool.TheConstants.{INPUT_LIMIT}
 use Rattle.td_cli.specs.Input.{IsMarker, IsFirstMarker}
 use Rattle.td_cli.specs.Run.{IsRunOf}
+
+-- ---- run
 
 -- the module text and the job of an input whose marker line begins at n
 abbrev pub text_part : List ℕ → ℕ → List ℕ
@@ -20,29 +26,56 @@ abbrev pub job_part : List ℕ → ℕ → List ℕ
 job_part input n = drop (n + 3) input
 
 -- the input is a module text, a marker and a job
-pub record IsInput (input : List ℕ) (types : Module) (job : RunJob) : Type 0 where
+pub record IsRunInput (input : List ℕ) (m : Module) (job : RunJob) : Type 0 where
   pub place : ℕ
   pub marker : IsFirstMarker input place
-  pub text : IsModuleText (text_part input place) types
-  pub good : IsRunJob (job_part input place) types job
+  pub text : IsModuleText (text_part input place) m
+  pub good : IsRunJob (job_part input place) m job
 
--- what is written is the report of some run of the job
-abbrev pub WritesReport : Module → RunJob → (List ℕ → Type 0) → Type 0
-WritesReport types job Writes = (outcome : Outcome) × (loads : List Load) × IsRunOf types job outcome loads × Writes (report outcome types job.entry loads)
-
--- the report of some run of the input's job
-pub record IsReport (input written : List ℕ) : Type 0 where
-  pub types : Module
+-- the text is the report of some run of the input's job
+pub record IsReport (input text : List ℕ) : Type 0 where
+  pub m : Module
   pub job : RunJob
   pub outcome : Outcome
   pub loads : List Load
-  pub input_is : IsInput input types job
-  pub run : IsRunOf types job outcome loads
-  pub written_is : written ≡ report outcome types job.entry loads
+  pub input_is : IsRunInput input m job
+  pub run : IsRunOf m job outcome loads
+  pub text_is : text ≡ report outcome m job.entry loads
 
--- why an input is refused
-abbrev pub Refuses : List ℕ → Refusal → Type 0
-Refuses input TooLong = ⊥
-Refuses input NoJob = (n : ℕ) → IsMarker input n → ⊥
-Refuses input (BadModule e) = (n : ℕ) × IsFirstMarker input n × RefusedBy (text_part input n) e
-Refuses input (BadJob e) = (n : ℕ) × (types : Module) × IsFirstMarker input n × IsModuleText (text_part input n) types × RefusedJob (job_part input n) types e
+-- why an input that isn't too long is refused
+abbrev pub RefusesRun : List ℕ → Refusal → Type 0
+RefusesRun input TooLong = ⊥
+RefusesRun input NoJob = (n : ℕ) → IsMarker input n → ⊥
+RefusesRun input (BadModule e) = (n : ℕ) × IsFirstMarker input n × RefusedBy (text_part input n) e
+RefusesRun input (BadJob e) = (n : ℕ) × (m : Module) × IsFirstMarker input n × IsModuleText (text_part input n) m × RefusedJob (job_part input n) m e
+
+-- ---- check
+
+-- the text is that which is told of the module for which the input stands
+abbrev pub IsSummary : List ℕ → List ℕ → Type 0
+IsSummary input text = (m : Module) × IsModuleText input m × (text ≡ summary m)
+
+-- why an input that isn't too long is refused
+abbrev pub RefusesCheck : List ℕ → Refusal → Type 0
+RefusesCheck input TooLong = ⊥
+RefusesCheck input NoJob = ⊥
+RefusesCheck input (BadModule e) = RefusedBy input e
+RefusesCheck input (BadJob e) = ⊥
+
+-- ---- each command
+
+-- the command answers the input with this output
+abbrev pub Answers : Command → List ℕ → List ℕ → Type 0
+Answers CheckCommand input output = (length input ≤ INPUT_LIMIT) × IsSummary input output
+Answers RunCommand input output = (length input ≤ INPUT_LIMIT) × IsReport input output
+
+-- the input is one that the command answers
+abbrev pub Admits : Command → List ℕ → Type 0
+Admits CheckCommand input = (length input ≤ INPUT_LIMIT) × (m : Module) × IsModuleText input m
+Admits RunCommand input = (length input ≤ INPUT_LIMIT) × (m : Module) × (job : RunJob) × IsRunInput input m job
+
+-- the command refuses the input for this reason, the first in the order in which an input is looked at
+abbrev pub Refuses : Command → List ℕ → Refusal → Type 0
+Refuses command input TooLong = INPUT_LIMIT < length input
+Refuses CheckCommand input refusal = (length input ≤ INPUT_LIMIT) × RefusesCheck input refusal
+Refuses RunCommand input refusal = (length input ≤ INPUT_LIMIT) × RefusesRun input refusal

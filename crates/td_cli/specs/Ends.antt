@@ -1,82 +1,117 @@
--- How a call of the tool ends, told by the states of its source and of its two sinks before and after (own rule). Of bytes
--- that aren't told (`None`) nothing is claimed.
-use Rattle.std.specs.Prelude.{◌≡◌, ◌⊎◌, ℕ, ◌+◌, ◌≤◌, List, [], length, String, Some}
-use Rattle.std.specs.declared.alloc.Global.{Global}
+-- How a call of the tool ends, told by its three streams before and after (own rule). Of bytes that aren't told (`None`)
+-- nothing is claimed; that a stream is untouched is said of its value, so it holds of such a stream too.
+use Rattle.std.specs.Prelude.{◌≡◌, ◌≢◌, ◌⊎◌, ℕ, ◌+◌, List, Some}
 use Rattle.std.specs.Io.KnownBytes.{IsAtEnd}
-use Rattle.td_core.specs.declared.module.Module.{Module}
-use Rattle.td_io.specs.Causes.{HasMore, ReadWhole, TookAtMost}
-use Rattle.td_io.specs.States.{SourceState, ReadFails, NoReadFails}
-use Rattle.td_job.specs.declared.run_job.RunJob.{RunJob}
+use Rattle.td_io.specs.Causes.{ReadWhole, TookAtMost}
+use Rattle.td_io.specs.States as io
+use Rattle.td_io.specs.declared.reading.TheConstants.{PIECE}
+use Rattle.td_cli.specs.declared.command.Command.{Command}
 use Rattle.td_cli.specs.declared.refusal.Refusal.{Refusal}
-use Rattle.td_cli.specs.declared.refusal.Refusal.TheVariants.{TooLong}
-use Rattle.td_cli.specs.Words.{IsRun}
-use Rattle.td_cli.specs.Answers.{IsInput, IsReport, Refuses}
+use Rattle.td_cli.specs.declared.status.Status.{Status}
+use Rattle.td_cli.specs.declared.status.Status.TheVariants.{Done, Refused, Usage, ReadFault, WriteFault, NoMemory}
+use Rattle.td_cli.specs.declared.tool.TheConstants.{INPUT_LIMIT}
+use Rattle.td_cli.specs.Command.{Means, MeansNone}
+use Rattle.td_cli.specs.Answers.{Answers, Admits, Refuses}
 use Rattle.td_cli.specs.Lines.{usage_line, read_line, memory_line, refusal_line}
 
--- bytes: 4 MiB
-abbrev pub input_limit : ℕ
-input_limit = 4194304
+-- ---- a stream over a call
 
--- no more bytes were taken of the source than an input may have
-abbrev pub WithinLimit : SourceState → SourceState → Type 0
-WithinLimit old new = TookAtMost old.left new.left input_limit
+-- what is told of a stream before and after a call, and that the call left it as it was
+pub record Passage (State : Type 0) : Type 1 where
+  pub before : State
+  pub after : State
+  pub Untouched : Type 0
 
--- at most 4,096 more were
-abbrev pub StopsReading : SourceState → SourceState → Type 0
-StopsReading old new = TookAtMost old.left new.left (input_limit + 4096)
+abbrev pub passage : {Stream State : Type 0} → (Stream → State) → Stream → Stream → Passage State
+passage state old new = record { before = state old; after = state new; Untouched = new ≡ old }
 
--- the source held this input, which is within the limit
-pub record IsInputOf (source : SourceState) (input : List ℕ) : Type 0 where
-  pub whole : ReadWhole source.left input
-  pub short : length input ≤ input_limit
+-- the sink took the whole text, and no write of it failed
+abbrev pub Takes : Passage io.SinkState → List ℕ → Type 0
+Takes sink text = io.Takes sink.before sink.after text
 
--- the source was read to its end, no read of it failed, and its bytes have this report
-pub record HasReport (old new : SourceState) (report : List ℕ) : Type 0 where
+-- the sink took a prefix of the text, and then one write of it failed, after which nothing was written
+abbrev pub WriteFails : Passage io.SinkState → List ℕ → Type 0
+WriteFails sink text = io.WriteFails sink.before sink.after text
+
+-- one read of the source failed, after which nothing was read; no read of it failed
+abbrev pub ReadFails : Passage io.SourceState → Type 0
+ReadFails source = io.ReadFails source.before source.after
+
+abbrev pub NoReadFails : Passage io.SourceState → Type 0
+NoReadFails source = io.NoReadFails source.before source.after
+
+-- no more bytes were taken of the source than an input may have; at most 4,096 more were
+abbrev pub WithinLimit : Passage io.SourceState → Type 0
+WithinLimit source = TookAtMost source.before.left source.after.left INPUT_LIMIT
+
+abbrev pub StopsReading : Passage io.SourceState → Type 0
+StopsReading source = TookAtMost source.before.left source.after.left (INPUT_LIMIT + PIECE)
+
+-- the source held this input, where it tells what it holds
+abbrev pub Held : Passage io.SourceState → List ℕ → Type 0
+Held source input = ReadWhole source.before.left input
+
+-- ---- what goes out
+
+-- the words mean a command, the source was read to its end, and the output is what the command answers its input
+pub record IsOutput (words : List (List ℕ)) (source : Passage io.SourceState) (output : List ℕ) : Type 0 where
+  pub command : Command
+  pub means : Means words command
   pub input : List ℕ
-  pub read : IsInputOf old input
-  pub end : IsAtEnd new.left
-  pub quiet : NoReadFails old new
-  pub report_is : IsReport input report
+  pub held : Held source input
+  pub end : IsAtEnd source.after.left
+  pub quiet : NoReadFails source
+  pub answers : Answers command input output
 
--- the line tells why what the source held is refused: it is too long, or is no good input
-abbrev pub HasRefusal : SourceState → List ℕ → Type 0
-HasRefusal source line =
-    (HasMore source.left input_limit × (line ≡ refusal_line [] TooLong))
-    ⊎ ((input : List ℕ) × (refusal : Refusal) × IsInputOf source input × Refuses input refusal × (line ≡ refusal_line input refusal))
+-- the words mean a command, and the line says why it refuses the source's input
+pub record IsRefusal (words : List (List ℕ)) (source : Passage io.SourceState) (line : List ℕ) : Type 0 where
+  pub command : Command
+  pub means : Means words command
+  pub input : List ℕ
+  pub held : Held source input
+  pub quiet : NoReadFails source
+  pub refusal : Refusal
+  pub refuses : Refuses command input refusal
+  pub line_is : line ≡ refusal_line input refusal
 
--- the line answers a run in place of a report: a read failed; or none did, and there was no memory before the limit was
--- passed, or what the source held is refused
-abbrev pub IsRunLine : SourceState → SourceState → List ℕ → Type 0
-IsRunLine old new line =
-    (ReadFails old new × (line ≡ read_line))
-    ⊎ ((NoReadFails old new × WithinLimit old new × (line ≡ memory_line)) ⊎ (NoReadFails old new × HasRefusal old line))
+-- the words mean a command
+abbrev pub MeansSome : List (List ℕ) → Type 0
+MeansSome words = (command : Command) × Means words command
 
--- the line answers an input that was read: there was no memory, or the input is refused
-abbrev pub IsReplyLine : List ℕ → List ℕ → Type 0
-IsReplyLine input line = (line ≡ memory_line) ⊎ ((refusal : Refusal) × Refuses input refusal × (line ≡ refusal_line input refusal))
+-- there was no memory: for the words, so nothing was read; or for a command, before the limit was passed
+abbrev pub MayLackMemory : List (List ℕ) → Passage io.SourceState → Type 0
+MayLackMemory words source = source.Untouched ⊎ (MeansSome words × NoReadFails source × WithinLimit source)
 
--- the line answers a call on the error stream: the words are no command, and nothing was read; or it answers a run
-abbrev pub IsErrorLine : List (String Global) → SourceState → SourceState → List ℕ → Type 0
-IsErrorLine words old new line = ((¬ IsRun words) × (new ≡ old) × (line ≡ usage_line)) ⊎ (IsRun words × IsRunLine old new line)
+-- the line that goes to the error stream at a status, and how that came about
+abbrev pub IsErrorLine : Status → List (List ℕ) → Passage io.SourceState → List ℕ → Type 0
+IsErrorLine Refused words source line = IsRefusal words source line
+IsErrorLine Usage words source line = MeansNone words × source.Untouched × (line ≡ usage_line)
+IsErrorLine ReadFault words source line = MeansSome words × ReadFails source × (line ≡ read_line)
+IsErrorLine NoMemory words source line = MayLackMemory words source × (line ≡ memory_line)
+IsErrorLine other words source line = ⊥
 
--- some report of what the source held has the property P
-abbrev pub SomeReport : SourceState → SourceState → (List ℕ → Type 0) → Type 0
-SomeReport old new P = (report : List ℕ) × HasReport old new report × P report
+-- ---- how a call ends
 
--- some line that tells why what the source held is refused has it, and no read of the source failed
-abbrev pub SomeRefusal : SourceState → SourceState → (List ℕ → Type 0) → Type 0
-SomeRefusal old new P = (line : List ℕ) × NoReadFails old new × HasRefusal old line × P line
+-- at `Done` the output went to `out`; at `WriteFault` a write of it failed, or one of an error line; at each other end the
+-- line of that end went to `err`. The other sink is untouched
+abbrev pub EndsAs : Status → List (List ℕ) → Passage io.SourceState → Passage io.SinkState → Passage io.SinkState → Type 0
+EndsAs Done words source out err = (output : List ℕ) × IsOutput words source output × Takes out output × err.Untouched
+EndsAs WriteFault words source out err =
+    ((output : List ℕ) × IsOutput words source output × WriteFails out output × err.Untouched)
+    ⊎ ((status : Status) × (line : List ℕ) × IsErrorLine status words source line × WriteFails err line × out.Untouched)
+EndsAs status words source out err = (line : List ℕ) × IsErrorLine status words source line × Takes err line × out.Untouched
 
--- some line that answers the call on the error stream has it
-abbrev pub SomeErrorLine : List (String Global) → SourceState → SourceState → (List ℕ → Type 0) → Type 0
-SomeErrorLine words old new P = (line : List ℕ) × IsErrorLine words old new line × P line
+-- the words mean a command, and the source tells what it holds: an input that the command answers, or one that it refuses
+abbrev pub HasGoodInput : List (List ℕ) → Passage io.SourceState → Type 0
+HasGoodInput words source = (command : Command) × (input : List ℕ) × Means words command × (source.before.left ≡ Some input) × Admits command input
 
--- the source tells what it holds: a module text, a marker and a job, within the limit
-abbrev pub HasGoodInput : SourceState → Type 0
-HasGoodInput source =
-    (input : List ℕ) × (types : Module) × (job : RunJob) × (source.left ≡ Some input)
-    × (length input ≤ input_limit) × IsInput input types job
+abbrev pub HasBadInput : List (List ℕ) → Passage io.SourceState → Type 0
+HasBadInput words source = (command : Command) × (input : List ℕ) × (refusal : Refusal) × Means words command × (source.before.left ≡ Some input) × Refuses command input refusal
 
--- the source tells what it holds, and that is refused
-abbrev pub HasBadInput : SourceState → Type 0
-HasBadInput source = (input : List ℕ) × (line : List ℕ) × (source.left ≡ Some input) × HasRefusal source line
+-- how a call ends, and which ends can't come: an input that is answered is no usage and no refusal, and one that is
+-- refused is no usage and isn't answered. So much is read at most
+pub record CallEnds (words : List (List ℕ)) (status : Status) (source : Passage io.SourceState) (out err : Passage io.SinkState) : Type 0 where
+  pub ends : EndsAs status words source out err
+  pub good : HasGoodInput words source → (status ≢ Usage) × (status ≢ Refused)
+  pub bad : HasBadInput words source → (status ≢ Usage) × (status ≢ Done)
+  pub taken : StopsReading source

@@ -1,8 +1,10 @@
-pub mod Words
+pub mod Command
 pub mod Input
 pub mod Status
 pub mod Run
 pub mod Answers
-pub mod Stops
+pub mod Errors
 pub mod Lines
 pub mod Ends
+pub mod Endings
+pub mod Laws

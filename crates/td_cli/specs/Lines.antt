@@ -17,7 +17,7 @@ read_line = codes "error read\n"
 abbrev pub memory_line : List ℕ
 memory_line = codes "error memory\n"
 
--- the line that refuses a module text, which is the front of the input: a code, the place in the text, and words
+-- the line that refuses a module text, which is a prefix of the input: a code, the place in the text, and words
 abbrev pub module_line : List ℕ → FrontError → List ℕ
 module_line input e = error_line input (Some (place_of e)) (code_of e) (words_of e)
 

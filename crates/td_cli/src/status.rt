@@ -14,7 +14,7 @@ pub enum Status {
     Usage,
     /// 3: a read of the source failed; `error read` went to `err`, nothing to `out`.
     ReadFault,
-    /// 4: a write of `out` or of `err` failed; a front of what was to be written went there, and to the other nothing. The
+    /// 4: a write of `out` or of `err` failed; a prefix of what was to be written went there, and to the other nothing. The
     /// source failed too where that was `error read`.
     WriteFault,
     /// 5: there was no memory, and no more than the limit was taken of the source; `error memory` went to `err`, nothing to

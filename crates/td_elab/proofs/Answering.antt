@@ -2,32 +2,25 @@
 use Rattle.std.proofs.Common.{◌≡◌, Option, Some, None, Result, Ok, Err, inr, refl, sym, ap, subst, ◌∙◌}
 use Rattle.std.specs.Prelude.{MatchOption, MatchResult, IfOk, IfErr}
 use Rattle.td_ast.specs.declared.token.Span.{Span}
-use Rattle.td_ast.specs.declared.tree.ModuleTree.{ModuleTree}
+use Rattle.td_ast.specs.declared.definitions.ModuleTree.{ModuleTree}
 use Rattle.td_core.specs.declared.module.Module.{Module}
-use Rattle.td_elab.specs.declared.breach.Breach.{Breach}
-use Rattle.td_elab.specs.declared.breach.Code.{Code}
-use Rattle.td_elab.specs.declared.breach.Code.TheVariants.{Unknown, Twice}
+use Rattle.td_rules.specs.declared.breach.Breach.{Breach}
 use Rattle.td_elab.specs.declared.elaborate.ElabError.{ElabError}
-use Rattle.td_elab.specs.declared.elaborate.ElabError.TheVariants.{NoMemory}
-use Rattle.td_elab.specs.Breach.{first_of, IsFirst}
-use Rattle.td_elab.specs.Rules.{breaches, StandsFor}
-use Rattle.td_elab.specs.Stands.{module_of}
-use Rattle.td_elab.specs.Elaborates.{error_at, error_of, IsCause, IsOnly}
+use Rattle.td_elab.specs.declared.elaborate.ElabError.TheVariants.{Broken, NoMemory}
+use Rattle.td_rules.specs.Breach.{first_of, IsFirst}
+use Rattle.td_rules.specs.Modules.{breaches, module_of, StandsFor}
+use Rattle.td_elab.specs.Elaborates.{error_of, IsCause, IsOnly}
 use Rattle.td_elab.proofs.First.{found_first, none_found, none_among, one_first}
 
 abbrev pub Answers : Option Breach → Module → Result Module ElabError → Type 0
 Answers first m r = MatchOption first (r ≡ Ok m) (λ b. r ≡ Err (error_of b))
 
 -- an error that names a breach isn't want of memory
-names_breach : (code : Code) (span : Span) → error_at code span ≡ NoMemory → ⊥
-names_breach Unknown span e = cc
-names_breach Twice span e = cc
-
 pub answer_memory : (o : Option Breach) (m : Module) (r : Result Module ElabError) → Answers o m r → r ≡ Err NoMemory → ⊥
 answer_memory None m r h e = cc (h, e)
-answer_memory (Some b) m r h e = names_breach b.code b.span (cc (h, e))
+answer_memory (Some b) m r h e = cc (h, e)
 
-module _ (tree : ModuleTree) (m : Module) (core : m ≡ module_of tree.definitions) where
+module _ (tree : ModuleTree) (m : Module) (core : m ≡ module_of tree) where
   pub answer_stands : (o : Option Breach) (r : Result Module ElabError) → first_of None (breaches tree) ≡ o → Answers o m r → IfOk r (λ m. StandsFor tree m)
   answer_stands None r e h = rw h (none_found (breaches tree) e, core)
   answer_stands (Some b) r e h = rw h tt
@@ -45,6 +38,6 @@ module _ (tree : ModuleTree) (m : Module) (core : m ≡ module_of tree.definitio
   answer_refused (Some c) r e h b first = rw h (inr (ap error_of (one_first (breaches tree) c b (found_first (breaches tree) c e) first)))
 
   -- what holds of the module that the tree stands for
-  pub answer_holds : (P : Module → Type 0) → P (module_of tree.definitions) → (o : Option Breach) (r : Result Module ElabError) → Answers o m r → IfOk r (λ m. P m)
+  pub answer_holds : (P : Module → Type 0) → P (module_of tree) → (o : Option Breach) (r : Result Module ElabError) → Answers o m r → IfOk r (λ m. P m)
   answer_holds P p None r h = rw h (subst P (sym core) p)
   answer_holds P p (Some b) r h = rw h tt

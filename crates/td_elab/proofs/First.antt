@@ -2,10 +2,10 @@
 use Rattle.std.proofs.Common.{length, ◌≡◌, ℕ, Bool, true, false, if◌then◌else◌, nat_lt, nat_eq, List, [], ◌∷◌, Option, Some, None, Contains, All, ◌⊎◌, inl, inr, subst, refl, sym, ap, ◌∙◌, arith}
 use Rattle.std.proofs.lemmas.Bool.Decides.{nat_tests}
 use Rattle.std.proofs.lemmas.List.Elements.{All-nil, All-cons, All-contains, Contains-get_or, Contains-append_right}
-use Rattle.td_elab.specs.declared.breach.Code.{Code}
-use Rattle.td_elab.specs.declared.breach.Code.TheVariants.{Unknown, Twice}
-use Rattle.td_elab.specs.declared.breach.Breach.{Breach}
-use Rattle.td_elab.specs.Breach.{rank, is_sooner, first_of, IsFirst}
+use Rattle.td_rules.specs.declared.breach.Rule.{Rule}
+use Rattle.td_rules.specs.declared.breach.Rule.TheVariants.{Unknown, Twice, NotReadable, WrongArgs, Mismatch, Narrowing, NotConstant, BadAction}
+use Rattle.td_rules.specs.declared.breach.Breach.{Breach}
+use Rattle.td_rules.specs.Breach.{rank, is_sooner, first_of, IsFirst}
 
 -- one step of the order: the first numbers decide, and where they are equal the rest does
 abbrev step : ℕ → ℕ → Bool → Bool
@@ -27,12 +27,12 @@ step_level a x u p q r rest h k = grind (arith, nat_tests)
 sooner_after : (a b f : Breach) → is_sooner b a ≡ true → is_sooner b f ≡ false → is_sooner a f ≡ false
 sooner_after a b f =
     step_after a.span.from b.span.from f.span.from _ _ _
-    (step_after (rank a.code) (rank b.code) (rank f.code) _ _ _ (lt_after a.span.to b.span.to f.span.to))
+    (step_after (rank a.rule) (rank b.rule) (rank f.rule) _ _ _ (lt_after a.span.to b.span.to f.span.to))
 
 sooner_level : (a b f : Breach) → is_sooner b a ≡ false → is_sooner a f ≡ false → is_sooner b f ≡ false
 sooner_level a b f =
     step_level a.span.from b.span.from f.span.from _ _ _
-    (step_level (rank a.code) (rank b.code) (rank f.code) _ _ _ (lt_level a.span.to b.span.to f.span.to))
+    (step_level (rank a.rule) (rank b.rule) (rank f.rule) _ _ _ (lt_level a.span.to b.span.to f.span.to))
 
 itself : (f : Breach) → is_sooner f f ≡ false
 itself f = grind (arith, nat_tests)
@@ -103,27 +103,35 @@ step_same a x p q h k = grind (arith, nat_tests)
 step_left : (a x : ℕ) (p : Bool) → a ≡ x → step a x p ≡ false → p ≡ false
 step_left a x p e h = grind (arith, nat_tests)
 
-code_at : ℕ → Code
-code_at n = if nat_eq n 0 then Unknown else Twice
+rule_at : ℕ → Rule
+rule_at n =
+    if nat_eq n 0 then Unknown else (if nat_eq n 1 then Twice else (if nat_eq n 2 then NotReadable else (if nat_eq n 3 then WrongArgs else
+    (if nat_eq n 4 then Mismatch else (if nat_eq n 5 then Narrowing else (if nat_eq n 6 then NotConstant else BadAction))))))
 
-code_rank : (c : Code) → code_at (rank c) ≡ c
-unfolding code_at
-code_rank Unknown = refl
-code_rank Twice = refl
+rule_rank : (c : Rule) → rule_at (rank c) ≡ c
+unfolding rule_at
+rule_rank Unknown = refl
+rule_rank Twice = refl
+rule_rank NotReadable = refl
+rule_rank WrongArgs = refl
+rule_rank Mismatch = refl
+rule_rank Narrowing = refl
+rule_rank NotConstant = refl
+rule_rank BadAction = refl
 
 level_same : (a b : Breach) → is_sooner a b ≡ false → is_sooner b a ≡ false → a ≡ b
 level_same a b h k =
     let from = step_same a.span.from b.span.from _ _ h k in
     let h2 = step_left a.span.from b.span.from _ from h in
     let k2 = step_left b.span.from a.span.from _ (sym from) k in
-    let ranks = step_same (rank a.code) (rank b.code) _ _ h2 k2 in
-    let h3 = step_left (rank a.code) (rank b.code) _ ranks h2 in
-    let k3 = step_left (rank b.code) (rank a.code) _ (sym ranks) k2 in
+    let ranks = step_same (rank a.rule) (rank b.rule) _ _ h2 k2 in
+    let h3 = step_left (rank a.rule) (rank b.rule) _ ranks h2 in
+    let k3 = step_left (rank b.rule) (rank a.rule) _ (sym ranks) k2 in
     let to : a.span.to ≡ b.span.to = grind (arith, nat_tests) in
-    let code = sym (code_rank a.code) ∙ ap code_at ranks ∙ code_rank b.code in
-    ap (λ c. record { code = c; span = a.span }) code
-    ∙ ap (λ n. record { code = b.code; span = record { from = n; to = a.span.to } }) from
-    ∙ ap (λ n. record { code = b.code; span = record { from = b.span.from; to = n } }) to
+    let rule = sym (rule_rank a.rule) ∙ ap rule_at ranks ∙ rule_rank b.rule in
+    ap (λ c. record { rule = c; span = a.span }) rule
+    ∙ ap (λ n. record { rule = b.rule; span = record { from = n; to = a.span.to } }) from
+    ∙ ap (λ n. record { rule = b.rule; span = record { from = b.span.from; to = n } }) to
 
 pub one_first : (bs : List Breach) (a b : Breach) → IsFirst a bs → IsFirst b bs → a ≡ b
 one_first bs a b h k =

@@ -1,6 +1,3 @@
 pub mod First
-pub mod Steps
-pub mod Reading
-pub mod Forms
-pub mod Numbering
+pub mod Chains
 pub mod Answering

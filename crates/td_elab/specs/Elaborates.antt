@@ -1,22 +1,15 @@
 -- What elaboration answers (own rule).
 use Rattle.std.specs.Prelude.{◌≡◌, ◌⊎◌, List, MatchResult}
 use Rattle.std.specs.declared.result.Result.{Result}
-use Rattle.td_ast.specs.declared.token.Span.{Span}
 use Rattle.td_core.specs.declared.module.Module.{Module}
-use Rattle.td_elab.specs.declared.breach.Code.{Code}
-use Rattle.td_elab.specs.declared.breach.Code.TheVariants.{Unknown, Twice}
-use Rattle.td_elab.specs.declared.breach.Breach.{Breach}
+use Rattle.td_rules.specs.declared.breach.Breach.{Breach}
+use Rattle.td_rules.specs.Breach.{IsFirst}
 use Rattle.td_elab.specs.declared.elaborate.ElabError.{ElabError}
-use Rattle.td_elab.specs.declared.elaborate.ElabError.TheVariants.{Unknown as UnknownAt, Twice as TwiceAt, NoMemory}
-use Rattle.td_elab.specs.Breach.{IsFirst}
+use Rattle.td_elab.specs.declared.elaborate.ElabError.TheVariants.{Broken, NoMemory}
 
 -- the error that names a breach
-abbrev pub error_at : Code → Span → ElabError
-error_at Unknown span = UnknownAt span
-error_at Twice span = TwiceAt span
-
 abbrev pub error_of : Breach → ElabError
-error_of b = error_at b.code b.span
+error_of b = Broken b.rule b.span
 
 -- an error names the first breach, or is want of memory
 abbrev pub IsCause : List Breach → ElabError → Type 0

@@ -1,7 +1,7 @@
 -- What holds of the first of breaches.
 use Rattle.std.specs.Prelude.{◌≡◌, List, [], ◌⊎◌}
-use Rattle.td_elab.specs.declared.breach.Breach.{Breach}
-use Rattle.td_elab.specs.Breach.{IsFirst}
+use Rattle.td_rules.specs.declared.breach.Breach.{Breach}
+use Rattle.td_rules.specs.Breach.{IsFirst}
 
 -- of breaches at most one is first
 abbrev pub OneIsFirst : Type 0

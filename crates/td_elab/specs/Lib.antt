@@ -1,7 +1,3 @@
-pub mod Breach
-pub mod Names
-pub mod Stands
-pub mod Rules
-pub mod Formed
+pub mod Heads
 pub mod Elaborates
 pub mod Laws

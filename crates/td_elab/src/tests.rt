@@ -1,17 +1,16 @@
-ghost use Rattle.std.specs.Prelude.{◌<◌, ◌^◌, length, IsTrue, All};
-
 use crate::elaborate::{ElabError, elaborate};
 use std::alloc::{AllocError, Global};
-use std::mem;
 use std::test::Fail;
+use td_ast::definitions::{Def, DefineTree, ModuleTree, StructTree};
+use td_ast::fields::{FieldTree, TypeKind, TypeTree};
+use td_ast::names::{Literal, Name};
+use td_ast::parameters::HeadTree;
 use td_ast::token::{Base, Span};
-use td_ast::tree::{
-    ComparisonTree, FieldTree, Literal, ModuleTree, Name, Relation, StructTree, TypeTree,
-};
-use td_core::module::{Comparison, Element, Extent, Module, NameId, Part};
+use td_core::module::NameId;
 use td_num::items::Items;
 use td_num::number::{ByteOrder, NumberType, Width};
 use td_num::text::Text;
+use td_rules::breach::Rule;
 
 const TYPE: NumberType = NumberType {
     width: Width::Two,
@@ -30,138 +29,118 @@ fn name(alloc: Global, byte: u8, place: usize) -> Result<Name, AllocError> {
     })
 }
 
-// A field with this name and, unless its second byte is `-`, with a refinement of the second.
-fn field(alloc: Global, bytes: (u8, u8), place: usize) -> Result<FieldTree, AllocError> {
-    let refinement = if bytes.1 == b'-' {
-        None
-    } else {
-        Some(ComparisonTree {
-            left: name(alloc, bytes.1, place.saturating_add(1))?,
-            relation: Relation::Less,
-            right: Literal {
-                value: 7,
-                base: Base::Decimal,
-                span: span(place),
-            },
-        })
-    };
-    Ok(FieldTree {
-        kind: TypeTree {
-            number: TYPE,
-            span: span(place),
+fn define(alloc: Global, name: Name) -> Def {
+    let span = name.span;
+    Def::Define(DefineTree {
+        name,
+        value: Literal {
+            value: 7,
+            base: Base::Decimal,
+            span,
         },
-        name: name(alloc, bytes.0, place)?,
-        refinement,
     })
 }
 
-// Structs by pairs of bytes: a field and the name in its refinement, or the struct's name and `/`, which ends it. A
-// name stands at the place of its byte. Each struct has the tag `t`.
+// The kind of a field: UINT16BE for `-`, else the type with this name.
+fn kind(alloc: Global, byte: u8) -> Result<TypeKind, AllocError> {
+    if byte == b'-' {
+        return Ok(TypeKind::Number(TYPE));
+    }
+    Ok(TypeKind::Named(Text::copy_of(alloc, &[byte])?, Items::new(alloc)))
+}
+
+// A struct of one field, of this kind.
+fn structure(alloc: Global, name: Name, kind: TypeKind, field: Name) -> Result<Def, AllocError> {
+    let mut fields = Items::new(alloc);
+    let span = field.span;
+    fields.push(FieldTree {
+        type_tree: TypeTree { span, kind },
+        name: field,
+        extent: None,
+        refinement: None,
+        action: None,
+    })?;
+    let tag = Name {
+        text: Text::copy_of(alloc, b"tag")?,
+        span,
+    };
+    Ok(Def::Struct(StructTree {
+        entry: true,
+        tag,
+        head: HeadTree {
+            params: Items::new(alloc),
+            condition: None,
+        },
+        fields,
+        name,
+    }))
+}
+
+// Definitions by three bytes each: a constant's name and `..`, or a struct's name, its field's type and name. A name
+// stands at the place of its byte, and a type at that of its field.
 fn tree(alloc: Global, text: &[u8]) -> Result<ModuleTree, AllocError> {
     let mut definitions = Items::new(alloc);
-    let mut fields = Items::new(alloc);
-    for (pair, bytes) in text.chunks_exact(2).enumerate() {
-        let place = pair.saturating_mul(2);
-        if bytes[1] == b'/' {
-            definitions.push(StructTree {
-                tag: name(alloc, b't', place)?,
-                fields: mem::replace(&mut fields, Items::new(alloc)),
-                name: name(alloc, bytes[0], place)?,
-            })?;
+    for (index, bytes) in text.chunks_exact(3).enumerate() {
+        let place = index.saturating_mul(3);
+        let given = name(alloc, bytes[0], place)?;
+        if bytes[1] == b'.' {
+            definitions.push(define(alloc, given))?;
         } else {
-            fields.push(field(alloc, (bytes[0], bytes[1]), place)?)?;
+            let field = name(alloc, bytes[2], place.saturating_add(2))?;
+            definitions.push(structure(alloc, given, kind(alloc, bytes[1])?, field)?)?;
         }
     }
     Ok(ModuleTree { definitions })
 }
 
-// Whether the tree is as small as `elaborate` requires.
-fn is_small(tree: &ModuleTree) -> bool
-    ensures definitions { IsTrue result → length tree.now.definitions < 2 ^ 32 }
-    ensures fields { IsTrue result → All (λ d. length d.fields < 2 ^ 32) tree.now.definitions }
-{
-    let definitions = tree.definitions.as_slice();
-    definitions.len() < 10 && definitions.iter().all(|d| d.fields.len() < 10)
-}
-
 fn unknown(place: usize) -> Option<ElabError> {
-    Some(ElabError::Unknown { span: span(place) })
+    Some(ElabError::Broken {
+        rule: Rule::Unknown,
+        span: span(place),
+    })
 }
 
 fn twice(place: usize) -> Option<ElabError> {
-    Some(ElabError::Twice { span: span(place) })
+    Some(ElabError::Broken {
+        rule: Rule::Twice,
+        span: span(place),
+    })
 }
 
 #[test]
 fn the_first_breach_is_named(rt: HostRuntime) -> Result<(), Fail> {
-    let rows: [(&[u8], Option<ElabError>); 13] = [
+    let rows: [(&[u8], Option<ElabError>); 11] = [
         (b"", None),
-        (b"a-S/", None),
-        (b"aaS-S/", None),
-        (b"aaS/aaT/", None),
-        (b"abS/", unknown(1)),
-        (b"aab-caS/", unknown(5)),
-        (b"aSS/", unknown(1)),
-        (b"atS/", unknown(1)),
-        (b"a-b-a-S/", twice(4)),
-        (b"a-abS/", twice(2)),
-        (b"aba-S/", unknown(1)),
-        (b"a-S/b-S/", twice(6)),
-        (b"a-S/bcS/", unknown(5)),
+        (b"k..A-a", None),
+        (b"A-aB-a", None),
+        (b"A-aBAb", None),
+        (b"BAbA-a", unknown(2)),
+        (b"AAa", unknown(2)),
+        (b"k..k..", twice(3)),
+        (b"A-aA-a", twice(3)),
+        (b"k..A-k", twice(5)),
+        (b"k..k..BAb", twice(3)),
+        (b"BAbk..k..", unknown(2)),
     ];
     for (text, answer) in rows {
         let tree = tree(rt.alloc(), text)?;
-        assert!(rt; is_small(&tree));
         assert!(rt; elaborate(rt.alloc(), &tree).err() == answer, "{:?}", text);
     }
     Ok(())
 }
 
-fn comparison(level: u32) -> Option<Comparison> {
-    Some(Comparison {
-        level,
-        relation: Relation::Less,
-        literal: 7,
-    })
-}
-
-// Each definition's place, and each of its parts: the number of its name, and its refinement.
-fn parts(alloc: Global, module: &Module) -> Result<Vec<(usize, Part)>, AllocError> {
-    let mut parts = Vec::new(alloc);
-    for (place, definition) in module.definitions.as_slice().iter().enumerate() {
-        for field in definition.fields.as_slice() {
-            for part in field.parts.as_slice() {
-                parts.push((place, *part))?;
-            }
-        }
-    }
-    Ok(parts)
-}
-
 #[test]
 fn a_tree_stands_for_its_module(rt: HostRuntime) -> Result<(), Fail> {
-    let tree = tree(rt.alloc(), b"b-aaS/bbT/")?;
-    assert!(rt; is_small(&tree));
+    let tree = tree(rt.alloc(), b"k..A-aBAb")?;
     let module = elaborate(rt.alloc(), &tree)?;
-    for (text, name) in module.names.as_slice().iter().zip(b"baST") {
+    assert_eq!(rt; module.written, 3);
+    assert_eq!(rt; module.names.len(), 4);
+    for (text, name) in module.names.as_slice().iter().zip(b"aAbB") {
         assert!(rt; text.is(&[*name]));
     }
-    assert_eq!(rt; module.names.len(), 4);
-    let numbers = [NameId { number: 2 }, NameId { number: 3 }];
+    let numbers = [NameId { number: 1 }, NameId { number: 3 }];
     for (definition, number) in module.definitions.as_slice().iter().zip(&numbers) {
         assert_eq!(rt; definition.name, *number);
-        for field in definition.fields.as_slice() {
-            assert_eq!(rt; field.element, Element::Number(TYPE));
-            assert_eq!(rt; field.extent, Extent::Once);
-        }
-    }
-    let wanted = [(0, 0, None), (0, 1, comparison(1)), (1, 0, comparison(0))];
-    let parts = parts(rt.alloc(), &module)?;
-    assert_eq!(rt; parts.len(), wanted.len());
-    for (part, (place, number, refinement)) in parts.as_slice().iter().zip(&wanted) {
-        let name = NameId { number: *number };
-        let refinement = *refinement;
-        assert!(rt; *part == (*place, Part { name, refinement }));
     }
     assert!(rt; module.entries.as_slice() == [0, 1].as_slice());
     Ok(())
@@ -170,9 +149,9 @@ fn a_tree_stands_for_its_module(rt: HostRuntime) -> Result<(), Fail> {
 #[test]
 fn errors_are_printed_in_words(rt: HostRuntime) -> Result<(), Fail> {
     let span = span(0);
+    let rule = Rule::Twice;
     let rows = [
-        (ElabError::Unknown { span }, "unknown name"),
-        (ElabError::Twice { span }, "name twice"),
+        (ElabError::Broken { rule, span }, "name twice"),
         (ElabError::NoMemory, "out of memory"),
     ];
     for (error, words) in rows {

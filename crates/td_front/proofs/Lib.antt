@@ -1,4 +1,4 @@
-pub mod WithinLimits
-pub mod Refusals
+pub mod Trees
+pub mod Texts
 pub mod Counts
-pub mod Passes
+pub mod Answering

@@ -3,12 +3,17 @@ use Rattle.std.specs.Prelude.{ℕ, List}
 use Rattle.td_ast.specs.declared.token.Token.{Token}
 use Rattle.td_lexer.specs.declared.error.LexError.{LexError}
 use Rattle.td_lexer.specs.declared.error.LexError.TheVariants.{BadByte as BadByteAt, OpenComment as OpenCommentAt, BigNumber as BigNumberAt, NoMemory as NoTokens}
-use Rattle.td_parser.specs.declared.stop.ParseError.{ParseError}
-use Rattle.td_parser.specs.declared.stop.ParseError.TheVariants.{Unexpected as UnexpectedToken, NoMemory as NoTree}
+use Rattle.td_parser.specs.declared.error.ParseError.{ParseError}
+use Rattle.td_parser.specs.declared.error.ParseError.TheVariants.{Unexpected as UnexpectedToken, Deep as DeepToken, NoMemory as NoTree}
+use Rattle.td_limits.specs.declared.limits.Excess.{Excess}
 use Rattle.td_elab.specs.declared.elaborate.ElabError.{ElabError}
-use Rattle.td_elab.specs.declared.elaborate.ElabError.TheVariants.{Unknown as UnknownName, Twice as NameTwice, NoMemory as NoNames}
+use Rattle.td_elab.specs.declared.elaborate.ElabError.TheVariants.{Broken as BrokenAt, NoMemory as NoModule}
+use Rattle.td_kinds.specs.declared.error.KindError.{KindError}
+use Rattle.td_kinds.specs.declared.error.KindError.TheVariants.{ZeroElement as ZeroElementAt, RestNotLast as RestNotLastAt, NoMemory as NoKinds}
+use Rattle.td_arith.specs.declared.error.ArithError.{ArithError}
+use Rattle.td_arith.specs.declared.error.ArithError.TheVariants.{Unsafe as UnsafeAt, NoMemory as NoSafety}
 use Rattle.td_front.specs.declared.error.FrontError.{FrontError}
-use Rattle.td_front.specs.declared.error.FrontError.TheVariants.{BadByte, OpenComment, BigNumber, Unexpected, Unknown, Twice, NoMemory}
+use Rattle.td_front.specs.declared.error.FrontError.TheVariants.{BadByte, OpenComment, BigNumber, Unexpected, Deep, Limit, Broken, ZeroElement, RestNotLast, Unsafe, NoMemory}
 use Rattle.td_front.specs.ModuleText.{beginning_of}
 
 abbrev pub of_lexing : LexError → FrontError
@@ -20,9 +25,21 @@ of_lexing NoTokens = NoMemory
 -- of a text with these tokens
 abbrev pub of_parsing : List ℕ → List Token → ParseError → FrontError
 of_parsing text tokens (UnexpectedToken token) = Unexpected token (beginning_of text tokens token)
+of_parsing text tokens (DeepToken token) = Deep token (beginning_of text tokens token)
 of_parsing text tokens NoTree = NoMemory
 
+abbrev pub of_excess : Excess → FrontError
+of_excess e = Limit e.limit e.span
+
 abbrev pub of_elaboration : ElabError → FrontError
-of_elaboration (UnknownName span) = Unknown span
-of_elaboration (NameTwice span) = Twice span
-of_elaboration NoNames = NoMemory
+of_elaboration (BrokenAt rule span) = Broken rule span
+of_elaboration NoModule = NoMemory
+
+abbrev pub of_kinds : KindError → FrontError
+of_kinds (ZeroElementAt span) = ZeroElement span
+of_kinds (RestNotLastAt span) = RestNotLast span
+of_kinds NoKinds = NoMemory
+
+abbrev pub of_arith : ArithError → FrontError
+of_arith (UnsafeAt span op) = Unsafe span op
+of_arith NoSafety = NoMemory

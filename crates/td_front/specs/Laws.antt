@@ -2,6 +2,7 @@
 use Rattle.std.specs.Prelude.{◌≡◌, ℕ, List, ◌⊎◌}
 use Rattle.td_core.specs.declared.module.Module.{Module}
 use Rattle.td_front.specs.declared.error.FrontError.{FrontError}
+use Rattle.td_front.specs.Checked.{IsChecked}
 use Rattle.td_front.specs.ModuleText.{IsModuleText, RefusedBy}
 
 -- a text stands for at most one module
@@ -19,3 +20,7 @@ NeverBoth = (text : List ℕ) (m : Module) (e : FrontError) → IsModuleText tex
 -- a text stands for a module or has a refusal
 abbrev pub AlwaysOne : Type 0
 AlwaysOne = (text : List ℕ) → ((m : Module) × IsModuleText text m) ⊎ ((e : FrontError) × RefusedBy text e)
+
+-- what holds of each module for which a text stands
+abbrev pub ModulesAreChecked : Type 0
+ModulesAreChecked = (text : List ℕ) (m : Module) → IsModuleText text m → IsChecked m

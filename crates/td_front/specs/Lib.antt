@@ -1,5 +1,6 @@
-pub mod Limits
+pub mod Passes
 pub mod ModuleText
 pub mod Laws
 pub mod Errors
 pub mod Lines
+pub mod Checked

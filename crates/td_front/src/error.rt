@@ -1,54 +1,62 @@
 //! Why a text is no module text.
 
+use crate::line::{limit_words, rule_words, unsafe_words};
 use std::fmt;
+use td_arith::error::ArithError;
 use td_ast::token::Span;
+use td_core::expressions::Binary;
 use td_elab::elaborate::ElabError;
+use td_kinds::error::KindError;
 use td_lexer::LexError;
-use thiserror::Error;
-
-/// What is limited.
-#[derive(Clone, Copy, PartialEq, Eq, Debug)]
-pub enum Limit {
-    /// The fields of a struct: at most 256.
-    Fields,
-}
-
-impl fmt::Display for Limit {
-    fn fmt<W: fmt::Write>(&self, f: &mut fmt::Formatter<W>) -> fmt::Result {
-        match self {
-            Limit::Fields => write!(f, "fields"),
-        }
-    }
-}
+use td_limits::{Excess, Limit};
+use td_rules::breach::Rule;
 
 /// Why a text is no module text. Places are in bytes, from 0.
-#[derive(Clone, Copy, PartialEq, Eq, Debug, Error)]
+#[derive(Clone, Copy, PartialEq, Eq, Debug, Drop)]
 pub enum FrontError {
-    /// L1: no blank, comment or token begins with this byte, or it is a letter, a digit or `_` directly behind a number.
-    #[error("bad byte")]
+    /// L1: no white space, comment or token begins with this byte, or it is a letter, a digit or `_` directly after a
+    /// number.
     BadByte { at: u32 },
     /// L2: a comment that begins here has no end.
-    #[error("open comment")]
     OpenComment { at: u32 },
     /// L3: the number that begins here is 2^64 or more.
-    #[error("number too large")]
     BigNumber { at: u32 },
     /// P1: the first token, counted from 0, up to and with which no module begins so, and where it begins; at an early
     /// end the count of the tokens and the length of the text.
-    #[error("unexpected token")]
     Unexpected { token: u32, at: u32 },
+    /// P2: the 257th operator or opening parenthesis of its whole expression, or the 17th open brace of an action: its
+    /// number among the tokens, and where it begins.
+    Deep { token: u32, at: u32 },
     /// X1: a limit is passed in the definition with this name.
-    #[error("limit {which}")]
-    Limit { which: Limit, span: Span },
-    /// N1: a name that isn't in scope.
-    #[error("unknown name")]
-    Unknown { span: Span },
-    /// N2: a name that was given before.
-    #[error("name twice")]
-    Twice { span: Span },
+    Limit { limit: Limit, span: Span },
+    /// N1 to N4, Y1 to Y4: a rule is broken there.
+    Broken { rule: Rule, span: Span },
+    /// K1: an element of the byte-sized array of this field may be empty.
+    ZeroElement { span: Span },
+    /// K2: this field takes all bytes up to the end and isn't the last, or elements of its byte-sized array take them.
+    RestNotLast { span: Span },
+    /// A1: what this operator computes may lie outside its type's range.
+    Unsafe { span: Span, op: Binary },
     /// There was no memory.
-    #[error("out of memory")]
     NoMemory,
+}
+
+impl fmt::Display for FrontError {
+    fn fmt<W: fmt::Write>(&self, f: &mut fmt::Formatter<W>) -> fmt::Result {
+        match self {
+            FrontError::BadByte { .. } => write!(f, "bad byte"),
+            FrontError::OpenComment { .. } => write!(f, "open comment"),
+            FrontError::BigNumber { .. } => write!(f, "number too large"),
+            FrontError::Unexpected { .. } => write!(f, "unexpected token"),
+            FrontError::Deep { .. } => write!(f, "too deep"),
+            FrontError::Limit { limit, .. } => write!(f, "{}", limit_words(*limit)),
+            FrontError::Broken { rule, .. } => write!(f, "{}", rule_words(*rule)),
+            FrontError::ZeroElement { .. } => write!(f, "element may be empty"),
+            FrontError::RestNotLast { .. } => write!(f, "rest not last"),
+            FrontError::Unsafe { op, .. } => write!(f, "{}", unsafe_words(*op)),
+            FrontError::NoMemory => write!(f, "out of memory"),
+        }
+    }
 }
 
 impl From<LexError> for FrontError {
@@ -67,6 +75,20 @@ impl From<LexError> for FrontError {
     }
 }
 
+impl From<Excess> for FrontError {
+    ghost use Rattle.std.specs.Prelude.{◌≡◌};
+    ghost use Rattle.td_front.specs.Errors.{of_excess};
+
+    ghost from_gives = { λ excess e. e ≡ of_excess excess };
+
+    fn from(excess: Excess) -> FrontError {
+        FrontError::Limit {
+            limit: excess.limit,
+            span: excess.span,
+        }
+    }
+}
+
 impl From<ElabError> for FrontError {
     ghost use Rattle.std.specs.Prelude.{◌≡◌};
     ghost use Rattle.td_front.specs.Errors.{of_elaboration};
@@ -75,9 +97,37 @@ impl From<ElabError> for FrontError {
 
     fn from(error: ElabError) -> FrontError {
         match error {
-            ElabError::Unknown { span } => FrontError::Unknown { span },
-            ElabError::Twice { span } => FrontError::Twice { span },
+            ElabError::Broken { rule, span } => FrontError::Broken { rule, span },
             ElabError::NoMemory => FrontError::NoMemory,
+        }
+    }
+}
+
+impl From<KindError> for FrontError {
+    ghost use Rattle.std.specs.Prelude.{◌≡◌};
+    ghost use Rattle.td_front.specs.Errors.{of_kinds};
+
+    ghost from_gives = { λ kinds e. e ≡ of_kinds kinds };
+
+    fn from(error: KindError) -> FrontError {
+        match error {
+            KindError::ZeroElement { span } => FrontError::ZeroElement { span },
+            KindError::RestNotLast { span } => FrontError::RestNotLast { span },
+            KindError::NoMemory => FrontError::NoMemory,
+        }
+    }
+}
+
+impl From<ArithError> for FrontError {
+    ghost use Rattle.std.specs.Prelude.{◌≡◌};
+    ghost use Rattle.td_front.specs.Errors.{of_arith};
+
+    ghost from_gives = { λ arith e. e ≡ of_arith arith };
+
+    fn from(error: ArithError) -> FrontError {
+        match error {
+            ArithError::Unsafe { span, op } => FrontError::Unsafe { span, op },
+            ArithError::NoMemory => FrontError::NoMemory,
         }
     }
 }

@@ -5,11 +5,9 @@
 mod check;
 mod error;
 pub mod laws;
-mod limits;
 mod line;
-#[cfg(test)]
-mod tests;
+mod passes;
 
 pub use check::check_module;
-pub use error::{FrontError, Limit};
+pub use error::FrontError;
 pub use line::{ErrorLine, line_of};

@@ -1,9 +1,12 @@
-//! The parts of an error line.
+//! The parts of an error line: the codes and words of all refusals of module texts.
 
 ghost use Rattle.std.specs.Prelude.{◌≡◌, ◌↔◌, IfSome, IsNone};
-ghost use Rattle.td_front.specs.Lines.{place_of, code_of, words_of};
+ghost use Rattle.td_front.specs.Lines.{place_of, code_of, words_of, rule_code, rule_words, limit_words, unsafe_words};
 
-use crate::error::{FrontError, Limit};
+use crate::error::FrontError;
+use td_core::expressions::Binary;
+use td_limits::Limit;
+use td_rules::breach::Rule;
 
 /// What an error line says: the byte of the text at which it stands, a code and words.
 #[derive(Clone, Copy, Debug)]
@@ -14,7 +17,72 @@ pub struct ErrorLine {
     pub words: &'static str,
 }
 
-/// What the line of a refusal says. Want of memory has no line.
+fn rule_code(rule: Rule) -> &'static str
+    ensures { result.now ≡ rule_code rule }
+{
+    match rule {
+        Rule::Unknown => "N1",
+        Rule::Twice => "N2",
+        Rule::NotReadable => "N3",
+        Rule::WrongArgs => "N4",
+        Rule::Mismatch => "Y1",
+        Rule::Narrowing => "Y2",
+        Rule::NotConstant => "Y3",
+        Rule::BadAction => "Y4",
+    }
+}
+
+/// The words of a rule of names, types, constants and actions.
+pub(crate) fn rule_words(rule: Rule) -> &'static str
+    ensures { result.now ≡ rule_words rule }
+{
+    match rule {
+        Rule::Unknown => "unknown name",
+        Rule::Twice => "name twice",
+        Rule::NotReadable => "not readable",
+        Rule::WrongArgs => "wrong arguments",
+        Rule::Mismatch => "type mismatch",
+        Rule::Narrowing => "does not fit",
+        Rule::NotConstant => "not constant",
+        Rule::BadAction => "bad action",
+    }
+}
+
+/// The words of a limit.
+pub(crate) fn limit_words(limit: Limit) -> &'static str
+    ensures { result.now ≡ limit_words limit }
+{
+    match limit {
+        Limit::Definitions => "limit definitions",
+        Limit::Fields => "limit fields",
+        Limit::Cases => "limit cases",
+        Limit::Parameters => "limit parameters",
+        Limit::Nodes => "limit nodes",
+        Limit::Cells => "limit cells",
+        Limit::Depth => "limit depth",
+        Limit::Weight => "limit weight",
+    }
+}
+
+/// The words of an operator that isn't safe.
+pub(crate) fn unsafe_words(op: Binary) -> &'static str
+    ensures { result.now ≡ unsafe_words op }
+{
+    match op {
+        Binary::Plus => "unsafe +",
+        Binary::Minus => "unsafe -",
+        Binary::Times => "unsafe *",
+        Binary::Over => "unsafe /",
+        Binary::Modulo => "unsafe %",
+        Binary::BitAnd => "unsafe &",
+        Binary::BitOr => "unsafe |",
+        Binary::BitXor => "unsafe ^",
+        Binary::ShiftLeft => "unsafe <<",
+        Binary::ShiftRight => "unsafe >>",
+    }
+}
+
+/// What the line of a refusal says. That there was no memory has no line of a place.
 pub fn line_of(error: &FrontError) -> Option<ErrorLine>
     ensures none { IsNone result ↔ (error.now ≡ FrontError.NoMemory) }
     ensures place { IfSome result (λ line. line.at ≡ place_of error.now) }
@@ -26,12 +94,12 @@ pub fn line_of(error: &FrontError) -> Option<ErrorLine>
         FrontError::OpenComment { at } => (*at, "L2", "open comment"),
         FrontError::BigNumber { at } => (*at, "L3", "number too large"),
         FrontError::Unexpected { at, .. } => (*at, "P1", "unexpected token"),
-        FrontError::Limit {
-            which: Limit::Fields,
-            span,
-        } => (span.from, "X1", "limit fields"),
-        FrontError::Unknown { span } => (span.from, "N1", "unknown name"),
-        FrontError::Twice { span } => (span.from, "N2", "name twice"),
+        FrontError::Deep { at, .. } => (*at, "P2", "too deep"),
+        FrontError::Limit { limit, span } => (span.from, "X1", limit_words(*limit)),
+        FrontError::Broken { rule, span } => (span.from, rule_code(*rule), rule_words(*rule)),
+        FrontError::ZeroElement { span } => (span.from, "K1", "element may be empty"),
+        FrontError::RestNotLast { span } => (span.from, "K2", "rest not last"),
+        FrontError::Unsafe { span, op } => (span.from, "A1", unsafe_words(*op)),
         FrontError::NoMemory => return None,
     };
     Some(ErrorLine { at, code, words })

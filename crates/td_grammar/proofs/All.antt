@@ -4,10 +4,11 @@ use Rattle.std.proofs.lemmas.List.{append-nil, append_cancel_right, length-appen
 use Rattle.td_ast.specs.declared.token.Token.{Token}
 use Rattle.td_ast.specs.Kinds.{number_of_kind}
 use Rattle.td_grammar.specs.Spelling.{Begins}
-use Rattle.td_grammar.specs.Reading.{Outcome, Got, Bad, Deep, ◌and_then◌, comes, member, with_first, read_all}
+use Rattle.td_grammar.specs.Sets.{comes, member}
+use Rattle.td_grammar.specs.Reading.{Outcome, Got, Bad, Deep, ◌and_then◌, with_first, read_all}
 use Rattle.td_grammar.specs.Grammar.{Grammar, one, all_of}
-use Rattle.td_grammar.proofs.Tools.{Stops, join, got_value, got_rest, apart_at, comes_same, stops_left, stops_right}
-use Rattle.td_grammar.proofs.Exact.{IsRead, IsExact, IsApart, keeps_first}
+use Rattle.td_grammar.proofs.Tools.{Stops, join, got_value, got_rest, apart_at, comes_same, stops_left, stops_right, nothing_left}
+use Rattle.td_grammar.proofs.Exact.{IsRead, IsDeep, IsExact, IsApart, keeps_first, passed_begins}
 
 module _ {A : Type 0} (g : Grammar A) (G : IsExact g) (solid : g.reader.may_be_empty ≡ false) where
   pub shorter : (tokens : List Token) (a : A) (rest : List Token) → g.reader.read tokens ≡ Got a rest → length rest < length tokens
@@ -159,43 +160,72 @@ module _ {A : Type 0} (g : Grammar A) (G : IsExact g) (solid : g.reader.may_be_e
 
         by_first : comes g.reader.begins (s.0 ++ (s.1 ++ rest)) ≡ true → IsRead x (s.1 ++ rest) (g.reader.read (s.0 ++ (s.1 ++ rest))) → IsRead xs rest ((all_of g).reader.read (s.1 ++ rest)) → IsRead (x ∷ xs) rest ((all_of g).reader.read (s.0 ++ (s.1 ++ rest)))
         by_first b (inl one) (inl others) = inl (all_more (s.0 ++ (s.1 ++ rest)) x (s.1 ++ rest) b one ∙ ap (with_first x) others)
-        by_first b (inl one) (inr over) = inr (over.0, all_more (s.0 ++ (s.1 ++ rest)) x (s.1 ++ rest) b one ∙ ap (with_first x) over.1)
-        by_first b (inr over) others = inr (over.0, all_over (s.0 ++ (s.1 ++ rest)) over.0 b over.1)
+        by_first b (inl one) (inr over) = inr (over.0, all_more (s.0 ++ (s.1 ++ rest)) x (s.1 ++ rest) b one ∙ ap (with_first x) over.1, over.2)
+        by_first b (inr over) others = inr (over.0, all_over (s.0 ++ (s.1 ++ rest)) over.0 b over.1, omega (arith, over.2, length-append s.1 rest))
 
-  all_deep : (n : ℕ) (tokens : List Token) → Steps tokens → length tokens ≤ n → (rest : List Token) → (all_of g).reader.read tokens ≡ Deep rest → (front : List Token) × (t : Token) × (r : List Token) × (tokens ≡ front ++ t ∷ r) × (rest ≡ t ∷ r) × Begins (all_of g).Spells (front ++ t ∷ [])
+  all_deep : (n : ℕ) (tokens : List Token) → Steps tokens → length tokens ≤ n → (rest : List Token) → (all_of g).reader.read tokens ≡ Deep rest → (front : List Token) × (t : Token) × (r : List Token) × (tokens ≡ front ++ t ∷ r) × (rest ≡ t ∷ r) × (all_of g).Passes (front ++ t ∷ [])
   all_deep n tokens (at_end b) le rest e = absurd (cc (all_done tokens b))
   all_deep n tokens (at_bad mid b f) le rest e = absurd (cc (all_bad tokens mid b f))
   all_deep n tokens (at_over mid b f) le rest e =
       let same = deep_rest mid rest (sym (all_over tokens mid b f) ∙ e) in
       let p = G.deep tokens rest (subst (λ (l : List Token). g.reader.read tokens ≡ Deep l) same f) in
-      (p.0, p.1, p.2, p.3, p.4, (p.5.0 ∷ [], p.5.1, ((p.0 ++ p.1 ∷ []) ++ p.5.1, [], sym (append-nil ((p.0 ++ p.1 ∷ []) ++ p.5.1)), p.5.2, refl)))
+      (p.0, p.1, p.2, p.3, p.4, ([], [], p.0 ++ p.1 ∷ [], refl, refl, p.5))
   all_deep zero tokens (at_more x mid b f) le rest e = let lt = shorter tokens x mid f in absurd (omega arith)
   all_deep (suc n) tokens (at_more x mid b f) le rest e =
       let lt = shorter tokens x mid f in
       let p = first_deep x ((all_of g).reader.read mid) rest (sym (all_more tokens x mid b f) ∙ e) in
       let t = G.takes tokens x mid f in
       let u = all_deep n mid (steps mid) (omega arith) rest p in
-      (t.0 ++ u.0, u.1, u.2, join tokens t.0 mid u.0 (u.1 ∷ u.2) t.1 u.3, u.4, (x ∷ u.5.0, u.5.1, (t.0, (u.0 ++ u.1 ∷ []) ++ u.5.1, simp append_assoc, t.2, u.5.2)))
+      let q = u.5 in (
+        t.0 ++ u.0,
+        u.1,
+        u.2,
+        join tokens t.0 mid u.0 (u.1 ∷ u.2) t.1 u.3,
+        u.4,
+        (x ∷ q.0, t.0 ++ q.1, q.2, append_assoc t.0 u.0 (u.1 ∷ []) ∙ (ap (λ (l : List Token). t.0 ++ l) q.3 ∙ sym (append_assoc t.0 q.1 q.2)), (t.0, q.1, refl, t.2, q.4), q.5),
+      )
 
-  all_keeps_deep : (n : ℕ) (front : List Token) (t : Token) (r s : List Token) → Steps (front ++ t ∷ r) → length (front ++ t ∷ r) ≤ n → (all_of g).reader.read (front ++ t ∷ r) ≡ Deep (t ∷ r) → (all_of g).reader.read (front ++ t ∷ s) ≡ Deep (t ∷ s)
-  all_keeps_deep n front t r s (at_end b) le e = absurd (cc (all_done (front ++ t ∷ r) b))
-  all_keeps_deep n front t r s (at_bad mid b f) le e = absurd (cc (all_bad (front ++ t ∷ r) mid b f))
-  all_keeps_deep zero front t r s (at_more x mid b f) le e = let lt = shorter (front ++ t ∷ r) x mid f in absurd (omega arith)
-  all_keeps_deep (suc n) front t r s (at_more x mid b f) le e =
-      let lt = shorter (front ++ t ∷ r) x mid f in
-      let p = first_deep x ((all_of g).reader.read mid) (t ∷ r) (sym (all_more (front ++ t ∷ r) x mid b f) ∙ e) in
-      let u = all_deep n mid (steps mid) (omega arith) (t ∷ r) p in
-      let same : mid ≡ u.0 ++ t ∷ r = u.3 ∙ ap (λ (l : List Token). u.0 ++ l) (sym u.4) in
-      let first = keeps_first g G front t r s x mid u.0 f same in
-      let inner : (all_of g).reader.read (u.0 ++ t ∷ r) ≡ Deep (t ∷ r) = subst (λ (l : List Token). (all_of g).reader.read l ≡ Deep (t ∷ r)) same p in
-      let short : length (u.0 ++ t ∷ r) ≤ n = subst (λ (l : List Token). length l ≤ n) same (omega arith) in
-      let again = all_keeps_deep n u.0 t r s (steps (u.0 ++ t ∷ r)) short inner in
-      let go : comes g.reader.begins (front ++ t ∷ s) ≡ true = sym (comes_same g.reader.begins front t r s) ∙ b in
-      all_more (front ++ t ∷ s) x (u.0 ++ t ∷ s) go first ∙ ap (with_first x) again
-  all_keeps_deep n front t r s (at_over mid b f) le e =
-      let same = deep_rest mid (t ∷ r) (sym (all_over (front ++ t ∷ r) mid b f) ∙ e) in
-      let go : comes g.reader.begins (front ++ t ∷ s) ≡ true = sym (comes_same g.reader.begins front t r s) ∙ b in
-      all_over (front ++ t ∷ s) (t ∷ s) go (G.keeps_deep front t r s (subst (λ (l : List Token). g.reader.read (front ++ t ∷ r) ≡ Deep l) same f))
+  module _ (apart : IsApart g g) where
+    passed_comes : (v rest : List Token) → g.Passes v → comes g.reader.begins (v ++ rest) ≡ true
+    passed_comes [] rest p = absurd (G.not_nothing p)
+    passed_comes (t ∷ v) rest p = passed_begins g G t v p
+
+    -- what stands after one, be it more of them or the beginning of one
+    behind_stops : (xs : List A) (u v rest : List Token) → (all_of g).Spells xs u → g.Passes v → Stops g.reader.goes_on (u ++ (v ++ rest))
+    behind_stops xs [] [] rest s p = absurd (G.not_nothing p)
+    behind_stops xs [] (t ∷ v) rest s p = apart_at g.reader.begins g.reader.goes_on (number_of_kind t.kind) apart (passed_begins g G t v p)
+    behind_stops xs (t ∷ u) v rest s p = apart_at g.reader.begins g.reader.goes_on (number_of_kind t.kind) apart (all_begun xs t u s)
+
+    spelled_comes : (x : A) (u rest : List Token) → g.Spells x u → comes g.reader.begins (u ++ rest) ≡ true
+    spelled_comes x [] rest s = absurd (cc (G.full x s, solid))
+    spelled_comes x (t ∷ u) rest s = G.begun x t u s
+
+    all_passes_by : (xs : List A) (u v rest : List Token) → (all_of g).Spells xs u → g.Passes v → IsDeep rest ((all_of g).reader.read (u ++ (v ++ rest)))
+    all_passes_by [] u v rest s p =
+        let over = G.passes v rest p in
+        rw (s) (over.0, all_over (v ++ rest) over.0 (passed_comes v rest p) over.1, over.2)
+    all_passes_by (x ∷ xs) u v rest s p =
+        let regrouped : u ++ (v ++ rest) ≡ s.0 ++ (s.1 ++ (v ++ rest)) = rw (s.2) (append_assoc s.0 s.1 (v ++ rest)) in
+        subst (λ (l : List Token). IsDeep rest ((all_of g).reader.read l)) (sym regrouped)
+        (by_first (spelled_comes x s.0 (s.1 ++ (v ++ rest)) s.3) (G.again x s.0 (s.1 ++ (v ++ rest)) s.3 (behind_stops xs s.1 v rest s.4 p)) (all_passes_by xs s.1 v rest s.4 p))
+      where
+        by_first : comes g.reader.begins (s.0 ++ (s.1 ++ (v ++ rest))) ≡ true → IsRead x (s.1 ++ (v ++ rest)) (g.reader.read (s.0 ++ (s.1 ++ (v ++ rest)))) → IsDeep rest ((all_of g).reader.read (s.1 ++ (v ++ rest))) → IsDeep rest ((all_of g).reader.read (s.0 ++ (s.1 ++ (v ++ rest))))
+        by_first b (inl one) over = (over.0, all_more (s.0 ++ (s.1 ++ (v ++ rest))) x (s.1 ++ (v ++ rest)) b one ∙ ap (with_first x) over.1, over.2)
+        by_first b (inr over) others = (over.0, all_over (s.0 ++ (s.1 ++ (v ++ rest))) over.0 b over.1, omega (arith, over.2, length-append s.1 (v ++ rest), length-append v rest))
+
+    all_passes : (front rest : List Token) → (all_of g).Passes front → IsDeep rest ((all_of g).reader.read (front ++ rest))
+    all_passes front rest (xs, u, v, e, s, p) = subst (λ (l : List Token). IsDeep rest ((all_of g).reader.read l)) (sym (ap (λ (l : List Token). l ++ rest) e ∙ append_assoc u v rest)) (all_passes_by xs u v rest s p)
+
+  -- more of them after some
+  all_more_of : (xs : List A) (u v w : List Token) (y : A) → (all_of g).Spells xs u → g.Spells y (v ++ w) → (all_of g).Spells (xs ++ y ∷ []) ((u ++ v) ++ w)
+  all_more_of [] u v w y s t = rw (s) (v ++ w, [], sym (append-nil (v ++ w)), t, refl)
+  all_more_of (x ∷ xs) u v w y s t = (s.0, (s.1 ++ v) ++ w, rw (s.2) (simp append_assoc refl), s.3, all_more_of xs s.1 v w y s.4 t)
+
+  all_passed : (front : List Token) → (all_of g).Passes front → Begins (all_of g).Spells front
+  all_passed front (xs, u, v, e, s, p) = let b = G.passed v p in (xs ++ b.0 ∷ [], b.1, subst (λ (l : List Token). (all_of g).Spells (xs ++ b.0 ∷ []) (l ++ b.1)) (sym e) (all_more_of xs u v b.1 b.0 s b.2))
+
+  all_not_nothing : (all_of g).Passes [] → ⊥
+  all_not_nothing (xs, u, v, e, s, p) = G.not_nothing (subst (λ (l : List Token). g.Passes l) (nothing_left u v e).1 p)
 
   all_keeps_got : (n : ℕ) (front : List Token) (t : Token) (r s : List Token) → Steps (front ++ t ∷ r) → length (front ++ t ∷ r) ≤ n → (xs : List A) → (all_of g).reader.read (front ++ t ∷ r) ≡ Got xs (t ∷ r) → (all_of g).reader.read (front ++ t ∷ s) ≡ Got xs (t ∷ s)
   all_keeps_got n front t r s (at_end b) le xs e =
@@ -242,7 +272,9 @@ module _ {A : Type 0} (g : Grammar A) (G : IsExact g) (solid : g.reader.may_be_e
     takes = λ tokens xs rest e. all_takes (length tokens) tokens (steps tokens) (omega arith) xs rest e;
     again = all_again apart;
     deep = λ tokens rest e. all_deep (length tokens) tokens (steps tokens) (omega arith) rest e;
-    keeps_deep = λ front t r s e. all_keeps_deep (length (front ++ t ∷ r)) front t r s (steps (front ++ t ∷ r)) (omega arith) e;
+    passes = all_passes apart;
+    passed = all_passed;
+    not_nothing = all_not_nothing;
     begun = all_begun;
     full = λ xs s. refl;
     ends = λ tokens rest e. all_ends (length tokens) tokens (steps tokens) (omega arith) rest e;

@@ -1,15 +1,20 @@
 -- What holds of a production that one token ahead decides.
-use Rattle.std.proofs.Common.{◌≡◌, true, List, [], ◌∷◌, ◌++◌, sym, ap, subst, ◌∙◌, append_assoc, ◌⊎◌}
+use Rattle.std.proofs.Common.{◌≡◌, true, List, [], ◌∷◌, ◌++◌, length, ◌<◌, sym, ap, subst, ◌∙◌, append_assoc, ◌⊎◌}
 use Rattle.td_ast.specs.declared.token.Token.{Token}
 use Rattle.td_ast.specs.Kinds.{number_of_kind}
 use Rattle.td_grammar.specs.Spelling.{Begins}
-use Rattle.td_grammar.specs.Reading.{Outcome, Got, Bad, Deep, member, disjoint}
+use Rattle.td_grammar.specs.Reading.{Outcome, Got, Bad, Deep}
+use Rattle.td_grammar.specs.Sets.{member, disjoint}
 use Rattle.td_grammar.specs.Grammar.{Grammar}
 use Rattle.td_grammar.proofs.Tools.{Stops, split}
 
--- the value was read, or a limit was passed
+-- a limit was passed before the rest
+abbrev pub IsDeep : {A : Type 0} → List Token → Outcome A → Type 0
+IsDeep rest o = (over : List Token) × (o ≡ Deep over) × (length rest < length over)
+
+-- the value was read, or a limit was passed before the rest
 abbrev pub IsRead : {A : Type 0} → A → List Token → Outcome A → Type 0
-IsRead a rest o = (o ≡ Got a rest) ⊎ ((over : List Token) × (o ≡ Deep over))
+IsRead a rest o = (o ≡ Got a rest) ⊎ IsDeep rest o
 
 pub record IsExact {A : Type 0} (g : Grammar A) : Type 0 where
   -- what is read is spelled by what was taken
@@ -20,21 +25,25 @@ pub record IsExact {A : Type 0} (g : Grammar A) : Type 0 where
   pub full : (a : A) → g.Spells a [] → g.reader.may_be_empty ≡ true
   -- where reading stops, what was taken begins a spelling
   pub ends : (tokens rest : List Token) → g.reader.read tokens ≡ Bad rest → (front : List Token) × (tokens ≡ front ++ rest) × Begins g.Spells front
-  -- of the tokens behind what was taken, reading looks at the first alone
+  -- of the tokens after what was taken, reading looks at the first alone
   pub keeps_got : (front : List Token) (t : Token) (r s : List Token) (a : A) → g.reader.read (front ++ t ∷ r) ≡ Got a (t ∷ r) → g.reader.read (front ++ t ∷ s) ≡ Got a (t ∷ s)
   pub keeps_bad : (front : List Token) (t : Token) (r s : List Token) → g.reader.read (front ++ t ∷ r) ≡ Bad (t ∷ r) → g.reader.read (front ++ t ∷ s) ≡ Bad (t ∷ s)
-  -- a token that passes a limit may stand where it stands
-  pub deep : (tokens rest : List Token) → g.reader.read tokens ≡ Deep rest → (front : List Token) × (t : Token) × (r : List Token) × (tokens ≡ front ++ t ∷ r) × (rest ≡ t ∷ r) × Begins g.Spells (front ++ t ∷ [])
-  pub keeps_deep : (front : List Token) (t : Token) (r s : List Token) → g.reader.read (front ++ t ∷ r) ≡ Deep (t ∷ r) → g.reader.read (front ++ t ∷ s) ≡ Deep (t ∷ s)
+  -- where reading says so, the token passes a limit
+  pub deep : (tokens rest : List Token) → g.reader.read tokens ≡ Deep rest → (front : List Token) × (t : Token) × (r : List Token) × (tokens ≡ front ++ t ∷ r) × (rest ≡ t ∷ r) × g.Passes (front ++ t ∷ [])
+  -- where a token passes a limit, reading stops there or sooner
+  pub passes : (front rest : List Token) → g.Passes front → IsDeep rest (g.reader.read (front ++ rest))
+  -- such a token may stand where it stands
+  pub passed : (front : List Token) → g.Passes front → Begins g.Spells front
+  pub not_nothing : g.Passes [] → ⊥
   pub some : (a : A) × (tokens : List Token) × g.Spells a tokens
 
 -- what begins the second doesn't go on with the first
 abbrev pub IsApart : {A B : Type 0} → Grammar A → Grammar B → Type 0
 IsApart g h = disjoint h.reader.begins g.reader.goes_on ≡ true
 
--- no limit is in it
-pub record IsPlain {A : Type 0} (g : Grammar A) : Type 0 where
-  pub never : (tokens rest : List Token) → g.reader.read tokens ≡ Deep rest → ⊥
+-- the first of the tokens up to one that passes a limit may come first
+pub passed_begins : {A : Type 0} (g : Grammar A) → IsExact g → (t : Token) (front : List Token) → g.Passes (t ∷ front) → member g.reader.begins (number_of_kind t.kind) ≡ true
+passed_begins g G t front p = let b = G.passed (t ∷ front) p in G.begun b.0 t (front ++ b.1) b.2
 
 pub keeps_more : {A : Type 0} (g : Grammar A) → IsExact g → (front mid : List Token) (t : Token) (r s : List Token) (a : A) → g.reader.read (front ++ (mid ++ t ∷ r)) ≡ Got a (mid ++ t ∷ r) → g.reader.read (front ++ (mid ++ t ∷ s)) ≡ Got a (mid ++ t ∷ s)
 keeps_more g G front [] t r s a e = G.keeps_got front t r s a e

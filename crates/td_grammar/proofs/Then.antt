@@ -1,12 +1,14 @@
--- One production and behind it another.
-use Rattle.std.proofs.Common.{◌≡◌, Bool, true, false, cond, List, [], ◌∷◌, ◌++◌, refl, sym, ap, subst, ◌∙◌, append_assoc, ◌⊎◌, inl, inr}
+-- One production and after it another.
+use Rattle.std.proofs.Common.{◌≡◌, Bool, true, false, cond, List, [], ◌∷◌, ◌++◌, refl, sym, ap, subst, ◌∙◌, append_assoc, ◌⊎◌, inl, inr, arith}
+use Rattle.std.proofs.lemmas.List.{length-append}
 use Rattle.td_ast.specs.declared.token.Token.{Token}
 use Rattle.td_ast.specs.Kinds.{number_of_kind}
 use Rattle.td_grammar.specs.Spelling.{Begins}
-use Rattle.td_grammar.specs.Reading.{Got, Bad, Deep, ◌and_then◌, member}
+use Rattle.td_grammar.specs.Sets.{member}
+use Rattle.td_grammar.specs.Reading.{Got, Bad, Deep, ◌and_then◌}
 use Rattle.td_grammar.specs.Grammar.{Grammar, ◌then◌}
 use Rattle.td_grammar.proofs.Tools.{Stops, bind_got, bind_bad, bind_deep, join, nothing_left, got_value, got_rest, member_left, member_right, apart_at, stops_left, stops_right}
-use Rattle.td_grammar.proofs.Exact.{IsRead, IsExact, IsApart, keeps_first}
+use Rattle.td_grammar.proofs.Exact.{IsRead, IsDeep, IsExact, IsApart, keeps_first, passed_begins}
 
 module _ {A B : Type 0} (g : Grammar A) (h : Grammar B) (G : IsExact g) (H : IsExact h) (apart : IsApart g h) where
   then_got : (tokens : List Token) (x : A × B) (rest : List Token) → (g then h).reader.read tokens ≡ Got x rest → (mid : List Token) × (g.reader.read tokens ≡ Got x.0 mid) × (h.reader.read mid ≡ Got x.1 rest)
@@ -55,9 +57,9 @@ module _ {A B : Type 0} (g : Grammar A) (h : Grammar B) (G : IsExact g) (H : IsE
             let first : g.reader.read (front ++ rest) ≡ Got x.0 (v ++ rest) = rw regrouped got in
             elim (H.again x.1 v rest s.4 (last_by h.reader.may_be_empty rest stops)) [
               | inl second ↦ inl (rw (first, second) refl)
-              | inr over ↦ let second = over.1 in inr (over.0, rw (first, second) refl)
+              | inr over ↦ let second = over.1 in inr (over.0, rw (first, second) refl, over.2)
             ]
-        | inr over ↦ let first : g.reader.read (front ++ rest) ≡ Deep over.0 = rw regrouped over.1 in inr (over.0, rw first refl)
+        | inr over ↦ let first : g.reader.read (front ++ rest) ≡ Deep over.0 = rw regrouped over.1 in inr (over.0, rw first refl, omega (arith, over.2, length-append v rest))
       ]
 
   begins_by : (c : Bool) (t : Token) → member g.reader.begins (number_of_kind t.kind) ≡ true → member (cond c (g.reader.begins ++ h.reader.begins) g.reader.begins) (number_of_kind t.kind) ≡ true
@@ -118,36 +120,53 @@ module _ {A B : Type 0} (g : Grammar A) (h : Grammar B) (G : IsExact g) (H : IsE
         ]
       ]
 
-  then_deep : (tokens rest : List Token) → (g then h).reader.read tokens ≡ Deep rest → (front : List Token) × (t : Token) × (r : List Token) × (tokens ≡ front ++ t ∷ r) × (rest ≡ t ∷ r) × Begins (g then h).Spells (front ++ t ∷ [])
+  then_deep : (tokens rest : List Token) → (g then h).reader.read tokens ≡ Deep rest → (front : List Token) × (t : Token) × (r : List Token) × (tokens ≡ front ++ t ∷ r) × (rest ≡ t ∷ r) × (g then h).Passes (front ++ t ∷ [])
   then_deep tokens rest e =
       elim (then_was_deep tokens rest e) [
-        | inl over ↦
-            let p = G.deep tokens rest over in
-            (p.0, p.1, p.2, p.3, p.4, ((p.5.0, H.some.0), p.5.1 ++ H.some.1, ((p.0 ++ p.1 ∷ []) ++ p.5.1, H.some.1, sym (append_assoc (p.0 ++ p.1 ∷ []) p.5.1 H.some.1), p.5.2, H.some.2)))
+        | inl over ↦ let p = G.deep tokens rest over in (p.0, p.1, p.2, p.3, p.4, inl p.5)
         | inr q ↦
             let t = G.takes tokens q.0 q.1 q.2 in
             let p = H.deep q.1 rest q.3 in
-            (t.0 ++ p.0, p.1, p.2, join tokens t.0 q.1 p.0 (p.1 ∷ p.2) t.1 p.3, p.4, ((q.0, p.5.0), p.5.1, (t.0, (p.0 ++ p.1 ∷ []) ++ p.5.1, simp append_assoc, t.2, p.5.2)))
+            (t.0 ++ p.0, p.1, p.2, join tokens t.0 q.1 p.0 (p.1 ∷ p.2) t.1 p.3, p.4, inr (q.0, t.0, p.0 ++ p.1 ∷ [], append_assoc t.0 p.0 (p.1 ∷ []), t.2, p.5))
       ]
 
-  then_keeps_deep : (front : List Token) (t : Token) (r s : List Token) → (g then h).reader.read (front ++ t ∷ r) ≡ Deep (t ∷ r) → (g then h).reader.read (front ++ t ∷ s) ≡ Deep (t ∷ s)
-  then_keeps_deep front t r s e =
-      elim (then_was_deep (front ++ t ∷ r) (t ∷ r) e) [
-        | inl over ↦ let first : g.reader.read (front ++ t ∷ s) ≡ Deep (t ∷ s) = G.keeps_deep front t r s over in rw first refl
-        | inr q ↦
-            let p = H.deep q.1 (t ∷ r) q.3 in
-            let same : q.1 ≡ p.0 ++ t ∷ r = p.3 ∙ ap (λ (l : List Token). p.0 ++ l) (sym p.4) in
-            let first = keeps_first g G front t r s q.0 q.1 p.0 q.2 same in
-            let second : h.reader.read (p.0 ++ t ∷ s) ≡ Deep (t ∷ s) = H.keeps_deep p.0 t r s (subst (λ (l : List Token). h.reader.read l ≡ Deep (t ∷ r)) same q.3) in
-            rw (first, second) refl
+  passed_stops : (v rest : List Token) → h.Passes v → Stops g.reader.goes_on (v ++ rest)
+  passed_stops [] rest p = absurd (H.not_nothing p)
+  passed_stops (t ∷ v) rest p = apart_at h.reader.begins g.reader.goes_on (number_of_kind t.kind) apart (passed_begins h H t v p)
+
+  then_passes : (front rest : List Token) → (g then h).Passes front → IsDeep rest ((g then h).reader.read (front ++ rest))
+  then_passes front rest (inl p) = let over = G.passes front rest p in let first = over.1 in (over.0, rw first refl, over.2)
+  then_passes front rest (inr s) =
+      let u = s.1 in
+      let v = s.2 in
+      let regrouped : front ++ rest ≡ u ++ (v ++ rest) = rw (s.3) (append_assoc u v rest) in
+      elim (G.again s.0 u (v ++ rest) s.4 (passed_stops v rest s.5)) [
+        | inl got ↦
+            let first : g.reader.read (front ++ rest) ≡ Got s.0 (v ++ rest) = rw regrouped got in
+            let over = H.passes v rest s.5 in
+            let second = over.1 in
+            (over.0, rw (first, second) refl, over.2)
+        | inr over ↦ let first : g.reader.read (front ++ rest) ≡ Deep over.0 = rw regrouped over.1 in (over.0, rw first refl, omega (arith, over.2, length-append v rest))
       ]
+
+  then_passed : (front : List Token) → (g then h).Passes front → Begins (g then h).Spells front
+  then_passed front (inl p) = let b = G.passed front p in ((b.0, H.some.0), b.1 ++ H.some.1, (front ++ b.1, H.some.1, sym (append_assoc front b.1 H.some.1), b.2, H.some.2))
+  then_passed front (inr s) =
+      let b = H.passed s.2 s.5 in
+      ((s.0, b.0), b.1, (s.1, s.2 ++ b.1, ap (λ (l : List Token). l ++ b.1) s.3 ∙ append_assoc s.1 s.2 b.1, s.4, b.2))
+
+  then_not_nothing : (g then h).Passes [] → ⊥
+  then_not_nothing (inl p) = G.not_nothing p
+  then_not_nothing (inr s) = H.not_nothing (subst (λ (l : List Token). h.Passes l) (nothing_left s.1 s.2 s.3).1 s.5)
 
   pub then_exact : IsExact (g then h)
   then_exact = record {
     takes = then_takes;
     again = then_again;
     deep = then_deep;
-    keeps_deep = then_keeps_deep;
+    passes = then_passes;
+    passed = then_passed;
+    not_nothing = then_not_nothing;
     begun = λ x t more s. begins_at x t more s.0 s.1 s.2 s.3 s.4;
     full = then_full;
     ends = then_ends;

@@ -1,13 +1,13 @@
 -- All of the tokens.
-use Rattle.std.proofs.Common.{◌≡◌, ℕ, suc, ◌+◌, ◌-◌, take, ◌≤◌, List, [], ◌∷◌, ◌++◌, length, refl, sym, ap, subst, ◌∙◌, append_assoc, arith, ◌⊎◌, inl, inr}
+use Rattle.std.proofs.Common.{◌≡◌, ℕ, suc, ◌+◌, ◌-◌, take, ◌≤◌, List, [], ◌∷◌, ◌++◌, length, refl, sym, ap, subst, ◌∙◌, append_assoc, arith, inl, inr}
 use Rattle.std.proofs.Math.Seq.{take-length}
 use Rattle.std.proofs.lemmas.List.{append-nil, length-append, take_at}
 use Rattle.td_ast.specs.declared.token.Token.{Token}
 use Rattle.td_grammar.specs.Spelling.{Begins, IsFirstRefused}
-use Rattle.td_grammar.specs.Reading.{Outcome, Got, Bad, Deep, ◌and_then◌, read_whole, ended}
+use Rattle.td_grammar.specs.Reading.{Outcome, Got, Bad, Deep, read_whole, ended}
 use Rattle.td_grammar.specs.Grammar.{Grammar}
 use Rattle.td_grammar.proofs.Tools.{bind_got, bind_bad, bind_deep, got_value}
-use Rattle.td_grammar.proofs.Exact.{IsRead, IsExact, IsPlain}
+use Rattle.td_grammar.proofs.Exact.{IsRead, IsDeep, IsExact}
 
 -- The tokens up to rest begin some value's spelling. With the first of rest they begin none, or where there is none,
 -- they are no spelling.
@@ -56,7 +56,7 @@ module _ {A : Type 0} (g : Grammar A) (G : IsExact g) where
   whole_only tokens a s =
       elim (spelled_is_read a tokens s) [
         | inl e ↦ let one : g.reader.read tokens ≡ Got a [] = e in inl (rw one refl)
-        | inr over ↦ let one = over.1 in inr (over.0, rw one refl)
+        | inr over ↦ let one = over.1 in inr (over.0, rw one refl, over.2)
       ]
 
   none_after_bad : (front rest : List Token) → g.reader.read (front ++ rest) ≡ Bad rest → IsNone g.Spells front rest
@@ -84,13 +84,17 @@ module _ {A : Type 0} (g : Grammar A) (G : IsExact g) where
   ended_not_deep a [] rest e = cc
   ended_not_deep a (t ∷ mid) rest e = cc
 
-  -- the token that passes a limit may stand there
-  pub whole_deep : (tokens rest : List Token) → read_whole g.reader tokens ≡ Deep rest → (front : List Token) × (t : Token) × (r : List Token) × (tokens ≡ front ++ t ∷ r) × (rest ≡ t ∷ r) × Begins g.Spells (front ++ t ∷ [])
+  -- where reading says so, the token passes a limit
+  pub whole_deep : (tokens rest : List Token) → read_whole g.reader tokens ≡ Deep rest → (front : List Token) × (t : Token) × (r : List Token) × (tokens ≡ front ++ t ∷ r) × (rest ≡ t ∷ r) × g.Passes (front ++ t ∷ [])
   whole_deep tokens rest e =
       elim (bind_deep (g.reader.read tokens) (λ x l. ended x l) rest e) [
         | inl over ↦ G.deep tokens rest over
         | inr p ↦ absurd (ended_not_deep p.0 p.1 rest p.3)
       ]
+
+  -- where a token passes a limit, reading stops there or sooner
+  pub whole_passes : (front rest : List Token) → g.Passes front → IsDeep rest (read_whole g.reader (front ++ rest))
+  whole_passes front rest p = let over = G.passes front rest p in let one = over.1 in (over.0, rw one refl, over.2)
 
   -- the place of the refused token, counted from the front
   pub first_refused : (tokens rest : List Token) → IsRefusedAt g.Spells tokens rest → IsFirstRefused g.Spells tokens (length tokens - length rest)
@@ -120,35 +124,3 @@ module _ {A : Type 0} (g : Grammar A) (G : IsExact g) where
   -- no more tokens are left than there were
   pub rest_within : (tokens rest : List Token) → read_whole g.reader tokens ≡ Bad rest → length rest ≤ length tokens
   rest_within tokens rest e = let h = whole_refused tokens rest e in omega (arith, ap length h.1, length-append h.0 rest)
-
--- ---- where no limit is
-
-module _ {A : Type 0} (g : Grammar A) (G : IsExact g) (plain : IsPlain g) where
-  pub whole_not_deep : (tokens rest : List Token) → read_whole g.reader tokens ≡ Deep rest → ⊥
-  whole_not_deep tokens rest e = by_read (g.reader.read tokens) refl e
-    where
-      by_read : (o : Outcome A) → g.reader.read tokens ≡ o → (o and_then λ a r. ended a r) ≡ Deep rest → ⊥
-      by_read (Got a r) f e = ended_not_deep g G a r rest e
-      by_read (Bad r) f e = cc
-      by_read (Deep r) f e = plain.never tokens r f
-
-  -- what is spelled is read
-  pub whole_read : (a : A) (tokens : List Token) → g.Spells a tokens → read_whole g.reader tokens ≡ Got a []
-  whole_read a tokens s =
-      elim (whole_only g G tokens a s) [
-        | inl e ↦ e
-        | inr over ↦ absurd (whole_not_deep tokens over.0 over.1)
-      ]
-
-  -- at most one value is spelled
-  pub whole_unique : (a b : A) (tokens : List Token) → g.Spells a tokens → g.Spells b tokens → a ≡ b
-  whole_unique a b tokens s t = got_value a b [] [] (sym (whole_read a tokens s) ∙ whole_read b tokens t)
-
-  -- all of the tokens are read, or one is refused
-  pub whole_decided : (tokens : List Token) → ((a : A) × g.Spells a tokens) ⊎ ((place : ℕ) × IsFirstRefused g.Spells tokens place)
-  whole_decided tokens = by_outcome (read_whole g.reader tokens) refl
-    where
-      by_outcome : (o : Outcome A) → read_whole g.reader tokens ≡ o → ((a : A) × g.Spells a tokens) ⊎ ((place : ℕ) × IsFirstRefused g.Spells tokens place)
-      by_outcome (Got a rest) e = inl (a, whole_found g G tokens a rest e)
-      by_outcome (Bad rest) e = inr (length tokens - length rest, first_refused g G tokens rest (whole_refused g G tokens rest e))
-      by_outcome (Deep rest) e = absurd (whole_not_deep tokens rest e)

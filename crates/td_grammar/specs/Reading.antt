@@ -1,10 +1,10 @@
 -- How a production is read from the front of a list of tokens, where the next token alone decides. No public contract
 -- speaks of this: what a parser's functions give is compared with it, and it is proved to find just what is spelled.
-use Rattle.std.specs.Prelude.{ℕ, zero, suc, Bool, true, false, ◌&&◌, ◌==◌, List, [], ◌∷◌, ◌++◌, length, Option, Some, None, if◌then◌else◌}
+use Rattle.std.specs.Prelude.{ℕ, zero, suc, Bool, true, false, ◌&&◌, nat_lt, List, [], ◌∷◌, ◌++◌, length, Option, Some, None, if◌then◌else◌}
 use Rattle.td_ast.specs.declared.token.Token.{Token}
-use Rattle.td_ast.specs.Kinds.{number_of_kind}
+use Rattle.td_grammar.specs.Sets.{comes}
 
--- a value and the tokens behind it; or the tokens from the first that can't stand where it stands; or those from the
+-- a value and the tokens after it; or the tokens from the first that can't stand where it stands; or those from the
 -- first that may stand there and passes a limit
 pub data Outcome (A : Type 0) : Type 0 where
   Got : A → List Token → Outcome A
@@ -17,21 +17,6 @@ abbrev pub ◌and_then◌ : {A B : Type 0} → Outcome A → (A → List Token �
 (Got a rest) and_then f = f a rest
 (Bad rest) and_then f = Bad rest
 (Deep rest) and_then f = Deep rest
-
--- ---- sets of kinds, by their numbers
-
-abbrev pub member : List ℕ → ℕ → Bool
-member [] n = false
-member (x ∷ xs) n = if x == n then true else member xs n
-
-abbrev pub disjoint : List ℕ → List ℕ → Bool
-disjoint [] ys = true
-disjoint (x ∷ xs) ys = if member ys x then false else disjoint xs ys
-
--- a token of one of these kinds comes first
-abbrev pub comes : List ℕ → List Token → Bool
-comes kinds [] = false
-comes kinds (token ∷ rest) = member kinds (number_of_kind token.kind)
 
 pub record Reader (A : Type 0) : Type 0 where
   -- the kinds that the first token of a spelling may have, and whether a spelling may have no token
@@ -55,7 +40,7 @@ read_one value_of (token ∷ rest) = read_found (value_of token) token rest
 abbrev pub one_reader : {A : Type 0} → List ℕ → (Token → Option A) → Reader A
 one_reader kinds value_of = record { begins = kinds; may_be_empty = false; goes_on = []; read = read_one value_of }
 
--- ---- one behind the other
+-- ---- one after the other
 
 abbrev pub both_reader : {A B : Type 0} → Reader A → Reader B → Reader (A × B)
 both_reader g h = record {
@@ -114,6 +99,43 @@ either_reader g h = record {
   goes_on = g.goes_on ++ h.goes_on;
   read = λ tokens. if comes g.begins tokens then g.read tokens else h.read tokens;
 }
+
+-- ---- what would be nested too deep
+
+abbrev pub too_deep_reader : {A : Type 0} → List ℕ → Reader A
+too_deep_reader begins = record {
+  begins = begins;
+  may_be_empty = false;
+  goes_on = [];
+  read = λ tokens. if comes begins tokens then Deep tokens else Bad tokens;
+}
+
+-- ---- what is only spoken of
+
+abbrev pub no_reader : {A : Type 0} → Reader A
+no_reader = record { begins = []; may_be_empty = false; goes_on = []; read = λ tokens. Bad tokens }
+
+-- ---- a limit on tokens of some kinds
+
+-- what was read, unless the first token of over was taken
+abbrev pub judged : {A : Type 0} → List Token → Outcome A → Outcome A
+judged over (Got a rest) = if nat_lt (length rest) (length over) then Deep over else Got a rest
+judged over (Bad rest) = if nat_lt (length rest) (length over) then Deep over else Bad rest
+judged over (Deep rest) = Deep over
+
+-- scan gives the tokens from the one on that would be one too many, if there is one
+abbrev pub limited_reader : {A : Type 0} → (List Token → List Token) → Reader A → Reader A
+limited_reader scan g = record {
+  begins = g.begins;
+  may_be_empty = g.may_be_empty;
+  goes_on = g.goes_on;
+  read = λ tokens. judged (scan tokens) (g.read tokens);
+}
+
+-- ---- the same, with sets that are written out
+
+abbrev pub seen_reader : {A : Type 0} → List ℕ → List ℕ → Reader A → Reader A
+seen_reader begins goes_on g = record { begins = begins; may_be_empty = false; goes_on = goes_on; read = g.read }
 
 -- ---- all of the tokens
 

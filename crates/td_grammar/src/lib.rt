@@ -1,5 +1,7 @@
-//! The grammar: productions made of others, each with the tokens that spell a value and the way to read it. The layer
-//! above rests on one promise: tokens either spell exactly one tree, or have exactly one first token that is refused.
+//! The grammar: productions made of others, each with the tokens that spell a value, the tokens that pass a limit, and
+//! the way to read it. The layer above rests on one promise: tokens either spell exactly one tree within the limits, or
+//! have exactly one first token that is refused, or exactly one first token that passes a limit.
 #![tactic(auto)]
 
 pub mod laws;
+pub mod limits;

@@ -1,4 +1,6 @@
+pub mod Faults
 pub mod Causes
 pub mod States
 pub mod Memory
-pub mod Streams
+pub mod Counted
+pub mod Laws

@@ -1,13 +1,23 @@
-//! Where bytes come from and where they go. The layer above rests on one promise: the count of faults of a source or a
-//! sink rises in each call that answers `Failed`, and stands still in each other, so the counts tell whose fault it was.
+//! Where bytes come from and where they go. The layer above rests on one promise: a source or a sink counts its faults,
+//! one for each call that answers `Failed` and none for any other, so the counts tell whose fault it was.
 #![tactic(auto)]
 
-mod copying;
-pub mod ends;
-pub mod memory;
-pub mod quiet;
-pub mod reading;
-pub mod standard;
+mod adapters;
+mod faults;
+pub mod laws;
+mod memory;
+mod quiet;
+mod reading;
+mod slices;
 #[cfg(test)]
 mod tests;
-pub mod writing;
+mod traits;
+mod writing;
+
+pub use adapters::{ReaderSource, WriterSink};
+pub use faults::Faults;
+pub use memory::{MemorySink, MemorySource};
+pub use quiet::{QuietSink, QuietSource};
+pub use reading::{PIECE, ReadError, read_whole};
+pub use traits::{Failed, Sink, Source};
+pub use writing::{WriteFault, write_all};

@@ -4,11 +4,12 @@ ghost use Rattle.std.specs.Prelude.{◌≡◌, ◌≤◌, ◌<◌, ◌↔◌, �
 ghost use Rattle.std.specs.List.{Contains};
 ghost use Rattle.std.specs.Io.{ReadsAtMost, WritesAtMost};
 ghost use Rattle.std.specs.Io.KnownBytes.{ReadConsumes, WriteAppends};
-ghost use Rattle.td_io.specs.Causes.{HasCause};
+ghost use Rattle.td_io.specs.Faults.{HasCause, none_yet};
 ghost use Rattle.td_io.specs.Memory.{ReadsNext, WritesNext};
 
-use crate::copying::{copy_front, rest_at};
-use crate::ends::{Failed, Sink, Source};
+use crate::faults::Faults;
+use crate::slices::{copy_prefix, rest_at};
+use crate::traits::{Failed, Sink, Source};
 use std::alloc::{AllocError, Global};
 use std::marker::Model;
 
@@ -18,15 +19,15 @@ fn is_listed(calls: &[u64], call: u64) -> bool
     calls.contains(&call)
 }
 
-/// Bytes in memory, read from the front, of which listed reads fail. A contract sees the bytes that are left, the
-/// list, and how many reads were made and failed so far.
+/// Bytes in memory, read from the first on, of which listed reads fail. A contract sees the bytes that are left, the
+/// list, how many reads were made, modulo 2^64, and their faults.
 #[derive(Debug, Drop)]
 pub struct MemorySource {
     bytes: Vec<u8>,
     at: usize,
     fails: Vec<u64>,
     calls: u64,
-    faults: u64,
+    faults: Faults,
 }
 
 impl Model for MemorySource {
@@ -44,14 +45,14 @@ impl MemorySource {
     /// All of these bytes are left to be read. The reads whose numbers are in `fails`, counted from 1, will fail. Takes
     /// no memory.
     pub fn over(bytes: Vec<u8>, fails: Vec<u64>) -> MemorySource
-        ensures { result ≡ record { left = bytes.items; fails = fails.items; calls = 0; faults = 0 } }
+        ensures { result ≡ record { left = bytes.items; fails = fails.items; calls = 0; faults = none_yet } }
     {
         MemorySource {
             bytes,
             at: 0,
             fails,
             calls: 0,
-            faults: 0,
+            faults: Faults::none_yet(),
         }
     }
 
@@ -73,26 +74,27 @@ impl Source for MemorySource {
         ensures bytes { ReadConsumes (Some self.old.left) (Some self.new.left) result buf.new }
         ensures cause { HasCause self.old.faults self.new.faults result }
     {
-        self.calls = self.calls.saturating_add(1);
+        self.calls = self.calls.wrapping_add(1);
         if is_listed(&self.fails, self.calls) {
-            self.faults = self.faults.saturating_add(1);
+            self.faults.note_fault();
             return Err(Failed);
         }
-        let n = copy_front(rest_at(&self.bytes, self.at), buf);
+        let n = copy_prefix(rest_at(&self.bytes, self.at), buf);
         self.at += n;
+        self.faults.note_work();
         Ok(n)
     }
 }
 
 /// A sink in memory, of which listed writes fail, and those that find no room. A contract sees the bytes that were
-/// written, for how many more there is room, the list, and how many writes were made and failed so far.
+/// written, for how many more there is room, the list, how many writes were made, modulo 2^64, and their faults.
 #[derive(Debug, Drop)]
 pub struct MemorySink {
     bytes: Vec<u8>,
     room: usize,
     fails: Vec<u64>,
     calls: u64,
-    faults: u64,
+    faults: Faults,
 }
 
 impl Model for MemorySink {
@@ -110,14 +112,14 @@ impl MemorySink {
     /// Nothing is written yet, and there is room for `n` bytes. The writes whose numbers are in `fails`, counted from 1,
     /// will fail. `AllocError`: there was no memory for the room.
     pub fn with_room(alloc: Global, n: usize, fails: Vec<u64>) -> Result<MemorySink, AllocError>
-        ensures { IfOk result (λ s. s ≡ record { written = []; room = n; fails = fails.items; calls = 0; faults = 0 }) }
+        ensures { IfOk result (λ s. s ≡ record { written = []; room = n; fails = fails.items; calls = 0; faults = none_yet }) }
     {
         Ok(MemorySink {
             bytes: Vec::with_capacity(alloc, n)?,
             room: n,
             fails,
             calls: 0,
-            faults: 0,
+            faults: Faults::none_yet(),
         })
     }
 
@@ -151,15 +153,16 @@ impl Sink for MemorySink {
         ensures bytes { WriteAppends (Some self.old.written) (Some self.new.written) result piece.now }
         ensures cause { HasCause self.old.faults self.new.faults result }
     {
-        self.calls = self.calls.saturating_add(1);
+        self.calls = self.calls.wrapping_add(1);
         let is_full = self.room == 0 && !piece.is_empty();
         if is_full || is_listed(&self.fails, self.calls) {
-            self.faults = self.faults.saturating_add(1);
+            self.faults.note_fault();
             return Err(Failed);
         }
         let n = piece.len().min(self.room);
         push_within(&mut self.bytes, &piece[..n]);
         self.room -= n;
+        self.faults.note_work();
         Ok(n)
     }
 }

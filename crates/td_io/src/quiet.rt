@@ -1,12 +1,13 @@
 //! A source and a sink that never fail.
 
 ghost use Rattle.std.specs.Prelude.{◌≡◌, Ok, Some, None, length};
+ghost use Rattle.td_io.specs.Faults.{none_yet};
 
-use crate::copying::{copy_front, rest_at};
-use crate::ends::{Failed, Sink, Source};
+use crate::slices::{copy_prefix, rest_at};
+use crate::traits::{Failed, Sink, Source};
 use std::marker::Model;
 
-/// Bytes in memory, read from the front. A contract sees those that are left.
+/// Bytes in memory, read from the first on. A contract sees those that are left.
 #[derive(Debug, Drop)]
 pub struct QuietSource {
     bytes: Vec<u8>,
@@ -33,11 +34,11 @@ impl QuietSource {
 }
 
 impl Source for QuietSource {
-    ghost state = { λ s. record { left = Some s; faults = 0 } };
+    ghost state = { λ s. record { left = Some s; faults = none_yet } };
 
     /// Reads as many bytes as are left and fit. Takes no memory.
     fn read(&mut self, buf: &mut [u8]) -> Result<usize, Failed> {
-        let n = copy_front(rest_at(&self.bytes, self.at), buf);
+        let n = copy_prefix(rest_at(&self.bytes, self.at), buf);
         self.at += n;
         Ok(n)
     }
@@ -48,7 +49,7 @@ impl Source for QuietSource {
 pub struct QuietSink;
 
 impl Sink for QuietSink {
-    ghost state = { λ _. record { written = None; faults = 0 } };
+    ghost state = { λ _. record { written = None; faults = none_yet } };
 
     /// Takes all that it is given.
     fn write(&mut self, piece: &[u8]) -> Result<usize, Failed>

@@ -1,9 +1,7 @@
-use crate::ends::{Failed, Sink, Source};
-use crate::memory::{MemorySink, MemorySource};
-use crate::quiet::{QuietSink, QuietSource};
-use crate::reading::{ReadStop, read_whole};
-use crate::standard::{StreamSink, StreamSource};
-use crate::writing::{WriteFault, write_all};
+use crate::{
+    Failed, MemorySink, MemorySource, QuietSink, QuietSource, ReadError, ReaderSource, Sink,
+    Source, WriteFault, WriterSink, read_whole, write_all,
+};
 use std::io;
 use std::test::Fail;
 
@@ -82,10 +80,10 @@ fn writes_fail_at_listed_calls_and_without_room(rt: HostRuntime) -> Result<(), F
 fn whole_sources_are_read_up_to_the_limit(rt: HostRuntime) -> Result<(), Fail> {
     for (fail, limit, want) in [
         (0, 3, Ok(b"abc".as_slice())),
-        (0, 2, Err(ReadStop::TooLong)),
-        (1, 3, Err(ReadStop::Fault)),
-        (2, 3, Err(ReadStop::Fault)),
-        (2, 2, Err(ReadStop::TooLong)),
+        (0, 2, Err(ReadError::TooLong)),
+        (1, 3, Err(ReadError::Fault)),
+        (2, 3, Err(ReadError::Fault)),
+        (2, 2, Err(ReadError::TooLong)),
         (3, 3, Ok(b"abc".as_slice())),
     ] {
         let bytes = b"abc".to_vec(rt.alloc())?;
@@ -110,11 +108,11 @@ fn streams_are_read_byte_by_byte(rt: HostRuntime) -> Result<(), Fail> {
     for (left, broken, limit, want) in [
         (0, false, 0, Ok(0)),
         (5000, false, 5000, Ok(5000)),
-        (5001, false, 5000, Err(ReadStop::TooLong)),
-        (u64::MAX, false, 9, Err(ReadStop::TooLong)),
-        (7, true, 9, Err(ReadStop::Fault)),
+        (5001, false, 5000, Err(ReadError::TooLong)),
+        (u64::MAX, false, 9, Err(ReadError::TooLong)),
+        (7, true, 9, Err(ReadError::Fault)),
     ] {
-        let mut source = StreamSource::over(Dripping { left, broken });
+        let mut source = ReaderSource::over(Dripping { left, broken });
         let read = read_whole(rt.alloc(), &mut source, limit);
         assert_eq!(rt; read.map(|v| v.len()), want, "{left} bytes, limit {limit}");
     }
@@ -137,7 +135,7 @@ fn texts_are_written_until_a_write_fails(rt: HostRuntime) -> Result<(), Fail> {
         assert_eq!(rt; sink.written(), written, "room {room}, fail {fail}");
     }
     for (room, want) in [(3, Ok(())), (2, Err(WriteFault))] {
-        let mut sink = StreamSink::over(Clogging { room });
+        let mut sink = WriterSink::over(Clogging { room });
         assert_eq!(rt; write_all(&mut sink, b"abc"), want, "room {room}");
     }
     assert_eq!(rt; write_all(&mut QuietSink, b"abc"), Ok(()));

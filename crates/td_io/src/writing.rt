@@ -2,11 +2,11 @@
 
 ghost use Rattle.td_io.specs.States.{Writes};
 
-use crate::copying::rest_at;
-use crate::ends::{Failed, Sink};
+use crate::slices::rest_at;
+use crate::traits::{Failed, Sink};
 use thiserror::Error;
 
-/// A write failed before all was written. The sink's count of faults rose in that call, or stands at 2^64 - 1.
+/// A write failed before all was written: the sink's next fault, after which nothing was written.
 #[derive(Clone, Copy, PartialEq, Eq, Debug, Error)]
 #[error("a write failed")]
 pub struct WriteFault;
@@ -19,7 +19,8 @@ impl From<Failed> for WriteFault {
 
 /// Writes all of a text, by as many writes as it takes. Takes no memory.
 ///
-/// `WriteFault`: a write failed. What went out is a front of the text.
+/// `WriteFault`: a write failed. What went out is a prefix of the text, and nothing was written after the write that
+/// failed.
 pub fn write_all<O: Sink>(out: &mut O, text: &[u8]) -> Result<(), WriteFault>
     ensures { Writes (O.state out.old) (O.state out.new) text.now result }
 {

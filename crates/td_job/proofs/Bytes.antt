@@ -1,5 +1,5 @@
 -- The bytes of the number that bytes spell.
-use Rattle.std.proofs.Common.{◌≡◌, ℕ, zero, suc, ◌+◌, ◌*◌, ◌/◌, ◌%◌, ◌^◌, ◌<◌, ◌≤◌, List, length, slice_index, refl, sym, ap, ◌∙◌, arith, add-zero, lit<}
+use Rattle.std.proofs.Common.{◌≡◌, ℕ, zero, suc, ◌+◌, ◌*◌, ◌/◌, ◌%◌, ◌^◌, ◌<◌, ◌≤◌, List, length, slice_index, [], ◌∷◌, refl, sym, ap, ◌∙◌, arith, add-zero, lit<}
 use Rattle.std.proofs.Math.Nat.{mul-suc, div-div-eq-div-mul}
 use Rattle.std.proofs.Math.Pow.{pow_mono}
 use Rattle.std.proofs.lemmas.Nat.{pow-add}
@@ -56,8 +56,8 @@ byte_there : (words : List ℕ) (i k : ℕ) → k < 8 → byte_at words (8 * i +
 byte_there words i k small = let at = place_of i k small in rw (at.0, at.1) refl
 
 -- bytes fill one list of words alone
-pub filled_once : (bytes a b : List ℕ) → IsFilled bytes a → IsFilled bytes b → a ≡ b
-filled_once bytes a b ha hb =
+pub filled_once : (bytes : List ℕ) (many : ℕ) (a b : List ℕ) → IsFilled bytes many a → IsFilled bytes many b → a ≡ b
+filled_once bytes many a b ha hb =
     let long : length a ≡ length b = ha.count ∙ sym hb.count in
     same_number_lists a b long (λ i h.
     let within : i < length b = omega arith in
@@ -65,9 +65,9 @@ filled_once bytes a b ha hb =
     sym (byte_there a i k small) ∙ ha.same (8 * i + k) (omega arith) ∙ sym (hb.same (8 * i + k) (omega arith)) ∙ byte_there b i k small))
 
 -- words that are the numbers of eight bytes each are filled
-pub filled_by : (bytes words : List ℕ) → AreBytes bytes → length words ≡ (length bytes + 7) / 8
-    → ((i : ℕ) → i < length words → slice_index words i ≡ rising_at bytes (8 * i) 8) → IsFilled bytes words
-filled_by bytes words small count each = record {
+pub filled_by : (bytes : List ℕ) (many : ℕ) (words : List ℕ) → AreBytes bytes → length words ≡ many
+    → ((i : ℕ) → i < length words → slice_index words i ≡ rising_at bytes (8 * i) 8) → IsFilled bytes many words
+filled_by bytes many words small count each = record {
   count = count;
   fits = λ i h. rw (each i h) (rising_small bytes small (8 * i) 8);
   same = λ j h.
@@ -85,3 +85,27 @@ rising_fits bytes small p w h =
     let eight : 8 * w ≤ 56 = omega arith in
     let most = pow_mono eight in
     omega arith
+
+-- the numbers of eight bytes each, this many, from a place on
+built : List ℕ → ℕ → ℕ → List ℕ
+built bytes p zero = []
+built bytes p (suc n) = rising_at bytes p 8 ∷ built bytes (p + 8) n
+
+built_length : (bytes : List ℕ) (p n : ℕ) → length (built bytes p n) ≡ n
+unfolding built
+built_length bytes p zero = refl
+built_length bytes p (suc n) = ap suc (built_length bytes (p + 8) n)
+
+built_index : (bytes : List ℕ) (p n i : ℕ) → i < n → slice_index (built bytes p n) i ≡ rising_at bytes (p + 8 * i) 8
+unfolding built
+built_index bytes p zero i h = absurd (omega arith)
+built_index bytes p (suc n) zero h = ap (λ q. rising_at bytes q 8) (let same : p ≡ p + 8 * 0 = omega arith in same)
+built_index bytes p (suc n) (suc i) h =
+    built_index bytes (p + 8) n i (omega arith) ∙ ap (λ q. rising_at bytes q 8) (let same : p + 8 + 8 * i ≡ p + 8 * suc i = omega arith in same)
+
+-- bytes fill as many words as are asked for
+pub filled : (bytes : List ℕ) (many : ℕ) → AreBytes bytes → (words : List ℕ) × IsFilled bytes many words
+filled bytes many small =
+    let words = built bytes 0 many in
+    let count = built_length bytes 0 many in
+    (words, filled_by bytes many words small count (λ i h. built_index bytes 0 many i (omega (arith, h, count)) ∙ ap (λ q. rising_at bytes q 8) (let same : 0 + 8 * i ≡ 8 * i = omega arith in same)))

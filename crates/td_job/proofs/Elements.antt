@@ -4,11 +4,14 @@ use Rattle.std.proofs.lemmas.Bool.Decides.{nat_tests}
 use Rattle.serde_json.specs.Events.{items_len}
 use Rattle.serde_json.specs.View.{items_view}
 use Rattle.serde_json.specs.declared.value.Value.{Value}
-use Rattle.td_job.specs.declared.error.Field.TheVariants as field
+use Rattle.td_job.specs.declared.error.Key.TheVariants as key
 use Rattle.td_job.specs.declared.error.Path.TheVariants as path
 use Rattle.td_job.specs.declared.error.JobError.{JobError}
-use Rattle.td_job.specs.declared.error.JobError.TheVariants as fault
-use Rattle.td_job.specs.Jobs.{IsFirst, fault_if, three_parts, plan_faults, each_store_faults}
+use Rattle.td_job.specs.declared.error.JobRule.TheVariants as rule
+use Rattle.td_job.specs.declared.error.JobError.TheVariants.{Fault}
+use Rattle.td_job.specs.declared.stores.TheConstants.{MOST_STORES}
+use Rattle.td_job.specs.Fields.{IsFirst, fault_if}
+use Rattle.td_job.specs.Jobs.{three_parts, plan_faults, each_store_faults}
 
 -- a list of another length than three has no parts
 pub other_count : (values : List Value) → (length values ≡ 3 → ⊥) → None ≡ three_parts (items_view values)
@@ -32,15 +35,15 @@ unlimited true e others h = absurd (cc)
 unlimited false e others h = refl
 
 -- more elements than there may be are the first fault
-pub too_many : (words : ℕ) (values : List Value) → 65536 < length values
-    → IsFirst (plan_faults words (Some (items_view values))) (fault.Limit (path.Named field.Stores))
+pub too_many : (words : ℕ) (values : List Value) → MOST_STORES < length values
+    → IsFirst (plan_faults words (Some (items_view values))) (Fault rule.Limit (path.Whole key.Stores))
 too_many words values h =
-    let counted : nat_lt 65536 (items_len (items_view values)) ≡ true = rw (same_count values) (grind (arith, nat_tests, h)) in
-    limited (nat_lt 65536 (items_len (items_view values))) (fault.Limit (path.Named field.Stores)) (each_store_faults words 0 (items_view values)) counted
+    let counted : nat_lt MOST_STORES (items_len (items_view values)) ≡ true = rw (same_count values) (grind (arith, nat_tests, h)) in
+    limited (nat_lt MOST_STORES (items_len (items_view values))) (Fault rule.Limit (path.Whole key.Stores)) (each_store_faults words 0 (items_view values)) counted
 
 -- of fewer elements the faults are their own
-pub few_enough : (words : ℕ) (values : List Value) → length values ≤ 65536
+pub few_enough : (words : ℕ) (values : List Value) → length values ≤ MOST_STORES
     → plan_faults words (Some (items_view values)) ≡ each_store_faults words 0 (items_view values)
 few_enough words values h =
-    let counted : nat_lt 65536 (items_len (items_view values)) ≡ false = rw (same_count values) (grind (arith, nat_tests, h)) in
-    unlimited (nat_lt 65536 (items_len (items_view values))) (fault.Limit (path.Named field.Stores)) (each_store_faults words 0 (items_view values)) counted
+    let counted : nat_lt MOST_STORES (items_len (items_view values)) ≡ false = rw (same_count values) (grind (arith, nat_tests, h)) in
+    unlimited (nat_lt MOST_STORES (items_len (items_view values))) (Fault rule.Limit (path.Whole key.Stores)) (each_store_faults words 0 (items_view values)) counted

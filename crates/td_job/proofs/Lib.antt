@@ -1,5 +1,7 @@
 pub mod Bytes
 pub mod Elements
-pub mod Laws
+pub mod Existing
 pub mod Members
+pub mod Numbers
 pub mod Texts
+pub mod Unique

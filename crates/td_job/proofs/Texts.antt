@@ -3,7 +3,7 @@ use Rattle.std.proofs.Common.{◌≡◌, ℕ, ◌<◌, List, [], ◌∷◌, leng
 use Rattle.serde_json.proofs.OnLiterals.{serde_json_on_literals}
 use Rattle.serde_json.specs.Data.{Data}
 use Rattle.serde_json.specs.Read.{read}
-use Rattle.td_job.specs.Jobs.{Reads}
+use Rattle.td_job.specs.Fields.{Reads}
 
 nothing_read : read [] ≡ None
 unfolding serde_json_on_literals

@@ -4,88 +4,51 @@
 -- in that order, each field looked at for all that can be wrong with it (a list first for its length, and then element
 -- by element), and then the fields of other names; at one place the lower code stands first. The answer is the first
 -- fault. A job that is no object has no field.
-use Rattle.std.specs.Prelude.{◌≡◌, ℕ, ◌+◌, ◌*◌, ◌/◌, ◌%◌, ◌<◌, ◌≤◌, ◌^◌, List, [], ◌∷◌, ◌++◌, length, Bool, ◌||◌, nat_lt, nat_le, if◌then◌else◌, bytes_eq, IsUtf8, Option, Some, None, option_and_then, IsSomeAnd, Result, Ok, Err, ◌⊎◌}
+use Rattle.std.specs.Prelude.{◌≡◌, ℕ, ◌+◌, ◌*◌, ◌/◌, ◌%◌, ◌<◌, ◌≤◌, ◌^◌, List, [], ◌∷◌, ◌++◌, length, Bool, ◌||◌, nat_lt, nat_le, if◌then◌else◌, bytes_eq, Option, Some, None, option_and_then, IsSomeAnd, Result, Ok, Err, ◌⊎◌}
 use Rattle.std.specs.List.{All}
 use Rattle.serde_json.specs.Data.{Data, Items, no_items, item, Members, no_members, member}
-use Rattle.serde_json.specs.Read.{read as read_text}
 use Rattle.serde_json.specs.Events.{items_len}
-use Rattle.serde_json.specs.Find.{get, as_str, as_number, as_u64, as_array, as_object}
+use Rattle.serde_json.specs.Find.{as_str, as_array, as_object}
 use Rattle.hex.specs.Hex.{decode_of, decode_sized}
 use Rattle.hex.specs.declared.error.FromHexError.{FromHexError}
 use Rattle.td_core.specs.declared.module.Module.{Module}
 use Rattle.td_core.specs.declared.module.Entry.{Entry}
-use Rattle.td_core.specs.Entries.{IsEntryNamed, IsFirstNamed}
+use Rattle.td_core.specs.declared.module.TypeDef.{TypeDef}
+use Rattle.td_core.specs.Entries.{IsEntryNamed, IsFirstNamed, entry_definition}
+use Rattle.td_core.specs.Formed.{AllFit}
 use Rattle.td_num.specs.Numbers.{rising_at}
 use Rattle.td_sched.specs.declared.store.PlannedStore.{PlannedStore}
-use Rattle.td_job.specs.declared.error.Field.{Field}
-use Rattle.td_job.specs.declared.error.Field.TheVariants as field
+use Rattle.td_job.specs.declared.error.Key.TheVariants as key
+use Rattle.td_job.specs.declared.error.JobRule.TheVariants as rule
 use Rattle.td_job.specs.declared.error.Path.{Path}
 use Rattle.td_job.specs.declared.error.Path.TheVariants as path
 use Rattle.td_job.specs.declared.error.JobError.{JobError}
-use Rattle.td_job.specs.declared.error.JobError.TheVariants as fault
+use Rattle.td_job.specs.declared.error.JobError.TheVariants.{Fault}
 use Rattle.td_job.specs.declared.run_job.RunJob.{RunJob}
-use Rattle.td_job.specs.Errors.{name_of}
+use Rattle.td_job.specs.declared.checks.TheConstants.{MOST_BYTES}
+use Rattle.td_job.specs.declared.stores.TheConstants.{MOST_STORES}
+use Rattle.td_job.specs.Errors.{key_name}
+use Rattle.td_job.specs.Fields.{Reads, field_of, text_of, whole, number_of, fault_if, fault_if_none, IsFirst}
+use Rattle.td_job.specs.Values.{args_bounds, cells_bounds, args_faults, cells_faults, given_args, given_cells}
 use Rattle.td_job.specs.Words.{IsFilled}
-
--- The bytes are JSON and stand for this value, as serde_json reads it: the last value of a name counts, an object's
--- members stand in the byte order of their names, and a number is whole (`as_u64`) where it is written without sign,
--- point and exponent and is below 2^64.
-abbrev pub Reads : List ℕ → Data → Type 0
-Reads bytes value = IsUtf8 bytes × (read_text bytes ≡ Some value)
-
--- a field's value, text and whole number; none where it is missing or has another form
-abbrev pub field_of : Field → Data → Option Data
-field_of name job = get (name_of name) job
-
-abbrev pub text_of : Field → Data → Option (List ℕ)
-text_of name job = option_and_then as_str (field_of name job)
-
-abbrev pub whole : Data → Option ℕ
-whole value = option_and_then as_u64 (as_number value)
-
-abbrev pub number_of : Field → Data → Option ℕ
-number_of name job = option_and_then whole (field_of name job)
-
--- a fault where a test says so
-abbrev pub fault_if : Bool → JobError → List JobError
-fault_if wrong e = if wrong then e ∷ [] else []
-
-abbrev pub fault_if_none : {A : Type 0} → Option A → JobError → List JobError
-fault_if_none None e = e ∷ []
-fault_if_none (Some a) e = []
 
 -- `entry` is a text (J2), the name of an entry point (J3): of the first one with that name. (Entry points are numbered
 -- by 32 bits.)
 abbrev pub EntryFault : Module → Option (List ℕ) → JobError → Type 0
-EntryFault types None e = e ≡ fault.Form (path.Named field.Entry)
-EntryFault types (Some name) e = (e ≡ fault.NoEntry) × ((n : ℕ) → n < 2 ^ 32 → IsEntryNamed types name n → ⊥)
+EntryFault m None e = e ≡ Fault rule.Form (path.Whole key.Entry)
+EntryFault m (Some name) e = (e ≡ Fault rule.NoEntry (path.Whole key.Entry)) × ((n : ℕ) → n < 2 ^ 32 → IsEntryNamed m name n → ⊥)
 
 abbrev pub IsEntry : Module → Option (List ℕ) → Entry → Type 0
-IsEntry types None entry = ⊥
-IsEntry types (Some name) entry = (entry.number < 2 ^ 32) × IsFirstNamed types name entry
-
--- `args` and `cells` are lists (J2) of whole numbers, one for each value parameter and for each cell (J4). An entry
--- point has neither yet, so each list may be left out and is empty.
-abbrev pub element_faults : Field → ℕ → Items → List JobError
-element_faults name i no_items = []
-element_faults name i (item value values) = fault_if_none (whole value) (fault.Form (path.Element name i)) ++ element_faults name (i + 1) values
-
-abbrev pub array_faults : Field → Option Items → List JobError
-array_faults name None = fault.Form (path.Named name) ∷ []
-array_faults name (Some no_items) = []
-array_faults name (Some (item value values)) = fault.Values (path.Named name) ∷ element_faults name 0 (item value values)
-
-abbrev pub list_faults : Field → Option Data → List JobError
-list_faults name None = []
-list_faults name (Some value) = array_faults name (as_array value)
+IsEntry m None entry = ⊥
+IsEntry m (Some name) entry = (entry.number < 2 ^ 32) × IsFirstNamed m name entry
 
 -- `bytes` is a text (J2) of an even number of hexadecimal digits of either case (J5), two for each byte
 abbrev pub digit_faults : Result (List ℕ) FromHexError → List JobError
 digit_faults (Ok bytes) = []
-digit_faults (Err e) = fault.Digits (path.Named field.Bytes) ∷ []
+digit_faults (Err e) = Fault rule.Digits (path.Whole key.Bytes) ∷ []
 
 abbrev pub bytes_faults : Option (List ℕ) → List JobError
-bytes_faults None = fault.Form (path.Named field.Bytes) ∷ []
+bytes_faults None = Fault rule.Form (path.Whole key.Bytes) ∷ []
 bytes_faults (Some text) = digit_faults (decode_of text)
 
 abbrev pub bytes_or_none : Result (List ℕ) FromHexError → List ℕ
@@ -98,12 +61,12 @@ spelled_bytes (Some text) = bytes_or_none (decode_of text)
 
 -- the bytes that a job gives
 abbrev pub given_bytes : Data → List ℕ
-given_bytes job = spelled_bytes (text_of field.Bytes job)
+given_bytes job = spelled_bytes (text_of key.Bytes job)
 
--- `length` is a whole number (J2), at most that of the bytes given (J7) and at most 1,048,576 (J8)
+-- `length` is a whole number (J2), at most that of the bytes given (J7) and at most a MiB (J8)
 abbrev pub length_faults : ℕ → Option ℕ → List JobError
-length_faults given None = fault.Form (path.Named field.Length) ∷ []
-length_faults given (Some n) = fault_if (nat_lt given n) (fault.PastBytes (path.Named field.Length)) ++ fault_if (nat_lt 1048576 n) (fault.Limit (path.Named field.Length))
+length_faults given None = Fault rule.Form (path.Whole key.Length) ∷ []
+length_faults given (Some n) = fault_if (nat_lt given n) (Fault rule.PastBytes (path.Whole key.Length)) ++ fault_if (nat_lt MOST_BYTES n) (Fault rule.Limit (path.Whole key.Length))
 
 -- The message's words are those with a byte of it: an eighth of its length in bytes, rounded up. Without a length there
 -- are none.
@@ -112,7 +75,7 @@ words_of None = 0
 words_of (Some n) = (n + 7) / 8
 
 abbrev pub message_words : Data → ℕ
-message_words job = words_of (number_of field.Length job)
+message_words job = words_of (number_of key.Length job)
 
 -- a store as a job spells it: the number of the load before which it is made, from 0, the word's number, from 0, and
 -- the word's bytes as hexadecimal digits
@@ -151,17 +114,17 @@ spelled_word text = word_in (decode_sized text 8)
 -- An element of `stores` is such a list (J2) with the digits of a word (J5) and the number of a word of the message
 -- (J6).
 abbrev pub store_faults : ℕ → Path → Option Spelled → List JobError
-store_faults words place None = fault.Form place ∷ []
-store_faults words place (Some s) = fault_if_none (spelled_word s.text) (fault.Digits place) ++ fault_if (nat_le words s.word) (fault.NoWord place)
+store_faults words place None = Fault rule.Form place ∷ []
+store_faults words place (Some s) = fault_if_none (spelled_word s.text) (Fault rule.Digits place) ++ fault_if (nat_le words s.word) (Fault rule.NoWord place)
 
 abbrev pub each_store_faults : ℕ → ℕ → Items → List JobError
 each_store_faults words i no_items = []
-each_store_faults words i (item value values) = store_faults words (path.Element field.Stores i) (spelled_store value) ++ each_store_faults words (i + 1) values
+each_store_faults words i (item value values) = store_faults words (path.Element key.Stores i) (spelled_store value) ++ each_store_faults words (i + 1) values
 
 -- `stores` is a list (J2) of at most 65,536 elements (J8); it may be left out
 abbrev pub plan_faults : ℕ → Option Items → List JobError
-plan_faults words None = fault.Form (path.Named field.Stores) ∷ []
-plan_faults words (Some values) = fault_if (nat_lt 65536 (items_len values)) (fault.Limit (path.Named field.Stores)) ++ each_store_faults words 0 values
+plan_faults words None = Fault rule.Form (path.Whole key.Stores) ∷ []
+plan_faults words (Some values) = fault_if (nat_lt MOST_STORES (items_len values)) (Fault rule.Limit (path.Whole key.Stores)) ++ each_store_faults words 0 values
 
 abbrev pub stores_faults : ℕ → Option Data → List JobError
 stores_faults words None = []
@@ -186,71 +149,74 @@ listed_stores (Some values) = each_store values
 
 -- the stores that a job gives, in the order given
 abbrev pub given_stores : Data → List PlannedStore
-given_stores job = listed_stores (option_and_then as_array (field_of field.Stores job))
+given_stores job = listed_stores (option_and_then as_array (field_of key.Stores job))
 
 -- a field has one of the six names (J2)
 abbrev pub is_known : List ℕ → Bool
-is_known name = bytes_eq name (name_of field.Entry) || bytes_eq name (name_of field.Args) || bytes_eq name (name_of field.Cells) || bytes_eq name (name_of field.Bytes) || bytes_eq name (name_of field.Length) || bytes_eq name (name_of field.Stores)
+is_known name = bytes_eq name (key_name key.Entry) || bytes_eq name (key_name key.Args) || bytes_eq name (key_name key.Cells) || bytes_eq name (key_name key.Bytes) || bytes_eq name (key_name key.Length) || bytes_eq name (key_name key.Stores)
 
 abbrev pub member_faults : Members → List JobError
 member_faults no_members = []
-member_faults (member name value others) = (if is_known name then [] else fault.Form (path.Unknown name) ∷ []) ++ member_faults others
+member_faults (member name value others) = (if is_known name then [] else Fault rule.Form (path.Unknown name) ∷ []) ++ member_faults others
 
 abbrev pub name_faults : Option Members → List JobError
 name_faults None = []
 name_faults (Some members) = member_faults members
 
--- the faults of a job behind those of `entry`
-abbrev pub later_faults : Data → List JobError
-later_faults job =
-    list_faults field.Args (field_of field.Args job)
-    ++ list_faults field.Cells (field_of field.Cells job)
-    ++ bytes_faults (text_of field.Bytes job)
-    ++ length_faults (length (given_bytes job)) (number_of field.Length job)
-    ++ stores_faults (message_words job) (field_of field.Stores job)
+-- the faults of a job after those of `entry`, whose definition this is
+abbrev pub later_faults : Option TypeDef → Data → List JobError
+later_faults d job =
+    args_faults (args_bounds d) (field_of key.Args job)
+    ++ cells_faults (cells_bounds d) (field_of key.Cells job)
+    ++ bytes_faults (text_of key.Bytes job)
+    ++ length_faults (length (given_bytes job)) (number_of key.Length job)
+    ++ stores_faults (message_words job) (field_of key.Stores job)
     ++ name_faults (as_object job)
-
-pub record IsFirst (faults : List JobError) (e : JobError) : Type 0 where
-  pub others : List JobError
-  pub is : faults ≡ e ∷ others
 
 -- the first fault of a job
 abbrev pub FirstFault : Module → Data → JobError → Type 0
-FirstFault types job e = EntryFault types (text_of field.Entry job) e ⊎ ((entry : Entry) × IsEntry types (text_of field.Entry job) entry × IsFirst (later_faults job) e)
+FirstFault m job e =
+    EntryFault m (text_of key.Entry job) e
+    ⊎ ((entry : Entry) × IsEntry m (text_of key.Entry job) entry × IsFirst (later_faults (entry_definition m entry.number) job) e)
 
 -- memory may be lacking for a job: what is looked at before memory is taken has no fault, which is the entry point, the
 -- two lists, and the number of digits
-pub record MayLackMemory (types : Module) (job : Data) : Type 0 where
+pub record MayLackMemory (m : Module) (job : Data) : Type 0 where
   pub entry : Entry
-  pub named : IsEntry types (text_of field.Entry job) entry
-  pub args : list_faults field.Args (field_of field.Args job) ≡ []
-  pub cells : list_faults field.Cells (field_of field.Cells job) ≡ []
-  pub even : IsSomeAnd (text_of field.Bytes job) (λ text. length text % 2 ≡ 0)
+  pub named : IsEntry m (text_of key.Entry job) entry
+  pub args : args_faults (args_bounds (entry_definition m entry.number)) (field_of key.Args job) ≡ []
+  pub cells : cells_faults (cells_bounds (entry_definition m entry.number)) (field_of key.Cells job) ≡ []
+  pub even : IsSomeAnd (text_of key.Bytes job) (λ text. length text % 2 ≡ 0)
 
 -- the run job that a job without a fault is
-pub record IsJob (types : Module) (job : Data) (j : RunJob) : Type 0 where
-  pub named : IsEntry types (text_of field.Entry job) j.entry
-  pub faultless : later_faults job ≡ []
-  pub no_args : j.args ≡ []
-  pub no_cells : j.cells ≡ []
-  pub filled : IsFilled (given_bytes job) j.words
-  pub as_long : number_of field.Length job ≡ Some j.length
+pub record IsJob (m : Module) (job : Data) (j : RunJob) : Type 0 where
+  pub named : IsEntry m (text_of key.Entry job) j.entry
+  pub faultless : later_faults (entry_definition m j.entry.number) job ≡ []
+  pub args : j.args ≡ given_args (entry_definition m j.entry.number) job
+  pub cells : j.cells ≡ given_cells (entry_definition m j.entry.number) job
+  pub filled : IsFilled (given_bytes job) (message_words job) j.words
+  pub as_long : number_of key.Length job ≡ Some j.length
   pub stored : j.stores ≡ given_stores job
 
 -- the run job that the bytes stand for
 abbrev pub IsRunJob : List ℕ → Module → RunJob → Type 0
-IsRunJob bytes types j = (job : Data) × Reads bytes job × IsJob types job j
+IsRunJob bytes m j = (job : Data) × Reads bytes job × IsJob m job j
 
 -- the words are numbered by 32 bits, the message ends within them and below the limit, and each store's word is one of
 -- them
 pub record HasRoom (j : RunJob) : Type 0 where
   pub words : length j.words < 2 ^ 32
   pub ends : j.length ≤ 8 * length j.words
-  pub limit : j.length ≤ 1048576
+  pub limit : j.length ≤ MOST_BYTES
   pub stores : All (λ (s : PlannedStore). s.word < length j.words) j.stores
+
+-- each parameter and each cell of the entry point has its value, which fits there
+pub record HasValues (m : Module) (j : RunJob) : Type 0 where
+  pub args : AllFit (args_bounds (entry_definition m j.entry.number)) j.args
+  pub cells : AllFit (cells_bounds (entry_definition m j.entry.number)) j.cells
 
 -- how the bytes are refused: they aren't JSON (J1), or stand for a job with a fault, of which it is the first
 abbrev pub RefusedJob : List ℕ → Module → JobError → Type 0
-RefusedJob bytes types e =
-    ((e ≡ fault.NotJson) × ((job : Data) → Reads bytes job → ⊥))
-    ⊎ ((job : Data) × Reads bytes job × FirstFault types job e)
+RefusedJob bytes m e =
+    ((e ≡ Fault rule.NotJson path.Job) × ((job : Data) → Reads bytes job → ⊥))
+    ⊎ ((job : Data) × Reads bytes job × FirstFault m job e)

@@ -3,10 +3,11 @@
 ghost use Rattle.std.specs.Prelude.{◌≡◌, ◌≢◌, ◌%◌, [], ◌⊎◌, length, IsOk, IfOk, IfErr, OnOk, IsSomeAnd, MatchOption, Some};
 ghost use Rattle.serde_json.specs.Find.{as_object};
 ghost use Rattle.serde_json.specs.View.{view};
-ghost use Rattle.td_job.specs.Jobs.{field_of, text_of, number_of, EntryFault, IsEntry, IsFirst, list_faults, bytes_faults, given_bytes, length_faults, is_known, name_faults};
+ghost use Rattle.td_job.specs.Fields.{text_of, number_of, IsFirst};
+ghost use Rattle.td_job.specs.Jobs.{EntryFault, IsEntry, bytes_faults, given_bytes, length_faults, is_known, name_faults};
 
-use crate::error::{Field, JobError, Path};
-use crate::fields::{field_of, number_of, text_of};
+use crate::error::{JobError, JobRule, Key, Path};
+use crate::json::{number_of, text_of};
 use hex::FromHexError;
 use serde_json::Value;
 use std::alloc::Global;
@@ -15,61 +16,43 @@ use td_core::module::{Entry, Module};
 use td_num::text::Text;
 
 /// The most bytes that a message has.
-const MOST_BYTES: u64 = 1_048_576;
+pub const MOST_BYTES: u64 = 1_048_576;
 
 /// The entry point that a job names. J2: `entry` is missing or no text. J3: no entry point has the name.
-pub(crate) fn entry_of(job: &Value, types: &Module) -> Result<Entry, JobError>
-    ensures ok { IfOk result (λ entry. IsEntry types.now (text_of Field.Entry (view job.now)) entry) }
-    ensures err { IfErr result (λ e. EntryFault types.now (text_of Field.Entry (view job.now)) e) }
+pub(crate) fn entry_of(job: &Value, m: &Module) -> Result<Entry, JobError>
+    ensures ok { IfOk result (λ entry. IsEntry m.now (text_of Key.Entry (view job.now)) entry) }
+    ensures err { IfErr result (λ e. EntryFault m.now (text_of Key.Entry (view job.now)) e) }
 {
-    match text_of(job, Field::Entry) {
-        None => Err(JobError::Form(Path::Named(Field::Entry))),
-        Some(name) => match entry_named(types, name.as_bytes()) {
-            None => Err(JobError::NoEntry),
+    match text_of(job, Key::Entry) {
+        None => Err(JobRule::Form.at(Path::Whole(Key::Entry))),
+        Some(name) => match entry_named(m, name.as_bytes()) {
+            None => Err(JobRule::NoEntry.at(Path::Whole(Key::Entry))),
             Some(entry) => Ok(entry),
         },
     }
 }
 
-/// Tests a list of numbers of which an entry point asks none. J2: the field is no list. J4: it is not empty.
-pub(crate) fn check_list(job: &Value, name: Field) -> Result<(), JobError>
-    ensures ok { OnOk result (list_faults name (field_of name (view job.now)) ≡ []) }
-    ensures err { IfErr result (λ e. IsFirst (list_faults name (field_of name (view job.now))) e) }
-{
-    let Some(value) = field_of(job, name) else {
-        return Ok(());
-    };
-    match value.as_array() {
-        None => Err(JobError::Form(Path::Named(name))),
-        Some(values) => if values.is_empty() {
-            Ok(())
-        } else {
-            Err(JobError::Values(Path::Named(name)))
-        },
-    }
-}
-
-/// The cause of an error of reading hexadecimal digits: want of memory exactly where it was that, else J5. Takes no
+/// The cause of an error of reading hexadecimal digits: out of memory exactly where it was that, else J5. Takes no
 /// memory.
 fn fault_of(error: FromHexError) -> JobError
     ensures memory { error ≡ FromHexError.OutOfMemory → result ≡ JobError.NoMemory }
-    ensures digits { error ≢ FromHexError.OutOfMemory → result ≡ JobError.Digits (Path.Named Field.Bytes) }
+    ensures digits { error ≢ FromHexError.OutOfMemory → result ≡ JobError.Fault JobRule.Digits (Path.Whole Key.Bytes) }
 {
     match error {
         FromHexError::OutOfMemory => JobError::NoMemory,
-        _ => JobError::Digits(Path::Named(Field::Bytes)),
+        _ => JobRule::Digits.at(Path::Whole(Key::Bytes)),
     }
 }
 
 /// The bytes that a job gives. J2: `bytes` is missing or no text. J5: it is not an even number of hexadecimal digits.
 /// `NoMemory`: there was no memory for the bytes; never where the number of digits is odd.
 pub(crate) fn bytes_of(alloc: Global, job: &Value) -> Result<Vec<u8>, JobError>
-    ensures ok { IfOk result (λ bytes. (bytes_faults (text_of Field.Bytes (view job.now)) ≡ []) × (given_bytes (view job.now) ≡ bytes.items)) }
-    ensures err { IfErr result (λ e. (e ≡ JobError.NoMemory) ⊎ IsFirst (bytes_faults (text_of Field.Bytes (view job.now))) e) }
-    ensures memory { result ≡ Err JobError.NoMemory → IsSomeAnd (text_of Field.Bytes (view job.now)) (λ text. length text % 2 ≡ 0) }
+    ensures ok { IfOk result (λ bytes. (bytes_faults (text_of Key.Bytes (view job.now)) ≡ []) × (given_bytes (view job.now) ≡ bytes.items)) }
+    ensures err { IfErr result (λ e. (e ≡ JobError.NoMemory) ⊎ IsFirst (bytes_faults (text_of Key.Bytes (view job.now))) e) }
+    ensures memory { result ≡ Err JobError.NoMemory → IsSomeAnd (text_of Key.Bytes (view job.now)) (λ text. length text % 2 ≡ 0) }
 {
-    let Some(text) = text_of(job, Field::Bytes) else {
-        return Err(JobError::Form(Path::Named(Field::Bytes)));
+    let Some(text) = text_of(job, Key::Bytes) else {
+        return Err(JobRule::Form.at(Path::Whole(Key::Bytes)));
     };
     match hex::decode(alloc, text) {
         Ok(bytes) => Ok(bytes),
@@ -80,16 +63,16 @@ pub(crate) fn bytes_of(alloc: Global, job: &Value) -> Result<Vec<u8>, JobError>
 /// The length of the message, in bytes, of those given. J2: `length` is missing or no whole number. J7: it passes the
 /// bytes given. J8: it passes 1,048,576.
 pub(crate) fn length_of(job: &Value, given: usize) -> Result<u32, JobError>
-    ensures ok { IfOk result (λ n. (length_faults given (number_of Field.Length (view job.now)) ≡ []) × (number_of Field.Length (view job.now) ≡ Some n)) }
-    ensures err { IfErr result (λ e. IsFirst (length_faults given (number_of Field.Length (view job.now))) e) }
+    ensures ok { IfOk result (λ n. (length_faults given (number_of Key.Length (view job.now)) ≡ []) × (number_of Key.Length (view job.now) ≡ Some n)) }
+    ensures err { IfErr result (λ e. IsFirst (length_faults given (number_of Key.Length (view job.now))) e) }
 {
-    let Some(bytes) = number_of(job, Field::Length) else {
-        return Err(JobError::Form(Path::Named(Field::Length)));
+    let Some(bytes) = number_of(job, Key::Length) else {
+        return Err(JobRule::Form.at(Path::Whole(Key::Length)));
     };
     if bytes > given as u64 {
-        Err(JobError::PastBytes(Path::Named(Field::Length)))
+        Err(JobRule::PastBytes.at(Path::Whole(Key::Length)))
     } else if bytes > MOST_BYTES {
-        Err(JobError::Limit(Path::Named(Field::Length)))
+        Err(JobRule::Limit.at(Path::Whole(Key::Length)))
     } else {
         Ok(bytes as u32)
     }
@@ -99,17 +82,17 @@ pub(crate) fn length_of(job: &Value, given: usize) -> Result<u32, JobError>
 fn is_known(name: &str) -> bool
     ensures { result ≡ is_known name.now }
 {
-    name == Field::Entry.name()
-        || name == Field::Args.name()
-        || name == Field::Cells.name()
-        || name == Field::Bytes.name()
-        || name == Field::Length.name()
-        || name == Field::Stores.name()
+    name == Key::Entry.name()
+        || name == Key::Args.name()
+        || name == Key::Cells.name()
+        || name == Key::Bytes.name()
+        || name == Key::Length.name()
+        || name == Key::Stores.name()
 }
 
 /// The first name in byte order of a field that no job has. None: each field has a known name.
 fn unknown_name(job: &Value) -> Option<&str>
-    ensures { MatchOption result (name_faults (as_object (view job.now)) ≡ []) (λ name. IsFirst (name_faults (as_object (view job.now))) (JobError.Form (Path.Unknown name.now))) }
+    ensures { MatchOption result (name_faults (as_object (view job.now)) ≡ []) (λ name. IsFirst (name_faults (as_object (view job.now))) (JobError.Fault JobRule.Form (Path.Unknown name.now))) }
 {
     let members = job.as_object()?;
     for (name, _) in members {
@@ -131,5 +114,5 @@ pub(crate) fn check_names(alloc: Global, job: &Value) -> Result<(), JobError>
         return Ok(());
     };
     let bytes = Text::copy_of(alloc, name.as_bytes())?;
-    Err(JobError::Form(Path::Unknown(bytes)))
+    Err(JobRule::Form.at(Path::Unknown(bytes)))
 }

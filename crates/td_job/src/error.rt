@@ -2,16 +2,16 @@
 
 ghost use Rattle.std.specs.Prelude.{◌≡◌};
 ghost use Rattle.td_core.specs.Paths.{indexed};
-ghost use Rattle.td_job.specs.Errors.{code_of, path_of, path_bytes, name_of};
+ghost use Rattle.td_job.specs.Errors.{rule_code, key_name, path_bytes, code_of, path_of};
 
 use std::alloc::AllocError;
 use std::fmt;
 use td_num::text::Text;
 use thiserror::Error;
 
-/// A field of a run job.
+/// The name of a field of a run job.
 #[derive(Clone, Copy, PartialEq, Eq, Debug)]
-pub enum Field {
+pub enum Key {
     /// The name of the entry point.
     Entry,
     /// The values of its parameters.
@@ -26,22 +26,121 @@ pub enum Field {
     Stores,
 }
 
+impl Key {
+    /// The name as a job has it.
+    pub fn name(self) -> &'static str
+        ensures { result.now ≡ key_name self }
+    {
+        match self {
+            Key::Entry => "entry",
+            Key::Args => "args",
+            Key::Cells => "cells",
+            Key::Bytes => "bytes",
+            Key::Length => "length",
+            Key::Stores => "stores",
+        }
+    }
+}
+
+/// The rule that a job breaks.
+#[derive(Clone, Copy, PartialEq, Eq, Debug)]
+pub enum JobRule {
+    /// The bytes are not JSON.
+    NotJson,
+    /// A needed field is missing or has another form, or a field has an unknown name.
+    Form,
+    /// No entry point has the name.
+    NoEntry,
+    /// A list is not as long as the entry point asks.
+    Values,
+    /// A text is not an even number of hexadecimal digits, or a store's is not 16.
+    Digits,
+    /// A store's word is none of the message's.
+    NoWord,
+    /// The message is longer than the bytes given.
+    PastBytes,
+    /// A limit is passed.
+    Limit,
+}
+
+impl JobRule {
+    /// The code of the rule in error lines.
+    pub fn code(self) -> &'static str
+        ensures { result.now ≡ rule_code self }
+    {
+        match self {
+            JobRule::NotJson => "J1",
+            JobRule::Form => "J2",
+            JobRule::NoEntry => "J3",
+            JobRule::Values => "J4",
+            JobRule::Digits => "J5",
+            JobRule::NoWord => "J6",
+            JobRule::PastBytes => "J7",
+            JobRule::Limit => "J8",
+        }
+    }
+
+    /// The fault of a job that breaks the rule here.
+    pub(crate) fn at(self, path: Path) -> JobError
+        ensures { result ≡ JobError.Fault self path }
+    {
+        JobError::Fault { rule: self, path }
+    }
+}
+
 /// Where a job is at fault.
 #[derive(Debug, Drop)]
 pub enum Path {
+    /// The job as a whole.
+    Job,
     /// A field.
-    Named(Field),
+    Whole(Key),
     /// An element of a field's list, counted from 0.
-    Element { field: Field, index: usize },
+    Element { key: Key, index: usize },
     /// A field that no job has, by the bytes of its name.
     Unknown(Text),
+}
+
+/// The path of an error line, in the parts that it is written of: a name, and the place in a list, from 0, which
+/// stands after it in brackets.
+#[derive(Clone, Copy, Debug)]
+pub struct PathParts<'a> {
+    pub name: &'a [u8],
+    pub index: Option<usize>,
+}
+
+impl Path {
+    /// The name, and the place in a list where there is one. Takes no memory.
+    pub fn parts(&self) -> PathParts<'_>
+        ensures { indexed result.name.now result.index ≡ path_bytes self.now }
+    {
+        match self {
+            Path::Job => PathParts {
+                name: b"job",
+                index: None,
+            },
+            Path::Whole(key) => PathParts {
+                name: key.name().as_bytes(),
+                index: None,
+            },
+            Path::Element { key, index } => PathParts {
+                name: key.name().as_bytes(),
+                index: Some(*index),
+            },
+            Path::Unknown(name) => PathParts {
+                name: name.as_slice(),
+                index: None,
+            },
+        }
+    }
 }
 
 impl fmt::Display for Path {
     fn fmt<W: fmt::Write>(&self, f: &mut fmt::Formatter<W>) -> fmt::Result {
         match self {
-            Path::Named(field) => write!(f, "{}", field.name()),
-            Path::Element { field, index } => write!(f, "{}[{index}]", field.name()),
+            Path::Job => write!(f, "job"),
+            Path::Whole(key) => write!(f, "{}", key.name()),
+            Path::Element { key, index } => write!(f, "{}[{index}]", key.name()),
             Path::Unknown(name) => match str::from_utf8(name.as_slice()) {
                 Ok(name) => write!(f, "{name}"),
                 // A name in JSON is UTF-8, so this isn't met.
@@ -51,33 +150,12 @@ impl fmt::Display for Path {
     }
 }
 
-/// Why a job is refused. It prints as its error line does: a code and a path.
+/// Why there is no job. It prints as its error line does: a code and a path.
 #[derive(Debug, Drop, Error)]
 pub enum JobError {
-    /// J1: the bytes are not JSON.
-    #[error("J1 job")]
-    NotJson,
-    /// J2: a needed field is missing or has another form, or a field has an unknown name.
-    #[error("J2 {0}")]
-    Form(Path),
-    /// J3: no entry point has the name.
-    #[error("J3 entry")]
-    NoEntry,
-    /// J4: a list is not as long as the entry point asks.
-    #[error("J4 {0}")]
-    Values(Path),
-    /// J5: a text is not an even number of hexadecimal digits, or a store's is not 16.
-    #[error("J5 {0}")]
-    Digits(Path),
-    /// J6: a store's word is none of the message's.
-    #[error("J6 {0}")]
-    NoWord(Path),
-    /// J7: the message is longer than the bytes given.
-    #[error("J7 {0}")]
-    PastBytes(Path),
-    /// J8: a limit is passed.
-    #[error("J8 {0}")]
-    Limit(Path),
+    /// The text breaks a rule at a place.
+    #[error("{} {path}", rule.code())]
+    Fault { rule: JobRule, path: Path },
     /// There was no memory to read the job.
     #[error("out of memory")]
     NoMemory,
@@ -94,90 +172,24 @@ impl From<AllocError> for JobError {
     }
 }
 
-/// The path of an error line, in the parts that it is written of: a name, and the place in a list, from 0, which
-/// stands behind it in brackets.
-#[derive(Clone, Copy, Debug)]
-pub struct PathParts<'a> {
-    pub name: &'a [u8],
-    pub index: Option<usize>,
-}
-
-impl Field {
-    /// The field's name in a job.
-    pub fn name(self) -> &'static str
-        ensures { result.now ≡ name_of self }
-    {
-        match self {
-            Field::Entry => "entry",
-            Field::Args => "args",
-            Field::Cells => "cells",
-            Field::Bytes => "bytes",
-            Field::Length => "length",
-            Field::Stores => "stores",
-        }
-    }
-}
-
-impl Path {
-    /// The name, and the place in a list where there is one. Takes no memory.
-    fn parts(&self) -> PathParts<'_>
-        ensures { indexed result.name.now result.index ≡ path_bytes self.now }
-    {
-        match self {
-            Path::Named(field) => PathParts {
-                name: field.name().as_bytes(),
-                index: None,
-            },
-            Path::Element { field, index } => PathParts {
-                name: field.name().as_bytes(),
-                index: Some(*index),
-            },
-            Path::Unknown(name) => PathParts {
-                name: name.as_slice(),
-                index: None,
-            },
-        }
-    }
-}
-
 impl JobError {
-    /// The code of its error line, such as `J2`. Want of memory has no code, and none is given.
+    /// The code of its error line, such as `J2`. Out of memory has no code, and none is given.
     pub fn code(&self) -> &'static [u8]
         ensures { result.now ≡ code_of self.now }
     {
         match self {
-            JobError::NotJson => b"J1",
-            JobError::Form(_) => b"J2",
-            JobError::NoEntry => b"J3",
-            JobError::Values(_) => b"J4",
-            JobError::Digits(_) => b"J5",
-            JobError::NoWord(_) => b"J6",
-            JobError::PastBytes(_) => b"J7",
-            JobError::Limit(_) => b"J8",
+            JobError::Fault { rule, .. } => rule.code().as_bytes(),
             JobError::NoMemory => b"",
         }
     }
 
-    /// The path of its error line, such as `args[3]`, in parts. Takes no memory. Want of memory has no path, and none
-    /// is given.
+    /// The path of its error line, such as `args[3]`, in parts. Takes no memory. Out of memory has no path, and none is
+    /// given.
     pub fn path(&self) -> PathParts<'_>
         ensures { indexed result.name.now result.index ≡ path_of self.now }
     {
         match self {
-            JobError::NotJson => PathParts {
-                name: b"job",
-                index: None,
-            },
-            JobError::NoEntry => PathParts {
-                name: Field::Entry.name().as_bytes(),
-                index: None,
-            },
-            JobError::Form(path) => path.parts(),
-            JobError::Values(path) => path.parts(),
-            JobError::Digits(path) => path.parts(),
-            JobError::NoWord(path) => path.parts(),
-            JobError::PastBytes(path) => path.parts(),
-            JobError::Limit(path) => path.parts(),
+            JobError::Fault { path, .. } => path.parts(),
             JobError::NoMemory => PathParts {
                 name: b"",
                 index: None,

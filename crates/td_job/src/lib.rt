@@ -1,15 +1,15 @@
 //! Run jobs: which message is validated, from which entry point, and what others store to it meanwhile, as a JSON text
 //! says it. The layer above rests on one promise: a text is answered with the job that it stands for, or with its first
-//! fault in the order of the fields, each exactly where the definition says so, want of memory apart.
+//! fault in the order of the fields, each exactly where the definition says so, out of memory apart.
 #![tactic(auto)]
 
 mod checks;
 pub mod error;
-mod fields;
+mod json;
+pub mod laws;
 pub mod run_job;
-#[cfg(test)]
-mod store_tests;
 mod stores;
 #[cfg(test)]
 mod tests;
+mod values;
 mod words;

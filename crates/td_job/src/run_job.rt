@@ -2,12 +2,13 @@
 
 ghost use Rattle.std.specs.Prelude.{◌≡◌, ◌⊎◌, ◌<◌, length, IfOk, IfErr, MatchResult};
 ghost use Rattle.serde_json.specs.View.{view};
-ghost use Rattle.td_job.specs.Jobs.{IsJob, IsRunJob, HasRoom, MayLackMemory, FirstFault, RefusedJob};
+ghost use Rattle.td_job.specs.Jobs.{IsJob, IsRunJob, HasRoom, HasValues, MayLackMemory, FirstFault, RefusedJob};
 
-use crate::checks::{bytes_of, check_list, check_names, entry_of, length_of};
-use crate::error::{Field, JobError};
-use crate::fields::read_json;
+use crate::checks::{bytes_of, check_names, entry_of, length_of};
+use crate::error::{JobError, Key};
+use crate::json::read_json;
 use crate::stores::stores_of;
+use crate::values::{cells_of, check_args, check_cells, definition_of, params_of, values_of};
 use crate::words::fill_words;
 use serde_json::Value;
 use std::alloc::Global;
@@ -24,7 +25,7 @@ pub struct RunJob {
     pub args: Items<u64>,
     /// The value that each of its cells begins with.
     pub cells: Items<u64>,
-    /// The memory's words, the byte of least weight first.
+    /// The words with a byte of the message, each of eight bytes, that of least weight first.
     pub words: Items<u64>,
     /// How many bytes of them the message has.
     pub length: u32,
@@ -33,24 +34,26 @@ pub struct RunJob {
 }
 
 /// The run job of a parsed text, or its first fault.
-fn job_of(alloc: Global, job: &Value, types: &Module) -> Result<RunJob, JobError>
-    ensures ok { IfOk result (λ j. IsJob types.now (view job.now) j) }
+fn job_of(alloc: Global, job: &Value, m: &Module) -> Result<RunJob, JobError>
+    ensures ok { IfOk result (λ j. IsJob m.now (view job.now) j) }
     ensures room { IfOk result HasRoom }
-    ensures err { IfErr result (λ e. (e ≡ JobError.NoMemory) ⊎ FirstFault types.now (view job.now) e) }
-    ensures memory { result ≡ Err JobError.NoMemory → MayLackMemory types.now (view job.now) }
+    ensures err { IfErr result (λ e. (e ≡ JobError.NoMemory) ⊎ FirstFault m.now (view job.now) e) }
+    ensures memory { result ≡ Err JobError.NoMemory → MayLackMemory m.now (view job.now) }
 {
-    let entry = entry_of(job, types)?;
-    check_list(job, Field::Args)?;
-    check_list(job, Field::Cells)?;
+    let entry = entry_of(job, m)?;
+    let definition = definition_of(m, entry);
+    let (params, cells) = (params_of(definition), cells_of(definition));
+    check_args(job, params)?;
+    check_cells(job, cells)?;
     let bytes = bytes_of(alloc, job)?;
     let length = length_of(job, bytes.len())?;
     let stores = stores_of(alloc, job, length.div_ceil(8))?;
     check_names(alloc, job)?;
-    let words = fill_words(alloc, bytes.as_slice())?;
+    let words = fill_words(alloc, bytes.as_slice(), length.div_ceil(8))?;
     Ok(RunJob {
         entry,
-        args: Items::new(alloc),
-        cells: Items::new(alloc),
+        args: values_of(alloc, job, Key::Args, params)?,
+        cells: values_of(alloc, job, Key::Cells, cells)?,
         words,
         length,
         stores,
@@ -58,26 +61,27 @@ fn job_of(alloc: Global, job: &Value, types: &Module) -> Result<RunJob, JobError
 }
 
 /// The run job that the bytes stand for, or their first fault.
-fn parsed_job(alloc: Global, bytes: &[u8], types: &Module) -> Result<RunJob, JobError>
-    ensures job { IfOk result (λ j. IsRunJob bytes.now types.now j) }
+fn parsed_job(alloc: Global, bytes: &[u8], m: &Module) -> Result<RunJob, JobError>
+    ensures job { IfOk result (λ j. IsRunJob bytes.now m.now j) }
     ensures room { IfOk result HasRoom }
-    ensures refused { IfErr result (λ e. (e ≡ JobError.NoMemory) ⊎ RefusedJob bytes.now types.now e) }
+    ensures refused { IfErr result (λ e. (e ≡ JobError.NoMemory) ⊎ RefusedJob bytes.now m.now e) }
     ensures memory { result ≡ Err JobError.NoMemory → 0 < length bytes.now }
 {
     let job = read_json(alloc, bytes)?;
-    job_of(alloc, &job, types)
+    job_of(alloc, &job, m)
 }
 
 /// The run job that the bytes stand for. J1 to J8: their first fault, each exactly where the definition says so.
 /// `NoMemory`: there was no memory for it; never where there are no bytes.
-pub fn read_run_job(alloc: Global, bytes: &[u8], types: &Module) -> Result<RunJob, JobError>
-    ensures job { IfOk result (λ j. IsRunJob bytes.now types.now j) }
+pub fn read_run_job(alloc: Global, bytes: &[u8], m: &Module) -> Result<RunJob, JobError>
+    ensures job { IfOk result (λ j. IsRunJob bytes.now m.now j) }
     ensures room { IfOk result HasRoom }
-    ensures entry { IfOk result (λ j. j.entry.number < length types.now.entries) }
-    ensures complete { (j : RunJob) → IsRunJob bytes.now types.now j → MatchResult result (λ found. found ≡ j) (λ e. e ≡ JobError.NoMemory) }
-    ensures refused { IfErr result (λ e. (e ≡ JobError.NoMemory) ⊎ RefusedJob bytes.now types.now e) }
-    ensures exact { (e : JobError) → RefusedJob bytes.now types.now e → (result ≡ Err e) ⊎ (result ≡ Err JobError.NoMemory) }
+    ensures entry { IfOk result (λ j. j.entry.number < length m.now.entries) }
+    ensures values { IfOk result (λ j. HasValues m.now j) }
+    ensures complete { (j : RunJob) → IsRunJob bytes.now m.now j → MatchResult result (λ found. found ≡ j) (λ e. e ≡ JobError.NoMemory) }
+    ensures refused { IfErr result (λ e. (e ≡ JobError.NoMemory) ⊎ RefusedJob bytes.now m.now e) }
+    ensures exact { (e : JobError) → RefusedJob bytes.now m.now e → (result ≡ Err e) ⊎ (result ≡ Err JobError.NoMemory) }
     ensures memory { result ≡ Err JobError.NoMemory → 0 < length bytes.now }
 {
-    parsed_job(alloc, bytes, types)
+    parsed_job(alloc, bytes, m)
 }

@@ -3,10 +3,11 @@
 ghost use Rattle.std.specs.Prelude.{◌≡◌, ℕ, ◌<◌, [], ◌∷◌, ◌⊎◌, IfOk, IfErr, option_map};
 ghost use Rattle.std.specs.List.{All};
 ghost use Rattle.serde_json.specs.View.{view, items_view};
-ghost use Rattle.td_job.specs.Jobs.{field_of, IsFirst, spelled_store, spelled_word, store_faults, store_of, each_store, each_store_faults, stores_faults, given_stores};
+ghost use Rattle.td_job.specs.Fields.{field_of, IsFirst};
+ghost use Rattle.td_job.specs.Jobs.{spelled_store, spelled_word, store_faults, store_of, each_store, each_store_faults, stores_faults, given_stores};
 
-use crate::error::{Field, JobError, Path};
-use crate::fields::field_of;
+use crate::error::{JobError, JobRule, Key, Path};
+use crate::json::field_of;
 use hex::FromHex;
 use serde_json::Value;
 use std::alloc::Global;
@@ -16,7 +17,7 @@ use td_num::number::Width;
 use td_sched::store::PlannedStore;
 
 /// The most stores that a job has.
-const MOST_STORES: usize = 65_536;
+pub const MOST_STORES: usize = 65_536;
 
 /// The three parts of a store, as a job spells them.
 #[derive(Clone, Copy)]
@@ -51,22 +52,22 @@ fn word_of(text: &str) -> Option<u64>
 /// The store of an element of the list, at a message of so many words. J2: the element has another form. J5: its text
 /// is not 16 hexadecimal digits. J6: its word is none of the message's.
 fn store_of(value: &Value, index: usize, words: u32) -> Result<PlannedStore, JobError>
-    ensures ok { IfOk result (λ s. (store_faults words (Path.Element Field.Stores index) (spelled_store (view value.now)) ≡ []) × (store_of (spelled_store (view value.now)) ≡ s ∷ [])) }
+    ensures ok { IfOk result (λ s. (store_faults words (Path.Element Key.Stores index) (spelled_store (view value.now)) ≡ []) × (store_of (spelled_store (view value.now)) ≡ s ∷ [])) }
     ensures inside { IfOk result (λ s. s.word < words) }
-    ensures err { IfErr result (λ e. IsFirst (store_faults words (Path.Element Field.Stores index) (spelled_store (view value.now))) e) }
+    ensures err { IfErr result (λ e. IsFirst (store_faults words (Path.Element Key.Stores index) (spelled_store (view value.now))) e) }
 {
     let place = Path::Element {
-        field: Field::Stores,
+        key: Key::Stores,
         index,
     };
     let Some(spelled) = spelled_store(value) else {
-        return Err(JobError::Form(place));
+        return Err(JobRule::Form.at(place));
     };
     let Some(value) = word_of(spelled.text) else {
-        return Err(JobError::Digits(place));
+        return Err(JobRule::Digits.at(place));
     };
     if spelled.word >= u64::from(words) {
-        return Err(JobError::NoWord(place));
+        return Err(JobRule::NoWord.at(place));
     }
     Ok(PlannedStore {
         before: spelled.before,
@@ -92,17 +93,17 @@ fn each_store(alloc: Global, values: &[Value], words: u32) -> Result<Items<Plann
 /// The elements of `stores`; none where it is left out. J2: it is no list. J8: it has more than 65,536 elements. Takes
 /// no memory.
 fn listed_stores(job: &Value) -> Result<&[Value], JobError>
-    ensures ok { IfOk result (λ values. (words : ℕ) → stores_faults words (field_of Field.Stores (view job.now)) ≡ each_store_faults words 0 (items_view values.now)) }
+    ensures ok { IfOk result (λ values. (words : ℕ) → stores_faults words (field_of Key.Stores (view job.now)) ≡ each_store_faults words 0 (items_view values.now)) }
     ensures given { IfOk result (λ values. given_stores (view job.now) ≡ each_store (items_view values.now)) }
-    ensures err { IfErr result (λ e. (words : ℕ) → IsFirst (stores_faults words (field_of Field.Stores (view job.now))) e) }
+    ensures err { IfErr result (λ e. (words : ℕ) → IsFirst (stores_faults words (field_of Key.Stores (view job.now))) e) }
 {
-    let Some(value) = field_of(job, Field::Stores) else {
+    let Some(value) = field_of(job, Key::Stores) else {
         return Ok(&[]);
     };
     match value.as_array() {
-        None => Err(JobError::Form(Path::Named(Field::Stores))),
+        None => Err(JobRule::Form.at(Path::Whole(Key::Stores))),
         Some(values) => if values.len() > MOST_STORES {
-            Err(JobError::Limit(Path::Named(Field::Stores)))
+            Err(JobRule::Limit.at(Path::Whole(Key::Stores)))
         } else {
             Ok(values.as_slice())
         },
@@ -117,9 +118,9 @@ pub(crate) fn stores_of(
     job: &Value,
     words: u32,
 ) -> Result<Items<PlannedStore>, JobError>
-    ensures ok { IfOk result (λ stores. (stores_faults words (field_of Field.Stores (view job.now)) ≡ []) × (stores ≡ given_stores (view job.now))) }
+    ensures ok { IfOk result (λ stores. (stores_faults words (field_of Key.Stores (view job.now)) ≡ []) × (stores ≡ given_stores (view job.now))) }
     ensures inside { IfOk result (λ stores. All (λ s. s.word < words) stores) }
-    ensures err { IfErr result (λ e. (e ≡ JobError.NoMemory) ⊎ IsFirst (stores_faults words (field_of Field.Stores (view job.now))) e) }
+    ensures err { IfErr result (λ e. (e ≡ JobError.NoMemory) ⊎ IsFirst (stores_faults words (field_of Key.Stores (view job.now))) e) }
 {
     let values = listed_stores(job)?;
     each_store(alloc, values, words)

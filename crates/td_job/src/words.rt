@@ -1,6 +1,6 @@
 //! The words that bytes fill.
 
-ghost use Rattle.std.specs.Prelude.{◌≡◌, ◌+◌, ◌/◌, ◌<◌, ◌≤◌, ◌^◌, length, slice_index, IfOk, MatchOption};
+ghost use Rattle.std.specs.Prelude.{◌≡◌, ◌+◌, ◌*◌, ◌<◌, length, slice_index, IfOk};
 ghost use Rattle.td_num.specs.Numbers.{rising_at};
 ghost use Rattle.td_job.specs.Words.{IsFilled};
 
@@ -26,26 +26,12 @@ fn word_at(bytes: &[u8], start: usize) -> u64
     word
 }
 
-/// How many words so many bytes fill: an eighth of their number, rounded up. None: more than 32 bits number.
-fn word_count(bytes: usize) -> Option<u32>
-    ensures { MatchOption result (2 ^ 32 ≤ (bytes + 7) / 8) (λ count. count ≡ (bytes + 7) / 8) }
+/// The first words that bytes fill, this many, the byte of least weight first; zero bytes stand past the end of the bytes.
+/// `AllocError`: there was no memory for them.
+pub(crate) fn fill_words(alloc: Global, bytes: &[u8], count: u32) -> Result<Items<u64>, AllocError>
+    requires { 8 * count < length bytes.now + 8 }
+    ensures { IfOk result (λ words. IsFilled bytes.now count words) }
 {
-    let count = bytes.div_ceil(8);
-    if count > u32::MAX as usize {
-        return None;
-    }
-    Some(count as u32)
-}
-
-/// The words that bytes fill, the byte of least weight first, zero bytes making the last one whole. `AllocError`: there
-/// was no memory for them, or they are more than 32 bits number.
-pub(crate) fn fill_words(alloc: Global, bytes: &[u8]) -> Result<Items<u64>, AllocError>
-    ensures filled { IfOk result (λ words. IsFilled bytes.now words) }
-    ensures few { IfOk result (λ words. length words < 2 ^ 32) }
-{
-    let Some(count) = word_count(bytes.len()) else {
-        return Err(AllocError);
-    };
     let mut words = Items::new(alloc);
     for place in 0..count as usize {
         words.push(word_at(bytes, 8 * place))?;

@@ -7,7 +7,7 @@ use Rattle.td_lexer.specs.declared.error.LexError.{LexError}
 use Rattle.td_lexer.specs.declared.error.LexError.TheVariants.{NoMemory, BadByte, OpenComment, BigNumber}
 use Rattle.td_lexer.specs.Scanner.{tokens_of, Lexes}
 use Rattle.td_lexer.specs.Splits.{Splits, IsRefused, HasToken}
-use Rattle.td_lexer.specs.Steps.{Stops}
+use Rattle.td_lexer.specs.ScanSteps.{Stops}
 use Rattle.td_lexer.proofs.Splitting.{tokens_law, refusals_law}
 
 -- memory ran out at a token, or the text is refused for this cause

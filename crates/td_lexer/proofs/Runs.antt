@@ -1,4 +1,4 @@
--- Bytes of a sort at the front.
+-- Bytes of a sort at the beginning.
 use Rattle.std.proofs.Common.{◌≡◌, ℕ, suc, ◌+◌, ◌≤◌, Bool, true, false, cond, List, [], ◌∷◌, ◌++◌, length, take, drop, refl, arith}
 use Rattle.std.specs.List.{prefix_len}
 use Rattle.std.proofs.lemmas.List.Folds.{length-prefix_len}
@@ -34,7 +34,7 @@ module _ (sort : ℕ → Bool) where
       by_test true e ih = let one : 1 + prefix_len sort bytes ≡ suc (prefix_len sort bytes) = omega arith in rw one ih
       by_test false e ih = e
 
-  -- bytes of the sort are among those at the front
+  -- bytes of the sort are among those at the beginning
   pub run_least : (bytes rest : List ℕ) → every sort bytes ≡ true → length bytes ≤ run sort (bytes ++ rest)
   run_least bytes rest e = rw run_is (prefix_least bytes rest e)
 

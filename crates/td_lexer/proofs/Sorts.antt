@@ -6,7 +6,7 @@ use Rattle.std.proofs.lemmas.Bool.Decides.{nat_tests}
 use Rattle.std.proofs.lemmas.Slice.Eq.{bytes_eq-Decides}
 use Rattle.td_ast.specs.declared.token.TokenKind.{TokenKind}
 use Rattle.td_lexer.specs.Bytes.{is_blank, is_letter, is_digit, is_word_byte, is_marked_byte, is_hexadecimal, is_hexadecimal_mark, opens, every, first_is}
-use Rattle.td_lexer.specs.Spellings.{Entry, kind_in, or_else, definition_words, expression_words, number_types, marked_words, signs_of_two, operators, delimiters, keyword_kind, single_kind}
+use Rattle.td_lexer.specs.Spellings.{Entry, kind_in, or_else, definition_words, expression_words, number_types, marked_words, punctuation_of_two, operators, delimiters, keyword_kind, single_kind}
 use Rattle.td_lexer.proofs.Within.{and_left, and_right}
 
 pub letter_no_blank : (b : ℕ) → is_letter b ≡ true → is_blank b ≡ false
@@ -68,15 +68,15 @@ keyword_shape bytes kind e =
       ]
     ]
 
--- a byte with which a sign or a word with a mark may begin
-abbrev pub is_sign_byte : ℕ → Bool
-is_sign_byte b = not (is_blank b) && (not (is_letter b) && not (is_digit b))
+-- a byte with which punctuation or a word with a mark may begin
+abbrev pub is_punctuation_byte : ℕ → Bool
+is_punctuation_byte b = not (is_blank b) && (not (is_letter b) && not (is_digit b))
 
--- a mark, and behind it a colon and bytes of such a word, or such bytes alone
+-- a mark, and after it a colon and bytes of such a word, or such bytes alone
 abbrev pub is_marked_shape : List ℕ → Bool
 is_marked_shape [] = false
 is_marked_shape (a ∷ []) = false
-is_marked_shape (a ∷ b ∷ bytes) = opens a && (is_sign_byte a && (not (eqb a 47) && cond (eqb b 58) (every is_marked_byte bytes) (every is_marked_byte (b ∷ bytes))))
+is_marked_shape (a ∷ b ∷ bytes) = opens a && (is_punctuation_byte a && (not (eqb a 47) && cond (eqb b 58) (every is_marked_byte bytes) (every is_marked_byte (b ∷ bytes))))
 
 pub marked_shape : (bytes : List ℕ) (kind : TokenKind) → kind_in marked_words bytes ≡ Some kind → is_marked_shape bytes ≡ true
 marked_shape bytes kind e = kind_passes is_marked_shape marked_words bytes kind refl e
@@ -84,15 +84,15 @@ marked_shape bytes kind e = kind_passes is_marked_shape marked_words bytes kind 
 abbrev pub is_pair_shape : List ℕ → Bool
 is_pair_shape [] = false
 is_pair_shape (a ∷ []) = false
-is_pair_shape (a ∷ b ∷ []) = not (opens a) && (is_sign_byte a && not (eqb a 47))
+is_pair_shape (a ∷ b ∷ []) = not (opens a) && (is_punctuation_byte a && not (eqb a 47))
 is_pair_shape (a ∷ b ∷ c ∷ bytes) = false
 
-pub pair_shape : (bytes : List ℕ) (kind : TokenKind) → kind_in signs_of_two bytes ≡ Some kind → is_pair_shape bytes ≡ true
-pair_shape bytes kind e = kind_passes is_pair_shape signs_of_two bytes kind refl e
+pub pair_shape : (bytes : List ℕ) (kind : TokenKind) → kind_in punctuation_of_two bytes ≡ Some kind → is_pair_shape bytes ≡ true
+pair_shape bytes kind e = kind_passes is_pair_shape punctuation_of_two bytes kind refl e
 
 abbrev pub is_single_shape : List ℕ → Bool
 is_single_shape [] = false
-is_single_shape (a ∷ []) = is_sign_byte a
+is_single_shape (a ∷ []) = is_punctuation_byte a
 is_single_shape (a ∷ b ∷ bytes) = false
 
 pub single_shape : (bytes : List ℕ) (kind : TokenKind) → single_kind bytes ≡ Some kind → is_single_shape bytes ≡ true

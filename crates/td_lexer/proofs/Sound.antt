@@ -1,4 +1,4 @@
--- What stands at the front, in the language's words.
+-- What stands at the beginning, in the language's words.
 use Rattle.std.proofs.Common.{◌≡◌, ℕ, zero, suc, ◌+◌, ◌≤◌, ◌<◌, ◌^◌, Bool, true, false, cond, eqb, ltb, List, [], ◌∷◌, ◌++◌, length, take, drop, Option, Some, None, refl, sym, ap, ◌∙◌, arith, inl, inr}
 use Rattle.std.specs.Prelude.{◌&&◌, ◌⊎◌, codes}
 use Rattle.std.proofs.lemmas.Bool.{eqb-true, eq-eqb, ltb-true, ltb-false}
@@ -7,37 +7,37 @@ use Rattle.td_ast.specs.declared.token.Base.{Base}
 use Rattle.td_ast.specs.declared.token.Base.TheVariants.{Decimal, Hexadecimal}
 use Rattle.td_ast.specs.declared.token.TokenKind.{TokenKind}
 use Rattle.td_lexer.specs.Bytes.{is_blank, is_letter, is_digit, is_word_byte, is_marked_byte, is_hexadecimal, is_hexadecimal_mark, is_in_line, opens, every, first_is, run}
-use Rattle.td_lexer.specs.Spellings.{kind_in, keyword_kind, marked_words, signs_of_two, single_kind, or_else}
+use Rattle.td_lexer.specs.Spellings.{kind_in, keyword_kind, marked_words, punctuation_of_two, single_kind, or_else}
 use Rattle.td_lexer.specs.Numerals.{numeral_value}
-use Rattle.td_lexer.specs.declared.piece.Piece.{Piece}
-use Rattle.td_lexer.specs.declared.piece.Piece.TheVariants.{Passed, Found, Bad, Open, Big}
-use Rattle.td_lexer.specs.Scanner.{piece, word_piece, number_piece, sign_piece, name_or, number_ends, hexadecimal_digits, close_of, closed, marked_length, marked_kind, found_or}
+use Rattle.td_lexer.specs.declared.lexeme.Lexeme.{Lexeme}
+use Rattle.td_lexer.specs.declared.lexeme.Lexeme.TheVariants as lexemes
+use Rattle.td_lexer.specs.Scanner.{lexeme, word_lexeme, number_lexeme, punctuation_lexeme, name_or, number_ends, hexadecimal_digits, close_of, closed, marked_length, marked_kind, found_or}
 use Rattle.td_lexer.specs.Splits.{IsNumeral, Begins, IsPassed, IsOpenComment, IsBigNumber, GoesOn, is_comment_byte}
-use Rattle.td_lexer.specs.Splits.Begins.{keyword_begins, name_begins, number_begins, marked_begins, sign_begins}
+use Rattle.td_lexer.specs.Splits.Begins.{keyword_begins, name_begins, number_begins, marked_begins, punctuation_begins}
 use Rattle.td_lexer.specs.Splits.IsPassed.{blank_passes, line_passes, block_passes}
 use Rattle.td_lexer.proofs.Within.{and_left, and_right, and_false, run_within, run_some, marked_within, hexadecimal_within, no_pair}
 use Rattle.td_lexer.proofs.Runs.{run_every, run_stops}
 use Rattle.td_lexer.proofs.Closing.{Closes, close_found}
 use Rattle.td_lexer.proofs.Numeral.{numeral_within}
 
--- nothing but a word, a word with a mark or a sign may begin here
+-- nothing but a word, a word with a mark or punctuation may begin here
 abbrev pub Plain : List ℕ → Type 0
 Plain bytes =
     (0 < length bytes) × (first_is is_blank bytes ≡ false) × (first_is is_digit bytes ≡ false)
     × ((behind : List ℕ) → bytes ≡ codes "//" ++ behind → ⊥) × ((behind : List ℕ) → bytes ≡ codes "/*" ++ behind → ⊥)
 
-abbrev pub Sound : List ℕ → Piece → Type 0
-Sound bytes (Passed n) = (front rest : List ℕ) × (bytes ≡ front ++ rest) × (length front ≡ n) × IsPassed front rest
-Sound bytes (Found kind n) = (front rest : List ℕ) × (bytes ≡ front ++ rest) × (length front ≡ n) × Begins kind front rest
-Sound bytes (Bad n) = ((n ≡ 0) × Plain bytes) ⊎ GoesOn bytes n
-Sound bytes Open = IsOpenComment bytes
-Sound bytes Big = IsBigNumber bytes
+abbrev pub Sound : List ℕ → Lexeme → Type 0
+Sound bytes (lexemes.Trivia n) = (front rest : List ℕ) × (bytes ≡ front ++ rest) × (length front ≡ n) × IsPassed front rest
+Sound bytes (lexemes.Token kind n) = (front rest : List ℕ) × (bytes ≡ front ++ rest) × (length front ≡ n) × Begins kind front rest
+Sound bytes (lexemes.BadByte n) = ((n ≡ 0) × Plain bytes) ⊎ GoesOn bytes n
+Sound bytes lexemes.OpenComment = IsOpenComment bytes
+Sound bytes lexemes.BigNumber = IsBigNumber bytes
 
-cond_case : (P : Piece → Type 0) (b : Bool) (p q : Piece) → (b ≡ true → P p) → (b ≡ false → P q) → P (cond b p q)
+cond_case : (P : Lexeme → Type 0) (b : Bool) (p q : Lexeme) → (b ≡ true → P p) → (b ≡ false → P q) → P (cond b p q)
 cond_case P true p q f g = f refl
 cond_case P false p q f g = g refl
 
-found_case : (P : Piece → Type 0) (kind : Option TokenKind) (n : ℕ) (other : Piece) → ((k : TokenKind) → kind ≡ Some k → P (Found k n)) → (kind ≡ None → P other) → P (found_or kind n other)
+found_case : (P : Lexeme → Type 0) (kind : Option TokenKind) (n : ℕ) (other : Lexeme) → ((k : TokenKind) → kind ≡ Some k → P (lexemes.Token k n)) → (kind ≡ None → P other) → P (found_or kind n other)
 found_case P (Some k) n other f g = f k refl
 found_case P None n other f g = g refl
 
@@ -47,8 +47,8 @@ first_taken sort (suc n) a bytes pos e = e
 
 -- ---- words
 
-word_sound : (a : ℕ) (bytes : List ℕ) → is_letter a ≡ true → Sound (a ∷ bytes) (word_piece (a ∷ bytes))
-unfolding word_piece
+word_sound : (a : ℕ) (bytes : List ℕ) → is_letter a ≡ true → Sound (a ∷ bytes) (word_lexeme (a ∷ bytes))
+unfolding word_lexeme
 word_sound a bytes e =
     let n = run is_word_byte (a ∷ bytes) in
     let w = take n (a ∷ bytes) in (
@@ -70,9 +70,9 @@ module _ (base : Base) (n : ℕ) (bytes : List ℕ) (le : n ≤ length bytes) (n
   ends_sound =
       let same = sym (take-append-drop n bytes) in
       let len = length-take-le n bytes le in
-      cond_case (Sound bytes) (first_is is_word_byte (drop n bytes)) (Bad n) _
+      cond_case (Sound bytes) (first_is is_word_byte (drop n bytes)) (lexemes.BadByte n) _
       (λ on. inr (base, take n bytes, drop n bytes, same, len, numeral, on, λ other others behind e h. rw len (longest other others behind (e ∙ sym same) h)))
-      (λ ends. cond_case (Sound bytes) (ltb (numeral_value base (take n bytes)) (2 ^ 64)) _ Big
+      (λ ends. cond_case (Sound bytes) (ltb (numeral_value base (take n bytes)) (2 ^ 64)) _ lexemes.BigNumber
       (λ small. (take n bytes, drop n bytes, same, len, number_begins base numeral (ltb-true (numeral_value base (take n bytes)) (2 ^ 64) small) ends))
       (λ big. (base, take n bytes, drop n bytes, same, numeral, ltb-false (numeral_value base (take n bytes)) (2 ^ 64) big, ends)))
 
@@ -90,9 +90,9 @@ hexadecimal_numeral a (x ∷ bytes) pos = by_test (eqb a 48 && is_hexadecimal_ma
         (x, take n bytes, rw two (ap (λ (b : ℕ). b ∷ x ∷ take n bytes) zero_first), and_right (eqb a 48) (is_hexadecimal_mark x) e, rw len pos, run_every is_hexadecimal bytes)
     by_test false e pos = absurd (omega arith)
 
--- the number at the front of digits, which is the longest one
-pub number_longest : (a : ℕ) (bytes : List ℕ) → is_digit a ≡ true → (base : Base) × (n : ℕ) × (number_piece (a ∷ bytes) ≡ number_ends base n (a ∷ bytes)) × (n ≤ suc (length bytes)) × IsNumeral base (take n (a ∷ bytes)) × ((other : Base) (others behind : List ℕ) → others ++ behind ≡ a ∷ bytes → IsNumeral other others → length others ≤ n)
-unfolding number_piece
+-- the number at the beginning of digits, which is the longest one
+pub number_longest : (a : ℕ) (bytes : List ℕ) → is_digit a ≡ true → (base : Base) × (n : ℕ) × (number_lexeme (a ∷ bytes) ≡ number_ends base n (a ∷ bytes)) × (n ≤ suc (length bytes)) × IsNumeral base (take n (a ∷ bytes)) × ((other : Base) (others behind : List ℕ) → others ++ behind ≡ a ∷ bytes → IsNumeral other others → length others ≤ n)
+unfolding number_lexeme
 number_longest a bytes digit = by_test (eqb (hexadecimal_digits (a ∷ bytes)) 0) refl
   where
     positive : (n : ℕ) → eqb n 0 ≡ false → 0 < n
@@ -122,14 +122,14 @@ number_longest a bytes digit = by_test (eqb (hexadecimal_digits (a ∷ bytes)) 0
           λ other others behind same h. rw (same, e) at (numeral_within other others behind h),
         )
 
-number_sound : (a : ℕ) (bytes : List ℕ) → is_digit a ≡ true → Sound (a ∷ bytes) (number_piece (a ∷ bytes))
+number_sound : (a : ℕ) (bytes : List ℕ) → is_digit a ≡ true → Sound (a ∷ bytes) (number_lexeme (a ∷ bytes))
 number_sound a bytes digit =
     let longest = number_longest a bytes digit in
     rw longest.2 (ends_sound longest.0 longest.1 (a ∷ bytes) longest.3 longest.4 longest.5)
 
 -- ---- comments
 
-line_sound : (a : ℕ) (bytes : List ℕ) → (eqb a 47 && first_is (λ b. eqb b 47) bytes) ≡ true → Sound (a ∷ bytes) (Passed (2 + run is_in_line (drop 1 bytes)))
+line_sound : (a : ℕ) (bytes : List ℕ) → (eqb a 47 && first_is (λ b. eqb b 47) bytes) ≡ true → Sound (a ∷ bytes) (lexemes.Trivia (2 + run is_in_line (drop 1 bytes)))
 line_sound a [] e = absurd (cc (e, and_false (eqb a 47)))
 line_sound a (b ∷ bytes) e =
     let ea = eqb-true a 47 (and_left (eqb a 47) (eqb b 47) e) in
@@ -153,9 +153,9 @@ block_sound a (b ∷ bytes) e = by_close (close_of bytes) (close_found bytes)
         lengths : (body : List ℕ) → n ≡ length body + 2 → length (codes "/*" ++ body ++ codes "*/") ≡ n + 2
         lengths body count = simp length-append (omega arith)
 
--- ---- signs
+-- ---- punctuation
 
--- behind a word with a mark no byte of it follows
+-- after a word with a mark no byte of it follows
 marked_stops : (bytes : List ℕ) → first_is is_marked_byte (drop (marked_length bytes) bytes) ≡ false
 marked_stops [] = refl
 marked_stops (a ∷ []) = refl
@@ -179,22 +179,22 @@ or_else_left o other kind e = rw e refl
 pub or_else_right : (o other : Option TokenKind) → o ≡ None → or_else o other ≡ other
 or_else_right o other e = rw e refl
 
-sign_sound : (a : ℕ) (bytes : List ℕ) → Plain (a ∷ bytes) → (eqb a 47 && first_is (λ b. eqb b 47) bytes) ≡ false → (eqb a 47 && first_is (λ b. eqb b 42) bytes) ≡ false → Sound (a ∷ bytes) (sign_piece (a ∷ bytes))
-unfolding sign_piece
+sign_sound : (a : ℕ) (bytes : List ℕ) → Plain (a ∷ bytes) → (eqb a 47 && first_is (λ b. eqb b 47) bytes) ≡ false → (eqb a 47 && first_is (λ b. eqb b 42) bytes) ≡ false → Sound (a ∷ bytes) (punctuation_lexeme (a ∷ bytes))
+unfolding punctuation_lexeme
 sign_sound a bytes plain no_line no_block =
     let all = a ∷ bytes in
     let m = marked_within a bytes in
     found_case (Sound all) (marked_kind all) (marked_length all) _
     (λ kind e. (take (marked_length all) all, drop (marked_length all) all, sym (take-append-drop (marked_length all) all), length-take-le (marked_length all) all m.1, marked_begins (marked_is all kind e) (marked_stops all)))
-    (λ e. found_case (Sound all) (kind_in signs_of_two (take 2 all)) 2 _
+    (λ e. found_case (Sound all) (kind_in punctuation_of_two (take 2 all)) 2 _
     (λ kind e. pair bytes kind e)
-    (λ e. found_case (Sound all) (single_kind (take 1 all)) 1 (Bad 0)
-    (λ kind e. (a ∷ [], bytes, refl, refl, sign_begins (or_else_right (kind_in signs_of_two (a ∷ [])) (single_kind (a ∷ [])) (no_pair a) ∙ e) (λ slash. divides bytes slash no_line no_block)))
+    (λ e. found_case (Sound all) (single_kind (take 1 all)) 1 (lexemes.BadByte 0)
+    (λ kind e. (a ∷ [], bytes, refl, refl, punctuation_begins (or_else_right (kind_in punctuation_of_two (a ∷ [])) (single_kind (a ∷ [])) (no_pair a) ∙ e) (λ slash. divides bytes slash no_line no_block)))
     (λ e. inl (refl, plain))))
   where
-    pair : (bs : List ℕ) (kind : TokenKind) → kind_in signs_of_two (take 2 (a ∷ bs)) ≡ Some kind → Sound (a ∷ bs) (Found kind 2)
+    pair : (bs : List ℕ) (kind : TokenKind) → kind_in punctuation_of_two (take 2 (a ∷ bs)) ≡ Some kind → Sound (a ∷ bs) (lexemes.Token kind 2)
     pair [] kind e = absurd (cc (e, no_pair a))
-    pair (b ∷ bs) kind e = (a ∷ b ∷ [], bs, refl, refl, sign_begins (or_else_left (kind_in signs_of_two (a ∷ b ∷ [])) (single_kind (a ∷ b ∷ [])) kind e) (λ slash. absurd (omega (arith, ap (λ (l : List ℕ). length l) slash))))
+    pair (b ∷ bs) kind e = (a ∷ b ∷ [], bs, refl, refl, punctuation_begins (or_else_left (kind_in punctuation_of_two (a ∷ b ∷ [])) (single_kind (a ∷ b ∷ [])) kind e) (λ slash. absurd (omega (arith, ap (λ (l : List ℕ). length l) slash))))
 
     divides : (bs : List ℕ) → a ∷ [] ≡ codes "/" → (eqb a 47 && first_is (λ b. eqb b 47) bs) ≡ false → (eqb a 47 && first_is (λ b. eqb b 42) bs) ≡ false → first_is is_comment_byte bs ≡ false
     divides [] slash f g = refl
@@ -214,14 +214,14 @@ no_start x a y (b ∷ bytes) behind f e =
     both true false ep eq f = cc
     both false q ep eq f = cc
 
-pub piece_sound : (bytes : List ℕ) → 0 < length bytes → Sound bytes (piece bytes)
-unfolding piece
-piece_sound [] pos = absurd (omega arith)
-piece_sound (a ∷ bytes) pos =
+pub lexeme_sound : (bytes : List ℕ) → 0 < length bytes → Sound bytes (lexeme bytes)
+unfolding lexeme
+lexeme_sound [] pos = absurd (omega arith)
+lexeme_sound (a ∷ bytes) pos =
     let P = Sound (a ∷ bytes) in
-    cond_case P (is_blank a) (Passed 1) _ (λ blank. (a ∷ [], bytes, refl, refl, blank_passes blank)) (λ no_blank.
-    cond_case P (is_letter a) (word_piece (a ∷ bytes)) _ (λ letter. word_sound a bytes letter) (λ no_letter.
-    cond_case P (is_digit a) (number_piece (a ∷ bytes)) _ (λ digit. number_sound a bytes digit) (λ no_digit.
-    cond_case P (eqb a 47 && first_is (λ b. eqb b 47) bytes) (Passed (2 + run is_in_line (drop 1 bytes))) _ (λ line. line_sound a bytes line) (λ no_line.
-    cond_case P (eqb a 47 && first_is (λ b. eqb b 42) bytes) (closed (close_of (drop 1 bytes))) (sign_piece (a ∷ bytes)) (λ block. block_sound a bytes block) (λ no_block.
+    cond_case P (is_blank a) (lexemes.Trivia 1) _ (λ blank. (a ∷ [], bytes, refl, refl, blank_passes blank)) (λ no_blank.
+    cond_case P (is_letter a) (word_lexeme (a ∷ bytes)) _ (λ letter. word_sound a bytes letter) (λ no_letter.
+    cond_case P (is_digit a) (number_lexeme (a ∷ bytes)) _ (λ digit. number_sound a bytes digit) (λ no_digit.
+    cond_case P (eqb a 47 && first_is (λ b. eqb b 47) bytes) (lexemes.Trivia (2 + run is_in_line (drop 1 bytes))) _ (λ line. line_sound a bytes line) (λ no_line.
+    cond_case P (eqb a 47 && first_is (λ b. eqb b 42) bytes) (closed (close_of (drop 1 bytes))) (punctuation_lexeme (a ∷ bytes)) (λ block. block_sound a bytes block) (λ no_block.
     sign_sound a bytes (pos, no_blank, no_digit, λ behind e. no_start 47 a 47 bytes behind no_line e, λ behind e. no_start 47 a 42 bytes behind no_block e) no_line no_block)))))

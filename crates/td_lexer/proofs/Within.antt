@@ -1,4 +1,4 @@
--- A piece is within the bytes.
+-- A lexeme is within the bytes.
 use Rattle.std.proofs.Common.{◌≡◌, ℕ, suc, ◌+◌, ◌≤◌, ◌<◌, Bool, true, false, cond, eqb, ltb, ◌^◌, List, [], ◌∷◌, length, take, drop, Option, Some, None, refl, arith, length-drop, length-take}
 use Rattle.std.specs.Prelude.{IfSome, ◌&&◌}
 use Rattle.std.proofs.lemmas.List.Sums.{take_while-cons}
@@ -6,12 +6,12 @@ use Rattle.td_ast.specs.declared.token.TokenKind.{TokenKind}
 use Rattle.td_ast.specs.declared.token.Base.{Base}
 use Rattle.td_ast.specs.declared.token.Base.TheVariants.{Decimal, Hexadecimal}
 use Rattle.td_lexer.specs.Bytes.{is_blank, is_letter, is_digit, is_word_byte, is_marked_byte, is_hexadecimal, is_hexadecimal_mark, is_in_line, first_is, run}
-use Rattle.td_lexer.specs.Spellings.{kind_in, signs_of_two, single_kind}
-use Rattle.td_lexer.specs.declared.piece.Piece.{Piece}
-use Rattle.td_lexer.specs.declared.piece.Piece.TheVariants.{Passed, Bad, Big}
+use Rattle.td_lexer.specs.Spellings.{kind_in, punctuation_of_two, single_kind}
+use Rattle.td_lexer.specs.declared.lexeme.Lexeme.{Lexeme}
+use Rattle.td_lexer.specs.declared.lexeme.Lexeme.TheVariants as lexemes
 use Rattle.td_lexer.specs.Numerals.{numeral_value}
-use Rattle.td_lexer.specs.Scanner.{piece, close_of, closes, closed, one_more, word_piece, number_piece, sign_piece, number_ends, hexadecimal_digits, marked_length, marked_kind, found_or}
-use Rattle.td_lexer.specs.Steps.{IsWithin}
+use Rattle.td_lexer.specs.Scanner.{lexeme, close_of, closes, closed, one_more, word_lexeme, number_lexeme, punctuation_lexeme, number_ends, hexadecimal_digits, marked_length, marked_kind, found_or}
+use Rattle.td_lexer.specs.ScanSteps.{IsWithin}
 
 pub and_false : (b : Bool) → (b && false) ≡ false
 and_false true = refl
@@ -29,7 +29,7 @@ pub and_left : (b c : Bool) → (b && c) ≡ true → b ≡ true
 and_left true c e = refl
 and_left false c e = absurd cc
 
-cond_within : (n : ℕ) (b : Bool) (p q : Piece) → (b ≡ true → IsWithin n p) → (b ≡ false → IsWithin n q) → IsWithin n (cond b p q)
+cond_within : (n : ℕ) (b : Bool) (p q : Lexeme) → (b ≡ true → IsWithin n p) → (b ≡ false → IsWithin n q) → IsWithin n (cond b p q)
 cond_within n true p q f g = f refl
 cond_within n false p q f g = g refl
 
@@ -40,7 +40,7 @@ pub run_some : (sort : ℕ → Bool) (b : ℕ) (bytes : List ℕ) → sort b ≡
 run_some sort b bytes e = rw (take_while-cons, e) (omega arith)
 
 ends_within : (n : ℕ) (base : Base) (len : ℕ) (bytes : List ℕ) → 0 < len → len ≤ n → IsWithin n (number_ends base len bytes)
-ends_within n base len bytes pos le = cond_within n (first_is is_word_byte (drop len bytes)) (Bad len) _ (λ e. le) (λ e. cond_within n (ltb (numeral_value base (take len bytes)) (2 ^ 64)) _ Big (λ e. (pos, le)) (λ e. tt))
+ends_within n base len bytes pos le = cond_within n (first_is is_word_byte (drop len bytes)) (lexemes.BadByte len) _ (λ e. le) (λ e. cond_within n (ltb (numeral_value base (take len bytes)) (2 ^ 64)) _ lexemes.BigNumber (λ e. (pos, le)) (λ e. tt))
 
 -- where a first byte is of a sort there is one
 pub first_there : (c : Bool) (sort : ℕ → Bool) (bytes : List ℕ) → (c && first_is sort bytes) ≡ true → 0 < length bytes
@@ -76,8 +76,8 @@ hexadecimal_within (a ∷ bytes) pos = by_test (eqb a 48 && first_is is_hexadeci
     by_test true there pos = let long : 0 < length bytes = there refl in let le = run_within is_hexadecimal (drop 1 bytes) in omega (arith, length-drop 1 bytes)
     by_test false there pos = absurd (omega arith)
 
-number_within : (a : ℕ) (bytes : List ℕ) → is_digit a ≡ true → IsWithin (suc (length bytes)) (number_piece (a ∷ bytes))
-unfolding number_piece
+number_within : (a : ℕ) (bytes : List ℕ) → is_digit a ≡ true → IsWithin (suc (length bytes)) (number_lexeme (a ∷ bytes))
+unfolding number_lexeme
 number_within a bytes digit =
     let n = hexadecimal_digits (a ∷ bytes) in
     cond_within (suc (length bytes)) (eqb n 0) _ _
@@ -92,33 +92,33 @@ marked_within a (b ∷ bytes) = by_test (eqb b 58)
     by_test true = let le = run_within is_marked_byte bytes in (omega arith, omega arith)
     by_test false = let le : run is_marked_byte (b ∷ bytes) ≤ suc (length bytes) = run_within is_marked_byte (b ∷ bytes) in (omega arith, omega arith)
 
-found_within : (len : ℕ) (kind : Option TokenKind) (n : ℕ) (other : Piece) → 0 < n → ((k : TokenKind) → kind ≡ Some k → n ≤ len) → IsWithin len other → IsWithin len (found_or kind n other)
+found_within : (len : ℕ) (kind : Option TokenKind) (n : ℕ) (other : Lexeme) → 0 < n → ((k : TokenKind) → kind ≡ Some k → n ≤ len) → IsWithin len other → IsWithin len (found_or kind n other)
 found_within len (Some k) n other pos le h = (pos, le k refl)
 found_within len None n other pos le h = h
 
-pub no_pair : (a : ℕ) → kind_in signs_of_two (a ∷ []) ≡ None
+pub no_pair : (a : ℕ) → kind_in punctuation_of_two (a ∷ []) ≡ None
 no_pair a = simp and_false
 
-sign_within : (a : ℕ) (bytes : List ℕ) → IsWithin (suc (length bytes)) (sign_piece (a ∷ bytes))
-unfolding sign_piece
+sign_within : (a : ℕ) (bytes : List ℕ) → IsWithin (suc (length bytes)) (punctuation_lexeme (a ∷ bytes))
+unfolding punctuation_lexeme
 sign_within a bytes =
     let m = marked_within a bytes in
     found_within (suc (length bytes)) (marked_kind (a ∷ bytes)) (marked_length (a ∷ bytes)) _ m.0 (λ k e. m.1)
-    (found_within (suc (length bytes)) (kind_in signs_of_two (take 2 (a ∷ bytes))) 2 _ (omega arith) (two bytes)
-    (found_within (suc (length bytes)) (single_kind (take 1 (a ∷ bytes))) 1 (Bad 0) (omega arith) (λ k e. omega arith) (omega arith)))
+    (found_within (suc (length bytes)) (kind_in punctuation_of_two (take 2 (a ∷ bytes))) 2 _ (omega arith) (two bytes)
+    (found_within (suc (length bytes)) (single_kind (take 1 (a ∷ bytes))) 1 (lexemes.BadByte 0) (omega arith) (λ k e. omega arith) (omega arith)))
   where
-    two : (bs : List ℕ) (k : TokenKind) → kind_in signs_of_two (take 2 (a ∷ bs)) ≡ Some k → 2 ≤ suc (length bs)
+    two : (bs : List ℕ) (k : TokenKind) → kind_in punctuation_of_two (take 2 (a ∷ bs)) ≡ Some k → 2 ≤ suc (length bs)
     two [] k e = absurd (cc (e, no_pair a))
     two (b ∷ bs) k e = omega arith
 
-pub piece_within : (bytes : List ℕ) → 0 < length bytes → IsWithin (length bytes) (piece bytes)
-unfolding piece word_piece
-piece_within [] pos = absurd (omega arith)
-piece_within (a ∷ bytes) pos =
+pub lexeme_within : (bytes : List ℕ) → 0 < length bytes → IsWithin (length bytes) (lexeme bytes)
+unfolding lexeme word_lexeme
+lexeme_within [] pos = absurd (omega arith)
+lexeme_within (a ∷ bytes) pos =
     let n = suc (length bytes) in
-    cond_within n (is_blank a) (Passed 1) _ (λ e. (omega arith, omega arith)) (λ e.
-    cond_within n (is_letter a) (word_piece (a ∷ bytes)) _ (λ e. (run_some is_word_byte a bytes (rw e refl), run_within is_word_byte (a ∷ bytes))) (λ e.
-    cond_within n (is_digit a) (number_piece (a ∷ bytes)) _ (λ e. number_within a bytes e) (λ e.
-    cond_within n (eqb a 47 && first_is (λ b. eqb b 47) bytes) (Passed (2 + run is_in_line (drop 1 bytes))) _ (λ e'. (omega arith, line_within bytes (first_there (eqb a 47) (λ b. eqb b 47) bytes e'))) (λ e'.
-    cond_within n (eqb a 47 && first_is (λ b. eqb b 42) bytes) (closed (close_of (drop 1 bytes))) (sign_piece (a ∷ bytes)) (λ e''. closed_within bytes (close_of (drop 1 bytes)) (first_there (eqb a 47) (λ b. eqb b 42) bytes e'') (close_within (drop 1 bytes))) (λ e''.
+    cond_within n (is_blank a) (lexemes.Trivia 1) _ (λ e. (omega arith, omega arith)) (λ e.
+    cond_within n (is_letter a) (word_lexeme (a ∷ bytes)) _ (λ e. (run_some is_word_byte a bytes (rw e refl), run_within is_word_byte (a ∷ bytes))) (λ e.
+    cond_within n (is_digit a) (number_lexeme (a ∷ bytes)) _ (λ e. number_within a bytes e) (λ e.
+    cond_within n (eqb a 47 && first_is (λ b. eqb b 47) bytes) (lexemes.Trivia (2 + run is_in_line (drop 1 bytes))) _ (λ e'. (omega arith, line_within bytes (first_there (eqb a 47) (λ b. eqb b 47) bytes e'))) (λ e'.
+    cond_within n (eqb a 47 && first_is (λ b. eqb b 42) bytes) (closed (close_of (drop 1 bytes))) (punctuation_lexeme (a ∷ bytes)) (λ e''. closed_within bytes (close_of (drop 1 bytes)) (first_there (eqb a 47) (λ b. eqb b 42) bytes e'') (close_within (drop 1 bytes))) (λ e''.
     sign_within a bytes)))))

@@ -17,7 +17,7 @@ is_letter b = (nat_le 97 b && nat_le b 122) || (nat_le 65 b && nat_le b 90) || b
 abbrev pub is_word_byte : ℕ → Bool
 is_word_byte b = is_letter b || is_digit b
 
--- a byte that a word behind a bracket may go on with: a letter, a digit, `_` or `-`
+-- a byte that a word after a bracket may go on with: a letter, a digit, `_` or `-`
 abbrev pub is_marked_byte : ℕ → Bool
 is_marked_byte b = is_word_byte b || b == 45
 
@@ -47,7 +47,7 @@ abbrev pub first_is : (ℕ → Bool) → List ℕ → Bool
 first_is sort [] = false
 first_is sort (b ∷ bytes) = sort b
 
--- how many bytes of a sort stand at the front
+-- how many bytes of a sort stand at the beginning
 abbrev pub run : (ℕ → Bool) → List ℕ → ℕ
 run sort bytes = length (take_while sort bytes)
 

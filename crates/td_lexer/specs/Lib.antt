@@ -3,4 +3,4 @@ pub mod Numerals
 pub mod Scanner
 pub mod Spellings
 pub mod Splits
-pub mod Steps
+pub mod ScanSteps

@@ -60,9 +60,9 @@ marked_words =
     ∷ (codes "[:byte-size-single-element-array", SingleElement)
     ∷ (codes "[:zeroterm-byte-size-at-most", Zeroterm) ∷ []
 
--- signs of two bytes
-abbrev pub signs_of_two : List Entry
-signs_of_two =
+-- punctuation of two bytes
+abbrev pub punctuation_of_two : List Entry
+punctuation_of_two =
     (codes "&&", AndAnd) ∷ (codes "||", OrOr) ∷ (codes "==", EqualEqual) ∷ (codes "!=", NotEqual)
     ∷ (codes "<=", LessEqual) ∷ (codes ">=", GreaterEqual) ∷ (codes "<<", ShiftLeft) ∷ (codes ">>", ShiftRight)
     ∷ (codes "->", Arrow) ∷ []
@@ -75,7 +75,7 @@ operators =
     ∷ (codes "~", Tilde) ∷ (codes "!", Bang) ∷ (codes "<", Less) ∷ (codes ">", Greater)
     ∷ (codes "=", Assign) ∷ []
 
--- the other signs of one byte
+-- the other punctuation of one byte
 abbrev pub delimiters : List Entry
 delimiters =
     (codes "?", Question) ∷ (codes ":", Colon) ∷ (codes ";", Semicolon) ∷ (codes ",", Comma)
@@ -86,14 +86,14 @@ delimiters =
 abbrev pub keyword_kind : List ℕ → Option TokenKind
 keyword_kind word = or_else (kind_in definition_words word) (or_else (kind_in expression_words word) (kind_in number_types word))
 
--- the sign of one byte that bytes spell
+-- the punctuation of one byte that bytes spell
 abbrev pub single_kind : List ℕ → Option TokenKind
 single_kind bytes = or_else (kind_in operators bytes) (kind_in delimiters bytes)
 
--- the sign that bytes spell
-abbrev pub sign_kind : List ℕ → Option TokenKind
-sign_kind bytes = or_else (kind_in signs_of_two bytes) (single_kind bytes)
+-- the punctuation that bytes spell
+abbrev pub punctuation_kind : List ℕ → Option TokenKind
+punctuation_kind bytes = or_else (kind_in punctuation_of_two bytes) (single_kind bytes)
 
 -- the token that bytes spell by one of the tables
 abbrev pub fixed_kind : List ℕ → Option TokenKind
-fixed_kind bytes = or_else (keyword_kind bytes) (or_else (kind_in marked_words bytes) (sign_kind bytes))
+fixed_kind bytes = or_else (keyword_kind bytes) (or_else (kind_in marked_words bytes) (punctuation_kind bytes))

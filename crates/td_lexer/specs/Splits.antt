@@ -1,5 +1,5 @@
 -- The splitting of a text into tokens, as the rules of the language have it (the grammar's page, "Tokens"). The text
--- is blanks, comments and spellings of tokens, one behind the other. At each place the longest token is taken.
+-- is white space, comments and spellings of tokens, one after the other. At each place the longest token is taken.
 use Rattle.std.specs.Prelude.{◌≡◌, ℕ, ◌+◌, ◌^◌, ◌<◌, ◌≤◌, ◌++◌, ◌⊎◌, Bool, true, false, ◌||◌, ◌==◌, List, [], ◌∷◌, length, Some, None, codes}
 use Rattle.td_ast.specs.declared.token.Token.{Token}
 use Rattle.td_ast.specs.declared.token.TokenKind.{TokenKind}
@@ -9,7 +9,7 @@ use Rattle.td_ast.specs.declared.token.Base.TheVariants.{Decimal, Hexadecimal}
 use Rattle.td_lexer.specs.declared.error.LexError.{LexError}
 use Rattle.td_lexer.specs.declared.error.LexError.TheVariants.{NoMemory, BadByte, OpenComment, BigNumber}
 use Rattle.td_lexer.specs.Bytes.{is_blank, is_letter, is_digit, is_word_byte, is_marked_byte, is_hexadecimal, is_hexadecimal_mark, is_in_line, every, first_is}
-use Rattle.td_lexer.specs.Spellings.{kind_in, keyword_kind, marked_words, sign_kind}
+use Rattle.td_lexer.specs.Spellings.{kind_in, keyword_kind, marked_words, punctuation_kind}
 use Rattle.td_lexer.specs.Numerals.{numeral_value}
 
 -- ---- tokens
@@ -28,14 +28,14 @@ abbrev pub is_comment_byte : ℕ → Bool
 is_comment_byte b = b == 47 || b == 42
 
 -- A token of a kind begins with these bytes, before the rest. A number stands only where no letter, digit or `_`
--- follows, a word behind `#`, `{` or `[` only where none of these nor `-` does, and the sign `/` only where neither
+-- follows, a word after `#`, `{` or `[` only where none of these nor `-` does, and the punctuation `/` only where neither
 -- `/` nor `*` does.
 pub data Begins : TokenKind → List ℕ → List ℕ → Type 0 where
   keyword_begins : {kind : TokenKind} {bytes rest : List ℕ} → keyword_kind bytes ≡ Some kind → Begins kind bytes rest
   name_begins : {bytes rest : List ℕ} → IsName bytes → Begins (Name bytes) bytes rest
   number_begins : {bytes rest : List ℕ} (base : Base) → IsNumeral base bytes → numeral_value base bytes < 2 ^ 64 → first_is is_word_byte rest ≡ false → Begins (Number (numeral_value base bytes) base) bytes rest
   marked_begins : {kind : TokenKind} {bytes rest : List ℕ} → kind_in marked_words bytes ≡ Some kind → first_is is_marked_byte rest ≡ false → Begins kind bytes rest
-  sign_begins : {kind : TokenKind} {bytes rest : List ℕ} → sign_kind bytes ≡ Some kind → (bytes ≡ codes "/" → first_is is_comment_byte rest ≡ false) → Begins kind bytes rest
+  punctuation_begins : {kind : TokenKind} {bytes rest : List ℕ} → punctuation_kind bytes ≡ Some kind → (bytes ≡ codes "/" → first_is is_comment_byte rest ≡ false) → Begins kind bytes rest
 
 -- the token that stands here: one that begins, where no longer one does
 abbrev pub Stands : TokenKind → List ℕ → List ℕ → Type 0
@@ -43,9 +43,9 @@ Stands kind bytes rest =
     Begins kind bytes rest
     × ((other : TokenKind) (others after : List ℕ) → others ++ after ≡ bytes ++ rest → Begins other others after → length others ≤ length bytes)
 
--- ---- blanks and comments
+-- ---- white space and comments
 
--- Bytes before the rest that are no token: a blank; `//` and all up to the line's end; `/*` and all up to and with
+-- Bytes before the rest that are no token: white space; `//` and all up to the line's end; `/*` and all up to and with
 -- the first `*/`.
 pub data IsPassed : List ℕ → List ℕ → Type 0 where
   blank_passes : {b : ℕ} {rest : List ℕ} → is_blank b ≡ true → IsPassed (b ∷ []) rest
@@ -54,17 +54,17 @@ pub data IsPassed : List ℕ → List ℕ → Type 0 where
 
 -- ---- the text
 
--- From a place on, the bytes split into blanks, comments and these tokens, up to a place where the last bytes stand.
+-- From a place on, the bytes split into white space, comments and these tokens, up to a place where the last bytes stand.
 pub data SplitsUpTo : ℕ → List ℕ → List Token → ℕ → List ℕ → Type 0 where
   splits_here : {at : ℕ} {bytes : List ℕ} → SplitsUpTo at bytes [] at bytes
   splits_passed : {at to : ℕ} {bytes rest last : List ℕ} {tokens : List Token} → IsPassed bytes rest → SplitsUpTo (at + length bytes) rest tokens to last → SplitsUpTo at (bytes ++ rest) tokens to last
   splits_token : {at to : ℕ} {bytes rest last : List ℕ} {kind : TokenKind} {tokens : List Token} → Stands kind bytes rest → SplitsUpTo (at + length bytes) rest tokens to last → SplitsUpTo at (bytes ++ rest) (record { kind = kind; span = record { from = at; to = at + length bytes } } ∷ tokens) to last
 
--- the text splits into blanks, comments and these tokens, each with its span
+-- the text splits into white space, comments and these tokens, each with its span
 abbrev pub Splits : List ℕ → List Token → Type 0
 Splits text tokens = (to : ℕ) × SplitsUpTo 0 text tokens to []
 
--- a front of the text splits into blanks, comments and a token or more
+-- a prefix of the text splits into white space, comments and a token or more
 abbrev pub HasToken : List ℕ → Type 0
 HasToken text = (tokens : List Token) × (at : ℕ) × (rest : List ℕ) × SplitsUpTo 0 text tokens at rest × (0 < length tokens)
 
@@ -83,7 +83,7 @@ abbrev pub GoesOn : List ℕ → ℕ → Type 0
 GoesOn rest len = (base : Base) × (bytes after : List ℕ) × (rest ≡ bytes ++ after) × (length bytes ≡ len) × IsNumeral base bytes × (first_is is_word_byte after ≡ true)
     × ((other : Base) (others behind : List ℕ) → others ++ behind ≡ bytes ++ after → IsNumeral other others → length others ≤ length bytes)
 
--- there are bytes, but no blank, comment, number or other token begins
+-- there are bytes, but no white space, comment, number or other token begins
 abbrev pub IsNothing : List ℕ → Type 0
 IsNothing rest =
     (0 < length rest) × (first_is is_blank rest ≡ false) × (first_is is_digit rest ≡ false)

@@ -1,4 +1,4 @@
-//! Sorts of bytes, and how many of a sort stand at the front.
+//! Sorts of bytes, and how many of a sort stand at the beginning.
 
 ghost use Rattle.std.specs.Prelude.{◌≡◌, ◌≤◌, length};
 ghost use Rattle.td_lexer.specs.Bytes as sorts;
@@ -39,7 +39,7 @@ fn is_hexadecimal(b: u8) -> bool
     is_digit(b) || (b'a' <= b && b <= b'f') || (b'A' <= b && b <= b'F')
 }
 
-/// Whether a word behind a bracket may go on with a byte.
+/// Whether a word after a bracket may go on with a byte.
 fn is_marked_byte(b: u8) -> bool
     ensures { result ≡ sorts.is_marked_byte b }
 {
@@ -53,7 +53,7 @@ pub(crate) fn opens(b: u8) -> bool
     b == b'#' || b == b'{' || b == b'['
 }
 
-/// How many bytes of a word stand at the front.
+/// How many bytes of a word stand at the beginning.
 pub(crate) fn word_run(bytes: &[u8]) -> usize
     ensures run { result ≡ run sorts.is_word_byte bytes.now }
     ensures within { result ≤ length bytes.now }
@@ -61,7 +61,7 @@ pub(crate) fn word_run(bytes: &[u8]) -> usize
     bytes.iter().take_while(|b| is_word_byte(**b)).count()
 }
 
-/// How many bytes of a word behind a bracket stand at the front.
+/// How many bytes of a word after a bracket stand at the beginning.
 pub(crate) fn marked_run(bytes: &[u8]) -> usize
     ensures run { result ≡ run sorts.is_marked_byte bytes.now }
     ensures within { result ≤ length bytes.now }
@@ -69,7 +69,7 @@ pub(crate) fn marked_run(bytes: &[u8]) -> usize
     bytes.iter().take_while(|b| is_marked_byte(**b)).count()
 }
 
-/// How many decimal digits stand at the front.
+/// How many decimal digits stand at the beginning.
 pub(crate) fn digit_run(bytes: &[u8]) -> usize
     ensures run { result ≡ run sorts.is_digit bytes.now }
     ensures within { result ≤ length bytes.now }
@@ -77,7 +77,7 @@ pub(crate) fn digit_run(bytes: &[u8]) -> usize
     bytes.iter().take_while(|b| is_digit(**b)).count()
 }
 
-/// How many hexadecimal digits stand at the front.
+/// How many hexadecimal digits stand at the beginning.
 pub(crate) fn hexadecimal_run(bytes: &[u8]) -> usize
     ensures run { result ≡ run sorts.is_hexadecimal bytes.now }
     ensures within { result ≤ length bytes.now }
@@ -93,7 +93,7 @@ pub(crate) fn line_run(bytes: &[u8]) -> usize
     bytes.iter().take_while(|b| **b != b'\n').count()
 }
 
-/// Whether a word goes on at the front.
+/// Whether a word goes on at the beginning.
 pub(crate) fn goes_on(bytes: &[u8]) -> bool
     ensures { result ≡ sorts.first_is sorts.is_word_byte bytes.now }
 {

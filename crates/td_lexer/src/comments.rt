@@ -3,9 +3,9 @@
 ghost use Rattle.std.specs.Prelude.{◌≡◌, ◌≤◌, ◌<◌, ◌^◌, IfSome, length};
 ghost use Rattle.td_lexer.specs.Scanner as scanner;
 
-use crate::piece::Piece;
+use crate::lexeme::Lexeme;
 
-/// Whether a comment's end stands at the front.
+/// Whether a comment's end stands at the beginning.
 fn closes(bytes: &[u8]) -> bool
     ensures { result ≡ scanner.closes bytes.now }
 {
@@ -34,13 +34,13 @@ fn close_of(bytes: &[u8]) -> Option<usize>
     None
 }
 
-/// The comment of which these bytes stand behind its `/*`.
-pub(crate) fn block_piece(bytes: &[u8]) -> Piece
+/// The comment of which these bytes stand after its `/*`.
+pub(crate) fn block_lexeme(bytes: &[u8]) -> Lexeme
     requires { length bytes.now < 2 ^ 32 }
     ensures { result ≡ scanner.closed (scanner.close_of bytes.now) }
 {
     match close_of(bytes) {
-        Some(n) => Piece::Passed(n + 2),
-        None => Piece::Open,
+        Some(n) => Lexeme::Trivia(n + 2),
+        None => Lexeme::OpenComment,
     }
 }

@@ -6,7 +6,7 @@ use thiserror::Error;
 /// Why a text has no tokens. Places are in bytes, from 0.
 #[derive(Clone, Copy, PartialEq, Eq, Debug, Drop, Error)]
 pub enum LexError {
-    /// No blank, comment or token begins with this byte, or it is a letter, a digit or `_` directly behind a number.
+    /// No blank, comment or token begins with this byte, or it is a letter, a digit or `_` directly after a number.
     #[error("bad byte")]
     BadByte { at: u32 },
     /// A comment that begins here with `/*` has no end.
@@ -15,7 +15,7 @@ pub enum LexError {
     /// The number that begins here is 2^64 or more.
     #[error("number too large")]
     BigNumber { at: u32 },
-    /// There was no memory for the tokens.
+    /// Out of memory for the tokens.
     #[error("out of memory")]
     NoMemory,
 }

@@ -5,12 +5,13 @@
 mod bytes;
 mod comments;
 mod error;
+mod keywords;
 mod law;
+mod lexeme;
 mod lexing;
 mod numbers;
-mod piece;
-mod signs;
-mod words;
+mod punctuation;
+mod table;
 
 pub use error::LexError;
 pub use law::tokens_are_the_splitting;

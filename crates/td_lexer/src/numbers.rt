@@ -6,19 +6,19 @@ ghost use Rattle.td_lexer.specs.Numerals as numerals;
 ghost use Rattle.td_lexer.specs.Scanner as scanner;
 
 use crate::bytes::{digit_run, goes_on, hexadecimal_run};
-use crate::piece::Piece;
+use crate::lexeme::Lexeme;
 use td_ast::token::{Base, TokenKind};
 
 /// The value of a digit, a hexadecimal one in either case.
 fn digit_value(b: u8) -> u64
     ensures { result ≡ sorts.digit_value b }
 {
-    if b < 65 {
-        u64::from(b.saturating_sub(48))
-    } else if b < 97 {
-        u64::from(b - 55)
+    if b < b'A' {
+        u64::from(b.saturating_sub(b'0'))
+    } else if b < b'a' {
+        u64::from(b - (b'A' - 10))
     } else {
-        u64::from(b - 87)
+        u64::from(b - (b'a' - 10))
     }
 }
 
@@ -50,21 +50,21 @@ fn numeral_value(base: Base, spelling: &[u8]) -> Option<u64>
     }
 }
 
-/// The piece for a number in a base, which is the first so many of the bytes.
-fn number_ends(base: Base, len: usize, bytes: &[u8]) -> Piece
+/// The lexeme for a number in a base, which is the first so many of the bytes.
+fn number_ends(base: Base, len: usize, bytes: &[u8]) -> Lexeme
     requires { len ≤ length bytes.now }
     ensures { result ≡ scanner.number_ends base len bytes.now }
 {
     if goes_on(&bytes[len..]) {
-        return Piece::Bad(len);
+        return Lexeme::BadByte(len);
     }
     match numeral_value(base, &bytes[..len]) {
-        Some(n) => Piece::Found(TokenKind::Number(n, base), len),
-        None => Piece::Big,
+        Some(n) => Lexeme::Token(TokenKind::Number(n, base), len),
+        None => Lexeme::BigNumber,
     }
 }
 
-/// How many hexadecimal digits stand behind `0x` or `0X`; 0 where neither stands at the front.
+/// How many hexadecimal digits stand after `0x` or `0X`; 0 where neither stands at the beginning.
 fn hexadecimal_digits(bytes: &[u8]) -> usize
     ensures digits { result ≡ scanner.hexadecimal_digits bytes.now }
     ensures within { 0 < result → result + 2 ≤ length bytes.now }
@@ -75,11 +75,11 @@ fn hexadecimal_digits(bytes: &[u8]) -> usize
     }
 }
 
-/// The number at the front of bytes, of which the first is a digit.
-#[tactic(auto, unfolding(crate::specs::Scanner::number_piece))]
-pub(crate) fn number_piece(bytes: &[u8]) -> Piece
+/// The number at the beginning of bytes, of which the first is a digit.
+#[tactic(auto, unfolding(crate::specs::Scanner::number_lexeme))]
+pub(crate) fn number_lexeme(bytes: &[u8]) -> Lexeme
     requires { length bytes.now < 2 ^ 32 }
-    ensures { result ≡ scanner.number_piece bytes.now }
+    ensures { result ≡ scanner.number_lexeme bytes.now }
 {
     let digits = hexadecimal_digits(bytes);
     if digits == 0 {

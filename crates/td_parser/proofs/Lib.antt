@@ -1,2 +1,3 @@
-pub mod Stopping
-pub mod Telling
+pub mod Beginnings
+pub mod Errors
+pub mod Items

@@ -1,1 +1,3 @@
-pub mod Giving
+pub mod Errors
+pub mod Memory
+pub mod Pieces

@@ -1,14 +1,18 @@
-//! The parser. The layer above rests on one promise: tokens are answered with the one tree that they spell, or else
-//! with the place of the first of them that is refused.
+//! The parser. The layer above rests on one promise: tokens are answered with the one tree that they spell within the
+//! limits, or else with the place of the first of them that is refused or passes a limit.
 #![tactic(auto)]
 
-mod module;
-mod stop;
-mod structure;
-mod token;
+mod casetypes;
+mod closing;
+mod enums;
+mod error;
+mod modules;
+mod parsing;
+mod records;
+mod structs;
 
-pub use module::parse;
-pub use stop::ParseError;
+pub use error::ParseError;
+pub use parsing::parse;
 
 #[cfg(test)]
 mod tests;

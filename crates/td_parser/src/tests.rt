@@ -3,8 +3,8 @@
 use crate::{ParseError, parse};
 use std::alloc::{AllocError, Global};
 use std::test::Fail;
+use td_ast::definitions::Def;
 use td_ast::token::{Base, Span, Token, TokenKind};
-use td_ast::tree::{Literal, Name, Relation};
 use td_num::number::{ByteOrder, NumberType, Width};
 use td_num::text::Text;
 
@@ -13,29 +13,57 @@ const UINT8: NumberType = NumberType {
     order: ByteOrder::LittleEndian,
 };
 
-const UINT32BE: NumberType = NumberType {
-    width: Width::Four,
-    order: ByteOrder::BigEndian,
-};
-
 fn kind_of(alloc: Global, word: &str) -> Result<TokenKind, AllocError> {
     let kind = match word {
         "entrypoint" => TokenKind::Entrypoint,
         "typedef" => TokenKind::Typedef,
         "struct" => TokenKind::Struct,
+        "casetype" => TokenKind::Casetype,
+        "switch" => TokenKind::Switch,
+        "case" => TokenKind::Case,
+        "default" => TokenKind::Default,
+        "enum" => TokenKind::Enum,
+        "output" => TokenKind::Output,
+        "#define" => TokenKind::Define,
+        "mutable" => TokenKind::Mutable,
+        "PUINT8" => TokenKind::Pointer,
+        "where" => TokenKind::Where,
+        "var" => TokenKind::Var,
+        "if" => TokenKind::If,
+        "else" => TokenKind::Else,
+        "return" => TokenKind::Return,
+        "abort" => TokenKind::Abort,
+        "field_ptr" => TokenKind::FieldPtr,
+        "sizeof" => TokenKind::Sizeof,
+        "this" => TokenKind::This,
+        "is_range_okay" => TokenKind::IsRangeOkay,
         "UINT8" => TokenKind::Int(UINT8),
-        "UINT32BE" => TokenKind::Int(UINT32BE),
         "7" => TokenKind::Number(7, Base::Decimal),
-        "0x1f" => TokenKind::Number(31, Base::Hexadecimal),
+        "{:act" => TokenKind::Act,
+        "[:byte-size" => TokenKind::ByteSize,
+        _ => return punctuation(alloc, word),
+    };
+    Ok(kind)
+}
+
+fn punctuation(alloc: Global, word: &str) -> Result<TokenKind, AllocError> {
+    let kind = match word {
         "==" => TokenKind::EqualEqual,
-        "!=" => TokenKind::NotEqual,
         "<" => TokenKind::Less,
-        "<=" => TokenKind::LessEqual,
-        ">" => TokenKind::Greater,
-        ">=" => TokenKind::GreaterEqual,
+        "+" => TokenKind::Plus,
+        "*" => TokenKind::Star,
+        "!" => TokenKind::Bang,
+        "?" => TokenKind::Question,
+        ":" => TokenKind::Colon,
+        "->" => TokenKind::Arrow,
         "=" => TokenKind::Assign,
+        "," => TokenKind::Comma,
+        "(" => TokenKind::OpenParen,
+        ")" => TokenKind::CloseParen,
         "{" => TokenKind::OpenBrace,
         "}" => TokenKind::CloseBrace,
+        "[" => TokenKind::OpenBracket,
+        "]" => TokenKind::CloseBracket,
         ";" => TokenKind::Semicolon,
         _ => TokenKind::Name(Text::copy_of(alloc, word.as_bytes())?),
     };
@@ -50,71 +78,90 @@ fn span_at(place: u32) -> Span {
     }
 }
 
-fn tokens_of(alloc: Global, text: &str) -> Result<Vec<Token>, AllocError> {
-    let mut tokens = Vec::new(alloc);
-    let mut place: u32 = 0;
+// One more token for each word of the text.
+fn add_words(alloc: Global, tokens: &mut Vec<Token>, text: &str) -> Result<(), AllocError> {
     for word in text.split_whitespace() {
         let kind = kind_of(alloc, word)?;
-        tokens.push(Token {
-            kind,
-            span: span_at(place),
-        })?;
-        place = place.wrapping_add(1);
+        let span = span_at((tokens.len() % 1_000_000) as u32);
+        tokens.push(Token { kind, span })?;
     }
+    Ok(())
+}
+
+// The words of `before`, `count` times the words of `word`, and the words of `after`.
+fn repeated(
+    alloc: Global,
+    before: &str,
+    word: &str,
+    count: u32,
+    after: &str,
+) -> Result<Vec<Token>, AllocError> {
+    let mut tokens = Vec::new(alloc);
+    add_words(alloc, &mut tokens, before)?;
+    for _ in 0..count {
+        add_words(alloc, &mut tokens, word)?;
+    }
+    add_words(alloc, &mut tokens, after)?;
     Ok(tokens)
 }
 
-fn is_name(name: &Name, text: &[u8], place: u32) -> bool {
-    name.text.is(text) && name.span == span_at(place)
-}
-
 // Texts and the place of the first refused token, none where there is a tree.
-const TEXTS: [(&str, Option<u32>); 17] = [
+const TEXTS: [(&str, Option<u32>); 21] = [
     ("", None),
-    ("entrypoint typedef struct _S { UINT8 a ; } S ;", None),
+    ("#define K 7", None),
     (
-        "entrypoint typedef struct S { UINT8 a { b != 7 } ; UINT8 b { b < 7 } ; } S ;",
+        "UINT8 enum E { A , B = 7 , C = K , } ; UINT8 enum F { A }",
+        None,
+    ),
+    ("typedef UINT8 T ; typedef T U ;", None),
+    (
+        "output typedef struct _O { UINT8 a ; PUINT8 p ; } O ;",
         None,
     ),
     (
-        "entrypoint typedef struct S { UINT8 a { a > 7 } ; UINT8 a { a >= 7 } ; } S ;",
+        "typedef struct _S ( UINT8 n , mutable O * r ) where n < 7 { UINT8 a : 7 ; T ( n , 7 ) b [ n + 7 ] { b == 7 } ; } S ;",
         None,
     ),
     (
-        "entrypoint typedef struct S { UINT8 a { a == 0x1f } ; } S ;",
+        "entrypoint casetype _C ( UINT8 n ) { switch ( n ) { case 7 : UINT8 a ; case K : T b [:byte-size n ] ; default : T c ; } } C ;",
         None,
     ),
-    ("entrypoint", Some(1)),
-    ("entrypoint typedef struct _S { UINT8 a ; } S", Some(10)),
-    ("entrypoint typedef struct _S { UINT8 a { a", Some(9)),
     (
-        "entrypoint typedef struct _S { UINT8 a ; } S ; entrypoint",
-        Some(11),
-    ),
-    ("entrypoint typedef struct _S { UINT8 a ; } S ; ;", Some(11)),
-    ("entrypoint typedef struct _S { UINT8 a } S ;", Some(7)),
-    ("struct _S { UINT8 a ; } S ;", Some(0)),
-    (
-        "entrypoint typedef struct _S { UINT8 a { a = 7 } ; } S ;",
-        Some(9),
+        "typedef struct _S { UINT8 a {:act var x = * p ; * p = x + 7 ; r -> f = field_ptr ; if ( x < 7 ) { abort ; } else { return x == 7 ; } } ; } S ;",
+        None,
     ),
     (
-        "entrypoint typedef struct _S { UINT8 a { 7 == 7 } ; } S ;",
-        Some(8),
+        "typedef struct _S { UINT8 a { ! ( a ) ? sizeof ( this ) : is_range_okay ( a , 7 , 7 ) } ; } S ;",
+        None,
     ),
+    ("typedef", Some(1)),
+    ("typedef UINT8 T", Some(3)),
+    ("UINT8 enum E { }", Some(4)),
+    ("UINT8 enum E { A , , }", Some(6)),
+    ("typedef struct _S { } S ;", Some(4)),
+    ("typedef struct _S { UINT8 a { } ; } S ;", Some(7)),
     (
-        "entrypoint typedef struct _S { UINT8 a { a == a } ; } S ;",
+        "typedef struct _S { UINT8 a { a < 7 < 7 } ; } S ;",
         Some(10),
     ),
-    ("entrypoint typedef struct _S { } S ;", Some(5)),
-    ("entrypoint typedef struct _S { T a ; } S ;", Some(5)),
+    (
+        "typedef struct _S { UINT8 a {:act var x = 7 ; } ; } S ;",
+        Some(10),
+    ),
+    (
+        "casetype _C { switch ( n ) { default : T c ; } } C ;",
+        Some(8),
+    ),
+    ("typedef struct _S ( ) { UINT8 a ; } S ;", Some(4)),
+    ("#define K 7 ;", Some(3)),
+    ("struct _S { UINT8 a ; } S ;", Some(0)),
 ];
 
 #[test]
 fn texts_have_a_tree_or_a_refused_token(rt: HostRuntime) -> Result<(), Fail> {
     for (text, refused) in TEXTS {
-        let tokens = tokens_of(rt.alloc(), text)?;
-        assert!(rt; tokens.len() < 100);
+        let tokens = repeated(rt.alloc(), text, "", 0, "")?;
+        assert!(rt; tokens.len() < 1000);
         let found = parse(rt.alloc(), tokens.as_slice());
         let wanted = refused.map(|token| ParseError::Unexpected { token });
         assert_eq!(rt; found.err(), wanted, "{text}");
@@ -123,52 +170,63 @@ fn texts_have_a_tree_or_a_refused_token(rt: HostRuntime) -> Result<(), Fail> {
 }
 
 #[test]
-fn a_struct_has_its_tree(rt: HostRuntime) -> Result<(), Fail> {
-    let tokens = tokens_of(
-        rt.alloc(),
-        "entrypoint typedef struct _S { UINT8 a ; UINT32BE b { a <= 0x1f } ; } S ;",
-    )?;
-    assert!(rt; tokens.len() < 100);
+fn a_definition_has_its_tree(rt: HostRuntime) -> Result<(), Fail> {
+    let tokens = repeated(rt.alloc(), "#define K 7", "", 0, "")?;
+    assert!(rt; tokens.len() < 1000);
     let module = parse(rt.alloc(), tokens.as_slice()).ok().ok_or("a tree")?;
-    let [definition] = module.definitions.as_slice() else {
+    let [Def::Define(define)] = module.definitions.as_slice() else {
         return Err("one definition".into());
     };
-    assert!(rt; is_name(&definition.tag, b"_S", 3));
-    assert!(rt; is_name(&definition.name, b"S", 17));
-    let [first, second] = definition.fields.as_slice() else {
-        return Err("two fields".into());
-    };
-    assert_eq!(rt; (first.kind.number, first.kind.span), (UINT8, span_at(5)));
-    assert!(rt; is_name(&first.name, b"a", 6));
-    assert!(rt; first.refinement.is_none());
-    assert_eq!(rt;
-        (second.kind.number, second.kind.span),
-        (UINT32BE, span_at(8))
-    );
-    assert!(rt; is_name(&second.name, b"b", 9));
-    let comparison = second.refinement.as_ref().ok_or("a refinement")?;
-    assert!(rt; is_name(&comparison.left, b"a", 11));
-    assert_eq!(rt; comparison.relation, Relation::LessEqual);
-    let bound = Literal {
-        value: 31,
-        base: Base::Hexadecimal,
-        span: span_at(13),
-    };
-    assert_eq!(rt; comparison.right, bound);
+    assert!(rt; define.name.text.is(b"K"));
+    assert_eq!(rt; define.name.span, span_at(1));
+    assert_eq!(rt; define.value.value, 7);
     Ok(())
 }
 
 #[test]
-fn errors_have_words(rt: HostRuntime) -> Result<(), Fail> {
-    let refused = ParseError::Unexpected { token: 3 };
-    assert_eq!(rt;
-        format!(in rt.alloc(); "{refused}")?.as_str(),
-        "unexpected token"
-    );
-    let starved = ParseError::NoMemory;
-    assert_eq!(rt;
-        format!(in rt.alloc(); "{starved}")?.as_str(),
-        "out of memory"
-    );
+fn limits_are_passed_at_one_more(rt: HostRuntime) -> Result<(), Fail> {
+    let field = "typedef struct _S { UINT8 a {";
+    let cases = [
+        (field, "!", 256, "a } ; } S ;", None),
+        (field, "!", 257, "a } ; } S ;", Some(263)),
+        (field, "(", 257, "a", Some(263)),
+        (field, "a +", 256, "a } ; } S ;", None),
+        (field, "a +", 257, "a } ; } S ;", Some(520)),
+        (
+            "typedef struct _S { UINT8 a {:act",
+            "if ( a ) {",
+            16,
+            "} } } } } } } } } } } } } } } } } ; } S ;",
+            None,
+        ),
+        (
+            "typedef struct _S { UINT8 a {:act",
+            "if ( a ) {",
+            17,
+            "abort",
+            Some(91),
+        ),
+    ];
+    for (before, word, count, after, deep) in cases {
+        let tokens = repeated(rt.alloc(), before, word, count, after)?;
+        assert!(rt; tokens.len() < 10000);
+        let found = parse(rt.alloc(), tokens.as_slice());
+        let wanted = deep.map(|token| ParseError::Deep { token });
+        assert_eq!(rt; found.err(), wanted, "{count} of {word}");
+    }
+    Ok(())
+}
+
+#[test]
+fn errors_have_their_words(rt: HostRuntime) -> Result<(), Fail> {
+    let words = [
+        (ParseError::Unexpected { token: 0 }, "unexpected token"),
+        (ParseError::Deep { token: 0 }, "too deep"),
+        (ParseError::NoMemory, "out of memory"),
+    ];
+    for (error, wanted) in words {
+        let text = format!(in rt.alloc(); "{error}")?;
+        assert_eq!(rt; text.as_str(), wanted);
+    }
     Ok(())
 }

@@ -1,5 +1,5 @@
 -- Texts that are written one after the other.
-use Rattle.std.proofs.Common.{◌≡◌, ℕ, ◌+◌, ◌<◌, List, [], ◌++◌, length, take, drop, get_or, Option, Some, None, Result, Ok, Err, IsErr, sym, ap, subst, ◌∙◌, append_assoc, arith}
+use Rattle.std.proofs.Common.{◌≡◌, ℕ, ◌+◌, ◌<◌, List, [], ◌++◌, length, take, drop, get_or, Option, Some, None, Result, Ok, Err, IsErr, sym, ap, subst, ◌∙◌, append_assoc}
 use Rattle.std.proofs.Math.Seq.{take-append-add, take-append_seam}
 use Rattle.std.proofs.lemmas.List.{take-append-drop}
 use Rattle.std.proofs.lemmas.Grind.{flat_map-append}
@@ -7,6 +7,7 @@ use Rattle.std.proofs.lemmas.List.{take_more, flat_map_more}
 use Rattle.std.specs.List.{flat_map}
 use Rattle.std.specs.Io.KnownBytes.{Appends}
 use Rattle.td_io.specs.Causes.{StartsWritten}
+use Rattle.td_io.specs.Faults.{after_fault}
 use Rattle.td_io.specs.States.{SinkState, Writes}
 
 appends_both : (a b c : Option (List ℕ)) (first second : List ℕ) → Appends a b first → Appends b c second → Appends a c (first ++ second)
@@ -21,10 +22,10 @@ starts_later a b c first second p q =
 
 starts_longer : (a b : Option (List ℕ)) (first second : List ℕ) → StartsWritten a b first → StartsWritten a b (first ++ second)
 starts_longer a b first second q =
-    let front : List ℕ = take q.0 first in
-    let split : first ++ second ≡ front ++ (drop q.0 first ++ second) = ap (λ (l : List ℕ). l ++ second) (sym (take-append-drop q.0 first)) ∙ append_assoc front (drop q.0 first) second in
-    let same : take (length front) (first ++ second) ≡ front = ap (λ (l : List ℕ). take (length front) l) split ∙ take-append_seam front (drop q.0 first ++ second) in
-    (length front, subst (λ (l : List ℕ). Appends a b l) (sym same) q.1)
+    let prefix : List ℕ = take q.0 first in
+    let split : first ++ second ≡ prefix ++ (drop q.0 first ++ second) = ap (λ (l : List ℕ). l ++ second) (sym (take-append-drop q.0 first)) ∙ append_assoc prefix (drop q.0 first) second in
+    let same : take (length prefix) (first ++ second) ≡ prefix = ap (λ (l : List ℕ). take (length prefix) l) split ∙ take-append_seam prefix (drop q.0 first ++ second) in
+    (length prefix, subst (λ (l : List ℕ). Appends a b l) (sym same) q.1)
 
 -- a text was written, and then another one was, or wasn't
 pub writes_both : {T U E F : Type 0} {a b c : SinkState} {first second : List ℕ} {u : U} {r : Result T E} → Writes {T = U} {E = F} a b first (Ok u) → Writes b c second r → Writes a c (first ++ second) r
@@ -41,11 +42,11 @@ writes_both {a = a} {b = b} {c = c} {first = first} {second = second} {r = Err e
       done = tt;
       failed = record {
         written = starts_later a.written b.written c.written first second p.done.written q.failed.written;
-        faults = (omega (arith, q.failed.faults.0), omega (arith, q.failed.faults.1), q.failed.faults.2);
+        faults = q.failed.faults ∙ ap after_fault same;
       };
     }
 
--- a text wasn't written, so the one behind it wasn't either
+-- a text wasn't written, so the one after it wasn't either
 pub writes_stopped : {T U E F : Type 0} {a b : SinkState} {first : List ℕ} {e : F} (second : List ℕ) (r : Result T E) → IsErr r → Writes {T = U} {E = F} a b first (Err e) → Writes {T = T} {E = E} a b (first ++ second) r
 writes_stopped second (Ok v) wrong p = absurd (cc wrong)
 writes_stopped {a = a} {b = b} {first = first} second (Err f) wrong p = record {

@@ -1,4 +1,4 @@
--- Texts that are told apart by a byte that stands in neither.
+-- Texts that a byte parts which stands in neither.
 use Rattle.std.proofs.Common.{◌≡◌, ℕ, ◌<◌, ◌≤◌, List, [], ◌∷◌, ◌++◌, refl, sym, ◌∙◌, append_assoc, arith, flat_map}
 use Rattle.td_report.specs.Report.{line}
 
@@ -15,7 +15,7 @@ pub above_less : (l m : ℕ) (a : List ℕ) → l ≤ m → Above m a → Above 
 above_less l m [] small h = tt
 above_less l m (x ∷ a) small h = let high = h.0 in (omega arith, above_less l m a small h.1)
 
--- texts that go on behind the same byte, which stands in neither before, are equal part by part
+-- texts that go on after the same byte, which stands in neither before, are equal part by part
 pub cut : (c : ℕ) (a b r s : List ℕ) → Above c a → Above c b → a ++ c ∷ r ≡ b ++ c ∷ s → (a ≡ b) × (r ≡ s)
 cut c [] [] r s h k e = (refl, (cc))
 cut c [] (y ∷ b) r s h k e =
@@ -30,17 +30,17 @@ cut c (x ∷ a) (y ∷ b) r s h k e =
     let head : x ≡ y = cc in
     let tail : a ++ c ∷ r ≡ b ++ c ∷ s = cc in
     let rest = cut c a b r s h.1 k.1 tail in
-    let front = rest.0 in
+    let prefix = rest.0 in
     ((cc), rest.1)
 
--- equal behind an equal front
-pub behind : (front a b : List ℕ) → front ++ a ≡ front ++ b → a ≡ b
-behind [] a b e = e
-behind (x ∷ front) a b e = behind front a b (cc)
+-- equal after an equal prefix
+pub after : (prefix a b : List ℕ) → prefix ++ a ≡ prefix ++ b → a ≡ b
+after [] a b e = e
+after (x ∷ prefix) a b e = after prefix a b (cc)
 
--- the same behind an equal front
-pub cut_behind : (front : List ℕ) (c : ℕ) (a b r s : List ℕ) → Above c a → Above c b → front ++ (a ++ c ∷ r) ≡ front ++ (b ++ c ∷ s) → (a ≡ b) × (r ≡ s)
-cut_behind front c a b r s h k e = cut c a b r s h k (behind front (a ++ c ∷ r) (b ++ c ∷ s) e)
+-- the same after an equal prefix
+pub cut_after : (prefix : List ℕ) (c : ℕ) (a b r s : List ℕ) → Above c a → Above c b → prefix ++ (a ++ c ∷ r) ≡ prefix ++ (b ++ c ∷ s) → (a ≡ b) × (r ≡ s)
+cut_after prefix c a b r s h k e = cut c a b r s h k (after prefix (a ++ c ∷ r) (b ++ c ∷ s) e)
 
 -- no text with a byte is empty
 filled : (a : List ℕ) (c : ℕ) (r : List ℕ) → [] ≡ a ++ c ∷ r → ⊥
@@ -56,7 +56,7 @@ pub lines_append : (a b : List (List ℕ)) → AreLines a → AreLines b → Are
 lines_append [] b h k = k
 lines_append (x ∷ a) b h k = (h.0, lines_append a b h.1 k)
 
--- lines are told apart
+-- equal texts of lines are equal line by line
 pub same_lines : (a b : List (List ℕ)) → AreLines a → AreLines b → flat_map line a ≡ flat_map line b → a ≡ b
 same_lines [] [] h k e = refl
 same_lines [] (y ∷ b) h k e = absurd (filled y 10 (flat_map line b) (e ∙ append_assoc y (10 ∷ []) (flat_map line b)))

@@ -1,6 +1,7 @@
 pub mod Composing
-pub mod Digits
-pub mod Parts
 pub mod Cutting
+pub mod Determining
+pub mod Digits
 pub mod Hexadecimals
-pub mod Telling
+pub mod Parts
+pub mod Zipped

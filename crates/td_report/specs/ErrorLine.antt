@@ -16,16 +16,16 @@ line_at text at = 1 + count_by is_line_feed (take at text)
 abbrev pub column_at : List ℕ → ℕ → ℕ
 column_at text at = 1 + suffix_len is_no_line_feed (take at text)
 
--- a blank and `LINE:COLUMN`, where there is a place
+-- a space and `LINE:COLUMN`, where there is a place
 abbrev pub place_words : List ℕ → Option ℕ → List ℕ
 place_words text None = []
 place_words text (Some at) = codes " " ++ decimal (line_at text at) ++ codes ":" ++ decimal (column_at text at)
 
--- words behind a blank; nothing, where there are none
-abbrev pub behind_blank : List ℕ → List ℕ
-behind_blank [] = []
-behind_blank (first ∷ more) = codes " " ++ first ∷ more
+-- words after a space; nothing, where there are none
+abbrev pub after_space : List ℕ → List ℕ
+after_space [] = []
+after_space (first ∷ more) = codes " " ++ first ∷ more
 
 -- `error CODE LINE:COLUMN WORDS` and a line feed
 unfoldable pub error_line : List ℕ → Option ℕ → List ℕ → List ℕ → List ℕ
-error_line text at code words = codes "error " ++ code ++ place_words text at ++ behind_blank words ++ codes "\n"
+error_line text at code words = codes "error " ++ code ++ place_words text at ++ after_space words ++ codes "\n"

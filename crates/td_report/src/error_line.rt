@@ -2,12 +2,11 @@
 
 ghost use Rattle.std.specs.Prelude.{◌≡◌, ◌≤◌, ◌+◌, ◌^◌, ◌<◌, length, take, codes, ◌++◌};
 ghost use Rattle.td_io.specs.States.{Writes};
-ghost use Rattle.td_report.specs.ErrorLine.{error_line, line_at, column_at, place_words, behind_blank};
+ghost use Rattle.td_report.specs.ErrorLine.{error_line, line_at, column_at, place_words, after_space};
 
 use crate::pieces::write_pieces;
 use itoa::Buffer;
-use td_io::ends::Sink;
-use td_io::writing::WriteFault;
+use td_io::{Sink, WriteFault};
 
 /// A place in a text: its line, and its byte in the line, both from 1.
 #[derive(Clone, Copy, PartialEq, Eq, Debug)]
@@ -66,7 +65,7 @@ fn write_place<E: Sink>(err: &mut E, text: &[u8], at: Option<u32>) -> Result<(),
 }
 
 pub(crate) fn write_words<E: Sink>(err: &mut E, words: &[u8]) -> Result<(), WriteFault>
-    ensures { Writes (E.state err.old) (E.state err.new) (behind_blank words.now) result }
+    ensures { Writes (E.state err.old) (E.state err.new) (after_space words.now) result }
 {
     if words.is_empty() {
         return Ok(());
@@ -77,7 +76,7 @@ pub(crate) fn write_words<E: Sink>(err: &mut E, words: &[u8]) -> Result<(), Writ
 /// Writes the line of an error: `error`, its code, the line and the column of the place `at` (a byte of the text, from
 /// 0; one past the text's end stands for the end) where there is one, and its words. Takes no memory.
 ///
-/// `WriteFault`: a write failed. What went out is a front of the line.
+/// `WriteFault`: a write failed. What went out is a prefix of the line.
 #[tactic(auto, unfolding(crate::specs::ErrorLine::error_line))]
 pub fn front_line<E: Sink>(
     text: &[u8],

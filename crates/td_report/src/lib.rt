@@ -1,5 +1,5 @@
 //! The texts of the program: the report of a run, and the lines of errors. The layer above rests on one promise: the
-//! sink gets the whole text that the definition names, or a front of it where a write failed.
+//! sink gets the whole text that the definition names, or a prefix of it where a write failed.
 #![tactic(auto)]
 
 pub mod error_line;
@@ -8,5 +8,6 @@ pub mod laws;
 pub mod path_line;
 mod pieces;
 pub mod report;
+pub mod summary;
 #[cfg(test)]
 mod tests;

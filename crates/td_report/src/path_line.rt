@@ -3,16 +3,15 @@
 ghost use Rattle.std.specs.Prelude.{◌≡◌, [], None};
 ghost use Rattle.td_core.specs.Paths.{indexed};
 ghost use Rattle.td_io.specs.States.{Writes};
-ghost use Rattle.td_report.specs.ErrorLine.{error_line, behind_blank};
+ghost use Rattle.td_report.specs.ErrorLine.{error_line, after_space};
 
 use crate::error_line::{write_code, write_words};
 use crate::pieces::write_pieces;
 use itoa::Buffer;
-use td_io::ends::Sink;
-use td_io::writing::WriteFault;
+use td_io::{Sink, WriteFault};
 
 fn write_path<E: Sink>(err: &mut E, name: &[u8], index: Option<usize>) -> Result<(), WriteFault>
-    ensures { Writes (E.state err.old) (E.state err.new) (behind_blank (indexed name.now index)) result }
+    ensures { Writes (E.state err.old) (E.state err.new) (after_space (indexed name.now index)) result }
 {
     let Some(index) = index else {
         return write_words(err, name);
@@ -22,10 +21,10 @@ fn write_path<E: Sink>(err: &mut E, name: &[u8], index: Option<usize>) -> Result
     write_pieces(err, &[b" ", name, b"[", index, b"]"])
 }
 
-/// Writes the line of an error that has a path in place of a place: `error`, its code, and a name, behind which stands in
+/// Writes the line of an error that has a path in place of a place: `error`, its code, and a name, after which stands in
 /// brackets the place in a list, from 0, where there is one. Takes no memory.
 ///
-/// `WriteFault`: a write failed. What went out is a front of the line.
+/// `WriteFault`: a write failed. What went out is a prefix of the line.
 #[tactic(auto, unfolding(crate::specs::ErrorLine::error_line))]
 pub fn path_line<E: Sink>(
     code: &[u8],

@@ -3,8 +3,7 @@
 ghost use Rattle.std.specs.Prelude.{◌≡◌, flat_map};
 ghost use Rattle.td_io.specs.States.{Writes};
 
-use td_io::ends::Sink;
-use td_io::writing::{WriteFault, write_all};
+use td_io::{Sink, WriteFault, write_all};
 
 /// Writes the pieces in order.
 pub fn write_pieces<O: Sink>(out: &mut O, pieces: &[&[u8]]) -> Result<(), WriteFault>

@@ -1,25 +1,25 @@
 //! The report of a run.
 
 ghost use Rattle.std.specs.Prelude.{◌≡◌, flat_map, codes, decimal};
+ghost use Rattle.td_core.specs.Entries.{entry_definition};
 ghost use Rattle.td_io.specs.States.{Writes};
-ghost use Rattle.td_report.specs.Report.{report, reason_word, spot_word, verdict_line, frame_line, frame_lines, load_line};
+ghost use Rattle.td_report.specs.Report.{report, reason_word, spot_word, verdict_line, frame_line, frame_lines, entry_cells, with_values, cell_line, load_line};
 
 use crate::hexadecimal::digits_of;
 use crate::pieces::write_pieces;
 use itoa::Buffer;
-use td_core::entries::name_bytes;
-use td_core::module::{Entry, Module};
+use td_core::entries::{entry_definition, name_bytes};
+use td_core::module::{Cell, Entry, Module};
 use td_core::outcome::{Outcome, Reason, Spot, TraceFrame, Verdict};
-use td_io::ends::Sink;
-use td_io::writing::WriteFault;
+use td_io::{Sink, WriteFault};
 use td_stream::load::Load;
 use td_stream::loads::Loads;
 
-fn spot_of(types: &Module, spot: Spot) -> &[u8]
-    ensures { result.now ≡ spot_word types.now spot }
+fn spot_of(m: &Module, spot: Spot) -> &[u8]
+    ensures { result.now ≡ spot_word m.now spot }
 {
     match spot {
-        Spot::Field(name) => name_bytes(types, name),
+        Spot::Field(name) => name_bytes(m, name),
         Spot::Where => b"where",
         Spot::Switch => b"switch",
     }
@@ -63,8 +63,8 @@ fn write_verdict<O: Sink>(out: &mut O, verdict: Verdict) -> Result<(), WriteFaul
 }
 
 #[tactic(auto, unfolding(crate::specs::Report::frame_line))]
-fn write_frame<O: Sink>(out: &mut O, types: &Module, frame: TraceFrame) -> Result<(), WriteFault>
-    ensures { Writes (O.state out.old) (O.state out.new) (frame_line types.now frame) result }
+fn write_frame<O: Sink>(out: &mut O, m: &Module, frame: TraceFrame) -> Result<(), WriteFault>
+    ensures { Writes (O.state out.old) (O.state out.new) (frame_line m.now frame) result }
 {
     let mut buffer = Buffer::new();
     let start = buffer.format(frame.start).as_bytes();
@@ -72,9 +72,9 @@ fn write_frame<O: Sink>(out: &mut O, types: &Module, frame: TraceFrame) -> Resul
         out,
         &[
             b"frame ",
-            name_bytes(types, frame.ty),
+            name_bytes(m, frame.ty),
             b".",
-            spot_of(types, frame.field),
+            spot_of(m, frame.field),
             b" ",
             start,
             b"\n",
@@ -82,26 +82,65 @@ fn write_frame<O: Sink>(out: &mut O, types: &Module, frame: TraceFrame) -> Resul
     )
 }
 
-fn write_frames<O: Sink>(
-    out: &mut O,
-    types: &Module,
-    frames: &[TraceFrame],
-) -> Result<(), WriteFault>
-    ensures { Writes (O.state out.old) (O.state out.new) (flat_map (frame_line types.now) frames.now) result }
+fn write_frames<O: Sink>(out: &mut O, m: &Module, frames: &[TraceFrame]) -> Result<(), WriteFault>
+    ensures { Writes (O.state out.old) (O.state out.new) (flat_map (frame_line m.now) frames.now) result }
 {
     for frame in frames {
-        write_frame(out, types, *frame)?;
+        write_frame(out, m, *frame)?;
     }
     Ok(())
 }
 
-fn write_trace<O: Sink>(out: &mut O, types: &Module, outcome: &Outcome) -> Result<(), WriteFault>
-    ensures { Writes (O.state out.old) (O.state out.new) (frame_lines types.now outcome.now.verdict outcome.now.trace) result }
+fn write_trace<O: Sink>(out: &mut O, m: &Module, outcome: &Outcome) -> Result<(), WriteFault>
+    ensures { Writes (O.state out.old) (O.state out.new) (frame_lines m.now outcome.now.verdict outcome.now.trace) result }
 {
     match outcome.verdict {
         Verdict::Accept { .. } => Ok(()),
-        Verdict::Reject { .. } => write_frames(out, types, outcome.trace.as_slice()),
+        Verdict::Reject { .. } => write_frames(out, m, outcome.trace.as_slice()),
     }
+}
+
+/// The cells of an entry point; none where the module has no such entry point.
+fn cells_of(m: &Module, entry: Entry) -> &[Cell]
+    ensures { result.now ≡ entry_cells (entry_definition m.now entry.number) }
+{
+    match entry_definition(m, entry) {
+        None => &[],
+        Some(definition) => definition.cells.as_slice(),
+    }
+}
+
+#[tactic(auto, unfolding(crate::specs::Report::cell_line))]
+fn write_cell<O: Sink>(out: &mut O, m: &Module, cell: Cell, value: u64) -> Result<(), WriteFault>
+    ensures { Writes (O.state out.old) (O.state out.new) (cell_line m.now (record { cell = cell; value = value })) result }
+{
+    let mut buffer = Buffer::new();
+    let value = buffer.format(value).as_bytes();
+    let name = name_bytes(m, cell.name);
+    match cell.field {
+        None => write_pieces(out, &[b"out ", name, b" ", value, b"\n"]),
+        Some(field) => {
+            let field = name_bytes(m, field);
+            write_pieces(out, &[b"out ", name, b".", field, b" ", value, b"\n"])
+        }
+    }
+}
+
+fn write_cells<O: Sink>(
+    out: &mut O,
+    m: &Module,
+    cells: &[Cell],
+    values: &[u64],
+) -> Result<(), WriteFault>
+    ensures { Writes (O.state out.old) (O.state out.new) (flat_map (cell_line m.now) (with_values cells.now values.now)) result }
+{
+    for (index, cell) in cells.iter().enumerate() {
+        let Some(value) = values.get(index) else {
+            break;
+        };
+        write_cell(out, m, *cell, *value)?;
+    }
+    Ok(())
 }
 
 #[tactic(auto, unfolding(crate::specs::Report::load_line))]
@@ -122,21 +161,22 @@ fn write_loads<O: Sink>(out: &mut O, loads: &[Load]) -> Result<(), WriteFault>
     Ok(())
 }
 
-/// Writes the report of a run: how it ended, the frames of its failure by the names of the module, and its loads. Takes
-/// no memory.
+/// Writes the report of a run: how it ended, the frames of its failure by the names of the module, the cells of the entry
+/// point, and the loads. Takes no memory.
 ///
-/// `WriteFault`: a write failed. What went out is a front of the report.
+/// `WriteFault`: a write failed. What went out is a prefix of the report.
 #[tactic(auto, unfolding(crate::specs::Report::report))]
 pub fn run_report<O: Sink>(
     outcome: &Outcome,
-    types: &Module,
+    m: &Module,
     entry: Entry,
     loads: &Loads,
     out: &mut O,
 ) -> Result<(), WriteFault>
-    ensures { Writes (O.state out.old) (O.state out.new) (report outcome.now types.now entry loads.now.list) result }
+    ensures { Writes (O.state out.old) (O.state out.new) (report outcome.now m.now entry loads.now.list) result }
 {
     write_verdict(out, outcome.verdict)?;
-    write_trace(out, types, outcome)?;
+    write_trace(out, m, outcome)?;
+    write_cells(out, m, cells_of(m, entry), outcome.cells.as_slice())?;
     write_loads(out, loads.as_slice())
 }

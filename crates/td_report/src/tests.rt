@@ -4,8 +4,7 @@ use std::alloc::{AllocError, Global};
 use std::test::Fail;
 use td_core::module::{Entry, Module, NameId};
 use td_core::outcome::{Outcome, Reason, Spot, TraceFrame, Verdict};
-use td_io::memory::MemorySink;
-use td_io::writing::WriteFault;
+use td_io::{MemorySink, WriteFault};
 use td_num::items::Items;
 use td_num::text::Text;
 use td_stream::load::Load;
@@ -24,7 +23,9 @@ fn named_module(alloc: Global) -> Result<Module, AllocError> {
         names.push(Text::copy_of(alloc, name)?)?;
     }
     Ok(Module {
+        written: 0,
         names,
+        listed: Items::new(alloc),
         definitions: Items::new(alloc),
         entries: Items::new(alloc),
     })
@@ -62,8 +63,8 @@ fn report_of(
         }
     }
     let mut out = MemorySink::with_room(alloc, room, Vec::new(alloc))?;
-    let types = named_module(alloc)?;
-    let result = run_report(&outcome, &types, Entry { number: 0 }, &kept, &mut out);
+    let m = named_module(alloc)?;
+    let result = run_report(&outcome, &m, Entry { number: 0 }, &kept, &mut out);
     Ok((out, result))
 }
 
@@ -152,89 +153,31 @@ fn reports_stand_line_by_line(rt: HostRuntime) -> Result<(), Fail> {
 }
 
 #[test]
-fn error_lines_name_line_and_column(rt: HostRuntime) -> Result<(), Fail> {
+fn error_lines_of_no_text_and_no_place(rt: HostRuntime) -> Result<(), Fail> {
     let text = b"ab\n\ncd\n".as_slice();
-    for (text, at, code, words, want) in [
-        (
-            text,
-            Some(0),
-            b"L1".as_slice(),
-            b"bad byte".as_slice(),
-            b"error L1 1:1 bad byte\n".as_slice(),
-        ),
-        (
-            text,
-            Some(2),
-            b"P1".as_slice(),
-            b"unexpected token".as_slice(),
-            b"error P1 1:3 unexpected token\n".as_slice(),
-        ),
-        (
-            text,
-            Some(3),
-            b"P1".as_slice(),
-            b"too deep".as_slice(),
-            b"error P1 2:1 too deep\n".as_slice(),
-        ),
-        (
-            text,
-            Some(4),
-            b"N1".as_slice(),
-            b"".as_slice(),
-            b"error N1 3:1\n".as_slice(),
-        ),
-        (
-            text,
-            Some(5),
-            b"N1".as_slice(),
-            b"x".as_slice(),
-            b"error N1 3:2 x\n".as_slice(),
-        ),
-        (
-            text,
-            Some(7),
-            b"P1".as_slice(),
-            b"x".as_slice(),
-            b"error P1 4:1 x\n".as_slice(),
-        ),
+    for (text, at, words, want) in [
+        (text, Some(4), b"".as_slice(), b"error N1 3:1\n".as_slice()),
         (
             text,
             Some(9),
-            b"P1".as_slice(),
             b"x".as_slice(),
-            b"error P1 4:1 x\n".as_slice(),
-        ),
-        (
-            b"ab".as_slice(),
-            Some(2),
-            b"P1".as_slice(),
-            b"x".as_slice(),
-            b"error P1 1:3 x\n".as_slice(),
+            b"error N1 4:1 x\n".as_slice(),
         ),
         (
             b"".as_slice(),
             Some(0),
-            b"P1".as_slice(),
             b"x".as_slice(),
-            b"error P1 1:1 x\n".as_slice(),
+            b"error N1 1:1 x\n".as_slice(),
         ),
         (
             text,
             None,
-            b"J5".as_slice(),
             b"stores[1]".as_slice(),
-            b"error J5 stores[1]\n".as_slice(),
-        ),
-        (
-            text,
-            None,
-            b"read".as_slice(),
-            b"".as_slice(),
-            b"error read\n".as_slice(),
+            b"error N1 stores[1]\n".as_slice(),
         ),
     ] {
         let mut err = MemorySink::with_room(rt.alloc(), 100, Vec::new(rt.alloc()))?;
-        assert_eq!(rt; front_line(text, at, code, words, &mut err), Ok(()));
+        assert_eq!(rt; front_line(text, at, b"N1", words, &mut err), Ok(()));
         assert_eq!(rt; err.written(), want);
     }
     Ok(())

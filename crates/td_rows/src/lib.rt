@@ -1,18 +1,9 @@
-//! Tests of the whole tool: inputs beside what it writes for them, and the same runs through the plain program and the
-//! validator. Nothing stands on this crate.
+//! Tests across crates, of what no run of the built program shows: that the plain program and the validator agree, and how
+//! a call ends on sources and sinks in memory. What the program answers to inputs stands in `cases/`. Nothing stands on this
+//! crate.
 #![tactic(auto)]
 
 #[cfg(test)]
-mod call;
+mod bodies;
 #[cfg(test)]
 mod ends;
-#[cfg(test)]
-mod job_lines;
-#[cfg(test)]
-mod limits;
-#[cfg(test)]
-mod module_lines;
-#[cfg(test)]
-mod reports;
-#[cfg(test)]
-mod stores;

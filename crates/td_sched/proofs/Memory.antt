@@ -9,8 +9,8 @@ use Rattle.td_sched.specs.declared.store.PlannedStore.{PlannedStore}
 use Rattle.td_sched.specs.Plan.{numbered, up_to, to_word, last_value, at, ArePlanned}
 use Rattle.td_sched.specs.Events.{events, Event, Happens}
 use Rattle.td_sched.specs.Events.Event.{Loaded, Stored}
-use Rattle.td_sched.specs.Played.{stored}
-use Rattle.td_sched.specs.Playing.{Playing, Plays}
+use Rattle.td_sched.specs.Invariant.{stored}
+use Rattle.td_sched.specs.View.{PlannedView, PlannedReaches}
 
 pub keeps : (p : PlannedStore → Bool) (x : PlannedStore) (xs : List PlannedStore) → p x ≡ true → filter p (x ∷ xs) ≡ x ∷ filter p xs
 keeps p x xs e = ap (λ b. cond b (x ∷ filter p xs) (filter p xs)) e
@@ -76,7 +76,7 @@ last_planned o s k (x ∷ xs) l h =
     last_planned o s (suc k) xs l h.1 ∙ ap (λ n. at o s n l.word) (let z : suc k + length xs ≡ k + suc (length xs) = omega arith in z)
 
 -- the next load is what the plan has
-pub next_is : (v w : Playing) (i value : ℕ) → ArePlanned v.opening v.stores 0 v.loads → Plays v w → w.loads ≡ v.loads ++ (record { word = i; value = value }) ∷ [] → value ≡ at v.opening v.stores (length v.loads) i
+pub next_is : (v w : PlannedView) (i value : ℕ) → ArePlanned v.opening v.stores 0 v.loads → PlannedReaches v w → w.loads ≡ v.loads ++ (record { word = i; value = value }) ∷ [] → value ≡ at v.opening v.stores (length v.loads) i
 next_is v w i value h p e =
     let all : ArePlanned v.opening v.stores 0 w.loads = subst (λ o. ArePlanned o v.stores 0 w.loads) p.opening (subst (λ s. ArePlanned w.opening s 0 w.loads) p.stores (p.planned h)) in
     last_planned v.opening v.stores 0 v.loads (record { word = i; value = value }) (subst (ArePlanned v.opening v.stores 0) e all)

@@ -15,7 +15,7 @@ use lib.Dec.{ltb}
 use Rattle.td_stream.specs.declared.load.Load.{Load}
 use Rattle.td_sched.specs.declared.store.PlannedStore.{PlannedStore}
 use Rattle.td_sched.specs.Plan.{numbered, up_to, at, ArePlanned}
-use Rattle.td_sched.specs.Played.{stored, IsInTurn, AreMade, IsPlayed}
+use Rattle.td_sched.specs.Invariant.{stored, IsInTurn, AreMade, PlannedInvariant}
 use Rattle.td_sched.proofs.Memory.{word_after, keeps, drops, eq_true}
 
 abbrev within : ℕ → List PlannedStore → List PlannedStore
@@ -160,7 +160,7 @@ pub begins : (opening words : List ℕ) (sorted : List PlannedStore) → words �
 begins opening words sorted e = record { reached = omega arith; words_are = e; past = All-nil (λ (s : PlannedStore). s.before < 0) }
 
 -- what a word holds after the stores before the next load
-pub word_is : {opening words : List ℕ} {given sorted : List PlannedStore} {made room : ℕ} {loads : List Load} (h : IsPlayed opening given words sorted made loads room) (number r i : ℕ) (now : List ℕ) → i < length opening → number ≡ length loads → (All (λ (s : PlannedStore). s.before ≤ number) (take made sorted) → All (λ (s : PlannedStore). s.before ≤ number) (take r sorted)) → ((d : PlannedStore) → r < length sorted → number < (slice_index_or sorted r d).before) → now ≡ stored opening (take r sorted) → slice_index now i ≡ at opening given (length loads) i
+pub word_is : {opening words : List ℕ} {given sorted : List PlannedStore} {made room : ℕ} {loads : List Load} (h : PlannedInvariant opening given words sorted made loads room) (number r i : ℕ) (now : List ℕ) → i < length opening → number ≡ length loads → (All (λ (s : PlannedStore). s.before ≤ number) (take made sorted) → All (λ (s : PlannedStore). s.before ≤ number) (take r sorted)) → ((d : PlannedStore) → r < length sorted → number < (slice_index_or sorted r d).before) → now ≡ stored opening (take r sorted) → slice_index now i ≡ at opening given (length loads) i
 word_is {opening} {words} {given} {sorted} {made} {room} {loads} h number r i now inside e due stop w =
     let early = due (All-weaker (λ (s : PlannedStore). s.before < length loads) (λ (s : PlannedStore). s.before ≤ number) (λ s n. omega (arith, n, e)) (take made sorted) h.stores_made.past) in
     let same = made_are given sorted number r h.turns early stop in

@@ -1,4 +1,4 @@
 pub mod Plan
 pub mod Events
-pub mod Played
-pub mod Playing
+pub mod Invariant
+pub mod View

@@ -5,16 +5,16 @@ ghost use Rattle.td_stream.specs.declared.load.Load.{Load};
 ghost use Rattle.td_sched.specs.declared.store.PlannedStore.{PlannedStore};
 ghost use Rattle.td_sched.specs.Plan.{ArePlanned, at};
 ghost use Rattle.td_sched.specs.Events.{events, Happens};
-ghost use Rattle.td_sched.specs.Playing.{Playing, Plays};
+ghost use Rattle.td_sched.specs.View.{PlannedView, PlannedReaches};
 
 /// Law: of memory that was opened and after that only loaded from, the loads are those of its plan.
 pub fn loads_are_planned()
-    ensures { (v w : Playing) → v.loads ≡ [] → Plays v w → ArePlanned v.opening v.stores 0 w.loads }
+    ensures { (v w : PlannedView) → v.loads ≡ [] → PlannedReaches v w → ArePlanned v.opening v.stores 0 w.loads }
 {}
 
 /// Law: load k of word i gives what the plan has in word i at load k, where the loads before it were the plan's.
 pub fn next_load_is_planned()
-    ensures { (v w : Playing) (i value : ℕ) → ArePlanned v.opening v.stores 0 v.loads → Plays v w
+    ensures { (v w : PlannedView) (i value : ℕ) → ArePlanned v.opening v.stores 0 v.loads → PlannedReaches v w
         → w.loads ≡ v.loads ++ (record { word = i; value = value }) ∷ []
         → value ≡ at v.opening v.stores (length v.loads) i }
 {}

@@ -2,9 +2,9 @@
 //! word gives the value of the last store to it that the plan has before load k, and without one the opening word.
 #![tactic(auto)]
 
+mod due;
 pub mod laws;
 pub mod planned;
-mod play;
 pub mod store;
 #[cfg(test)]
 mod tests;

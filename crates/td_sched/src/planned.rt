@@ -1,7 +1,7 @@
 //! Plain memory to which others store by a plan.
-ghost use Rattle.std.specs.Prelude.{◌≡◌, ◌<◌, ◌^◌, [], length, IfOk};
+ghost use Rattle.std.specs.Prelude.{◌≡◌, ◌<◌, ◌^◌, [], length, IfOk, IsOk};
 
-use crate::play::{play, word_at};
+use crate::due::{apply_due_stores, word_at};
 use crate::store::PlannedStore;
 use std::alloc::{AllocError, Global};
 use std::marker::Model;
@@ -26,22 +26,33 @@ pub struct Planned {
 
 impl Model for Planned {
     ghost use Rattle.std.specs.Prelude.{vec_capacity};
-    ghost use Rattle.td_sched.specs.Playing.{Playing};
-    ghost use Rattle.td_sched.specs.Played.{IsPlayed};
+    ghost use Rattle.td_sched.specs.View.{PlannedView};
+    ghost use Rattle.td_sched.specs.Invariant.{PlannedInvariant};
 
-    ghost Value = { Playing };
+    ghost Value = { PlannedView };
 
     ghost view = { λ p.
         record { opening = p.opening.value.items; stores = p.given.value.items; loads = p.loads.items } };
 
-    ghost invariant = { λ p. IsPlayed p.opening.value.items p.given.value.items
+    ghost invariant = { λ p. PlannedInvariant p.opening.value.items p.given.value.items
         p.words.items p.stores.items p.made p.loads.items (vec_capacity p.loads) };
+}
+
+// A vector of the same elements. `AllocError`: there was no memory for it; never where there are no elements.
+fn copied<T: Copy>(alloc: Global, elements: &[T]) -> Result<Vec<T>, AllocError>
+    ensures ok { IfOk result (λ vector. vector.items ≡ elements.now) }
+    ensures memory { elements.now ≡ [] → IsOk result }
+{
+    if elements.is_empty() {
+        return Ok(Vec::new(alloc));
+    }
+    Vec::from_slice(alloc, elements)
 }
 
 impl Planned {
     /// Memory that opens with these words, of which there are fewer than 2^32, and to which these stores are made as
     /// loads come: by rising number, and within one number in the order given here. A store to a word that isn't
-    /// there changes nothing. `AllocError`: there was no memory for this.
+    /// there changes nothing. `AllocError`: there was no memory for this; never where there are neither words nor stores.
     pub fn open(
         alloc: Global,
         words: &[u64],
@@ -51,10 +62,11 @@ impl Planned {
         ensures opening { IfOk result (λ p. p.opening ≡ words.now) }
         ensures stores { IfOk result (λ p. p.stores ≡ stores.now) }
         ensures loads { IfOk result (λ p. p.loads ≡ []) }
+        ensures memory { words.now ≡ [] → stores.now ≡ [] → IsOk result }
     {
-        let words = Vec::from_slice(alloc, words)?;
+        let words = copied(alloc, words)?;
         let opening = Snapshot::of(&words);
-        let mut stores = Vec::from_slice(alloc, stores)?;
+        let mut stores = copied(alloc, stores)?;
         let given = Snapshot::of(&stores);
         stores.sort_by_key(|store| store.before)?;
         let loads = Vec::with_capacity(alloc, words.len())?;
@@ -71,17 +83,17 @@ impl Planned {
 
 impl Words for Planned {
     ghost use Rattle.std.specs.Prelude.{length};
-    ghost use Rattle.td_sched.specs.Playing.{Plays, plays_nothing, plays_on};
+    ghost use Rattle.td_sched.specs.View.{PlannedReaches, reaches_itself, reaches_on};
 
     ghost loads = { λ p. p.loads };
 
     ghost size = { λ p. length p.opening };
 
-    ghost goes = { Plays };
+    ghost goes = { PlannedReaches };
 
-    ghost goes_nowhere = { plays_nothing };
+    ghost goes_nowhere = { reaches_itself };
 
-    ghost goes_on = { plays_on };
+    ghost goes_on = { reaches_on };
 
     ghost same_size = { λ v w p i. length (p.opening i) };
 
@@ -91,7 +103,7 @@ impl Words for Planned {
 
     fn load(&mut self, i: u32) -> u64 {
         let number = self.loads.len() as u64;
-        self.made = play(&mut self.words, self.stores.as_slice(), self.made, number);
+        self.made = apply_due_stores(&mut self.words, self.stores.as_slice(), self.made, number);
         let value = word_at(&self.words, i);
         self.loads.push_reserved(Load { word: i, value });
         value

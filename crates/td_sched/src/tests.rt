@@ -1,4 +1,5 @@
-// What planned memory gives, load by load.
+// Plans that no job has: stores to words that aren't there, and more words than a message has. Others stand in
+// `cases/stores.txt`.
 
 ghost use Rattle.std.specs.Prelude.{◌≡◌, ◌<◌, ◌≤◌, []};
 
@@ -34,54 +35,11 @@ fn loaded(alloc: Global, planned: &mut Planned, places: &[u32]) -> Result<Vec<u6
 }
 
 #[test]
-fn stores_come_before_their_loads(rt: HostRuntime) -> Result<(), Fail> {
-    let every = [0, 1, 2, 3];
-    let rows: [(&[PlannedStore], &[u32], &[u64]); 15] = [
-        // no store
-        (&[], &every, &[10, 11, 12, 13]),
-        // before load 0
-        (&[store(0, 0, 99)], &every, &[99, 11, 12, 13]),
-        (&[store(0, 3, 99)], &every, &[10, 11, 12, 99]),
-        // before a later load
-        (&[store(1, 0, 99)], &every, &[10, 11, 12, 13]),
-        (&[store(2, 2, 99)], &every, &[10, 11, 99, 13]),
-        (&[store(3, 2, 99)], &every, &[10, 11, 12, 13]),
-        // loads are counted, and not words
-        (&[store(1, 3, 99)], &[1, 3], &[11, 99]),
-        (&[store(1, 3, 99)], &[3], &[13]),
-        // two of one number: the later in the list holds
-        (&[store(1, 1, 8), store(1, 1, 9)], &every, &[10, 9, 12, 13]),
-        // two of different numbers: the higher number holds, whatever their order in the list
-        (&[store(2, 3, 8), store(1, 3, 9)], &every, &[10, 11, 12, 8]),
-        // of a number that is too late none is made, though it stands first
-        (&[store(3, 2, 8), store(1, 2, 9)], &every, &[10, 11, 9, 13]),
-        // to a word that isn't loaded
-        (&[store(0, 2, 99)], &[1, 3], &[11, 13]),
-        // to a word that isn't there
-        (
-            &[store(0, 4, 98), store(0, 4294967295, 99)],
-            &every,
-            &[10, 11, 12, 13],
-        ),
-        // a number that no load has
-        (
-            &[store(4, 3, 98), store(18446744073709551615, 3, 99)],
-            &every,
-            &[10, 11, 12, 13],
-        ),
-        // a value of all ones, and zero
-        (
-            &[store(0, 0, 18446744073709551615), store(0, 1, 0)],
-            &every,
-            &[18446744073709551615, 0, 12, 13],
-        ),
-    ];
-    for (stores, places, want) in rows {
-        let mut planned = Planned::open(rt.alloc(), &[10, 11, 12, 13], stores)?;
-        let values = loaded(rt.alloc(), &mut planned, places)?;
-        assert_eq!(rt; planned.count(), 4);
-        assert_eq!(rt; values.as_slice(), want);
-    }
+fn a_store_to_no_word_changes_nothing(rt: HostRuntime) -> Result<(), Fail> {
+    let stores = [store(0, 4, 98), store(0, 4294967295, 99)];
+    let mut planned = Planned::open(rt.alloc(), &[10, 11, 12, 13], &stores)?;
+    let values = loaded(rt.alloc(), &mut planned, &[0, 1, 2, 3])?;
+    assert_eq!(rt; values.as_slice(), [10, 11, 12, 13].as_slice());
     Ok(())
 }
 
@@ -137,12 +95,12 @@ fn check_large_plan(rt: &(impl AllocGlobal + Abort), half: u32) -> Result<(), Fa
 }
 
 #[test]
-fn a_large_plan_is_played(rt: HostRuntime) -> Result<(), Fail> {
+fn a_large_plan_is_followed(rt: HostRuntime) -> Result<(), Fail> {
     check_large_plan(&rt, 65536)
 }
 
 // Half of the above: bench/plans times both.
 #[test]
-fn a_plan_of_half_the_size_is_played(rt: HostRuntime) -> Result<(), Fail> {
+fn a_plan_of_half_the_size_is_followed(rt: HostRuntime) -> Result<(), Fail> {
     check_large_plan(&rt, 32768)
 }

@@ -1,16 +1,28 @@
-use Rattle.std.proofs.Common.{◌≡◌, Some}
-use Rattle.td_cli.specs.declared.status.Status.{Status}
+use Rattle.std.proofs.Common.{refl, map, List, ℕ, string_bytes, Global}
+use Rattle.td_cli.specs.Command.{Means, MeansNone}
+use Rattle.td_cli.specs.Ends.{passage}
+use Rattle.td_cli.proofs.Calls.{answered_call, usage_call, memory_call, never_read}
 use Rattle.td_cli.proofs.tool.run_alone.Goals as goal
 
-same_status : (a b : Status) → Some a ≡ Some b → a ≡ b
-same_status a b same = cc
+pub returns-in-Ok-Some-clause-ends : goal.returns-in-Ok-Some-clause-ends
+returns-in-Ok-Some-clause-ends g c =
+    let words : List (List ℕ) = map (string_bytes {Z = Global}) c.args.words.now in
+    let means : Means words c.in-Ok-Some.command = rw c.in-Ok-Some.field-0-is at c.in-Ok-Some.ensures in
+    answered_call words c.in-Ok-Some.command c.answer_source.result (passage g.S.Source.state c.args.src.now c.answer_source.new.src) (passage g.O.Sink.state c.args.out.now c.answer_source.new.out) (passage g.E.Sink.state c.args.err.now c.answer_source.new.err) means (record {
+      ends = c.answer_source.ensures.ends words means;
+      usage = c.answer_source.ensures.usage;
+      good = c.answer_source.ensures.good;
+      bad = c.answer_source.ensures.bad;
+      taken = c.answer_source.ensures.taken;
+    })
 
-pub returns-clause-complete : goal.returns-clause-complete
-returns-clause-complete g c =
-    λ words good.
-    (λ same. c.run.ensures.not_usage (same_status _ _ same), λ same. c.run.ensures.complete good (same_status _ _ same))
+pub returns-in-Ok-None-clause-ends : goal.returns-in-Ok-None-clause-ends
+returns-in-Ok-None-clause-ends g c =
+    let words : List (List ℕ) = map (string_bytes {Z = Global}) c.args.words.now in
+    let none : MeansNone words = rw c.in-Ok-None.field-0-is at c.in-Ok-None.ensures in
+    usage_call words c.finish_with_line.result (passage g.S.Source.state c.args.src.now c.args.src.now) (passage g.O.Sink.state c.args.out.now c.args.out.now) (passage g.E.Sink.state c.args.err.now c.finish_with_line.new.err) none (never_read g.S.Source.state c.args.src.now) (c.finish_with_line.ensures, refl)
 
-pub returns-clause-not_done : goal.returns-clause-not_done
-returns-clause-not_done g c =
-    λ words bad.
-    (λ same. c.run.ensures.not_usage (same_status _ _ same), λ same. c.run.ensures.not_done bad (same_status _ _ same))
+pub returns-in-Err-clause-ends : goal.returns-in-Err-clause-ends
+returns-in-Err-clause-ends g c =
+    let words : List (List ℕ) = map (string_bytes {Z = Global}) c.args.words.now in
+    memory_call words c.finish_out_of_memory.result (passage g.S.Source.state c.args.src.now c.args.src.now) (passage g.O.Sink.state c.args.out.now c.args.out.now) (passage g.E.Sink.state c.args.err.now c.finish_out_of_memory.new.err) (never_read g.S.Source.state c.args.src.now) (c.finish_out_of_memory.ensures, refl)

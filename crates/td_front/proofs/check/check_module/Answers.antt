@@ -1,4 +1,4 @@
-use Rattle.td_front.proofs.Passes.{complete_from, exact_from}
+use Rattle.td_front.proofs.Answering.{complete_from, exact_from}
 use Rattle.td_front.proofs.check.check_module.Goals as goal
 
 pub returns-clause-complete : goal.returns-clause-complete

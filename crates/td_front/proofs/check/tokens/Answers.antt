@@ -1,5 +1,5 @@
 use Rattle.td_front.proofs.Counts.{few_tokens}
-use Rattle.td_front.proofs.Passes.{of_bytes}
+use Rattle.td_front.proofs.Answering.{of_bytes}
 use Rattle.td_front.proofs.check.tokens.Goals as goal
 
 pub returns-in-Ok-clause-few : goal.returns-in-Ok-clause-few

@@ -1,6 +1,17 @@
-use Rattle.td_front.proofs.Refusals.{always_one}
+use Rattle.td_front.proofs.Texts.{Below, always_one}
 use Rattle.td_front.proofs.laws.module_or_refusal.Goals as goal
 
 pub returns : goal.returns
 returns c =
-    always_one c.tokens_are_the_splitting.ensures.tokens c.tokens_are_the_splitting.ensures.refusals c.spell_or_refused.ensures c.some_is_first.ensures
+    let below : Below = record {
+      tokens = c.tokens_are_the_splitting.ensures.tokens;
+      refusals = c.tokens_are_the_splitting.ensures.refusals;
+      answered = c.each_answered.ensures;
+      one_tree = c.one_tree.ensures;
+      one_refused = c.one_refused.ensures;
+      one_deep = c.one_too_deep.ensures;
+      never_both = c.never_both.ensures;
+      one_first = c.one_is_first.ensures;
+      some_first = c.some_is_first.ensures;
+    } in
+    always_one below

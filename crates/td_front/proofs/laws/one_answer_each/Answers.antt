@@ -1,4 +1,4 @@
-use Rattle.td_front.proofs.Refusals.{Below, one_module, one_refusal, never_both}
+use Rattle.td_front.proofs.Texts.{Below, one_module, one_refusal, never_both}
 use Rattle.td_front.proofs.laws.one_answer_each.Goals as goal
 
 pub returns : goal.returns
@@ -6,9 +6,12 @@ returns c =
     let below : Below = record {
       tokens = c.tokens_are_the_splitting.ensures.tokens;
       refusals = c.tokens_are_the_splitting.ensures.refusals;
-      one_tree = c.spell_at_most_one.ensures;
-      one_place = c.refused_at_most_once.ensures;
+      answered = c.each_answered.ensures;
+      one_tree = c.one_tree.ensures;
+      one_refused = c.one_refused.ensures;
+      one_deep = c.one_too_deep.ensures;
       never_both = c.never_both.ensures;
       one_first = c.one_is_first.ensures;
+      some_first = c.some_is_first.ensures;
     } in
     record { one_module = one_module below; one_refusal = one_refusal below; never_both = never_both below }

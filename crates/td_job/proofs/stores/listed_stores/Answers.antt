@@ -8,7 +8,7 @@ pub returns-then-len-gt-MOST_STORES-clause-err : goal.returns-then-len-gt-MOST_S
 returns-then-len-gt-MOST_STORES-clause-err c = λ words.
     let first = too_many words c.in-Some-as_array.values.now.items (omega arith) in
     let faults = ap (plan_faults words) c.in-Some-as_array.ensures ∙ ap (stores_faults words) c.in-Some.ensures in
-    rw (← faults) first
+    rw (← faults, c.at-then-len-gt-MOST_STORES.ensures) first
 
 pub returns-else-len-gt-MOST_STORES-clause-ok : goal.returns-else-len-gt-MOST_STORES-clause-ok
 returns-else-len-gt-MOST_STORES-clause-ok c = λ words.

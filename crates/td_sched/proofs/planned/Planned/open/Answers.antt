@@ -3,7 +3,7 @@ use Rattle.std.proofs.lemmas.List.Sorted.{IsNonDecreasingBy-from_sort_by_key}
 use Rattle.td_stream.specs.declared.load.Load.{Load}
 use Rattle.td_sched.specs.declared.store.PlannedStore.{PlannedStore}
 use Rattle.td_sched.specs.Plan.{numbered}
-use Rattle.td_sched.specs.Played.{AreMade}
+use Rattle.td_sched.specs.Invariant.{AreMade}
 use Rattle.td_sched.proofs.Turns.{stable_from_sort, begins}
 use Rattle.td_sched.proofs.planned.Planned.open.Goals as goal
 
@@ -19,6 +19,6 @@ invariant_of-result c =
       };
       stores_made = subst (λ n. AreMade c.of-opening.result.value.items c.sort_by_key.new.self.items c.in_ok-words.words.items n 0) none (begins _ _ _ (sym opening));
       same_size = ap length (sym opening);
-      small = subst (λ ws. length ws < 2 ^ 32) (sym c.in_ok-words.ensures.items) c.requires;
+      small = subst (λ ws. length ws < 2 ^ 32) (sym c.in_ok-words.ensures.ok) c.requires;
       space = search rules;
     }

@@ -1,0 +1,311 @@
+"""Inputs made at random: module texts that are nearly right, and jobs for them. The same seed makes the same inputs."""
+
+import json
+import random
+
+NUMBER_TYPES = ["UINT%d%s" % (bits, order) for bits in (8, 16, 32, 64) for order in ("", "BE")]
+NUMBERS = [0, 1, 2, 3, 4, 7, 8, 15, 16, 100, 127, 128, 255, 256, 1000, 65535, 65536, 2**32 - 1, 2**32, 2**63, 2**64 - 1]
+WHITE_SPACE = [" "] * 5 + ["\n", "\t", "\r\n", "/* c */", "/**/", "/* %% */", "// line\n", ""]
+STRAY_TOKENS = (
+    "@ # #define {:act {:act- {:check [:byte-size [:byte-sizes == = { } ; , ( ) casetype 0x 12a 0xg $ é * / -> && UINT8 x 7 /* \0"
+    " where unit all_bytes all_zeros sizeof this if return abort field_pos true PUINT8 18446744073709551616 : ? ! ~ enum case"
+).split(" ")
+OTHER_VALUES = [None, 1, [], [1], {}, "a", 1.5, -1, 2**64, True, [[0, 0]], [[0, 0, "00"]], [[0.0, 0, "0" * 16]], [300], [0, 0]]
+
+
+class Maker:
+    def __init__(self, seed):
+        self.random = random.Random(seed)
+
+    def chance(self, share):
+        return self.random.random() < share
+
+    def pick(self, choices):
+        return self.random.choice(choices)
+
+    # ---- Modules. What was declared so far is remembered, so most names that are written stand for something.
+
+    def fresh(self):
+        self.count += 1
+        return "%s%d" % (self.pick("abfkxyz"), self.count)
+
+    def number(self):
+        value = self.pick(NUMBERS[:12] * 3 + NUMBERS + [self.random.randrange(300), self.random.randrange(2**64)])
+        if self.chance(0.005):
+            value = 2**64 + self.random.randrange(3)
+        if self.chance(0.2):
+            return self.pick(["0x%x", "0X%X", "0x00%x"]) % value
+        return "0" * self.pick([0, 0, 0, 0, 0, 2]) + str(value)
+
+    def name(self, names):
+        return self.pick(names) if names and not self.chance(0.01) else self.pick(["zz", "P", "a1"] + self.types)
+
+    def value(self, depth=0):
+        """A number's tokens."""
+        roll = self.random.random()
+        if roll < 0.45 and self.values:
+            return [self.name(self.values)]
+        if roll < 0.7 or depth > 2:
+            return [self.number()] if not self.constants or self.chance(0.7) else [self.name(self.constants)]
+        if roll < 0.75:
+            return ["sizeof", "(", self.pick(NUMBER_TYPES[:4] + ["this"] + self.types), ")"]
+        if roll < 0.8 and self.start:
+            return ["field_pos"]
+        if roll < 0.84:
+            return ["(", *self.test(depth + 1), "?", *self.value(depth + 1), ":", *self.value(depth + 1), ")"]
+        if roll < 0.86:
+            return ["~", *self.value(depth + 1)]
+        if roll < 0.93:
+            return ["(", *self.value(depth + 1), ")", self.pick("&|%/"), self.pick(["1", "3", "15", "7"])]
+        return ["(", *self.value(depth + 1), self.pick(["+", "-", "*", "<<", ">>", "^", "/", "%"]), *self.value(depth + 1), ")"]
+
+    def safe_difference(self):
+        one, other = self.name(self.values), self.name(self.values)
+        return [one, "<=", other, "&&", other, "-", one, self.pick(["<", ">=", "=="]), self.number()]
+
+    def test(self, depth=0):
+        """A truth value's tokens."""
+        roll = self.random.random()
+        if roll < 0.6 or depth > 2:
+            return [*self.value(depth + 1), self.pick(["==", "!=", "<", "<=", ">", ">="]), *self.value(depth + 1)]
+        if roll < 0.7 and self.values:
+            return self.safe_difference()
+        if roll < 0.8:
+            return ["(", *self.test(depth + 1), ")", self.pick(["&&", "||"]), "(", *self.test(depth + 1), ")"]
+        if roll < 0.85:
+            return ["!", "(", *self.test(depth + 1), ")"]
+        if roll < 0.9 and self.values:
+            one, other = self.name(self.values), self.name(self.values)
+            return ["is_range_okay", "(", one, ",", other, ",", self.number(), ")"]
+        return [self.pick(["true", "true", "false"])]
+
+    def statement(self, depth):
+        roll = self.random.random()
+        if roll < 0.5 and self.cells:
+            cell, fields = self.pick(self.cells)
+            right = ["field_ptr"] if self.chance(0.3) else self.value()
+            if fields:
+                return [cell, "->", self.pick(fields), "=", *right, ";"]
+            return ["*", cell, "=", *right, ";"]
+        if roll < 0.65 and self.cells:
+            name = self.fresh()
+            cell = self.pick(self.cells)[0]
+            self.values.append(name)
+            return ["var", name, "=", "*", cell, ";"]
+        if roll < 0.8 and depth < 3:
+            other = ["else", "{", *self.statements(depth + 1), "}"] if self.chance(0.5) else []
+            return ["if", "(", *self.test(), ")", "{", *self.statements(depth + 1), "}", *other]
+        return ["abort", ";"] if self.chance(0.2) else []
+
+    def statements(self, depth):
+        before = list(self.values)
+        found = [token for _ in range(self.random.randrange(3)) for token in self.statement(depth)]
+        self.values = before
+        return found
+
+    def action(self):
+        self.start = True
+        word = self.pick(["{:act", "{:act", "{:check", "{:on-success"])
+        before = list(self.values)
+        found = [token for _ in range(self.random.randrange(3)) for token in self.statement(0)]
+        if word == "{:check" or (word == "{:on-success" and self.chance(0.5)):
+            found += ["return", *self.test(), ";"]
+        self.start, self.values = False, before
+        return [word, *found, "}"]
+
+    def applied(self, name):
+        """A type with arguments."""
+        parameters = self.parameters.get(name, [])
+        if not parameters:
+            return [name]
+        arguments = []
+        for kind in parameters:
+            own = [cell for cell, fields in self.cells if bool(fields) == (kind == "row")]
+            argument = self.value(1) if kind == "value" else [self.pick(own)] if own else ["zz"]
+            arguments += [","] * bool(arguments) + argument
+        return [name, "(", *arguments, ")"]
+
+    def size(self):
+        roll = self.random.random()
+        if roll < 0.4 or not self.values:
+            return [self.pick("0123468")]
+        return [self.name(self.values)] if roll < 0.7 else [self.name(self.values), self.pick("&%"), self.pick("37")]
+
+    def field(self, last):
+        name, roll = self.fresh(), self.random.random()
+        head, tail, readable = [self.pick(NUMBER_TYPES[:2] * 3 + NUMBER_TYPES)], [], True
+        if roll < 0.15:
+            self.unit = self.unit if self.unit and self.chance(0.7) else self.pick(NUMBER_TYPES)
+            head, tail = [self.unit], [":", self.pick(["1", "2", "3", "4", "7", "8", "9", "0"][: 8 if self.chance(0.05) else 7])]
+        elif roll < 0.25 and self.types:
+            head = self.applied(self.pick(self.types))
+            readable = head[0] in self.numbers
+            if self.chance(0.3):
+                tail, readable = [self.pick(["[:byte-size", "[:byte-size-single-element-array"]), *self.size(), "]"], False
+        elif roll < 0.42:
+            word = self.pick(["[", "[:byte-size", "[:byte-size-single-element-array", "[:zeroterm-byte-size-at-most"])
+            tail, readable = [word, *self.size(), "]"], False
+            head = ["UINT8"] if word == "[" or self.chance(0.5) else head
+            head = ["unit"] if self.chance(0.03) else head
+        elif roll < 0.47 and (last or self.chance(0.1)):
+            head, readable = [self.pick(["all_bytes", "all_zeros", "all_zeros"])], False
+        elif roll < 0.49:
+            head, readable = ["unit"], False
+        if roll >= 0.15:
+            self.unit = None
+        if readable:
+            self.values.append(name)
+        refinement = ["{", *self.test(), "}"] if self.chance(0.4) and (readable or self.chance(0.01)) else []
+        action = self.action() if self.chance(0.2) else []
+        return head + [name] + tail + refinement + action + [";"]
+
+    def fields(self):
+        before, count, self.unit = list(self.values), self.pick([1, 1, 2, 2, 3, 4, 5]), None
+        found = [token for place in range(count) for token in self.field(place == count - 1)]
+        self.values = before
+        return found
+
+    def head(self, name):
+        self.values, self.cells, self.start, kinds, tokens = [], [], False, [], []
+        for _ in range(self.pick([0, 0, 1, 2])):
+            own, roll = self.fresh(), self.random.random()
+            if roll < 0.5:
+                tokens += [",", self.pick(NUMBER_TYPES[:6]), own]
+                self.values.append(own)
+                kinds.append("value")
+            elif roll < 0.8 or not self.records:
+                tokens += [",", "mutable", self.pick(NUMBER_TYPES[:6] + ["PUINT8"]), "*", own]
+                self.cells.append((own, None))
+                kinds.append("cell")
+            else:
+                record = self.pick(sorted(self.records))
+                tokens += [",", "mutable", record, "*", own]
+                self.cells.append((own, self.records[record]))
+                kinds.append("row")
+        self.own_kinds = kinds
+        tokens = ["(", *tokens[1:], ")"] if tokens else []
+        return tokens + (["where", "(", *self.test(), ")"] if self.values and self.chance(0.3) else [])
+
+    def definition(self):
+        roll, name = self.random.random(), "T%d" % len(self.types)
+        if roll < 0.12:
+            constant = "K%d" % len(self.constants)
+            self.constants.append(constant)
+            return ["#define", constant, self.number()]
+        if roll < 0.22:
+            members, tokens = [], []
+            for _ in range(self.pick([1, 2, 3])):
+                member = "M%d" % self.fresh_member()
+                members.append(member)
+                tokens += [member] + (["=", self.pick("012345679")] if self.chance(0.5) else []) + [","]
+            self.constants += members
+            self.types.append(name)
+            self.numbers.add(name)
+            return [self.pick(NUMBER_TYPES[:4]), "enum", name, "{", *tokens[: len(tokens) - self.chance(0.7)], "}"]
+        if roll < 0.28:
+            target = self.pick(NUMBER_TYPES + self.types)
+            if target in NUMBER_TYPES or target in self.numbers:
+                self.numbers.add(name)
+            self.types.append(name)
+            return ["typedef", target, name, ";"]
+        if roll < 0.35:
+            record = "R%d" % len(self.records)
+            slots = [self.fresh() for _ in range(self.pick([1, 2, 3]))]
+            self.records[record] = slots
+            tokens = [token for slot in slots for token in (self.pick(NUMBER_TYPES[:6] + ["PUINT8"]), slot, ";")]
+            return ["output", "typedef", "struct", "_" + record, "{", *tokens, "}", record, ";"]
+        entry = self.chance(0.5)
+        head = self.head(name)
+        if roll < 0.5 and self.values:
+            tokens, values = [], self.random.sample(range(6), self.pick([1, 2, 3]))
+            switch = self.pick(self.values)
+            for value in values:
+                tokens += ["case", str(value), ":", *self.fields()]
+            if self.chance(0.5):
+                tokens += ["default", ":", *self.fields()]
+            found = ["casetype", "_" + name, *head, "{", "switch", "(", switch, ")", "{", *tokens, "}", "}", name, ";"]
+        else:
+            found = ["typedef", "struct", "_" + name, *head, "{", *self.fields(), "}", name, ";"]
+        self.types.append(name)
+        self.parameters[name] = self.own_kinds
+        if entry:
+            self.entries.append(name)
+        return ["entrypoint"] * entry + found
+
+    def fresh_member(self):
+        self.count += 1
+        return self.count
+
+    def module(self):
+        self.count, self.types, self.numbers, self.constants, self.records = 0, [], set(), [], {}
+        self.parameters, self.entries, self.values, self.cells, self.start, self.unit = {}, [], [], [], False, None
+        tokens = []
+        for _ in range(self.pick([1, 1, 2, 3, 4])):
+            tokens += self.definition()
+        if not self.entries and self.chance(0.9):
+            tokens += ["entrypoint", "typedef", "struct", "_P", *self.head("P"), "{", *self.fields(), "}", "P", ";"]
+            self.parameters["P"] = self.own_kinds
+            self.entries.append("P")
+        place = self.random.randrange(len(tokens)) if tokens else 0
+        if self.chance(0.03):
+            del tokens[place]
+        elif self.chance(0.04):
+            tokens.insert(place, self.pick(STRAY_TOKENS))
+        elif self.chance(0.02):
+            tokens.insert(place, "/*")
+        elif self.chance(0.03):
+            tokens[place] = self.pick(tokens)
+        # Mostly a space between two tokens; where nothing stands there, two may be read as one.
+        return "".join(token + (self.pick(WHITE_SPACE) if self.chance(0.04) else " ") for token in tokens)
+
+    # ---- Jobs.
+
+    def digits(self, count):
+        return "".join(self.pick("0123456789abcdefABCDEF") for _ in range(count))
+
+    def content(self, count):
+        few = "".join("%02x" % self.pick([0, 0, 1, 2, 3, 4, 5, 255]) for _ in range(count))
+        return self.pick([self.digits(2 * count), few, few, "00" * count])
+
+    def store(self, words):
+        word = self.random.randrange(max(1, words)) if self.chance(0.97) else words + self.random.randrange(3)
+        text = self.digits(16) if self.chance(0.5) else self.content(8)[:16]
+        return [self.pick([0, 0, 1, 1, 2, 3, 2**64 - 1]), word, text if self.chance(0.99) else text[1:]]
+
+    def job(self):
+        entry = self.pick(self.entries) if self.entries and self.chance(0.97) else self.pick(["Q", "", "p"])
+        count = self.pick([0, 1, 2, 3, 4, 7, 8, 9, 10, 15, 16, 17, 20, 24, 31, 33, 48, 64])
+        length = max(0, count - self.pick([0, 0, 0, 0, 1, 2, 5]))
+        job = {"entry": entry, "length": length, "bytes": self.content(count)}
+        values = [kind for kind in self.parameters.get(entry, []) if kind == "value"]
+        if values or self.chance(0.1):
+            job["args"] = [self.pick([0, 1, 2, 3, 5, 100, 255] + [256, 2**64] * self.chance(0.05)) for _ in values]
+        if self.chance(0.1):
+            job["cells"] = [self.pick([0, 1, 7, 300])] * self.pick([0, 1, 2])
+        if self.chance(0.5):
+            job["stores"] = [self.store(-(-length // 8)) for _ in range(self.random.randrange(6))]
+        if self.chance(0.02):
+            del job[self.pick(sorted(job))]
+        if self.chance(0.03):
+            name = self.pick(["bytes", "length", "entry", "stores", "args", "cells", "zz", "A", "é", ""])
+            job[name] = self.pick(OTHER_VALUES)
+        if self.chance(0.03):
+            job["length"] = self.pick([count + 1, 2**32 + count, 2**64 - 1, count])
+        text = json.dumps(job, ensure_ascii=self.chance(0.5))
+        if self.chance(0.03):
+            place = self.random.randrange(len(text))
+            text = text[:place] + self.pick(["", "}", '"', ",", "[", " ", "x", "\n"]) + text[place + 1 :]
+        return text
+
+    def input(self):
+        """A command and its input."""
+        if self.chance(0.25):
+            text = bytearray(self.module().encode())
+            command = "check"
+        else:
+            marker = "%%\n" if self.chance(0.96) else self.pick(["%%", "%% \n", "%%\r\n", "\n%%\n", "%%\n%%\n", ""])
+            text = bytearray((self.module() + ("\n" if self.chance(0.97) else "") + marker + self.job()).encode())
+            command = "run"
+        if text and self.chance(0.02):
+            text[self.random.randrange(len(text))] = self.random.randrange(256)
+        return command, bytes(text)

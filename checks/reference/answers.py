@@ -1,0 +1,95 @@
+"""What the program answers to its words and its input: the exit status, and what is written to the two outputs."""
+
+import sys
+import threading
+
+from .errors import JobError, ModuleError
+from .jobs import job_of
+from .rules import elaborated
+from .runs import Memory, run
+from .safety import check_safety
+from .sizes import check_counts, check_kinds, check_sizes
+from .tokens import tokens_of
+from .trees import Parser
+
+INPUT_LIMIT = 4_194_304
+
+
+def module_of(text):
+    """The trees of a module text, and what is known after the last."""
+    trees = Parser(tokens_of(text), len(text)).module()
+    check_counts(trees)
+    known = elaborated(trees)
+    check_kinds(known.types)
+    check_safety(known.types)
+    check_sizes(trees, known)
+    return trees, known
+
+
+def report_of(known, job):
+    number, arguments, cells, length, words, stores = job
+    memory = Memory(words, stores)
+    lines = run(known.types, number, arguments, cells, length, memory)
+    for (name, field, _), value in zip(known.types[number].cells, cells):
+        lines += "out %s%s %d\n" % (name, "" if field is None else "." + field, value)
+    return lines + "".join("load %d %016x\n" % load for load in memory.loaded.items())
+
+
+def parts_of(text):
+    """The module text and the job, parted by the first line that is exactly `%%`; None where no line is."""
+    at = 0
+    while at <= len(text):
+        end = text.find(b"\n", at)
+        end = len(text) if end < 0 else end
+        if text[at:end] == b"%%":
+            return text[:at], text[end + 1 :]
+        at = end + 1
+    return None
+
+
+def refusal(text, error):
+    before = text[: error.at]
+    column = error.at - (before.rfind(b"\n") + 1) + 1
+    line = "error %s %d:%d %s\n" % (error.code, before.count(b"\n") + 1, column, error.words)
+    return 1, b"", line.encode()
+
+
+def checked(text):
+    try:
+        trees, known = module_of(text)
+    except ModuleError as error:
+        return refusal(text, error)
+    return 0, b"ok definitions %d entries %d\n" % (len(trees), len(known.entries)), b""
+
+
+def reported(text):
+    parts = parts_of(text)
+    if parts is None:
+        return 1, b"", b"error Z2 no job\n"
+    try:
+        known = module_of(parts[0])[1]
+        report = report_of(known, job_of(parts[1], known))
+    except ModuleError as error:
+        return refusal(parts[0], error)
+    except JobError as error:
+        line = " ".join(["error", error.code] + [error.path] * (error.path != ""))
+        return 1, b"", line.encode() + b"\n"
+    return 0, report.encode(), b""
+
+
+def answer(text, command="run"):
+    """The exit status, and what is written to standard output and to standard error."""
+    if len(text) > INPUT_LIMIT:
+        return 1, b"", b"error Z1 input too long\n"
+    return {"run": reported, "check": checked}[command](text)
+
+
+def with_room(work):
+    """Calls `work` with a stack for expressions of 257 levels."""
+    sys.setrecursionlimit(100_000)
+    threading.stack_size(512 * 1024 * 1024)
+    found = []
+    thread = threading.Thread(target=lambda: found.append(work()))
+    thread.start()
+    thread.join()
+    return found[0]

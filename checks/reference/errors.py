@@ -1,0 +1,17 @@
+"""How a module text and a job are refused."""
+
+
+class ModuleError(Exception):
+    """A module text is refused: its code, the byte of the text, and the words."""
+
+    def __init__(self, code, at, words):
+        super().__init__(code)
+        self.code, self.at, self.words = code, at, words
+
+
+class JobError(Exception):
+    """A job is refused: a code and a path."""
+
+    def __init__(self, code, path):
+        super().__init__(code)
+        self.code, self.path = code, path

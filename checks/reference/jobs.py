@@ -1,0 +1,88 @@
+"""Jobs: which fields, in which order, and what each must be."""
+
+import json
+
+from .errors import JobError
+
+HEXADECIMAL = set("0123456789abcdefABCDEF")
+MESSAGE_LIMIT = 1_048_576
+STORES_LIMIT = 65_536
+FIELDS = {"entry", "args", "cells", "bytes", "length", "stores"}
+
+
+def is_whole(value):
+    return type(value) is int and 0 <= value < 2**64
+
+
+def is_digits(text, count=None):
+    even = len(text) % 2 == 0 if count is None else len(text) == count
+    return even and set(text) <= HEXADECIMAL
+
+
+def whole_or_float(spelling):
+    return float(spelling) if spelling.startswith("-") or int(spelling) >= 2**64 else int(spelling)
+
+
+def refuse_constant(_):
+    raise ValueError
+
+
+def require(holds, code, path):
+    if not holds:
+        raise JobError(code, path)
+
+
+def numbers_of(job, name, limits, may_lack):
+    """A list of numbers, each below its limit."""
+    require(name in job or may_lack, "J2", name)
+    numbers = job.get(name, [0] * len(limits))
+    require(isinstance(numbers, list), "J2", name)
+    require(len(numbers) == len(limits), "J4", name)
+    for index, (number, limit) in enumerate(zip(numbers, limits)):
+        path = "%s[%d]" % (name, index)
+        require(is_whole(number), "J2", path)
+        require(number < limit, "J4", path)
+    return list(numbers)
+
+
+def stores_of(job, words):
+    stores = job.get("stores", [])
+    require(isinstance(stores, list), "J2", "stores")
+    require(len(stores) <= STORES_LIMIT, "J8", "stores")
+    for index, store in enumerate(stores):
+        path = "stores[%d]" % index
+        require(isinstance(store, list) and len(store) == 3 and isinstance(store[2], str), "J2", path)
+        require(is_whole(store[0]) and is_whole(store[1]), "J2", path)
+        require(is_digits(store[2], 16), "J5", path)
+        require(store[1] < words, "J6", path)
+    return [(before, word, int.from_bytes(bytes.fromhex(text), "little")) for before, word, text in stores]
+
+
+def job_of(text, known):
+    """The entry point's type, its arguments and cells, the message's length, the words of memory, and the stores."""
+    try:
+        job = json.loads(text.decode("utf-8"), parse_int=whole_or_float, parse_constant=refuse_constant)
+    except ValueError:
+        raise JobError("J1", "job") from None
+    if not isinstance(job, dict):
+        job = {}
+    require(isinstance(job.get("entry"), str), "J2", "entry")
+    entries = [number for number in known.entries if known.types[number].name == job["entry"]]
+    require(entries, "J3", "entry")
+    made = known.types[entries[0]]
+    limits = [2**parameter.bits for parameter in made.parameters if not parameter.mutable]
+    arguments = numbers_of(job, "args", limits, not limits)
+    cells = numbers_of(job, "cells", [2 ** (bits or 32) for _, _, bits in made.cells], True)
+    require(isinstance(job.get("bytes"), str), "J2", "bytes")
+    require(is_digits(job["bytes"]), "J5", "bytes")
+    memory = bytes.fromhex(job["bytes"])
+    length = job.get("length")
+    require(is_whole(length), "J2", "length")
+    require(length <= len(memory), "J7", "length")
+    require(length <= MESSAGE_LIMIT, "J8", "length")
+    stores = stores_of(job, -(-length // 8))
+    others = sorted(set(job) - FIELDS, key=str.encode)
+    require(not others, "J2", others[0] if others else "")
+    memory += bytes(-len(memory) % 8)
+    words = [int.from_bytes(memory[i : i + 8], "little") for i in range(0, len(memory), 8)]
+    return entries[0], arguments, cells, length, words, stores

@@ -1,0 +1,233 @@
+"""Validation of a message, word by word."""
+
+from .scopes import bits_of
+from .sizes import constant_size, element_kind
+from .tokens import NUMBER_TYPES
+from .values import value_of
+
+
+class Memory:
+    """Words to which others store by a plan, and the loads made."""
+
+    def __init__(self, words, stores):
+        self.words, self.stores, self.loaded = words, stores, {}
+
+    def load(self, place):
+        if place not in self.loaded:
+            due = [s for s in self.stores if s[0] <= len(self.loaded) and s[1] == place]
+            due.sort(key=lambda s: s[0])
+            self.loaded[place] = due[-1][2] if due else self.words[place]
+        return self.loaded[place]
+
+    def byte(self, place):
+        return self.load(place // 8) >> 8 * (place % 8) & 255
+
+    def number(self, place, base):
+        width, is_big = NUMBER_TYPES[base]
+        read = bytes(self.byte(k) for k in range(place, place + width))
+        return int.from_bytes(read, "big" if is_big else "little")
+
+
+class Rejected(Exception):
+    """A reason, the position, and the frames: (type, field, start), the innermost first. `part` is a failed bit field."""
+
+    def __init__(self, reason, position, frames):
+        super().__init__(reason)
+        self.reason, self.position, self.frames, self.part = reason, position, frames, None
+
+    def within(self, frame):
+        position = self.position if self.position is not None else frame[2]
+        return Rejected(self.reason, position, self.frames + [frame])
+
+
+def fails(reason, position=None):
+    raise Rejected(reason, position, [])
+
+
+def levels_in(core):
+    if core is None:
+        return set()
+    own = {core.level} if core.kind == "name" else set()
+    return own.union(*[levels_in(part) for part in core.parts])
+
+
+def block_levels(statements):
+    found = set()
+    for statement in statements or []:
+        if statement[0] in ("set", "return"):
+            found |= levels_in(statement[-1])
+        if statement[0] == "if":
+            found |= levels_in(statement[1]) | block_levels(statement[2]) | block_levels(statement[3])
+    return found
+
+
+def field_levels(field):
+    """The levels that a field's arguments and size name."""
+    found = levels_in(field.extent[1])
+    for core in getattr(field.element, "arguments", []):
+        found |= levels_in(core)
+    return found
+
+
+class Run:
+    def __init__(self, types, memory):
+        self.types, self.memory = types, memory
+
+    def definition(self, number, values, cells, places, start, end):
+        made = self.types[number]
+        level = len(values)
+        if made.guard is not None and not value_of(made.guard, values):
+            raise Rejected("constraint", start, [(made.name, "where", start)])
+        fields = made.fields
+        if fields is None:
+            switch = value_of(made.switch, values)
+            fields = next((fields for value, fields in made.cases if value == switch), made.default)
+            if fields is None:
+                raise Rejected("impossible", start, [(made.name, "switch", start)])
+        return self.fields(made.name, fields, level, list(values), cells, places, start, end)
+
+    def fields(self, name, fields, level, values, cells, places, start, end):
+        named = later_levels(fields)
+        for field, later in zip(fields, named):
+            try:
+                after = self.field(field, later, level, values, cells, places, start, end)
+            except Rejected as failed:
+                part = failed.part or field.parts[0].name
+                raise failed.within((name, part, start)) from None
+            level += len(field.parts)
+            start = after
+        return start
+
+    def field(self, field, later, level, values, cells, places, start, end):
+        element, (form, size) = field.element, field.extent
+        own = range(level, level + len(field.parts))
+        number, position = None, start
+        if form == "once" and element.kind in ("number", "enum"):
+            width = bits_of(element.base) // 8
+            if start + width > end:
+                fails("notenough")
+            read = element.kind == "enum" or any(part.refinement is not None for part in field.parts) or any(k in later for k in own)
+            number = self.memory.number(start, element.base) if read else None
+            if element.kind == "enum" and number not in element.values:
+                fails("constraint")
+            position = start + width
+        else:
+            position = self.array(field, values, cells, places, start, end)
+        for part in field.parts:
+            self.part(part, number, values, cells, places, start)
+        return position
+
+    def part(self, part, number, values, cells, places, start):
+        value = number
+        if value is not None and part.width is not None:
+            value = value >> part.low & 2**part.width - 1
+        values.append(value)
+        try:
+            if part.refinement is not None and not value_of(part.refinement, values):
+                fails("constraint")
+            if part.action is not None:
+                returned = self.block(part.action, values + [start], cells, places)
+                if returned == 0:
+                    fails("action")
+        except Rejected as failed:
+            failed.part = part.name
+            raise
+
+    def block(self, statements, values, cells, places):
+        """What is returned: None where the end is reached; an abort is a returned 0."""
+        values = list(values)
+        for statement in statements:
+            if statement[0] == "set":
+                cells[places[statement[1]]] = value_of(statement[2], values)
+            elif statement[0] == "var":
+                values.append(cells[places[statement[1]]])
+            elif statement[0] == "return":
+                return value_of(statement[1], values)
+            elif statement[0] == "abort":
+                return 0
+            else:
+                returned = self.block(statement[2 if value_of(statement[1], values) else 3], values, cells, places)
+                if returned is not None:
+                    return returned
+        return None
+
+    def array(self, field, values, cells, places, start, end):
+        element, (form, core) = field.element, field.extent
+        if form == "once":
+            return self.element(element, values, cells, places, start, end)
+        size = value_of(core, values)
+        if form == "zeroterm":
+            return self.up_to_zero(element, size, start, end)
+        if start + size > end:
+            fails("notenough")
+        constant = constant_size(element_kind(self.types, element))
+        if form == "single":
+            if constant is not None and constant != size:
+                fails("listsize")
+            position = self.element(element, values, cells, places, start, start + size)
+            if position != start + size:
+                fails("listsize", start)
+            return position
+        if constant is not None and size % constant:
+            fails("listsize")
+        if element.kind == "number":
+            return start + size
+        position = start
+        while position < start + size:
+            position = self.element(element, values, cells, places, position, start + size)
+        return position
+
+    def element(self, element, values, cells, places, start, end):
+        if element.kind in ("number", "enum"):
+            width = bits_of(element.base) // 8
+            if start + width > end:
+                fails("notenough")
+            if element.kind == "enum" and self.memory.number(start, element.base) not in element.values:
+                fails("constraint")
+            return start + width
+        if element.kind == "all_zeros":
+            for place in range(start, end):
+                if self.memory.byte(place):
+                    fails("padding", place)
+        if element.kind in ("all_bytes", "all_zeros"):
+            return end
+        if element.kind == "unit":
+            return start
+        arguments = [value_of(core, values) for core in element.arguments]
+        return self.definition(element.number, arguments, cells, [places[cell] for cell in element.cells], start, end)
+
+    def up_to_zero(self, element, size, start, end):
+        width = bits_of(element.base) // 8
+        position = start
+        while True:
+            if position + width > start + size:
+                fails("constraint")
+            if position + width > end:
+                fails("notenough")
+            if self.memory.number(position, element.base) == 0:
+                return position + width
+            position += width
+
+
+def later_levels(fields):
+    """For each field the levels that its own action and later fields name."""
+    found, later = [], set()
+    for field in reversed(fields):
+        for part in reversed(field.parts):
+            later = later | block_levels(part.action)
+        found.append(later)
+        later = later | field_levels(field)
+        for part in field.parts:
+            later = later | levels_in(part.refinement)
+    return found[::-1]
+
+
+def run(types, number, values, cells, length, memory):
+    """The verdict's line and the frames' lines; `cells` are left as actions wrote them."""
+    try:
+        position = Run(types, memory).definition(number, values, cells, list(range(len(cells))), 0, length)
+    except Rejected as failed:
+        position = failed.position
+        frames = "".join("frame %s.%s %d\n" % frame for frame in failed.frames)
+        return "reject %s %d\n%s" % (failed.reason, position, frames)
+    return "accept %d\n" % position

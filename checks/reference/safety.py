@@ -1,0 +1,181 @@
+"""The safety rule: facts, ranges, and the first operator that isn't safe.
+
+A fact is a comparison that is known true: (relation, left, right), its sides core expressions.
+"""
+
+from types import SimpleNamespace as Core
+
+from .errors import ModuleError
+from .sizes import field_lists
+from .values import constant_of
+
+TURNED = {"==": "!=", "!=": "==", "<": ">=", ">=": "<", ">": "<=", "<=": ">"}
+SWAPPED = {"==": "==", "!=": "!=", "<": ">", ">": "<", "<=": ">=", ">=": "<="}
+
+
+def key(core):
+    """Equal for two expressions that are the same: constant parts by their values, each part with its type."""
+    value = constant_of(core)
+    if value is not None:
+        return ("number", core.type, value)
+    own = core.level if core.kind == "name" else None
+    return (core.kind, core.type, own) + tuple(key(part) for part in core.parts)
+
+
+def keyed(relation, left, right):
+    return Core(relation=relation, left=left, right=right, left_key=key(left), right_key=key(right))
+
+
+def facts_of(core, holds):
+    """The conjuncts that are known where a truth value holds, or where it doesn't."""
+    if core.kind == "!":
+        return facts_of(core.parts[0], not holds)
+    if core.kind == ("&&" if holds else "||"):
+        return facts_of(core.parts[0], holds) + facts_of(core.parts[1], holds)
+    if core.kind == "range" and holds:
+        size, offset, access = core.parts
+        rest = Core(kind="-", type=max(size.type, access.type), at=core.at, parts=[size, access])
+        return [keyed("<=", access, size), keyed("<=", offset, rest)]
+    if core.kind in TURNED:
+        return [keyed(core.kind if holds else TURNED[core.kind], *core.parts)]
+    return []
+
+
+def cut(core, low, high, facts):
+    mine = key(core)
+    for fact in facts:
+        for relation, side, other in ((fact.relation, fact.left_key, fact.right), (SWAPPED[fact.relation], fact.right_key, fact.left)):
+            bound = constant_of(other)
+            if side != mine or bound is None:
+                continue
+            if relation in ("<", "<=", "=="):
+                high = min(high, bound - (relation == "<"))
+            if relation in (">", ">=", "=="):
+                low = max(low, bound + (relation == ">"))
+    return low, high
+
+
+def plain_range(core, facts):
+    value = constant_of(core)
+    if value is not None:
+        return value, value
+    if core.kind == "name":
+        return 0, core.most
+    most = 2**core.type - 1
+    if core.kind == "choice":
+        test, one, other = core.parts
+        low, high = range_of(one, facts + facts_of(test, True))
+        least, greatest = range_of(other, facts + facts_of(test, False))
+        return min(low, least), max(high, greatest)
+    if core.kind not in ("+", "-", "*", "/", "%", "&", ">>"):
+        return 0, most
+    low, high = range_of(core.parts[0], facts)
+    least, greatest = range_of(core.parts[1], facts)
+    return {
+        "+": (low + least, high + greatest),
+        "-": (max(0, low - greatest), high - least),
+        "*": (low * least, high * greatest),
+        "/": (0, high),
+        "%": (0, min(high, greatest - 1)),
+        "&": (0, min(high, greatest)),
+        ">>": (0, high),
+    }[core.kind]
+
+
+def range_of(core, facts):
+    low, high = plain_range(core, facts)
+    return cut(core, low, high, facts)
+
+
+def says(facts, relations, left, right):
+    """A fact has this form, from either side."""
+    left, right = key(left), key(right)
+    for fact in facts:
+        if fact.relation in relations and (fact.left_key, fact.right_key) == (left, right):
+            return True
+        if SWAPPED[fact.relation] in relations and (fact.right_key, fact.left_key) == (left, right):
+            return True
+    return False
+
+
+def bounds_sum(facts, a, b, bits):
+    """A fact is `a <= c - b`, with c no wider than the sum's type."""
+    for fact in facts:
+        if fact.relation == "<=" and fact.left_key == key(a) and fact.right.kind == "-" and constant_of(fact.right) is None:
+            c, taken = fact.right.parts
+            if key(taken) == key(b) and c.type <= bits:
+                return True
+    return False
+
+
+def is_safe(core, facts):
+    a, b = core.parts
+    low, high = range_of(a, facts)
+    least, greatest = range_of(b, facts)
+    if core.kind == "-":
+        return low >= greatest or says(facts, ("<=", "<", "=="), b, a)
+    if core.kind == "+":
+        fits = high + greatest < 2**core.type
+        return fits or bounds_sum(facts, a, b, core.type) or bounds_sum(facts, b, a, core.type)
+    if core.kind == "*":
+        return high * greatest < 2**core.type
+    if core.kind in ("/", "%"):
+        zero = Core(kind="number", type=b.type, value=0, parts=[])
+        return least >= 1 or any(says(facts, ("!=",), b, Core(**{**vars(zero), "type": bits})) for bits in (8, 16, 32, 64))
+    return greatest < a.type
+
+
+def unsafe(core, facts):
+    """The operators of an expression that aren't safe: (place, operator)."""
+    if core is None:
+        return
+    if core.kind in ("+", "-", "*", "/", "%", "<<", ">>") and not is_safe(core, facts):
+        yield core.at, core.kind
+    more = [facts] * len(core.parts)
+    if core.kind in ("&&", "||"):
+        more[1] = facts + facts_of(core.parts[0], core.kind == "&&")
+    if core.kind == "choice":
+        more[1], more[2] = facts + facts_of(core.parts[0], True), facts + facts_of(core.parts[0], False)
+    for part, known in zip(core.parts, more):
+        yield from unsafe(part, known)
+
+
+def block_unsafe(statements, facts):
+    for statement in statements:
+        if statement[0] == "set":
+            yield from unsafe(statement[2], facts)
+        elif statement[0] == "return":
+            yield from unsafe(statement[1], facts)
+        elif statement[0] == "if":
+            yield from unsafe(statement[1], facts)
+            yield from block_unsafe(statement[2], facts + facts_of(statement[1], True))
+            yield from block_unsafe(statement[3], facts + facts_of(statement[1], False))
+
+
+def fields_unsafe(fields, facts):
+    for field in fields:
+        for core in getattr(field.element, "arguments", []):
+            yield from unsafe(core, facts)
+        yield from unsafe(field.extent[1], facts)
+        for part in field.parts:
+            if part.refinement is not None:
+                yield from unsafe(part.refinement, facts)
+                facts = facts + facts_of(part.refinement, True)
+            if part.action is not None:
+                yield from block_unsafe(part.action, facts)
+
+
+def module_unsafe(types):
+    for made in types:
+        facts = []
+        if made.guard is not None:
+            yield from unsafe(made.guard, [])
+            facts = facts_of(made.guard, True)
+        yield from unsafe(made.switch, facts)
+        for fields in field_lists(made):
+            yield from fields_unsafe(fields, facts)
+
+
+def check_safety(types):
+    for at, operator in sorted(module_unsafe(types))[:1]:
+        raise ModuleError("A1", at, "unsafe " + operator)

@@ -1,0 +1,82 @@
+"""What names stand for, and the breaches of rules."""
+
+from types import SimpleNamespace as Record
+
+from .errors import ModuleError
+from .tokens import NUMBER_TYPES
+
+RULES = {
+    "N1": "unknown name",
+    "N2": "name twice",
+    "N3": "not readable",
+    "N4": "wrong arguments",
+    "Y1": "type mismatch",
+    "Y2": "does not fit",
+    "Y3": "not constant",
+    "Y4": "bad action",
+}
+
+
+class Breaches:
+    """The rules that are broken. The earliest place is named, and of several rules there the first."""
+
+    def __init__(self):
+        self.found = []
+
+    def note(self, rule, at):
+        self.found.append((at, rule))
+
+    def note_if(self, test, rule, at):
+        if test:
+            self.note(rule, at)
+
+    def refuse_first(self):
+        if self.found:
+            at, rule = min(self.found)
+            raise ModuleError(rule, at, RULES[rule])
+
+
+# What the name of a definition, a constant or a member stands for: `kind` is constant, member, number, enum, type, record.
+# `definition` is the number in the text of the definition that it names; a member names none.
+def meaning(kind, definition, **parts):
+    return Record(kind=kind, definition=definition, **parts)
+
+
+# What a parameter, a field or a `var` stands for: `kind` is value (a number at a level of the scope), none (a field that
+# is no number), cell (an out-parameter that is one cell) or row (an output record's cells).
+def local(kind, **parts):
+    return Record(kind=kind, **parts)
+
+
+class Scope:
+    """The local names, and how many values stand in scope. A block's scope is a copy."""
+
+    def __init__(self, names=None, levels=0, start=None, this=None):
+        self.names, self.levels, self.start, self.this = dict(names or {}), levels, start, this
+
+    def copy(self):
+        return Scope(self.names, self.levels, self.start, self.this)
+
+    def add_value(self, name, bits, most):
+        self.names[name] = local("value", level=self.levels, bits=bits, most=most)
+        self.levels += 1
+
+    def add_none(self, name):
+        self.names[name] = local("none")
+        self.levels += 1
+
+
+class Known:
+    """What is known after the definitions so far."""
+
+    def __init__(self):
+        self.globals, self.used, self.count = {}, set(), 0
+        self.types, self.entries = [], []
+
+    def find(self, scope, name):
+        """A local hides a definition."""
+        return scope.names.get(name) or self.globals.get(name)
+
+
+def bits_of(type_name):
+    return 8 * NUMBER_TYPES[type_name][0]

@@ -1,0 +1,91 @@
+//! Scopes and names that are given, as they grow.
+
+ghost use Rattle.std.specs.Prelude.{◌≡◌, OnOk};
+ghost use Rattle.td_core.specs.Formed.{scalar_of};
+ghost use Rattle.td_rules.specs.Known.{with_local, with_level, with_value, with_outer, with_field_name};
+ghost use Rattle.td_actions.specs.Scopes.{cut_back};
+
+use std::alloc::{AllocError, Global};
+use td_core::expressions::Scalar;
+use td_num::number::Width;
+use td_rules::known::{Local, Scope, Taken};
+
+/// The type of a number of a width.
+pub fn scalar_of(width: Width) -> Scalar
+    ensures { result ≡ scalar_of width }
+{
+    match width {
+        Width::One => Scalar::Eight,
+        Width::Two => Scalar::Sixteen,
+        Width::Four => Scalar::ThirtyTwo,
+        Width::Eight => Scalar::SixtyFour,
+    }
+}
+
+/// One more local name. `AllocError`: out of memory.
+pub fn add_local(
+    alloc: Global,
+    scope: &mut Scope,
+    name: &[u8],
+    local: Local,
+) -> Result<(), AllocError>
+    ensures { OnOk result (scope.new ≡ with_local scope.old name.now local) }
+{
+    scope.locals.declare(alloc, name, local)
+}
+
+/// One more value in scope. `AllocError`: there are 2^32 - 1 of them.
+pub fn add_level(scope: &mut Scope) -> Result<(), AllocError>
+    ensures { OnOk result (scope.new ≡ with_level scope.old) }
+{
+    scope.levels = scope.levels.checked_add(1).ok_or(AllocError)?;
+    Ok(())
+}
+
+/// One more value in scope, by its name. `AllocError`: out of memory, or there are 2^32 - 1 values.
+pub fn add_value(
+    alloc: Global,
+    scope: &mut Scope,
+    name: &[u8],
+    scalar: Scalar,
+    most: u64,
+) -> Result<(), AllocError>
+    ensures { OnOk result (scope.new ≡ with_value scope.old name.now scalar most) }
+{
+    let level = scope.levels;
+    add_local(
+        alloc,
+        scope,
+        name,
+        Local::Value {
+            level,
+            scalar,
+            most,
+        },
+    )?;
+    add_level(scope)
+}
+
+/// The name of a parameter or a `var` is given. `AllocError`: out of memory.
+pub fn take_name(alloc: Global, taken: &mut Taken, name: &[u8]) -> Result<(), AllocError>
+    ensures { OnOk result (taken.new ≡ with_outer taken.old name.now) }
+{
+    taken.outer.see(alloc, name)?;
+    taken.all.see(alloc, name)
+}
+
+/// The name of a field is given. `AllocError`: out of memory.
+pub fn take_field_name(alloc: Global, taken: &mut Taken, name: &[u8]) -> Result<(), AllocError>
+    ensures { OnOk result (taken.new ≡ with_field_name taken.old name.now) }
+{
+    taken.fields.see(alloc, name)?;
+    taken.all.see(alloc, name)
+}
+
+/// A scope cut back to so many of its names and values. Takes no memory.
+pub fn cut_back(scope: &mut Scope, names: usize, levels: u32)
+    ensures { scope.new ≡ cut_back names levels scope.old }
+{
+    scope.locals.truncate(names);
+    scope.levels = levels;
+}

@@ -1,0 +1,11 @@
+pub mod Fitting
+pub mod States
+pub mod Numbers
+pub mod Deeds
+pub mod Parts
+pub mod Shapes
+pub mod Definitions
+pub mod Evaluated
+pub mod Sizes
+pub mod Cutting
+pub mod Finding

@@ -1,0 +1,94 @@
+-- The numbers that fields bring into scope.
+use Rattle.std.proofs.Common.{◌≡◌, ℕ, zero, suc, ◌+◌, ◌-◌, ◌*◌, ◌/◌, ◌^◌, ◌<◌, ◌≤◌, List, slice_index, refl, sym, ap, ◌∙◌, arith, lit<, Option, Some, None}
+use Rattle.std.proofs.Math.Nat.{mul-suc, mul-le-mul_right, mul_assoc, mul_comm, div-le_self, mod-le}
+use Rattle.std.proofs.lemmas.Nat.{pow-add, pow_pos, mod_below}
+use Rattle.td_num.specs.Numbers.{bytes_in, rising_at, falling_on, ordered_at, number_at}
+use Rattle.td_num.specs.declared.number.Width.{Width}
+use Rattle.td_num.specs.declared.number.Width.TheVariants.{One, Two, Four, Eight}
+use Rattle.td_num.specs.declared.number.ByteOrder.{ByteOrder}
+use Rattle.td_num.specs.declared.number.ByteOrder.TheVariants.{LittleEndian, BigEndian}
+use Rattle.td_num.specs.declared.number.NumberType.{NumberType}
+use Rattle.td_core.specs.declared.module.Element.{Element}
+use Rattle.td_core.specs.declared.module.Element.TheVariants.{Number, Listed, Named, Unit as UnitElement, Rest, Zeros}
+use Rattle.td_core.specs.declared.module.Extent.{Extent}
+use Rattle.td_core.specs.declared.module.Extent.TheVariants.{Once, Filling, OnceFilling, UpToZero}
+use Rattle.td_core.specs.declared.module.Bits.{Bits}
+use Rattle.td_core.specs.Types.{limit}
+use Rattle.td_core.specs.Formed.{scalar_of, bits_bound, part_bound}
+use Rattle.td_meaning.specs.Meaning.{bits_of, field_number}
+use Rattle.td_arith.specs.Laws.{AreBytes}
+
+power : (k : ℕ) → 2 ^ (8 * suc k) ≡ 256 * 2 ^ (8 * k)
+power k = rw mul-suc (rw pow-add (omega arith))
+
+rising_small : (bytes : List ℕ) → AreBytes bytes → (p w : ℕ) → rising_at bytes p w < 2 ^ (8 * w)
+rising_small bytes small p zero = lit< tt
+rising_small bytes small p (suc w) =
+    let rest = rising_small bytes small (p + 1) w in
+    let low = small p in
+    rw power (omega arith)
+
+scaled : (n t : ℕ) → 256 * (n + 1) * t ≡ (n + 1) * (256 * t)
+scaled n t = ap (λ x. x * t) (mul_comm 256 (n + 1)) ∙ mul_assoc (n + 1) 256 t
+
+falling_small : (bytes : List ℕ) → AreBytes bytes → (n p w : ℕ) → falling_on n bytes p w < (n + 1) * 2 ^ (8 * w)
+falling_small bytes small n p zero = omega arith
+falling_small bytes small n p (suc w) =
+    let t = 2 ^ (8 * w) in
+    let d = slice_index bytes p in
+    let digit : 256 * n + d + 1 ≤ 256 * (n + 1) = omega (arith, small p) in
+    let rest = falling_small bytes small (256 * n + d) (p + 1) w in
+    let room : (256 * n + d + 1) * t ≤ 256 * (n + 1) * t = mul-le-mul_right t digit in
+    let same : (n + 1) * 2 ^ (8 * suc w) ≡ 256 * (n + 1) * t = ap (λ x. (n + 1) * x) (power w) ∙ sym (scaled n t) in
+    omega (arith, rest, room, same)
+
+ordered_small : (bytes : List ℕ) → AreBytes bytes → (o : ByteOrder) (p w : ℕ) → ordered_at o bytes p w < 2 ^ (8 * w)
+ordered_small bytes small LittleEndian p w = rising_small bytes small p w
+ordered_small bytes small BigEndian p w = omega (arith, falling_small bytes small 0 p w)
+
+limit_is : (w : Width) → limit (scalar_of w) ≡ 2 ^ (8 * bytes_in w)
+limit_is One = refl
+limit_is Two = refl
+limit_is Four = refl
+limit_is Eight = refl
+
+number_small : (bytes : List ℕ) → AreBytes bytes → (type : NumberType) (p : ℕ) → number_at type bytes p ≤ limit (scalar_of type.width) - 1
+number_small bytes small type p =
+    let h = ordered_small bytes small type.order p (bytes_in type.width) in
+    let e = limit_is type.width in
+    omega (arith, h, e)
+
+bits_small : (width : Width) (bits : Option Bits) (n : ℕ) → n ≤ limit (scalar_of width) - 1 → bits_of bits n ≤ (bits_bound width bits).most
+bits_small width None n h = h
+bits_small width (Some bits) n h = let below = mod_below (n / 2 ^ bits.low) (2 ^ bits.width) (pow_pos bits.width) in omega (arith, below)
+
+no_bits : (bits : Option Bits) → bits_of bits 0 ≤ 0
+no_bits None = omega arith
+no_bits (Some bits) = omega (arith, mod-le (0 / 2 ^ bits.low) (2 ^ bits.width), div-le_self 0 (2 ^ bits.low))
+
+pub field_number_fits : (element : Element) (extent : Extent) (bytes : List ℕ) → AreBytes bytes → (p : ℕ) (bits : Option Bits)
+    → bits_of bits (field_number element extent bytes p) ≤ (part_bound element extent bits).most
+field_number_fits (Number type) Once bytes small p bits = bits_small type.width bits (number_at type bytes p) (number_small bytes small type p)
+field_number_fits (Listed base k) Once bytes small p bits = bits_small base.width bits (number_at base bytes p) (number_small bytes small base p)
+field_number_fits (Named j args own) Once bytes small p bits = no_bits bits
+field_number_fits UnitElement Once bytes small p bits = no_bits bits
+field_number_fits Rest Once bytes small p bits = no_bits bits
+field_number_fits Zeros Once bytes small p bits = no_bits bits
+field_number_fits (Number type) (Filling e step) bytes small p bits = no_bits bits
+field_number_fits (Listed base k) (Filling e step) bytes small p bits = no_bits bits
+field_number_fits (Named j args own) (Filling e step) bytes small p bits = no_bits bits
+field_number_fits UnitElement (Filling e step) bytes small p bits = no_bits bits
+field_number_fits Rest (Filling e step) bytes small p bits = no_bits bits
+field_number_fits Zeros (Filling e step) bytes small p bits = no_bits bits
+field_number_fits (Number type) (OnceFilling e step) bytes small p bits = no_bits bits
+field_number_fits (Listed base k) (OnceFilling e step) bytes small p bits = no_bits bits
+field_number_fits (Named j args own) (OnceFilling e step) bytes small p bits = no_bits bits
+field_number_fits UnitElement (OnceFilling e step) bytes small p bits = no_bits bits
+field_number_fits Rest (OnceFilling e step) bytes small p bits = no_bits bits
+field_number_fits Zeros (OnceFilling e step) bytes small p bits = no_bits bits
+field_number_fits (Number type) (UpToZero e) bytes small p bits = no_bits bits
+field_number_fits (Listed base k) (UpToZero e) bytes small p bits = no_bits bits
+field_number_fits (Named j args own) (UpToZero e) bytes small p bits = no_bits bits
+field_number_fits UnitElement (UpToZero e) bytes small p bits = no_bits bits
+field_number_fits Rest (UpToZero e) bytes small p bits = no_bits bits
+field_number_fits Zeros (UpToZero e) bytes small p bits = no_bits bits

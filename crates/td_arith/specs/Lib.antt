@@ -1,0 +1,5 @@
+pub mod SafeModule
+pub mod Sizes
+pub mod Laws
+pub mod Ends
+pub mod Known

@@ -1,0 +1,155 @@
+//! The first operator of fields that isn't safe.
+
+ghost use Rattle.std.specs.Prelude.{◌≡◌, IfOk, OnOk};
+ghost use Rattle.td_arith.specs.Known.{facts_in};
+ghost use Rattle.td_arith.specs.SafeModule.{option_unsafe, known_after, list_unsafe, element_unsafe, extent_unsafe, part_unsafe, parts_unsafe, known_after_parts, field_unsafe, fields_unsafe};
+
+use crate::actions::action_unsafe;
+use crate::expressions::{expression_unsafe, first_of};
+use crate::facts::Known;
+use std::alloc::{AllocError, Global};
+use td_core::expressions::CoreExpr;
+use td_core::module::{Element, Extent, Field, Part};
+use td_expr::safety::Unsafe;
+
+/// The first operator of a test that isn't safe, where there is a test. On `Ok` what is known is as before.
+pub fn test_unsafe<'a>(
+    alloc: Global,
+    test: &'a Option<CoreExpr>,
+    known: &mut Vec<Known<'a>>,
+) -> Result<Option<Unsafe>, AllocError>
+    ensures first { IfOk result (λ u. u ≡ option_unsafe (facts_in known.old.items) test.now) }
+    ensures same { OnOk result (known.new.items ≡ known.old.items) }
+{
+    match test {
+        Some(e) => expression_unsafe(alloc, e, known),
+        None => Ok(None),
+    }
+}
+
+/// Adds what is known once a test passed.
+pub fn learn<'a>(test: &'a Option<CoreExpr>, known: &mut Vec<Known<'a>>) -> Result<(), AllocError>
+    ensures { OnOk result (facts_in known.new.items ≡ known_after (facts_in known.old.items) test.now) }
+{
+    if let Some(condition) = test {
+        known.push(Known {
+            truth: true,
+            condition,
+        })?;
+    }
+    Ok(())
+}
+
+/// The first operator of fields that isn't safe where conditions are known to hold. Afterwards also the refinements of the
+/// fields are known. `AllocError`: there was no memory to look.
+pub fn fields_unsafe<'a>(
+    alloc: Global,
+    fields: &'a [Field],
+    known: &mut Vec<Known<'a>>,
+) -> Result<Option<Unsafe>, AllocError>
+    ensures { IfOk result (λ u. u ≡ fields_unsafe (facts_in known.old.items) fields.now) }
+{
+    let mut found = None;
+    for field in fields {
+        let own = field_unsafe(alloc, field, known)?;
+        found = first_of(found, own);
+    }
+    Ok(found)
+}
+
+/// The arguments of a type that is named.
+fn args_unsafe<'a>(
+    alloc: Global,
+    args: &'a [CoreExpr],
+    known: &mut Vec<Known<'a>>,
+) -> Result<Option<Unsafe>, AllocError>
+    ensures first { IfOk result (λ u. u ≡ list_unsafe (facts_in known.old.items) args.now) }
+    ensures same { OnOk result (known.new.items ≡ known.old.items) }
+{
+    let mut found = None;
+    for e in args {
+        let own = expression_unsafe(alloc, e, known)?;
+        found = first_of(found, own);
+    }
+    Ok(found)
+}
+
+fn element_unsafe<'a>(
+    alloc: Global,
+    element: &'a Element,
+    known: &mut Vec<Known<'a>>,
+) -> Result<Option<Unsafe>, AllocError>
+    ensures first { IfOk result (λ u. u ≡ element_unsafe (facts_in known.old.items) element.now) }
+    ensures same { OnOk result (known.new.items ≡ known.old.items) }
+{
+    match element {
+        Element::Named { args, .. } => args_unsafe(alloc, args.as_slice(), known),
+        _ => Ok(None),
+    }
+}
+
+fn extent_unsafe<'a>(
+    alloc: Global,
+    extent: &'a Extent,
+    known: &mut Vec<Known<'a>>,
+) -> Result<Option<Unsafe>, AllocError>
+    ensures first { IfOk result (λ u. u ≡ extent_unsafe (facts_in known.old.items) extent.now) }
+    ensures same { OnOk result (known.new.items ≡ known.old.items) }
+{
+    match extent {
+        Extent::Once => Ok(None),
+        Extent::Filling { size, .. }
+        | Extent::OnceFilling { size, .. }
+        | Extent::UpToZero { size } => { expression_unsafe(alloc, size, known) }
+    }
+}
+
+/// A part's refinement, and then its action, where the refinement is known.
+fn part_unsafe<'a>(
+    alloc: Global,
+    part: &'a Part,
+    known: &mut Vec<Known<'a>>,
+) -> Result<Option<Unsafe>, AllocError>
+    ensures first { IfOk result (λ u. u ≡ part_unsafe (facts_in known.old.items) part.now) }
+    ensures learned { OnOk result (facts_in known.new.items ≡
+        known_after (facts_in known.old.items) part.now.refinement) }
+{
+    let own = test_unsafe(alloc, &part.refinement, known)?;
+    learn(&part.refinement, known)?;
+    let acted = action_unsafe(alloc, &part.action, known)?;
+    Ok(first_of(own, acted))
+}
+
+/// The parts of a field, whose refinements are known from then on.
+fn parts_unsafe<'a>(
+    alloc: Global,
+    parts: &'a [Part],
+    known: &mut Vec<Known<'a>>,
+) -> Result<Option<Unsafe>, AllocError>
+    ensures first { IfOk result (λ u. u ≡ parts_unsafe (facts_in known.old.items) parts.now) }
+    ensures learned { OnOk result (facts_in known.new.items ≡
+        known_after_parts (facts_in known.old.items) parts.now) }
+{
+    let mut found = None;
+    for part in parts {
+        let own = part_unsafe(alloc, part, known)?;
+        found = first_of(found, own);
+    }
+    Ok(found)
+}
+
+/// A field: its element's arguments, its size, its parts.
+fn field_unsafe<'a>(
+    alloc: Global,
+    field: &'a Field,
+    known: &mut Vec<Known<'a>>,
+) -> Result<Option<Unsafe>, AllocError>
+    ensures first { IfOk result (λ u. u ≡ field_unsafe (facts_in known.old.items) field.now) }
+    ensures learned { OnOk result (facts_in known.new.items ≡
+        known_after_parts (facts_in known.old.items) field.now.parts) }
+{
+    let element = element_unsafe(alloc, &field.element, known)?;
+    let extent = extent_unsafe(alloc, &field.extent, known)?;
+    let parts = parts_unsafe(alloc, field.parts.as_slice(), known)?;
+    Ok(first_of(element, first_of(extent, parts)))
+}

@@ -1,0 +1,57 @@
+//! Fields of structs and cases.
+
+use crate::actions::ActionTree;
+use crate::expressions::Expr;
+use crate::names::{Literal, Name};
+use crate::token::Span;
+use td_num::items::Items;
+use td_num::number::NumberType;
+use td_num::text::Text;
+
+/// What a field has for a type.
+#[derive(Debug, Drop)]
+pub enum TypeKind {
+    /// One of the eight number types.
+    Number(NumberType),
+    /// `unit`
+    Unit,
+    /// `all_bytes`
+    AllBytes,
+    /// `all_zeros`
+    AllZeros,
+    /// `NAME ["(" expr { "," expr } ")"]`, a name and its arguments. Where there are no parentheses, none.
+    Named(Text, Items<Expr>),
+}
+
+/// A type, and the span of its first token.
+#[derive(Debug, Drop)]
+pub struct TypeTree {
+    pub span: Span,
+    pub kind: TypeKind,
+}
+
+/// What stands after a field's name: an array's size or a bit width.
+#[derive(Debug, Drop)]
+pub enum ExtentTree {
+    /// `[ e ]`
+    Bytes(Expr),
+    /// `[:byte-size e ]`
+    ByteSize(Expr),
+    /// `[:byte-size-single-element-array e ]`
+    SingleElement(Expr),
+    /// `[:zeroterm-byte-size-at-most e ]`
+    Zeroterm(Expr),
+    /// `: NUM`
+    Bits(Literal),
+}
+
+/// `type NAME [extent] ["{" expr "}"] [action] ";"`, a field.
+#[derive(Debug, Drop)]
+pub struct FieldTree {
+    pub type_tree: TypeTree,
+    pub name: Name,
+    pub extent: Option<ExtentTree>,
+    /// The expression in braces.
+    pub refinement: Option<Expr>,
+    pub action: Option<ActionTree>,
+}

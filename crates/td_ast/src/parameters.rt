@@ -1,0 +1,32 @@
+//! What stands between the first name of a struct or casetype and its body: parameters and the `where` condition.
+
+use crate::expressions::Expr;
+use crate::names::{Name, NumberTree, PlainTree};
+use crate::token::Span;
+use td_num::items::Items;
+
+/// `INT | "PUINT8" | NAME`, what a `mutable` parameter points to.
+#[derive(Debug, Drop)]
+pub enum TargetTree {
+    Number(NumberTree),
+    /// `PUINT8`, by its span.
+    Pointer(Span),
+    Named(Name),
+}
+
+/// A parameter.
+#[derive(Debug, Drop)]
+pub enum ParamTree {
+    /// `plain NAME`, a value.
+    Value(PlainTree, Name),
+    /// `"mutable" target "*" NAME`, a place that actions store to.
+    Mutable(TargetTree, Name),
+}
+
+/// `["(" param { "," param } ")"] ["where" expr]`, a head. Where there are no parentheses, `params` is empty.
+#[derive(Debug, Drop)]
+pub struct HeadTree {
+    pub params: Items<ParamTree>,
+    /// The expression after `where`.
+    pub condition: Option<Expr>,
+}

@@ -1,0 +1,231 @@
+-- How a call ends, from how its words were understood, its source was read and its input was answered.
+use Rattle.std.proofs.Common.{◌≡◌, ◌≢◌, inl, inr, ℕ, zero, suc, ◌+◌, ◌<◌, ◌≤◌, List, [], ◌∷◌, length, Option, Some, None, Result, Ok, Err, refl, sym, subst, ◌∙◌, arith}
+use Rattle.std.specs.Io.KnownBytes.{IsAtEnd}
+use Rattle.td_io.specs.declared.reading.ReadError.{ReadError}
+use Rattle.td_io.specs.declared.reading.ReadError.TheVariants as reading
+use Rattle.td_io.specs.Causes.{ReadWhole, HasMore, TookAtMost}
+use Rattle.td_io.specs.States.{SourceState, SinkState}
+use Rattle.td_cli.specs.declared.command.Command.{Command}
+use Rattle.td_cli.specs.declared.command.Command.TheVariants.{Check, Run}
+use Rattle.td_cli.specs.declared.refusal.Refusal.{Refusal}
+use Rattle.td_cli.specs.declared.refusal.Refusal.TheVariants.{TooLong}
+use Rattle.td_cli.specs.declared.status.Status.{Status}
+use Rattle.td_cli.specs.declared.status.Status.TheVariants as at
+use Rattle.td_cli.specs.declared.tool.TheConstants.{INPUT_LIMIT}
+use Rattle.td_cli.specs.Command.{Means, MeansNone, name_of}
+use Rattle.td_cli.specs.Answers.{Admits, Refuses}
+use Rattle.td_cli.specs.Errors.{unread_status, unread_line}
+use Rattle.td_cli.specs.Lines.{usage_line, read_line, memory_line, refusal_line}
+use Rattle.td_io.specs.declared.reading.TheConstants.{PIECE}
+use Rattle.td_cli.specs.Ends.{Passage, passage, CallEnds, StopsReading, WriteFails, ReadFails, NoReadFails, WithinLimit, Held, IsOutput, IsErrorLine, EndsAs}
+use Rattle.td_cli.specs.Endings.{EndsWith, EndsWithOutput, EndsWithLine, InputEnds}
+
+-- ---- text that goes out
+
+-- a text that goes to a sink ends the call as it was to end, or by a fault
+pub ends_or_fails : (end : Status) (text : List ℕ) (sink : Passage SinkState) (result other : Status) → EndsWith end text sink result → end ≢ other → at.WriteFault ≢ other → result ≢ other
+ends_or_fails end text sink result other (inl taken) not fault same = not (sym taken.0 ∙ same)
+ends_or_fails end text sink result other (inr failed) not fault same = fault (sym failed.0 ∙ same)
+
+fault_ends : (status : Status) (words : List (List ℕ)) (source : Passage SourceState) (line : List ℕ) (out err : Passage SinkState) (result : Status)
+    → IsErrorLine status words source line → result ≡ at.WriteFault → WriteFails err line → out.Untouched → EndsAs result words source out err
+fault_ends status words source line out err result is same fails free =
+    let P : Status → Type 0 = λ s. EndsAs s words source out err in subst P (sym same) (inr (status, line, is, fails, free))
+
+-- the line of a status goes to the error stream
+pub line_ends : (status : Status) (words : List (List ℕ)) (source : Passage SourceState) (line : List ℕ) (out err : Passage SinkState) (result : Status)
+    → IsErrorLine status words source line → EndsWithLine status line out err result → EndsAs result words source out err
+line_ends at.Done words source line out err result is h = absurd is
+line_ends at.WriteFault words source line out err result is h = absurd is
+line_ends at.Refused words source line out err result is (inl taken, free) =
+    let P : Status → Type 0 = λ s. EndsAs s words source out err in subst P (sym taken.0) (line, is, taken.1, free)
+line_ends at.Refused words source line out err result is (inr failed, free) = fault_ends at.Refused words source line out err result is failed.0 failed.1 free
+line_ends at.Usage words source line out err result is (inl taken, free) =
+    let P : Status → Type 0 = λ s. EndsAs s words source out err in subst P (sym taken.0) (line, is, taken.1, free)
+line_ends at.Usage words source line out err result is (inr failed, free) = fault_ends at.Usage words source line out err result is failed.0 failed.1 free
+line_ends at.ReadFault words source line out err result is (inl taken, free) =
+    let P : Status → Type 0 = λ s. EndsAs s words source out err in subst P (sym taken.0) (line, is, taken.1, free)
+line_ends at.ReadFault words source line out err result is (inr failed, free) = fault_ends at.ReadFault words source line out err result is failed.0 failed.1 free
+line_ends at.NoMemory words source line out err result is (inl taken, free) =
+    let P : Status → Type 0 = λ s. EndsAs s words source out err in subst P (sym taken.0) (line, is, taken.1, free)
+line_ends at.NoMemory words source line out err result is (inr failed, free) = fault_ends at.NoMemory words source line out err result is failed.0 failed.1 free
+
+-- the output goes to `out`
+output_ends : (words : List (List ℕ)) (source : Passage SourceState) (output : List ℕ) (out err : Passage SinkState) (result : Status)
+    → IsOutput words source output → EndsWithOutput output out err result → EndsAs result words source out err
+output_ends words source output out err result is (inl taken, free) =
+    let P : Status → Type 0 = λ s. EndsAs s words source out err in subst P (sym taken.0) (output, is, taken.1, free)
+output_ends words source output out err result is (inr failed, free) =
+    let P : Status → Type 0 = λ s. EndsAs s words source out err in subst P (sym failed.0) (inl (output, is, failed.1, free))
+
+-- ---- an input that was read
+
+-- what is known of a source that was read to its end
+pub record WasRead (source : Passage SourceState) (input : List ℕ) : Type 0 where
+  pub held : Held source input
+  pub end : IsAtEnd source.after.left
+  pub quiet : NoReadFails source
+  pub within : WithinLimit source
+
+pub input_ends : (words : List (List ℕ)) (command : Command) (source : Passage SourceState) (input : List ℕ) (out err : Passage SinkState) (result : Status)
+    → Means words command → WasRead source input → InputEnds command input out err result → EndsAs result words source out err
+input_ends words command source input out err result means read (inl h) =
+    output_ends words source h.0 out err result (record { command = command; means = means; input = input; held = read.held; end = read.end; quiet = read.quiet; answers = h.1 }) h.2
+input_ends words command source input out err result means read (inr (inl h)) =
+    line_ends at.Refused words source (refusal_line input h.0) out err result (record { command = command; means = means; input = input; held = read.held; quiet = read.quiet; refusal = h.0; refuses = h.1; line_is = refl }) h.2
+input_ends words command source input out err result means read (inr (inr h)) =
+    line_ends at.NoMemory words source memory_line out err result (inr ((command, means), read.quiet, read.within), refl) h
+
+-- an input that was read ends a call in one of four ways
+pub input_never : (command : Command) (input : List ℕ) (out err : Passage SinkState) (result other : Status)
+    → at.Done ≢ other → at.Refused ≢ other → at.NoMemory ≢ other → at.WriteFault ≢ other → InputEnds command input out err result → result ≢ other
+input_never command input out err result other done refused memory fault (inl h) = ends_or_fails at.Done h.0 out result other h.2.0 done fault
+input_never command input out err result other done refused memory fault (inr (inl h)) = ends_or_fails at.Refused (refusal_line input h.0) err result other h.2.0 refused fault
+input_never command input out err result other done refused memory fault (inr (inr h)) = ends_or_fails at.NoMemory memory_line err result other h.0 memory fault
+
+-- ---- a source that wasn't read to its end
+
+some_longer : (n : ℕ) → (xs : List ℕ) × (n < length xs)
+some_longer zero = (0 ∷ [], omega arith)
+some_longer (suc n) = let r = some_longer n in let h : n < length r.0 = r.1 in (0 ∷ r.0, omega (arith, h))
+
+-- a source with more bytes than the limit holds an input that is too long
+long_input : (left : Option (List ℕ)) → HasMore left INPUT_LIMIT → (input : List ℕ) × ReadWhole left input × (INPUT_LIMIT < length input)
+long_input None more = let long = some_longer INPUT_LIMIT in (long.0, tt, long.1)
+long_input (Some bytes) more = (bytes, refl, more)
+
+refuses_long : (command : Command) (input : List ℕ) → INPUT_LIMIT < length input → Refuses command input TooLong
+refuses_long Check input long = long
+refuses_long Run input long = long
+
+-- what is known of a source that wasn't
+pub record WasUnread (source : Passage SourceState) (error : ReadError) : Type 0 where
+  pub fault : error ≡ reading.Fault → ReadFails source
+  pub quiet : (error ≡ reading.Fault → ⊥) → NoReadFails source
+  pub long : error ≡ reading.TooLong → HasMore source.before.left INPUT_LIMIT
+  pub within : (error ≡ reading.TooLong → ⊥) → WithinLimit source
+
+pub unread_ends : (words : List (List ℕ)) (command : Command) (source : Passage SourceState) (error : ReadError) (out err : Passage SinkState) (result : Status)
+    → Means words command → WasUnread source error → EndsWithLine (unread_status error) (unread_line error) out err result → EndsAs result words source out err
+unread_ends words command source reading.Fault out err result means was h =
+    line_ends at.ReadFault words source read_line out err result ((command, means), was.fault refl, refl) h
+unread_ends words command source reading.TooLong out err result means was h =
+    let long = long_input source.before.left (was.long refl) in
+    let quiet : NoReadFails source = was.quiet (λ same. cc) in
+    line_ends at.Refused words source (refusal_line [] TooLong) out err result (record { command = command; means = means; input = long.0; held = long.1; quiet = quiet; refusal = TooLong; refuses = refuses_long command long.0 long.2; line_is = refl }) h
+unread_ends words command source reading.NoMemory out err result means was h =
+    line_ends at.NoMemory words source memory_line out err result (inr ((command, means), was.quiet (λ same. cc), was.within (λ same. cc)), refl) h
+
+-- a source that wasn't read to its end is neither answered nor no command
+pub unread_never : (error : ReadError) (err : Passage SinkState) (result other : Status)
+    → at.ReadFault ≢ other → at.Refused ≢ other → at.NoMemory ≢ other → at.WriteFault ≢ other → EndsWith (unread_status error) (unread_line error) err result → result ≢ other
+unread_never reading.Fault err result other read refused memory fault h = ends_or_fails at.ReadFault read_line err result other h read fault
+unread_never reading.TooLong err result other read refused memory fault h = ends_or_fails at.Refused (refusal_line [] TooLong) err result other h refused fault
+unread_never reading.NoMemory err result other read refused memory fault h = ends_or_fails at.NoMemory memory_line err result other h memory fault
+
+admits_short : (command : Command) (input : List ℕ) → Admits command input → length input ≤ INPUT_LIMIT
+admits_short Check input h = h.0
+admits_short Run input h = h.0
+
+long_not_admitted : (command : Command) (left : Option (List ℕ)) (input : List ℕ) → left ≡ Some input → Admits command input → HasMore left INPUT_LIMIT → ⊥
+long_not_admitted command left input told admits more =
+    let P : Option (List ℕ) → Type 0 = λ o. HasMore o INPUT_LIMIT in
+    let over : INPUT_LIMIT < length input = subst P told more in
+    let short : length input ≤ INPUT_LIMIT = admits_short command input admits in
+    omega arith
+
+-- and not refused, where its input is one that the command answers
+pub unread_good : (command : Command) (left : Option (List ℕ)) (error : ReadError) (input : List ℕ) (err : Passage SinkState) (result : Status)
+    → left ≡ Some input → Admits command input → (error ≡ reading.TooLong → HasMore left INPUT_LIMIT) → EndsWith (unread_status error) (unread_line error) err result → result ≢ at.Refused
+unread_good command left reading.Fault input err result told admits long h = ends_or_fails at.ReadFault read_line err result at.Refused h (λ e. cc) (λ e. cc)
+unread_good command left reading.TooLong input err result told admits long h = absurd (long_not_admitted command left input told admits (long refl))
+unread_good command left reading.NoMemory input err result told admits long h = ends_or_fails at.NoMemory memory_line err result at.Refused h (λ e. cc) (λ e. cc)
+
+pub ok_no_error : {T E : Type 0} (x : T) (e : E) → (let r : Result T E = Ok x in r ≡ Err e) → ⊥
+ok_no_error x e same = cc
+
+pub same_error : {T E : Type 0} (a b : E) → (let r : Result T E = Err a in r ≡ Err b) → a ≡ b
+same_error a b same = cc
+
+-- ---- the input that a source tells
+
+-- what a source told that it held, and what was read of it whole, is one list
+pub same_input : (left : Option (List ℕ)) (input bytes : List ℕ) → left ≡ Some input → ReadWhole left bytes → input ≡ bytes
+same_input left input bytes told whole = let P : Option (List ℕ) → Type 0 = λ o. ReadWhole o bytes in subst P told whole
+
+pub admits_read : (command : Command) (left : Option (List ℕ)) (input bytes : List ℕ) → left ≡ Some input → ReadWhole left bytes → Admits command input → Admits command bytes
+admits_read command left input bytes told whole admits = let P : List ℕ → Type 0 = λ i. Admits command i in subst P (same_input left input bytes told whole) admits
+
+pub refuses_read : (command : Command) (left : Option (List ℕ)) (input bytes : List ℕ) (refusal : Refusal) → left ≡ Some input → ReadWhole left bytes → Refuses command input refusal → Refuses command bytes refusal
+refuses_read command left input bytes refusal told whole refuses = let P : List ℕ → Type 0 = λ i. Refuses command i refusal in subst P (same_input left input bytes told whole) refuses
+
+-- ---- words
+
+-- words mean one command
+pub one_command : (words : List (List ℕ)) (a b : Command) → Means words a → Means words b → a ≡ b
+one_command words Check Check one two = refl
+one_command words Check Run one two = absurd (apart (sym one.1 ∙ two.1))
+  where
+    apart : (let name : Option (List ℕ) = Some (name_of Check) in name ≡ Some (name_of Run)) → ⊥
+    apart e = cc
+one_command words Run Check one two = absurd (apart (sym one.1 ∙ two.1))
+  where
+    apart : (let name : Option (List ℕ) = Some (name_of Run) in name ≡ Some (name_of Check)) → ⊥
+    apart e = cc
+one_command words Run Run one two = refl
+
+means_admits : (words : List (List ℕ)) (a b : Command) (input : List ℕ) → Means words a → Means words b → Admits b input → Admits a input
+means_admits words a b input one two admits = let P : Command → Type 0 = λ k. Admits k input in subst P (one_command words b a two one) admits
+
+means_refuses : (words : List (List ℕ)) (a b : Command) (input : List ℕ) (refusal : Refusal) → Means words a → Means words b → Refuses b input refusal → Refuses a input refusal
+means_refuses words a b input refusal one two refuses = let P : Command → Type 0 = λ k. Refuses k input refusal in subst P (one_command words b a two one) refuses
+
+-- ---- the whole
+
+took_none : (left : Option (List ℕ)) (most : ℕ) → TookAtMost left left most
+took_none None most = ([], tt, omega arith)
+took_none (Some bytes) most = ([], refl, omega arith)
+
+-- what is known of the answer to a source, for the command that the words mean
+pub record Answered (words : List (List ℕ)) (command : Command) (status : Status) (source : Passage SourceState) (out err : Passage SinkState) : Type 0 where
+  pub ends : EndsAs status words source out err
+  pub usage : status ≢ at.Usage
+  pub good : (input : List ℕ) → source.before.left ≡ Some input → Admits command input → status ≢ at.Refused
+  pub bad : (input : List ℕ) (refusal : Refusal) → source.before.left ≡ Some input → Refuses command input refusal → status ≢ at.Done
+  pub taken : StopsReading source
+
+pub answered_call : (words : List (List ℕ)) (command : Command) (status : Status) (source : Passage SourceState) (out err : Passage SinkState)
+    → Means words command → Answered words command status source out err → CallEnds words status source out err
+answered_call words command status source out err means was = record {
+  ends = was.ends;
+  good = λ h. (was.usage, was.good h.1 h.3 (means_admits words command h.0 h.1 means h.2 h.4));
+  bad = λ h. (was.usage, was.bad h.1 h.2 h.4 (means_refuses words command h.0 h.1 h.2 means h.3 h.5));
+  taken = was.taken;
+}
+
+-- a source that wasn't read
+pub record IsUnread (source : Passage SourceState) : Type 0 where
+  pub untouched : source.Untouched
+  pub taken : StopsReading source
+
+pub usage_call : (words : List (List ℕ)) (status : Status) (source : Passage SourceState) (out err : Passage SinkState)
+    → MeansNone words → IsUnread source → EndsWithLine at.Usage usage_line out err status → CallEnds words status source out err
+usage_call words status source out err none unread h = record {
+  ends = line_ends at.Usage words source usage_line out err status (none, unread.untouched, refl) h;
+  good = λ g. absurd (none g.0 g.2);
+  bad = λ b. absurd (none b.0 b.3);
+  taken = unread.taken;
+}
+
+pub memory_call : (words : List (List ℕ)) (status : Status) (source : Passage SourceState) (out err : Passage SinkState)
+    → IsUnread source → EndsWithLine at.NoMemory memory_line out err status → CallEnds words status source out err
+memory_call words status source out err unread h = record {
+  ends = line_ends at.NoMemory words source memory_line out err status (inl unread.untouched, refl) h;
+  good = λ g. (ends_or_fails at.NoMemory memory_line err status at.Usage h.0 (λ e. cc) (λ e. cc), ends_or_fails at.NoMemory memory_line err status at.Refused h.0 (λ e. cc) (λ e. cc));
+  bad = λ b. (ends_or_fails at.NoMemory memory_line err status at.Usage h.0 (λ e. cc) (λ e. cc), ends_or_fails at.NoMemory memory_line err status at.Done h.0 (λ e. cc) (λ e. cc));
+  taken = unread.taken;
+}
+
+-- a stream that was handed to nothing
+pub never_read : {S : Type 0} (state : S → SourceState) (src : S) → IsUnread (passage state src src)
+never_read state src = record { untouched = refl; taken = took_none (state src).left (INPUT_LIMIT + PIECE) }

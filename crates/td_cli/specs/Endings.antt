@@ -1,0 +1,30 @@
+-- How an input that was read, and a line that is written, end a call.
+use Rattle.std.specs.Prelude.{◌≡◌, ◌⊎◌, ℕ, List}
+use Rattle.td_io.specs.States.{SinkState}
+use Rattle.td_cli.specs.declared.status.Status.{Status}
+use Rattle.td_cli.specs.declared.status.Status.TheVariants as ends
+use Rattle.td_cli.specs.declared.command.Command.{Command}
+use Rattle.td_cli.specs.declared.refusal.Refusal.{Refusal}
+use Rattle.td_cli.specs.Answers.{Answers, Refuses}
+use Rattle.td_cli.specs.Lines.{memory_line, refusal_line}
+use Rattle.td_cli.specs.Ends.{Passage, Takes, WriteFails}
+
+-- the sink took the text, and the call ends as it was to end; or a write of it failed
+abbrev pub EndsWith : Status → List ℕ → Passage SinkState → Status → Type 0
+EndsWith status text sink result = ((result ≡ status) × Takes sink text) ⊎ ((result ≡ ends.WriteFault) × WriteFails sink text)
+
+-- the output goes to `out`, and `err` is untouched
+abbrev pub EndsWithOutput : List ℕ → Passage SinkState → Passage SinkState → Status → Type 0
+EndsWithOutput output out err result = EndsWith ends.Done output out result × err.Untouched
+
+-- the line goes to `err`, and `out` is untouched
+abbrev pub EndsWithLine : Status → List ℕ → Passage SinkState → Passage SinkState → Status → Type 0
+EndsWithLine status line out err result = EndsWith status line err result × out.Untouched
+
+-- an input that was read is answered: the command's output goes to `out`; or a line goes to `err`, which says why the
+-- command refuses the input, or that there was no memory
+abbrev pub InputEnds : Command → List ℕ → Passage SinkState → Passage SinkState → Status → Type 0
+InputEnds command input out err result =
+    ((output : List ℕ) × Answers command input output × EndsWithOutput output out err result)
+    ⊎ (((refusal : Refusal) × Refuses command input refusal × EndsWithLine ends.Refused (refusal_line input refusal) out err result)
+    ⊎ EndsWithLine ends.NoMemory memory_line out err result)

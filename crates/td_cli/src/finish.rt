@@ -1,0 +1,127 @@
+//! How a call ends once all is decided: text goes to a sink, and the status follows. Nothing here takes memory, so nothing
+//! that was decided can be told as want of it.
+
+ghost use Rattle.std.specs.Prelude.{MatchResult};
+ghost use Rattle.td_report.specs.Report.{report};
+ghost use Rattle.td_report.specs.Summary.{summary};
+ghost use Rattle.td_cli.specs.Ends.{passage};
+ghost use Rattle.td_cli.specs.Endings.{EndsWith, EndsWithLine, EndsWithOutput};
+ghost use Rattle.td_cli.specs.Errors.{unanswered_line, unanswered_status, unread_line, unread_status};
+ghost use Rattle.td_cli.specs.Lines.{memory_line, refusal_line};
+
+use crate::lines::{MEMORY, READ, write_refusal};
+use crate::refusal::{InputError, Refusal};
+use crate::run::FinishedRun;
+use crate::status::Status;
+use td_core::module::Module;
+use td_io::{ReadError, Sink, write_all};
+use td_report::report::run_report;
+use td_report::summary::module_summary;
+
+/// Writes a line to the error stream, and answers the status that was to come, or that of a fault in writing it.
+pub(crate) fn finish_with_line<E: Sink>(line: &[u8], status: Status, err: &mut E) -> Status
+    ensures { EndsWith status line.now (passage E.state err.old err.new) result }
+{
+    match write_all(err, line) {
+        Ok(()) => status,
+        Err(_) => Status::WriteFault,
+    }
+}
+
+/// Ends a call for which there was no memory: writes `error memory` to the error stream.
+pub fn finish_out_of_memory<E: Sink>(err: &mut E) -> Status
+    ensures { EndsWith Status.NoMemory memory_line (passage E.state err.old err.new) result }
+{
+    finish_with_line(MEMORY, Status::NoMemory, err)
+}
+
+// Ends a call whose input is refused.
+fn finish_refused<E: Sink>(input: &[u8], refusal: &Refusal, err: &mut E) -> Status
+    ensures { EndsWith Status.Refused (refusal_line input.now refusal.now) (passage E.state err.old err.new) result }
+{
+    match write_refusal(input, refusal, err) {
+        Ok(()) => Status::Refused,
+        Err(_) => Status::WriteFault,
+    }
+}
+
+/// Ends a call whose source wasn't read to its end.
+pub(crate) fn finish_unread<E: Sink>(error: ReadError, err: &mut E) -> Status
+    ensures { EndsWith (unread_status error) (unread_line error) (passage E.state err.old err.new) result }
+{
+    match error {
+        ReadError::Fault => finish_with_line(READ, Status::ReadFault, err),
+        ReadError::TooLong => finish_refused(&[], &Refusal::TooLong, err),
+        ReadError::NoMemory => finish_out_of_memory(err),
+    }
+}
+
+// Ends a call whose input has no answer.
+fn finish_unanswered<E: Sink>(input: &[u8], error: &InputError, err: &mut E) -> Status
+    ensures { EndsWith (unanswered_status error.now) (unanswered_line input.now error.now) (passage E.state err.old err.new) result }
+{
+    match error {
+        InputError::Refused(refusal) => finish_refused(input, refusal, err),
+        InputError::NoMemory => finish_out_of_memory(err),
+    }
+}
+
+// Ends a call with the report of a run.
+fn finish_report<O: Sink>(run: &FinishedRun, out: &mut O) -> Status
+    ensures { EndsWith Status.Done (report run.now.outcome run.now.input.module run.now.input.job.entry run.now.loads.list) (passage O.state out.old out.new) result }
+{
+    match run_report(
+        &run.outcome,
+        &run.input.module,
+        run.input.job.entry,
+        &run.loads,
+        out,
+    ) {
+        Ok(()) => Status::Done,
+        Err(_) => Status::WriteFault,
+    }
+}
+
+/// Ends a call of `run`: writes the report of the run, or the line that says why the input has none.
+pub(crate) fn finish_run<O: Sink, E: Sink>(
+    input: &[u8],
+    run: &Result<FinishedRun, InputError>,
+    out: &mut O,
+    err: &mut E,
+) -> Status
+    ensures { MatchResult run.now
+        (λ run. EndsWithOutput (report run.outcome run.input.module run.input.job.entry run.loads.list) (passage O.state out.old out.new) (passage E.state err.old err.new) result)
+        (λ error. EndsWithLine (unanswered_status error) (unanswered_line input.now error) (passage O.state out.old out.new) (passage E.state err.old err.new) result) }
+{
+    match run {
+        Ok(run) => finish_report(run, out),
+        Err(error) => finish_unanswered(input, error, err),
+    }
+}
+
+// Ends a call with what a module has.
+fn finish_summary<O: Sink>(m: &Module, out: &mut O) -> Status
+    ensures { EndsWith Status.Done (summary m.now) (passage O.state out.old out.new) result }
+{
+    match module_summary(m, out) {
+        Ok(()) => Status::Done,
+        Err(_) => Status::WriteFault,
+    }
+}
+
+/// Ends a call of `check`: writes what the module has, or the line that says why there is none.
+pub(crate) fn finish_check<O: Sink, E: Sink>(
+    input: &[u8],
+    checked: &Result<Module, InputError>,
+    out: &mut O,
+    err: &mut E,
+) -> Status
+    ensures { MatchResult checked.now
+        (λ m. EndsWithOutput (summary m) (passage O.state out.old out.new) (passage E.state err.old err.new) result)
+        (λ error. EndsWithLine (unanswered_status error) (unanswered_line input.now error) (passage O.state out.old out.new) (passage E.state err.old err.new) result) }
+{
+    match checked {
+        Ok(m) => finish_summary(m, out),
+        Err(error) => finish_unanswered(input, error, err),
+    }
+}

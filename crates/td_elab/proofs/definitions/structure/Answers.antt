@@ -1,0 +1,39 @@
+use Rattle.std.proofs.Common.{◌≡◌, List, ◌++◌, ap, ◌∙◌, append_assoc}
+use Rattle.td_ast.specs.declared.definitions.StructTree.{StructTree}
+use Rattle.td_rules.specs.declared.breach.Breach.{Breach}
+use Rattle.td_rules.specs.declared.known.Known.{Known}
+use Rattle.td_rules.specs.declared.parameters.Head.{Head}
+use Rattle.td_rules.specs.Breach.{first_of}
+use Rattle.td_rules.specs.ExprRules.{test_breaches}
+use Rattle.td_rules.specs.Fields.{fields_breaches}
+use Rattle.td_rules.specs.Constants.{global_breaches}
+use Rattle.td_rules.specs.Parameters.{no_head, head_of, params_breaches}
+use Rattle.td_rules.specs.Definitions.{struct_scope}
+use Rattle.td_elab.proofs.Chains.{on_ok_always, three}
+use Rattle.td_elab.proofs.definitions.structure.Goals as goal
+
+abbrev tested : Known → StructTree → Head → List Breach
+tested k d h = test_breaches k (struct_scope k h.scope d.fields) d.head.condition
+
+abbrev under : Known → StructTree → Head → List Breach
+under k d h = fields_breaches k h.taken (struct_scope k h.scope d.fields) d.fields
+
+pub returns-clause-first : goal.returns-clause-first
+returns-clause-first c =
+    let k = c.args.known.now in
+    let d = c.args.tree.now in
+    let names = c.args.names.now in
+    let o = c.args.findings.now.first in
+    let h = c.in_ok-head.head in
+    let u = head_of names k no_head d.head.params in
+    let head : h ≡ u = c.in_ok-head.ensures.core ∙ ap (λ ps. head_of names k no_head ps) c.as_slice.ensures in
+    let own = params_breaches names k no_head d.head.params in
+    let last = global_breaches k d.name in
+    on_ok_always c.add_type.result
+    (c.check_global.ensures
+    ∙ ap (λ x. first_of x last) c.in_ok-inner.ensures.first
+    ∙ ap (λ x. first_of (first_of x (tested k d h ++ under k d h)) last) c.in_ok-head.ensures.first
+    ∙ ap (λ ps. first_of (first_of (first_of o (params_breaches names k no_head ps)) (tested k d h ++ under k d h)) last) c.as_slice.ensures
+    ∙ ap (λ g. first_of (first_of (first_of o own) (tested k d g ++ under k d g)) last) head
+    ∙ three o own (tested k d u ++ under k d u) last
+    ∙ ap (λ x. first_of o (own ++ x)) (append_assoc (tested k d u) (under k d u) last))

@@ -1,0 +1,161 @@
+//! Casetypes.
+
+ghost use Rattle.std.specs.Prelude.{◌≡◌, [], IfOk, OnOk};
+ghost use Rattle.td_rules.specs.Breach.{first_of};
+ghost use Rattle.td_rules.specs.Known.{next_case};
+ghost use Rattle.td_rules.specs.Constants.{is_value_among, with_value_number};
+ghost use Rattle.td_rules.specs.Casetypes.{is_past_switch, case_breaches, case_taken, cases_breaches, cases_taken, default_breaches, default_taken, switch_breaches, switch_taken, cases_core, default_core, switch_core};
+ghost use Rattle.td_rules.specs.Fields.{fields_breaches, fields_core};
+
+use std::alloc::{AllocError, Global};
+use td_ast::definitions::{CaseTree, CasetypeTree};
+use td_ast::fields::FieldTree;
+use td_ast::names::ConstTree;
+use td_core::expressions::Scalar;
+use td_core::module::{Body, Case, Field};
+use td_declarations::constants::{
+    check_constant, constant_span, constant_value, is_past, number_or_zero,
+};
+use td_declarations::numbers::{Numbers, add_value, is_value_among};
+use td_fields::fields::fields;
+use td_names::names::Names;
+use td_num::items::Items;
+use td_rules::breach::Rule;
+use td_rules::known::{Known, Scope, Taken};
+use td_typing::expressions::number;
+use td_typing::findings::Findings;
+use td_typing::sorts::type_alone;
+
+/// Whether a value is past the type of the switch.
+fn is_past_switch(switch: Option<Scalar>, value: Option<u64>) -> bool
+    ensures { result ≡ is_past_switch switch value }
+{
+    match switch {
+        Some(scalar) => is_past(scalar, value),
+        None => false,
+    }
+}
+
+/// Notes what the value of a case breaks, after values that were given before.
+#[tactic(auto, using(td_typing::proofs::Steps::first_append))]
+fn check_case(
+    known: &Known,
+    scope: &Scope,
+    switch: Option<Scalar>,
+    before: &Numbers,
+    tree: &ConstTree,
+    findings: &mut Findings,
+)
+    ensures { findings.new.first ≡ first_of findings.old.first (case_breaches known.now scope.now switch before.now tree.now) }
+{
+    check_constant(known, scope, tree, findings);
+    let value = constant_value(known, scope, tree);
+    let place = constant_span(tree);
+    findings.note_if(is_value_among(before, value), Rule::Twice, place);
+    findings.note_if(is_past_switch(switch, value), Rule::Narrowing, place);
+}
+
+/// The fields of a case or of `default`, which may have the names that fields of other cases have. `AllocError`: out of
+/// memory.
+fn case_fields(
+    alloc: Global,
+    names: &Names,
+    known: &Known,
+    scope: &mut Scope,
+    taken: &mut Taken,
+    trees: &[FieldTree],
+    findings: &mut Findings,
+) -> Result<Items<Field>, AllocError>
+    ensures core { IfOk result (λ fs. fs ≡ fields_core names.now known.now scope.old trees.now) }
+    ensures first { OnOk result (findings.new.first ≡ first_of findings.old.first (fields_breaches known.now (next_case taken.old) scope.old trees.now)) }
+    ensures taken { OnOk result (taken.new ≡ case_taken taken.old trees.now) }
+    ensures scope { OnOk result (scope.new ≡ scope.old) }
+{
+    taken.fields = Names::new(alloc);
+    fields(alloc, names, known, scope, taken, trees, findings)
+}
+
+/// The cases; their breaches are noted. `AllocError`: out of memory.
+fn cases(
+    alloc: Global,
+    names: &Names,
+    known: &Known,
+    scope: &mut Scope,
+    taken: &mut Taken,
+    switch: Option<Scalar>,
+    trees: &[CaseTree],
+    findings: &mut Findings,
+) -> Result<Items<Case>, AllocError>
+    ensures core { IfOk result (λ cs. cs ≡ cases_core names.now known.now scope.old trees.now) }
+    ensures first { OnOk result (findings.new.first ≡ first_of findings.old.first (cases_breaches known.now taken.old scope.old switch [] trees.now)) }
+    ensures taken { OnOk result (taken.new ≡ cases_taken taken.old trees.now) }
+    ensures scope { OnOk result (scope.new ≡ scope.old) }
+{
+    let mut before = Numbers::new(alloc);
+    let mut cases = Items::new(alloc);
+    for tree in trees {
+        check_case(known, scope, switch, &before, &tree.constant, findings);
+        let value = constant_value(known, scope, &tree.constant);
+        let inner = tree.fields.as_slice();
+        let fields = case_fields(alloc, names, known, scope, taken, inner, findings)?;
+        add_value(&mut before, value)?;
+        cases.push(Case {
+            value: number_or_zero(value),
+            fields,
+        })?;
+    }
+    Ok(cases)
+}
+
+/// The fields of `default`; their breaches are noted. `AllocError`: out of memory.
+fn default_fields(
+    alloc: Global,
+    names: &Names,
+    known: &Known,
+    scope: &mut Scope,
+    taken: &mut Taken,
+    tree: &Option<Items<FieldTree>>,
+    findings: &mut Findings,
+) -> Result<Option<Items<Field>>, AllocError>
+    ensures core { IfOk result (λ fs. fs ≡ default_core names.now known.now scope.old tree.now) }
+    ensures first { OnOk result (findings.new.first ≡ first_of findings.old.first (default_breaches known.now taken.old scope.old tree.now)) }
+    ensures taken { OnOk result (taken.new ≡ default_taken taken.old tree.now) }
+    ensures scope { OnOk result (scope.new ≡ scope.old) }
+{
+    match tree {
+        None => Ok(None),
+        Some(trees) => {
+            let trees = trees.as_slice();
+            let fields = case_fields(alloc, names, known, scope, taken, trees, findings)?;
+            Ok(Some(fields))
+        }
+    }
+}
+
+/// The body of a casetype; its breaches are noted. `AllocError`: out of memory.
+#[tactic(auto, using(td_typing::proofs::Steps::first_append))]
+pub fn switch(
+    alloc: Global,
+    names: &Names,
+    known: &Known,
+    scope: &mut Scope,
+    taken: &mut Taken,
+    tree: &CasetypeTree,
+    findings: &mut Findings,
+) -> Result<Body, AllocError>
+    ensures core { IfOk result (λ b. b ≡ switch_core names.now known.now scope.old tree.now) }
+    ensures first { OnOk result (findings.new.first ≡ first_of findings.old.first (switch_breaches known.now taken.old scope.old tree.now)) }
+    ensures taken { OnOk result (taken.new ≡ switch_taken taken.old tree.now) }
+    ensures scope { OnOk result (scope.new ≡ scope.old) }
+{
+    let subject = number(alloc, known, scope, &tree.subject, findings)?;
+    let width = type_alone(subject.sort);
+    let trees = tree.cases.as_slice();
+    let cases = cases(alloc, names, known, scope, taken, width, trees, findings)?;
+    let default = default_fields(alloc, names, known, scope, taken, &tree.default, findings)?;
+    Ok(Body::Casetype {
+        switch: subject.core,
+        cases,
+        default,
+    })
+}

@@ -1,0 +1,238 @@
+//! Definitions.
+
+ghost use Rattle.std.specs.Prelude.{◌≡◌, ◌<◌, ◌++◌, IfOk, OnOk, OnErr, length};
+ghost use Rattle.td_core.specs.declared.module.Body.TheVariants.{Struct as StructBody};
+ghost use Rattle.td_rules.specs.Breach.{first_of};
+ghost use Rattle.td_rules.specs.Known.{nothing_known};
+ghost use Rattle.td_rules.specs.Sorts.{option_core};
+ghost use Rattle.td_rules.specs.ExprRules.{test_breaches};
+ghost use Rattle.td_rules.specs.Fields.{fields_breaches, fields_taken, fields_core};
+ghost use Rattle.td_rules.specs.Definitions.{with_names, entry_more, with_type, struct_scope, struct_breaches, after_struct, casetype_breaches, after_casetype, definition_breaches, after, definitions_breaches, known_after};
+ghost use Rattle.td_elab.specs.Heads.{with_definition};
+
+use crate::casetypes::switch;
+use std::alloc::{AllocError, Global};
+use td_ast::definitions::{CasetypeTree, Def, StructTree};
+use td_core::expressions::CoreExpr;
+use td_core::module::{Body, NameId, TypeDef};
+use td_declarations::aliases::alias;
+use td_declarations::constants::{check_global, check_literal, declare, define};
+use td_declarations::enums::enumerate;
+use td_declarations::numbers::next_place;
+use td_declarations::parameters::head;
+use td_declarations::records::record;
+use td_declarations::scopes::nothing_known;
+use td_fields::fields::fields;
+use td_fields::leading::leading_size;
+use td_kinds::casetypes::body_kind;
+use td_names::names::Names;
+use td_num::items::Items;
+use td_rules::known::{Known, Meaning, Parameter, Scope, Taken};
+use td_typing::expressions::test;
+use td_typing::findings::Findings;
+
+/// More names, beside others. `AllocError`: out of memory.
+fn see_names(alloc: Global, names: &mut Names, given: &Names) -> Result<(), AllocError>
+    ensures { OnOk result (names.new ≡ with_names names.old given.now) }
+{
+    let texts = given.texts(alloc)?;
+    for text in texts.as_slice() {
+        names.see(alloc, text.as_slice())?;
+    }
+    Ok(())
+}
+
+/// One more entry point, where it is one. `AllocError`: out of memory.
+fn add_entry(entries: &mut Items<u32>, is_entry: bool, place: u32) -> Result<(), AllocError>
+    ensures { OnOk result (entries.new ≡ entry_more is_entry place entries.old) }
+{
+    if is_entry {
+        entries.push(place)?;
+    }
+    Ok(())
+}
+
+/// What is known after a struct or casetype of that name, with these parameters, which gave these names. `AllocError`:
+/// out of memory.
+fn add_type(
+    alloc: Global,
+    known: &mut Known,
+    is_entry: bool,
+    name: &[u8],
+    parameters: Items<Parameter>,
+    given: &Names,
+    definition: TypeDef,
+) -> Result<(), AllocError>
+    ensures { OnOk result (known.new ≡ with_type known.old is_entry name.now parameters given.now definition) }
+{
+    let count = next_place(known.count as usize + 1)?;
+    let place = next_place(known.definitions.len())?;
+    declare(alloc, known, name, Meaning::Type(place))?;
+    see_names(alloc, &mut known.used, given)?;
+    add_entry(&mut known.entries, is_entry, place)?;
+    known.count = count;
+    push_type(known, parameters, definition)
+}
+
+/// The struct or casetype itself, with its parameters and its kind. `AllocError`: out of memory.
+fn push_type(
+    known: &mut Known,
+    parameters: Items<Parameter>,
+    definition: TypeDef,
+) -> Result<(), AllocError>
+    ensures { OnOk result (known.new ≡ with_definition known.old parameters definition) }
+{
+    let kind = body_kind(known.kinds.as_slice(), &definition.body);
+    known.signatures.push(parameters)?;
+    known.kinds.push(kind)?;
+    known.definitions.push(definition)
+}
+
+/// `where` and the body of a struct or casetype.
+#[derive(Debug, Drop)]
+struct Inner {
+    guard: Option<CoreExpr>,
+    body: Body,
+}
+
+/// `where` and the fields of a struct, in the scope of its head; their breaches are noted. `AllocError`: out of memory.
+#[tactic(auto, using(td_typing::proofs::Steps::first_append))]
+fn struct_inner(
+    alloc: Global,
+    names: &Names,
+    known: &Known,
+    scope: &mut Scope,
+    taken: &mut Taken,
+    tree: &StructTree,
+    findings: &mut Findings,
+) -> Result<Inner, AllocError>
+    ensures guard { IfOk result (λ i. i.guard ≡ option_core known.now (struct_scope known.now scope.old tree.now.fields) tree.now.head.condition) }
+    ensures body { IfOk result (λ i. i.body ≡ StructBody (fields_core names.now known.now (struct_scope known.now scope.old tree.now.fields) tree.now.fields)) }
+    ensures first { OnOk result (findings.new.first ≡ first_of findings.old.first (test_breaches known.now (struct_scope known.now scope.old tree.now.fields) tree.now.head.condition ++ fields_breaches known.now taken.old (struct_scope known.now scope.old tree.now.fields) tree.now.fields)) }
+    ensures taken { OnOk result (taken.new ≡ fields_taken taken.old tree.now.fields) }
+{
+    let trees = tree.fields.as_slice();
+    let this = leading_size(alloc, known, scope, trees)?;
+    scope.this = Some(this);
+    let guard = test(alloc, known, scope, &tree.head.condition, findings)?;
+    let fields = fields(alloc, names, known, scope, taken, trees, findings)?;
+    Ok(Inner {
+        guard,
+        body: Body::Struct(fields),
+    })
+}
+
+/// What is known after a struct. `AllocError`: out of memory.
+#[tactic(auto, using(td_typing::proofs::Steps::first_append))]
+fn structure(
+    alloc: Global,
+    names: &Names,
+    known: &mut Known,
+    tree: &StructTree,
+    findings: &mut Findings,
+) -> Result<(), AllocError>
+    ensures known { OnOk result (known.new ≡ after_struct names.now known.old tree.now) }
+    ensures first { OnOk result (findings.new.first ≡ first_of findings.old.first (struct_breaches names.now known.old tree.now)) }
+{
+    let head = head(alloc, names, known, tree.head.params.as_slice(), findings)?;
+    let (mut scope, mut taken) = (head.scope, head.taken);
+    let inner = struct_inner(alloc, names, known, &mut scope, &mut taken, tree, findings)?;
+    check_global(known, &tree.name, findings);
+    let name = tree.name.text.as_slice();
+    let number = names.number(name);
+    let definition = TypeDef {
+        name: NameId { number },
+        params: head.params,
+        cells: head.cells,
+        guard: inner.guard,
+        body: inner.body,
+    };
+    add_type(
+        alloc,
+        known,
+        tree.entry,
+        name,
+        head.parameters,
+        &taken.all,
+        definition,
+    )
+}
+
+/// What is known after a casetype. `AllocError`: out of memory.
+#[tactic(auto, using(td_typing::proofs::Steps::first_append))]
+fn casetype(
+    alloc: Global,
+    names: &Names,
+    known: &mut Known,
+    tree: &CasetypeTree,
+    findings: &mut Findings,
+) -> Result<(), AllocError>
+    ensures known { OnOk result (known.new ≡ after_casetype names.now known.old tree.now) }
+    ensures first { OnOk result (findings.new.first ≡ first_of findings.old.first (casetype_breaches names.now known.old tree.now)) }
+{
+    let head = head(alloc, names, known, tree.head.params.as_slice(), findings)?;
+    let (mut scope, mut taken) = (head.scope, head.taken);
+    let guard = test(alloc, known, &scope, &tree.head.condition, findings)?;
+    let body = switch(alloc, names, known, &mut scope, &mut taken, tree, findings)?;
+    check_global(known, &tree.name, findings);
+    let name = tree.name.text.as_slice();
+    let number = names.number(name);
+    let definition = TypeDef {
+        name: NameId { number },
+        params: head.params,
+        cells: head.cells,
+        guard,
+        body,
+    };
+    add_type(
+        alloc,
+        known,
+        tree.entry,
+        name,
+        head.parameters,
+        &taken.all,
+        definition,
+    )
+}
+
+/// What is known after a definition; its breaches are noted. `AllocError`: out of memory.
+fn definition(
+    alloc: Global,
+    names: &Names,
+    known: &mut Known,
+    tree: &Def,
+    findings: &mut Findings,
+) -> Result<(), AllocError>
+    ensures known { OnOk result (known.new ≡ after names.now known.old tree.now) }
+    ensures first { OnOk result (findings.new.first ≡ first_of findings.old.first (definition_breaches names.now known.old tree.now)) }
+{
+    match tree {
+        Def::Define(d) => {
+            check_literal(known, &d.name, findings);
+            define(alloc, known, d)
+        }
+        Def::Enum(d) => enumerate(alloc, known, d, findings),
+        Def::Alias(d) => alias(alloc, known, d, findings),
+        Def::Struct(d) => structure(alloc, names, known, d, findings),
+        Def::Casetype(d) => casetype(alloc, names, known, d, findings),
+        Def::Output(d) => record(alloc, known, d, findings),
+    }
+}
+
+/// What is known after all definitions; their breaches are noted. `AllocError`: there is one, and out of memory.
+pub fn definitions(
+    alloc: Global,
+    names: &Names,
+    trees: &[Def],
+    findings: &mut Findings,
+) -> Result<Known, AllocError>
+    ensures known { IfOk result (λ k. k ≡ known_after names.now nothing_known trees.now) }
+    ensures first { OnOk result (findings.new.first ≡ first_of findings.old.first (definitions_breaches names.now nothing_known trees.now)) }
+    ensures memory { OnErr result (0 < length trees.now) }
+{
+    let mut known = nothing_known(alloc);
+    for tree in trees {
+        definition(alloc, names, &mut known, tree, findings)?;
+    }
+    Ok(known)
+}

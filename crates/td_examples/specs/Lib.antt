@@ -1,0 +1,9 @@
+pub mod Rows
+pub mod Enums
+pub mod Actions
+pub mod Casetypes
+pub mod Sizes
+pub mod Parameters
+pub mod Names
+pub mod Expressions
+pub mod Formats

@@ -1,0 +1,11 @@
+//! What the safety rule finds.
+
+use td_ast::token::Span;
+use td_core::expressions::Binary;
+
+/// An operator that isn't safe, and its place in the text.
+#[derive(Clone, Copy, PartialEq, Eq, Debug)]
+pub struct Unsafe {
+    pub span: Span,
+    pub op: Binary,
+}

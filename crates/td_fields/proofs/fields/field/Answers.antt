@@ -1,0 +1,7 @@
+use Rattle.std.proofs.Common.{subst, sym}
+use Rattle.td_rules.specs.BitFields.{bit_field}
+use Rattle.td_fields.proofs.Narrow.{element_narrow}
+use Rattle.td_fields.proofs.fields.field.Goals as goal
+
+pub returns-clause-narrow : goal.returns-clause-narrow
+returns-clause-narrow c = element_narrow c.args.known.now c.args.scope.now c.args.tree.now.type_tree c.args.tree.now.extent c.in_ok-element.element c.bit_width-width.result c.in_ok-element.ensures.core c.bit_width-width.ensures.width

@@ -1,0 +1,220 @@
+//! The size of the leading fields of a struct, for `sizeof(this)`.
+
+ghost use Rattle.std.specs.Prelude.{◌≡◌, None, Some, IfOk, OnOk};
+ghost use Rattle.td_rules.specs.Sorts.{size_found};
+ghost use Rattle.td_rules.specs.Leading.{is_this, holds_this, has_type, array_size, kind_size, names_type, sized, unit_size, bits_size, extent_size, leading_field, leading_size};
+ghost use Rattle.td_kinds.specs.declared.sizes.TheConstants.{SIZE_CAP};
+ghost use Rattle.td_kinds.specs.Kinds.{up_to};
+ghost use Rattle.td_fields.specs.Scopes.{Grows};
+
+use crate::bit_fields::fits_room;
+use crate::extents::bit_width;
+use crate::flat::add_field;
+use std::alloc::{AllocError, Global};
+use td_actions::scopes::cut_back;
+use td_ast::expressions::{Expr, ExprKind, SizeofOperand};
+use td_ast::fields::{ExtentTree, FieldTree, TypeKind};
+use td_expr::constant::constant_of;
+use td_kinds::sizes::SIZE_CAP;
+use td_num::number::{NumberType, byte_count};
+use td_rules::expressions::Sort;
+use td_rules::fields::UnitRoom;
+use td_rules::known::{Known, Scope};
+use td_types::types::number_type;
+use td_typing::expressions::expression;
+use td_typing::findings::Findings;
+use td_typing::look_up::{is_type, look_up, size_found};
+
+/// Whether `sizeof(this)` is in an expression.
+fn holds_this(e: &Expr) -> bool
+    ensures { result ≡ holds_this e.now }
+{
+    match &e.kind {
+        ExprKind::Number(_, _) | ExprKind::Truth(_) | ExprKind::Name(_) | ExprKind::FieldPos(_) => {
+            false
+        }
+        ExprKind::Sizeof(_, SizeofOperand::This, _) => true,
+        ExprKind::Sizeof(_, _, _) => false,
+        ExprKind::RangeOkay(z, o, a) => holds_this(z) || (holds_this(o) || holds_this(a)),
+        ExprKind::Unary(_, _, a) => holds_this(a),
+        ExprKind::Binary(_, _, a, b) => holds_this(a) || holds_this(b),
+        ExprKind::Choice(_, c, a, b) => holds_this(c) || (holds_this(a) || holds_this(b)),
+    }
+}
+
+/// Whether a sort has a type.
+fn has_type(sort: Sort) -> bool
+    ensures { result ≡ has_type sort }
+{
+    match sort {
+        Sort::Literal(_) | Sort::Typed(_) => true,
+        Sort::Broken | Sort::Untyped | Sort::Truth => false,
+    }
+}
+
+/// A size that kinds have.
+fn up_to_cap(size: Option<u64>) -> Option<u64>
+    ensures { result ≡ up_to SIZE_CAP size }
+{
+    match size {
+        Some(n) if n <= SIZE_CAP => Some(n),
+        _ => None,
+    }
+}
+
+/// The size of an array, where it is constant. `AllocError`: out of memory.
+fn array_size(
+    alloc: Global,
+    known: &Known,
+    scope: &Scope,
+    e: &Expr,
+) -> Result<Option<u64>, AllocError>
+    ensures { IfOk result (λ n. n ≡ array_size known.now scope.now e.now) }
+{
+    let mut unheard = Findings::new();
+    let typing = expression(alloc, known, scope, e, &mut unheard)?;
+    if holds_this(e) || !has_type(typing.sort) {
+        return Ok(None);
+    }
+    Ok(up_to_cap(constant_of(&typing.core)))
+}
+
+/// The size of a type, whatever its arguments.
+fn kind_size(known: &Known, scope: &Scope, kind: &TypeKind) -> Option<u64>
+    ensures { result ≡ kind_size known.now scope.now kind.now }
+{
+    match kind {
+        TypeKind::Number(number) => Some(u64::from(byte_count(number.width))),
+        TypeKind::Unit => Some(0),
+        TypeKind::AllBytes | TypeKind::AllZeros => None,
+        TypeKind::Named(name, _) => {
+            up_to_cap(size_found(known, look_up(known, scope, name.as_slice())))
+        }
+    }
+}
+
+/// Whether it is a type.
+fn names_type(known: &Known, scope: &Scope, kind: &TypeKind) -> bool
+    ensures { result ≡ names_type known.now scope.now kind.now }
+{
+    match kind {
+        TypeKind::Named(name, _) => is_type(look_up(known, scope, name.as_slice())),
+        _ => true,
+    }
+}
+
+/// A field of this size.
+fn sized(size: Option<u64>) -> Option<(u64, Option<UnitRoom>)>
+    ensures { result ≡ sized size }
+{
+    match size {
+        Some(n) => Some((n, None)),
+        None => None,
+    }
+}
+
+/// Bits after a unit.
+fn unit_size(room: Option<UnitRoom>, base: NumberType, width: u32) -> (u64, Option<UnitRoom>)
+    ensures { Some result ≡ unit_size room base width }
+{
+    match room {
+        Some(unit) if fits_room(room, base, width) => {
+            let filled = unit.filled + width;
+            let base = unit.base;
+            (0, Some(UnitRoom { base, filled }))
+        }
+        _ => {
+            let unit = UnitRoom {
+                base,
+                filled: width,
+            };
+            (u64::from(byte_count(base.width)), Some(unit))
+        }
+    }
+}
+
+/// A bit field after a unit.
+fn bits_size(
+    room: Option<UnitRoom>,
+    base: Option<NumberType>,
+    width: Option<u32>,
+) -> Option<(u64, Option<UnitRoom>)>
+    ensures { result ≡ bits_size room base width }
+{
+    match base {
+        Some(base) => match width {
+            Some(width) => Some(unit_size(room, base, width)),
+            None => None,
+        },
+        None => None,
+    }
+}
+
+/// A leading field, after a unit. `AllocError`: out of memory.
+fn leading_field(
+    alloc: Global,
+    known: &Known,
+    scope: &Scope,
+    room: Option<UnitRoom>,
+    tree: &FieldTree,
+) -> Result<Option<(u64, Option<UnitRoom>)>, AllocError>
+    ensures { IfOk result (λ l. l ≡ leading_field known.now scope.now room tree.now) }
+{
+    if !names_type(known, scope, &tree.type_tree.kind) {
+        return Ok(None);
+    }
+    match &tree.extent {
+        None => Ok(sized(kind_size(known, scope, &tree.type_tree.kind))),
+        Some(ExtentTree::Bytes(e) | ExtentTree::ByteSize(e) | ExtentTree::SingleElement(e)) => {
+            Ok(sized(array_size(alloc, known, scope, e)?))
+        }
+        Some(ExtentTree::Zeroterm(_)) => Ok(None),
+        Some(ExtentTree::Bits(_)) => {
+            let base = number_type(known, scope, &tree.type_tree);
+            let width = bit_width(known, scope, &tree.type_tree, &tree.extent);
+            Ok(bits_size(room, base, width))
+        }
+    }
+}
+
+/// The size of the leading fields, which are then in scope.
+fn sum(
+    alloc: Global,
+    known: &Known,
+    scope: &mut Scope,
+    trees: &[FieldTree],
+) -> Result<u64, AllocError>
+    ensures size { IfOk result (λ n. n ≡ leading_size known.now scope.old None trees.now) }
+    ensures scope { OnOk result (Grows scope.old scope.new) }
+{
+    let mut total = 0u64;
+    let mut room = None;
+    for tree in trees {
+        match leading_field(alloc, known, scope, room, tree)? {
+            Some((size, after)) => {
+                total = total.checked_add(size).ok_or(AllocError)?;
+                add_field(alloc, known, scope, tree)?;
+                room = after;
+            }
+            None => return Ok(total),
+        }
+    }
+    Ok(total)
+}
+
+/// The size of the leading fields of a struct, with which `sizeof(this)` stands. The scope is then as before.
+/// `AllocError`: out of memory.
+pub fn leading_size(
+    alloc: Global,
+    known: &Known,
+    scope: &mut Scope,
+    trees: &[FieldTree],
+) -> Result<u64, AllocError>
+    ensures size { IfOk result (λ n. n ≡ leading_size known.now scope.old None trees.now) }
+    ensures scope { OnOk result (scope.new ≡ scope.old) }
+{
+    let (locals, levels) = (scope.locals.len(), scope.levels);
+    let size = sum(alloc, known, scope, trees)?;
+    cut_back(scope, locals, levels);
+    Ok(size)
+}

@@ -1,0 +1,61 @@
+-- What the whole answers, from what its passes do.
+use Rattle.std.proofs.Common.{◌≡◌, ℕ, List, Result, Ok, Err, IfOk, IfErr, MatchResult, ◌⊎◌, inl, inr, refl, sym, subst}
+use Rattle.td_core.specs.declared.module.Module.{Module}
+use Rattle.td_lexer.specs.declared.error.LexError.{LexError}
+use Rattle.td_lexer.specs.declared.error.LexError.TheVariants.{BadByte as BadByteAt, OpenComment as OpenCommentAt, BigNumber as BigNumberAt, NoMemory as NoTokens}
+use Rattle.td_lexer.specs.Splits.{Splits, IsRefused}
+use Rattle.td_ast.specs.declared.token.Token.{Token}
+use Rattle.td_grammar.specs.Spelling.{IsFirstRefused}
+use Rattle.td_grammar.specs.Limits.{IsFirstDeep, IsWithinLimits}
+use Rattle.td_grammar.specs.Definitions.{module_text}
+use Rattle.td_parser.specs.declared.error.ParseError.{ParseError}
+use Rattle.td_parser.specs.declared.error.ParseError.TheVariants.{Unexpected as UnexpectedToken, Deep as DeepToken, NoMemory as NoTree}
+use Rattle.td_front.specs.declared.error.FrontError.{FrontError}
+use Rattle.td_front.specs.declared.error.FrontError.TheVariants.{NoMemory}
+use Rattle.td_front.specs.Errors.{of_lexing, of_parsing}
+use Rattle.td_front.specs.ModuleText.{IsModuleText, RefusedBy}
+use Rattle.td_front.specs.Laws.{OneModuleEach, OneRefusalEach, NeverBoth}
+
+-- there was no memory, or it is a refusal of the text
+abbrev pub Stops : List ℕ → FrontError → Type 0
+Stops text e = (e ≡ NoMemory) ⊎ RefusedBy text e
+
+-- a refusal of the bytes is one of the text
+pub of_bytes : (text : List ℕ) (l : LexError) (e : FrontError) → e ≡ of_lexing l → (l ≡ NoTokens) ⊎ IsRefused text l → Stops text e
+of_bytes text l e is h = subst (Stops text) (sym is) (by l h)
+  where
+    by : (l : LexError) → (l ≡ NoTokens) ⊎ IsRefused text l → Stops text (of_lexing l)
+    by (BadByteAt at) (inl k) = cc
+    by (BadByteAt at) (inr k) = inr k
+    by (OpenCommentAt at) (inl k) = cc
+    by (OpenCommentAt at) (inr k) = inr k
+    by (BigNumberAt at) (inl k) = cc
+    by (BigNumberAt at) (inr k) = inr k
+    by NoTokens k = inl refl
+
+-- a refusal of the tokens is one of the text
+pub of_tokens : (text : List ℕ) (tokens : List Token) → Splits text tokens → (l : ParseError)
+    → ((place : ℕ) → l ≡ UnexpectedToken place → IsFirstRefused module_text.Spells tokens place × IsWithinLimits module_text.Passes tokens)
+    → ((place : ℕ) → l ≡ DeepToken place → IsFirstDeep module_text.Passes tokens place)
+    → (e : FrontError) → e ≡ of_parsing text tokens l → Stops text e
+of_tokens text tokens split l refused deep e is = subst (Stops text) (sym is) (by l refused deep)
+  where
+    by : (l : ParseError)
+        → ((place : ℕ) → l ≡ UnexpectedToken place → IsFirstRefused module_text.Spells tokens place × IsWithinLimits module_text.Passes tokens)
+        → ((place : ℕ) → l ≡ DeepToken place → IsFirstDeep module_text.Passes tokens place)
+        → Stops text (of_parsing text tokens l)
+    by (UnexpectedToken token) r d = let h = r token refl in inr (tokens, split, h.0, h.1, refl)
+    by (DeepToken token) r d = inr (tokens, split, d token refl, refl)
+    by NoTree r d = inl refl
+
+-- the module for which the text stands is the answer
+pub complete_from : (text : List ℕ) → OneModuleEach → NeverBoth → (r : Result Module FrontError) → IfOk r (IsModuleText text) → IfErr r (Stops text) → (m : Module) → IsModuleText text m → MatchResult r (λ found. found ≡ m) (λ e. e ≡ NoMemory)
+complete_from text one never (Ok found) stands stops m h = one text found m stands h
+complete_from text one never (Err e) stands (inl p) m h = p
+complete_from text one never (Err e) stands (inr p) m h = absurd (never text m e h p)
+
+-- the refusal of the text is the answer
+pub exact_from : (text : List ℕ) → OneRefusalEach → NeverBoth → (r : Result Module FrontError) → IfOk r (IsModuleText text) → IfErr r (Stops text) → (e : FrontError) → RefusedBy text e → MatchResult r (λ m. ⊥) (λ found. (found ≡ e) ⊎ (found ≡ NoMemory))
+exact_from text one never (Ok m) stands stops e h = never text m e stands h
+exact_from text one never (Err x) stands (inl p) e h = inr p
+exact_from text one never (Err x) stands (inr p) e h = inl (one text x e p h)

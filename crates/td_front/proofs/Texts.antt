@@ -1,0 +1,153 @@
+-- What a text is answered: it stands for one module or has one refusal.
+use Rattle.std.proofs.Common.{◌≡◌, ℕ, List, Result, Ok, Err, ◌⊎◌, inl, inr, ◌↔◌, refl, sym, ap, subst, ◌∙◌}
+use Rattle.td_ast.specs.declared.token.Token.{Token}
+use Rattle.td_ast.specs.declared.definitions.ModuleTree.{ModuleTree}
+use Rattle.td_core.specs.declared.module.Module.{Module}
+use Rattle.td_lexer.specs.declared.error.LexError.{LexError}
+use Rattle.td_lexer.specs.declared.error.LexError.TheVariants.{BadByte as BadByteAt, OpenComment as OpenCommentAt, BigNumber as BigNumberAt, NoMemory as NoTokens}
+use Rattle.td_lexer.specs.Scanner.{tokens_of}
+use Rattle.td_lexer.specs.Splits.{Splits, IsRefused}
+use Rattle.td_grammar.specs.Spelling.{IsFirstRefused}
+use Rattle.td_grammar.specs.Limits.{IsFirstDeep, IsWithinLimits}
+use Rattle.td_grammar.specs.Definitions.{module_text}
+use Rattle.td_grammar.specs.Laws.{Answer, Tree, Refused, TooDeep, EachAnswered, OneTree, OneRefused, OneTooDeep, NeverBoth as NeverBothSpelled}
+use Rattle.td_rules.specs.Modules.{module_of}
+use Rattle.td_elab.specs.Laws.{OneIsFirst, SomeIsFirst}
+use Rattle.td_front.specs.declared.error.FrontError.{FrontError}
+use Rattle.td_front.specs.declared.error.FrontError.TheVariants.{BadByte, OpenComment, BigNumber, Unexpected, Deep, Limit, Broken, ZeroElement, RestNotLast, Unsafe, NoMemory}
+use Rattle.td_front.specs.Errors.{of_lexing}
+use Rattle.td_front.specs.Passes.{RefusesTree}
+use Rattle.td_front.specs.ModuleText.{SpellsTree, IsModuleText, beginning_of, RefusedTree, RefusedBy}
+use Rattle.td_front.proofs.Trees.{Judgement, judged, admitted_judged, refused_judged, Decided, decided}
+
+-- what the crates below say of tokens, trees and breaches
+pub record Below : Type 0 where
+  pub tokens : (text : List ℕ) (tokens : List Token) → (tokens_of text ≡ Ok tokens) ↔ Splits text tokens
+  pub refusals : (text : List ℕ) (error : LexError) → (tokens_of text ≡ Err error) ↔ IsRefused text error
+  pub answered : EachAnswered
+  pub one_tree : OneTree
+  pub one_refused : OneRefused
+  pub one_deep : OneTooDeep
+  pub never_both : NeverBothSpelled
+  pub one_first : OneIsFirst
+  pub some_first : SomeIsFirst
+
+-- ---- the answer
+
+abbrev parsed : Below → (text : List ℕ) (tokens : List Token) → Answer module_text tokens → Judgement
+parsed below text tokens (Tree tree spelled within) = judged below.some_first tree
+parsed below text tokens (Refused place first within) = Err (Unexpected place (beginning_of text tokens place))
+parsed below text tokens (TooDeep place first) = Err (Deep place (beginning_of text tokens place))
+
+abbrev lexed : Below → (text : List ℕ) → Result (List Token) LexError → Judgement
+lexed below text (Ok tokens) = parsed below text tokens (below.answered tokens)
+lexed below text (Err error) = Err (of_lexing error)
+
+abbrev answer : Below → List ℕ → Judgement
+answer below text = lexed below text (tokens_of text)
+
+to_parsed : (below : Below) (text : List ℕ) (tokens : List Token) → Splits text tokens → answer below text ≡ parsed below text tokens (below.answered tokens)
+to_parsed below text tokens split = ap (lexed below text) ((below.tokens text tokens).1 split)
+
+-- ---- trees
+
+deep_within : (tokens : List Token) (place : ℕ) → IsFirstDeep module_text.Passes tokens place → IsWithinLimits module_text.Passes tokens → ⊥
+deep_within tokens place deep within = within place deep.within deep.here
+
+parsed_tree : (below : Below) (text : List ℕ) (tokens : List Token) (tree : ModuleTree) → module_text.Spells tree tokens → IsWithinLimits module_text.Passes tokens → (a : Answer module_text tokens) → parsed below text tokens a ≡ judged below.some_first tree
+parsed_tree below text tokens tree spelled within (Tree other also w) = ap (judged below.some_first) (below.one_tree tokens other tree also spelled w)
+parsed_tree below text tokens tree spelled within (Refused place first w) = absurd (below.never_both tokens tree place spelled first)
+parsed_tree below text tokens tree spelled within (TooDeep place first) = absurd (deep_within tokens place first within)
+
+to_judged : (below : Below) (text : List ℕ) (tree : ModuleTree) → SpellsTree text tree → answer below text ≡ judged below.some_first tree
+to_judged below text tree h = to_parsed below text h.tokens h.split ∙ parsed_tree below text h.tokens tree h.spelled h.within (below.answered h.tokens)
+
+-- ---- tokens that spell none
+
+parsed_refused : (below : Below) (text : List ℕ) (tokens : List Token) (place : ℕ) → IsFirstRefused module_text.Spells tokens place → IsWithinLimits module_text.Passes tokens → (a : Answer module_text tokens) → parsed below text tokens a ≡ Err (Unexpected place (beginning_of text tokens place))
+parsed_refused below text tokens place first within (Tree tree spelled w) = absurd (below.never_both tokens tree place spelled first)
+parsed_refused below text tokens place first within (Refused other also w) = ap (λ (p : ℕ). let r : Judgement = Err (Unexpected p (beginning_of text tokens p)) in r) (below.one_refused tokens other place also first)
+parsed_refused below text tokens place first within (TooDeep other deep) = absurd (deep_within tokens other deep within)
+
+parsed_deep : (below : Below) (text : List ℕ) (tokens : List Token) (place : ℕ) → IsFirstDeep module_text.Passes tokens place → (a : Answer module_text tokens) → parsed below text tokens a ≡ Err (Deep place (beginning_of text tokens place))
+parsed_deep below text tokens place deep (Tree tree spelled w) = absurd (deep_within tokens place deep w)
+parsed_deep below text tokens place deep (Refused other also w) = absurd (deep_within tokens place deep w)
+parsed_deep below text tokens place deep (TooDeep other also) = ap (λ (p : ℕ). let r : Judgement = Err (Deep p (beginning_of text tokens p)) in r) (below.one_deep tokens other place also deep)
+
+-- ---- texts
+
+stands_answer : (below : Below) (text : List ℕ) (m : Module) → IsModuleText text m → answer below text ≡ Ok m
+stands_answer below text m h =
+    to_judged below text h.tree h.spells ∙ admitted_judged below.some_first h.tree h.admitted ∙ ap (λ (x : Module). let r : Judgement = Ok x in r) (sym h.module_is)
+
+lexed_answer : (below : Below) (text : List ℕ) (l : LexError) → IsRefused text l → answer below text ≡ Err (of_lexing l)
+lexed_answer below text l h = ap (lexed below text) ((below.refusals text l).1 h)
+
+tree_answer : (below : Below) (text : List ℕ) (e : FrontError) → RefusedTree text e → answer below text ≡ Err e
+tree_answer below text e h = to_judged below text h.0 h.1 ∙ refused_judged below.one_first below.some_first h.0 e h.2
+
+refused_answer : (below : Below) (text : List ℕ) (e : FrontError) → RefusedBy text e → answer below text ≡ Err e
+refused_answer below text (BadByte at) h = lexed_answer below text (BadByteAt at) h
+refused_answer below text (OpenComment at) h = lexed_answer below text (OpenCommentAt at) h
+refused_answer below text (BigNumber at) h = lexed_answer below text (BigNumberAt at) h
+refused_answer below text (Unexpected token at) h =
+    to_parsed below text h.0 h.1 ∙ parsed_refused below text h.0 token h.2 h.3 (below.answered h.0) ∙ ap (λ (n : ℕ). let r : Judgement = Err (Unexpected token n) in r) (sym h.4)
+refused_answer below text (Deep token at) h =
+    to_parsed below text h.0 h.1 ∙ parsed_deep below text h.0 token h.2 (below.answered h.0) ∙ ap (λ (n : ℕ). let r : Judgement = Err (Deep token n) in r) (sym h.3)
+refused_answer below text (Limit limit span) h = tree_answer below text (Limit limit span) h
+refused_answer below text (Broken rule span) h = tree_answer below text (Broken rule span) h
+refused_answer below text (ZeroElement span) h = tree_answer below text (ZeroElement span) h
+refused_answer below text (RestNotLast span) h = tree_answer below text (RestNotLast span) h
+refused_answer below text (Unsafe span op) h = tree_answer below text (Unsafe span op) h
+refused_answer below text NoMemory h = absurd h
+
+-- ---- the laws
+
+pub one_module : Below → (text : List ℕ) (m n : Module) → IsModuleText text m → IsModuleText text n → m ≡ n
+one_module below text m n h k = let one = stands_answer below text m h in let two = stands_answer below text n k in cc
+
+pub one_refusal : Below → (text : List ℕ) (e f : FrontError) → RefusedBy text e → RefusedBy text f → e ≡ f
+one_refusal below text e f h k = let one = refused_answer below text e h in let two = refused_answer below text f k in cc
+
+pub never_both : Below → (text : List ℕ) (m : Module) (e : FrontError) → IsModuleText text m → RefusedBy text e → ⊥
+never_both below text m e h k = let one = stands_answer below text m h in let two = refused_answer below text e k in cc
+
+-- a refusal of the tree is one of the text
+pub of_tree : (text : List ℕ) (tree : ModuleTree) → SpellsTree text tree → (e : FrontError) → RefusesTree tree e → RefusedBy text e
+of_tree text tree spells (BadByte at) h = absurd h
+of_tree text tree spells (OpenComment at) h = absurd h
+of_tree text tree spells (BigNumber at) h = absurd h
+of_tree text tree spells (Unexpected token at) h = absurd h
+of_tree text tree spells (Deep token at) h = absurd h
+of_tree text tree spells (Limit limit span) h = (tree, spells, h)
+of_tree text tree spells (Broken rule span) h = (tree, spells, h)
+of_tree text tree spells (ZeroElement span) h = (tree, spells, h)
+of_tree text tree spells (RestNotLast span) h = (tree, spells, h)
+of_tree text tree spells (Unsafe span op) h = (tree, spells, h)
+of_tree text tree spells NoMemory h = absurd h
+
+abbrev pub OneOfBoth : List ℕ → Type 0
+OneOfBoth text = ((m : Module) × IsModuleText text m) ⊎ ((e : FrontError) × RefusedBy text e)
+
+tree_decided : (text : List ℕ) (tree : ModuleTree) → SpellsTree text tree → Decided tree → OneOfBoth text
+tree_decided text tree spells (inl admitted) = inl (module_of tree, record { tree = tree; spells = spells; admitted = admitted; module_is = refl })
+tree_decided text tree spells (inr (e, h)) = inr (e, of_tree text tree spells e h)
+
+tokens_decided : Below → (text : List ℕ) (tokens : List Token) → Splits text tokens → Answer module_text tokens → OneOfBoth text
+tokens_decided below text tokens split (Tree tree spelled within) =
+    tree_decided text tree (record { tokens = tokens; split = split; spelled = spelled; within = within }) (decided below.some_first tree)
+tokens_decided below text tokens split (Refused place first within) = inr (Unexpected place (beginning_of text tokens place), (tokens, split, first, within, refl))
+tokens_decided below text tokens split (TooDeep place first) = inr (Deep place (beginning_of text tokens place), (tokens, split, first, refl))
+
+lexed_decided : (text : List ℕ) (l : LexError) → IsRefused text l → OneOfBoth text
+lexed_decided text (BadByteAt at) h = inr (BadByte at, h)
+lexed_decided text (OpenCommentAt at) h = inr (OpenComment at, h)
+lexed_decided text (BigNumberAt at) h = inr (BigNumber at, h)
+lexed_decided text NoTokens h = absurd h.4
+
+pub always_one : Below → (text : List ℕ) → OneOfBoth text
+always_one below text = by (tokens_of text) refl
+  where
+    by : (r : Result (List Token) LexError) → tokens_of text ≡ r → OneOfBoth text
+    by (Ok tokens) e = tokens_decided below text tokens ((below.tokens text tokens).0 e) (below.answered tokens)
+    by (Err l) e = lexed_decided text l ((below.refusals text l).0 e)

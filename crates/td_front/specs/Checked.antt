@@ -1,0 +1,28 @@
+-- What holds of each module that a text stands for (own rule). Layers above rest on this alone, and never look into trees.
+use Rattle.std.specs.Prelude.{◌≡◌, ℕ, List, [], length, Some, None, slice_get}
+use Rattle.td_core.specs.declared.module.Module.{Module}
+use Rattle.td_core.specs.Formed.{IsModuleFormed}
+use Rattle.td_core.specs.WellFormed.{Each, EachField, IsWhole, IsFieldWhole, IsDefinitionSorted, IsDefinitionNamed}
+use Rattle.td_kinds.specs.KindRules.{kind_faults}
+use Rattle.td_arith.specs.SafeModule.{module_unsafe}
+
+-- no two names have the same bytes
+abbrev pub AreApart : List (List ℕ) → Type 0
+AreApart names = (i j : ℕ) (name : List ℕ) → slice_get names i ≡ Some name → slice_get names j ≡ Some name → i ≡ j
+
+pub record IsChecked (m : Module) : Type 0 where
+  -- levels are in scope, literals fit, and earlier definitions are named with arguments and cells that match
+  pub formed : IsModuleFormed m
+  -- truth values stand where truth values must, and numbers where numbers must
+  pub sorted : Each IsDefinitionSorted m.definitions
+  -- fields have parts, and entry points definitions
+  pub whole : IsWhole m
+  -- bit fields lie in their numbers, refinements stand on numbers, enums have their values
+  pub fields : Each (λ d. EachField (IsFieldWhole (length m.listed)) d.body) m.definitions
+  -- each name in a definition has its bytes, and no other name has them
+  pub named : Each (IsDefinitionNamed (length m.names)) m.definitions
+  pub apart : AreApart m.names
+  -- no element of a byte-sized array may be empty, and what takes the rest stands last
+  pub kinds : kind_faults m ≡ []
+  -- each operator is safe under the facts at its place
+  pub safe : module_unsafe m ≡ None

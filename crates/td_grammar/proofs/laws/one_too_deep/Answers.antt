@@ -1,0 +1,7 @@
+use Rattle.td_grammar.specs.Definitions.{module_text}
+use Rattle.td_grammar.proofs.Defs.{module_text_exact}
+use Rattle.td_grammar.proofs.Answers.{deep_once}
+use Rattle.td_grammar.proofs.laws.one_too_deep.Goals as goal
+
+pub returns : goal.returns
+returns c = λ tokens p q P Q. deep_once module_text module_text_exact tokens p q P Q

@@ -1,7 +1,0 @@
-use Rattle.td_grammar.specs.Productions.{module_text}
-use Rattle.td_grammar.proofs.Whole.{whole_unique}
-use Rattle.td_grammar.proofs.Language.{module_text_exact, module_text_plain}
-use Rattle.td_grammar.proofs.laws.spell_at_most_one.Goals as goal
-
-pub returns : goal.returns
-returns c = whole_unique module_text module_text_exact module_text_plain

@@ -1,0 +1,153 @@
+-- Each list of bytes stands for a run job or is refused.
+use Rattle.std.proofs.Common.{◌≡◌, ℕ, zero, suc, ◌%◌, ◌==◌, ◌<◌, ◌^◌, List, [], ◌∷◌, length, Bool, true, false, if◌then◌else◌, Option, Some, None, Result, Ok, Err, ◌⊎◌, inl, inr, refl, ap, subst, arith, lit<}
+use Rattle.std.proofs.lemmas.Bool.{cases_lt}
+use Rattle.std.proofs.lemmas.Str.{IsUtf8-from_is_utf8, is_utf8-from_IsUtf8}
+use Rattle.std.proofs.lemmas.Slice.Eq.{bytes_eq-Decides}
+use Rattle.std.specs.Prelude.{bytes_eq, slice_get, IsUtf8}
+use Rattle.std.specs.Str.{is_utf8}
+use Rattle.serde_json.specs.Data.{Data}
+use Rattle.serde_json.specs.Read.{read as read_text}
+use Rattle.hex.specs.Hex.{decode_of, decode_pairs}
+use Rattle.hex.specs.declared.error.FromHexError.{FromHexError}
+use Rattle.hex.specs.declared.error.FromHexError.TheVariants.{OddLength}
+use Rattle.hex.proofs.HexLemmas.{decode_pairs-ok}
+use Rattle.td_core.specs.declared.module.Module.{Module}
+use Rattle.td_core.specs.declared.module.Entry.{Entry}
+use Rattle.td_core.specs.declared.module.TypeDef.{TypeDef}
+use Rattle.td_core.specs.Entries.{IsEntryNamed, HasName, entry_definition}
+use Rattle.td_job.specs.declared.error.Key.TheVariants as key
+use Rattle.td_job.specs.declared.error.Path.TheVariants as path
+use Rattle.td_job.specs.declared.error.JobError.{JobError}
+use Rattle.td_job.specs.declared.error.JobRule.TheVariants as rule
+use Rattle.td_job.specs.declared.error.JobError.TheVariants.{Fault}
+use Rattle.td_job.specs.declared.run_job.RunJob.{RunJob}
+use Rattle.td_job.specs.Fields.{Reads, text_of}
+use Rattle.td_job.specs.Values.{given_args, given_cells}
+use Rattle.td_job.specs.Jobs.{given_bytes, given_stores, message_words, spelled_bytes, bytes_or_none, EntryFault, IsEntry, FirstFault, later_faults, length_faults, IsJob, IsRunJob, RefusedJob}
+use Rattle.td_job.proofs.Bytes.{AreBytes, filled}
+use Rattle.td_job.proofs.Numbers.{both_empty}
+
+none_small : AreBytes []
+none_small i = lit< tt
+
+by_parity : (odd : Bool) (text bytes : List ℕ) → (if odd then Err OddLength else decode_pairs 0 text) ≡ Ok bytes → decode_pairs 0 text ≡ Ok bytes
+by_parity true text bytes h = absurd (cc)
+by_parity false text bytes h = h
+
+decoded_small : (text : List ℕ) (r : Result (List ℕ) FromHexError) → decode_of text ≡ r → AreBytes (bytes_or_none r)
+decoded_small text (Ok bytes) h = (decode_pairs-ok 0 text bytes (by_parity (length text % 2 == 1) text bytes h)).2
+decoded_small text (Err e) h = none_small
+
+-- what a job gives are bytes
+spelled_small : (text : Option (List ℕ)) → AreBytes (spelled_bytes text)
+spelled_small None = none_small
+spelled_small (Some text) = decoded_small text (decode_of text) refl
+
+same_name : (found : Option (List ℕ)) (name : List ℕ) → (found ≡ Some name) ⊎ (found ≡ Some name → ⊥)
+same_name None name = inr (λ h. cc)
+same_name (Some x) name = by_test (bytes_eq x name) refl
+  where
+    by_test : (test : Bool) → bytes_eq x name ≡ test → (Some x ≡ Some name) ⊎ (Some x ≡ Some name → ⊥)
+    by_test true e = inl (ap Some ((bytes_eq-Decides x name).0 e))
+    by_test false e = inr (λ h. let same : x ≡ name = cc in let yes = (bytes_eq-Decides x name).1 same in cc)
+
+has_name : (m : Module) (name : List ℕ) (d : Option TypeDef) → HasName m name d ⊎ (HasName m name d → ⊥)
+has_name m name None = inr (λ h. h)
+has_name m name (Some d) = same_name (slice_get m.names d.name.number) name
+
+is_named : (m : Module) (name : List ℕ) (n : ℕ) → IsEntryNamed m name n ⊎ (IsEntryNamed m name n → ⊥)
+is_named m name n =
+    elim (cases_lt n (length m.entries)) [
+      | inl within ↦
+          elim (has_name m name (entry_definition m n)) [
+            | inl has ↦ inl (within, has)
+            | inr lacks ↦ inr (λ h. lacks h.1)
+          ]
+      | inr past ↦ inr (λ h. let within = h.0 in absurd (omega (arith, within, past)))
+    ]
+
+pub record Found (m : Module) (name : List ℕ) : Type 0 where
+  pub number : ℕ
+  pub named : IsEntryNamed m name number
+  pub first : (n : ℕ) → n < number → IsEntryNamed m name n → ⊥
+
+-- the first entry point of a name, among so many
+searched : (m : Module) (name : List ℕ) (count : ℕ) → Found m name ⊎ ((n : ℕ) → n < count → IsEntryNamed m name n → ⊥)
+searched m name zero = inr (λ n less h. absurd (omega (arith, less)))
+searched m name (suc k) =
+    elim (searched m name k) [
+      | inl found ↦ inl found
+      | inr none ↦
+          elim (is_named m name k) [
+            | inl here ↦ inl (record { number = k; named = here; first = none })
+            | inr other ↦ inr (λ n less h. elim (cases_lt n k) [
+              | inl before ↦ none n before h
+              | inr at ↦ let same : n ≡ k = omega (arith, less, at) in other (subst (IsEntryNamed m name) same h)
+            ])
+          ]
+    ]
+
+entry_or_fault : (m : Module) (name : Option (List ℕ)) → ((entry : Entry) × IsEntry m name entry) ⊎ ((e : JobError) × EntryFault m name e)
+entry_or_fault m None = inr (Fault rule.Form (path.Whole key.Entry), refl)
+entry_or_fault m (Some name) =
+    elim (searched m name (length m.entries)) [
+      | inl found ↦
+          elim (cases_lt found.number (2 ^ 32)) [
+            | inl small ↦ inl (record { number = found.number }, (small, record { named = found.named; first = found.first }))
+            | inr large ↦ inr (Fault rule.NoEntry (path.Whole key.Entry), (refl, λ n less h. found.first n (omega (arith, less, large)) h))
+          ]
+      | inr none ↦ inr (Fault rule.NoEntry (path.Whole key.Entry), (refl, λ n less h. none n h.0 h))
+    ]
+
+has_length : (given : ℕ) (number : Option ℕ) → length_faults given number ≡ [] → (n : ℕ) × (number ≡ Some n)
+has_length given None h = absurd (cc)
+has_length given (Some n) h = (n, refl)
+
+faultless_job : (m : Module) (job : Data) (entry : Entry) → IsEntry m (text_of key.Entry job) entry → later_faults (entry_definition m entry.number) job ≡ []
+    → (j : RunJob) × IsJob m job j
+faultless_job m job entry named faultless =
+    let d = entry_definition m entry.number in
+    let names = both_empty _ _ faultless in
+    let stores = both_empty _ _ names.0 in
+    let length = both_empty _ _ stores.0 in
+    let number = has_length _ _ length.1 in
+    let words = filled (given_bytes job) (message_words job) (spelled_small (text_of key.Bytes job)) in (
+      record { entry = entry; args = given_args d job; cells = given_cells d job; words = words.0; length = number.0; stores = given_stores job },
+      record { named = named; faultless = faultless; args = refl; cells = refl; filled = words.1; as_long = number.1; stored = refl },
+    )
+
+by_faults : (m : Module) (job : Data) (entry : Entry) → IsEntry m (text_of key.Entry job) entry → (faults : List JobError) → later_faults (entry_definition m entry.number) job ≡ faults
+    → ((j : RunJob) × IsJob m job j) ⊎ ((e : JobError) × FirstFault m job e)
+by_faults m job entry named [] h = inl (faultless_job m job entry named h)
+by_faults m job entry named (e ∷ others) h = inr (e, inr (entry, named, record { others = others; is = h }))
+
+job_or_fault : (m : Module) (job : Data) → ((j : RunJob) × IsJob m job j) ⊎ ((e : JobError) × FirstFault m job e)
+job_or_fault m job =
+    elim (entry_or_fault m (text_of key.Entry job)) [
+      | inl found ↦ by_faults m job found.0 found.1 (later_faults (entry_definition m found.0.number) job) refl
+      | inr wrong ↦ inr (wrong.0, inl wrong.1)
+    ]
+
+Answered : List ℕ → Module → Type 0
+Answered bytes m = ((j : RunJob) × IsRunJob bytes m j) ⊎ ((e : JobError) × RefusedJob bytes m e)
+
+no_json : (bytes : List ℕ) (m : Module) → ((job : Data) → Reads bytes job → ⊥) → Answered bytes m
+unfolding Answered
+no_json bytes m none = inr (Fault rule.NotJson path.Job, inl (refl, none))
+
+by_value : (bytes : List ℕ) (m : Module) → IsUtf8 bytes → (value : Option Data) → read_text bytes ≡ value → Answered bytes m
+unfolding Answered
+by_value bytes m text None h = no_json bytes m (λ job reads. let read = reads.1 in absurd (cc))
+by_value bytes m text (Some job) h =
+    elim (job_or_fault m job) [
+      | inl good ↦ inl (good.0, (job, (text, h), good.1))
+      | inr bad ↦ inr (bad.0, inr (job, (text, h), bad.1))
+    ]
+
+by_text : (bytes : List ℕ) (m : Module) (test : Bool) → is_utf8 bytes ≡ test → Answered bytes m
+by_text bytes m true h = by_value bytes m (IsUtf8-from_is_utf8 bytes h) (read_text bytes) refl
+by_text bytes m false h = no_json bytes m (λ job reads. let yes = is_utf8-from_IsUtf8 bytes reads.0 in absurd (cc))
+
+pub always_one : (bytes : List ℕ) (m : Module) → ((j : RunJob) × IsRunJob bytes m j) ⊎ ((e : JobError) × RefusedJob bytes m e)
+unfolding Answered
+always_one bytes m = by_text bytes m (is_utf8 bytes) refl

@@ -1,0 +1,147 @@
+-- Bytes stand for one run job alone, or are refused for one cause alone.
+use Rattle.std.proofs.Common.{length, ◌<◌, ◌≡◌, ℕ, List, Option, Some, None, Result, Ok, Err, ◌⊎◌, inl, inr, sym, ap, ◌∙◌, subst}
+use Rattle.std.proofs.lemmas.Bool.{cases_order}
+use Rattle.std.specs.Prelude.{IfOk, IfErr, MatchResult}
+use Rattle.serde_json.specs.Data.{Data}
+use Rattle.td_core.specs.declared.module.Module.{Module}
+use Rattle.td_core.specs.declared.module.Entry.{Entry}
+use Rattle.td_core.specs.Entries.{IsFirstNamed, entry_definition}
+use Rattle.td_sched.specs.declared.store.PlannedStore.{PlannedStore}
+use Rattle.td_job.specs.declared.error.Key.TheVariants as key
+use Rattle.td_job.specs.declared.error.JobError.{JobError}
+use Rattle.td_job.specs.declared.error.JobError.TheVariants.{NoMemory}
+use Rattle.td_job.specs.declared.run_job.RunJob.{RunJob}
+use Rattle.td_core.specs.Formed.{AllFit}
+use Rattle.td_job.specs.Fields.{Reads, text_of, field_of, IsFirst}
+use Rattle.td_job.specs.Values.{args_bounds, cells_bounds, given_args, given_cells}
+use Rattle.td_job.specs.Jobs.{given_bytes, message_words, EntryFault, IsEntry, FirstFault, later_faults, IsJob, IsRunJob, RefusedJob, HasValues}
+use Rattle.td_job.proofs.Bytes.{filled_once}
+use Rattle.td_job.proofs.Numbers.{both_empty, args_fit, cells_fit}
+
+one_number : (m : Module) (name : List ℕ) (a b : Entry) → IsFirstNamed m name a → IsFirstNamed m name b → a.number ≡ b.number
+one_number m name a b ha hb =
+    elim (cases_order a.number b.number) [
+      | inl same ↦ same
+      | inr (inl less) ↦ absurd (hb.first a.number less ha.named)
+      | inr (inr more) ↦ absurd (ha.first b.number more hb.named)
+    ]
+
+one_entry : (m : Module) (name : Option (List ℕ)) (a b : Entry) → IsEntry m name a → IsEntry m name b → a ≡ b
+one_entry m None a b ha hb = absurd ha
+one_entry m (Some name) a b ha hb =
+    let numbered : ℕ → Entry = λ n. record { number = n } in
+    ap numbered (one_number m name a b ha.1 hb.1)
+
+one_entry_fault : (m : Module) (name : Option (List ℕ)) (a b : JobError) → EntryFault m name a → EntryFault m name b → a ≡ b
+one_entry_fault m None a b ha hb = ha ∙ sym hb
+one_entry_fault m (Some name) a b ha hb = ha.0 ∙ sym hb.0
+
+entry_or_fault : (m : Module) (name : Option (List ℕ)) (entry : Entry) (e : JobError) → IsEntry m name entry → EntryFault m name e → ⊥
+entry_or_fault m None entry e h wrong = h
+entry_or_fault m (Some name) entry e h wrong = wrong.1 entry.number h.0 h.1.named
+
+one_first : (faults : List JobError) (a b : JobError) → IsFirst faults a → IsFirst faults b → a ≡ b
+one_first faults a b ha hb = let ia = ha.is in let ib = hb.is in cc
+
+one_fault : (m : Module) (job : Data) (a b : JobError) → FirstFault m job a → FirstFault m job b → a ≡ b
+one_fault m job a b (inl ha) (inl hb) = one_entry_fault m (text_of key.Entry job) a b ha hb
+one_fault m job a b (inl ha) (inr hb) = absurd (entry_or_fault m (text_of key.Entry job) hb.0 a hb.1 ha)
+one_fault m job a b (inr ha) (inl hb) = absurd (entry_or_fault m (text_of key.Entry job) ha.0 b ha.1 hb)
+one_fault m job a b (inr ha) (inr hb) =
+    let same = one_entry m (text_of key.Entry job) hb.0 ha.0 hb.1 ha.1 in
+    one_first (later_faults (entry_definition m ha.0.number) job) a b ha.2 (subst (λ (entry : Entry). IsFirst (later_faults (entry_definition m entry.number) job) b) same hb.2)
+
+job_or_fault : (m : Module) (job : Data) (j : RunJob) (e : JobError) → IsJob m job j → FirstFault m job e → ⊥
+job_or_fault m job j e h (inl wrong) = entry_or_fault m (text_of key.Entry job) j.entry e h.named wrong
+job_or_fault m job j e h (inr wrong) =
+    let same = one_entry m (text_of key.Entry job) wrong.0 j.entry wrong.1 h.named in
+    let first = subst (λ (entry : Entry). IsFirst (later_faults (entry_definition m entry.number) job) e) same wrong.2 in
+    let none = h.faultless in
+    let some = first.is in
+    absurd (cc)
+
+one_job : (m : Module) (job : Data) (a b : RunJob) → IsJob m job a → IsJob m job b → a ≡ b
+one_job m job a b ha hb =
+    let entry = one_entry m (text_of key.Entry job) a.entry b.entry ha.named hb.named in
+    let args = ha.args ∙ ap (λ (e : Entry). given_args (entry_definition m e.number) job) entry ∙ sym hb.args in
+    let cells = ha.cells ∙ ap (λ (e : Entry). given_cells (entry_definition m e.number) job) entry ∙ sym hb.cells in
+    let words = filled_once (given_bytes job) (message_words job) a.words b.words ha.filled hb.filled in
+    let la = ha.as_long in
+    let lb = hb.as_long in
+    let length : a.length ≡ b.length = cc in
+    let stores = ha.stored ∙ sym hb.stored in
+    let make : Entry → List ℕ → List ℕ → List ℕ → ℕ → List PlannedStore → RunJob = λ entry args cells words length stores. record { entry = entry; args = args; cells = cells; words = words; length = length; stores = stores } in
+    ap (λ x. make x a.args a.cells a.words a.length a.stores) entry
+    ∙ ap (λ x. make b.entry x a.cells a.words a.length a.stores) args
+    ∙ ap (λ x. make b.entry b.args x a.words a.length a.stores) cells
+    ∙ ap (λ x. make b.entry b.args b.cells x a.length a.stores) words
+    ∙ ap (λ x. make b.entry b.args b.cells b.words x a.stores) length
+    ∙ ap (λ x. make b.entry b.args b.cells b.words b.length x) stores
+
+one_value : (bytes : List ℕ) (a b : Data) → Reads bytes a → Reads bytes b → a ≡ b
+one_value bytes a b ha hb = let ia = ha.1 in let ib = hb.1 in cc
+
+pub one_run_job : (bytes : List ℕ) (m : Module) (a b : RunJob) → IsRunJob bytes m a → IsRunJob bytes m b → a ≡ b
+one_run_job bytes m a b ha hb =
+    let same = one_value bytes hb.0 ha.0 hb.1 ha.1 in
+    one_job m ha.0 a b ha.2 (subst (λ job. IsJob m job b) same hb.2)
+
+pub one_refusal : (bytes : List ℕ) (m : Module) (a b : JobError) → RefusedJob bytes m a → RefusedJob bytes m b → a ≡ b
+one_refusal bytes m a b (inl ha) (inl hb) = ha.0 ∙ sym hb.0
+one_refusal bytes m a b (inl ha) (inr hb) = absurd (ha.1 hb.0 hb.1)
+one_refusal bytes m a b (inr ha) (inl hb) = absurd (hb.1 ha.0 ha.1)
+one_refusal bytes m a b (inr ha) (inr hb) =
+    let same = one_value bytes hb.0 ha.0 hb.1 ha.1 in
+    one_fault m ha.0 a b ha.2 (subst (λ job. FirstFault m job b) same hb.2)
+
+pub job_or_refusal : (bytes : List ℕ) (m : Module) (j : RunJob) (e : JobError) → IsRunJob bytes m j → RefusedJob bytes m e → ⊥
+job_or_refusal bytes m j e h (inl wrong) = wrong.1 h.0 h.1
+job_or_refusal bytes m j e h (inr wrong) =
+    let same = one_value bytes wrong.0 h.0 wrong.1 h.1 in
+    job_or_fault m h.0 j e h.2 (subst (λ job. FirstFault m job e) same wrong.2)
+
+abbrev pub Answer : Type 0
+Answer = Result RunJob JobError
+
+-- an answer that is right where it is a job, and has a cause where it is an error, is the only one
+pub complete : (bytes : List ℕ) (m : Module) (answer : Answer) → IfOk answer (IsRunJob bytes m)
+    → IfErr answer (λ e. (e ≡ NoMemory) ⊎ RefusedJob bytes m e)
+    → (j : RunJob) → IsRunJob bytes m j → MatchResult answer (λ found. found ≡ j) (λ e. e ≡ NoMemory)
+complete bytes m (Ok found) right cause j h = one_run_job bytes m found j right h
+complete bytes m (Err e) right (inl memory) j h = memory
+complete bytes m (Err e) right (inr wrong) j h = absurd (job_or_refusal bytes m j e h wrong)
+
+pub exact : (bytes : List ℕ) (m : Module) (answer : Answer) → IfOk answer (IsRunJob bytes m)
+    → IfErr answer (λ e. (e ≡ NoMemory) ⊎ RefusedJob bytes m e)
+    → (e : JobError) → RefusedJob bytes m e → (answer ≡ Err e) ⊎ (answer ≡ Err NoMemory)
+exact bytes m (Ok found) right cause e h = absurd (job_or_refusal bytes m found e right h)
+exact bytes m (Err other) right (inl memory) e h = inr (ap Err memory)
+exact bytes m (Err other) right (inr wrong) e h = inl (ap Err (one_refusal bytes m other e wrong h))
+
+named_within : (m : Module) (name : Option (List ℕ)) (entry : Entry) → IsEntry m name entry → entry.number < length m.entries
+named_within m None entry h = absurd h
+named_within m (Some name) entry h = h.1.named.0
+
+-- the entry point of a job is one of the module's
+pub within : (bytes : List ℕ) (m : Module) (answer : Answer) → IfOk answer (IsRunJob bytes m)
+    → IfOk answer (λ j. j.entry.number < length m.entries)
+within bytes m (Ok j) h = named_within m (text_of key.Entry h.0) j.entry h.2.named
+within bytes m (Err e) h = tt
+
+values : (m : Module) (job : Data) (j : RunJob) → IsJob m job j → HasValues m j
+values m job j h =
+    let d = entry_definition m j.entry.number in
+    let names = both_empty _ _ h.faultless in
+    let stores = both_empty _ _ names.0 in
+    let length = both_empty _ _ stores.0 in
+    let bytes = both_empty _ _ length.0 in
+    let lists = both_empty _ _ bytes.0 in
+    record {
+      args = subst (AllFit (args_bounds d)) (sym h.args) (args_fit (args_bounds d) (field_of key.Args job) lists.0);
+      cells = subst (AllFit (cells_bounds d)) (sym h.cells) (cells_fit (cells_bounds d) (field_of key.Cells job) lists.1);
+    }
+
+-- each parameter and cell of a job has a value that fits
+pub all_fit : (bytes : List ℕ) (m : Module) (answer : Answer) → IfOk answer (IsRunJob bytes m) → IfOk answer (HasValues m)
+all_fit bytes m (Ok j) h = values m h.0 j h.2
+all_fit bytes m (Err e) h = tt

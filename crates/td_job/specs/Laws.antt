@@ -1,0 +1,22 @@
+-- What holds of jobs and their faults.
+use Rattle.std.specs.Prelude.{◌≡◌, ℕ, List, ◌⊎◌}
+use Rattle.td_core.specs.declared.module.Module.{Module}
+use Rattle.td_job.specs.declared.error.JobError.{JobError}
+use Rattle.td_job.specs.declared.run_job.RunJob.{RunJob}
+use Rattle.td_job.specs.Jobs.{IsRunJob, RefusedJob}
+
+-- bytes stand for at most one run job
+abbrev pub OneJobEach : Type 0
+OneJobEach = (bytes : List ℕ) (m : Module) (a b : RunJob) → IsRunJob bytes m a → IsRunJob bytes m b → a ≡ b
+
+-- bytes have at most one fault
+abbrev pub OneFaultEach : Type 0
+OneFaultEach = (bytes : List ℕ) (m : Module) (e f : JobError) → RefusedJob bytes m e → RefusedJob bytes m f → e ≡ f
+
+-- bytes that stand for a run job have no fault
+abbrev pub NeverBoth : Type 0
+NeverBoth = (bytes : List ℕ) (m : Module) (j : RunJob) (e : JobError) → IsRunJob bytes m j → RefusedJob bytes m e → ⊥
+
+-- bytes stand for a run job or have a fault
+abbrev pub AlwaysOne : Type 0
+AlwaysOne = (bytes : List ℕ) (m : Module) → ((j : RunJob) × IsRunJob bytes m j) ⊎ ((e : JobError) × RefusedJob bytes m e)

@@ -1,0 +1,53 @@
+//! The kinds of a module.
+
+ghost use Rattle.std.specs.Prelude.{◌≡◌, ◌<◌, [], length, IfOk, IfErr, Err};
+ghost use Rattle.td_kinds.specs.Kinds.{kind_at};
+ghost use Rattle.td_kinds.specs.KindRules.{kind_list, kinds_to, kind_faults, definitions_faults, first_fault, IsCause};
+
+use crate::casetypes::{body_fault, body_kind};
+use crate::error::{KindError, KindFault};
+use std::alloc::{AllocError, Global};
+use td_core::kind::Kind;
+use td_core::module::{Module, TypeDef};
+
+/// The kinds of a module's definitions, in their order. Where a field's kind is refused, the error names the first in the
+/// order of the text. `NoMemory`: there is a definition, and there was no memory for its kind.
+pub fn kinds(alloc: Global, m: &Module) -> Result<Vec<Kind>, KindError>
+    ensures kinds { IfOk result (λ ks. ks.items ≡ kind_list m.now) }
+    ensures admitted { IfOk result (λ _. kind_faults m.now ≡ []) }
+    ensures cause { IfErr result (λ e. IsCause (kind_faults m.now) e) }
+    ensures memory { result ≡ Err KindError.NoMemory → 0 < length m.now.definitions }
+{
+    let definitions = m.definitions.as_slice();
+    let kinds = all_kinds(alloc, definitions)?;
+    match definitions_fault(&kinds, definitions) {
+        Some(KindFault::ZeroElement { span }) => Err(KindError::ZeroElement { span }),
+        Some(KindFault::RestNotLast { span }) => Err(KindError::RestNotLast { span }),
+        None => Ok(kinds),
+    }
+}
+
+/// The kinds of definitions, each by those before it.
+fn all_kinds(alloc: Global, definitions: &[TypeDef]) -> Result<Vec<Kind>, AllocError>
+    ensures kinds { IfOk result (λ ks. ks.items ≡ kinds_to definitions.now (length definitions.now)) }
+    ensures memory { IfErr result (λ _. 0 < length definitions.now) }
+{
+    let mut kinds = Vec::new(alloc);
+    for definition in definitions {
+        let kind = body_kind(&kinds, &definition.body);
+        kinds.push(kind)?;
+    }
+    Ok(kinds)
+}
+
+/// The first of what is refused of definitions, by all their kinds.
+fn definitions_fault(kinds: &[Kind], definitions: &[TypeDef]) -> Option<KindFault>
+    ensures { result ≡ first_fault (definitions_faults (kind_at kinds.now) definitions.now) }
+{
+    for definition in definitions {
+        if let Some(fault) = body_fault(kinds, &definition.body) {
+            return Some(fault);
+        }
+    }
+    None
+}

@@ -1,0 +1,140 @@
+-- A field, and what is left after it.
+use Rattle.std.proofs.Common.{subst, arith, ◌-◌, ◌*◌, ◌/◌, ◌≡◌, ℕ, zero, suc, ◌+◌, ◌<◌, ◌≤◌, min, Bool, true, false, cond, Option, Some, None, List, [], ◌∷◌, ◌++◌, length, refl, sym, ap, ◌∙◌}
+use Rattle.std.proofs.lemmas.Bool.{le-leb, lt-leb}
+use Rattle.std.proofs.Math.Nat.{div-mul-le_self, min-le_right, mul-le-mul_right, le_trans}
+use Rattle.td_num.specs.Numbers.{bytes_in, number_at, places_from}
+use Rattle.td_num.specs.declared.number.NumberType.{NumberType}
+use Rattle.td_core.specs.declared.module.NameId.{NameId}
+use Rattle.td_core.specs.declared.module.Element.{Element}
+use Rattle.td_core.specs.declared.module.Element.TheVariants.{Number, Listed, Named, Unit as UnitElement, Rest, Zeros}
+use Rattle.td_core.specs.declared.module.Extent.{Extent}
+use Rattle.td_core.specs.declared.module.Extent.TheVariants.{Once, Filling, OnceFilling, UpToZero}
+use Rattle.td_core.specs.declared.module.Field.{Field}
+use Rattle.td_core.specs.declared.outcome.Reason.TheVariants.{NotEnough}
+use Rattle.td_core.specs.Outcome.{Ending, Accepted, Rejected, Behavior, plain, after_reading, and_then, ending_within, within, accepted, rejected}
+use Rattle.td_meaning.specs.Naming.{is_needed}
+use Rattle.td_meaning.specs.Meaning.{Sense, taken, demanded, values_of, field_number, number_places, places_if, field_place, first_name}
+use Rattle.td_meaning.specs.Machine.{listed_meaning, shape_meaning, fields_meaning}
+use Rattle.td_meaning.proofs.MachineAgreeing.{onward_alike, unneeded}
+use Rattle.td_leaves.specs.Step.{rest_meaning}
+use Rattle.td_leaves.specs.Counting.{IsPlain}
+
+pub taken_long : (n start end p : ℕ) (cells : List ℕ) → p + n ≤ end → taken n start end p cells ≡ accepted (p + n) cells
+taken_long n start end p cells h = ap (λ v. demanded NotEnough v start (p + n) cells) (le-leb (p + n) end h)
+
+pub taken_short : (n start end p : ℕ) (cells : List ℕ) → end < p + n → taken n start end p cells ≡ rejected NotEnough start cells
+taken_short n start end p cells h = ap (λ v. demanded NotEnough v start (p + n) cells) (lt-leb (p + n) end h)
+
+pub fields_none : (sets : List (List ℕ)) (senses : ℕ → Sense) (ty : NameId) (env places b : List ℕ) (end p : ℕ) (cells : List ℕ) → fields_meaning sets senses ty [] env places b end p cells ≡ accepted p cells
+unfolding fields_meaning
+fields_none sets senses ty env places b end p cells = refl
+
+module _ (sets : List (List ℕ)) (senses : ℕ → Sense) (ty : NameId) (f : Field) (later : List Field) (env places b : List ℕ) (end p : ℕ) (cells : List ℕ) where
+  -- a number, by what its bytes say
+  number_by : (type : NumberType) (t : Behavior) → f.element ≡ Number type → f.extent ≡ Once → taken (bytes_in type.width) p end p cells ≡ t → fields_meaning sets senses ty (f ∷ later) env places b end p cells ≡ and_then (within (field_place ty (first_name f.parts) p) t) (λ q cells. after_reading (places_if (is_needed (length env) f.parts later) (places_from p (bytes_in type.width))) (rest_meaning sets senses ty f.parts later env (number_at type b p) places b end p q cells))
+  unfolding fields_meaning
+  number_by type t e o h =
+      (λ i. and_then (within (field_place ty (first_name f.parts) p) (shape_meaning sets senses (e i) (o i) env places b end p cells)) (λ q cells. after_reading (number_places (is_needed (length env) f.parts later) (e i) (o i) p) (rest_meaning sets senses ty f.parts later env (field_number (e i) (o i) b p) places b end p q cells)))
+      ∙ ap (λ t. and_then (within (field_place ty (first_name f.parts) p) t) (λ q cells. after_reading (places_if (is_needed (length env) f.parts later) (places_from p (bytes_in type.width))) (rest_meaning sets senses ty f.parts later env (number_at type b p) places b end p q cells))) h
+
+  -- a number without its bytes
+  pub number_short : (type : NumberType) (go : ℕ → List ℕ → Behavior) (o : Ending) → f.element ≡ Number type → f.extent ≡ Once → end < p + bytes_in type.width → o ≡ ending_within (field_place ty (first_name f.parts) p) (Rejected NotEnough p [] cells) → fields_meaning sets senses ty (f ∷ later) env places b end p cells ≡ and_then (plain o) go
+  number_short type go o el x h e =
+      number_by type (rejected NotEnough p cells) el x (taken_short (bytes_in type.width) p end p cells h)
+      ∙ ap (λ y. and_then (plain y) go) (sym e)
+
+  -- a number that is read
+  pub number_read : (type : NumberType) (value : ℕ) → f.element ≡ Number type → f.extent ≡ Once → p + bytes_in type.width ≤ end → is_needed (length env) f.parts later ≡ true → value ≡ number_at type b p → fields_meaning sets senses ty (f ∷ later) env places b end p cells ≡ after_reading (places_from p (bytes_in type.width)) (rest_meaning sets senses ty f.parts later env value places b end p (p + bytes_in type.width) cells)
+  number_read type value el x h n e =
+      let q = p + bytes_in type.width in
+      number_by type (accepted q cells) el x (taken_long (bytes_in type.width) p end p cells h)
+      ∙ (λ i. after_reading (places_if (n i) (places_from p (bytes_in type.width))) (rest_meaning sets senses ty f.parts later env (sym e i) places b end p q cells))
+
+  -- a number that isn't read
+  pub number_passed : (type : NumberType) (value : ℕ) → f.element ≡ Number type → f.extent ≡ Once → p + bytes_in type.width ≤ end → is_needed (length env) f.parts later ≡ false → fields_meaning sets senses ty (f ∷ later) env places b end p cells ≡ rest_meaning sets senses ty f.parts later env value places b end p (p + bytes_in type.width) cells
+  number_passed type value el x h n =
+      let q = p + bytes_in type.width in
+      number_by type (accepted q cells) el x (taken_long (bytes_in type.width) p end p cells h)
+      ∙ (λ i. after_reading (places_if (n i) (places_from p (bytes_in type.width))) (rest_meaning sets senses ty f.parts later env (number_at type b p) places b end p q cells))
+      ∙ unneeded sets senses b ty f.parts later env places (number_at type b p) value end p q cells n
+
+  -- a number of an enum, and what follows
+  pub listed_by : (base : NumberType) (k : ℕ) → f.element ≡ Listed base k → f.extent ≡ Once → fields_meaning sets senses ty (f ∷ later) env places b end p cells ≡ and_then (within (field_place ty (first_name f.parts) p) (listed_meaning base (values_of sets k) b p end p cells)) (rest_meaning sets senses ty f.parts later env (number_at base b p) places b end p)
+  unfolding fields_meaning
+  listed_by base k e o =
+      λ i. and_then (within (field_place ty (first_name f.parts) p) (shape_meaning sets senses (e i) (o i) env places b end p cells)) (λ q cells. after_reading (number_places (is_needed (length env) f.parts later) (e i) (o i) p) (rest_meaning sets senses ty f.parts later env (field_number (e i) (o i) b p) places b end p q cells))
+
+  -- a field that brings no number into scope
+  pub plain_by : IsPlain f.extent f.element → fields_meaning sets senses ty (f ∷ later) env places b end p cells ≡ and_then (within (field_place ty (first_name f.parts) p) (shape_meaning sets senses f.element f.extent env places b end p cells)) (rest_meaning sets senses ty f.parts later env 0 places b end p)
+  unfolding fields_meaning
+  plain_by h =
+      let need = is_needed (length env) f.parts later in
+      λ i. and_then (within (field_place ty (first_name f.parts) p) (shape_meaning sets senses f.element f.extent env places b end p cells)) (λ q cells. after_reading (no_places need f.extent f.element p h i) (rest_meaning sets senses ty f.parts later env (no_number f.extent f.element b p h i) places b end p q cells))
+    where
+      no_number : (extent : Extent) (element : Element) (b : List ℕ) (p : ℕ) → IsPlain extent element → field_number element extent b p ≡ 0
+      no_number Once (Number type) b p h = absurd h
+      no_number Once (Listed base k) b p h = absurd h
+      no_number Once (Named definition args own) b p h = refl
+      no_number Once UnitElement b p h = refl
+      no_number Once Rest b p h = refl
+      no_number Once Zeros b p h = refl
+      no_number (Filling size step) (Number type) b p h = refl
+      no_number (Filling size step) (Listed base k) b p h = refl
+      no_number (Filling size step) (Named definition args own) b p h = refl
+      no_number (Filling size step) UnitElement b p h = refl
+      no_number (Filling size step) Rest b p h = refl
+      no_number (Filling size step) Zeros b p h = refl
+      no_number (OnceFilling size step) (Number type) b p h = refl
+      no_number (OnceFilling size step) (Listed base k) b p h = refl
+      no_number (OnceFilling size step) (Named definition args own) b p h = refl
+      no_number (OnceFilling size step) UnitElement b p h = refl
+      no_number (OnceFilling size step) Rest b p h = refl
+      no_number (OnceFilling size step) Zeros b p h = refl
+      no_number (UpToZero size) (Number type) b p h = refl
+      no_number (UpToZero size) (Listed base k) b p h = refl
+      no_number (UpToZero size) (Named definition args own) b p h = refl
+      no_number (UpToZero size) UnitElement b p h = refl
+      no_number (UpToZero size) Rest b p h = refl
+      no_number (UpToZero size) Zeros b p h = refl
+
+      no_places : (need : Bool) (extent : Extent) (element : Element) (p : ℕ) → IsPlain extent element → number_places need element extent p ≡ []
+      no_places need Once (Number type) p h = absurd h
+      no_places need Once (Listed base k) p h = absurd h
+      no_places need Once (Named definition args own) p h = refl
+      no_places need Once UnitElement p h = refl
+      no_places need Once Rest p h = refl
+      no_places need Once Zeros p h = refl
+      no_places need (Filling size step) (Number type) p h = refl
+      no_places need (Filling size step) (Listed base k) p h = refl
+      no_places need (Filling size step) (Named definition args own) p h = refl
+      no_places need (Filling size step) UnitElement p h = refl
+      no_places need (Filling size step) Rest p h = refl
+      no_places need (Filling size step) Zeros p h = refl
+      no_places need (OnceFilling size step) (Number type) p h = refl
+      no_places need (OnceFilling size step) (Listed base k) p h = refl
+      no_places need (OnceFilling size step) (Named definition args own) p h = refl
+      no_places need (OnceFilling size step) UnitElement p h = refl
+      no_places need (OnceFilling size step) Rest p h = refl
+      no_places need (OnceFilling size step) Zeros p h = refl
+      no_places need (UpToZero size) (Number type) p h = refl
+      no_places need (UpToZero size) (Listed base k) p h = refl
+      no_places need (UpToZero size) (Named definition args own) p h = refl
+      no_places need (UpToZero size) UnitElement p h = refl
+      no_places need (UpToZero size) Rest p h = refl
+      no_places need (UpToZero size) Zeros p h = refl
+
+-- Numbers that have room
+
+pub room_for : (bound n w : ℕ) → (min bound (n / w) - 0) * w ≤ n
+room_for bound n w =
+    let few : min bound (n / w) ≤ n / w = min-le_right bound (n / w) in
+    let same : min bound (n / w) - 0 ≡ min bound (n / w) = omega arith in
+    subst (λ k. k * w ≤ n) (sym same) (le_trans (mul-le-mul_right w few) (div-mul-le_self n w))
+
+pub one_fewer : (m turn n w : ℕ) → turn < m → (m - turn) * w ≤ n → (w ≤ n) × ((m - (turn + 1)) * w ≤ n - w)
+one_fewer m turn n w lt h =
+    let k = m - (turn + 1) in
+    let e : m - turn ≡ suc k = omega (arith, lt) in
+    let h' : suc k * w ≤ n = subst (λ x. x * w ≤ n) e h in
+    let grown : suc k * w ≡ w + k * w = omega arith in
+    (omega (arith, h', grown), omega (arith, h', grown))

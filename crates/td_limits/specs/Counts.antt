@@ -1,0 +1,65 @@
+-- The limits of a text by count (own rules), each at the name of the definition in which it is passed: at one place in
+-- the order of `Limit`.
+use Rattle.std.specs.Prelude.{ℕ, ◌+◌, max, List, [], ◌∷◌, ◌++◌, map, length, Option, Some, None}
+use Rattle.td_ast.specs.declared.fields.FieldTree.{FieldTree}
+use Rattle.td_ast.specs.declared.definitions.CaseTree.{CaseTree}
+use Rattle.td_ast.specs.declared.definitions.Def.{Def}
+use Rattle.td_ast.specs.declared.definitions.Def.TheVariants.{Define, Enum, Alias, Struct, Casetype, Output}
+use Rattle.td_ast.specs.declared.definitions.ModuleTree.{ModuleTree}
+use Rattle.td_limits.specs.declared.limits.TheConstants.{MOST_DEFINITIONS, MOST_FIELDS, MOST_CASES, MOST_PARAMETERS, MOST_NODES}
+use Rattle.td_limits.specs.declared.limits.Limit.TheVariants.{Definitions, Fields, Cases, Parameters, Nodes}
+use Rattle.td_limits.specs.declared.limits.Excess.{Excess}
+use Rattle.td_limits.specs.Excesses.{above, first_excess, definition_name, greatest}
+use Rattle.td_limits.specs.Nodes.{definition_nodes}
+
+-- `default` is no case, but its fields are limited as a case's
+abbrev pub longest_case : List CaseTree → ℕ
+longest_case cs = greatest (map (λ c. length c.fields) cs)
+
+abbrev pub default_count : Option (List FieldTree) → ℕ
+default_count None = 0
+default_count (Some fs) = length fs
+
+-- how many fields the struct, or the case with the most, has, and how many slots the record
+abbrev pub most_fields : Def → ℕ
+most_fields (Define d) = 0
+most_fields (Enum d) = 0
+most_fields (Alias d) = 0
+most_fields (Struct d) = length d.fields
+most_fields (Casetype d) = max (longest_case d.cases) (default_count d.default)
+most_fields (Output d) = length d.slots
+
+abbrev pub count_cases : Def → ℕ
+count_cases (Define d) = 0
+count_cases (Enum d) = 0
+count_cases (Alias d) = 0
+count_cases (Struct d) = 0
+count_cases (Casetype d) = length d.cases
+count_cases (Output d) = 0
+
+abbrev pub count_params : Def → ℕ
+count_params (Define d) = 0
+count_params (Enum d) = 0
+count_params (Alias d) = 0
+count_params (Struct d) = length d.head.params
+count_params (Casetype d) = length d.head.params
+count_params (Output d) = 0
+
+-- of one definition, which is the text's n-th, with so many nodes up to its end
+abbrev pub definition_counts : ℕ → ℕ → Def → List Excess
+definition_counts n nodes d =
+    above MOST_DEFINITIONS n Definitions (definition_name d).span
+    ++ (above MOST_FIELDS (most_fields d) Fields (definition_name d).span
+    ++ (above MOST_CASES (count_cases d) Cases (definition_name d).span
+    ++ (above MOST_PARAMETERS (count_params d) Parameters (definition_name d).span
+    ++ above MOST_NODES nodes Nodes (definition_name d).span)))
+
+-- after so many definitions with so many nodes
+abbrev pub count_excesses : ℕ → ℕ → List Def → List Excess
+count_excesses n nodes [] = []
+count_excesses n nodes (d ∷ ds) =
+    definition_counts (n + 1) (nodes + definition_nodes d) d ++ count_excesses (n + 1) (nodes + definition_nodes d) ds
+
+-- the first limit by count that a text passes
+abbrev pub counts_passed : ModuleTree → Option Excess
+counts_passed tree = first_excess (count_excesses 0 0 tree.definitions)

@@ -1,0 +1,19 @@
+//! The limits of a module text: what its trees count, and how deep and how heavy its definitions are. The layer above
+//! rests on one promise: the first limit that a text passes is answered, with its place, or that it passes none.
+#![tactic(auto)]
+
+mod counts;
+mod depths;
+mod limits;
+mod measures;
+mod nodes;
+mod sizes;
+mod weights;
+
+pub use counts::counts_passed;
+pub use limits::{
+    Excess, Limit, MOST_CASES, MOST_CELLS, MOST_DEFINITIONS, MOST_DEPTH, MOST_FIELDS, MOST_NODES,
+    MOST_PARAMETERS, MOST_WEIGHT,
+};
+pub use measures::{Measure, NameSort};
+pub use sizes::sizes_passed;

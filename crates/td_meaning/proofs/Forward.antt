@@ -1,0 +1,584 @@
+-- Messages that agree before a place are read alike up to it, and so fields are read forward.
+use Rattle.std.proofs.Common.{◌≡◌, ℕ, zero, suc, ◌+◌, ◌-◌, ◌*◌, ◌/◌, ◌<◌, ◌≤◌, Bool, true, false, cond, min, List, [], ◌∷◌, ◌++◌, length, map, refl, sym, ap, ◌∙◌, subst, arith, inl, inr, Option, Some, None}
+use Rattle.std.specs.Prelude.{◌⊎◌, slice_get, slice_index, nat_eq, nat_le}
+use Rattle.std.proofs.lemmas.Bool.{cases_lt}
+use Rattle.td_num.specs.Numbers.{bytes_in, number_at, places_from}
+use Rattle.td_num.specs.declared.number.NumberType.{NumberType}
+use Rattle.td_core.specs.Term.{Term}
+use Rattle.td_core.specs.declared.module.NameId.{NameId}
+use Rattle.td_core.specs.declared.module.Element.{Element}
+use Rattle.td_core.specs.declared.module.Element.TheVariants.{Number, Listed, Named, Unit as UnitElement, Rest, Zeros}
+use Rattle.td_core.specs.declared.module.Extent.{Extent}
+use Rattle.td_core.specs.declared.module.Extent.TheVariants.{Once, Filling, OnceFilling, UpToZero}
+use Rattle.td_core.specs.declared.module.Field.{Field}
+use Rattle.td_core.specs.declared.module.Body.{Body}
+use Rattle.td_core.specs.declared.module.Body.TheVariants.{Struct, Casetype}
+use Rattle.td_core.specs.declared.module.TypeDef.{TypeDef}
+use Rattle.td_core.specs.declared.outcome.Reason.{Reason}
+use Rattle.td_core.specs.declared.outcome.Reason.TheVariants.{NotEnough, Constraint, ListSize}
+use Rattle.td_core.specs.Outcome.{Behavior, FramePlace, Ending, Accepted, Rejected, accepted, rejected, and_then, onward, within, after_reading}
+use Rattle.td_core.specs.WellFormed.{Each}
+use Rattle.td_meaning.specs.Doing.{natural_of, is_true}
+use Rattle.td_meaning.specs.Naming.{is_needed}
+use Rattle.td_meaning.specs.Meaning.{Sense, values, values_of, taken, demanded, is_among, is_nonzero, byte_type, zeros_end, first_where, looked_at, one_more, run_of, numbers_at, zeros_meaning, element_meaning, elements, divides, equals, zero_end, up_to_zero, element_up_to_zero, shape_meaning, refined, parts_meaning, field_number, number_places, extended, field_place, where_place, first_name, fields_meaning, case_for, chosen_meaning, body_meaning, definition_meaning, below, pick, entry_place, meaning}
+use Rattle.td_meaning.specs.Throughout.{OnEnding}
+use Rattle.td_meaning.specs.Deciding.{SameAt}
+use Rattle.td_meaning.specs.Forward.{IsAt, ReadsGoForward, ReadsAreWithin}
+use Rattle.td_meaning.proofs.Ending.{on_map, on_within}
+use Rattle.td_meaning.proofs.Inside.{Among, Inside, wider, inside_then, inside_within, inside_demanded, taken_at, elements_inside, parts_inside, AllInside, element_inside, shape_inside, fields_inside, below_inside, unframed}
+use Rattle.td_meaning.proofs.Deciding.{number_same, looked_more, reads_decide}
+
+-- Places
+
+at_left : (k : ℕ) (xs ys : List ℕ) → IsAt k xs → IsAt k (xs ++ ys)
+at_left k [] ys h = absurd h
+at_left k (x ∷ xs) ys (inl e) = inl e
+at_left k (x ∷ xs) ys (inr h) = inr (at_left k xs ys h)
+
+at_right : (k : ℕ) (xs ys : List ℕ) → IsAt k ys → IsAt k (xs ++ ys)
+at_right k [] ys h = h
+at_right k (x ∷ xs) ys h = inr (at_right k xs ys h)
+
+at_cases : (k : ℕ) (xs ys : List ℕ) → IsAt k (xs ++ ys) → IsAt k xs ⊎ IsAt k ys
+at_cases k [] ys h = inr h
+at_cases k (x ∷ xs) ys (inl e) = inl (inl e)
+at_cases k (x ∷ xs) ys (inr h) = elim (at_cases k xs ys h) [ inl a ↦ inl (inr a) | inr b ↦ inr b ]
+
+at_each : (P : ℕ → Type 0) (k : ℕ) (xs : List ℕ) → Each P xs → IsAt k xs → P k
+at_each P k [] h i = absurd i
+at_each P k (x ∷ xs) h (inl e) = subst P (sym e) h.0
+at_each P k (x ∷ xs) h (inr i) = at_each P k xs h.1 i
+
+in_places : (k p w : ℕ) → p ≤ k → k < p + w → IsAt k (places_from p w)
+in_places k p zero le lt = absurd (omega (arith, le, lt))
+in_places k p (suc w) le lt = elim (cases_lt p k) [
+  | inl past ↦ inr (in_places k (p + 1) w (omega (arith, past)) (omega (arith, lt)))
+  | inr here ↦ inl (omega (arith, here, le))
+]
+
+from_places : (k p w : ℕ) → IsAt k (places_from p w) → p ≤ k
+from_places k p zero h = absurd h
+from_places k p (suc w) (inl e) = omega (arith, e)
+from_places k p (suc w) (inr h) = let rest = from_places k (p + 1) w h in omega (arith, rest)
+
+module _ (b c : List ℕ) (q : ℕ) (alike : (k : ℕ) → k < q → slice_index b k ≡ slice_index c k) where
+  abbrev Past : Behavior → Type 0
+  Past t = OnEnding t.ending (λ r cells. q < r)
+
+  -- they are read alike up to q, and where they accept they are past it
+  record Apart (t u : Behavior) : Type 0 where
+    here : (k : ℕ) → k ≤ q → IsAt k t.reads → IsAt k u.reads
+    there : (k : ℕ) → k ≤ q → IsAt k u.reads → IsAt k t.reads
+    one : Past t
+    other : Past u
+
+  abbrev Near : Behavior → Behavior → Type 0
+  Near t u = (t ≡ u) ⊎ Apart t u
+
+  -- behind q nothing before it is read
+  none_before : (p high k : ℕ) (t : Behavior) → q < p → Inside p high t → k ≤ q → IsAt k t.reads → ⊥
+  none_before p high k t past i le h = let r = at_each (Among p high) k t.reads i.reads h in omega (arith, past, le, r.0)
+
+  past_from : (p high : ℕ) (t : Behavior) → q < p → Inside p high t → Past t
+  past_from p high t past i = on_map t.ending (λ r cells. (p ≤ r) × (r ≤ high)) (λ r cells. q < r) i.ending (λ r cells h. omega (arith, past, h.0))
+
+  apart_from : (p high : ℕ) (t u : Behavior) → q < p → Inside p high t → Inside p high u → Apart t u
+  apart_from p high t u past i j = record {
+    here = λ k le h. absurd (none_before p high k t past i le h);
+    there = λ k le h. absurd (none_before p high k u past j le h);
+    one = past_from p high t past i;
+    other = past_from p high u past j;
+  }
+
+  near_reading : (places : List ℕ) (t u : Behavior) → Near t u → Near (after_reading places t) (after_reading places u)
+  near_reading places t u (inl e) = inl (ap (after_reading places) e)
+  near_reading places t u (inr a) = inr (record {
+    here = λ k le h. elim (at_cases k places t.reads h) [ inl i ↦ at_left k places u.reads i | inr i ↦ at_right k places u.reads (a.here k le i) ];
+    there = λ k le h. elim (at_cases k places u.reads h) [ inl i ↦ at_left k places t.reads i | inr i ↦ at_right k places t.reads (a.there k le i) ];
+    one = a.one;
+    other = a.other;
+  })
+
+  near_within : (site : FramePlace) (t u : Behavior) → Near t u → Near (within site t) (within site u)
+  near_within site t u (inl e) = inl (ap (within site) e)
+  near_within site t u (inr a) = inr (record {
+    here = a.here;
+    there = a.there;
+    one = on_within site t.ending (λ r cells. q < r) a.one;
+    other = on_within site u.ending (λ r cells. q < r) a.other;
+  })
+
+  -- what follows the same
+  near_after : (t : Behavior) (go go' : ℕ → List ℕ → Behavior) → ((r : ℕ) (cells : List ℕ) → t.ending ≡ Accepted r cells → Near (go r cells) (go' r cells)) → Near (and_then t go) (and_then t go')
+  near_after t go go' next = by t.ending refl
+    where
+      by : (o : Ending) → t.ending ≡ o → Near (onward o t.reads go) (onward o t.reads go')
+      by (Accepted r cells) e = near_reading t.reads (go r cells) (go' r cells) (next r cells e)
+      by (Rejected reason position trace cells) e = inl refl
+
+  -- what follows what is past q reads nothing up to it
+  beyond : (high : ℕ) (o : Ending) (reads : List ℕ) (go : ℕ → List ℕ → Behavior) → OnEnding o (λ r cells. q < r) → ((r : ℕ) (cells : List ℕ) → o ≡ Accepted r cells → Inside r high (go r cells))
+      → (((k : ℕ) → k ≤ q → IsAt k (onward o reads go).reads → IsAt k reads) × ((k : ℕ) → IsAt k reads → IsAt k (onward o reads go).reads)) × Past (onward o reads go)
+  beyond high (Accepted r cells) reads go past i =
+      let inner = i r cells refl in (
+        (
+          λ k le h. elim (at_cases k reads (go r cells).reads h) [ inl a ↦ a | inr a ↦ absurd (none_before r high k (go r cells) past inner le a) ],
+          λ k h. at_left k reads (go r cells).reads h,
+        ),
+        past_from r high (go r cells) past inner,
+      )
+  beyond high (Rejected reason position trace cells) reads go past i = ((λ k le h. h, λ k h. h), tt)
+
+  near_then : (low high : ℕ) (t u : Behavior) (go go' : ℕ → List ℕ → Behavior) → Near t u → Inside low high t → Inside low high u
+      → ((r : ℕ) (cells : List ℕ) → low ≤ r → r ≤ high → Inside r high (go r cells)) → ((r : ℕ) (cells : List ℕ) → low ≤ r → r ≤ high → Inside r high (go' r cells))
+      → ((r : ℕ) (cells : List ℕ) → low ≤ r → r ≤ high → Near (go r cells) (go' r cells)) → Near (and_then t go) (and_then u go')
+  near_then low high t u go go' (inl e) i j k l next =
+      subst (λ v. Near (and_then t go) (and_then v go')) e
+      (near_after t go go' (λ r cells f. let at = subst (λ o. OnEnding o (λ r cells. (low ≤ r) × (r ≤ high))) f i.ending in next r cells at.0 at.1))
+  near_then low high t u go go' (inr a) i j k l next =
+      let one = beyond high t.ending t.reads go a.one (λ r cells f. let at = subst (λ o. OnEnding o (λ r cells. (low ≤ r) × (r ≤ high))) f i.ending in k r cells at.0 at.1) in
+      let other = beyond high u.ending u.reads go' a.other (λ r cells f. let at = subst (λ o. OnEnding o (λ r cells. (low ≤ r) × (r ≤ high))) f j.ending in l r cells at.0 at.1) in
+      inr (record {
+        here = λ k le h. other.0.1 k (a.here k le (one.0.0 k le h));
+        there = λ k le h. one.0.1 k (a.there k le (other.0.0 k le h));
+        one = one.1;
+        other = other.1;
+      })
+
+  -- Numbers
+
+  places_alike : (p w : ℕ) → p + w ≤ q → SameAt (places_from p w) b c
+  places_alike p zero le = tt
+  places_alike p (suc w) le = (alike p (omega (arith, le)), places_alike (p + 1) w (omega (arith, le)))
+
+  number_alike : (type : NumberType) (p : ℕ) → p + bytes_in type.width ≤ q → number_at type b p ≡ number_at type c p
+  number_alike type p le = number_same b c type p (places_alike p (bytes_in type.width) le)
+
+  -- after the same places were read, both are past them
+  apart_reading : (places : List ℕ) (t u : Behavior) → Past t → Past u → t.reads ≡ [] → u.reads ≡ [] → Near (after_reading places t) (after_reading places u)
+  apart_reading places t u p p' e e' = inr (record {
+    here = λ k le h. subst (λ xs. IsAt k (places ++ xs)) (e ∙ sym e') h;
+    there = λ k le h. subst (λ xs. IsAt k (places ++ xs)) (e' ∙ sym e) h;
+    one = p;
+    other = p';
+  })
+
+  past_demanded : (reason : Reason) (v : Bool) (start r : ℕ) (cells : List ℕ) → q < r → Past (demanded reason v start r cells)
+  past_demanded reason true start r cells h = h
+  past_demanded reason false start r cells h = tt
+
+  silent : (reason : Reason) (v : Bool) (start r : ℕ) (cells : List ℕ) → (demanded reason v start r cells).reads ≡ []
+  silent reason true start r cells = refl
+  silent reason false start r cells = refl
+
+  -- the first number that passes a test is the same, or in both what is looked at goes past q
+  record Farther (type : NumberType) (p m n : ℕ) : Type 0 where
+    past : q < p + m * bytes_in type.width
+    past' : q < p + n * bytes_in type.width
+
+  some_looked : (v : Bool) (o : Option ℕ) (n : ℕ) → 1 ≤ looked_at (cond v (Some 0) (one_more o)) (suc n)
+  some_looked true o n = omega arith
+  some_looked false None n = omega arith
+  some_looked false (Some k) n = omega arith
+
+  abbrev found : (ℕ → Bool) → NumberType → List ℕ → ℕ → ℕ → Option ℕ
+  found test type message p n = first_where test (numbers_at type message p n)
+
+  width_past : (w p m : ℕ) → 1 ≤ m → q < p + w → q < p + m * w
+  width_past w p zero some h = absurd (omega (arith, some))
+  width_past w p (suc m) some h = omega (arith, h)
+
+  one_farther : (w p m : ℕ) → q < p + w + m * w → q < p + suc m * w
+  one_farther w p m h = omega (arith, h)
+
+  first_near : (test : ℕ → Bool) (type : NumberType) (n p : ℕ)
+      → (found test type b p n ≡ found test type c p n) ⊎ Farther type p (looked_at (found test type b p n) n) (looked_at (found test type c p n) n)
+  first_near test type zero p = inl refl
+  first_near test type (suc n) p =
+      let w = bytes_in type.width in
+      let r = found test type b (p + w) n in
+      let r' = found test type c (p + w) n in
+      elim (cases_lt q (p + w)) [
+        | inl short ↦ inr (record {
+          past = width_past w p (looked_at (cond (test (number_at type b p)) (Some 0) (one_more r)) (suc n)) (some_looked (test (number_at type b p)) r n) short;
+          past' = width_past w p (looked_at (cond (test (number_at type c p)) (Some 0) (one_more r')) (suc n)) (some_looked (test (number_at type c p)) r' n) short;
+        })
+        | inr room ↦ subst
+            (λ y. (cond (test (number_at type b p)) (Some 0) (one_more r) ≡ cond (test y) (Some 0) (one_more r')) ⊎ Farther type p (looked_at (cond (test (number_at type b p)) (Some 0) (one_more r)) (suc n)) (looked_at (cond (test y) (Some 0) (one_more r')) (suc n)))
+            (number_alike type p room)
+            (by (test (number_at type b p)) (first_near test type n (p + w)))
+      ]
+    where
+      w : ℕ
+      w = bytes_in type.width
+
+      r : Option ℕ
+      r = found test type b (p + w) n
+
+      r' : Option ℕ
+      r' = found test type c (p + w) n
+
+      by : (v : Bool) → (r ≡ r') ⊎ Farther type (p + w) (looked_at r n) (looked_at r' n)
+          → (cond v (Some 0) (one_more r) ≡ cond v (Some 0) (one_more r')) ⊎ Farther type p (looked_at (cond v (Some 0) (one_more r)) (suc n)) (looked_at (cond v (Some 0) (one_more r')) (suc n))
+      by true h = inl refl
+      by false (inl e) = inl (ap one_more e)
+      by false (inr f) = inr (record {
+        past = subst (λ m. q < p + m * w) (sym (looked_more b c r n)) (one_farther w p (looked_at r n) f.past);
+        past' = subst (λ m. q < p + m * w) (sym (looked_more b c r' n)) (one_farther w p (looked_at r' n) f.past');
+      })
+
+  -- runs that both go past q are read alike up to it
+  runs_near : (type : NumberType) (p m n : ℕ) (t u : Behavior) → Farther type p m n → Past t → Past u → t.reads ≡ [] → u.reads ≡ [] → Near (after_reading (run_of type p m) t) (after_reading (run_of type p n) u)
+  runs_near type p m n t u f one other e e' =
+      let w = bytes_in type.width in
+      inr (record {
+        here = λ k le h. subst (λ xs. IsAt k (run_of type p n ++ xs)) (sym e')
+            (at_left k (run_of type p n) [] (in_places k p (n * w) (from_run k m t e h) (omega (arith, le, f.past'))));
+        there = λ k le h. subst (λ xs. IsAt k (run_of type p m ++ xs)) (sym e)
+            (at_left k (run_of type p m) [] (in_places k p (m * w) (from_run k n u e' h) (omega (arith, le, f.past))));
+        one = one;
+        other = other;
+      })
+    where
+      from_run : (k m : ℕ) (t : Behavior) → t.reads ≡ [] → IsAt k (run_of type p m ++ t.reads) → p ≤ k
+      from_run k m t e h = elim (at_cases k (run_of type p m) t.reads h) [
+        | inl i ↦ from_places k p (m * bytes_in type.width) i
+        | inr i ↦ absurd (subst (IsAt k) e i)
+      ]
+
+  zeros_past : (o : Option ℕ) (end p : ℕ) (cells : List ℕ) → p ≤ end → q < p + looked_at o (end - p) * 1 → Past (zeros_end o end p cells)
+  zeros_past None end p cells le h = omega (arith, h, le)
+  zeros_past (Some k) end p cells le h = tt
+
+  zeros_silent : (o : Option ℕ) (end p : ℕ) (cells : List ℕ) → (zeros_end o end p cells).reads ≡ []
+  zeros_silent None end p cells = refl
+  zeros_silent (Some k) end p cells = refl
+
+  zeros_near : (end p : ℕ) (cells : List ℕ) → p ≤ end → Near (zeros_meaning b end p cells) (zeros_meaning c end p cells)
+  zeros_near end p cells le = elim (first_near is_nonzero byte_type (end - p) p) [
+    | inl e ↦ inl (ap (λ o. after_reading (run_of byte_type p (looked_at o (end - p))) (zeros_end o end p cells)) e)
+    | inr f ↦
+        let o = found is_nonzero byte_type b p (end - p) in
+        let o' = found is_nonzero byte_type c p (end - p) in
+        runs_near byte_type p (looked_at o (end - p)) (looked_at o' (end - p)) (zeros_end o end p cells) (zeros_end o' end p cells) f
+        (zeros_past o end p cells le f.past) (zeros_past o' end p cells le f.past') (zeros_silent o end p cells) (zeros_silent o' end p cells)
+  ]
+
+  zero_past : (o : Option ℕ) (n w bound room p : ℕ) (cells : List ℕ) → q < p + looked_at o n * w → Past (zero_end o w bound room p cells)
+  zero_past None n w bound room p cells h = tt
+  zero_past (Some k) n w bound room p cells h = h
+
+  zero_silent : (o : Option ℕ) (w bound room p : ℕ) (cells : List ℕ) → (zero_end o w bound room p cells).reads ≡ []
+  zero_silent None w bound room p cells = refl
+  zero_silent (Some k) w bound room p cells = refl
+
+  up_to_zero_near : (type : NumberType) (size end p : ℕ) (cells : List ℕ) → Near (up_to_zero type size b end p cells) (up_to_zero type size c end p cells)
+  up_to_zero_near type size end p cells =
+      let w = bytes_in type.width in
+      let bound = size / w in
+      let room = (end - p) / w in
+      let n = min bound room in
+      let test = λ (n : ℕ). nat_eq n 0 in
+      elim (first_near test type n p) [
+        | inl e ↦ inl (ap (λ o. after_reading (run_of type p (looked_at o n)) (zero_end o w bound room p cells)) e)
+        | inr f ↦
+            let o = found test type b p n in
+            let o' = found test type c p n in
+            runs_near type p (looked_at o n) (looked_at o' n) (zero_end o w bound room p cells) (zero_end o' w bound room p cells) f
+            (zero_past o n w bound room p cells f.past) (zero_past o' n w bound room p cells f.past') (zero_silent o w bound room p cells) (zero_silent o' w bound room p cells)
+      ]
+
+  element_up_to_zero_near : (element : Element) (size end p : ℕ) (cells : List ℕ) → Near (element_up_to_zero element size b end p cells) (element_up_to_zero element size c end p cells)
+  element_up_to_zero_near (Number type) size end p cells = up_to_zero_near type size end p cells
+  element_up_to_zero_near (Listed base k) size end p cells = inl refl
+  element_up_to_zero_near (Named j args own) size end p cells = inl refl
+  element_up_to_zero_near UnitElement size end p cells = inl refl
+  element_up_to_zero_near Rest size end p cells = inl refl
+  element_up_to_zero_near Zeros size end p cells = inl refl
+
+  elements_near : (each each' : ℕ → List ℕ → Behavior) (start end : ℕ) → ((r : ℕ) (cells : List ℕ) → r ≤ end → Inside r end (each r cells)) → ((r : ℕ) (cells : List ℕ) → r ≤ end → Inside r end (each' r cells))
+      → ((r : ℕ) (cells : List ℕ) → r ≤ end → Near (each r cells) (each' r cells)) → (turns p : ℕ) (cells : List ℕ) → p ≤ end → Near (elements each turns start end p cells) (elements each' turns start end p cells)
+  unfolding elements
+  elements_near each each' start end i j h zero p cells le = inl refl
+  elements_near each each' start end i j h (suc turns) p cells le = by (nat_eq p end) (λ r more ge. elements_near each each' start end i j h turns r more ge)
+    where
+      by : (v : Bool) → ((r : ℕ) (more : List ℕ) → r ≤ end → Near (elements each turns start end r more) (elements each' turns start end r more))
+          → Near (cond v (accepted p cells) (and_then (each p cells) (elements each turns start end))) (cond v (accepted p cells) (and_then (each' p cells) (elements each' turns start end)))
+      by true later = inl refl
+      by false later = near_then p end (each p cells) (each' p cells) (elements each turns start end) (elements each' turns start end) (h p cells le) (i p cells le) (j p cells le)
+          (λ r more lo hi. elements_inside each start end i turns r more hi) (λ r more lo hi. elements_inside each' start end j turns r more hi) (λ r more lo hi. later r more hi)
+
+  -- of each definition
+  record AllNear (senses : ℕ → Sense) : Type 0 where
+    by : (j : ℕ) (args places cells : List ℕ) (p end : ℕ) → p ≤ end → Near (senses j args places cells b p end) (senses j args places cells c p end)
+
+  module _ (sets : List (List ℕ)) (senses : ℕ → Sense) (one : AllInside b sets senses) (other : AllInside c sets senses) (good : AllNear senses) where
+    element_near : (element : Element) (env places : List ℕ) (start end p : ℕ) (cells : List ℕ) → p ≤ end → Near (element_meaning sets senses element env places b start end p cells) (element_meaning sets senses element env places c start end p cells)
+    element_near (Number type) env places start end p cells le = inl refl
+    element_near (Listed base k) env places start end p cells le =
+        let w = bytes_in base.width in
+        let test = λ (message : List ℕ) (r : ℕ) (cells : List ℕ). demanded Constraint (is_among (values_of sets k) (number_at base message p)) start r cells in
+        near_after (taken w start end p cells) (λ r cells. after_reading (places_from p w) (test b r cells)) (λ r cells. after_reading (places_from p w) (test c r cells))
+        (λ r more e.
+        let at : r ≡ p + w = taken_at (nat_le (p + w) end) start (p + w) r cells more e in
+        elim (cases_lt q (p + w)) [
+          | inl short ↦
+              let past : q < r = omega (arith, short, at) in
+              apart_reading (places_from p w) (test b r more) (test c r more)
+              (past_demanded Constraint (is_among (values_of sets k) (number_at base b p)) start r more past) (past_demanded Constraint (is_among (values_of sets k) (number_at base c p)) start r more past)
+              (silent Constraint (is_among (values_of sets k) (number_at base b p)) start r more) (silent Constraint (is_among (values_of sets k) (number_at base c p)) start r more)
+          | inr room ↦ inl (ap (λ n. after_reading (places_from p w) (demanded Constraint (is_among (values_of sets k) n) start r more)) (number_alike base p room))
+        ])
+    element_near (Named j args own) env places start end p cells le = good.by j (values args env) (map (slice_index places) own) cells p end le
+    element_near UnitElement env places start end p cells le = inl refl
+    element_near Rest env places start end p cells le = inl refl
+    element_near Zeros env places start end p cells le = zeros_near end p cells le
+
+    shape_near : (element : Element) (extent : Extent) (env places : List ℕ) (end p : ℕ) (cells : List ℕ) → p ≤ end → Near (shape_meaning sets senses element extent env places b end p cells) (shape_meaning sets senses element extent env places c end p cells)
+    shape_near element Once env places end p cells le = element_near element env places p end p cells le
+    shape_near element (Filling size step) env places end p cells le =
+        let n = natural_of size env in
+        let each = element_meaning sets senses element env places b p in
+        let each' = element_meaning sets senses element env places c p in
+        let fits = demanded ListSize (divides step n) p p in
+        near_after (taken n p end p cells) (λ r cells. and_then (fits cells) (elements (each r) (suc n) p r)) (λ r cells. and_then (fits cells) (elements (each' r) (suc n) p r))
+        (λ r more e. near_after (fits more) (elements (each r) (suc n) p r) (elements (each' r) (suc n) p r)
+        (λ s last f.
+        let at : r ≡ p + n = taken_at (nat_le (p + n) end) p (p + n) r cells more e in
+        let from : s ≡ p = fits_at (divides step n) p p s more last f in
+        elements_near (each r) (each' r) p r
+        (λ t final ge. element_inside b sets senses one element env places p r t final ge) (λ t final ge. element_inside c sets senses other element env places p r t final ge)
+        (λ t final ge. element_near element env places p r t final ge) (suc n) s last (omega (arith, at, from))))
+      where
+        fits_at : (v : Bool) (start r s : ℕ) (cells more : List ℕ) → (demanded ListSize v start r cells).ending ≡ Accepted s more → s ≡ r
+        fits_at true start r s cells more e = let f : Accepted r cells ≡ Accepted s more = e in cc
+        fits_at false start r s cells more e = absurd (let f : Rejected ListSize start [] cells ≡ Accepted s more = e in cc)
+    shape_near element (OnceFilling size step) env places end p cells le =
+        let n = natural_of size env in
+        let each = element_meaning sets senses element env places b p in
+        let each' = element_meaning sets senses element env places c p in
+        let fits = demanded ListSize (equals step n) p p in
+        let last = λ (r t : ℕ) (cells : List ℕ). demanded ListSize (nat_eq t r) p t cells in
+        near_after (taken n p end p cells) (λ r cells. and_then (fits cells) (λ s cells. and_then (each r s cells) (last r))) (λ r cells. and_then (fits cells) (λ s cells. and_then (each' r s cells) (last r)))
+        (λ r more e. near_after (fits more) (λ s cells. and_then (each r s cells) (last r)) (λ s cells. and_then (each' r s cells) (last r))
+        (λ s rest f.
+        let at : r ≡ p + n = taken_at (nat_le (p + n) end) p (p + n) r cells more e in
+        let from : s ≡ p = fits_at (equals step n) p p s more rest f in
+        let room : s ≤ r = omega (arith, at, from) in
+        near_then s r (each r s rest) (each' r s rest) (last r) (last r) (element_near element env places p r s rest room)
+        (element_inside b sets senses one element env places p r s rest room) (element_inside c sets senses other element env places p r s rest room)
+        (λ t final lo hi. inside_demanded t r ListSize (nat_eq t r) p t final (omega arith) hi) (λ t final lo hi. inside_demanded t r ListSize (nat_eq t r) p t final (omega arith) hi)
+        (λ t final lo hi. inl refl)))
+      where
+        fits_at : (v : Bool) (start r s : ℕ) (cells more : List ℕ) → (demanded ListSize v start r cells).ending ≡ Accepted s more → s ≡ r
+        fits_at true start r s cells more e = let f : Accepted r cells ≡ Accepted s more = e in cc
+        fits_at false start r s cells more e = absurd (let f : Rejected ListSize start [] cells ≡ Accepted s more = e in cc)
+    shape_near element (UpToZero size) env places end p cells le = element_up_to_zero_near element (natural_of size env) end p cells
+
+    -- a number is read behind the same shape, and all else has no places
+    numbers : (need : Bool) (element : Element) (extent : Extent) (env places : List ℕ) (end p : ℕ) (cells : List ℕ)
+        → (shape_meaning sets senses element extent env places b end p cells ≡ shape_meaning sets senses element extent env places c end p cells) ⊎ (number_places need element extent p ≡ [])
+    numbers need (Number type) Once env places end p cells = inl refl
+    numbers need (Number type) (Filling size step) env places end p cells = inr refl
+    numbers need (Number type) (OnceFilling size step) env places end p cells = inr refl
+    numbers need (Number type) (UpToZero size) env places end p cells = inr refl
+    numbers need (Listed base k) extent env places end p cells = inr refl
+    numbers need (Named j args own) extent env places end p cells = inr refl
+    numbers need UnitElement extent env places end p cells = inr refl
+    numbers need Rest extent env places end p cells = inr refl
+    numbers need Zeros extent env places end p cells = inr refl
+
+    -- where a field ends up to q its number is the same
+    field_number_alike : (element : Element) (extent : Extent) (env places : List ℕ) (end p r : ℕ) (cells more : List ℕ)
+        → (shape_meaning sets senses element extent env places b end p cells).ending ≡ Accepted r more → r ≤ q → field_number element extent b p ≡ field_number element extent c p
+    field_number_alike (Number type) Once env places end p r cells more e le =
+        let w = bytes_in type.width in
+        let at : r ≡ p + w = taken_at (nat_le (p + w) end) p (p + w) r cells more e in
+        number_alike type p (omega (arith, at, le))
+    field_number_alike (Listed base k) Once env places end p r cells more e le =
+        let w = bytes_in base.width in
+        let v = is_among (values_of sets k) (number_at base b p) in
+        number_alike base p (listed_at (nat_le (p + w) end) v w p r cells more e le)
+      where
+        listed_at : (u v : Bool) (w p r : ℕ) (cells more : List ℕ) → (and_then (demanded NotEnough u p (p + w) cells) (λ q cells. after_reading (places_from p w) (demanded Constraint v p q cells))).ending ≡ Accepted r more → r ≤ q → p + w ≤ q
+        listed_at true true w p r cells more e le = let f : Accepted (p + w) cells ≡ Accepted r more = e in let g : p + w ≡ r = cc in omega (arith, g, le)
+        listed_at true false w p r cells more e le = absurd (let f : Rejected Constraint p [] cells ≡ Accepted r more = e in cc)
+        listed_at false v w p r cells more e le = absurd (let f : Rejected NotEnough p [] cells ≡ Accepted r more = e in cc)
+    field_number_alike (Number type) (Filling size step) env places end p r cells more e le = refl
+    field_number_alike (Number type) (OnceFilling size step) env places end p r cells more e le = refl
+    field_number_alike (Number type) (UpToZero size) env places end p r cells more e le = refl
+    field_number_alike (Listed base k) (Filling size step) env places end p r cells more e le = refl
+    field_number_alike (Listed base k) (OnceFilling size step) env places end p r cells more e le = refl
+    field_number_alike (Listed base k) (UpToZero size) env places end p r cells more e le = refl
+    field_number_alike (Named j args own) extent env places end p r cells more e le = refl
+    field_number_alike UnitElement extent env places end p r cells more e le = refl
+    field_number_alike Rest extent env places end p r cells more e le = refl
+    field_number_alike Zeros extent env places end p r cells more e le = refl
+
+    fields_near : (ty : NameId) (fs : List Field) (env places : List ℕ) (end p : ℕ) (cells : List ℕ) → p ≤ end → Near (fields_meaning sets senses ty fs env places b end p cells) (fields_meaning sets senses ty fs env places c end p cells)
+    unfolding fields_meaning
+    fields_near ty [] env places end p cells le = inl refl
+    fields_near ty (x ∷ later) env places end p cells le =
+        let site = field_place ty (first_name x.parts) p in
+        let t = shape_meaning sets senses x.element x.extent env places b end p cells in
+        let u = shape_meaning sets senses x.element x.extent env places c end p cells in
+        let v = field_number x.element x.extent b p in
+        let v' = field_number x.element x.extent c p in
+        let reads = number_places (is_needed (length env) x.parts later) x.element x.extent p in
+        let go = λ (message : List ℕ) (n r : ℕ) (cells : List ℕ). and_then (parts_meaning ty p n x.parts env places r cells) (fields_meaning sets senses ty later (extended env n x.parts) places message end) in
+        let rest_inside : (message : List ℕ) (i : AllInside message sets senses) (n r : ℕ) (more : List ℕ) → r ≤ end → Inside r end (go message n r more) = λ message i n r more hi.
+        inside_then r end (parts_meaning ty p n x.parts env places r more) (fields_meaning sets senses ty later (extended env n x.parts) places message end)
+        (parts_inside ty p n r end x.parts env places r more (omega arith) hi)
+        (λ s last f from to. wider s end r end (fields_meaning sets senses ty later (extended env n x.parts) places message end s last) from (omega arith) (fields_inside message sets senses i ty later (extended env n x.parts) places end s last to)) in
+        let ti = inside_within p end site t (shape_inside b sets senses one x.element x.extent env places end p cells le) in
+        let ui = inside_within p end site u (shape_inside c sets senses other x.element x.extent env places end p cells le) in
+        let rest_near : (r : ℕ) (more : List ℕ) → r ≤ end → (r ≤ q → v ≡ v') → Near (go b v r more) (go c v' r more) = λ r more hi same.
+        elim (cases_lt q r) [
+          | inl past ↦ inr (apart_from r end (go b v r more) (go c v' r more) past (rest_inside b one v r more hi) (rest_inside c other v' r more hi))
+          | inr before ↦ subst (λ n. Near (go b v r more) (go c n r more)) (same before)
+              (near_after (parts_meaning ty p v x.parts env places r more) (fields_meaning sets senses ty later (extended env v x.parts) places b end) (fields_meaning sets senses ty later (extended env v x.parts) places c end)
+              (λ s last f.
+              let at = subst (λ o. OnEnding o (λ s cells. (r ≤ s) × (s ≤ end))) f (parts_inside ty p v r end x.parts env places r more (omega arith) hi).ending in
+              fields_near ty later (extended env v x.parts) places end s last at.1))
+        ] in
+        let number_same_at : (r : ℕ) (more : List ℕ) → (within site t).ending ≡ Accepted r more → r ≤ q → v ≡ v' = λ r more e before.
+        field_number_alike x.element x.extent env places end p r cells more (unframed b sets senses one site t.ending r more e) before in
+        elim (numbers (is_needed (length env) x.parts later) x.element x.extent env places end p cells) [
+          | inl e ↦ subst (λ s. Near (and_then (within site t) (λ r cells. after_reading reads (go b v r cells))) (and_then (within site s) (λ r cells. after_reading reads (go c v' r cells)))) e
+              (near_after (within site t) (λ r cells. after_reading reads (go b v r cells)) (λ r cells. after_reading reads (go c v' r cells))
+              (λ r more f.
+              let at = subst (λ o. OnEnding o (λ r cells. (p ≤ r) × (r ≤ end))) f ti.ending in
+              near_reading reads (go b v r more) (go c v' r more) (rest_near r more at.1 (number_same_at r more f))))
+          | inr none ↦ subst (λ xs. Near (and_then (within site t) (λ r cells. after_reading xs (go b v r cells))) (and_then (within site u) (λ r cells. after_reading xs (go c v' r cells)))) (sym none)
+              (followed site t u (λ r cells. after_reading [] (go b v r cells)) (λ r cells. after_reading [] (go c v' r cells)) p end
+              (shape_near x.element x.extent env places end p cells le) ti ui
+              (λ r more lo hi. rest_inside b one v r more hi) (λ r more lo hi. rest_inside c other v' r more hi)
+              (λ r more f hi. rest_near r more hi (number_same_at r more f)))
+        ]
+      where
+        -- as near_then, where what follows may rest on how the first ended
+        followed : (site : FramePlace) (t u : Behavior) (go go' : ℕ → List ℕ → Behavior) (low high : ℕ) → Near t u → Inside low high (within site t) → Inside low high (within site u)
+            → ((r : ℕ) (cells : List ℕ) → low ≤ r → r ≤ high → Inside r high (go r cells)) → ((r : ℕ) (cells : List ℕ) → low ≤ r → r ≤ high → Inside r high (go' r cells))
+            → ((r : ℕ) (cells : List ℕ) → (within site t).ending ≡ Accepted r cells → r ≤ high → Near (go r cells) (go' r cells)) → Near (and_then (within site t) go) (and_then (within site u) go')
+        followed site t u go go' low high (inl e) i j k l next =
+            subst (λ v. Near (and_then (within site t) go) (and_then (within site v) go')) e
+            (near_after (within site t) go go' (λ r cells f. let at = subst (λ o. OnEnding o (λ r cells. (low ≤ r) × (r ≤ high))) f i.ending in next r cells f at.1))
+        followed site t u go go' low high (inr a) i j k l next =
+            let past = on_within site t.ending (λ r cells. q < r) a.one in
+            let past' = on_within site u.ending (λ r cells. q < r) a.other in
+            let one = beyond high (within site t).ending t.reads go past (λ r cells f. let at = subst (λ o. OnEnding o (λ r cells. (low ≤ r) × (r ≤ high))) f i.ending in k r cells at.0 at.1) in
+            let other = beyond high (within site u).ending u.reads go' past' (λ r cells f. let at = subst (λ o. OnEnding o (λ r cells. (low ≤ r) × (r ≤ high))) f j.ending in l r cells at.0 at.1) in
+            inr (record {
+              here = λ k le h. other.0.1 k (a.here k le (one.0.0 k le h));
+              there = λ k le h. one.0.1 k (a.there k le (other.0.0 k le h));
+              one = one.1;
+              other = other.1;
+            })
+
+    chosen_near : (ty : NameId) (o : Option (List Field)) (env places : List ℕ) (end p : ℕ) (cells : List ℕ) → p ≤ end → Near (chosen_meaning sets senses ty o env places b end p cells) (chosen_meaning sets senses ty o env places c end p cells)
+    chosen_near ty None env places end p cells le = inl refl
+    chosen_near ty (Some fs) env places end p cells le = fields_near ty fs env places end p cells le
+
+    body_near : (ty : NameId) (body : Body) (env places : List ℕ) (end p : ℕ) (cells : List ℕ) → p ≤ end → Near (body_meaning sets senses ty body env places b end p cells) (body_meaning sets senses ty body env places c end p cells)
+    body_near ty (Struct fs) env places end p cells le = fields_near ty fs env places end p cells le
+    body_near ty (Casetype switch cases default) env places end p cells le = chosen_near ty (case_for (natural_of switch env) cases default) env places end p cells le
+
+    definition_near : (o : Option TypeDef) (args places cells : List ℕ) (p end : ℕ) → p ≤ end → Near (definition_meaning sets senses o args places cells b p end) (definition_meaning sets senses o args places cells c p end)
+    definition_near None args places cells p end le = inl refl
+    definition_near (Some d) args places cells p end le =
+        near_after (within (where_place d.name p) (refined d.guard args p p cells)) (body_meaning sets senses d.name d.body args places b end) (body_meaning sets senses d.name d.body args places c end)
+        (λ r more e. body_near d.name d.body args places end r more (guard_at d.guard r more e))
+      where
+        guarded : (v : Bool) (r : ℕ) (more : List ℕ) → (within (where_place d.name p) (demanded Constraint v p p cells)).ending ≡ Accepted r more → r ≤ end
+        guarded true r more e = let f : Accepted p cells ≡ Accepted r more = e in let g : p ≡ r = cc in omega (arith, g, le)
+        guarded false r more e = absurd (unframed_not r more e)
+          where
+            unframed_not : (r : ℕ) (more : List ℕ) → (within (where_place d.name p) (rejected Constraint p cells)).ending ≡ Accepted r more → ⊥
+            unframed_not r more e = let f : (rejected Constraint p cells).ending ≡ Accepted r more = unframed b sets senses one (where_place d.name p) (rejected Constraint p cells).ending r more e in cc
+
+        guard_at : (g : Option Term) (r : ℕ) (more : List ℕ) → (within (where_place d.name p) (refined g args p p cells)).ending ≡ Accepted r more → r ≤ end
+        guard_at None r more e = let f : Accepted p cells ≡ Accepted r more = e in let g : p ≡ r = cc in omega (arith, g, le)
+        guard_at (Some g) r more e = guarded (is_true g args) r more e
+
+  below_near : (sets : List (List ℕ)) (ds : List TypeDef) (n : ℕ) → AllNear (below sets ds n)
+  unfolding below
+  below_near sets ds zero = record { by = λ j args places cells p end le. inl refl }
+  below_near sets ds (suc n) = record { by = λ j args places cells p end le. by_number (nat_eq j n) (below_near sets ds n) j args places cells p end le }
+    where
+      by_number : (v : Bool) → AllNear (below sets ds n) → (j : ℕ) (args places cells : List ℕ) (p end : ℕ) → p ≤ end
+          → Near (pick v (definition_meaning sets (below sets ds n) (slice_get ds n)) (below sets ds n j) args places cells b p end) (pick v (definition_meaning sets (below sets ds n) (slice_get ds n)) (below sets ds n j) args places cells c p end)
+      by_number true good j args places cells p end le =
+          definition_near sets (below sets ds n) (below_inside b sets ds n) (below_inside c sets ds n) good (slice_get ds n) args places cells p end le
+      by_number false good j args places cells p end le = good.by j args places cells p end le
+
+-- Both together
+
+-- the one before q, and the other from there on
+spliced : ℕ → List ℕ → List ℕ → List ℕ
+spliced zero b c = c
+spliced (suc q) [] c = c
+spliced (suc q) (x ∷ b) [] = []
+spliced (suc q) (x ∷ b) (y ∷ c) = x ∷ spliced q b c
+
+spliced_length : (q : ℕ) (b c : List ℕ) → length (spliced q b c) ≡ length c
+unfolding spliced
+spliced_length zero b c = refl
+spliced_length (suc q) [] c = refl
+spliced_length (suc q) (x ∷ b) [] = refl
+spliced_length (suc q) (x ∷ b) (y ∷ c) = ap suc (spliced_length q b c)
+
+spliced_before : (q : ℕ) (b c : List ℕ) → length b ≡ length c → (k : ℕ) → k < q → slice_index b k ≡ slice_index (spliced q b c) k
+unfolding spliced
+spliced_before zero b c e k lt = absurd (omega (arith, lt))
+spliced_before (suc q) [] [] e k lt = refl
+spliced_before (suc q) [] (y ∷ c) e k lt = absurd (omega (arith, e))
+spliced_before (suc q) (x ∷ b) [] e k lt = absurd (omega (arith, e))
+spliced_before (suc q) (x ∷ b) (y ∷ c) e zero lt = refl
+spliced_before (suc q) (x ∷ b) (y ∷ c) e (suc k) lt = spliced_before q b c (omega (arith, e)) k (omega (arith, lt))
+
+spliced_from : (q : ℕ) (b c : List ℕ) → length b ≡ length c → (k : ℕ) → q ≤ k → slice_index (spliced q b c) k ≡ slice_index c k
+unfolding spliced
+spliced_from zero b c e k le = refl
+spliced_from (suc q) [] c e k le = refl
+spliced_from (suc q) (x ∷ b) [] e k le = absurd (omega (arith, e))
+spliced_from (suc q) (x ∷ b) (y ∷ c) e zero le = absurd (omega (arith, le))
+spliced_from (suc q) (x ∷ b) (y ∷ c) e (suc k) le = spliced_from q b c (omega (arith, e)) k (omega (arith, le))
+
+-- all that is read satisfies a test that each place read does
+same_at_each : (xs b c : List ℕ) → ((k : ℕ) → IsAt k xs → slice_index b k ≡ slice_index c k) → SameAt xs b c
+same_at_each [] b c h = tt
+same_at_each (x ∷ xs) b c h = (h x (inl refl), same_at_each xs b c (λ k i. h k (inr i)))
+
+pub reads_are_within : ReadsAreWithin
+reads_are_within m entry args cells message =
+    let place = entry_place (slice_get m.entries entry.number) (length m.definitions) in
+    let i = (below_inside message m.listed m.definitions (length m.definitions)).by place args (places_from 0 (length cells)) cells 0 (length message) (omega arith) in
+    narrowed (meaning m entry args cells message).reads i.reads
+  where
+    narrowed : (xs : List ℕ) → Each (Among 0 (length message)) xs → Each (λ k. k < length message) xs
+    narrowed [] h = tt
+    narrowed (x ∷ xs) h = (h.0.1, narrowed xs h.1)
+
+pub reads_go_forward : ReadsGoForward
+reads_go_forward m entry args cells b c q long same k le =
+    let d = spliced q b c in
+    let longer : length b ≡ length d = long ∙ sym (spliced_length q b c) in
+    let place = entry_place (slice_get m.entries entry.number) (length m.definitions) in
+    let sense = below m.listed m.definitions (length m.definitions) place args (places_from 0 (length cells)) cells in
+    let near = (below_near b d q (spliced_before q b c long) m.listed m.definitions (length m.definitions)).by place args (places_from 0 (length cells)) cells 0 (length b) (omega arith) in
+    let one = meaning m entry args cells b in
+    let other = meaning m entry args cells d in
+    let same_end : sense d 0 (length b) ≡ other = ap (λ n. sense d 0 n) longer in
+    let up = up_to (sense d 0 (length b)) other same_end near in
+    let decided : other ≡ meaning m entry args cells c = reads_decide m entry args cells d c (spliced_length q b c)
+    (same_at_each other.reads d c (λ i h. elim (cases_lt i q) [
+      | inl before ↦
+          sym (spliced_before q b c long i before) ∙ at_each (λ i. i < q → slice_index b i ≡ slice_index c i) i one.reads same (up.1 i (omega (arith, before)) h) before
+      | inr after ↦ spliced_from q b c long i after
+    ])) in
+    (λ h. subst (λ t. IsAt k t.reads) decided (up.0 k le h), λ h. up.1 k le (subst (λ t. IsAt k t.reads) (sym decided) h))
+  where
+    up_to : (u v : Behavior) → u ≡ v → Near b (spliced q b c) q (spliced_before q b c long) (meaning m entry args cells b) u
+        → ((i : ℕ) → i ≤ q → IsAt i (meaning m entry args cells b).reads → IsAt i v.reads) × ((i : ℕ) → i ≤ q → IsAt i v.reads → IsAt i (meaning m entry args cells b).reads)
+    up_to u v e (inl f) = (λ i ge h. subst (λ t. IsAt i t.reads) (f ∙ e) h, λ i ge h. subst (λ t. IsAt i t.reads) (sym (f ∙ e)) h)
+    up_to u v e (inr a) = (λ i ge h. subst (λ t. IsAt i t.reads) e (a.here i ge h), λ i ge h. a.there i ge (subst (λ t. IsAt i t.reads) (sym e) h))

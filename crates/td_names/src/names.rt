@@ -1,0 +1,93 @@
+//! Names, numbered in the order in which they are seen first.
+
+ghost use Rattle.std.specs.Prelude.{◌≡◌, ◌<◌, false, [], OnOk, OnErr, IfOk, nat_le, length};
+ghost use Rattle.td_names.specs.Names.{with_name, is_seen, number_of};
+
+use indexmap::IndexSet;
+use std::alloc::{AllocError, Global};
+use std::marker::Model;
+use td_num::items::Items;
+use td_num::text::Text;
+
+/// Distinct names in order. A contract sees the list of their bytes.
+#[derive(Drop)]
+pub struct Names {
+    set: IndexSet<Vec<u8>>,
+}
+
+impl Model for Names {
+    ghost use Rattle.std.specs.Prelude.{ℕ, List, length, ◌<◌, ◌^◌};
+    ghost use Rattle.td_names.specs.Names.{texts};
+
+    ghost Value = { List (List ℕ) };
+
+    ghost view = { λ n. texts n.set.keys };
+
+    ghost invariant = { λ n. length n.set.keys < 2 ^ 32 };
+}
+
+impl Names {
+    /// No names. Takes no memory.
+    pub fn new(alloc: Global) -> Names
+        ensures { result ≡ [] }
+    {
+        Names {
+            set: IndexSet::new(alloc),
+        }
+    }
+
+    // Whether all 2^32 - 1 numbers are given.
+    fn is_full(&self) -> bool
+        ensures { result ≡ nat_le 4294967295 (length self.now) }
+    {
+        self.set.len() >= u32::MAX as usize
+    }
+
+    /// One more name, unless it was seen. `AllocError`: it wasn't, and there was no memory for it, or all 2^32 - 1
+    /// numbers are given; the names are as before.
+    #[tactic(auto, using(crate::proofs::Reading::with_seen))]
+    pub fn see(&mut self, alloc: Global, name: &[u8]) -> Result<(), AllocError>
+        ensures ok { OnOk result (self.new ≡ with_name self.old name.now) }
+        ensures err { OnErr result (self.new ≡ self.old) }
+        ensures unseen { OnErr result (is_seen self.old name.now ≡ false) }
+    {
+        if self.contains(name) {
+            return Ok(());
+        }
+        if self.is_full() {
+            return Err(AllocError);
+        }
+        let key = Vec::from_slice(alloc, name)?;
+        self.set.insert(key)?;
+        Ok(())
+    }
+
+    /// Whether a name was seen.
+    pub fn contains(&self, name: &[u8]) -> bool
+        ensures { result ≡ is_seen self.now name.now }
+    {
+        self.set.contains(name)
+    }
+
+    /// The number of a name, from 0, and of one that was never seen the count of names.
+    pub fn number(&self, name: &[u8]) -> u32
+        ensures { result ≡ number_of self.now name.now }
+    {
+        match self.set.get_index_of(name) {
+            Some(number) => number as u32,
+            None => self.set.len() as u32,
+        }
+    }
+
+    /// A copy of the names. `AllocError`: there are some, and there was no memory for them.
+    pub fn texts(&self, alloc: Global) -> Result<Items<Text>, AllocError>
+        ensures ok { IfOk result (λ t. t ≡ self.now) }
+        ensures memory { OnErr result (0 < length self.now) }
+    {
+        let mut texts = Items::new(alloc);
+        for name in self.set.as_slice() {
+            texts.push(Text::copy_of(alloc, name.as_slice())?)?;
+        }
+        Ok(texts)
+    }
+}

@@ -1,0 +1,3 @@
+pub mod Cut
+pub mod Leaning
+pub mod Loops

@@ -1,0 +1,145 @@
+-- Endings, one after the other.
+use Rattle.std.proofs.Common.{◌≡◌, ℕ, zero, suc, ◌+◌, ◌-◌, ◌*◌, ◌/◌, ◌<◌, ◌≤◌, min, Bool, true, false, cond, Option, Some, None, List, [], ◌∷◌, ◌++◌, length, refl, sym, ap, ◌∙◌, subst, arith}
+use Rattle.std.specs.Prelude.{slice_get, slice_index, nat_eq}
+use Rattle.std.proofs.lemmas.Bool.{le-leb, lt-leb, eq-eqb, ne_eqb}
+use Rattle.std.proofs.Math.Nat.{div-mul-le_self, min-le_right, mul-le-mul_right, le_trans}
+use Rattle.td_num.specs.Numbers.{bytes_in, number_at, places_from}
+use Rattle.td_core.specs.declared.outcome.Reason.TheVariants.{NotEnough, Impossible, ListSize}
+use Rattle.td_core.specs.declared.module.NameId.{NameId}
+use Rattle.td_core.specs.declared.module.Field.{Field}
+use Rattle.td_core.specs.declared.module.TypeDef.{TypeDef}
+use Rattle.td_core.specs.declared.module.Module.{Module}
+use Rattle.td_core.specs.declared.module.Entry.{Entry}
+use Rattle.td_core.specs.declared.outcome.TraceFrame.{TraceFrame}
+use Rattle.td_core.specs.declared.outcome.Verdict.{Verdict}
+use Rattle.td_core.specs.declared.outcome.Verdict.TheVariants.{Accept, Reject}
+use Rattle.td_core.specs.Outcome.{Ending, Accepted, Rejected, Behavior, plain, accepted, rejected, after_reading, onward, and_then, ending_within, within, outcome_of}
+use Rattle.td_meaning.specs.Naming.{is_needed}
+use Rattle.td_meaning.specs.Meaning.{Sense, taken, demanded, elements, field_place, field_number, number_places, first_name, extended, filled, filled_once, divides, equals, entry_place, numbers_at, run_of, first_where, looked_at, is_nonzero, byte_type, zeros_end, zeros_meaning}
+use Rattle.td_meaning.specs.Machine.{below, definition_meaning, fields_meaning, shape_meaning, parts_meaning, meaning}
+use Rattle.td_meaning.specs.Verdicts.{ending_of, IsAt}
+use Rattle.td_meaning.proofs.Below.{below_self, below_at, below_past}
+
+pub taken_long : (n start end p : ℕ) (cells : List ℕ) → p + n ≤ end → taken n start end p cells ≡ accepted (p + n) cells
+taken_long n start end p cells h = ap (λ v. demanded NotEnough v start (p + n) cells) (le-leb (p + n) end h)
+
+pub taken_short : (n start end p : ℕ) (cells : List ℕ) → end < p + n → taken n start end p cells ≡ rejected NotEnough start cells
+taken_short n start end p cells h = ap (λ v. demanded NotEnough v start (p + n) cells) (lt-leb (p + n) end h)
+
+-- what follows an ending doesn't rest on what was read
+pub then_by : (t : Behavior) (o : Ending) (go : ℕ → List ℕ → Behavior) → t.ending ≡ o → (and_then t go).ending ≡ (and_then (plain o) go).ending
+then_by t o go e = ap (λ x. (onward x t.reads go).ending) e ∙ unread o t.reads go
+  where
+    unread : (o : Ending) (reads : List ℕ) (go : ℕ → List ℕ → Behavior) → (onward o reads go).ending ≡ (onward o [] go).ending
+    unread (Accepted q cells) reads go = refl
+    unread (Rejected reason position trace cells) reads go = refl
+
+-- Numbers that have room
+
+pub room_for : (bound n w : ℕ) → (min bound (n / w) - 0) * w ≤ n
+room_for bound n w =
+    let few : min bound (n / w) ≤ n / w = min-le_right bound (n / w) in
+    let same : min bound (n / w) - 0 ≡ min bound (n / w) = omega arith in
+    subst (λ k. k * w ≤ n) (sym same) (le_trans (mul-le-mul_right w few) (div-mul-le_self n w))
+
+pub one_fewer : (m turn n w : ℕ) → turn < m → (m - turn) * w ≤ n → (w ≤ n) × ((m - (turn + 1)) * w ≤ n - w)
+one_fewer m turn n w lt h =
+    let k = m - (turn + 1) in
+    let e : m - turn ≡ suc k = omega (arith, lt) in
+    let h' : suc k * w ≤ n = subst (λ x. x * w ≤ n) e h in
+    let grown : suc k * w ≡ w + k * w = omega arith in
+    (omega (arith, h', grown), omega (arith, h', grown))
+
+-- Types
+
+pub named_by : (sets : List (List ℕ)) (definitions : List TypeDef) (n j : ℕ) (o : Option TypeDef) (args places cells b : List ℕ) (p end : ℕ) → j < n → slice_get definitions j ≡ o → below sets definitions n j args places cells b p end ≡ definition_meaning sets (below sets definitions j) o args places cells b p end
+named_by sets definitions n j o args places cells b p end lt e =
+    ap (λ f. f args places cells b p end) (below_at sets definitions n j lt)
+    ∙ ap (λ f. f args places cells b p end) (below_self sets definitions j)
+    ∙ ap (λ x. definition_meaning sets (below sets definitions j) x args places cells b p end) e
+
+-- the place of a verdict that accepts, and a trace that is empty where it does
+pub accepted_at : (v : Verdict) (pos p : ℕ) (trace : List TraceFrame) → v ≡ Accept pos → IsAt v p trace → (pos ≡ p) × (trace ≡ [])
+accepted_at v pos p trace is at = subst (λ v. IsAt v p trace) is at
+
+pub empty_at : (v : Verdict) (trace : List TraceFrame) → ((q : ℕ) → v ≡ Accept q → trace ≡ []) → (p : ℕ) × IsAt v p trace
+empty_at (Accept q) trace h = (q, (refl, h q refl))
+empty_at (Reject reason q) trace h = (0, tt)
+
+-- what follows is the same where it is accepted
+pub then_same : (v : Verdict) (trace : List TraceFrame) (cells : List ℕ) (go next : ℕ → List ℕ → Behavior) → ((q : ℕ) → v ≡ Accept q → go q cells ≡ next q cells) → and_then (plain (ending_of v trace cells)) go ≡ and_then (plain (ending_of v trace cells)) next
+then_same (Accept pos) trace cells go next h = ap (after_reading []) (h pos refl)
+then_same (Reject reason pos) trace cells go next h = refl
+
+pub fields_none : (sets : List (List ℕ)) (senses : ℕ → Sense) (ty : NameId) (env places b : List ℕ) (end p : ℕ) (cells : List ℕ) → fields_meaning sets senses ty [] env places b end p cells ≡ accepted p cells
+unfolding fields_meaning
+fields_none sets senses ty env places b end p cells = refl
+
+-- a field, by how its bytes end
+pub field_by : (sets : List (List ℕ)) (senses : ℕ → Sense) (ty : NameId) (f : Field) (later : List Field) (env places b : List ℕ) (end p : ℕ) (cells : List ℕ) (o : Ending) → ending_within (field_place ty (first_name f.parts) p) (shape_meaning sets senses f.element f.extent env places b end p cells).ending ≡ o → (fields_meaning sets senses ty (f ∷ later) env places b end p cells).ending ≡ (and_then (plain o) (λ q cells. and_then (parts_meaning ty p (field_number f.element f.extent b p) f.parts env places q cells) (fields_meaning sets senses ty later (extended env (field_number f.element f.extent b p) f.parts) places b end))).ending
+unfolding fields_meaning
+field_by sets senses ty f later env places b end p cells o e =
+    let rest = λ (q : ℕ) (cells : List ℕ). and_then (parts_meaning ty p (field_number f.element f.extent b p) f.parts env places q cells) (fields_meaning sets senses ty later (extended env (field_number f.element f.extent b p) f.parts) places b end) in
+    let reads = number_places (is_needed (length env) f.parts later) f.element f.extent p in
+    then_by (within (field_place ty (first_name f.parts) p) (shape_meaning sets senses f.element f.extent env places b end p cells)) o (λ q cells. after_reading reads (rest q cells)) e
+    ∙ unread o reads rest
+  where
+    unread : (o : Ending) (reads : List ℕ) (rest : ℕ → List ℕ → Behavior) → (and_then (plain o) (λ q cells. after_reading reads (rest q cells))).ending ≡ (and_then (plain o) rest).ending
+    unread (Accepted q cells) reads rest = refl
+    unread (Rejected reason position trace cells) reads rest = refl
+
+-- Arrays
+
+pub filled_short : (each : ℕ → ℕ → List ℕ → Behavior) (step : Option ℕ) (size end p : ℕ) (cells : List ℕ) → end < p + size → filled each step size end p cells ≡ rejected NotEnough p cells
+filled_short each step size end p cells h = ap (λ t. and_then t (λ q cells. and_then (demanded ListSize (divides step size) p p cells) (elements (each q) (suc size) p q))) (taken_short size p end p cells h)
+
+pub filled_long : (each : ℕ → ℕ → List ℕ → Behavior) (step : Option ℕ) (size end p : ℕ) (cells : List ℕ) (v : Bool) → p + size ≤ end → divides step size ≡ v → filled each step size end p cells ≡ and_then (demanded ListSize v p p cells) (elements (each (p + size)) (suc size) p (p + size))
+filled_long each step size end p cells v h d =
+    ap (λ t. and_then t (λ q cells. and_then (demanded ListSize (divides step size) p p cells) (elements (each q) (suc size) p q))) (taken_long size p end p cells h)
+    ∙ ap (λ v. and_then (demanded ListSize v p p cells) (elements (each (p + size)) (suc size) p (p + size))) d
+
+pub once_short : (each : ℕ → ℕ → List ℕ → Behavior) (step : Option ℕ) (size end p : ℕ) (cells : List ℕ) → end < p + size → filled_once each step size end p cells ≡ rejected NotEnough p cells
+once_short each step size end p cells h = ap (λ t. and_then t (λ q cells. and_then (demanded ListSize (equals step size) p p cells) (λ r cells. and_then (each q r cells) (λ t cells. demanded ListSize (nat_eq t q) p t cells)))) (taken_short size p end p cells h)
+
+pub once_long : (each : ℕ → ℕ → List ℕ → Behavior) (step : Option ℕ) (size end p : ℕ) (cells : List ℕ) (v : Bool) → p + size ≤ end → equals step size ≡ v → filled_once each step size end p cells ≡ and_then (demanded ListSize v p p cells) (λ r cells. and_then (each (p + size) r cells) (λ t cells. demanded ListSize (nat_eq t (p + size)) p t cells))
+once_long each step size end p cells v h d =
+    ap (λ t. and_then t (λ q cells. and_then (demanded ListSize (equals step size) p p cells) (λ r cells. and_then (each q r cells) (λ t cells. demanded ListSize (nat_eq t q) p t cells)))) (taken_long size p end p cells h)
+    ∙ ap (λ v. and_then (demanded ListSize v p p cells) (λ r cells. and_then (each (p + size) r cells) (λ t cells. demanded ListSize (nat_eq t (p + size)) p t cells))) d
+
+pub elements_over : (each : ℕ → List ℕ → Behavior) (turns start end p : ℕ) (cells : List ℕ) → turns ≡ 0 → (elements each turns start end p cells).ending ≡ (demanded ListSize (nat_eq p end) start p cells).ending
+unfolding elements
+elements_over each turns start end p cells e = ap (λ n. (elements each n start end p cells).ending) e
+
+pub elements_done : (each : ℕ → List ℕ → Behavior) (turns more start end p : ℕ) (cells : List ℕ) → turns ≡ suc more → p ≡ end → (elements each turns start end p cells).ending ≡ Accepted p cells
+unfolding elements
+elements_done each turns more start end p cells e at =
+    ap (λ n. (elements each n start end p cells).ending) e
+    ∙ ap (λ v. (cond v (accepted p cells) (and_then (each p cells) (elements each more start end))).ending) (eq-eqb p end at)
+
+pub elements_on : (each : ℕ → List ℕ → Behavior) (turns more start end p : ℕ) (cells : List ℕ) (o : Ending) → turns ≡ suc more → (p ≡ end → ⊥) → (each p cells).ending ≡ o → (elements each turns start end p cells).ending ≡ (and_then (plain o) (elements each more start end)).ending
+unfolding elements
+elements_on each turns more start end p cells o e apart is =
+    ap (λ n. (elements each n start end p cells).ending) e
+    ∙ ap (λ v. (cond v (accepted p cells) (and_then (each p cells) (elements each more start end))).ending) (ne_eqb p end apart)
+    ∙ then_by (each p cells) o (elements each more start end) is
+
+-- an entry point's definition, over the whole of a message
+pub entry_is : (m : Module) (entry : Entry) (args cells b : List ℕ) (place bound : ℕ) (places : List ℕ) (end : ℕ) → slice_get m.entries entry.number ≡ Some place → bound ≡ length m.definitions → places ≡ places_from 0 (length cells) → end ≡ length b → below m.listed m.definitions bound place args places cells b 0 end ≡ meaning m entry args cells b
+entry_is m entry args cells b place bound places end get same at ends =
+    (λ k. below m.listed m.definitions (same k) place args (at k) cells b 0 (ends k))
+    ∙ (λ k. below m.listed m.definitions (length m.definitions) (entry_place (sym get k) (length m.definitions)) args (places_from 0 (length cells)) cells b 0 (length b))
+
+-- an entry point that isn't there
+pub no_entry : (m : Module) (entry : Entry) (args cells b : List ℕ) → slice_get m.entries entry.number ≡ None → meaning m entry args cells b ≡ rejected Impossible 0 cells
+no_entry m entry args cells b get =
+    (λ k. below m.listed m.definitions (length m.definitions) (entry_place (get k) (length m.definitions)) args (places_from 0 (length cells)) cells b 0 (length b))
+    ∙ below_past m.listed m.definitions (length m.definitions) (length m.definitions) args (places_from 0 (length cells)) cells b 0 (length b) (omega arith)
+
+-- no byte is left
+pub zeros_over : (b : List ℕ) (end p : ℕ) (cells : List ℕ) → end - p ≡ 0 → zeros_meaning b end p cells ≡ accepted end cells
+zeros_over b end p cells e = ap (λ n. after_reading (run_of byte_type p (looked_at (first_where is_nonzero (numbers_at byte_type b p n)) n)) (zeros_end (first_where is_nonzero (numbers_at byte_type b p n)) end p cells)) e
+
+-- the outcome of an ending
+pub outcome_is : (v : Verdict) (trace : List TraceFrame) (cells : List ℕ) → ((q : ℕ) → v ≡ Accept q → trace ≡ []) → record { verdict = v; trace = trace; cells = cells } ≡ outcome_of (ending_of v trace cells)
+outcome_is (Accept pos) trace cells h = λ k. record { verdict = Accept pos; trace = h pos refl k; cells = cells }
+outcome_is (Reject reason pos) trace cells h = refl

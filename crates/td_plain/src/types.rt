@@ -1,0 +1,440 @@
+//! Definitions and their fields.
+
+ghost use Rattle.std.specs.Prelude.{◌≡◌, ℕ, suc, ◌∷◌, ◌-◌, List, [], IfOk, Some};
+ghost use Rattle.td_core.specs.declared.module.Field.{Field};
+ghost use Rattle.td_core.specs.Outcome.{Ending, plain, and_then};
+ghost use Rattle.td_meaning.specs.Machine.{below, definition_meaning, fields_meaning, shape_meaning, element_meaning};
+ghost use Rattle.td_meaning.specs.Meaning.{elements, filled, filled_once};
+ghost use Rattle.td_meaning.specs.Verdicts.{ending_of};
+
+use crate::arrays::{unfit, up_to_zero};
+use crate::enums::listed_number;
+use crate::numbers::{field_number, pass, place_after};
+use crate::zeros::zeros;
+use std::alloc::{AllocError, Global};
+use td_core::module::{Element, Extent, Field, Module, NameId, TypeDef};
+use td_core::outcome::{Reason, Spot, Trace, Verdict};
+use td_meaning::arrays::{divides, equals};
+use td_meaning::casetypes::body_fields;
+use td_meaning::checking::{check_parts, demand, framed};
+use td_meaning::enums::values_at;
+use td_meaning::expressions::{is_met, value_of, values_of};
+use td_meaning::needed::first_name;
+use td_meaning::parameters::cells_of;
+use td_num::number::byte_count;
+
+/// A definition that is named from above, among those below a bound: the value arguments, and for each of its cells the
+/// place among all cells.
+#[cycle(types)]
+pub fn named(
+    alloc: Global,
+    m: &Module,
+    bound: usize,
+    place: u32,
+    args: &[u64],
+    places: &[usize],
+    message: &[u8],
+    end: u32,
+    pos: u32,
+    cells: &mut [u64],
+    trace: &mut Trace,
+) -> Result<Verdict, AllocError>
+    requires empty_trace { trace.old ≡ [] }
+    ensures ending { IfOk result (λ v. (below m.now.listed m.now.definitions bound place args.now places.now cells.old message.now pos end).ending
+        ≡ ending_of v trace.new cells.new) }
+    ensures empty_trace { IfOk result (λ v. (q : ℕ) → v ≡ Verdict.Accept q → trace.new ≡ []) }
+{
+    if place as usize >= bound {
+        return Ok(Verdict::Reject {
+            reason: Reason::Impossible,
+            pos,
+        });
+    }
+    match m.definitions.as_slice().get(place as usize) {
+        Some(definition) => Ok(defined(
+            alloc,
+            m,
+            place as usize,
+            definition,
+            args,
+            places,
+            message,
+            end,
+            pos,
+            cells,
+            trace,
+        )?),
+        None => Ok(Verdict::Reject {
+            reason: Reason::Impossible,
+            pos,
+        }),
+    }
+}
+
+// A definition: its `where`, and then its fields.
+#[cycle(types)]
+fn defined(
+    alloc: Global,
+    m: &Module,
+    bound: usize,
+    definition: &TypeDef,
+    args: &[u64],
+    places: &[usize],
+    message: &[u8],
+    end: u32,
+    pos: u32,
+    cells: &mut [u64],
+    trace: &mut Trace,
+) -> Result<Verdict, AllocError>
+    requires empty_trace { trace.old ≡ [] }
+    ensures ending { IfOk result (λ v. (definition_meaning m.now.listed (below m.now.listed m.now.definitions bound) (Some definition.now) args.now places.now cells.old message.now pos end).ending
+        ≡ ending_of v trace.new cells.new) }
+    ensures empty_trace { IfOk result (λ v. (q : ℕ) → v ≡ Verdict.Accept q → trace.new ≡ []) }
+{
+    let guard = demand(
+        is_met(&definition.guard, args),
+        Reason::Constraint,
+        pos,
+        pos,
+    );
+    match framed(guard, definition.name, Spot::Where, pos, trace)? {
+        Verdict::Accept { pos: _ } => {}
+        Verdict::Reject { reason, pos } => return Ok(Verdict::Reject { reason, pos }),
+    }
+    match body_fields(&definition.body, args) {
+        None => {
+            let none = Verdict::Reject {
+                reason: Reason::Impossible,
+                pos,
+            };
+            Ok(framed(none, definition.name, Spot::Switch, pos, trace)?)
+        }
+        Some(fields) => {
+            let mut env = Vec::from_slice(alloc, args)?;
+            Ok(fields_in_order(
+                alloc,
+                m,
+                bound,
+                definition.name,
+                fields.as_slice(),
+                &mut env,
+                places,
+                message,
+                end,
+                pos,
+                cells,
+                trace,
+            )?)
+        }
+    }
+}
+
+// Fields one after the other.
+#[cycle(types)]
+fn fields_in_order(
+    alloc: Global,
+    m: &Module,
+    bound: usize,
+    ty: NameId,
+    fields: &[Field],
+    env: &mut Vec<u64>,
+    places: &[usize],
+    message: &[u8],
+    end: u32,
+    start: u32,
+    cells: &mut [u64],
+    trace: &mut Trace,
+) -> Result<Verdict, AllocError>
+    requires empty_trace { trace.old ≡ [] }
+    ensures ending { IfOk result (λ v. (fields_meaning m.now.listed (below m.now.listed m.now.definitions bound) ty fields.now env.old.items places.now message.now end start cells.old).ending
+        ≡ ending_of v trace.new cells.new) }
+    ensures empty_trace { IfOk result (λ v. (q : ℕ) → v ≡ Verdict.Accept q → trace.new ≡ []) }
+{
+    let mut position = start;
+    for field in fields {
+        match one_field(
+            alloc, m, bound, ty, field, env, places, message, end, position, cells, trace,
+        )? {
+            Verdict::Accept { pos } => position = pos,
+            Verdict::Reject { reason, pos } => return Ok(Verdict::Reject { reason, pos }),
+        }
+    }
+    Ok(Verdict::Accept { pos: position })
+}
+
+// A field, and then its parts.
+#[cycle(types)]
+fn one_field(
+    alloc: Global,
+    m: &Module,
+    bound: usize,
+    ty: NameId,
+    field: &Field,
+    env: &mut Vec<u64>,
+    places: &[usize],
+    message: &[u8],
+    end: u32,
+    start: u32,
+    cells: &mut [u64],
+    trace: &mut Trace,
+) -> Result<Verdict, AllocError>
+    requires empty_trace { trace.old ≡ [] }
+    // what is left of the struct decides the whole of it
+    ensures ending { IfOk result (λ v. (later : List Field)
+        → (fields_meaning m.now.listed (below m.now.listed m.now.definitions bound) ty (field.now ∷ later) env.old.items places.now message.now end start cells.old).ending
+        ≡ (and_then (plain (ending_of v trace.new cells.new)) (fields_meaning m.now.listed (below m.now.listed m.now.definitions bound) ty later env.new.items places.now message.now end)).ending) }
+    ensures empty_trace { IfOk result (λ v. (q : ℕ) → v ≡ Verdict.Accept q → trace.new ≡ []) }
+{
+    let parts = field.parts.as_slice();
+    let verdict = shape(
+        alloc,
+        m,
+        bound,
+        &field.element,
+        &field.extent,
+        env.as_slice(),
+        places,
+        message,
+        end,
+        start,
+        cells,
+        trace,
+    )?;
+    match framed(verdict, ty, Spot::Field(first_name(parts)), start, trace)? {
+        Verdict::Accept { pos } => {
+            let value = field_number(&field.element, &field.extent, message, start);
+            Ok(check_parts(ty, parts, value, env, places, cells, start, pos, trace)?)
+        }
+        Verdict::Reject { reason, pos } => Ok(Verdict::Reject { reason, pos }),
+    }
+}
+
+// An element, or an array of them.
+#[cycle(types)]
+fn shape(
+    alloc: Global,
+    m: &Module,
+    bound: usize,
+    element: &Element,
+    extent: &Extent,
+    env: &[u64],
+    places: &[usize],
+    message: &[u8],
+    end: u32,
+    start: u32,
+    cells: &mut [u64],
+    trace: &mut Trace,
+) -> Result<Verdict, AllocError>
+    requires empty_trace { trace.old ≡ [] }
+    ensures ending { IfOk result (λ v. (shape_meaning m.now.listed (below m.now.listed m.now.definitions bound) element.now extent.now env.now places.now message.now end start cells.old).ending
+        ≡ ending_of v trace.new cells.new) }
+    ensures empty_trace { IfOk result (λ v. (q : ℕ) → v ≡ Verdict.Accept q → trace.new ≡ []) }
+{
+    match extent {
+        Extent::Once => Ok(one_element(
+            alloc, m, bound, element, env, places, message, start, end, start, cells, trace,
+        )?),
+        Extent::Filling { size, step } => Ok(filling(
+            alloc,
+            m,
+            bound,
+            element,
+            value_of(size, env),
+            *step,
+            env,
+            places,
+            message,
+            end,
+            start,
+            cells,
+            trace,
+        )?),
+        Extent::OnceFilling { size, step } => Ok(once_filling(
+            alloc,
+            m,
+            bound,
+            element,
+            value_of(size, env),
+            *step,
+            env,
+            places,
+            message,
+            end,
+            start,
+            cells,
+            trace,
+        )?),
+        Extent::UpToZero { size } => {
+            Ok(up_to_zero(element, value_of(size, env), message, end, start))
+        }
+    }
+}
+
+// As many elements as fill so many bytes.
+#[cycle(types)]
+fn filling(
+    alloc: Global,
+    m: &Module,
+    bound: usize,
+    element: &Element,
+    size: u64,
+    step: Option<u64>,
+    env: &[u64],
+    places: &[usize],
+    message: &[u8],
+    end: u32,
+    start: u32,
+    cells: &mut [u64],
+    trace: &mut Trace,
+) -> Result<Verdict, AllocError>
+    requires empty_trace { trace.old ≡ [] }
+    ensures ending { IfOk result (λ v. (filled (element_meaning m.now.listed (below m.now.listed m.now.definitions bound) element.now env.now places.now message.now start) step size end start cells.old).ending
+        ≡ ending_of v trace.new cells.new) }
+    ensures empty_trace { IfOk result (λ v. (q : ℕ) → v ≡ Verdict.Accept q → trace.new ≡ []) }
+{
+    match place_after(start, size, end) {
+        None => Ok(Verdict::Reject {
+            reason: Reason::NotEnough,
+            pos: start,
+        }),
+        Some(stop) => {
+            if !divides(step, size) {
+                return Ok(unfit(start));
+            }
+            Ok(all_elements(
+                alloc, m, bound, element, env, places, message, stop, start, cells, trace,
+            )?)
+        }
+    }
+}
+
+// One element, which fills so many bytes.
+#[cycle(types)]
+fn once_filling(
+    alloc: Global,
+    m: &Module,
+    bound: usize,
+    element: &Element,
+    size: u64,
+    step: Option<u64>,
+    env: &[u64],
+    places: &[usize],
+    message: &[u8],
+    end: u32,
+    start: u32,
+    cells: &mut [u64],
+    trace: &mut Trace,
+) -> Result<Verdict, AllocError>
+    requires empty_trace { trace.old ≡ [] }
+    ensures ending { IfOk result (λ v. (filled_once (element_meaning m.now.listed (below m.now.listed m.now.definitions bound) element.now env.now places.now message.now start) step size end start cells.old).ending
+        ≡ ending_of v trace.new cells.new) }
+    ensures empty_trace { IfOk result (λ v. (q : ℕ) → v ≡ Verdict.Accept q → trace.new ≡ []) }
+{
+    match place_after(start, size, end) {
+        None => Ok(Verdict::Reject {
+            reason: Reason::NotEnough,
+            pos: start,
+        }),
+        Some(stop) => {
+            if !equals(step, size) {
+                return Ok(unfit(start));
+            }
+            match one_element(
+                alloc, m, bound, element, env, places, message, start, stop, start, cells, trace,
+            )? {
+                Verdict::Accept { pos } => Ok(demand(pos == stop, Reason::ListSize, start, pos)),
+                Verdict::Reject { reason, pos } => Ok(Verdict::Reject { reason, pos }),
+            }
+        }
+    }
+}
+
+// Elements one after the other, up to the end.
+#[cycle(types)]
+fn all_elements(
+    alloc: Global,
+    m: &Module,
+    bound: usize,
+    element: &Element,
+    env: &[u64],
+    places: &[usize],
+    message: &[u8],
+    end: u32,
+    start: u32,
+    cells: &mut [u64],
+    trace: &mut Trace,
+) -> Result<Verdict, AllocError>
+    requires empty_trace { trace.old ≡ [] }
+    ensures ending { IfOk result (λ v. (elements (element_meaning m.now.listed (below m.now.listed m.now.definitions bound) element.now env.now places.now message.now start end) (suc (end - start)) start end start cells.old).ending
+        ≡ ending_of v trace.new cells.new) }
+    ensures empty_trace { IfOk result (λ v. (q : ℕ) → v ≡ Verdict.Accept q → trace.new ≡ []) }
+{
+    let size = end.saturating_sub(start) as u64;
+    let mut position = start;
+    for turn in 0..size + 1 {
+        if position == end {
+            return Ok(Verdict::Accept { pos: position });
+        }
+        match one_element(
+            alloc, m, bound, element, env, places, message, start, end, position, cells, trace,
+        )? {
+            Verdict::Accept { pos } => position = pos,
+            Verdict::Reject { reason, pos } => return Ok(Verdict::Reject { reason, pos }),
+        }
+    }
+    Ok(demand(position == end, Reason::ListSize, start, position))
+}
+
+// An element of a field that began at `start`.
+#[cycle(types)]
+fn one_element(
+    alloc: Global,
+    m: &Module,
+    bound: usize,
+    element: &Element,
+    env: &[u64],
+    places: &[usize],
+    message: &[u8],
+    start: u32,
+    end: u32,
+    pos: u32,
+    cells: &mut [u64],
+    trace: &mut Trace,
+) -> Result<Verdict, AllocError>
+    requires empty_trace { trace.old ≡ [] }
+    ensures ending { IfOk result (λ v. (element_meaning m.now.listed (below m.now.listed m.now.definitions bound) element.now env.now places.now message.now start end pos cells.old).ending
+        ≡ ending_of v trace.new cells.new) }
+    ensures empty_trace { IfOk result (λ v. (q : ℕ) → v ≡ Verdict.Accept q → trace.new ≡ []) }
+{
+    match element {
+        Element::Number(number_type) => Ok(pass(byte_count(number_type.width), start, end, pos)),
+        Element::Listed { base, values } => {
+            let values = values_at(m.listed.as_slice(), *values);
+            Ok(listed_number(*base, values, message, start, end, pos))
+        }
+        Element::Named {
+            definition,
+            args,
+            cells: own,
+        } => {
+            let args = values_of(alloc, args.as_slice(), env)?;
+            let own = cells_of(alloc, own.as_slice(), places)?;
+            Ok(named(
+                alloc,
+                m,
+                bound,
+                *definition,
+                args.as_slice(),
+                own.as_slice(),
+                message,
+                end,
+                pos,
+                cells,
+                trace,
+            )?)
+        }
+        Element::Unit => Ok(Verdict::Accept { pos }),
+        Element::Rest => Ok(Verdict::Accept { pos: end }),
+        Element::Zeros => Ok(zeros(message, end, pos)),
+    }
+}

@@ -1,0 +1,5 @@
+use Rattle.td_report.proofs.Determining.{reports_determine_parts}
+use Rattle.td_report.proofs.laws.reports_determine_parts.Goals as goal
+
+pub returns : goal.returns
+returns c = reports_determine_parts

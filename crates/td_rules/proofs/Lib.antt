@@ -1,0 +1,10 @@
+pub mod Scopes
+pub mod DeedsFormed
+pub mod FieldsFormed
+pub mod ModulesFormed
+pub mod Whole
+pub mod Naming
+pub mod FieldsWhole
+pub mod Sorting
+pub mod ModulesSorted
+pub mod NamesWritten

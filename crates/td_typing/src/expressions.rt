@@ -1,0 +1,547 @@
+//! Expressions: their sorts, the core expressions that they stand for, and what they break, all in one walk.
+
+ghost use Rattle.std.specs.Prelude.{◌≡◌, IfOk, OnOk, is_none};
+ghost use Rattle.td_ast.specs.Trees as tree;
+ghost use Rattle.td_ast.specs.Trees.{span_of};
+ghost use Rattle.td_core.specs.Term.{choice};
+ghost use Rattle.td_rules.specs.Breach.{first_of, when};
+ghost use Rattle.td_rules.specs.declared.breach.Rule.TheVariants.{BadAction};
+ghost use Rattle.td_rules.specs.Sorts.{sort_of, core_of, option_core, literal_of, literal_alone, truth_core, found_core, start_core, size_core, unary_core, operation_core, range_core, beside, start_sort};
+ghost use Rattle.td_rules.specs.ExprRules.{name_breaches, size_breaches, expr_breaches, number_breaches, truth_breaches, fitting_breaches, test_breaches};
+
+use crate::findings::Findings;
+use crate::look_up::{is_nothing, is_type, look_up, size_found, size_named};
+use crate::sorts::{
+    are_wrong_operands, choice_sort, fits, found_sort, is_number, is_truth, is_wider,
+    is_wrong_choice, is_wrong_operand, literal_type, narrowest, operation, operation_sort,
+    size_sort, start_sort, type_alone, unary_sort,
+};
+use std::alloc::{AllocError, Global};
+use td_ast::expressions::{BinaryOperator, Expr, ExprKind, SizeofOperand, UnaryOperator};
+use td_ast::names::Name;
+use td_ast::token::Span;
+use td_core::expressions::{CoreExpr, Node, Scalar};
+use td_expr::types::{type_of, wider_of};
+use td_rules::breach::Rule;
+use td_rules::expressions::{Operation, Sort};
+use td_rules::known::{Found, Known, Local, Meaning, Scope};
+
+/// What is known of an expression: its sort, and the core expression that it stands for.
+#[derive(Debug, Drop)]
+pub struct Typing {
+    pub sort: Sort,
+    pub core: CoreExpr,
+}
+
+/// The span of an expression, parentheses included.
+pub fn span_of(e: &Expr) -> Span
+    ensures { result ≡ span_of e.now }
+{
+    e.span
+}
+
+/// A literal of a type; 0 where the type doesn't hold it.
+fn literal(n: u64, w: Scalar) -> CoreExpr
+    ensures { result ≡ literal_of n w }
+{
+    let value = if fits(n, w) { n } else { 0 };
+    CoreExpr {
+        node: Node::Number { value, scalar: w },
+    }
+}
+
+/// A number that stands alone.
+fn literal_alone(n: u64) -> CoreExpr
+    ensures { result ≡ literal_alone n }
+{
+    literal(n, narrowest(n))
+}
+
+/// `true`, `false`, and what stands in place of a broken part.
+fn truth(b: bool) -> CoreExpr
+    ensures { result ≡ truth_core b }
+{
+    CoreExpr {
+        node: Node::Number {
+            value: u64::from(b),
+            scalar: Scalar::Truth,
+        },
+    }
+}
+
+/// The value of a name.
+fn found_core(found: Found) -> CoreExpr
+    ensures { result ≡ found_core found }
+{
+    match found {
+        Found::Local(
+            Local::Value {
+                level,
+                scalar,
+                most,
+            },
+        ) => CoreExpr {
+            node: Node::Name {
+                level,
+                scalar,
+                most,
+            },
+        },
+        Found::Global(Meaning::Constant(n) | Meaning::Member(n)) => literal_alone(n),
+        _ => truth(false),
+    }
+}
+
+/// The value of `field_pos`.
+pub fn start_core(start: Option<u32>) -> CoreExpr
+    ensures { result ≡ start_core start }
+{
+    let node = match start {
+        Some(level) => Node::Name {
+            level,
+            scalar: Scalar::ThirtyTwo,
+            most: u64::from(u32::MAX),
+        },
+        None => Node::Number {
+            value: 0,
+            scalar: Scalar::ThirtyTwo,
+        },
+    };
+    CoreExpr { node }
+}
+
+/// A size, where there is one.
+fn size_core(size: Option<u64>) -> CoreExpr
+    ensures { result ≡ size_core size }
+{
+    match size {
+        Some(n) => literal_alone(n),
+        None => truth(false),
+    }
+}
+
+/// An operand beside one of that sort: a literal is settled to its type.
+fn settled(a: Sort, other: Sort, e: CoreExpr) -> CoreExpr
+    ensures { result ≡ beside a other e }
+{
+    match a {
+        Sort::Literal(n) => literal(n, literal_type(n, other)),
+        Sort::Broken | Sort::Untyped | Sort::Truth | Sort::Typed(_) => e,
+    }
+}
+
+/// What the name of a value breaks.
+fn check_name(found: Found, at: Span, findings: &mut Findings)
+    ensures { findings.new.first ≡ first_of findings.old.first (name_breaches found at) }
+{
+    match found {
+        Found::Nothing => findings.note(Rule::Unknown, at),
+        Found::Local(Local::Unreadable) => findings.note(Rule::NotReadable, at),
+        Found::Local(Local::Value { .. })
+        | Found::Global(Meaning::Constant(_) | Meaning::Member(_)) => {}
+        _ => findings.note(Rule::Mismatch, at),
+    }
+}
+
+/// What `sizeof` breaks: the word stands at `own`, what is asked for at `place`.
+#[tactic(auto, using(crate::proofs::Steps::first_append))]
+fn check_size(
+    known: &Known,
+    scope: &Scope,
+    own: Span,
+    operand: &SizeofOperand,
+    place: Span,
+    findings: &mut Findings,
+)
+    ensures { findings.new.first ≡ first_of findings.old.first (size_breaches known.now scope.now own operand.now place) }
+{
+    match operand {
+        SizeofOperand::Number(_) => {}
+        SizeofOperand::Name(name) => {
+            let found = look_up(known, scope, name.as_slice());
+            findings.note_if(is_nothing(found), Rule::Unknown, place);
+            findings.note_if(!is_nothing(found) && !is_type(found), Rule::Mismatch, place);
+            let is_sized = size_found(known, found).is_some();
+            findings.note_if(is_type(found) && !is_sized, Rule::NotConstant, own);
+        }
+        SizeofOperand::This => findings.note_if(scope.this.is_none(), Rule::NotConstant, own),
+    }
+}
+
+/// An expression: its sort and its core expression, and its breaches noted. `AllocError`: it has an operator, and there
+/// was no memory for its operands.
+#[cycle(expression)]
+pub fn expression(
+    alloc: Global,
+    known: &Known,
+    scope: &Scope,
+    e: &Expr,
+    findings: &mut Findings,
+) -> Result<Typing, AllocError>
+    ensures sort { IfOk result (λ t. t.sort ≡ sort_of known.now scope.now e.now) }
+    ensures core { IfOk result (λ t. t.core ≡ core_of known.now scope.now e.now) }
+    ensures first { OnOk result (findings.new.first ≡ first_of findings.old.first (expr_breaches known.now scope.now e.now)) }
+{
+    match &e.kind {
+        ExprKind::Number(n, _) => Ok(Typing {
+            sort: Sort::Literal(*n),
+            core: literal_alone(*n),
+        }),
+        ExprKind::Truth(b) => Ok(Typing {
+            sort: Sort::Truth,
+            core: truth(*b),
+        }),
+        ExprKind::Name(n) => Ok(named_value(known, scope, n, findings)),
+        ExprKind::FieldPos(own) => Ok(field_pos(scope, *own, findings)),
+        ExprKind::Sizeof(own, operand, place) => {
+            Ok(size_of(known, scope, *own, operand, *place, findings))
+        }
+        ExprKind::RangeOkay(size, offset, access) => {
+            range_okay(
+                alloc,
+                known,
+                scope,
+                span_of(e),
+                size,
+                offset,
+                access,
+                findings,
+            )
+        }
+        ExprKind::Unary(operator, own, a) => {
+            unary(alloc, known, scope, *operator, *own, a, findings)
+        }
+        ExprKind::Binary(operator, own, a, b) => {
+            binary(alloc, known, scope, *operator, *own, a, b, findings)
+        }
+        ExprKind::Choice(own, c, a, b) => choice(alloc, known, scope, *own, c, a, b, findings),
+    }
+}
+
+/// The name of a value.
+fn named_value(known: &Known, scope: &Scope, n: &Name, findings: &mut Findings) -> Typing
+    ensures sort { result.sort ≡ sort_of known.now scope.now (tree.Name n.now.span n.now) }
+    ensures core { result.core ≡ core_of known.now scope.now (tree.Name n.now.span n.now) }
+    ensures first { findings.new.first ≡ first_of findings.old.first (expr_breaches known.now scope.now (tree.Name n.now.span n.now)) }
+{
+    let found = look_up(known, scope, n.text.as_slice());
+    check_name(found, n.span, findings);
+    Typing {
+        sort: found_sort(found),
+        core: found_core(found),
+    }
+}
+
+/// `field_pos`, which stands at `own`.
+fn field_pos(scope: &Scope, own: Span, findings: &mut Findings) -> Typing
+    ensures sort { result.sort ≡ start_sort scope.now.start }
+    ensures core { result.core ≡ start_core scope.now.start }
+    ensures first { findings.new.first ≡ first_of findings.old.first (when (is_none scope.now.start) BadAction own) }
+{
+    findings.note_if(scope.start.is_none(), Rule::BadAction, own);
+    Typing {
+        sort: start_sort(scope.start),
+        core: start_core(scope.start),
+    }
+}
+
+/// `sizeof`, which stands at `own`, of what stands at `place`.
+fn size_of(
+    known: &Known,
+    scope: &Scope,
+    own: Span,
+    operand: &SizeofOperand,
+    place: Span,
+    findings: &mut Findings,
+) -> Typing
+    ensures sort { result.sort ≡ sort_of known.now scope.now (tree.Sizeof own own operand.now place) }
+    ensures core { result.core ≡ core_of known.now scope.now (tree.Sizeof own own operand.now place) }
+    ensures first { findings.new.first ≡ first_of findings.old.first (expr_breaches known.now scope.now (tree.Sizeof own own operand.now place)) }
+{
+    check_size(known, scope, own, operand, place, findings);
+    let size = size_named(known, scope, operand);
+    Typing {
+        sort: size_sort(size),
+        core: size_core(size),
+    }
+}
+
+/// `is_range_okay(size, offset, access)`
+#[cycle(expression)]
+#[tactic(auto, using(crate::proofs::Steps::first_append))]
+fn range_okay(
+    alloc: Global,
+    known: &Known,
+    scope: &Scope,
+    at: Span,
+    z: &Expr,
+    o: &Expr,
+    a: &Expr,
+    findings: &mut Findings,
+) -> Result<Typing, AllocError>
+    ensures sort { IfOk result (λ t. t.sort ≡ sort_of known.now scope.now (tree.RangeOkay at z.now o.now a.now)) }
+    ensures core { IfOk result (λ t. t.core ≡ core_of known.now scope.now (tree.RangeOkay at z.now o.now a.now)) }
+    ensures first { OnOk result (findings.new.first ≡ first_of findings.old.first (expr_breaches known.now scope.now (tree.RangeOkay at z.now o.now a.now))) }
+{
+    let size = expression(alloc, known, scope, z, findings)?;
+    let offset = expression(alloc, known, scope, o, findings)?;
+    let access = expression(alloc, known, scope, a, findings)?;
+    findings.note_if(is_truth(size.sort), Rule::Mismatch, span_of(z));
+    findings.note_if(is_truth(offset.sort), Rule::Mismatch, span_of(o));
+    findings.note_if(is_truth(access.sort), Rule::Mismatch, span_of(a));
+    Ok(Typing {
+        sort: Sort::Truth,
+        core: range_core(alloc, size, offset, access)?,
+    })
+}
+
+/// Its core expression, from its operands.
+fn range_core(
+    alloc: Global,
+    size: Typing,
+    offset: Typing,
+    access: Typing,
+) -> Result<CoreExpr, AllocError>
+    ensures { IfOk result (λ c. c ≡ range_core size.sort offset.sort access.sort size.core offset.core access.core) }
+{
+    let total = settled(size.sort, access.sort, size.core);
+    let part = settled(access.sort, size.sort, access.core);
+    let between = Sort::Typed(wider_of(type_of(&total), type_of(&part)));
+    let offset = settled(offset.sort, between, offset.core);
+    Ok(CoreExpr {
+        node: Node::RangeOkay(
+            Box::new(alloc, total)?,
+            Box::new(alloc, offset)?,
+            Box::new(alloc, part)?,
+        ),
+    })
+}
+
+/// `!a` or `~a`
+#[cycle(expression)]
+#[tactic(auto, using(crate::proofs::Steps::first_append))]
+fn unary(
+    alloc: Global,
+    known: &Known,
+    scope: &Scope,
+    operator: UnaryOperator,
+    own: Span,
+    a: &Expr,
+    findings: &mut Findings,
+) -> Result<Typing, AllocError>
+    ensures sort { IfOk result (λ t. t.sort ≡ sort_of known.now scope.now (tree.Unary own operator own a.now)) }
+    ensures core { IfOk result (λ t. t.core ≡ core_of known.now scope.now (tree.Unary own operator own a.now)) }
+    ensures first { OnOk result (findings.new.first ≡ first_of findings.old.first (expr_breaches known.now scope.now (tree.Unary own operator own a.now))) }
+{
+    let operand = expression(alloc, known, scope, a, findings)?;
+    findings.note_if(
+        is_wrong_operand(operator, operand.sort),
+        Rule::Mismatch,
+        own,
+    );
+    Ok(Typing {
+        sort: unary_sort(operator, operand.sort),
+        core: unary_core(alloc, operator, operand.core)?,
+    })
+}
+
+/// Its core expression, from its operand.
+fn unary_core(
+    alloc: Global,
+    operator: UnaryOperator,
+    operand: CoreExpr,
+) -> Result<CoreExpr, AllocError>
+    ensures { IfOk result (λ c. c ≡ unary_core operator operand) }
+{
+    let operand = Box::new(alloc, operand)?;
+    let node = match operator {
+        UnaryOperator::Not => Node::Not(operand),
+        UnaryOperator::Complement => Node::Complement(operand),
+    };
+    Ok(CoreExpr { node })
+}
+
+/// `a OPERATOR b`
+#[cycle(expression)]
+#[tactic(auto, using(crate::proofs::Steps::first_append))]
+fn binary(
+    alloc: Global,
+    known: &Known,
+    scope: &Scope,
+    operator: BinaryOperator,
+    own: Span,
+    a: &Expr,
+    b: &Expr,
+    findings: &mut Findings,
+) -> Result<Typing, AllocError>
+    ensures sort { IfOk result (λ t. t.sort ≡ sort_of known.now scope.now (tree.Binary own operator own a.now b.now)) }
+    ensures core { IfOk result (λ t. t.core ≡ core_of known.now scope.now (tree.Binary own operator own a.now b.now)) }
+    ensures first { OnOk result (findings.new.first ≡ first_of findings.old.first (expr_breaches known.now scope.now (tree.Binary own operator own a.now b.now))) }
+{
+    let operation = operation(operator);
+    let left = expression(alloc, known, scope, a, findings)?;
+    let right = expression(alloc, known, scope, b, findings)?;
+    findings.note_if(
+        are_wrong_operands(operation, left.sort, right.sort),
+        Rule::Mismatch,
+        own,
+    );
+    Ok(Typing {
+        sort: operation_sort(operation, left.sort, right.sort),
+        core: operation_core(alloc, operation, own, left, right)?,
+    })
+}
+
+/// Its core expression, from its operands.
+fn operation_core(
+    alloc: Global,
+    operation: Operation,
+    at: Span,
+    a: Typing,
+    b: Typing,
+) -> Result<CoreExpr, AllocError>
+    ensures { IfOk result (λ c. c ≡ operation_core operation at a.sort b.sort a.core b.core) }
+{
+    let (left, right) = match operation {
+        Operation::Computes(_) | Operation::Compares(_) => (
+            settled(a.sort, b.sort, a.core),
+            settled(b.sort, a.sort, b.core),
+        ),
+        Operation::Both | Operation::Either => (a.core, b.core),
+    };
+    let left = Box::new(alloc, left)?;
+    let right = Box::new(alloc, right)?;
+    let node = match operation {
+        Operation::Computes(op) => Node::Compute(op, at, left, right),
+        Operation::Compares(relation) => Node::Compare(relation, left, right),
+        Operation::Both => Node::Both(left, right),
+        Operation::Either => Node::Either(left, right),
+    };
+    Ok(CoreExpr { node })
+}
+
+/// `c ? a : b`
+#[cycle(expression)]
+#[tactic(auto, using(crate::proofs::Steps::first_append))]
+fn choice(
+    alloc: Global,
+    known: &Known,
+    scope: &Scope,
+    own: Span,
+    c: &Expr,
+    a: &Expr,
+    b: &Expr,
+    findings: &mut Findings,
+) -> Result<Typing, AllocError>
+    ensures sort { IfOk result (λ t. t.sort ≡ sort_of known.now scope.now (tree.Choice own own c.now a.now b.now)) }
+    ensures core { IfOk result (λ t. t.core ≡ core_of known.now scope.now (tree.Choice own own c.now a.now b.now)) }
+    ensures first { OnOk result (findings.new.first ≡ first_of findings.old.first (expr_breaches known.now scope.now (tree.Choice own own c.now a.now b.now))) }
+{
+    let condition = expression(alloc, known, scope, c, findings)?;
+    let first = expression(alloc, known, scope, a, findings)?;
+    let second = expression(alloc, known, scope, b, findings)?;
+    findings.note_if(
+        is_wrong_choice(condition.sort, first.sort, second.sort),
+        Rule::Mismatch,
+        own,
+    );
+    Ok(Typing {
+        sort: choice_sort(first.sort, second.sort),
+        core: choice_core(alloc, condition.core, first, second)?,
+    })
+}
+
+/// Its core expression, from its condition and branches.
+fn choice_core(
+    alloc: Global,
+    condition: CoreExpr,
+    a: Typing,
+    b: Typing,
+) -> Result<CoreExpr, AllocError>
+    ensures { IfOk result (λ c. c ≡ choice condition (beside a.sort b.sort a.core) (beside b.sort a.sort b.core)) }
+{
+    let first = settled(a.sort, b.sort, a.core);
+    let second = settled(b.sort, a.sort, b.core);
+    Ok(CoreExpr {
+        node: Node::Choice(
+            Box::new(alloc, condition)?,
+            Box::new(alloc, first)?,
+            Box::new(alloc, second)?,
+        ),
+    })
+}
+
+/// An expression at a place that takes a number.
+#[tactic(auto, using(crate::proofs::Steps::first_append))]
+pub fn number(
+    alloc: Global,
+    known: &Known,
+    scope: &Scope,
+    e: &Expr,
+    findings: &mut Findings,
+) -> Result<Typing, AllocError>
+    ensures sort { IfOk result (λ t. t.sort ≡ sort_of known.now scope.now e.now) }
+    ensures core { IfOk result (λ t. t.core ≡ core_of known.now scope.now e.now) }
+    ensures first { OnOk result (findings.new.first ≡ first_of findings.old.first (number_breaches known.now scope.now e.now)) }
+{
+    let typing = expression(alloc, known, scope, e, findings)?;
+    findings.note_if(is_truth(typing.sort), Rule::Mismatch, span_of(e));
+    Ok(typing)
+}
+
+/// An expression at a place that takes a number no wider than a type.
+#[tactic(auto, using(crate::proofs::Steps::first_append))]
+pub fn fitting(
+    alloc: Global,
+    known: &Known,
+    scope: &Scope,
+    w: Scalar,
+    e: &Expr,
+    findings: &mut Findings,
+) -> Result<Typing, AllocError>
+    ensures sort { IfOk result (λ t. t.sort ≡ sort_of known.now scope.now e.now) }
+    ensures core { IfOk result (λ t. t.core ≡ core_of known.now scope.now e.now) }
+    ensures first { OnOk result (findings.new.first ≡ first_of findings.old.first (fitting_breaches known.now scope.now w e.now)) }
+{
+    let typing = number(alloc, known, scope, e, findings)?;
+    findings.note_if(
+        is_wider(type_alone(typing.sort), w),
+        Rule::Narrowing,
+        span_of(e),
+    );
+    Ok(typing)
+}
+
+/// An expression at a place that takes a truth value.
+#[tactic(auto, using(crate::proofs::Steps::first_append))]
+pub fn truth_value(
+    alloc: Global,
+    known: &Known,
+    scope: &Scope,
+    e: &Expr,
+    findings: &mut Findings,
+) -> Result<CoreExpr, AllocError>
+    ensures core { IfOk result (λ c. c ≡ core_of known.now scope.now e.now) }
+    ensures first { OnOk result (findings.new.first ≡ first_of findings.old.first (truth_breaches known.now scope.now e.now)) }
+{
+    let typing = expression(alloc, known, scope, e, findings)?;
+    findings.note_if(is_number(typing.sort), Rule::Mismatch, span_of(e));
+    Ok(typing.core)
+}
+
+/// A refinement or `where`, where there is one.
+pub fn test(
+    alloc: Global,
+    known: &Known,
+    scope: &Scope,
+    e: &Option<Expr>,
+    findings: &mut Findings,
+) -> Result<Option<CoreExpr>, AllocError>
+    ensures core { IfOk result (λ c. c ≡ option_core known.now scope.now e.now) }
+    ensures first { OnOk result (findings.new.first ≡ first_of findings.old.first (test_breaches known.now scope.now e.now)) }
+{
+    match e {
+        None => Ok(None),
+        Some(e) => Ok(Some(truth_value(alloc, known, scope, e, findings)?)),
+    }
+}
