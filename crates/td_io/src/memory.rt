@@ -1,6 +1,6 @@
 //! A source and a sink in memory, which fail at listed calls.
 
-ghost use Rattle.std.specs.Prelude.{◌≡◌, ◌≤◌, ◌<◌, ◌↔◌, ◌+◌, ◌++◌, [], Some, IfOk, IsTrue, length, vec_len, vec_capacity};
+ghost use Rattle.std.specs.Prelude.{◌≡◌, ◌≤◌, ◌<◌, ◌↔◌, ◌+◌, ◌++◌, [], Some, IfOk, IsOk, IsTrue, length, vec_len, vec_capacity};
 ghost use Rattle.std.specs.List.{Contains};
 ghost use Rattle.std.specs.Io.{ReadsAtMost, WritesAtMost};
 ghost use Rattle.std.specs.Io.KnownBytes.{ReadConsumes, WriteAppends};
@@ -110,12 +110,17 @@ impl Model for MemorySink {
 
 impl MemorySink {
     /// Nothing is written yet, and there is room for `n` bytes. The writes whose numbers are in `fails`, counted from 1,
-    /// will fail. `AllocError`: there was no memory for the room.
+    /// will fail. `AllocError`: there was no memory for the room; never for no room.
     pub fn with_room(alloc: Global, n: usize, fails: Vec<u64>) -> Result<MemorySink, AllocError>
-        ensures { IfOk result (λ s. s ≡ record { written = []; room = n; fails = fails.items; calls = 0; faults = none_yet }) }
+        ensures empty { IfOk result (λ s. s ≡ record { written = []; room = n; fails = fails.items; calls = 0; faults = none_yet }) }
+        ensures memory { n ≡ 0 → IsOk result }
     {
+        let bytes = match n {
+            0 => Vec::new(alloc),
+            _ => Vec::with_capacity(alloc, n)?,
+        };
         Ok(MemorySink {
-            bytes: Vec::with_capacity(alloc, n)?,
+            bytes,
             room: n,
             fails,
             calls: 0,

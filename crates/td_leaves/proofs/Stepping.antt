@@ -5,7 +5,7 @@ use Rattle.std.proofs.lemmas.List.Elements.{Contains-append_left, Contains-appen
 use Rattle.td_stream.specs.declared.load.Load.{Load}
 use Rattle.td_stream.specs.declared.stream.Stream.{Stream}
 use Rattle.td_stream.specs.Loads.{Carries, IsLoaded, Exactly, OnlyTouched}
-use Rattle.td_stream.specs.Held.{Later, Looked}
+use Rattle.td_stream.specs.StreamInvariant.{Later, Looked}
 use Rattle.td_stream.proofs.Places.{look_more, look_nowhere}
 use Rattle.td_core.specs.declared.outcome.TraceFrame.{TraceFrame}
 use Rattle.td_core.specs.declared.outcome.Verdict.{Verdict}
@@ -16,17 +16,17 @@ use Rattle.td_meaning.proofs.Steps.{reading_then}
 use Rattle.td_leaves.specs.Step.{Step, OnlyRead}
 use Rattle.td_leaves.specs.Outcomes.{IsBehaviorOf}
 
-pub later_trans : {W : Type 0} {loads : W → List Load} {goes : W → W → Type 0} → ((u v w : W) → goes u v → goes v w → goes u w) → (r s t : Stream W) → Later loads goes r s → Later loads goes s t → Later loads goes r t
+pub later_trans : {W : Type 0} {loads : W → List Load} {reaches : W → W → Type 0} → ((u v w : W) → reaches u v → reaches v w → reaches u w) → (r s t : Stream W) → Later loads reaches r s → Later loads reaches s t → Later loads reaches r t
 later_trans {W} {loads} on r s t h k = record {
   same_words = k.same_words ∙ h.same_words;
-  went = on r.words.now s.words.now t.words.now h.went k.went;
+  reached = on r.words.now s.words.now t.words.now h.reached k.reached;
   length = k.length ∙ h.length;
   pos = omega (arith, h.pos, k.pos);
   earlier = λ b c. h.earlier b (subst (λ n. Carries n b (loads s.words.now)) h.length (k.earlier b (subst (λ n. Carries n b (loads t.words.now)) (sym h.length) c)));
 }
 
 -- what carries the later loads carries the earlier ones
-pub carried : {W : Type 0} {loads : W → List Load} {goes : W → W → Type 0} (r s t : Stream W) (b : List ℕ) → Later loads goes r s → Later loads goes s t → Carries r.length b (loads t.words.now) → Carries r.length b (loads s.words.now) × Carries s.length b (loads t.words.now)
+pub carried : {W : Type 0} {loads : W → List Load} {reaches : W → W → Type 0} (r s t : Stream W) (b : List ℕ) → Later loads reaches r s → Later loads reaches s t → Carries r.length b (loads t.words.now) → Carries r.length b (loads s.words.now) × Carries s.length b (loads t.words.now)
 carried {W} {loads} r s t b h k c =
     let d = subst (λ n. Carries n b (loads t.words.now)) (sym h.length) c in
     (subst (λ n. Carries n b (loads s.words.now)) h.length (k.earlier b d), d)

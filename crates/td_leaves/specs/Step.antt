@@ -3,7 +3,7 @@ use Rattle.std.specs.Prelude.{◌≡◌, ◌⊎◌, ℕ, List, []}
 use Rattle.td_stream.specs.declared.load.Load.{Load}
 use Rattle.td_stream.specs.declared.stream.Stream.{Stream}
 use Rattle.td_stream.specs.Loads.{IsLoaded, IsTouched}
-use Rattle.td_stream.specs.Held.{Looked}
+use Rattle.td_stream.specs.StreamInvariant.{Looked}
 use Rattle.td_core.specs.declared.module.NameId.{NameId}
 use Rattle.td_core.specs.declared.module.Part.{Part}
 use Rattle.td_core.specs.declared.module.Field.{Field}

@@ -5,7 +5,7 @@ ghost use Rattle.td_num.specs.Numbers.{bytes_in};
 ghost use Rattle.td_core.specs.Outcome.{plain};
 ghost use Rattle.td_meaning.specs.Meaning.{up_to_zero, element_up_to_zero};
 ghost use Rattle.td_meaning.specs.Verdicts.{ending_of, IsAt};
-ghost use Rattle.td_stream.specs.Held.{IsStream, Later, loads_of, length_of, position, end_of};
+ghost use Rattle.td_stream.specs.StreamInvariant.{IsStream, Later, loads_of, length_of, position, end_of};
 ghost use Rattle.td_stream.specs.Loads.{Carries};
 ghost use Rattle.td_leaves.specs.Step.{Step};
 
@@ -33,7 +33,7 @@ pub fn validate_up_to_zero<W: Words>(
     stream: &mut Stream<W>,
 ) -> Verdict
     requires whole { IsStream W.loads W.size stream.old }
-    ensures later { Later W.loads W.goes stream.old stream.new }
+    ensures later { Later W.loads W.reaches stream.old stream.new }
     ensures whole { IsStream W.loads W.size stream.new }
     ensures end { end_of stream.new ≡ end_of stream.old }
     ensures at { IsAt result (position stream.new) [] }
@@ -63,7 +63,7 @@ pub fn validate_zero_ended<W: Words>(
     stream: &mut Stream<W>,
 ) -> Verdict
     requires whole { IsStream W.loads W.size stream.old }
-    ensures later { Later W.loads W.goes stream.old stream.new }
+    ensures later { Later W.loads W.reaches stream.old stream.new }
     ensures whole { IsStream W.loads W.size stream.new }
     ensures end { end_of stream.new ≡ end_of stream.old }
     ensures at { IsAt result (position stream.new) [] }

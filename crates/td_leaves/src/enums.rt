@@ -8,7 +8,7 @@ ghost use Rattle.td_core.specs.Outcome.{plain, and_then};
 ghost use Rattle.td_meaning.specs.Machine.{fields_meaning, listed_meaning};
 ghost use Rattle.td_meaning.specs.Meaning.{Sense, values_of};
 ghost use Rattle.td_meaning.specs.Verdicts.{ending_of, IsAt};
-ghost use Rattle.td_stream.specs.Held.{IsStream, Later, loads_of, length_of, position, end_of};
+ghost use Rattle.td_stream.specs.StreamInvariant.{IsStream, Later, loads_of, length_of, position, end_of};
 ghost use Rattle.td_stream.specs.Loads.{Carries};
 ghost use Rattle.td_leaves.specs.Step.{Step, OnlyRead, rest_meaning};
 
@@ -32,7 +32,7 @@ pub fn validate_listed<W: Words>(
     stream: &mut Stream<W>,
 ) -> Content
     requires whole { IsStream W.loads W.size stream.old }
-    ensures later { Later W.loads W.goes stream.old stream.new }
+    ensures later { Later W.loads W.reaches stream.old stream.new }
     ensures whole { IsStream W.loads W.size stream.new }
     ensures end { end_of stream.new ≡ end_of stream.old }
     ensures at { IsAt result.verdict (position stream.new) [] }
@@ -79,7 +79,7 @@ pub fn validate_listed_field<W: Words>(
     requires empty_trace { trace.old ≡ [] }
     requires number { field.now.element ≡ element.Listed base values }
     requires once { field.now.extent ≡ extent.Once }
-    ensures later { Later W.loads W.goes stream.old stream.new }
+    ensures later { Later W.loads W.reaches stream.old stream.new }
     ensures whole { IsStream W.loads W.size stream.new }
     ensures end { end_of stream.new ≡ end_of stream.old }
     ensures at { IfOk result (λ c. IsAt c.verdict (position stream.new) trace.new) }

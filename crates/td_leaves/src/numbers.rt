@@ -8,7 +8,7 @@ ghost use Rattle.td_meaning.specs.Machine.{fields_meaning};
 ghost use Rattle.td_meaning.specs.Meaning.{Sense, taken};
 ghost use Rattle.td_meaning.specs.Naming.{is_needed};
 ghost use Rattle.td_meaning.specs.Verdicts.{ending_of, IsAt};
-ghost use Rattle.td_stream.specs.Held.{IsStream, Later, loads_of, length_of, position, end_of};
+ghost use Rattle.td_stream.specs.StreamInvariant.{IsStream, Later, loads_of, length_of, position, end_of};
 ghost use Rattle.td_stream.specs.Loads.{Carries};
 ghost use Rattle.td_leaves.specs.Step.{Step, rest_meaning};
 
@@ -25,7 +25,7 @@ use td_stream::words::Words;
 /// Passes over bytes of a field that began at `start`. They must stand before the end.
 pub fn pass<W: Words>(count: u32, start: u32, stream: &mut Stream<W>) -> Verdict
     requires whole { IsStream W.loads W.size stream.old }
-    ensures later { Later W.loads W.goes stream.old stream.new }
+    ensures later { Later W.loads W.reaches stream.old stream.new }
     ensures whole { IsStream W.loads W.size stream.new }
     ensures end { end_of stream.new ≡ end_of stream.old }
     ensures at { IsAt result (position stream.new) [] }
@@ -59,7 +59,7 @@ pub fn validate_number<W: Words>(
     requires number { field.now.element ≡ element.Number number_type }
     requires once { field.now.extent ≡ extent.Once }
     requires needed { read ≡ is_needed (length env.now) field.now.parts later.now }
-    ensures later { Later W.loads W.goes stream.old stream.new }
+    ensures later { Later W.loads W.reaches stream.old stream.new }
     ensures whole { IsStream W.loads W.size stream.new }
     ensures end { end_of stream.new ≡ end_of stream.old }
     ensures at { IfOk result (λ c. IsAt c.verdict (position stream.new) trace.new) }

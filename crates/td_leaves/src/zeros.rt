@@ -4,7 +4,7 @@ ghost use Rattle.std.specs.Prelude.{◌≡◌, ℕ, List, []};
 ghost use Rattle.td_core.specs.Outcome.{plain};
 ghost use Rattle.td_meaning.specs.Meaning.{zeros_meaning};
 ghost use Rattle.td_meaning.specs.Verdicts.{ending_of, IsAt};
-ghost use Rattle.td_stream.specs.Held.{IsStream, Later, loads_of, length_of, position, end_of};
+ghost use Rattle.td_stream.specs.StreamInvariant.{IsStream, Later, loads_of, length_of, position, end_of};
 ghost use Rattle.td_stream.specs.Loads.{Carries};
 ghost use Rattle.td_leaves.specs.Step.{Step};
 
@@ -15,7 +15,7 @@ use td_stream::words::Words;
 /// All bytes up to the end, each of them 0.
 pub fn validate_zeros<W: Words>(stream: &mut Stream<W>) -> Verdict
     requires whole { IsStream W.loads W.size stream.old }
-    ensures later { Later W.loads W.goes stream.old stream.new }
+    ensures later { Later W.loads W.reaches stream.old stream.new }
     ensures whole { IsStream W.loads W.size stream.new }
     ensures end { end_of stream.new ≡ end_of stream.old }
     ensures at { IsAt result (position stream.new) [] }

@@ -89,11 +89,11 @@ impl Words for Planned {
 
     ghost size = { λ p. length p.opening };
 
-    ghost goes = { PlannedReaches };
+    ghost reaches = { PlannedReaches };
 
-    ghost goes_nowhere = { reaches_itself };
+    ghost reaches_itself = { reaches_itself };
 
-    ghost goes_on = { reaches_on };
+    ghost reaches_on = { reaches_on };
 
     ghost same_size = { λ v w p i. length (p.opening i) };
 

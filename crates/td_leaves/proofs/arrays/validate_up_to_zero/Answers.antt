@@ -71,7 +71,7 @@ loop-turn-preserved g c =
     let gone : s.end - s.pos - w ≡ t.end - t.pos = omega (arith, e.pos, e.end) in
     let next : n - 1 ≡ min bound room - (l.turn + 1) = omega arith in
     record {
-      later = later_trans g.met.W.Words.goes_on s0 s t i.later e.later;
+      later = later_trans g.met.W.Words.reaches_on s0 s t i.later e.later;
       whole = e.whole;
       end = e.end ∙ i.end;
       left = subst (λ x. (min bound room - (l.turn + 1)) * w ≤ x) gone fewer.1;

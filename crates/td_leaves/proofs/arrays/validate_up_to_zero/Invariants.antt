@@ -1,14 +1,14 @@
 use Rattle.std.proofs.Common.{◌≡◌, ℕ, ◌+◌, ◌-◌, ◌*◌, ◌≤◌, List, min}
 use Rattle.td_num.specs.Numbers.{bytes_in}
 use Rattle.td_stream.specs.Loads.{Carries}
-use Rattle.td_stream.specs.Held.{IsStream, Later, loads_of, length_of, position, end_of}
+use Rattle.td_stream.specs.StreamInvariant.{IsStream, Later, loads_of, length_of, position, end_of}
 use Rattle.td_meaning.specs.Zeros.{zero_turns}
 use Rattle.td_leaves.specs.Step.{Step}
 use Rattle.td_leaves.proofs.arrays.validate_up_to_zero.Given as goal
 
 abbrev pub invariant-loop-turn : goal.invariant-loop-turn
 invariant-loop-turn g l = record {
-  later : Later g.W.Words.loads g.W.Words.goes l.fn.stream l.stream;
+  later : Later g.W.Words.loads g.W.Words.reaches l.fn.stream l.stream;
   whole : IsStream g.W.Words.loads g.W.Words.size l.stream;
   end : end_of l.stream ≡ end_of l.fn.stream;
   left : (min l.bound l.room - l.turn) * bytes_in l.number_type.width ≤ end_of l.stream - position l.stream;

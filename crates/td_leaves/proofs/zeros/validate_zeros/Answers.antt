@@ -34,7 +34,7 @@ loop-turn-preserved g c =
     let some : s.pos < s.end = omega (arith, i.left, c.loop-turn-test.true) in
     let is : s.end - s.pos ≡ suc (s.end - s.pos - 1) = omega (arith, some) in
     record {
-      later = later_trans g.met.W.Words.goes_on s0 s t i.later e.later;
+      later = later_trans g.met.W.Words.reaches_on s0 s t i.later e.later;
       whole = e.whole;
       end = e.end ∙ i.end;
       left = omega (arith, i.left, e.pos, e.end, some);

@@ -1,13 +1,13 @@
 use Rattle.std.proofs.Common.{◌≡◌, ℕ, ◌+◌, ◌-◌, List}
 use Rattle.td_stream.specs.Loads.{Carries}
-use Rattle.td_stream.specs.Held.{IsStream, Later, loads_of, length_of, position, end_of}
+use Rattle.td_stream.specs.StreamInvariant.{IsStream, Later, loads_of, length_of, position, end_of}
 use Rattle.td_meaning.specs.Meaning.{zeros_meaning}
 use Rattle.td_leaves.specs.Step.{Step}
 use Rattle.td_leaves.proofs.zeros.validate_zeros.Given as goal
 
 abbrev pub invariant-loop-turn : goal.invariant-loop-turn
 invariant-loop-turn g l = record {
-  later : Later g.W.Words.loads g.W.Words.goes l.fn.stream l.stream;
+  later : Later g.W.Words.loads g.W.Words.reaches l.fn.stream l.stream;
   whole : IsStream g.W.Words.loads g.W.Words.size l.stream;
   end : end_of l.stream ≡ end_of l.fn.stream;
   left : l.count - l.turn ≡ end_of l.stream - position l.stream;

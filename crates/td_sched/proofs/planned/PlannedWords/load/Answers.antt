@@ -14,8 +14,8 @@ push_reserved-requires c =
     let i : c.args.i < length c.self.inside.opening.value.items = subst (λ p. c.args.i < length p.opening) (sym c.self.view_is) c.requires.within in
     omega (arith, n, i, c.self.invariant.same_size, c.self.invariant.space)
 
-pub returns-clause-goes : goal.returns-clause-goes
-returns-clause-goes c =
+pub returns-clause-reaches : goal.returns-clause-reaches
+returns-clause-reaches c =
     let s = c.self.inside in
     let plan = subst (λ ys. PlannedInvariant s.opening.value.items s.given.value.items s.words.items ys s.made s.loads.items (vec_capacity s.loads)) (sym c.as_slice.ensures.value) c.self.invariant in
     let now = c.apply_due_stores-self-inside.new.words.items in

@@ -25,17 +25,17 @@ use Rattle.td_needed.specs.Needed.{needed_list}
 use Rattle.td_direct.specs.Arrays.{once_rest}
 use Rattle.td_direct.specs.Passing.{IsPassed, passes_all}
 use Rattle.td_direct.proofs.TypeLemmas.{named_by, definition_by, definition_on, where_by, accepted_at, filled_short, filled_unfit, filled_fit, once_short, once_unfit, once_fit, elements_over, elements_done, elements_on, window_pass, flag_here, flags_next, extended_long}
-use Rattle.td_direct.proofs.types.+types.Goals as goal
+use Rattle.td_direct.proofs.+types.Goals as goal
 
-pub validate_named-returns-then-place-bound-clause-step : goal.validate_named-returns-then-place-bound-clause-step
-validate_named-returns-then-place-bound-clause-step g t c = λ b h.
+pub types::validate_named-returns-then-place-bound-clause-step : goal.types::validate_named-returns-then-place-bound-clause-step
+types::validate_named-returns-then-place-bound-clause-step g t c = λ b h.
     let a = c.args in
     let s = a.stream.now in
     step_from s s _ _ _ (below_past a.types.now.module.now.listed a.types.now.module.now.definitions a.bound a.place a.args.now a.places.now a.cells.now b s.pos s.end (omega (arith, c.if-place-bound.true)))
     (step_to s s _ _ _ (step_still s s (rejected Impossible s.pos a.cells.now) refl) (λ k. plain (Rejected Impossible (sym c.pos.ensures k) (sym c.requires.empty_trace k) a.cells.now)))
 
-pub validate_named-returns-in_ok-validate_definition-in-Some-clause-step : goal.validate_named-returns-in_ok-validate_definition-in-Some-clause-step
-validate_named-returns-in_ok-validate_definition-in-Some-clause-step g t c = λ b h.
+pub types::validate_named-returns-in_ok-validate_definition-in-Some-clause-step : goal.types::validate_named-returns-in_ok-validate_definition-in-Some-clause-step
+types::validate_named-returns-in_ok-validate_definition-in-Some-clause-step g t c = λ b h.
     let a = c.args in
     let s = a.stream.now in
     let it : slice_get a.types.now.module.now.definitions a.place ≡ Some c.in-Some.definition.now = grind (arith, common_steps, gets) in
@@ -43,8 +43,8 @@ validate_named-returns-in_ok-validate_definition-in-Some-clause-step g t c = λ 
     let n = c.validate_definition.new.stream in
     step_from s n _ _ _ is (c.in_ok-validate_definition-in-Some.ensures.step b h)
 
-pub validate_named-returns-in_err-validate_definition-in-Some-clause-only : goal.validate_named-returns-in_err-validate_definition-in-Some-clause-only
-validate_named-returns-in_err-validate_definition-in-Some-clause-only g t c = let p = err_from_is_err_and c.from_residual.result c.from_residual.ensures.1 in rw p.1 (λ b h.
+pub types::validate_named-returns-in_err-validate_definition-in-Some-clause-only : goal.types::validate_named-returns-in_err-validate_definition-in-Some-clause-only
+types::validate_named-returns-in_err-validate_definition-in-Some-clause-only g t c = let p = err_from_is_err_and c.from_residual.result c.from_residual.ensures.1 in rw p.1 (λ b h.
     let a = c.args in
     let s = a.stream.now in
     let it : slice_get a.types.now.module.now.definitions a.place ≡ Some c.in-Some.definition.now = grind (arith, common_steps, gets) in
@@ -52,8 +52,8 @@ validate_named-returns-in_err-validate_definition-in-Some-clause-only g t c = le
     let n = c.validate_definition.new.stream in
     only_from g.W.Words.loads s n _ _ is (c.in_err-validate_definition-in-Some.ensures.only b h))
 
-pub validate_named-returns-in-None-clause-step : goal.validate_named-returns-in-None-clause-step
-validate_named-returns-in-None-clause-step g t c = λ b h.
+pub types::validate_named-returns-in-None-clause-step : goal.types::validate_named-returns-in-None-clause-step
+types::validate_named-returns-in-None-clause-step g t c = λ b h.
     let a = c.args in
     let s = a.stream.now in
     let it : slice_get a.types.now.module.now.definitions a.place ≡ None = grind (arith, common_steps, gets) in
@@ -61,16 +61,16 @@ validate_named-returns-in-None-clause-step g t c = λ b h.
     step_from s s _ _ _ is
     (step_to s s _ _ _ (step_still s s (rejected Impossible s.pos a.cells.now) refl) (λ k. plain (Rejected Impossible (sym c.pos-in-None.ensures k) (sym c.requires.empty_trace k) a.cells.now)))
 
-pub validate_definition-returns-in-Reject-clause-step : goal.validate_definition-returns-in-Reject-clause-step
-validate_definition-returns-in-Reject-clause-step g t c = λ b h.
+pub types::validate_definition-returns-in-Reject-clause-step : goal.types::validate_definition-returns-in-Reject-clause-step
+types::validate_definition-returns-in-Reject-clause-step g t c = λ b h.
     let a = c.args in
     let s = a.stream.now in
     let d = a.definition.now in
     let met = where_by d.name _ c.is_met.result c.pos-start.result s.pos c.demand-guard.result c.in_ok-framed.field-0 a.trace.now c.framed.new.trace a.cells.now c.is_met.ensures c.pos-start.ensures c.requires.empty_trace (c.demand-guard.ensures.ending a.cells.now) (c.in_ok-framed.ensures.ending a.cells.now) in
     record { seen = []; looked = look_nowhere s s refl; is = definition_by a.types.now.module.now.listed (below a.types.now.module.now.listed a.types.now.module.now.definitions a.bound) d a.args.now a.places.now a.cells.now b s.pos s.end _ met ∙ ap (λ (v : Verdict). and_then (plain (ending_of v c.framed.new.trace a.cells.now)) (chosen_meaning a.types.now.module.now.listed (below a.types.now.module.now.listed a.types.now.module.now.definitions a.bound) d.name (body_fields d.body a.args.now) a.args.now a.places.now b s.end)) c.in-Reject.is }
 
-pub validate_definition-returns-in_err-validate_fields-in-Some-clause-only : goal.validate_definition-returns-in_err-validate_fields-in-Some-clause-only
-validate_definition-returns-in_err-validate_fields-in-Some-clause-only g t c = let p = err_from_is_err_and c.from_residual-in_err-validate_fields-in-Some.result c.from_residual-in_err-validate_fields-in-Some.ensures.1 in rw p.1 (λ b h.
+pub types::validate_definition-returns-in_err-validate_fields-in-Some-clause-only : goal.types::validate_definition-returns-in_err-validate_fields-in-Some-clause-only
+types::validate_definition-returns-in_err-validate_fields-in-Some-clause-only g t c = let p = err_from_is_err_and c.from_residual-in_err-validate_fields-in-Some.result c.from_residual-in_err-validate_fields-in-Some.ensures.1 in rw p.1 (λ b h.
     let a = c.args in
     let s = a.stream.now in
     let d = a.definition.now in
@@ -83,8 +83,8 @@ validate_definition-returns-in_err-validate_fields-in-Some-clause-only g t c = l
     let same : a.args.now ≡ env = sym c.in_ok-env-in-Some.ensures.items in
     only_from g.W.Words.loads s n _ _ (is ∙ (λ k. fields_meaning a.types.now.module.now.listed (below a.types.now.module.now.listed a.types.now.module.now.definitions a.bound) d.name (sym c.as_slice-in-Some.ensures k) (same k) a.places.now b s.end s.pos a.cells.now)) (c.in_err-validate_fields-in-Some.ensures.only b h))
 
-pub validate_elements-loop-turn-init : goal.validate_elements-loop-turn-init
-validate_elements-loop-turn-init g t c =
+pub arrays::validate_elements-loop-turn-init : goal.arrays::validate_elements-loop-turn-init
+arrays::validate_elements-loop-turn-init g t c =
     let a = c.args in
     let s = a.stream.now in
     record {
@@ -98,8 +98,8 @@ validate_elements-loop-turn-init g t c =
           step_to s s _ _ _ (step_still s s (elements each (suc (s.end - s.pos)) a.start s.end s.pos a.cells.now) refl) (ap (λ m. elements each m a.start s.end s.pos a.cells.now) same);
     }
 
-pub validate_elements-returns-then-pos-end-clause-step : goal.validate_elements-returns-then-pos-end-clause-step
-validate_elements-returns-then-pos-end-clause-step g t c = λ b h.
+pub arrays::validate_elements-returns-then-pos-end-clause-step : goal.arrays::validate_elements-returns-then-pos-end-clause-step
+arrays::validate_elements-returns-then-pos-end-clause-step g t c = λ b h.
     let a = c.args in
     let s0 = a.stream.now in
     let l = c.loop-turn in
@@ -112,8 +112,8 @@ validate_elements-returns-then-pos-end-clause-step g t c = λ b h.
     let at : s.pos ≡ s0.end = sym c.pos-in-loop-turn.ensures ∙ c.if-pos-end.true ∙ c.end-in-loop-turn.ensures ∙ i.end in
     step_to s0 s _ _ _ (i.step b h) (elements_done each full more a.start s0.end s.pos l.cells is at ∙ (λ k. accepted (sym c.pos-then-pos-end.ensures k) l.cells))
 
-pub validate_elements-returns-in-Reject-clause-step : goal.validate_elements-returns-in-Reject-clause-step
-validate_elements-returns-in-Reject-clause-step g t c = λ b h.
+pub arrays::validate_elements-returns-in-Reject-clause-step : goal.arrays::validate_elements-returns-in-Reject-clause-step
+arrays::validate_elements-returns-in-Reject-clause-step g t c = λ b h.
     let a = c.args in
     let s0 = a.stream.now in
     let l = c.loop-turn in
@@ -133,8 +133,8 @@ validate_elements-returns-in-Reject-clause-step g t c = λ b h.
     step_to s0 n _ _ _ (step_trans s0 s n _ _ _ (i.step b both.0) (step_from s n _ _ _ on (step_then s n (each s.pos l.cells) o (elements each more a.start s0.end) step)))
     (ap (λ (v : Verdict). and_then (plain (ending_of v c.validate_element.new.trace c.validate_element.new.cells)) (elements each more a.start s0.end)) c.in-Reject.is)
 
-pub validate_elements-returns-in_err-validate_element-clause-only : goal.validate_elements-returns-in_err-validate_element-clause-only
-validate_elements-returns-in_err-validate_element-clause-only g t c = let p = err_from_is_err_and c.from_residual.result c.from_residual.ensures.1 in rw p.1 (λ b h.
+pub arrays::validate_elements-returns-in_err-validate_element-clause-only : goal.arrays::validate_elements-returns-in_err-validate_element-clause-only
+arrays::validate_elements-returns-in_err-validate_element-clause-only g t c = let p = err_from_is_err_and c.from_residual.result c.from_residual.ensures.1 in rw p.1 (λ b h.
     let a = c.args in
     let s0 = a.stream.now in
     let l = c.loop-turn in
@@ -151,8 +151,8 @@ validate_elements-returns-in_err-validate_element-clause-only g t c = let p = er
     let on = elements_on each full more a.start s0.end s.pos l.cells is apart in
     only_after s0 s n _ _ (i.step b both.0) (only_from g.W.Words.loads s n _ _ on (only_then g.W.Words.loads s n (each s.pos l.cells) (elements each more a.start s0.end) (only_from g.W.Words.loads s n _ _ ends (c.in_err-validate_element.ensures.only b both.1)))))
 
-pub validate_elements-loop-turn-preserved : goal.validate_elements-loop-turn-preserved
-validate_elements-loop-turn-preserved g t c =
+pub arrays::validate_elements-loop-turn-preserved : goal.arrays::validate_elements-loop-turn-preserved
+arrays::validate_elements-loop-turn-preserved g t c =
     let a = c.args in
     let s0 = a.stream.now in
     let l = c.loop-turn in
@@ -166,7 +166,7 @@ validate_elements-loop-turn-preserved g t c =
     let at = accepted_at c.in_ok-validate_element.field-0 c.in-Accept.pos n.pos c.validate_element.new.trace c.in-Accept.is e.at in
     let fewer : more ≡ suc (s0.end - s0.pos) - (l.turn + 1) = omega arith in
     record {
-      later = later_trans g.met.W.Words.goes_on s0 s n i.later c.validate_element.ensures.later;
+      later = later_trans g.met.W.Words.reaches_on s0 s n i.later c.validate_element.ensures.later;
       whole = c.validate_element.ensures.whole;
       end = e.end ∙ i.end;
       empty_trace = at.1;
@@ -183,8 +183,8 @@ validate_elements-loop-turn-preserved g t c =
           ∙ (λ k. elements each (fewer k) a.start s0.end (at.0 k) c.validate_element.new.cells));
     }
 
-pub validate_field-returns-in_err-content-clause-only : goal.validate_field-returns-in_err-content-clause-only
-validate_field-returns-in_err-content-clause-only g t c = let p = err_from_is_err_and c.from_residual.result c.from_residual.ensures.1 in rw p.1 (λ b h.
+pub fields::validate_field-returns-in_err-content-clause-only : goal.fields::validate_field-returns-in_err-content-clause-only
+fields::validate_field-returns-in_err-content-clause-only g t c = let p = err_from_is_err_and c.from_residual.result c.from_residual.ensures.1 in rw p.1 (λ b h.
     let a = c.args in
     let s = a.stream.now in
     let n = c.validate_content.new.stream in
@@ -193,8 +193,8 @@ validate_field-returns-in_err-content-clause-only g t c = let p = err_from_is_er
     let same = ap (λ vs. fields_meaning a.types.now.module.now.listed (below a.types.now.module.now.listed a.types.now.module.now.definitions a.bound) a.ty (f ∷ a.later.now) vs a.places.now b s.end s.pos a.cells.now) (sym c.as_slice.ensures.value) in
     only_from g.W.Words.loads s n _ _ same (c.in_err-content.ensures.only b h))
 
-pub validate_field-returns-in_err-check_parts-in-Accept-clause-only : goal.validate_field-returns-in_err-check_parts-in-Accept-clause-only
-validate_field-returns-in_err-check_parts-in-Accept-clause-only g t c = let p = err_from_is_err_and c.from_residual-in_err-check_parts-in-Accept.result c.from_residual-in_err-check_parts-in-Accept.ensures.1 in rw p.1 (λ b h.
+pub fields::validate_field-returns-in_err-check_parts-in-Accept-clause-only : goal.fields::validate_field-returns-in_err-check_parts-in-Accept-clause-only
+fields::validate_field-returns-in_err-check_parts-in-Accept-clause-only g t c = let p = err_from_is_err_and c.from_residual-in_err-check_parts-in-Accept.result c.from_residual-in_err-check_parts-in-Accept.ensures.1 in rw p.1 (λ b h.
     let a = c.args in
     let s = a.stream.now in
     let n = c.validate_content.new.stream in
@@ -203,8 +203,8 @@ validate_field-returns-in_err-check_parts-in-Accept-clause-only g t c = let p = 
     let same = ap (λ vs. fields_meaning a.types.now.module.now.listed (below a.types.now.module.now.listed a.types.now.module.now.definitions a.bound) a.ty (f ∷ a.later.now) vs a.places.now b s.end s.pos a.cells.now) (sym c.as_slice.ensures.value) in
     only_from g.W.Words.loads s n _ _ same (step_only s n _ _ (c.in_ok-content.ensures.step b h)))
 
-pub validate_fields-returns-in-Reject-clause-step : goal.validate_fields-returns-in-Reject-clause-step
-validate_fields-returns-in-Reject-clause-step g t c = λ b h.
+pub fields::validate_fields-returns-in-Reject-clause-step : goal.fields::validate_fields-returns-in-Reject-clause-step
+fields::validate_fields-returns-in-Reject-clause-step g t c = λ b h.
     let a = c.args in
     let s0 = a.stream.now in
     let l = c.fields in
@@ -223,8 +223,8 @@ validate_fields-returns-in-Reject-clause-step g t c = λ b h.
     let left = λ (v : Verdict). and_then (plain (ending_of v c.validate_field.new.trace c.validate_field.new.cells)) (fields_meaning sets senses a.ty later c.validate_field.new.env.items a.places.now b s.end) in
     step_to s0 n _ _ _ (step_trans s0 s n _ _ _ (i.step b both.0) (step_from s n _ _ _ on (c.in_ok-validate_field.ensures.step b both.1))) (ap left c.in-Reject.is)
 
-pub validate_fields-returns-in_err-validate_field-clause-only : goal.validate_fields-returns-in_err-validate_field-clause-only
-validate_fields-returns-in_err-validate_field-clause-only g t c = let p = err_from_is_err_and c.from_residual.result c.from_residual.ensures.1 in rw p.1 (λ b h.
+pub fields::validate_fields-returns-in_err-validate_field-clause-only : goal.fields::validate_fields-returns-in_err-validate_field-clause-only
+fields::validate_fields-returns-in_err-validate_field-clause-only g t c = let p = err_from_is_err_and c.from_residual.result c.from_residual.ensures.1 in rw p.1 (λ b h.
     let a = c.args in
     let s0 = a.stream.now in
     let l = c.fields in
@@ -242,8 +242,8 @@ validate_fields-returns-in_err-validate_field-clause-only g t c = let p = err_fr
     let on : fields_meaning sets senses a.ty (drop l.i fields) env a.places.now b s0.end s.pos l.cells ≡ fields_meaning sets senses a.ty (f ∷ later) env a.places.now b s.end s.pos l.cells = λ k. fields_meaning sets senses a.ty (split k) env a.places.now b (sym i.end k) s.pos l.cells in
     only_after s0 s n _ _ (i.step b both.0) (only_from g.W.Words.loads s n _ _ on (c.in_err-validate_field.ensures.only b both.1)))
 
-pub validate_fields-fields-preserved : goal.validate_fields-fields-preserved
-validate_fields-fields-preserved g t c =
+pub fields::validate_fields-fields-preserved : goal.fields::validate_fields-fields-preserved
+fields::validate_fields-fields-preserved g t c =
     let a = c.args in
     let s0 = a.stream.now in
     let l = c.fields in
@@ -260,7 +260,7 @@ validate_fields-fields-preserved g t c =
     let e = c.in_ok-validate_field.ensures in
     let at = accepted_at c.in_ok-validate_field.field-0 c.in-Accept.pos n.pos c.validate_field.new.trace c.in-Accept.is e.at in
     record {
-      later = later_trans g.met.W.Words.goes_on s0 s n i.later c.validate_field.ensures.later;
+      later = later_trans g.met.W.Words.reaches_on s0 s n i.later c.validate_field.ensures.later;
       whole = c.validate_field.ensures.whole;
       end = e.end ∙ i.end;
       empty_trace = at.1;
@@ -273,8 +273,8 @@ validate_fields-fields-preserved g t c =
           (ap left c.in-Accept.is ∙ (λ k. fields_meaning sets senses a.ty (c.after.ensures k) c.validate_field.new.env.items a.places.now b (i.end k) (at.0 k) c.validate_field.new.cells));
     }
 
-pub validate_fields-returns-clause-step : goal.validate_fields-returns-clause-step
-validate_fields-returns-clause-step g t c = λ b h.
+pub fields::validate_fields-returns-clause-step : goal.fields::validate_fields-returns-clause-step
+fields::validate_fields-returns-clause-step g t c = λ b h.
     let a = c.args in
     let s0 = a.stream.now in
     let l = c.fields in
@@ -290,8 +290,8 @@ validate_fields-returns-clause-step g t c = λ b h.
     ∙ fields_none sets senses a.ty env a.places.now b s0.end s.pos l.cells
     ∙ (λ k. plain (ending_of (Accept (sym c.pos.ensures k)) (sym i.empty_trace k) l.cells)))
 
-pub validate_plain-returns-clause-step : goal.validate_plain-returns-clause-step
-validate_plain-returns-clause-step g t c = λ b h.
+pub fields::validate_plain-returns-clause-step : goal.fields::validate_plain-returns-clause-step
+fields::validate_plain-returns-clause-step g t c = λ b h.
     let a = c.args in
     let s = a.stream.now in
     let n = c.validate_shape.new.stream in
@@ -306,8 +306,8 @@ validate_plain-returns-clause-step g t c = λ b h.
     let framed = c.in_ok-framed.ensures.ending cells ∙ (λ k. ending_within (frame_place a.ty (Field (name k)) (c.pos-start.ensures k)) (ending_of v c.validate_shape.new.trace cells)) in
     step_from s n _ _ _ is (step_to s n _ _ _ (step_then s n (within site shape) (ending_within site (ending_of v c.validate_shape.new.trace cells)) rest (step_within s n site shape (ending_of v c.validate_shape.new.trace cells) (c.in_ok-verdict.ensures.step b h))) (ap (λ (e : Ending). and_then (plain e) rest) (sym framed)))
 
-pub validate_plain-returns-in_err-framed-clause-only : goal.validate_plain-returns-in_err-framed-clause-only
-validate_plain-returns-in_err-framed-clause-only g t c = let p = err_from_is_err_and c.from_residual-in_err-framed.result c.from_residual-in_err-framed.ensures.1 in rw p.1 (λ b h.
+pub fields::validate_plain-returns-in_err-framed-clause-only : goal.fields::validate_plain-returns-in_err-framed-clause-only
+fields::validate_plain-returns-in_err-framed-clause-only g t c = let p = err_from_is_err_and c.from_residual-in_err-framed.result c.from_residual-in_err-framed.ensures.1 in rw p.1 (λ b h.
     let a = c.args in
     let s = a.stream.now in
     let n = c.validate_shape.new.stream in
@@ -318,8 +318,8 @@ validate_plain-returns-in_err-framed-clause-only g t c = let p = err_from_is_err
     let is = plain_by a.types.now.module.now.listed (below a.types.now.module.now.listed a.types.now.module.now.definitions a.bound) a.ty f a.later.now a.env.now a.places.now b s.end s.pos a.cells.now c.requires.none in
     only_from g.W.Words.loads s n _ _ is (only_then g.W.Words.loads s n (within site shape) rest (step_only s n shape _ (c.in_ok-verdict.ensures.step b h))))
 
-pub validate_plain-returns-in_err-verdict-clause-only : goal.validate_plain-returns-in_err-verdict-clause-only
-validate_plain-returns-in_err-verdict-clause-only g t c = let p = err_from_is_err_and c.from_residual.result c.from_residual.ensures.1 in rw p.1 (λ b h.
+pub fields::validate_plain-returns-in_err-verdict-clause-only : goal.fields::validate_plain-returns-in_err-verdict-clause-only
+fields::validate_plain-returns-in_err-verdict-clause-only g t c = let p = err_from_is_err_and c.from_residual.result c.from_residual.ensures.1 in rw p.1 (λ b h.
     let a = c.args in
     let s = a.stream.now in
     let n = c.validate_shape.new.stream in
@@ -330,14 +330,14 @@ validate_plain-returns-in_err-verdict-clause-only g t c = let p = err_from_is_er
     let is = plain_by a.types.now.module.now.listed (below a.types.now.module.now.listed a.types.now.module.now.definitions a.bound) a.ty f a.later.now a.env.now a.places.now b s.end s.pos a.cells.now c.requires.none in
     only_from g.W.Words.loads s n _ _ is (only_then g.W.Words.loads s n (within site shape) rest (c.in_err-verdict.ensures.only b h)))
 
-pub validate_element-returns-in-Unit-clause-step : goal.validate_element-returns-in-Unit-clause-step
-validate_element-returns-in-Unit-clause-step g t c = λ b h.
+pub elements::validate_element-returns-in-Unit-clause-step : goal.elements::validate_element-returns-in-Unit-clause-step
+elements::validate_element-returns-in-Unit-clause-step g t c = λ b h.
     let a = c.args in
     let s = a.stream.now in
     record { seen = []; looked = look_nowhere s s refl; is = ap (λ (x : Element). element_meaning a.types.now.module.now.listed (below a.types.now.module.now.listed a.types.now.module.now.definitions a.bound) x a.env.now a.places.now b a.start s.end s.pos a.cells.now) c.in-Unit.is ∙ (λ k. plain (ending_of (Accept (sym c.pos.ensures k)) (sym c.requires.empty_trace k) a.cells.now)) }
 
-pub validate_element-returns-in_err-validate_named-in-Named-clause-only : goal.validate_element-returns-in_err-validate_named-in-Named-clause-only
-validate_element-returns-in_err-validate_named-in-Named-clause-only g t c = let p = err_from_is_err_and c.from_residual-in_err-validate_named-in-Named.result c.from_residual-in_err-validate_named-in-Named.ensures.1 in rw p.1 (λ b h.
+pub elements::validate_element-returns-in_err-validate_named-in-Named-clause-only : goal.elements::validate_element-returns-in_err-validate_named-in-Named-clause-only
+elements::validate_element-returns-in_err-validate_named-in-Named-clause-only g t c = let p = err_from_is_err_and c.from_residual-in_err-validate_named-in-Named.result c.from_residual-in_err-validate_named-in-Named.ensures.1 in rw p.1 (λ b h.
     let a = c.args in
     let s = a.stream.now in
     let n = c.validate_named.new.stream in
@@ -347,8 +347,8 @@ validate_element-returns-in_err-validate_named-in-Named-clause-only g t c = let 
     let cells : map (slice_index a.places.now) own ≡ c.as_slice-in-Named-4.result.now = (λ k. map (slice_index a.places.now) (sym c.as_slice-in-Named-2.ensures k)) ∙ sym c.in_ok-own-in-Named.ensures ∙ sym c.as_slice-in-Named-4.ensures.value in
     only_from g.W.Words.loads s n _ _ (ap (λ (x : Element). element_meaning a.types.now.module.now.listed (below a.types.now.module.now.listed a.types.now.module.now.definitions a.bound) x a.env.now a.places.now b a.start s.end s.pos a.cells.now) c.in-Named.is ∙ (λ k. below a.types.now.module.now.listed a.types.now.module.now.definitions a.bound c.in-Named.definition (args k) (cells k) a.cells.now b s.pos s.end)) (c.in_err-validate_named-in-Named.ensures.only b h))
 
-pub validate_element-returns-in_ok-validate_named-in-Named-clause-step : goal.validate_element-returns-in_ok-validate_named-in-Named-clause-step
-validate_element-returns-in_ok-validate_named-in-Named-clause-step g t c = λ b h.
+pub elements::validate_element-returns-in_ok-validate_named-in-Named-clause-step : goal.elements::validate_element-returns-in_ok-validate_named-in-Named-clause-step
+elements::validate_element-returns-in_ok-validate_named-in-Named-clause-step g t c = λ b h.
     let a = c.args in
     let s = a.stream.now in
     let n = c.validate_named.new.stream in
@@ -358,8 +358,8 @@ validate_element-returns-in_ok-validate_named-in-Named-clause-step g t c = λ b 
     let cells : map (slice_index a.places.now) own ≡ c.as_slice-in-Named-4.result.now = (λ k. map (slice_index a.places.now) (sym c.as_slice-in-Named-2.ensures k)) ∙ sym c.in_ok-own-in-Named.ensures ∙ sym c.as_slice-in-Named-4.ensures.value in
     step_from s n _ _ _ (ap (λ (x : Element). element_meaning a.types.now.module.now.listed (below a.types.now.module.now.listed a.types.now.module.now.definitions a.bound) x a.env.now a.places.now b a.start s.end s.pos a.cells.now) c.in-Named.is ∙ (λ k. below a.types.now.module.now.listed a.types.now.module.now.definitions a.bound c.in-Named.definition (args k) (cells k) a.cells.now b s.pos s.end)) (c.in_ok-validate_named-in-Named.ensures.step b h)
 
-pub validate_elements-returns-clause-step : goal.validate_elements-returns-clause-step
-validate_elements-returns-clause-step g t c = λ b h.
+pub arrays::validate_elements-returns-clause-step : goal.arrays::validate_elements-returns-clause-step
+arrays::validate_elements-returns-clause-step g t c = λ b h.
     let a = c.args in
     let s0 = a.stream.now in
     let l = c.loop-turn in
@@ -370,31 +370,31 @@ validate_elements-returns-clause-step g t c = λ b h.
     let none : full ≡ 0 = omega (arith, c.loop-turn-test.false, c.end.ensures, c.pos.ensures) in
     step_to s0 s _ _ _ (i.step b h) (elements_over each full a.start s0.end s.pos l.cells none ∙ (λ k. demanded ListSize (nat_eq (sym c.pos-pos.ensures k) (sym (c.end-2.ensures ∙ i.end) k)) a.start (sym c.pos-pos.ensures k) l.cells) ∙ c.demand.ensures.ending l.cells ∙ (λ k. plain (ending_of c.demand.result (sym i.empty_trace k) l.cells)))
 
-pub validate_single-returns-in_err-pos-clause-only : goal.validate_single-returns-in_err-pos-clause-only
-validate_single-returns-in_err-pos-clause-only g t c = let p = err_from_is_err_and c.from_residual.result c.from_residual.ensures.1 in rw p.1 (λ b h.
+pub arrays::validate_single-returns-in_err-pos-clause-only : goal.arrays::validate_single-returns-in_err-pos-clause-only
+arrays::validate_single-returns-in_err-pos-clause-only g t c = let p = err_from_is_err_and c.from_residual.result c.from_residual.ensures.1 in rw p.1 (λ b h.
     let a = c.args in
     let s = a.stream.now in
     let n = c.validate_element.new.stream in
     only_then g.W.Words.loads s n (element_meaning a.types.now.module.now.listed (below a.types.now.module.now.listed a.types.now.module.now.definitions a.bound) a.element.now a.env.now a.places.now b a.start s.end s.pos a.cells.now) (once_rest a.start s.end) (c.in_err-pos.ensures.only b h))
 
-pub validate_filling-returns-then-size-end-clause-step : goal.validate_filling-returns-then-size-end-clause-step
-validate_filling-returns-then-size-end-clause-step g t c = λ b h.
+pub arrays::validate_filling-returns-then-size-end-clause-step : goal.arrays::validate_filling-returns-then-size-end-clause-step
+arrays::validate_filling-returns-then-size-end-clause-step g t c = λ b h.
     let a = c.args in
     let s = a.stream.now in
     let each = element_meaning a.types.now.module.now.listed (below a.types.now.module.now.listed a.types.now.module.now.definitions a.bound) a.element.now a.env.now a.places.now b s.pos in
     let less : s.end < s.pos + a.size = omega (arith, c.if-size-end.true, c.pos-pos.ensures, c.end-end.ensures, c.requires.whole.within) in
     record { seen = []; looked = look_nowhere s s refl; is = filled_short each a.step a.size s.end s.pos a.cells.now less ∙ (λ k. plain (Rejected NotEnough (sym c.pos-pos.ensures k) (sym c.requires.empty_trace k) a.cells.now)) }
 
-pub validate_once-returns-then-size-end-clause-step : goal.validate_once-returns-then-size-end-clause-step
-validate_once-returns-then-size-end-clause-step g t c = λ b h.
+pub arrays::validate_once-returns-then-size-end-clause-step : goal.arrays::validate_once-returns-then-size-end-clause-step
+arrays::validate_once-returns-then-size-end-clause-step g t c = λ b h.
     let a = c.args in
     let s = a.stream.now in
     let each = element_meaning a.types.now.module.now.listed (below a.types.now.module.now.listed a.types.now.module.now.definitions a.bound) a.element.now a.env.now a.places.now b s.pos in
     let less : s.end < s.pos + a.size = omega (arith, c.if-size-end.true, c.pos-pos.ensures, c.end-end.ensures, c.requires.whole.within) in
     record { seen = []; looked = look_nowhere s s refl; is = once_short each a.step a.size s.end s.pos a.cells.now less ∙ (λ k. plain (Rejected NotEnough (sym c.pos-pos.ensures k) (sym c.requires.empty_trace k) a.cells.now)) }
 
-pub validate_filling-returns-then-passes_all-clause-step : goal.validate_filling-returns-then-passes_all-clause-step
-validate_filling-returns-then-passes_all-clause-step g t c = λ b h.
+pub arrays::validate_filling-returns-then-passes_all-clause-step : goal.arrays::validate_filling-returns-then-passes_all-clause-step
+arrays::validate_filling-returns-then-passes_all-clause-step g t c = λ b h.
     let a = c.args in
     let s = a.stream.now in
     let each = element_meaning a.types.now.module.now.listed (below a.types.now.module.now.listed a.types.now.module.now.definitions a.bound) a.element.now a.env.now a.places.now b s.pos in
@@ -405,8 +405,8 @@ validate_filling-returns-then-passes_all-clause-step g t c = λ b h.
     let at : s.pos + a.size ≡ c.pos.result = sym (c.pos.ensures ∙ c.skip.ensures.pos) in
     record { seen = []; looked = c.skip.ensures.looked; is = filled_fit each a.step a.size s.end s.pos a.cells.now long good ∙ over ∙ (λ k. plain (ending_of (Accept (at k)) (sym c.requires.empty_trace k) a.cells.now)) }
 
-pub validate_filling-returns-clause-step : goal.validate_filling-returns-clause-step
-validate_filling-returns-clause-step g t c = λ b h.
+pub arrays::validate_filling-returns-clause-step : goal.arrays::validate_filling-returns-clause-step
+arrays::validate_filling-returns-clause-step g t c = λ b h.
     let a = c.args in
     let s = a.stream.now in
     let each = element_meaning a.types.now.module.now.listed (below a.types.now.module.now.listed a.types.now.module.now.definitions a.bound) a.element.now a.env.now a.places.now b s.pos in
@@ -420,13 +420,13 @@ validate_filling-returns-clause-step g t c = λ b h.
     let size : a.size ≡ r.end - r.pos = omega (arith, c.narrow.ensures.end, c.narrow.ensures.pos) in
     let into = step_from {loads = g.W.Words.loads} s r _ _ _ (filled_fit each a.step a.size s.end s.pos a.cells.now long good ∙ (λ k. elements (element_meaning a.types.now.module.now.listed (below a.types.now.module.now.listed a.types.now.module.now.definitions a.bound) a.element.now a.env.now a.places.now b (st k) (ends k)) (suc (size k)) (st k) (ends k) (at k) a.cells.now)) (step_still s r _ c.narrow.ensures.same_words) in
     let u = c.widen.new.self in
-    let on = later_trans g.met.W.Words.goes_on s r n c.narrow.ensures.later c.validate_elements.ensures.later in
+    let on = later_trans g.met.W.Words.reaches_on s r n c.narrow.ensures.later c.validate_elements.ensures.later in
     let first = carried s n u b on c.widen.ensures.later h in
     let both = carried s r n b c.narrow.ensures.later c.validate_elements.ensures.later first.0 in
     step_trans s r u _ _ _ into (step_trans r n u _ _ _ (c.in_ok-verdict.ensures.step b both.1) (step_still n u _ c.widen.ensures.same_words))
 
-pub validate_filling-returns-in_err-verdict-clause-only : goal.validate_filling-returns-in_err-verdict-clause-only
-validate_filling-returns-in_err-verdict-clause-only g t c = let p = err_from_is_err_and c.from_residual.result c.from_residual.ensures.1 in rw p.1 (λ b h.
+pub arrays::validate_filling-returns-in_err-verdict-clause-only : goal.arrays::validate_filling-returns-in_err-verdict-clause-only
+arrays::validate_filling-returns-in_err-verdict-clause-only g t c = let p = err_from_is_err_and c.from_residual.result c.from_residual.ensures.1 in rw p.1 (λ b h.
     let a = c.args in
     let s = a.stream.now in
     let each = element_meaning a.types.now.module.now.listed (below a.types.now.module.now.listed a.types.now.module.now.definitions a.bound) a.element.now a.env.now a.places.now b s.pos in
@@ -442,8 +442,8 @@ validate_filling-returns-in_err-verdict-clause-only g t c = let p = err_from_is_
     let both = carried s r n b c.narrow.ensures.later c.validate_elements.ensures.later h in
     only_after s r n _ _ into (c.in_err-verdict.ensures.only b both.1))
 
-pub validate_once-returns-clause-step : goal.validate_once-returns-clause-step
-validate_once-returns-clause-step g t c = λ b h.
+pub arrays::validate_once-returns-clause-step : goal.arrays::validate_once-returns-clause-step
+arrays::validate_once-returns-clause-step g t c = λ b h.
     let a = c.args in
     let s = a.stream.now in
     let each = element_meaning a.types.now.module.now.listed (below a.types.now.module.now.listed a.types.now.module.now.definitions a.bound) a.element.now a.env.now a.places.now b s.pos in
@@ -456,13 +456,13 @@ validate_once-returns-clause-step g t c = λ b h.
     let at : s.pos ≡ r.pos = sym c.narrow.ensures.pos in
     let into = step_from {loads = g.W.Words.loads} s r _ _ _ (once_fit each a.step a.size s.end s.pos a.cells.now long good ∙ (λ k. and_then (element_meaning a.types.now.module.now.listed (below a.types.now.module.now.listed a.types.now.module.now.definitions a.bound) a.element.now a.env.now a.places.now b (st k) (ends k) (at k) a.cells.now) (once_rest (st k) (ends k)))) (step_still s r _ c.narrow.ensures.same_words) in
     let u = c.widen.new.self in
-    let on = later_trans g.met.W.Words.goes_on s r n c.narrow.ensures.later c.validate_single.ensures.later in
+    let on = later_trans g.met.W.Words.reaches_on s r n c.narrow.ensures.later c.validate_single.ensures.later in
     let first = carried s n u b on c.widen.ensures.later h in
     let both = carried s r n b c.narrow.ensures.later c.validate_single.ensures.later first.0 in
     step_trans s r u _ _ _ into (step_trans r n u _ _ _ (c.in_ok-verdict.ensures.step b both.1) (step_still n u _ c.widen.ensures.same_words))
 
-pub validate_once-returns-in_err-verdict-clause-only : goal.validate_once-returns-in_err-verdict-clause-only
-validate_once-returns-in_err-verdict-clause-only g t c = let p = err_from_is_err_and c.from_residual.result c.from_residual.ensures.1 in rw p.1 (λ b h.
+pub arrays::validate_once-returns-in_err-verdict-clause-only : goal.arrays::validate_once-returns-in_err-verdict-clause-only
+arrays::validate_once-returns-in_err-verdict-clause-only g t c = let p = err_from_is_err_and c.from_residual.result c.from_residual.ensures.1 in rw p.1 (λ b h.
     let a = c.args in
     let s = a.stream.now in
     let each = element_meaning a.types.now.module.now.listed (below a.types.now.module.now.listed a.types.now.module.now.definitions a.bound) a.element.now a.env.now a.places.now b s.pos in
@@ -477,49 +477,49 @@ validate_once-returns-in_err-verdict-clause-only g t c = let p = err_from_is_err
     let both = carried s r n b c.narrow.ensures.later c.validate_single.ensures.later h in
     only_after s r n _ _ into (c.in_err-verdict.ensures.only b both.1))
 
-pub validate_shape-returns-in_err-validate_element-in-Once-clause-only : goal.validate_shape-returns-in_err-validate_element-in-Once-clause-only
-validate_shape-returns-in_err-validate_element-in-Once-clause-only g t c = let p = err_from_is_err_and c.from_residual.result c.from_residual.ensures.1 in rw p.1 (λ b h.
+pub arrays::validate_shape-returns-in_err-validate_element-in-Once-clause-only : goal.arrays::validate_shape-returns-in_err-validate_element-in-Once-clause-only
+arrays::validate_shape-returns-in_err-validate_element-in-Once-clause-only g t c = let p = err_from_is_err_and c.from_residual.result c.from_residual.ensures.1 in rw p.1 (λ b h.
     let a = c.args in
     let s = a.stream.now in
     only_from g.W.Words.loads s c.validate_element.new.stream _ _ (ap (λ (x : Extent). shape_meaning a.types.now.module.now.listed (below a.types.now.module.now.listed a.types.now.module.now.definitions a.bound) a.element.now x a.env.now a.places.now b s.end s.pos a.cells.now) c.in-Once.is ∙ (λ k. element_meaning a.types.now.module.now.listed (below a.types.now.module.now.listed a.types.now.module.now.definitions a.bound) a.element.now a.env.now a.places.now b (sym c.pos.ensures k) s.end s.pos a.cells.now)) (c.in_err-validate_element-in-Once.ensures.only b h))
 
-pub validate_shape-returns-in_ok-validate_element-in-Once-clause-step : goal.validate_shape-returns-in_ok-validate_element-in-Once-clause-step
-validate_shape-returns-in_ok-validate_element-in-Once-clause-step g t c = λ b h.
+pub arrays::validate_shape-returns-in_ok-validate_element-in-Once-clause-step : goal.arrays::validate_shape-returns-in_ok-validate_element-in-Once-clause-step
+arrays::validate_shape-returns-in_ok-validate_element-in-Once-clause-step g t c = λ b h.
     let a = c.args in
     let s = a.stream.now in
     step_from s c.validate_element.new.stream _ _ _ (ap (λ (x : Extent). shape_meaning a.types.now.module.now.listed (below a.types.now.module.now.listed a.types.now.module.now.definitions a.bound) a.element.now x a.env.now a.places.now b s.end s.pos a.cells.now) c.in-Once.is ∙ (λ k. element_meaning a.types.now.module.now.listed (below a.types.now.module.now.listed a.types.now.module.now.definitions a.bound) a.element.now a.env.now a.places.now b (sym c.pos.ensures k) s.end s.pos a.cells.now)) (c.in_ok-validate_element-in-Once.ensures.step b h)
 
-pub validate_shape-returns-in_err-validate_filling-in-Filling-clause-only : goal.validate_shape-returns-in_err-validate_filling-in-Filling-clause-only
-validate_shape-returns-in_err-validate_filling-in-Filling-clause-only g t c = let p = err_from_is_err_and c.from_residual-in_err-validate_filling-in-Filling.result c.from_residual-in_err-validate_filling-in-Filling.ensures.1 in rw p.1 (λ b h.
+pub arrays::validate_shape-returns-in_err-validate_filling-in-Filling-clause-only : goal.arrays::validate_shape-returns-in_err-validate_filling-in-Filling-clause-only
+arrays::validate_shape-returns-in_err-validate_filling-in-Filling-clause-only g t c = let p = err_from_is_err_and c.from_residual-in_err-validate_filling-in-Filling.result c.from_residual-in_err-validate_filling-in-Filling.ensures.1 in rw p.1 (λ b h.
     let a = c.args in
     let s = a.stream.now in
     only_from g.W.Words.loads s c.validate_filling.new.stream _ _ (ap (λ (x : Extent). shape_meaning a.types.now.module.now.listed (below a.types.now.module.now.listed a.types.now.module.now.definitions a.bound) a.element.now x a.env.now a.places.now b s.end s.pos a.cells.now) c.in-Filling.is ∙ (λ k. filled (element_meaning a.types.now.module.now.listed (below a.types.now.module.now.listed a.types.now.module.now.definitions a.bound) a.element.now a.env.now a.places.now b s.pos) c.in-Filling.step (sym c.value_of.ensures k) s.end s.pos a.cells.now)) (c.in_err-validate_filling-in-Filling.ensures.only b h))
 
-pub validate_shape-returns-in_ok-validate_filling-in-Filling-clause-step : goal.validate_shape-returns-in_ok-validate_filling-in-Filling-clause-step
-validate_shape-returns-in_ok-validate_filling-in-Filling-clause-step g t c = λ b h.
+pub arrays::validate_shape-returns-in_ok-validate_filling-in-Filling-clause-step : goal.arrays::validate_shape-returns-in_ok-validate_filling-in-Filling-clause-step
+arrays::validate_shape-returns-in_ok-validate_filling-in-Filling-clause-step g t c = λ b h.
     let a = c.args in
     let s = a.stream.now in
     step_from s c.validate_filling.new.stream _ _ _ (ap (λ (x : Extent). shape_meaning a.types.now.module.now.listed (below a.types.now.module.now.listed a.types.now.module.now.definitions a.bound) a.element.now x a.env.now a.places.now b s.end s.pos a.cells.now) c.in-Filling.is ∙ (λ k. filled (element_meaning a.types.now.module.now.listed (below a.types.now.module.now.listed a.types.now.module.now.definitions a.bound) a.element.now a.env.now a.places.now b s.pos) c.in-Filling.step (sym c.value_of.ensures k) s.end s.pos a.cells.now)) (c.in_ok-validate_filling-in-Filling.ensures.step b h)
 
-pub validate_shape-returns-in_err-validate_once-in-OnceFilling-clause-only : goal.validate_shape-returns-in_err-validate_once-in-OnceFilling-clause-only
-validate_shape-returns-in_err-validate_once-in-OnceFilling-clause-only g t c = let p = err_from_is_err_and c.from_residual-in_err-validate_once-in-OnceFilling.result c.from_residual-in_err-validate_once-in-OnceFilling.ensures.1 in rw p.1 (λ b h.
+pub arrays::validate_shape-returns-in_err-validate_once-in-OnceFilling-clause-only : goal.arrays::validate_shape-returns-in_err-validate_once-in-OnceFilling-clause-only
+arrays::validate_shape-returns-in_err-validate_once-in-OnceFilling-clause-only g t c = let p = err_from_is_err_and c.from_residual-in_err-validate_once-in-OnceFilling.result c.from_residual-in_err-validate_once-in-OnceFilling.ensures.1 in rw p.1 (λ b h.
     let a = c.args in
     let s = a.stream.now in
     only_from g.W.Words.loads s c.validate_once.new.stream _ _ (ap (λ (x : Extent). shape_meaning a.types.now.module.now.listed (below a.types.now.module.now.listed a.types.now.module.now.definitions a.bound) a.element.now x a.env.now a.places.now b s.end s.pos a.cells.now) c.in-OnceFilling.is ∙ (λ k. filled_once (element_meaning a.types.now.module.now.listed (below a.types.now.module.now.listed a.types.now.module.now.definitions a.bound) a.element.now a.env.now a.places.now b s.pos) c.in-OnceFilling.step (sym c.value_of-in-OnceFilling.ensures k) s.end s.pos a.cells.now)) (c.in_err-validate_once-in-OnceFilling.ensures.only b h))
 
-pub validate_shape-returns-in_ok-validate_once-in-OnceFilling-clause-step : goal.validate_shape-returns-in_ok-validate_once-in-OnceFilling-clause-step
-validate_shape-returns-in_ok-validate_once-in-OnceFilling-clause-step g t c = λ b h.
+pub arrays::validate_shape-returns-in_ok-validate_once-in-OnceFilling-clause-step : goal.arrays::validate_shape-returns-in_ok-validate_once-in-OnceFilling-clause-step
+arrays::validate_shape-returns-in_ok-validate_once-in-OnceFilling-clause-step g t c = λ b h.
     let a = c.args in
     let s = a.stream.now in
     step_from s c.validate_once.new.stream _ _ _ (ap (λ (x : Extent). shape_meaning a.types.now.module.now.listed (below a.types.now.module.now.listed a.types.now.module.now.definitions a.bound) a.element.now x a.env.now a.places.now b s.end s.pos a.cells.now) c.in-OnceFilling.is ∙ (λ k. filled_once (element_meaning a.types.now.module.now.listed (below a.types.now.module.now.listed a.types.now.module.now.definitions a.bound) a.element.now a.env.now a.places.now b s.pos) c.in-OnceFilling.step (sym c.value_of-in-OnceFilling.ensures k) s.end s.pos a.cells.now)) (c.in_ok-validate_once-in-OnceFilling.ensures.step b h)
 
-pub validate_content-returns-in_ok-validate_number-in-Number-clause-step : goal.validate_content-returns-in_ok-validate_number-in-Number-clause-step
-validate_content-returns-in_ok-validate_number-in-Number-clause-step g t c = λ b h.
+pub fields::validate_content-returns-in_ok-validate_number-in-Number-clause-step : goal.fields::validate_content-returns-in_ok-validate_number-in-Number-clause-step
+fields::validate_content-returns-in_ok-validate_number-in-Number-clause-step g t c = λ b h.
     let a = c.args in
     c.in_ok-validate_number-in-Number.ensures.step a.types.now.module.now.listed (below a.types.now.module.now.listed a.types.now.module.now.definitions a.bound) a.places.now b a.cells.now h
 
-pub validate_content-returns-in_ok-validate_listed_field-in-Listed-clause-step : goal.validate_content-returns-in_ok-validate_listed_field-in-Listed-clause-step
-validate_content-returns-in_ok-validate_listed_field-in-Listed-clause-step g t c = λ b h.
+pub fields::validate_content-returns-in_ok-validate_listed_field-in-Listed-clause-step : goal.fields::validate_content-returns-in_ok-validate_listed_field-in-Listed-clause-step
+fields::validate_content-returns-in_ok-validate_listed_field-in-Listed-clause-step g t c = λ b h.
     let a = c.args in
     let s = a.stream.now in
     let n = c.validate_listed_field.new.stream in
@@ -528,15 +528,15 @@ validate_content-returns-in_ok-validate_listed_field-in-Listed-clause-step g t c
     let value : ℕ = c.in_ok-validate_listed_field-in-Listed.field-0.value in
     subst (λ (sets : List (List ℕ)). Step g.W.Words.loads s n (fields_meaning sets (below a.types.now.module.now.listed a.types.now.module.now.definitions a.bound) a.ty (a.field.now ∷ a.later.now) a.env.now a.places.now b s.end s.pos a.cells.now) (and_then (plain (ending_of v c.validate_listed_field.new.trace a.cells.now)) (rest_meaning sets (below a.types.now.module.now.listed a.types.now.module.now.definitions a.bound) a.ty f.parts a.later.now a.env.now value a.places.now b s.end s.pos))) c.as_slice.ensures (c.in_ok-validate_listed_field-in-Listed.ensures.step (below a.types.now.module.now.listed a.types.now.module.now.definitions a.bound) a.later.now a.env.now a.places.now b a.cells.now h)
 
-pub validate_content-returns-in_err-validate_listed_field-in-Listed-clause-only : goal.validate_content-returns-in_err-validate_listed_field-in-Listed-clause-only
-validate_content-returns-in_err-validate_listed_field-in-Listed-clause-only g t c = let p = err_from_is_err_and c.from_residual-in_err-validate_listed_field-in-Listed.result c.from_residual-in_err-validate_listed_field-in-Listed.ensures.1 in rw p.1 (λ b h.
+pub fields::validate_content-returns-in_err-validate_listed_field-in-Listed-clause-only : goal.fields::validate_content-returns-in_err-validate_listed_field-in-Listed-clause-only
+fields::validate_content-returns-in_err-validate_listed_field-in-Listed-clause-only g t c = let p = err_from_is_err_and c.from_residual-in_err-validate_listed_field-in-Listed.result c.from_residual-in_err-validate_listed_field-in-Listed.ensures.1 in rw p.1 (λ b h.
     let a = c.args in
     let s = a.stream.now in
     let n = c.validate_listed_field.new.stream in
     subst (λ (sets : List (List ℕ)). OnlyRead g.W.Words.loads s n (fields_meaning sets (below a.types.now.module.now.listed a.types.now.module.now.definitions a.bound) a.ty (a.field.now ∷ a.later.now) a.env.now a.places.now b s.end s.pos a.cells.now)) c.as_slice.ensures (c.in_err-validate_listed_field-in-Listed.ensures.only (below a.types.now.module.now.listed a.types.now.module.now.definitions a.bound) a.later.now a.env.now a.places.now b a.cells.now h))
 
-pub validate_fields-fields-init : goal.validate_fields-fields-init
-validate_fields-fields-init g t c =
+pub fields::validate_fields-fields-init : goal.fields::validate_fields-fields-init
+fields::validate_fields-fields-init g t c =
     let a = c.args in
     let s = a.stream.now in
     record {
@@ -548,8 +548,8 @@ validate_fields-fields-init g t c =
       step = λ b h. step_still s s (fields_meaning a.types.now.module.now.listed (below a.types.now.module.now.listed a.types.now.module.now.definitions a.bound) a.ty a.fields.now a.env.now.items a.places.now b s.end s.pos a.cells.now) refl;
     }
 
-pub validate_fields-validate_field-requires : goal.validate_fields-validate_field-requires
-validate_fields-validate_field-requires g t c =
+pub fields::validate_fields-validate_field-requires : goal.fields::validate_fields-validate_field-requires
+fields::validate_fields-validate_field-requires g t c =
     let a = c.args in
     let l = c.fields in
     let fields : List FieldDef = a.fields.now in
@@ -560,15 +560,15 @@ validate_fields-validate_field-requires g t c =
     let needed : c.flag_at.result ≡ is_needed (length env) f.parts later = c.flag_at.ensures ∙ flag_here a.flags.now l.i (length env) (drop l.i fields) f later l.invariant.flags split in
     first_of (search (rules, needed), grind (arith, common_steps, needed))
 
-pub validate_field-returns-in_ok-check_parts-in-Accept-clause-scope : goal.validate_field-returns-in_ok-check_parts-in-Accept-clause-scope
-validate_field-returns-in_ok-check_parts-in-Accept-clause-scope g t c = λ q e.
+pub fields::validate_field-returns-in_ok-check_parts-in-Accept-clause-scope : goal.fields::validate_field-returns-in_ok-check_parts-in-Accept-clause-scope
+fields::validate_field-returns-in_ok-check_parts-in-Accept-clause-scope g t c = λ q e.
     let a = c.args in
     let f : FieldDef = a.field.now in
     let env : List ℕ = a.env.now.items in
     ap length (c.in_ok-check_parts-in-Accept.ensures.scope q e) ∙ extended_long env c.in_ok-content.content.value c.as_slice-in-Accept.result.now ∙ ap (λ ps. length env + length ps) c.as_slice-in-Accept.ensures
 
-pub validate_definition-returns-in_err-flags-in-Some-clause-only : goal.validate_definition-returns-in_err-flags-in-Some-clause-only
-validate_definition-returns-in_err-flags-in-Some-clause-only g t c = let p = err_from_is_err_and c.from_residual-in_err-flags-in-Some.result c.from_residual-in_err-flags-in-Some.ensures.1 in rw p.1 (λ b h.
+pub types::validate_definition-returns-in_err-flags-in-Some-clause-only : goal.types::validate_definition-returns-in_err-flags-in-Some-clause-only
+types::validate_definition-returns-in_err-flags-in-Some-clause-only g t c = let p = err_from_is_err_and c.from_residual-in_err-flags-in-Some.result c.from_residual-in_err-flags-in-Some.ensures.1 in rw p.1 (λ b h.
     let a = c.args in
     let s = a.stream.now in
     only_still g.W.Words.loads s s (definition_meaning a.types.now.module.now.listed (below a.types.now.module.now.listed a.types.now.module.now.definitions a.bound) (Some a.definition.now) a.args.now a.places.now a.cells.now b s.pos s.end) refl)
