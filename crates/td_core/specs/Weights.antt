@@ -1,4 +1,6 @@
--- How many nodes a module has, how deep its definitions stand within one another, and how much they weigh (own rule).
+-- How many nodes a module has, how deep its definitions stand within one another, and how much they weigh (own rule: as its
+-- text counts them; `p = field_ptr` is a statement without an expression there, so here what is stored counts, and not its
+-- statement).
 use Rattle.std.specs.Prelude.{ℕ, zero, suc, ◌+◌, ◌*◌, max, Bool, true, false, nat_eq, List, [], ◌∷◌, length, Option, Some, None, slice_get}
 use Rattle.td_core.specs.Term.{Term, measure, Deed, done, set, keep, fork, answer, give_up}
 use Rattle.td_core.specs.declared.module.Element.{Element}
@@ -12,7 +14,8 @@ use Rattle.td_core.specs.declared.module.Body.{Body}
 use Rattle.td_core.specs.declared.module.Body.TheVariants.{Struct, Casetype}
 use Rattle.td_core.specs.declared.module.TypeDef.{TypeDef}
 
--- Nodes: definitions, parameters, fields (each bit field is one), cases, statements, and nodes of expressions
+-- Nodes: definitions, parameters, fields (each bit field is one), cases, statements (but those that store), and nodes of
+-- expressions
 
 abbrev pub option_nodes : Option Term → ℕ
 option_nodes None = 0
@@ -24,7 +27,7 @@ terms_nodes (e ∷ es) = measure e + terms_nodes es
 
 abbrev pub deed_nodes : Deed → ℕ
 deed_nodes done = 0
-deed_nodes (set cell e then) = 1 + (measure e + deed_nodes then)
+deed_nodes (set cell e then) = measure e + deed_nodes then
 deed_nodes (keep cell then) = 1 + deed_nodes then
 deed_nodes (fork e one other then) = 1 + (measure e + (deed_nodes one + (deed_nodes other + deed_nodes then)))
 deed_nodes (answer e) = 1 + measure e
@@ -51,32 +54,34 @@ extent_nodes (UpToZero size) = measure size
 abbrev pub part_nodes : Part → ℕ
 part_nodes p = option_nodes p.refinement + action_nodes p.action
 
-abbrev pub parts_nodes : List Part → ℕ
-parts_nodes [] = 0
-parts_nodes (p ∷ ps) = part_nodes p + parts_nodes ps
+-- the sum over a list
+abbrev pub total : {A : Type 0} → (A → ℕ) → List A → ℕ
+total f [] = 0
+total f (x ∷ xs) = f x + total f xs
 
-abbrev pub field_nodes : Field → ℕ
-field_nodes f = element_nodes f.element + (extent_nodes f.extent + parts_nodes f.parts)
+-- of a field's expressions and statements
+abbrev pub inner_nodes : Field → ℕ
+inner_nodes f = element_nodes f.element + (extent_nodes f.extent + total part_nodes f.parts)
 
 abbrev pub fields_nodes : List Field → ℕ
-fields_nodes [] = 0
-fields_nodes (f ∷ fs) = length f.parts + (field_nodes f + fields_nodes fs)
+fields_nodes fs = total (λ f. length f.parts + inner_nodes f) fs
 
 abbrev pub default_nodes : Option (List Field) → ℕ
 default_nodes None = 0
 default_nodes (Some fs) = fields_nodes fs
 
 abbrev pub cases_nodes : List Case → ℕ
-cases_nodes [] = 0
-cases_nodes (c ∷ cs) = 1 + (fields_nodes c.fields + cases_nodes cs)
+cases_nodes cs = total (λ c. 1 + fields_nodes c.fields) cs
 
 abbrev pub body_nodes : Body → ℕ
 body_nodes (Struct fs) = fields_nodes fs
 body_nodes (Casetype switch cases default) = measure switch + (cases_nodes cases + default_nodes default)
 
+abbrev pub head_nodes : TypeDef → ℕ
+head_nodes d = length d.params + option_nodes d.guard
+
 abbrev pub definitions_nodes : List TypeDef → ℕ
-definitions_nodes [] = 0
-definitions_nodes (d ∷ ds) = 1 + (length d.params + (option_nodes d.guard + (body_nodes d.body + definitions_nodes ds)))
+definitions_nodes ds = total (λ d. 1 + (head_nodes d + body_nodes d.body)) ds
 
 -- Depth and weight, from those of earlier definitions
 
@@ -117,37 +122,34 @@ as_array (Filling size step) weight = 2 * weight + 64
 as_array (OnceFilling size step) weight = 2 * weight + 64
 as_array (UpToZero size) weight = 2 * weight + 64
 
--- 32 for each part, 8 for each node, and the definition that it names
+-- 32 for each part, 8 for each node, and the definition that it names; an array twice that and 64
 abbrev pub field_weight : (ℕ → ℕ) → Field → ℕ
-field_weight weights f =
-    as_array f.extent (32 * length f.parts + (8 * field_nodes f + of_named weights f.element))
+field_weight earlier f = as_array f.extent (32 * length f.parts + (8 * inner_nodes f + of_named earlier f.element))
 
 abbrev pub fields_weight : (ℕ → ℕ) → List Field → ℕ
-fields_weight weights [] = 0
-fields_weight weights (f ∷ fs) = field_weight weights f + fields_weight weights fs
+fields_weight earlier fs = total (field_weight earlier) fs
 
 abbrev pub default_weight : (ℕ → ℕ) → Option (List Field) → ℕ
-default_weight weights None = 0
-default_weight weights (Some fs) = fields_weight weights fs
+default_weight earlier None = 0
+default_weight earlier (Some fs) = fields_weight earlier fs
 
 abbrev pub cases_weight : (ℕ → ℕ) → List Case → ℕ
-cases_weight weights [] = 0
-cases_weight weights (c ∷ cs) = 8 + (fields_weight weights c.fields + cases_weight weights cs)
+cases_weight earlier cs = total (λ c. 8 + fields_weight earlier c.fields) cs
 
 abbrev pub body_weight : (ℕ → ℕ) → Body → ℕ
-body_weight weights (Struct fs) = fields_weight weights fs
-body_weight weights (Casetype switch cases default) = 8 * measure switch + (cases_weight weights cases + default_weight weights default)
+body_weight earlier (Struct fs) = fields_weight earlier fs
+body_weight earlier (Casetype switch cases default) = 8 * measure switch + (cases_weight earlier cases + default_weight earlier default)
 
 -- 32, 8 for each parameter and for each node of `where` and the switch, 8 for each case, and the fields
 abbrev pub definition_weight : (ℕ → ℕ) → Option TypeDef → ℕ
-definition_weight weights None = 0
-definition_weight weights (Some d) = 32 + (8 * (length d.params + option_nodes d.guard) + body_weight weights d.body)
+definition_weight earlier None = 0
+definition_weight earlier (Some d) = 32 + (8 * head_nodes d + body_weight earlier d.body)
 
 abbrev pub either_number : Bool → ℕ → ℕ → ℕ
 either_number true a b = a
 either_number false a b = b
 
--- of the definitions below n, each from those below it
+-- of definition j of those below n, each from those below it
 unfoldable pub below_by : ((ℕ → ℕ) → Option TypeDef → ℕ) → List TypeDef → ℕ → ℕ → ℕ
 below_by of ds zero j = 0
 below_by of ds (suc n) j = either_number (nat_eq j n) (of (below_by of ds n) (slice_get ds n)) (below_by of ds n j)
@@ -155,5 +157,6 @@ below_by of ds (suc n) j = either_number (nat_eq j n) (of (below_by of ds n) (sl
 abbrev pub depth_of : List TypeDef → ℕ → ℕ
 depth_of ds n = below_by definition_depth ds (length ds) n
 
+-- of definition n of the list
 abbrev pub weight_of : List TypeDef → ℕ → ℕ
 weight_of ds n = below_by definition_weight ds (length ds) n

@@ -1,5 +1,5 @@
--- What holds of every module that a checked text stands for (own rule). Layers above elaboration rest on this alone, and
--- never look into trees.
+-- What holds of every module that a checked text stands for, part by part (own rule). All of it is the record `IsChecked` of
+-- td_front.
 use Rattle.std.specs.Prelude.{◌≡◌, ◌≢◌, ℕ, ◌+◌, ◌*◌, ◌<◌, ◌≤◌, Bool, true, false, List, [], ◌∷◌, length, Option, Some, None}
 use Rattle.td_num.specs.Numbers.{bytes_in}
 use Rattle.td_num.specs.declared.number.NumberType.{NumberType}
@@ -17,10 +17,8 @@ use Rattle.td_core.specs.declared.module.Body.{Body}
 use Rattle.td_core.specs.declared.module.Body.TheVariants.{Struct, Casetype}
 use Rattle.td_core.specs.declared.module.TypeDef.{TypeDef}
 use Rattle.td_core.specs.declared.module.Module.{Module}
-use Rattle.td_core.specs.declared.limits.TheConstants.{MOST_DEFINITIONS, MOST_FIELDS, MOST_CASES, MOST_PARAMETERS, MOST_NODES, MOST_CELLS, MOST_DEPTH, MOST_WEIGHT}
+use Rattle.td_core.specs.declared.limits.TheConstants.{MOST_DEFINITIONS, MOST_FIELDS, MOST_CASES, MOST_PARAMETERS, MOST_CELLS}
 use Rattle.td_core.specs.Types.{type_of}
-use Rattle.td_core.specs.Weights.{definitions_nodes, depth_of, weight_of}
-use Rattle.td_core.specs.Formed.{IsModuleFormed}
 
 -- of each
 abbrev pub Each : {A : Type 0} → (A → Type 0) → List A → Type 0
@@ -194,22 +192,3 @@ pub record IsWithin (m : Module) : Type 0 where
   pub written : m.written ≤ MOST_DEFINITIONS
   pub definitions : length m.definitions ≤ m.written
   pub each : Each DefinitionWithin m.definitions
-
--- All of it
-
-pub record IsWellFormed (m : Module) : Type 0 where
-  -- levels are in scope, literals fit, and earlier definitions are named with arguments and cells that match
-  pub formed : IsModuleFormed m
-  -- truth values stand where truth values must, and numbers where numbers must
-  pub sorted : Each IsDefinitionSorted m.definitions
-  -- fields have parts, and entry points definitions
-  pub whole : IsWhole m
-  -- bit fields lie in their numbers, refinements stand on numbers, enums have their values
-  pub fields : Each (λ d. EachField (IsFieldWhole (length m.listed)) d.body) m.definitions
-  -- each name has its bytes
-  pub named : Each (IsDefinitionNamed (length m.names)) m.definitions
-  -- the limits of texts
-  pub within : IsWithin m
-  pub nodes : definitions_nodes m.definitions ≤ MOST_NODES
-  pub depth : (n : ℕ) → depth_of m.definitions n ≤ MOST_DEPTH
-  pub weight : (n : ℕ) → weight_of m.definitions n ≤ MOST_WEIGHT

@@ -80,9 +80,9 @@ arrays_are_cuts each start size p cells moves =
     let low : p ≤ end = omega arith in
     let s = shown each start end moves size p cells low room in
     record {
-      accepts = λ last. (
-        (λ e. (subst (Shows each start end p cells) e s).1),
-        (λ cuts. along each start end p end cells last cuts (omega arith) size room (Accepted end last) (λ u h. elements_done each u start end end last (eq-eqb end end refl))),
+      accepts = λ q last. (
+        (λ e. subst (Shows each start end p cells) e s),
+        (λ w. along each start end p end cells last w.1 (omega arith) size room (Accepted end last) (λ u h. elements_done each u start end end last (eq-eqb end end refl)) ∙ ap (λ r. Accepted r last) (sym w.0)),
       );
       fails = λ reason position trace last. (
         (λ e. subst (Shows each start end p cells) e s),

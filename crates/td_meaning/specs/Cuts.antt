@@ -14,9 +14,10 @@ pub data Cuts (each : ℕ → List ℕ → Behavior) : ℕ → List ℕ → ℕ 
 pub record MovesOn (each : ℕ → List ℕ → Behavior) (end : ℕ) : Type 0 where
   pub by : (p q : ℕ) (cells more : List ℕ) → p ≤ end → (each p cells).ending ≡ Accepted q more → (p < q) × (q ≤ end)
 
--- the array is accepted exactly where places exist that lead to its end, and fails exactly where they lead to an element that fails
+-- the array is accepted, and then at its end, exactly where places exist that lead there, and fails exactly where they
+-- lead to an element that fails
 pub record IsByCuts (each : ℕ → List ℕ → Behavior) (end p : ℕ) (cells : List ℕ) (o : Ending) : Type 0 where
-  pub accepts : (last : List ℕ) → (o ≡ Accepted end last) ↔ Cuts each p cells end last
+  pub accepts : (q : ℕ) (last : List ℕ) → (o ≡ Accepted q last) ↔ ((q ≡ end) × Cuts each p cells end last)
   pub fails : (reason : Reason) (position : ℕ) (trace : List TraceFrame) (last : List ℕ) → (o ≡ Rejected reason position trace last) ↔ ((q : ℕ) × (more : List ℕ) × Cuts each p cells q more × (q < end) × ((each q more).ending ≡ Rejected reason position trace last))
 
 abbrev pub ArraysAreCuts : Type 0

@@ -1,6 +1,6 @@
 //! Names with what stands beside them.
 
-ghost use Rattle.std.specs.Prelude.{◌≡◌, [], is_some, length, take, OnOk, OnErr};
+ghost use Rattle.std.specs.Prelude.{◌≡◌, [], is_some, false, length, take, OnOk, OnErr};
 ghost use Rattle.std.specs.Option.{option_copied};
 ghost use Rattle.td_names.specs.Names.{looked_up, declared};
 
@@ -59,6 +59,7 @@ impl<V: Drop> Table<V> {
     pub fn declare(&mut self, alloc: Global, name: &[u8], value: V) -> Result<(), AllocError>
         ensures ok { OnOk result (self.new ≡ declared self.old name.now value) }
         ensures err { OnErr result (self.new ≡ self.old) }
+        ensures unseen { OnErr result (is_some (looked_up self.old name.now) ≡ false) }
     {
         if self.contains(name) {
             return Ok(());
