@@ -5,8 +5,9 @@ ghost use Rattle.td_expr.specs.Facts.{facts_of};
 ghost use Rattle.td_arith.specs.Known.{facts_in};
 ghost use Rattle.td_arith.specs.SafeModule.{deed_unsafe, action_unsafe};
 
-use crate::expressions::{expression_unsafe, first_of};
+use crate::expressions::first_of;
 use crate::facts::Known;
+use crate::walk::expression_unsafe;
 use std::alloc::{AllocError, Global};
 use td_core::actions::{Action, Step};
 use td_core::expressions::CoreExpr;

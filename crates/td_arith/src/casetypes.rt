@@ -4,9 +4,10 @@ ghost use Rattle.std.specs.Prelude.{◌≡◌, [], IfOk};
 ghost use Rattle.td_expr.specs.Safe.{first, first_unsafe};
 ghost use Rattle.td_arith.specs.SafeModule.{known_after, fields_unsafe, cases_unsafe, default_unsafe, body_unsafe, definition_unsafe};
 
-use crate::expressions::{expression_unsafe, first_of};
+use crate::expressions::first_of;
 use crate::facts::Known;
 use crate::fields::{fields_unsafe, learn, test_unsafe};
+use crate::walk::expression_unsafe;
 use std::alloc::{AllocError, Global};
 use td_core::expressions::CoreExpr;
 use td_core::module::{Body, Case, Field, TypeDef};

@@ -5,8 +5,9 @@ ghost use Rattle.td_arith.specs.Known.{facts_in};
 ghost use Rattle.td_arith.specs.SafeModule.{option_unsafe, known_after, list_unsafe, element_unsafe, extent_unsafe, part_unsafe, parts_unsafe, known_after_parts, field_unsafe, fields_unsafe};
 
 use crate::actions::action_unsafe;
-use crate::expressions::{expression_unsafe, first_of};
+use crate::expressions::first_of;
 use crate::facts::Known;
+use crate::walk::expression_unsafe;
 use std::alloc::{AllocError, Global};
 use td_core::expressions::CoreExpr;
 use td_core::module::{Element, Extent, Field, Part};

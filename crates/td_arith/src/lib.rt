@@ -16,3 +16,4 @@ pub mod relations;
 pub mod same;
 #[cfg(test)]
 mod tests;
+pub mod walk;

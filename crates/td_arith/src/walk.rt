@@ -1,0 +1,276 @@
+//! The first operator of an expression that isn't safe. Ranges are worked out of the operands of operators that compute, and of
+//! what these are made of, alone: for each of them all that is known is gone through.
+
+ghost use Rattle.std.specs.Prelude.{◌≡◌, ◌++◌, IfOk, OnOk, true, false};
+ghost use Rattle.td_core.specs.Types.{type_of};
+ghost use Rattle.td_expr.specs.Facts.{facts_of};
+ghost use Rattle.td_expr.specs.Range.{narrowed, computed_range, range_of};
+ghost use Rattle.td_expr.specs.Safe.{is_safe, first, first_unsafe, unless_safe};
+ghost use Rattle.td_arith.specs.Ends.{range_in, spanned};
+ghost use Rattle.td_arith.specs.Known.{facts_in};
+
+use crate::ends::{Ends, up_to};
+use crate::expressions::{computed_range, first_of, is_safe, spanned_range, unless, whole_range};
+use crate::facts::{Known, narrowed};
+use std::alloc::{AllocError, Global};
+use td_ast::token::Span;
+use td_core::expressions::{Binary, CoreExpr, Node};
+use td_expr::safety::Unsafe;
+
+/// What a look at an expression tells: its range, and its first operator that isn't safe.
+#[derive(Debug, Drop)]
+struct Seen {
+    ends: Ends,
+    unsafe_at: Option<Unsafe>,
+}
+
+/// What a look at an operator that computes tells: the ranges of its operands, and the first operator that isn't safe among
+/// theirs and itself.
+#[derive(Debug, Drop)]
+struct Operands {
+    left: Ends,
+    right: Ends,
+    unsafe_at: Option<Unsafe>,
+}
+
+/// The first operator of an expression that isn't safe where conditions are known to hold. On `Ok` the list of them is as
+/// before. `AllocError`: there was no memory to look.
+#[cycle(walk)]
+pub fn expression_unsafe<'a>(
+    alloc: Global,
+    e: &'a CoreExpr,
+    known: &mut Vec<Known<'a>>,
+) -> Result<Option<Unsafe>, AllocError>
+    ensures first { IfOk result (λ u. u ≡ first_unsafe (facts_in known.old.items) e.now) }
+    ensures same { OnOk result (known.new.items ≡ known.old.items) }
+{
+    match &e.node {
+        Node::Number { .. } | Node::Name { .. } => Ok(None),
+        Node::Complement(a) | Node::Not(a) => expression_unsafe(alloc, a, known),
+        Node::Compute(op, span, a, b) => {
+            let operands = look_operands(alloc, *op, *span, a, b, known)?;
+            Ok(operands.unsafe_at)
+        }
+        Node::Compare(_, a, b) => pair_unsafe(alloc, a, b, known),
+        Node::Both(a, b) => second_unsafe(alloc, true, a, b, known),
+        Node::Either(a, b) => second_unsafe(alloc, false, a, b, known),
+        Node::Choice(c, a, b) => choice_unsafe(alloc, c, a, b, known),
+        Node::RangeOkay(s, o, a) => {
+            let size = expression_unsafe(alloc, s, known)?;
+            let rest = pair_unsafe(alloc, o, a, known)?;
+            Ok(first_of(size, rest))
+        }
+    }
+}
+
+/// Of two operands, of which none is known to hold in the other.
+#[cycle(walk)]
+fn pair_unsafe<'a>(
+    alloc: Global,
+    a: &'a CoreExpr,
+    b: &'a CoreExpr,
+    known: &mut Vec<Known<'a>>,
+) -> Result<Option<Unsafe>, AllocError>
+    ensures first { IfOk result (λ u. u ≡
+        first (first_unsafe (facts_in known.old.items) a.now) (first_unsafe (facts_in known.old.items) b.now)) }
+    ensures same { OnOk result (known.new.items ≡ known.old.items) }
+{
+    let left = expression_unsafe(alloc, a, known)?;
+    let right = expression_unsafe(alloc, b, known)?;
+    Ok(first_of(left, right))
+}
+
+/// `&&`, where the left side is known to be true in the right one, or `||`, where it is known to be false.
+#[cycle(walk)]
+fn second_unsafe<'a>(
+    alloc: Global,
+    truth: bool,
+    a: &'a CoreExpr,
+    b: &'a CoreExpr,
+    known: &mut Vec<Known<'a>>,
+) -> Result<Option<Unsafe>, AllocError>
+    ensures first { IfOk result (λ u. u ≡
+        first (first_unsafe (facts_in known.old.items) a.now)
+        (first_unsafe (facts_in known.old.items ++ facts_of truth a.now) b.now)) }
+    ensures same { OnOk result (known.new.items ≡ known.old.items) }
+{
+    let left = expression_unsafe(alloc, a, known)?;
+    let right = unsafe_under(alloc, truth, a, b, known)?;
+    Ok(first_of(left, right))
+}
+
+/// `?:`, where the condition is known to be true in the first branch, and to be false in the second.
+#[cycle(walk)]
+fn choice_unsafe<'a>(
+    alloc: Global,
+    c: &'a CoreExpr,
+    a: &'a CoreExpr,
+    b: &'a CoreExpr,
+    known: &mut Vec<Known<'a>>,
+) -> Result<Option<Unsafe>, AllocError>
+    ensures first { IfOk result (λ u. u ≡
+        first (first_unsafe (facts_in known.old.items) c.now)
+        (first (first_unsafe (facts_in known.old.items ++ facts_of true c.now) a.now)
+        (first_unsafe (facts_in known.old.items ++ facts_of false c.now) b.now))) }
+    ensures same { OnOk result (known.new.items ≡ known.old.items) }
+{
+    let test = expression_unsafe(alloc, c, known)?;
+    let one = unsafe_under(alloc, true, c, a, known)?;
+    let other = unsafe_under(alloc, false, c, b, known)?;
+    Ok(first_of(test, first_of(one, other)))
+}
+
+/// Of an expression where a condition is known to be true, or to be false.
+#[cycle(walk)]
+fn unsafe_under<'a>(
+    alloc: Global,
+    truth: bool,
+    condition: &'a CoreExpr,
+    e: &'a CoreExpr,
+    known: &mut Vec<Known<'a>>,
+) -> Result<Option<Unsafe>, AllocError>
+    ensures first { IfOk result (λ u. u ≡
+        first_unsafe (facts_in known.old.items ++ facts_of truth condition.now) e.now) }
+    ensures same { OnOk result (known.new.items ≡ known.old.items) }
+{
+    known.push(Known { truth, condition })?;
+    let found = expression_unsafe(alloc, e, known)?;
+    known.pop();
+    Ok(found)
+}
+
+/// The range of an expression, and its first operator that isn't safe.
+#[cycle(walk)]
+fn look<'a>(alloc: Global, e: &'a CoreExpr, known: &mut Vec<Known<'a>>) -> Result<Seen, AllocError>
+    ensures range { IfOk result (λ s. range_in s.ends ≡ range_of (facts_in known.old.items) e.now) }
+    ensures first { IfOk result (λ s. s.unsafe_at ≡ first_unsafe (facts_in known.old.items) e.now) }
+    ensures same { OnOk result (known.new.items ≡ known.old.items) }
+{
+    match &e.node {
+        Node::Name { most, .. } => Ok(Seen {
+            ends: narrowed(alloc, known, e, up_to(*most))?,
+            unsafe_at: None,
+        }),
+        Node::Compute(op, span, a, b) => look_computed(alloc, e, *op, *span, a, b, known),
+        Node::Choice(c, a, b) => look_choice(alloc, e, c, a, b, known),
+        Node::Number { .. }
+        | Node::Complement(_)
+        | Node::Not(_)
+        | Node::Compare(_, _, _)
+        | Node::Both(_, _)
+        | Node::Either(_, _)
+        | Node::RangeOkay(_, _, _) => {
+            let unsafe_at = expression_unsafe(alloc, e, known)?;
+            let ends = whole_range(alloc, e, known)?;
+            Ok(Seen { ends, unsafe_at })
+        }
+    }
+}
+
+/// The operands of an operator that computes a number.
+#[cycle(walk)]
+fn look_operands<'a>(
+    alloc: Global,
+    op: Binary,
+    span: Span,
+    a: &'a CoreExpr,
+    b: &'a CoreExpr,
+    known: &mut Vec<Known<'a>>,
+) -> Result<Operands, AllocError>
+    ensures left { IfOk result (λ o. range_in o.left ≡ range_of (facts_in known.old.items) a.now) }
+    ensures right { IfOk result (λ o. range_in o.right ≡ range_of (facts_in known.old.items) b.now) }
+    ensures first { IfOk result (λ o. o.unsafe_at ≡
+        first (first_unsafe (facts_in known.old.items) a.now)
+        (first (unless_safe (is_safe (facts_in known.old.items) op a.now b.now) (record { span = span; op = op }))
+        (first_unsafe (facts_in known.old.items) b.now))) }
+    ensures same { OnOk result (known.new.items ≡ known.old.items) }
+{
+    let left = look(alloc, a, known)?;
+    let right = look(alloc, b, known)?;
+    let safe = is_safe(alloc, known, op, a, b, &left.ends, &right.ends)?;
+    let here = unless(safe, span, op);
+    Ok(Operands {
+        left: left.ends,
+        right: right.ends,
+        unsafe_at: first_of(left.unsafe_at, first_of(here, right.unsafe_at)),
+    })
+}
+
+/// An operator that computes a number.
+#[cycle(walk)]
+fn look_computed<'a>(
+    alloc: Global,
+    e: &'a CoreExpr,
+    op: Binary,
+    span: Span,
+    a: &'a CoreExpr,
+    b: &'a CoreExpr,
+    known: &mut Vec<Known<'a>>,
+) -> Result<Seen, AllocError>
+    ensures range { IfOk result (λ s. range_in s.ends ≡ narrowed (facts_in known.old.items) e.now
+        (computed_range op (type_of e.now) (range_of (facts_in known.old.items) a.now)
+        (range_of (facts_in known.old.items) b.now))) }
+    ensures first { IfOk result (λ s. s.unsafe_at ≡
+        first (first_unsafe (facts_in known.old.items) a.now)
+        (first (unless_safe (is_safe (facts_in known.old.items) op a.now b.now) (record { span = span; op = op }))
+        (first_unsafe (facts_in known.old.items) b.now))) }
+    ensures same { OnOk result (known.new.items ≡ known.old.items) }
+{
+    let operands = look_operands(alloc, op, span, a, b, known)?;
+    let ends = computed_range(alloc, op, e, &operands.left, &operands.right, known)?;
+    Ok(Seen {
+        ends,
+        unsafe_at: operands.unsafe_at,
+    })
+}
+
+/// `?:`, where the condition is known to be true in the first branch, and to be false in the second.
+#[cycle(walk)]
+fn look_choice<'a>(
+    alloc: Global,
+    e: &'a CoreExpr,
+    c: &'a CoreExpr,
+    a: &'a CoreExpr,
+    b: &'a CoreExpr,
+    known: &mut Vec<Known<'a>>,
+) -> Result<Seen, AllocError>
+    ensures range { IfOk result (λ s. range_in s.ends ≡ narrowed (facts_in known.old.items) e.now
+        (spanned (range_of (facts_in known.old.items ++ facts_of true c.now) a.now)
+        (range_of (facts_in known.old.items ++ facts_of false c.now) b.now))) }
+    ensures first { IfOk result (λ s. s.unsafe_at ≡
+        first (first_unsafe (facts_in known.old.items) c.now)
+        (first (first_unsafe (facts_in known.old.items ++ facts_of true c.now) a.now)
+        (first_unsafe (facts_in known.old.items ++ facts_of false c.now) b.now))) }
+    ensures same { OnOk result (known.new.items ≡ known.old.items) }
+{
+    let test = expression_unsafe(alloc, c, known)?;
+    let one = look_under(alloc, true, c, a, known)?;
+    let other = look_under(alloc, false, c, b, known)?;
+    let found = first_of(test, first_of(one.unsafe_at, other.unsafe_at));
+    let ends = spanned_range(alloc, e, one.ends, other.ends, known)?;
+    Ok(Seen {
+        ends,
+        unsafe_at: found,
+    })
+}
+
+/// An expression where a condition is known to be true, or to be false.
+#[cycle(walk)]
+fn look_under<'a>(
+    alloc: Global,
+    truth: bool,
+    condition: &'a CoreExpr,
+    e: &'a CoreExpr,
+    known: &mut Vec<Known<'a>>,
+) -> Result<Seen, AllocError>
+    ensures range { IfOk result (λ s. range_in s.ends ≡
+        range_of (facts_in known.old.items ++ facts_of truth condition.now) e.now) }
+    ensures first { IfOk result (λ s. s.unsafe_at ≡
+        first_unsafe (facts_in known.old.items ++ facts_of truth condition.now) e.now) }
+    ensures same { OnOk result (known.new.items ≡ known.old.items) }
+{
+    known.push(Known { truth, condition })?;
+    let seen = look(alloc, e, known)?;
+    known.pop();
+    Ok(seen)
+}
