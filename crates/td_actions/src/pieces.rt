@@ -20,7 +20,8 @@ use td_expr::types::{bits_of, greatest_of, type_of};
 use td_rules::actions::Target;
 use td_rules::breach::Rule;
 use td_rules::known::{Known, Local, Scope, Taken};
-use td_typing::expressions::{fitting, number, span_of, start_core};
+use td_typing::cores::start_core;
+use td_typing::expressions::{fitting, number, span_of};
 use td_typing::findings::Findings;
 use td_typing::look_up::{is_literal_name, look_up};
 

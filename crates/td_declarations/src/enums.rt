@@ -4,7 +4,7 @@ ghost use Rattle.std.specs.Prelude.{◌≡◌, OnOk, IfOk, Some, []};
 ghost use Rattle.td_core.specs.Formed.{scalar_of};
 ghost use Rattle.td_rules.specs.Breach.{first_of};
 ghost use Rattle.td_rules.specs.Known.{no_scope};
-ghost use Rattle.td_rules.specs.Enums.{next_value, item_value, item_place, value_breaches, is_item_past, item_breaches, with_item, items_breaches, items_after, item_values, with_enum_name, enum_breaches, after_enum};
+ghost use Rattle.td_rules.specs.Enums.{next_value, item_value, item_place, value_breaches, is_item_past, item_breaches, items_breaches, items_after, item_values, enum_breaches, after_enum};
 
 use crate::constants::{
     check_constant, check_global, check_literal, constant_span, constant_value, declare, is_past,

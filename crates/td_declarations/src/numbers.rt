@@ -1,6 +1,6 @@
 //! Distinct numbers, and places in lists.
 
-ghost use Rattle.std.specs.Prelude.{◌≡◌, [], OnOk, OnErr, IfOk};
+ghost use Rattle.std.specs.Prelude.{◌≡◌, [], OnOk, OnErr, IfOk, false};
 ghost use Rattle.td_rules.specs.Constants.{is_among, with_number, is_value_among, with_value_number};
 
 use indexmap::IndexSet;
@@ -38,11 +38,16 @@ impl Numbers {
         self.set.contains(&number)
     }
 
-    /// One more number, unless it is there. `AllocError`: out of memory, and the numbers are as before.
+    /// One more number, unless it is there. `AllocError`: it wasn't, and there was no memory for it; the numbers are as
+    /// before.
     pub fn add(&mut self, number: u64) -> Result<(), AllocError>
         ensures ok { OnOk result (self.new ≡ with_number self.old number) }
         ensures err { OnErr result (self.new ≡ self.old) }
+        ensures unseen { OnErr result (is_among self.old number ≡ false) }
     {
+        if self.contains(number) {
+            return Ok(());
+        }
         self.set.insert(number)?;
         Ok(())
     }

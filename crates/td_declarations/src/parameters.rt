@@ -1,10 +1,10 @@
 //! Parameters.
 
-ghost use Rattle.std.specs.Prelude.{◌≡◌, ◌++◌, IfOk, OnOk, is_some, map};
+ghost use Rattle.std.specs.Prelude.{◌≡◌, IfOk, OnOk, is_some, map};
 ghost use Rattle.td_rules.specs.Breach.{first_of};
 ghost use Rattle.td_rules.specs.Known.{slots_at};
 ghost use Rattle.td_declarations.specs.Heads.{with_cell, with_all_cells};
-ghost use Rattle.td_rules.specs.Parameters.{no_head, found_width, plain_width, found_cell, cell_type, slot_kind, one_cell, slot_cell, cells_of, kinds_of, cells_local, unread_head, value_head, cell_head, with_param, head_of, named_breaches, plain_breaches, pointee_breaches, param_name_breaches, param_breaches, params_breaches};
+ghost use Rattle.td_rules.specs.Parameters.{no_head, found_width, plain_width, found_cell, cell_type, slot_kind, slot_cell, cells_of, cells_local, unread_head, value_head, cell_head, with_param, head_of, named_breaches, plain_breaches, pointee_breaches, param_name_breaches, param_breaches, params_breaches};
 
 use crate::numbers::next_place;
 use crate::scopes::{no_scope, none_taken};

@@ -1,12 +1,11 @@
 -- What the answer of elaboration says of the tree.
 use Rattle.std.proofs.Common.{◌≡◌, Option, Some, None, Result, Ok, Err, inr, refl, sym, ap, subst, ◌∙◌}
 use Rattle.std.specs.Prelude.{MatchOption, MatchResult, IfOk, IfErr}
-use Rattle.td_ast.specs.declared.token.Span.{Span}
 use Rattle.td_ast.specs.declared.definitions.ModuleTree.{ModuleTree}
 use Rattle.td_core.specs.declared.module.Module.{Module}
 use Rattle.td_rules.specs.declared.breach.Breach.{Breach}
 use Rattle.td_elab.specs.declared.elaborate.ElabError.{ElabError}
-use Rattle.td_elab.specs.declared.elaborate.ElabError.TheVariants.{Broken, NoMemory}
+use Rattle.td_elab.specs.declared.elaborate.ElabError.TheVariants.{NoMemory}
 use Rattle.td_rules.specs.Breach.{first_of, IsFirst}
 use Rattle.td_rules.specs.Modules.{breaches, module_of, StandsFor}
 use Rattle.td_elab.specs.Elaborates.{error_of, IsCause, IsOnly}

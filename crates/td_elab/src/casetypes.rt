@@ -3,7 +3,7 @@
 ghost use Rattle.std.specs.Prelude.{◌≡◌, [], IfOk, OnOk};
 ghost use Rattle.td_rules.specs.Breach.{first_of};
 ghost use Rattle.td_rules.specs.Known.{next_case};
-ghost use Rattle.td_rules.specs.Constants.{is_value_among, with_value_number};
+ghost use Rattle.td_rules.specs.Constants.{is_value_among};
 ghost use Rattle.td_rules.specs.Casetypes.{is_past_switch, case_breaches, case_taken, cases_breaches, cases_taken, default_breaches, default_taken, switch_breaches, switch_taken, cases_core, default_core, switch_core};
 ghost use Rattle.td_rules.specs.Fields.{fields_breaches, fields_core};
 

@@ -1,6 +1,5 @@
 -- The element and the width of a type are narrow.
-use Rattle.std.proofs.Common.{◌≡◌, ℕ, ◌*◌, ◌≤◌, Option, Some, None, subst, sym}
-use Rattle.td_num.specs.Numbers.{bytes_in}
+use Rattle.std.proofs.Common.{◌≡◌, ℕ, Option, Some, None, subst, sym}
 use Rattle.td_num.specs.declared.number.NumberType.{NumberType}
 use Rattle.td_ast.specs.declared.fields.TypeTree.{TypeTree}
 use Rattle.td_ast.specs.declared.fields.ExtentTree.{ExtentTree}

@@ -4,7 +4,7 @@ ghost use Rattle.std.specs.Prelude.{◌≡◌, ◌+◌, ◌*◌, ◌≤◌, [], 
 ghost use Rattle.td_num.specs.Numbers.{bytes_in};
 ghost use Rattle.td_rules.specs.declared.fields.FlatField.{FlatField};
 ghost use Rattle.td_fields.specs.Narrow.{IsNarrow};
-ghost use Rattle.td_rules.specs.BitFields.{fits_room, new_room, more_room, low_bit, unit_bits, part_of, whole_field, unit_field, new_unit, more_bits, room_of, closed, bit_field, gathered};
+ghost use Rattle.td_rules.specs.BitFields.{fits_room, low_bit, unit_bits, part_of, whole_field, unit_field, new_unit, more_bits, room_of, closed, bit_field, gathered};
 
 use std::alloc::{AllocError, Global};
 use td_core::module::{Bits, Element, Extent, Field, Part};

@@ -1,6 +1,6 @@
 //! The fields of a struct, a case or `default`.
 
-ghost use Rattle.std.specs.Prelude.{◌≡◌, [], None, IfOk, OnOk};
+ghost use Rattle.std.specs.Prelude.{◌≡◌, IfOk, OnOk};
 ghost use Rattle.td_rules.specs.Breach.{first_of};
 ghost use Rattle.td_rules.specs.Fields.{with_field, field_breaches, field_taken, flat_of, fields_breaches, fields_taken, fields_core};
 ghost use Rattle.td_fields.specs.Narrow.{IsNarrow};

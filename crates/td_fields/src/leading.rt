@@ -2,7 +2,8 @@
 
 ghost use Rattle.std.specs.Prelude.{◌≡◌, None, Some, IfOk, OnOk};
 ghost use Rattle.td_rules.specs.Sorts.{size_found};
-ghost use Rattle.td_rules.specs.Leading.{is_this, holds_this, has_type, array_size, kind_size, names_type, sized, unit_size, bits_size, extent_size, leading_field, leading_size};
+ghost use Rattle.td_rules.specs.Types.{number_type, is_byte};
+ghost use Rattle.td_rules.specs.Leading.{holds_this, array_size, kind_size, names_type, sized, unit_size, bits_size, leading_field, leading_size};
 ghost use Rattle.td_kinds.specs.declared.sizes.TheConstants.{SIZE_CAP};
 ghost use Rattle.td_kinds.specs.Kinds.{up_to};
 ghost use Rattle.td_fields.specs.Scopes.{Grows};
@@ -17,11 +18,10 @@ use td_ast::fields::{ExtentTree, FieldTree, TypeKind};
 use td_expr::constant::constant_of;
 use td_kinds::sizes::SIZE_CAP;
 use td_num::number::{NumberType, byte_count};
-use td_rules::expressions::Sort;
 use td_rules::fields::UnitRoom;
 use td_rules::known::{Known, Scope};
-use td_types::types::number_type;
-use td_typing::expressions::expression;
+use td_types::types::{is_byte, number_type};
+use td_typing::expressions::number;
 use td_typing::findings::Findings;
 use td_typing::look_up::{is_type, look_up, size_found};
 
@@ -42,16 +42,6 @@ fn holds_this(e: &Expr) -> bool
     }
 }
 
-/// Whether a sort has a type.
-fn has_type(sort: Sort) -> bool
-    ensures { result ≡ has_type sort }
-{
-    match sort {
-        Sort::Literal(_) | Sort::Typed(_) => true,
-        Sort::Broken | Sort::Untyped | Sort::Truth => false,
-    }
-}
-
 /// A size that kinds have.
 fn up_to_cap(size: Option<u64>) -> Option<u64>
     ensures { result ≡ up_to SIZE_CAP size }
@@ -62,7 +52,7 @@ fn up_to_cap(size: Option<u64>) -> Option<u64>
     }
 }
 
-/// The size of an array, where it is constant. `AllocError`: out of memory.
+/// The size of an array, where it is constant and breaks no rule. `AllocError`: out of memory.
 fn array_size(
     alloc: Global,
     known: &Known,
@@ -72,8 +62,8 @@ fn array_size(
     ensures { IfOk result (λ n. n ≡ array_size known.now scope.now e.now) }
 {
     let mut unheard = Findings::new();
-    let typing = expression(alloc, known, scope, e, &mut unheard)?;
-    if holds_this(e) || !has_type(typing.sort) {
+    let typing = number(alloc, known, scope, e, &mut unheard)?;
+    if holds_this(e) || unheard.first.is_some() {
         return Ok(None);
     }
     Ok(up_to_cap(constant_of(&typing.core)))
@@ -165,7 +155,14 @@ fn leading_field(
     }
     match &tree.extent {
         None => Ok(sized(kind_size(known, scope, &tree.type_tree.kind))),
-        Some(ExtentTree::Bytes(e) | ExtentTree::ByteSize(e) | ExtentTree::SingleElement(e)) => {
+        Some(ExtentTree::Bytes(e)) => {
+            if is_byte(number_type(known, scope, &tree.type_tree)) {
+                Ok(sized(array_size(alloc, known, scope, e)?))
+            } else {
+                Ok(None)
+            }
+        }
+        Some(ExtentTree::ByteSize(e) | ExtentTree::SingleElement(e)) => {
             Ok(sized(array_size(alloc, known, scope, e)?))
         }
         Some(ExtentTree::Zeroterm(_)) => Ok(None),

@@ -1,16 +1,15 @@
 -- Core actions are formed.
-use Rattle.std.proofs.Common.{◌≡◌, ℕ, suc, ◌+◌, ◌<◌, ◌≤◌, Bool, true, false, cond, List, [], ◌∷◌, ◌++◌, length, refl, sym, subst, arith, Option, Some, None, slice_get, nat_le}
+use Rattle.std.proofs.Common.{◌≡◌, ℕ, ◌+◌, ◌<◌, ◌≤◌, Bool, true, false, cond, List, [], ◌∷◌, ◌++◌, length, refl, sym, subst, arith, Option, Some, None, slice_get, nat_le}
 use Rattle.std.specs.Str.{bytes_eq}
 use Rattle.std.proofs.lemmas.Option.{slice_get_within}
 use Rattle.td_num.specs.declared.number.NumberType.{NumberType}
-use Rattle.td_ast.specs.declared.names.Name.{Name}
 use Rattle.td_ast.specs.declared.actions.Assigned.{Assigned}
 use Rattle.td_ast.specs.declared.actions.Assigned.TheVariants.{Value, FieldPtr}
 use Rattle.td_ast.specs.declared.actions.ActionTree.{ActionTree}
 use Rattle.td_ast.specs.Statements.{Statement, Store, StoreField, Var, If, IfElse, Return, Abort, Statements, End, More, block_of}
 use Rattle.td_core.specs.declared.expressions.Scalar.{Scalar}
 use Rattle.td_core.specs.declared.expressions.Scalar.TheVariants.{ThirtyTwo}
-use Rattle.td_core.specs.Term.{Term, Deed, set}
+use Rattle.td_core.specs.Term.{Deed, set}
 use Rattle.td_core.specs.Types.{bits, limit, type_of}
 use Rattle.td_core.specs.Formed.{Bound, scalar_of, whole, Takes, given, IsDeedFormed, IsActionFormed}
 use Rattle.td_rules.specs.declared.actions.Target.{Target}

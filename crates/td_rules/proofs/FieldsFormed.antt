@@ -1,5 +1,5 @@
 -- Core fields are formed.
-use Rattle.std.proofs.Common.{◌≡◌, ℕ, zero, suc, ◌+◌, ◌-◌, ◌*◌, ◌^◌, ◌<◌, ◌≤◌, Bool, true, false, cond, ◌&&◌, List, [], ◌∷◌, ◌++◌, length, map, refl, sym, ap, ◌∙◌, subst, arith, Option, Some, None, slice_get, nat_le, nat_lt, nat_eq, lit≤}
+use Rattle.std.proofs.Common.{◌≡◌, ℕ, zero, suc, ◌+◌, ◌-◌, ◌*◌, ◌^◌, ◌<◌, ◌≤◌, Bool, true, false, cond, ◌&&◌, List, [], ◌∷◌, ◌++◌, length, map, refl, sym, ap, ◌∙◌, subst, arith, Option, Some, None, slice_get, nat_le, nat_lt, nat_eq}
 use Rattle.std.proofs.Math.Nat.{pow-le-pow_right}
 use Rattle.std.proofs.lemmas.Bool.{leb-true, ltb-true, and_parts, false≢true}
 use Rattle.std.proofs.lemmas.Nat.{pow_pos}
@@ -34,7 +34,6 @@ use Rattle.td_core.specs.Types.{bits, limit, type_of}
 use Rattle.td_core.specs.Formed.{Bound, scalar_of, whole, cell_bound, param_bounds, cell_bounds, bits_bound, part_bound, parts_scope, IsScoped, IsOptionScoped, IsActionFormed, ArePartsFormed, AreArgsFormed, AreCellsFormed, params_at, cells_at, IsElementFormed, IsExtentFormed, AreFieldsFormed}
 use Rattle.td_rules.specs.declared.fields.Readable.{Readable}
 use Rattle.td_rules.specs.declared.fields.FlatField.{FlatField}
-use Rattle.td_rules.specs.declared.fields.UnitRoom.{UnitRoom}
 use Rattle.td_rules.specs.declared.fields.OpenUnit.{OpenUnit}
 use Rattle.td_rules.specs.declared.known.Parameter.{Parameter}
 use Rattle.td_rules.specs.declared.known.Parameter.TheVariants.{Value, Cells}
@@ -48,7 +47,7 @@ use Rattle.td_rules.specs.Known.{found_in, signature_at}
 use Rattle.td_rules.specs.Sorts.{core_of, option_core}
 use Rattle.td_rules.specs.Types.{same_number, number_found, number_of_kind, args_core, args_cells, fits_params, same_kind, is_kind, fits_cells, applied, found_element, kind_element, element_of}
 use Rattle.td_rules.specs.Extents.{is_width, zero_ended, extent_core, allowed, bit_width}
-use Rattle.td_rules.specs.BitFields.{fits_room, unit_bits, part_of, whole_field, unit_field, new_unit, more_bits, room_of, grown, closed, bit_field, gathered}
+use Rattle.td_rules.specs.BitFields.{fits_room, unit_bits, part_of, whole_field, new_unit, more_bits, room_of, grown, closed, gathered}
 use Rattle.td_rules.specs.Fields.{found_base, base_of, is_array, readable_bits, readable_base, readable_of, with_readable, with_field, refinement_core, flat_of, flats_of, fields_core}
 use Rattle.td_rules.proofs.Scopes.{bounds_of, IsScope, level_scope, value_scope, whole_small, whole_pos, wide_enough, limit_pos, core_scoped, option_scoped}
 use Rattle.td_rules.proofs.DeedsFormed.{action_formed}

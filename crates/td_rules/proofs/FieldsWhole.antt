@@ -1,7 +1,7 @@
 -- The fields of a tree's module are whole: bit fields lie in their numbers, refinements stand on numbers, arrays up to a
 -- zero have numbers, and enums have their values.
-use Rattle.std.proofs.Common.{◌≡◌, ◌⊎◌, inl, inr, ℕ, zero, suc, ◌+◌, ◌-◌, ◌*◌, ◌<◌, ◌≤◌, Bool, true, false, cond, ◌&&◌, if◌then◌else◌, List, [], ◌∷◌, ◌++◌, length, refl, sym, ap, ◌∙◌, subst, arith, Option, Some, None, is_some, nat_le, nat_lt, nat_eq, slice_get, length-append}
-use Rattle.std.proofs.lemmas.Bool.{leb-true, ltb-true, and_parts, false≢true}
+use Rattle.std.proofs.Common.{◌≡◌, ◌⊎◌, inl, inr, ℕ, zero, ◌+◌, ◌-◌, ◌*◌, ◌<◌, ◌≤◌, Bool, true, false, cond, ◌&&◌, if◌then◌else◌, List, [], ◌∷◌, ◌++◌, length, refl, sym, ap, ◌∙◌, subst, arith, Option, Some, None, is_some, nat_le, nat_lt, nat_eq, slice_get, length-append}
+use Rattle.std.proofs.lemmas.Bool.{leb-true, ltb-true, and_parts}
 use Rattle.std.proofs.lemmas.Option.{none-some, same_Some}
 use Rattle.std.specs.Str.{bytes_eq}
 use Rattle.td_num.specs.Numbers.{bytes_in}
@@ -27,15 +27,12 @@ use Rattle.td_core.specs.declared.module.Element.TheVariants as element
 use Rattle.td_core.specs.declared.module.Extent.{Extent}
 use Rattle.td_core.specs.declared.module.Extent.TheVariants.{Once, Filling, OnceFilling, UpToZero}
 use Rattle.td_core.specs.declared.module.Bits.{Bits}
-use Rattle.td_core.specs.declared.module.Field.{Field}
 use Rattle.td_core.specs.declared.module.Part.{Part}
 use Rattle.td_core.specs.declared.module.TypeDef.{TypeDef}
-use Rattle.td_core.specs.declared.module.Module.{Module}
 use Rattle.td_core.specs.WellFormed.{Each, OfSome, EachField, HasParts, AreBitsOf, AreParts, AreFieldParts, IsRefinable, IsZeroEnded, IsEnumThere, IsFieldWhole}
 use Rattle.td_names.specs.Names.{looked_up, declared}
 use Rattle.td_rules.specs.declared.fields.Readable.{Readable}
 use Rattle.td_rules.specs.declared.fields.FlatField.{FlatField}
-use Rattle.td_rules.specs.declared.fields.UnitRoom.{UnitRoom}
 use Rattle.td_rules.specs.declared.fields.OpenUnit.{OpenUnit}
 use Rattle.td_rules.specs.declared.known.Meaning.{Meaning}
 use Rattle.td_rules.specs.declared.known.Meaning.TheVariants as meaning

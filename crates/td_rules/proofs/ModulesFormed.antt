@@ -1,10 +1,9 @@
 -- The module of a tree is formed.
-use Rattle.std.proofs.Common.{◌≡◌, ◌⊎◌, inl, inr, ℕ, zero, suc, ◌+◌, ◌-◌, ◌<◌, ◌≤◌, Bool, true, false, List, [], ◌∷◌, ◌++◌, length, map, refl, sym, ap, ◌∙◌, subst, arith, Option, Some, None, slice_get, length-append, append_assoc}
-use Rattle.std.proofs.lemmas.List.{length-map, append-nil}
-use Rattle.std.proofs.lemmas.Option.{none-some, same_Some, slice_get_within}
+use Rattle.std.proofs.Common.{◌≡◌, ◌⊎◌, inl, inr, ℕ, zero, suc, ◌+◌, ◌-◌, ◌<◌, ◌≤◌, List, [], ◌∷◌, ◌++◌, length, map, refl, sym, ap, ◌∙◌, subst, arith, Option, Some, None, slice_get, length-append, append_assoc}
+use Rattle.std.proofs.lemmas.List.{length-map}
+use Rattle.std.proofs.lemmas.Option.{same_Some, slice_get_within}
 use Rattle.td_num.specs.declared.number.NumberType.{NumberType}
 use Rattle.td_num.specs.declared.number.Width.{Width}
-use Rattle.td_ast.specs.Trees.{Tree}
 use Rattle.td_ast.specs.declared.fields.FieldTree.{FieldTree}
 use Rattle.td_ast.specs.declared.parameters.ParamTree.{ParamTree}
 use Rattle.td_ast.specs.declared.parameters.ParamTree.TheVariants as param
@@ -22,8 +21,7 @@ use Rattle.td_core.specs.declared.module.CellKind.{CellKind}
 use Rattle.td_core.specs.declared.module.CellKind.TheVariants as kind
 use Rattle.td_core.specs.declared.module.Cell.{Cell}
 use Rattle.td_core.specs.declared.module.TypeDef.{TypeDef}
-use Rattle.td_core.specs.declared.module.Module.{Module}
-use Rattle.td_core.specs.Formed.{Bound, scalar_of, whole, cell_bound, param_bounds, cell_bounds, IsOptionScoped, AreFieldsFormed, AreCasesFormed, IsDefaultFormed, IsBodyFormed, IsDefinitionFormed, IsModuleFormed}
+use Rattle.td_core.specs.Formed.{Bound, scalar_of, whole, cell_bound, param_bounds, cell_bounds, AreCasesFormed, IsDefaultFormed, IsBodyFormed, IsDefinitionFormed, IsModuleFormed}
 use Rattle.td_rules.specs.declared.known.CellType.{CellType}
 use Rattle.td_rules.specs.declared.known.CellType.TheVariants as cell
 use Rattle.td_rules.specs.declared.known.Slot.{Slot}
@@ -32,15 +30,13 @@ use Rattle.td_rules.specs.declared.known.Known.{Known}
 use Rattle.td_rules.specs.declared.known.Scope.{Scope}
 use Rattle.td_rules.specs.declared.parameters.Head.{Head}
 use Rattle.td_rules.specs.Known.{nothing_known, slots_at}
-use Rattle.td_rules.specs.Sorts.{option_core}
-use Rattle.td_rules.specs.Constants.{constant_value, number_or_zero}
 use Rattle.td_rules.specs.Enums.{next_value, item_value, with_item, items_after, with_enum_name, after_enum}
-use Rattle.td_rules.specs.Parameters.{no_head, plain_width, cell_type, slot_kind, one_cell, slot_cell, cells_of, kinds_of, cells_local, unread_head, value_head, cell_head, with_param, head_of}
-use Rattle.td_rules.specs.Casetypes.{cases_core, default_core, switch_core}
+use Rattle.td_rules.specs.Parameters.{no_head, plain_width, cell_type, slot_kind, slot_cell, cells_of, kinds_of, cells_local, unread_head, value_head, cell_head, with_param, head_of}
+use Rattle.td_rules.specs.Casetypes.{cases_core, default_core}
 use Rattle.td_rules.specs.Definitions.{struct_head, struct_scope, struct_core, casetype_head, casetype_core, after, known_after}
 use Rattle.td_rules.specs.Modules.{names_of, module_of}
 use Rattle.td_rules.specs.Laws.{ModulesAreFormed}
-use Rattle.td_rules.proofs.Scopes.{bounds_of, slot_bound, IsCellThere, IsRowThere, IsLocalThere, AreLocalsThere, IsStartThere, IsScope, get_more, get_end, value_scope, whole_small, whole_pos, locals_declared, locals_cells, core_scoped, option_scoped}
+use Rattle.td_rules.proofs.Scopes.{bounds_of, slot_bound, IsRowThere, IsLocalThere, AreLocalsThere, IsScope, get_more, get_end, value_scope, whole_small, whole_pos, locals_declared, locals_cells, core_scoped, option_scoped}
 use Rattle.td_rules.proofs.FieldsFormed.{fields_formed}
 
 -- Heads

@@ -1,5 +1,5 @@
 -- In a module that a tree stands for, truth values stand where truth values must, and numbers where numbers must.
-use Rattle.std.proofs.Common.{◌≡◌, ◌≢◌, ℕ, ◌+◌, Bool, true, false, cond, not, ◌&&◌, List, [], ◌∷◌, ◌++◌, length, refl, sym, ap, ◌∙◌, subst, Option, Some, None, nat_le, slice_get}
+use Rattle.std.proofs.Common.{◌≡◌, ◌≢◌, ℕ, Bool, true, false, cond, ◌&&◌, List, [], ◌∷◌, refl, sym, subst, Option, Some, None, nat_le, slice_get}
 use Rattle.td_num.specs.declared.number.NumberType.{NumberType}
 use Rattle.td_num.specs.declared.number.Width.{Width}
 use Rattle.td_ast.specs.Trees.{Tree}
@@ -22,26 +22,19 @@ use Rattle.td_ast.specs.declared.definitions.StructTree.{StructTree}
 use Rattle.td_ast.specs.declared.definitions.CasetypeTree.{CasetypeTree}
 use Rattle.td_ast.specs.declared.definitions.Def.{Def}
 use Rattle.td_ast.specs.declared.definitions.Def.TheVariants.{Define, Enum, Alias, Struct, Casetype, Output}
-use Rattle.td_ast.specs.declared.definitions.ModuleTree.{ModuleTree}
 use Rattle.td_core.specs.declared.expressions.Scalar.{Scalar}
-use Rattle.td_core.specs.declared.expressions.Scalar.TheVariants.{Truth, ThirtyTwo}
+use Rattle.td_core.specs.declared.expressions.Scalar.TheVariants.{Truth}
 use Rattle.td_core.specs.Term.{Term, Deed, set}
 use Rattle.td_core.specs.Types.{bits, type_of}
 use Rattle.td_core.specs.Formed.{scalar_of}
 use Rattle.td_core.specs.declared.module.Element.{Element}
 use Rattle.td_core.specs.declared.module.Element.TheVariants as element
-use Rattle.td_core.specs.declared.module.Field.{Field}
-use Rattle.td_core.specs.declared.module.Part.{Part}
 use Rattle.td_core.specs.declared.module.TypeDef.{TypeDef}
-use Rattle.td_core.specs.declared.module.Module.{Module}
-use Rattle.td_core.specs.WellFormed.{Each, OfSome, EachField, IsSorted, IsDeedSorted, IsElementSorted, IsExtentSorted, IsPartSorted, IsFieldSorted, IsSwitchSorted, IsDefinitionSorted}
-use Rattle.td_rules.specs.declared.breach.Rule.TheVariants.{WrongArgs, Mismatch}
-use Rattle.td_rules.specs.declared.breach.Breach.{Breach}
+use Rattle.td_core.specs.WellFormed.{Each, OfSome, IsSorted, IsDeedSorted, IsElementSorted, IsExtentSorted, IsPartSorted, IsFieldSorted, IsDefinitionSorted}
 use Rattle.td_rules.specs.declared.actions.Target.{Target}
 use Rattle.td_rules.specs.declared.actions.Target.TheVariants as target
 use Rattle.td_rules.specs.declared.fields.Readable.{Readable}
 use Rattle.td_rules.specs.declared.fields.FlatField.{FlatField}
-use Rattle.td_rules.specs.declared.fields.OpenUnit.{OpenUnit}
 use Rattle.td_rules.specs.declared.known.CellType.{CellType}
 use Rattle.td_rules.specs.declared.known.CellType.TheVariants as cell
 use Rattle.td_rules.specs.declared.known.Parameter.{Parameter}
@@ -57,21 +50,21 @@ use Rattle.td_rules.specs.declared.parameters.Head.{Head}
 use Rattle.td_rules.specs.Known.{nothing_known, found_in, signature_at, next_case}
 use Rattle.td_rules.specs.Sorts.{type_alone, sort_of, core_of, option_core, start_core}
 use Rattle.td_rules.specs.ExprRules.{number_breaches, truth_breaches, fitting_breaches, test_breaches}
-use Rattle.td_rules.specs.Actions.{stored_cell, stored_slot, target_breaches, stored_breaches, read_breaches, with_read, scope_after, vars_after, block_vars, var_breaches, statement_breaches, block_breaches, shape_breaches, inside, action_breaches, set_core, read_core, statement_core, block_core, action_core}
-use Rattle.td_rules.specs.Types.{number_type, is_byte, are_applied, args_breaches, applied_breaches, found_breaches, kind_breaches, type_breaches, args_core, args_cells, fits_params, fits_cells, applied, found_element, kind_element, element_of}
+use Rattle.td_rules.specs.Actions.{stored_cell, stored_slot, target_breaches, stored_breaches, with_read, scope_after, vars_after, block_vars, statement_breaches, block_breaches, shape_breaches, inside, action_breaches, set_core, read_core, statement_core, block_core, action_core}
+use Rattle.td_rules.specs.Types.{args_breaches, found_breaches, kind_breaches, type_breaches, args_core, args_cells, fits_params, fits_cells, applied, found_element, kind_element, element_of}
 use Rattle.td_rules.specs.Extents.{extent_breaches, zero_ended, extent_core}
 use Rattle.td_rules.specs.BitFields.{part_of}
-use Rattle.td_rules.specs.Fields.{is_array, base_of, readable_bits, readable_base, readable_of, with_readable, with_field, field_name_breaches, refined_breaches, field_breaches, field_taken, fields_breaches, fields_taken, refinement_core, flat_of, flats_of, fields_core}
+use Rattle.td_rules.specs.Fields.{is_array, base_of, readable_bits, readable_base, readable_of, with_readable, with_field, field_name_breaches, refined_breaches, field_breaches, field_taken, fields_breaches, refinement_core, flat_of, flats_of, fields_core}
 use Rattle.td_rules.specs.Extents.{bit_width}
 use Rattle.td_rules.specs.Constants.{with_value_number, constant_value}
 use Rattle.td_rules.specs.Enums.{next_value, item_value, with_item, items_after, with_enum_name}
-use Rattle.td_rules.specs.Parameters.{no_head, plain_width, cell_type, cells_local, value_head, cell_head, with_param, head_of, params_breaches}
+use Rattle.td_rules.specs.Parameters.{no_head, plain_width, cell_type, value_head, cell_head, with_param, head_of, params_breaches}
 use Rattle.td_rules.specs.Casetypes.{case_breaches, case_taken, cases_breaches, cases_taken, default_breaches, switch_breaches, cases_core, default_core}
 use Rattle.td_rules.specs.Definitions.{struct_head, struct_scope, struct_breaches, struct_core, casetype_head, casetype_breaches, casetype_core, definition_breaches, definitions_breaches, after, known_after}
-use Rattle.td_rules.specs.Modules.{names_of, module_of, StandsFor}
+use Rattle.td_rules.specs.Modules.{names_of}
 use Rattle.td_rules.specs.Laws.{ModulesAreSorted}
 use Rattle.td_rules.proofs.Whole.{each_append, gathered_each}
-use Rattle.td_rules.proofs.Sorting.{left_none, right_none, when_none, scalar_number, HasNumbers, numbers_declared, number_sorted, truth_sorted, fitting_sorted, test_sorted}
+use Rattle.td_rules.proofs.Sorting.{left_none, right_none, scalar_number, HasNumbers, numbers_declared, number_sorted, truth_sorted, fitting_sorted, test_sorted}
 
 -- Actions
 

@@ -1,11 +1,10 @@
 -- Each name of a tree's module has its bytes, and no two have the same.
-use Rattle.std.proofs.Common.{◌≡◌, ℕ, zero, suc, ◌+◌, ◌<◌, ◌≤◌, Bool, true, false, cond, not, ◌||◌, if◌then◌else◌, List, [], ◌∷◌, ◌++◌, length, map, refl, sym, ap, ◌∙◌, subst, arith, Option, Some, None, slice_get}
+use Rattle.std.proofs.Common.{◌≡◌, ℕ, zero, suc, ◌+◌, ◌<◌, Bool, true, false, cond, not, ◌||◌, if◌then◌else◌, List, [], ◌∷◌, ◌++◌, length, map, refl, sym, ap, ◌∙◌, subst, arith, Option, Some, None, slice_get}
 use Rattle.std.proofs.lemmas.Bool.{false≢true}
 use Rattle.std.proofs.lemmas.Slice.Eq.{bytes_eq-Decides}
 use Rattle.std.proofs.lemmas.List.Folds.{list_any-append}
 use Rattle.std.proofs.lemmas.Option.{none-some, same_Some}
 use Rattle.std.specs.Str.{bytes_eq}
-use Rattle.td_num.specs.declared.number.NumberType.{NumberType}
 use Rattle.td_ast.specs.declared.fields.FieldTree.{FieldTree}
 use Rattle.td_ast.specs.declared.parameters.ParamTree.{ParamTree}
 use Rattle.td_ast.specs.declared.parameters.ParamTree.TheVariants as param
@@ -17,17 +16,11 @@ use Rattle.td_ast.specs.declared.definitions.CasetypeTree.{CasetypeTree}
 use Rattle.td_ast.specs.declared.definitions.Def.{Def}
 use Rattle.td_ast.specs.declared.definitions.Def.TheVariants.{Define, Enum, Alias, Struct, Casetype, Output}
 use Rattle.td_ast.specs.declared.definitions.ModuleTree.{ModuleTree}
-use Rattle.td_core.specs.declared.module.NameId.{NameId}
-use Rattle.td_core.specs.declared.module.Param.{Param}
 use Rattle.td_core.specs.declared.module.Cell.{Cell}
-use Rattle.td_core.specs.declared.module.Field.{Field}
 use Rattle.td_core.specs.declared.module.Part.{Part}
-use Rattle.td_core.specs.declared.module.TypeDef.{TypeDef}
-use Rattle.td_core.specs.declared.module.Module.{Module}
-use Rattle.td_core.specs.WellFormed.{Each, OfSome, EachField, IsNameThere, IsDefinitionNamed}
+use Rattle.td_core.specs.WellFormed.{Each, OfSome, IsNameThere, IsDefinitionNamed}
 use Rattle.td_names.specs.Names.{is_seen, with_name, number_of}
 use Rattle.td_rules.specs.declared.fields.FlatField.{FlatField}
-use Rattle.td_rules.specs.declared.fields.OpenUnit.{OpenUnit}
 use Rattle.td_rules.specs.declared.known.CellType.{CellType}
 use Rattle.td_rules.specs.declared.known.CellType.TheVariants as cell
 use Rattle.td_rules.specs.declared.known.Slot.{Slot}
@@ -35,8 +28,7 @@ use Rattle.td_rules.specs.declared.known.Known.{Known}
 use Rattle.td_rules.specs.declared.known.Scope.{Scope}
 use Rattle.td_rules.specs.declared.parameters.Head.{Head}
 use Rattle.td_rules.specs.Known.{nothing_known, slots_at}
-use Rattle.td_rules.specs.BitFields.{part_of, more_bits}
-use Rattle.td_rules.specs.Fields.{with_field, flat_of, flats_of, fields_core}
+use Rattle.td_rules.specs.Fields.{with_field, flats_of, fields_core}
 use Rattle.td_rules.specs.Enums.{next_value, item_value, with_item, items_after, with_enum_name, after_enum}
 use Rattle.td_rules.specs.Parameters.{no_head, plain_width, cell_type, slot_cell, cells_of, value_head, cell_head, with_param, head_of}
 use Rattle.td_rules.specs.Casetypes.{cases_core, default_core}

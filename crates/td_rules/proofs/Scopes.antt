@@ -1,5 +1,5 @@
 -- What a scope says of its local names, and that core expressions stand in it. The bounds are those of the values in scope.
-use Rattle.std.proofs.Common.{◌≡◌, ℕ, zero, suc, ◌+◌, ◌-◌, ◌^◌, ◌<◌, ◌≤◌, Bool, true, false, cond, if◌then◌else◌, List, [], ◌∷◌, ◌++◌, length, map, refl, sym, ap, ◌∙◌, subst, arith, Option, Some, None, slice_get, is_some, nat_lt, nat_le, lit<, length-append}
+use Rattle.std.proofs.Common.{◌≡◌, ℕ, zero, suc, ◌+◌, ◌-◌, ◌<◌, ◌≤◌, Bool, true, false, cond, if◌then◌else◌, List, [], ◌∷◌, ◌++◌, length, map, refl, ap, ◌∙◌, subst, arith, Option, Some, None, slice_get, is_some, nat_lt, nat_le, lit<, length-append}
 use Rattle.std.specs.Str.{bytes_eq}
 use Rattle.std.proofs.Math.Nat.{pow-le-pow_right}
 use Rattle.std.proofs.lemmas.Bool.{ltb-true, leb-true}
@@ -34,7 +34,7 @@ use Rattle.td_rules.specs.declared.known.Found.TheVariants as found
 use Rattle.td_rules.specs.declared.known.Known.{Known}
 use Rattle.td_rules.specs.declared.known.Scope.{Scope}
 use Rattle.td_rules.specs.Known.{slots_at, global_found, local_found, found_in, with_local, with_level, with_value}
-use Rattle.td_rules.specs.Sorts.{operation, narrowest, literal_type, sort_of, literal_of, literal_alone, found_core, start_core, size_core, truth_core, beside, unary_core, operation_core, range_core, core_of, option_core, size_named}
+use Rattle.td_rules.specs.Sorts.{operation, narrowest, literal_type, sort_of, literal_of, found_core, start_core, size_core, truth_core, beside, unary_core, operation_core, range_core, core_of, option_core, size_named}
 
 -- Limits of types
 

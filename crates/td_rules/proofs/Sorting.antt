@@ -1,5 +1,5 @@
 -- In an expression that breaks no rule, truth values stand where truth values must, and numbers where numbers must.
-use Rattle.std.proofs.Common.{◌≡◌, ◌≢◌, ℕ, ◌+◌, Bool, true, false, cond, not, ◌&&◌, ◌||◌, if◌then◌else◌, List, [], ◌∷◌, ◌++◌, refl, sym, ap, ◌∙◌, subst, Option, Some, None, is_some, is_none, nat_lt, nat_le}
+use Rattle.std.proofs.Common.{◌≡◌, ◌≢◌, ℕ, ◌+◌, Bool, true, false, cond, not, ◌&&◌, ◌||◌, if◌then◌else◌, List, [], ◌∷◌, ◌++◌, refl, sym, ◌∙◌, subst, Option, Some, None, is_some, is_none, nat_lt, nat_le}
 use Rattle.std.proofs.lemmas.Option.{none-some, same_Some}
 use Rattle.std.specs.Str.{bytes_eq}
 use Rattle.td_num.specs.declared.number.Width.{Width}
@@ -18,11 +18,10 @@ use Rattle.td_core.specs.declared.expressions.Binary.TheVariants as binary
 use Rattle.td_core.specs.Term.{Term, number}
 use Rattle.td_core.specs.Types.{bits, limit, wider, computed_type, type_of}
 use Rattle.td_core.specs.Formed.{scalar_of}
-use Rattle.td_core.specs.WellFormed.{HasSort, HasSorts, IsSorted, OfSome}
+use Rattle.td_core.specs.WellFormed.{IsSorted, OfSome}
 use Rattle.td_names.specs.Names.{looked_up, declared}
 use Rattle.td_rules.specs.declared.breach.Rule.{Rule}
 use Rattle.td_rules.specs.declared.breach.Rule.TheVariants.{Unknown, Mismatch, NotConstant}
-use Rattle.td_rules.specs.declared.breach.Breach.{Breach}
 use Rattle.td_rules.specs.declared.expressions.Sort.{Sort}
 use Rattle.td_rules.specs.declared.expressions.Sort.TheVariants as sort
 use Rattle.td_rules.specs.declared.expressions.Operation.{Operation}
@@ -37,8 +36,8 @@ use Rattle.td_rules.specs.declared.known.Known.{Known}
 use Rattle.td_rules.specs.declared.known.Scope.{Scope}
 use Rattle.td_rules.specs.Breach.{when}
 use Rattle.td_rules.specs.Known.{global_found, local_found, found_in}
-use Rattle.td_rules.specs.Sorts.{operation, narrowest, type_alone, literal_type, type_beside, typed_by, computed_sort, operation_sort, typed, unary_sort, choice_sort, size_found, size_named, size_sort, found_sort, start_sort, sort_of, literal_of, literal_alone, found_core, start_core, size_core, truth_core, beside, unary_core, operation_core, range_core, core_of, option_core}
-use Rattle.td_rules.specs.ExprRules.{is_truth, is_number, name_breaches, is_nothing, is_type, size_breaches, wanted_number, wanted_truth, is_wrong_operand, are_wrong_operands, is_wrong_choice, expr_breaches, number_breaches, truth_breaches, fitting_breaches, test_breaches}
+use Rattle.td_rules.specs.Sorts.{operation, narrowest, type_alone, literal_type, type_beside, typed_by, computed_sort, operation_sort, typed, unary_sort, choice_sort, size_found, size_named, size_sort, found_sort, start_sort, sort_of, literal_of, found_core, start_core, size_core, truth_core, beside, unary_core, operation_core, range_core, core_of, option_core}
+use Rattle.td_rules.specs.ExprRules.{is_truth, is_number, name_breaches, is_nothing, is_type, size_breaches, wanted_number, is_wrong_operand, are_wrong_operands, is_wrong_choice, expr_breaches, number_breaches, truth_breaches, fitting_breaches, test_breaches}
 
 -- Lists without breaches
 

@@ -1,5 +1,5 @@
 -- Each field of a tree's module has a part, and each entry point a definition.
-use Rattle.std.proofs.Common.{◌≡◌, ℕ, ◌+◌, ◌<◌, ◌≤◌, Bool, true, false, cond, List, [], ◌∷◌, ◌++◌, length, refl, sym, ap, ◌∙◌, subst, arith, Option, Some, None, length-append}
+use Rattle.std.proofs.Common.{◌≡◌, ℕ, ◌+◌, ◌<◌, ◌≤◌, Bool, true, false, cond, List, [], ◌∷◌, ◌++◌, length, refl, sym, subst, arith, Option, Some, None, length-append}
 use Rattle.td_num.specs.declared.number.NumberType.{NumberType}
 use Rattle.td_ast.specs.declared.fields.FieldTree.{FieldTree}
 use Rattle.td_ast.specs.declared.definitions.ItemTree.{ItemTree}
@@ -9,16 +9,14 @@ use Rattle.td_ast.specs.declared.definitions.Def.TheVariants.{Define, Enum, Alia
 use Rattle.td_ast.specs.declared.definitions.ModuleTree.{ModuleTree}
 use Rattle.td_core.specs.declared.module.Field.{Field}
 use Rattle.td_core.specs.declared.module.Part.{Part}
-use Rattle.td_core.specs.declared.module.Bits.{Bits}
 use Rattle.td_core.specs.declared.module.TypeDef.{TypeDef}
-use Rattle.td_core.specs.declared.module.Module.{Module}
 use Rattle.td_core.specs.WellFormed.{Each, OfSome, EachField, HasParts, IsWhole}
 use Rattle.td_rules.specs.declared.fields.FlatField.{FlatField}
 use Rattle.td_rules.specs.declared.fields.OpenUnit.{OpenUnit}
 use Rattle.td_rules.specs.declared.known.Known.{Known}
 use Rattle.td_rules.specs.declared.known.Scope.{Scope}
 use Rattle.td_rules.specs.Known.{nothing_known}
-use Rattle.td_rules.specs.BitFields.{part_of, whole_field, new_unit, more_bits, grown, closed, bit_field, room_of, fits_room, gathered}
+use Rattle.td_rules.specs.BitFields.{whole_field, new_unit, more_bits, grown, closed, bit_field, room_of, fits_room, gathered}
 use Rattle.td_rules.specs.Fields.{flats_of, fields_core}
 use Rattle.td_rules.specs.Enums.{next_value, item_value, with_item, items_after, with_enum_name}
 use Rattle.td_rules.specs.Casetypes.{cases_core, default_core}

@@ -13,7 +13,7 @@ use Rattle.td_ast.specs.declared.actions.ActionTree.{ActionTree}
 use Rattle.td_ast.specs.Trees.{span_of}
 use Rattle.td_ast.specs.Statements.{Statement, Store, StoreField, Var, If, IfElse, Return, Abort, Statements, End, More, block_of}
 use Rattle.td_core.specs.declared.expressions.Scalar.TheVariants.{ThirtyTwo}
-use Rattle.td_core.specs.Term.{Term, Deed, done, set, keep, fork, answer, give_up}
+use Rattle.td_core.specs.Term.{Deed, done, set, keep, fork, answer, give_up}
 use Rattle.td_core.specs.Types.{bits, limit, type_of}
 use Rattle.td_core.specs.Formed.{scalar_of}
 use Rattle.td_names.specs.Names.{is_seen}

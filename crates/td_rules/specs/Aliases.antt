@@ -1,6 +1,6 @@
 -- The rules of other names for types (3D manual, "Type definitions"): of a number type, an enum, or a struct or casetype
 -- without parameters.
-use Rattle.std.specs.Prelude.{ℕ, ◌+◌, Bool, not, ◌&&◌, List, [], ◌∷◌, ◌++◌, Option, Some, None, is_none}
+use Rattle.std.specs.Prelude.{ℕ, ◌+◌, not, ◌&&◌, List, [], ◌∷◌, ◌++◌, Option, Some, None, is_none}
 use Rattle.td_ast.specs.declared.names.PlainTree.{PlainTree}
 use Rattle.td_ast.specs.declared.names.PlainTree.TheVariants.{Number, Named}
 use Rattle.td_ast.specs.declared.definitions.AliasTree.{AliasTree}

@@ -1,6 +1,5 @@
 -- The rules of casetypes (3D manual, "Casetypes"): the value of a case is a constant, and fits the type of the switch.
 use Rattle.std.specs.Prelude.{ℕ, Bool, false, List, [], ◌∷◌, ◌++◌, Option, Some, None}
-use Rattle.td_ast.specs.Trees.{Tree}
 use Rattle.td_ast.specs.declared.names.ConstTree.{ConstTree}
 use Rattle.td_ast.specs.declared.fields.FieldTree.{FieldTree}
 use Rattle.td_ast.specs.declared.definitions.CaseTree.{CaseTree}

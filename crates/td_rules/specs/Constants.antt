@@ -1,5 +1,5 @@
 -- The rules of what stands at a constant's place, and of distinct names (3D manual, "Constants", "Enums").
-use Rattle.std.specs.Prelude.{ℕ, Bool, true, false, not, ◌||◌, ◌&&◌, nat_eq, nat_le, List, [], ◌∷◌, ◌++◌, Option, Some, None, is_some, is_none, if◌then◌else◌}
+use Rattle.std.specs.Prelude.{ℕ, Bool, false, not, ◌||◌, ◌&&◌, nat_eq, nat_le, List, [], ◌∷◌, ◌++◌, Option, Some, None, is_some, is_none, if◌then◌else◌}
 use Rattle.std.specs.List.{list_any}
 use Rattle.td_ast.specs.declared.names.ConstTree.{ConstTree}
 use Rattle.td_ast.specs.declared.names.ConstTree.TheVariants.{Number, Named}

@@ -1,6 +1,6 @@
 -- The rules of expressions: for each the list of its breaches (own rules, after the 3D manual). Their order in these
 -- lists means nothing, as the least is named.
-use Rattle.std.specs.Prelude.{ℕ, Bool, true, false, not, ◌||◌, ◌&&◌, nat_lt, List, [], ◌++◌, Option, Some, None, is_none}
+use Rattle.std.specs.Prelude.{Bool, true, false, not, ◌||◌, ◌&&◌, nat_lt, List, [], ◌++◌, Option, Some, None, is_none}
 use Rattle.td_ast.specs.declared.expressions.UnaryOperator.{UnaryOperator}
 use Rattle.td_ast.specs.declared.expressions.UnaryOperator.TheVariants.{Not, Complement}
 use Rattle.td_ast.specs.declared.expressions.SizeofOperand.{SizeofOperand}

@@ -1,6 +1,6 @@
 -- The rules of what stands after a field's name: an array's size, or a width of bits (3D manual, "Variable-length
 -- structures", "Bitfields"; own rules: `[e]`, the bound of zero-terminated arrays).
-use Rattle.std.specs.Prelude.{ℕ, ◌*◌, Bool, true, false, cond, not, ◌||◌, ◌&&◌, nat_le, nat_lt, List, [], ◌++◌, Option, Some, None, is_none}
+use Rattle.std.specs.Prelude.{ℕ, ◌*◌, Bool, cond, not, ◌&&◌, nat_le, nat_lt, List, [], ◌++◌, Option, Some, None, is_none}
 use Rattle.td_num.specs.Numbers.{bytes_in}
 use Rattle.td_num.specs.declared.number.NumberType.{NumberType}
 use Rattle.td_ast.specs.declared.fields.TypeTree.{TypeTree}

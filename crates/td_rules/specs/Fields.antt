@@ -4,7 +4,6 @@ use Rattle.td_num.specs.declared.number.NumberType.{NumberType}
 use Rattle.td_num.specs.declared.number.Width.{Width}
 use Rattle.td_ast.specs.declared.fields.TypeKind.{TypeKind}
 use Rattle.td_ast.specs.declared.fields.TypeKind.TheVariants as type
-use Rattle.td_ast.specs.declared.fields.TypeTree.{TypeTree}
 use Rattle.td_ast.specs.declared.fields.ExtentTree.{ExtentTree}
 use Rattle.td_ast.specs.declared.fields.ExtentTree.TheVariants.{Bytes, ByteSize, SingleElement, Zeroterm, Bits}
 use Rattle.td_ast.specs.declared.fields.FieldTree.{FieldTree}

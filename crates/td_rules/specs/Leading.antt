@@ -1,7 +1,7 @@
 -- `sizeof(this)` (own rule): the size of a struct's leading fields of constant size, before the first array whose size
 -- holds it. A field whose type, size or width breaks a rule ends them too, so that no rule is found broken at an earlier
 -- place for that.
-use Rattle.std.specs.Prelude.{ℕ, ◌+◌, Bool, true, false, cond, not, ◌||◌, List, [], ◌∷◌, Option, Some, None}
+use Rattle.std.specs.Prelude.{ℕ, ◌+◌, Bool, true, false, cond, ◌||◌, is_some, List, [], ◌∷◌, Option, Some, None}
 use Rattle.td_num.specs.Numbers.{bytes_in}
 use Rattle.td_num.specs.declared.number.NumberType.{NumberType}
 use Rattle.td_ast.specs.declared.expressions.SizeofOperand.{SizeofOperand}
@@ -16,15 +16,14 @@ use Rattle.td_ast.specs.Trees as tree
 use Rattle.td_expr.specs.Same.{constant_of}
 use Rattle.td_kinds.specs.declared.sizes.TheConstants.{SIZE_CAP}
 use Rattle.td_kinds.specs.Kinds.{up_to}
-use Rattle.td_rules.specs.declared.expressions.Sort.{Sort}
-use Rattle.td_rules.specs.declared.expressions.Sort.TheVariants as sort
 use Rattle.td_rules.specs.declared.fields.UnitRoom.{UnitRoom}
 use Rattle.td_rules.specs.declared.known.Known.{Known}
 use Rattle.td_rules.specs.declared.known.Scope.{Scope}
 use Rattle.td_rules.specs.Known.{found_in}
-use Rattle.td_rules.specs.Sorts.{size_found, sort_of, core_of}
-use Rattle.td_rules.specs.ExprRules.{is_type}
-use Rattle.td_rules.specs.Types.{number_type}
+use Rattle.td_rules.specs.Breach.{first_of}
+use Rattle.td_rules.specs.Sorts.{size_found, core_of}
+use Rattle.td_rules.specs.ExprRules.{is_type, number_breaches}
+use Rattle.td_rules.specs.Types.{number_type, is_byte}
 use Rattle.td_rules.specs.Extents.{bit_width}
 use Rattle.td_rules.specs.BitFields.{fits_room, new_room, more_room}
 use Rattle.td_rules.specs.Fields.{with_field}
@@ -46,16 +45,9 @@ holds_this (tree.Unary at op own a) = holds_this a
 holds_this (tree.Binary at op own a b) = holds_this a || holds_this b
 holds_this (tree.Choice at own c a b) = holds_this c || (holds_this a || holds_this b)
 
-abbrev pub has_type : Sort → Bool
-has_type (sort.Literal n) = true
-has_type (sort.Typed w) = true
-has_type sort.Broken = false
-has_type sort.Untyped = false
-has_type sort.Truth = false
-
--- the size of an array; none past 2^32, as kinds have it
+-- the size of an array, where it breaks no rule; none past 2^32, as kinds have it
 abbrev pub array_size : Known → Scope → Tree → Option ℕ
-array_size k s e = cond (holds_this e || not (has_type (sort_of k s e))) None (up_to SIZE_CAP (constant_of (core_of k s e)))
+array_size k s e = cond (holds_this e || is_some (first_of None (number_breaches k s e))) None (up_to SIZE_CAP (constant_of (core_of k s e)))
 
 -- the size of a type, whatever its arguments
 abbrev pub kind_size : Known → Scope → TypeKind → Option ℕ
@@ -92,7 +84,7 @@ bits_size room (Some t) (Some w) = unit_size room t w
 
 abbrev pub extent_size : Known → Scope → Option UnitRoom → FieldTree → Option ExtentTree → Leading
 extent_size k s room f None = sized (kind_size k s f.type_tree.kind)
-extent_size k s room f (Some (Bytes e)) = sized (array_size k s e)
+extent_size k s room f (Some (Bytes e)) = cond (is_byte (number_type k s f.type_tree)) (sized (array_size k s e)) None
 extent_size k s room f (Some (ByteSize e)) = sized (array_size k s e)
 extent_size k s room f (Some (SingleElement e)) = sized (array_size k s e)
 extent_size k s room f (Some (Zeroterm e)) = None

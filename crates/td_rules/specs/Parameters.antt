@@ -12,8 +12,6 @@ use Rattle.td_ast.specs.declared.parameters.ParamTree.{ParamTree}
 use Rattle.td_ast.specs.declared.parameters.ParamTree.TheVariants as param
 use Rattle.td_core.specs.Types.{limit}
 use Rattle.td_core.specs.Formed.{scalar_of}
-use Rattle.td_core.specs.declared.module.NameId.{NameId}
-use Rattle.td_core.specs.declared.module.Param.{Param}
 use Rattle.td_core.specs.declared.module.CellKind.{CellKind}
 use Rattle.td_core.specs.declared.module.CellKind.TheVariants as kind
 use Rattle.td_core.specs.declared.module.Cell.{Cell}
@@ -34,7 +32,6 @@ use Rattle.td_rules.specs.declared.known.Scope.{Scope}
 use Rattle.td_rules.specs.declared.parameters.Head.{Head}
 use Rattle.td_rules.specs.Breach.{when}
 use Rattle.td_rules.specs.Known.{no_scope, none_taken, found_in, slots_at, is_literal_name, with_local, with_value, with_cells, with_outer}
-use Rattle.td_rules.specs.ExprRules.{is_nothing}
 
 -- before the first parameter
 abbrev pub no_head : Head

@@ -1,5 +1,5 @@
 -- The rules of output records (3D manual, "Output types"; own rule: their slots are numbers and pointers).
-use Rattle.std.specs.Prelude.{ℕ, ◌+◌, Bool, ◌||◌, List, [], ◌∷◌, ◌++◌, length, map, Option, Some, None}
+use Rattle.std.specs.Prelude.{ℕ, ◌+◌, ◌||◌, List, [], ◌∷◌, ◌++◌, length, map, Option, Some, None}
 use Rattle.td_num.specs.declared.number.NumberType.{NumberType}
 use Rattle.td_ast.specs.declared.definitions.SlotKind.{SlotKind}
 use Rattle.td_ast.specs.declared.definitions.SlotKind.TheVariants.{Number, Pointer}

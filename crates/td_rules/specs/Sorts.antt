@@ -1,6 +1,6 @@
 -- The sorts and types of expressions, and the core expressions that they stand for (3D manual, "Expressions"; own rules
 -- where it leaves the type of a literal open).
-use Rattle.std.specs.Prelude.{ℕ, ◌-◌, Bool, true, false, cond, nat_lt, List, Option, Some, None}
+use Rattle.std.specs.Prelude.{ℕ, ◌-◌, Bool, true, false, cond, nat_lt, Option, Some, None}
 use Rattle.td_num.specs.Numbers.{bytes_in}
 use Rattle.td_ast.specs.declared.expressions.UnaryOperator.{UnaryOperator}
 use Rattle.td_ast.specs.declared.expressions.UnaryOperator.TheVariants.{Not, Complement}
@@ -105,9 +105,14 @@ abbrev pub unary_sort : UnaryOperator → Sort → Sort
 unary_sort Not a = sort.Truth
 unary_sort Complement a = typed (type_alone a)
 
--- `?:`: truth values or numbers, of which the narrower is widened; of branches of two sorts nothing is known
+-- `?:`: truth values or numbers, of which the narrower is widened; a number beside a broken branch has no type, and of
+-- branches of two sorts nothing is known
 abbrev pub choice_sort : Sort → Sort → Sort
-choice_sort sort.Broken b = b
+choice_sort sort.Broken sort.Truth = sort.Truth
+choice_sort sort.Broken sort.Broken = sort.Broken
+choice_sort sort.Broken sort.Untyped = sort.Untyped
+choice_sort sort.Broken (sort.Literal m) = sort.Untyped
+choice_sort sort.Broken (sort.Typed v) = sort.Untyped
 choice_sort sort.Truth sort.Truth = sort.Truth
 choice_sort sort.Truth sort.Broken = sort.Truth
 choice_sort sort.Truth sort.Untyped = sort.Broken

@@ -1,9 +1,8 @@
 -- The rules of a field's type and of its arguments, and the core element (3D manual, "Structs", "Parameterized data
 -- types", "Output parameters").
-use Rattle.std.specs.Prelude.{ℕ, Bool, true, false, cond, not, ◌&&◌, nat_eq, nat_le, List, [], ◌∷◌, ◌++◌, length, Option, Some, None, is_some, is_none, slice_get}
+use Rattle.std.specs.Prelude.{ℕ, Bool, true, false, cond, not, ◌&&◌, nat_eq, nat_le, List, [], ◌∷◌, ◌++◌, length, Option, Some, None, is_some, slice_get}
 use Rattle.td_num.specs.Numbers.{bytes_in, places_from}
 use Rattle.td_num.specs.declared.number.NumberType.{NumberType}
-use Rattle.td_num.specs.declared.number.Width.{Width}
 use Rattle.td_num.specs.declared.number.Width.TheVariants.{One}
 use Rattle.td_num.specs.declared.number.ByteOrder.{ByteOrder}
 use Rattle.td_num.specs.declared.number.ByteOrder.TheVariants.{LittleEndian, BigEndian}
@@ -16,7 +15,6 @@ use Rattle.td_ast.specs.Trees as tree
 use Rattle.td_core.specs.Term.{Term}
 use Rattle.td_core.specs.Types.{bits, type_of}
 use Rattle.td_core.specs.Formed.{scalar_of}
-use Rattle.td_core.specs.declared.expressions.Scalar.{Scalar}
 use Rattle.td_core.specs.declared.module.Element.{Element}
 use Rattle.td_core.specs.declared.module.Element.TheVariants as element
 use Rattle.td_core.specs.declared.module.Param.{Param}

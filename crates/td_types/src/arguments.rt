@@ -1,12 +1,12 @@
 //! Arguments of types.
 
-ghost use Rattle.std.specs.Prelude.{◌≡◌, ◌+◌, ◌++◌, [], not, IfOk, OnOk, slice_get};
+ghost use Rattle.std.specs.Prelude.{◌≡◌, ◌+◌, ◌++◌, not, IfOk, OnOk, slice_get};
 ghost use Rattle.td_rules.specs.Breach.{first_of, when};
 ghost use Rattle.td_rules.specs.declared.breach.Rule.TheVariants.{WrongArgs};
 ghost use Rattle.td_num.specs.Numbers.{places_from};
 ghost use Rattle.td_rules.specs.declared.known.Meaning.TheVariants as meaning;
 ghost use Rattle.td_rules.specs.declared.known.Found.TheVariants.{Global as GlobalFound};
-ghost use Rattle.td_rules.specs.Types.{same_cell, cells_found, cells_named, are_applied, args_breaches, applied_breaches, args_core, cells_or_none, args_cells, fits_params, same_kind, is_kind, fits_cells, applied, found_breaches, found_element};
+ghost use Rattle.td_rules.specs.Types.{same_cell, cells_found, cells_named, are_applied, args_breaches, args_core, cells_or_none, args_cells, fits_params, same_kind, is_kind, fits_cells, applied, found_breaches, found_element};
 ghost use Rattle.td_types.specs.Runs.{run_cells, is_taken, term_of, arg_breaches, cells_of};
 
 use crate::types::same_number;

@@ -1,8 +1,8 @@
 //! Types of fields.
 
-ghost use Rattle.std.specs.Prelude.{◌≡◌, IfOk, OnOk, slice_get};
+ghost use Rattle.std.specs.Prelude.{◌≡◌, IfOk, OnOk};
 ghost use Rattle.td_rules.specs.Breach.{first_of};
-ghost use Rattle.td_rules.specs.Types.{same_order, same_number, number_found, number_type, is_byte, found_breaches, type_breaches, applied, found_element, element_of};
+ghost use Rattle.td_rules.specs.Types.{same_order, same_number, number_found, number_type, is_byte, found_breaches, type_breaches, found_element, element_of};
 
 use crate::arguments::{apply, check_applied};
 use std::alloc::{AllocError, Global};

@@ -2,6 +2,7 @@
 //! answered is what the definitions of td_rules say of the tree, and the first breach is kept beside it.
 #![tactic(auto)]
 
+pub mod cores;
 pub mod expressions;
 pub mod findings;
 pub mod look_up;

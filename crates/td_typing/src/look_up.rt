@@ -1,6 +1,6 @@
 //! What names stand for.
 
-ghost use Rattle.std.specs.Prelude.{◌≡◌, slice_get, is_none};
+ghost use Rattle.std.specs.Prelude.{◌≡◌};
 ghost use Rattle.td_rules.specs.Known.{found_in, kind_at, signature_at, slots_at, is_literal_name};
 ghost use Rattle.td_rules.specs.Sorts.{size_found, size_named};
 ghost use Rattle.td_rules.specs.ExprRules.{is_nothing, is_type};

@@ -150,7 +150,10 @@ pub fn choice_sort(a: Sort, b: Sort) -> Sort
             Sort::Truth | Sort::Broken => Sort::Truth,
             Sort::Untyped | Sort::Literal(_) | Sort::Typed(_) => Sort::Broken,
         },
-        Sort::Broken => b,
+        Sort::Broken => match b {
+            Sort::Truth | Sort::Broken => b,
+            Sort::Untyped | Sort::Literal(_) | Sort::Typed(_) => Sort::Untyped,
+        },
         Sort::Untyped => match b {
             Sort::Truth => Sort::Broken,
             Sort::Broken | Sort::Untyped | Sort::Literal(_) | Sort::Typed(_) => Sort::Untyped,

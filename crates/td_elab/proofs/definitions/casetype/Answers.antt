@@ -1,4 +1,4 @@
-use Rattle.std.proofs.Common.{◌≡◌, List, ◌++◌, ap, ◌∙◌}
+use Rattle.std.proofs.Common.{◌≡◌, List, ap, ◌∙◌}
 use Rattle.td_ast.specs.declared.definitions.CasetypeTree.{CasetypeTree}
 use Rattle.td_rules.specs.declared.breach.Breach.{Breach}
 use Rattle.td_rules.specs.declared.known.Known.{Known}

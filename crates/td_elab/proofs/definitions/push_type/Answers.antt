@@ -1,4 +1,4 @@
-use Rattle.std.proofs.Common.{◌≡◌, List, [], ◌∷◌, ◌++◌, ap, ◌∙◌}
+use Rattle.std.proofs.Common.{◌≡◌, [], ◌∷◌, ◌++◌, ap, ◌∙◌}
 use Rattle.td_kinds.specs.Kinds as kinds
 use Rattle.td_rules.specs.Known.{kind_at}
 use Rattle.td_elab.proofs.Chains.{on_ok_then}

@@ -1,5 +1,3 @@
-use Rattle.std.proofs.Common.{subst, sym}
-use Rattle.td_rules.specs.BitFields.{bit_field}
 use Rattle.td_fields.proofs.Narrow.{element_narrow}
 use Rattle.td_fields.proofs.fields.field.Goals as goal
 

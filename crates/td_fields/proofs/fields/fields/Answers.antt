@@ -1,4 +1,4 @@
-use Rattle.std.proofs.Common.{◌≡◌, length, ap, ◌∙◌}
+use Rattle.std.proofs.Common.{length, ap, ◌∙◌}
 use Rattle.td_fields.specs.Scopes.{fields_scope}
 use Rattle.td_fields.proofs.Growing.{grows, cut}
 use Rattle.td_actions.specs.Scopes as back

@@ -1,7 +1,7 @@
-use Rattle.std.proofs.Common.{◌≡◌, sym, ap, ◌∙◌, ◌+◌, [], ◌∷◌, ◌++◌, drop, arith}
+use Rattle.std.proofs.Common.{sym, ap, ◌∙◌, ◌+◌, ◌∷◌, ◌++◌, drop, arith}
 use Rattle.td_rules.specs.Breach.{first_of}
 use Rattle.td_rules.specs.BitFields.{gathered}
-use Rattle.td_rules.specs.Fields.{with_field, field_breaches, field_taken, flat_of, fields_breaches, fields_taken, flats_of}
+use Rattle.td_rules.specs.Fields.{with_field, field_breaches, field_taken, fields_breaches, fields_taken, flats_of}
 use Rattle.td_fields.specs.Scopes.{fields_scope}
 use Rattle.td_fields.proofs.Steps.{split, first_append}
 use Rattle.td_fields.proofs.fields.gathered.Goals as goal
