@@ -1,5 +1,5 @@
 -- How many tokens a text has.
-use Rattle.std.proofs.Common.{◌≡◌, ℕ, zero, suc, ◌+◌, ◌-◌, ◌≤◌, List, [], ◌∷◌, length, Result, Ok, Err, refl, ap, arith}
+use Rattle.std.proofs.Common.{◌≡◌, ℕ, zero, suc, ◌+◌, ◌-◌, ◌≤◌, List, [], ◌∷◌, length, Result, Ok, Err, refl, arith}
 use Rattle.td_ast.specs.declared.token.Token.{Token}
 use Rattle.td_lexer.specs.declared.error.LexError.{LexError}
 use Rattle.td_lexer.specs.declared.lexeme.Lexeme as lexemes

@@ -1,8 +1,11 @@
 -- What holds of each module that a text stands for (own rule). Layers above rest on this alone, and never look into trees.
-use Rattle.std.specs.Prelude.{◌≡◌, ℕ, List, [], length, Some, None, slice_get}
+use Rattle.std.specs.Prelude.{◌≡◌, ◌≤◌, ℕ, List, [], length, Some, None, slice_get}
 use Rattle.td_core.specs.declared.module.Module.{Module}
 use Rattle.td_core.specs.Formed.{IsModuleFormed}
-use Rattle.td_core.specs.WellFormed.{Each, EachField, IsWhole, IsFieldWhole, IsDefinitionSorted, IsDefinitionNamed}
+use Rattle.td_core.specs.declared.limits.TheConstants.{MOST_NODES, MOST_DEPTH, MOST_WEIGHT}
+use Rattle.td_core.specs.Weights.{depth_of, definitions_nodes, weight_of}
+use Rattle.td_core.specs.WellFormed.{Each, EachField, IsWhole, IsFieldWhole, IsDefinitionSorted, IsDefinitionNamed, IsWithin}
+use Rattle.td_lexer.specs.Splits.{IsName}
 use Rattle.td_kinds.specs.KindRules.{kind_faults}
 use Rattle.td_arith.specs.SafeModule.{module_unsafe}
 
@@ -22,6 +25,14 @@ pub record IsChecked (m : Module) : Type 0 where
   -- each name in a definition has its bytes, and no other name has them
   pub named : Each (IsDefinitionNamed (length m.names)) m.definitions
   pub apart : AreApart m.names
+  -- each name is a letter or `_`, then letters, digits and `_`, and no keyword
+  pub words : Each IsName m.names
+  -- definitions, parameters, cells, fields and cases are no more than a text may have
+  pub within : IsWithin m
+  -- nor are nodes, the depth of each definition, and its weight
+  pub nodes : definitions_nodes m.definitions ≤ MOST_NODES
+  pub depth : (n : ℕ) → depth_of m.definitions n ≤ MOST_DEPTH
+  pub weight : (n : ℕ) → weight_of m.definitions n ≤ MOST_WEIGHT
   -- no element of a byte-sized array may be empty, and what takes the rest stands last
   pub kinds : kind_faults m ≡ []
   -- each operator is safe under the facts at its place

@@ -1,6 +1,6 @@
 -- The passes over a tree, one after the other (own rules): its counts, its rules of names, types, constants and actions,
 -- the kinds of its module, the safety of its module's operators, its sizes. How far a tree comes, and where it is refused.
-use Rattle.std.specs.Prelude.{◌≡◌, ◌⊎◌, ℕ, [], Some, None}
+use Rattle.std.specs.Prelude.{◌≡◌, ◌⊎◌, [], Some, None}
 use Rattle.td_ast.specs.declared.definitions.ModuleTree.{ModuleTree}
 use Rattle.td_limits.specs.Counts.{counts_passed}
 use Rattle.td_limits.specs.Sizes.{sizes_passed}

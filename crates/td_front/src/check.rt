@@ -1,6 +1,6 @@
 //! The module for which a text stands.
 
-ghost use Rattle.std.specs.Prelude.{◌≡◌, ◌<◌, ◌≤◌, ◌-◌, ◌^◌, ◌⊎◌, ℕ, length, IfOk, IfErr, MatchResult};
+ghost use Rattle.std.specs.Prelude.{◌≡◌, ◌<◌, ◌≤◌, ◌-◌, ◌^◌, ◌⊎◌, length, IfOk, IfErr, MatchResult};
 ghost use Rattle.td_ast.specs.declared.definitions.ModuleTree.{ModuleTree};
 ghost use Rattle.td_core.specs.declared.module.Module.{Module};
 ghost use Rattle.td_lexer.specs.Splits.{Splits};

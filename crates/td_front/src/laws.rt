@@ -2,6 +2,9 @@
 
 ghost use Rattle.td_front.specs.Laws.{OneModuleEach, OneRefusalEach, NeverBoth, AlwaysOne, ModulesAreChecked};
 
+use td_admitted::laws::{
+    depths_are_within, modules_are_within, names_are_words, nodes_are_within, weights_are_within,
+};
 use td_elab::laws::{one_is_first, some_is_first};
 use td_grammar::laws::{each_answered, never_both, one_refused, one_too_deep, one_tree};
 use td_lexer::tokens_are_the_splitting;
@@ -40,7 +43,8 @@ pub fn module_or_refusal()
     some_is_first();
 }
 
-/// What holds of each module for which a text stands: names have their places, operators are safe, sizes are known.
+/// What holds of each module for which a text stands: names are words and have their places, operators are safe, sizes are
+/// known, and all is within the limits of a text.
 pub fn modules_are_checked()
     ensures { ModulesAreChecked }
 {
@@ -50,4 +54,9 @@ pub fn modules_are_checked()
     fields_are_whole();
     modules_are_named();
     names_are_apart();
+    names_are_words();
+    modules_are_within();
+    nodes_are_within();
+    depths_are_within();
+    weights_are_within();
 }

@@ -1,6 +1,6 @@
 //! The passes over a tree and its module, each with the refusals that are its own.
 
-ghost use Rattle.std.specs.Prelude.{◌≡◌, ◌⊎◌, [], None, OnOk, IfOk, IfErr};
+ghost use Rattle.std.specs.Prelude.{◌≡◌, ◌⊎◌, None, OnOk, IfOk, IfErr};
 ghost use Rattle.td_front.specs.Passes.{HasCounts, HasModule, HasKinds, HasSafety, IsAdmitted, RefusesTree};
 ghost use Rattle.td_front.specs.declared.error.FrontError.{FrontError};
 ghost use Rattle.td_rules.specs.Modules.{module_of};

@@ -1,0 +1,11 @@
+pub mod Tokens
+pub mod Names
+pub mod Words
+pub mod Expressions
+pub mod Fields
+pub mod Sizes
+pub mod Below
+pub mod Linked
+pub mod Heads
+pub mod Definitions
+pub mod Within
