@@ -1,0 +1,10 @@
+pub mod Operators
+pub mod Sequences
+pub mod Expressions
+pub mod Actions
+pub mod Parameters
+pub mod Fields
+pub mod Definitions
+pub mod Unspanned
+pub mod Laws
+pub mod Example

@@ -1,0 +1,7 @@
+use Rattle.std.proofs.Common.{◌≡◌, ◌++◌, take, flat_map}
+use Rattle.td_joined.specs.Pieces.{text_of}
+use Rattle.td_layout.specs.Fields.{field_line}
+use Rattle.td_print.proofs.fields.write_case_fields.Given as goal
+
+abbrev pub invariant-loop-field : goal.invariant-loop-field
+invariant-loop-field l = l.out ≡ l.fn.out ++ text_of (flat_map (field_line 3) (take l.field-index l.fields))

@@ -1,0 +1,140 @@
+//! Actions and their statements.
+
+ghost use Rattle.std.specs.Prelude.{◌≡◌, ◌++◌, OnOk, flat_map};
+ghost use Rattle.td_ast.specs.Statements.{block_of};
+ghost use Rattle.td_joined.specs.Pieces.{spelling, text_of};
+ghost use Rattle.td_layout.specs.Actions.{action_kind, action_pieces, assigned_pieces, block_pieces, in_braces, statement_after, statement_pieces};
+
+use crate::expressions::write_expression;
+use crate::printer::Printer;
+use crate::words::write_name;
+use std::alloc::AllocError;
+use td_ast::actions::{ActionKind, ActionTree, Assigned, Block, Stmt, StmtKind};
+
+fn write_assigned(out: &mut Printer, assigned: &Assigned) -> Result<(), AllocError>
+    ensures { OnOk result (out.new ≡ out.old ++ text_of (assigned_pieces assigned.now)) }
+{
+    match assigned {
+        Assigned::Value(value) => {
+            write_expression(out, value)?;
+            Ok(())
+        }
+        Assigned::FieldPtr(_) => {
+            out.write(b"field_ptr")?;
+            Ok(())
+        }
+    }
+}
+
+#[cycle(block)]
+fn write_statement(out: &mut Printer, statement: &Stmt) -> Result<(), AllocError>
+    ensures { OnOk result (out.new ≡ out.old ++ text_of (statement_pieces statement.now)) }
+{
+    match &statement.kind {
+        StmtKind::Store(cell, value) => {
+            out.write(b"*")?;
+            write_name(out, cell)?;
+            out.write(b" = ")?;
+            write_assigned(out, value)?;
+            out.write(b";")?;
+            Ok(())
+        }
+        StmtKind::StoreField(cell, field, value) => {
+            write_name(out, cell)?;
+            out.write(b"->")?;
+            write_name(out, field)?;
+            out.write(b" = ")?;
+            write_assigned(out, value)?;
+            out.write(b";")?;
+            Ok(())
+        }
+        StmtKind::Var(local, _, cell) => {
+            out.write(b"var ")?;
+            write_name(out, local)?;
+            out.write(b" = *")?;
+            write_name(out, cell)?;
+            out.write(b";")?;
+            Ok(())
+        }
+        StmtKind::If(condition, block) => {
+            out.write(b"if (")?;
+            write_expression(out, condition)?;
+            out.write(b") ")?;
+            write_braced(out, block)?;
+            Ok(())
+        }
+        StmtKind::IfElse(condition, block, other) => {
+            out.write(b"if (")?;
+            write_expression(out, condition)?;
+            out.write(b") ")?;
+            write_braced(out, block)?;
+            out.write(b" else ")?;
+            write_braced(out, other)?;
+            Ok(())
+        }
+        StmtKind::Return(value) => {
+            out.write(b"return ")?;
+            write_expression(out, value)?;
+            out.write(b";")?;
+            Ok(())
+        }
+        StmtKind::Abort => {
+            out.write(b"abort;")?;
+            Ok(())
+        }
+    }
+}
+
+// Statements, each with a blank after it.
+#[cycle(block)]
+fn write_statements(out: &mut Printer, statements: &[Stmt]) -> Result<(), AllocError>
+    ensures { OnOk result (out.new ≡ out.old ++ text_of (block_pieces (block_of statements.now))) }
+{
+    for statement in statements {
+        write_statement(out, statement)?;
+        out.write(b" ")?;
+    }
+    Ok(())
+}
+
+// `{ s s }`, and `{ }` where there are no statements.
+#[cycle(block)]
+fn write_braced(out: &mut Printer, block: &Block) -> Result<(), AllocError>
+    ensures { OnOk result (out.new ≡ out.old ++ text_of (in_braces (block_pieces (block_of block.now)))) }
+{
+    out.write(b"{ ")?;
+    write_statements(out, block.as_slice())?;
+    out.write(b"}")?;
+    Ok(())
+}
+
+fn action_word(kind: ActionKind) -> &'static [u8]
+    ensures { result.now ≡ spelling (action_kind kind) }
+{
+    match kind {
+        ActionKind::Act => b"{:act",
+        ActionKind::Check => b"{:check",
+        ActionKind::OnSuccess => b"{:on-success",
+    }
+}
+
+// Statements, each with a blank before it.
+fn write_after_blanks(out: &mut Printer, statements: &[Stmt]) -> Result<(), AllocError>
+    ensures { OnOk result (out.new ≡ out.old ++ text_of (flat_map statement_after statements.now)) }
+{
+    for statement in statements {
+        out.write(b" ")?;
+        write_statement(out, statement)?;
+    }
+    Ok(())
+}
+
+/// Writes an action: `{:act s s}`, and `{:act}` where there are no statements.
+pub(crate) fn write_action(out: &mut Printer, action: &ActionTree) -> Result<(), AllocError>
+    ensures { OnOk result (out.new ≡ out.old ++ text_of (action_pieces action.now)) }
+{
+    out.write(action_word(action.kind))?;
+    write_after_blanks(out, action.statements.as_slice())?;
+    out.write(b"}")?;
+    Ok(())
+}

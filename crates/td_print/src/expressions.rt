@@ -1,0 +1,186 @@
+//! Expressions. Parentheses stand only where the tree needs them.
+
+ghost use Rattle.std.specs.Prelude.{◌≡◌, [], ◌∷◌, ◌++◌, OnOk, flat_map};
+ghost use Rattle.td_ast.specs.declared.token.TokenKind.TheVariants as kinds;
+ghost use Rattle.td_joined.specs.Pieces.{Word, spelling, text_of};
+ghost use Rattle.td_layout.specs.Expressions.{expression_pieces, fitted, operand_kind, tree_level, truth_kind};
+ghost use Rattle.td_layout.specs.Sequences.{comma, in_parentheses};
+
+use crate::operators::{binary_sign, left_of, level_of, right_of, unary_sign};
+use crate::printer::Printer;
+use crate::words::{number_word, write_name};
+use std::alloc::AllocError;
+use td_ast::expressions::{Expr, ExprKind, SizeofOperand};
+
+/// The loosest level that the condition of `? :` has without parentheses.
+const CONDITION: u8 = 11;
+
+/// The loosest level that the operand of `!` or `~` has without parentheses.
+const OPERAND: u8 = 1;
+
+// How tightly an expression binds.
+fn level(e: &Expr) -> u8
+    ensures { result ≡ tree_level e.now }
+{
+    match &e.kind {
+        ExprKind::Number(_, _) => 0,
+        ExprKind::Truth(_) => 0,
+        ExprKind::Name(_) => 0,
+        ExprKind::FieldPos(_) => 0,
+        ExprKind::Sizeof(_, _, _) => 0,
+        ExprKind::RangeOkay(_, _, _) => 0,
+        ExprKind::Unary(_, _, _) => 1,
+        ExprKind::Binary(operator, _, _, _) => level_of(*operator),
+        ExprKind::Choice(_, _, _, _) => 12,
+    }
+}
+
+fn truth_word(truth: bool) -> &'static [u8]
+    ensures { result.now ≡ spelling (truth_kind truth) }
+{
+    if truth { b"true" } else { b"false" }
+}
+
+fn operand_word(operand: &SizeofOperand) -> &[u8]
+    ensures { result.now ≡ spelling (operand_kind operand.now) }
+{
+    match operand {
+        SizeofOperand::Number(number) => number_word(*number),
+        SizeofOperand::Name(text) => text.as_slice(),
+        SizeofOperand::This => b"this",
+    }
+}
+
+// `sizeof(operand)`
+fn write_sizeof(out: &mut Printer, operand: &SizeofOperand) -> Result<(), AllocError>
+    ensures { OnOk result (out.new ≡ out.old ++ text_of (Word kinds.Sizeof ∷ Word kinds.OpenParen ∷ Word (operand_kind operand.now) ∷ Word kinds.CloseParen ∷ [])) }
+{
+    out.write(b"sizeof(")?;
+    out.write(operand_word(operand))?;
+    out.write(b")")?;
+    Ok(())
+}
+
+// An operand at a place that takes this level or a tighter one without parentheses.
+#[cycle(expression)]
+fn write_operand(out: &mut Printer, loosest: u8, operand: &Expr) -> Result<(), AllocError>
+    ensures { OnOk result (out.new ≡ out.old ++ text_of (fitted loosest operand.now (expression_pieces operand.now))) }
+{
+    if level(operand) <= loosest {
+        write_expression(out, operand)?;
+        return Ok(());
+    }
+    out.write(b"(")?;
+    write_expression(out, operand)?;
+    out.write(b")")?;
+    Ok(())
+}
+
+// One more of some expressions: a comma, and the expression.
+#[cycle(expression)]
+fn write_next(out: &mut Printer, e: &Expr) -> Result<(), AllocError>
+    ensures { OnOk result (out.new ≡ out.old ++ text_of (comma ++ expression_pieces e.now)) }
+{
+    out.write(b", ")?;
+    write_expression(out, e)?;
+    Ok(())
+}
+
+// `is_range_okay(size, offset, access)`
+#[cycle(expression)]
+fn write_range(
+    out: &mut Printer,
+    size: &Expr,
+    offset: &Expr,
+    access: &Expr,
+) -> Result<(), AllocError>
+    ensures { OnOk result (out.new ≡ out.old ++ text_of (Word kinds.IsRangeOkay ∷ Word kinds.OpenParen ∷ (expression_pieces size.now
+        ++ (comma ++ (expression_pieces offset.now ++ (comma ++ (expression_pieces access.now ++ Word kinds.CloseParen ∷ []))))))) }
+{
+    out.write(b"is_range_okay(")?;
+    write_expression(out, size)?;
+    write_next(out, offset)?;
+    write_next(out, access)?;
+    out.write(b")")?;
+    Ok(())
+}
+
+/// Writes an expression.
+#[cycle(expression)]
+pub(crate) fn write_expression(out: &mut Printer, e: &Expr) -> Result<(), AllocError>
+    ensures { OnOk result (out.new ≡ out.old ++ text_of (expression_pieces e.now)) }
+{
+    match &e.kind {
+        ExprKind::Number(value, base) => {
+            out.write_number(*value, *base)?;
+            Ok(())
+        }
+        ExprKind::Truth(truth) => {
+            out.write(truth_word(*truth))?;
+            Ok(())
+        }
+        ExprKind::Name(name) => {
+            write_name(out, name)?;
+            Ok(())
+        }
+        ExprKind::FieldPos(_) => {
+            out.write(b"field_pos")?;
+            Ok(())
+        }
+        ExprKind::Sizeof(_, operand, _) => {
+            write_sizeof(out, operand)?;
+            Ok(())
+        }
+        ExprKind::RangeOkay(size, offset, access) => {
+            write_range(out, size, offset, access)?;
+            Ok(())
+        }
+        ExprKind::Unary(operator, _, operand) => {
+            out.write(unary_sign(*operator))?;
+            write_operand(out, OPERAND, operand)?;
+            Ok(())
+        }
+        ExprKind::Binary(operator, _, left, right) => {
+            write_operand(out, left_of(*operator), left)?;
+            out.write(b" ")?;
+            out.write(binary_sign(*operator))?;
+            out.write(b" ")?;
+            write_operand(out, right_of(*operator), right)?;
+            Ok(())
+        }
+        ExprKind::Choice(_, condition, first, second) => {
+            write_operand(out, CONDITION, condition)?;
+            out.write(b" ? ")?;
+            write_expression(out, first)?;
+            out.write(b" : ")?;
+            write_expression(out, second)?;
+            Ok(())
+        }
+    }
+}
+
+// Expressions, each after a comma.
+fn write_others(out: &mut Printer, others: &[Expr]) -> Result<(), AllocError>
+    ensures { OnOk result (out.new ≡ out.old ++ text_of (flat_map (λ e. comma ++ expression_pieces e) others.now)) }
+{
+    for e in others {
+        write_next(out, e)?;
+    }
+    Ok(())
+}
+
+/// Writes arguments: `(a, b, c)`, and nothing where there are none.
+pub(crate) fn write_arguments(out: &mut Printer, arguments: &[Expr]) -> Result<(), AllocError>
+    ensures { OnOk result (out.new ≡ out.old ++ text_of (in_parentheses expression_pieces arguments.now)) }
+{
+    match arguments {
+        [] => Ok(()),
+        [first, others @ ..] => {
+            out.write(b"(")?;
+            write_expression(out, first)?;
+            write_others(out, others)?;
+            out.write(b")")?;
+            Ok(())
+        }
+    }
+}

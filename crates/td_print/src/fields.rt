@@ -1,0 +1,149 @@
+//! Fields, each on a line of its own.
+
+ghost use Rattle.std.specs.Prelude.{◌≡◌, [], ◌∷◌, ◌++◌, OnOk, flat_map};
+ghost use Rattle.td_ast.specs.declared.token.TokenKind.TheVariants as kinds;
+ghost use Rattle.td_joined.specs.Pieces.{Word, text_of};
+ghost use Rattle.td_layout.specs.Expressions.{expression_pieces};
+ghost use Rattle.td_layout.specs.Fields.{action_after, extent_pieces, field_line, field_pieces, refinement_pieces, type_pieces};
+ghost use Rattle.td_layout.specs.Sequences.{optional};
+
+use crate::actions::write_action;
+use crate::expressions::{write_arguments, write_expression};
+use crate::printer::Printer;
+use crate::words::{number_word, write_name};
+use std::alloc::AllocError;
+use td_ast::actions::ActionTree;
+use td_ast::expressions::Expr;
+use td_ast::fields::{ExtentTree, FieldTree, TypeKind};
+
+fn write_type(out: &mut Printer, kind: &TypeKind) -> Result<(), AllocError>
+    ensures { OnOk result (out.new ≡ out.old ++ text_of (type_pieces kind.now)) }
+{
+    match kind {
+        TypeKind::Number(number) => {
+            out.write(number_word(*number))?;
+            Ok(())
+        }
+        TypeKind::Unit => {
+            out.write(b"unit")?;
+            Ok(())
+        }
+        TypeKind::AllBytes => {
+            out.write(b"all_bytes")?;
+            Ok(())
+        }
+        TypeKind::AllZeros => {
+            out.write(b"all_zeros")?;
+            Ok(())
+        }
+        TypeKind::Named(name, arguments) => {
+            out.write(name.as_slice())?;
+            write_arguments(out, arguments.as_slice())?;
+            Ok(())
+        }
+    }
+}
+
+// A size in brackets: what opens them, the size, and `]`.
+fn write_size(out: &mut Printer, opening: &[u8], size: &Expr) -> Result<(), AllocError>
+    ensures { OnOk result (out.new ≡ out.old ++ (opening.now ++ text_of (expression_pieces size.now ++ Word kinds.CloseBracket ∷ []))) }
+{
+    out.write(opening)?;
+    write_expression(out, size)?;
+    out.write(b"]")?;
+    Ok(())
+}
+
+fn write_extent(out: &mut Printer, extent: &Option<ExtentTree>) -> Result<(), AllocError>
+    ensures { OnOk result (out.new ≡ out.old ++ text_of (optional extent_pieces extent.now)) }
+{
+    match extent {
+        None => Ok(()),
+        Some(ExtentTree::Bytes(size)) => {
+            write_size(out, b"[", size)?;
+            Ok(())
+        }
+        Some(ExtentTree::ByteSize(size)) => {
+            write_size(out, b"[:byte-size ", size)?;
+            Ok(())
+        }
+        Some(ExtentTree::SingleElement(size)) => {
+            write_size(out, b"[:byte-size-single-element-array ", size)?;
+            Ok(())
+        }
+        Some(ExtentTree::Zeroterm(size)) => {
+            write_size(out, b"[:zeroterm-byte-size-at-most ", size)?;
+            Ok(())
+        }
+        Some(ExtentTree::Bits(width)) => {
+            out.write(b" : ")?;
+            out.write_number(width.value, width.base)?;
+            Ok(())
+        }
+    }
+}
+
+// ` { e }`
+fn write_refinement(out: &mut Printer, refinement: &Option<Expr>) -> Result<(), AllocError>
+    ensures { OnOk result (out.new ≡ out.old ++ text_of (optional refinement_pieces refinement.now)) }
+{
+    match refinement {
+        None => Ok(()),
+        Some(condition) => {
+            out.write(b" { ")?;
+            write_expression(out, condition)?;
+            out.write(b" }")?;
+            Ok(())
+        }
+    }
+}
+
+fn write_action_after(out: &mut Printer, action: &Option<ActionTree>) -> Result<(), AllocError>
+    ensures { OnOk result (out.new ≡ out.old ++ text_of (optional action_after action.now)) }
+{
+    match action {
+        None => Ok(()),
+        Some(action) => {
+            out.write(b" ")?;
+            write_action(out, action)?;
+            Ok(())
+        }
+    }
+}
+
+fn write_field(out: &mut Printer, field: &FieldTree) -> Result<(), AllocError>
+    ensures { OnOk result (out.new ≡ out.old ++ text_of (field_pieces field.now)) }
+{
+    write_type(out, &field.type_tree.kind)?;
+    out.write(b" ")?;
+    write_name(out, &field.name)?;
+    write_extent(out, &field.extent)?;
+    write_refinement(out, &field.refinement)?;
+    write_action_after(out, &field.action)?;
+    out.write(b";")?;
+    Ok(())
+}
+
+/// Writes the fields of a struct, a level deep.
+pub(crate) fn write_struct_fields(out: &mut Printer, fields: &[FieldTree]) -> Result<(), AllocError>
+    ensures { OnOk result (out.new ≡ out.old ++ text_of (flat_map (field_line 1) fields.now)) }
+{
+    for field in fields {
+        out.write(b"    ")?;
+        write_field(out, field)?;
+        out.write(b"\n")?;
+    }
+    Ok(())
+}
+
+/// Writes the fields of a case, three levels deep.
+pub(crate) fn write_case_fields(out: &mut Printer, fields: &[FieldTree]) -> Result<(), AllocError>
+    ensures { OnOk result (out.new ≡ out.old ++ text_of (flat_map (field_line 3) fields.now)) }
+{
+    for field in fields {
+        out.write(b"            ")?;
+        write_field(out, field)?;
+        out.write(b"\n")?;
+    }
+    Ok(())
+}

@@ -1,0 +1,15 @@
+//! Canonical texts. The layer above rests on one promise: `print` writes exactly the canonical text of a tree
+//! (crate td_layout), whose tokens spell that tree again, its places aside.
+#![tactic(auto, using(crate::proofs::Texts::texts))]
+
+mod actions;
+mod definitions;
+mod expressions;
+mod fields;
+mod operators;
+mod parameters;
+mod printer;
+mod printing;
+mod words;
+
+pub use printing::print;

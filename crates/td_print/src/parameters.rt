@@ -1,0 +1,104 @@
+//! What stands between the first name of a struct or casetype and its body.
+
+ghost use Rattle.std.specs.Prelude.{◌≡◌, ◌++◌, OnOk, flat_map};
+ghost use Rattle.td_joined.specs.Pieces.{text_of};
+ghost use Rattle.td_layout.specs.Parameters.{condition_pieces, head_pieces, parameter_pieces, target_piece};
+ghost use Rattle.td_layout.specs.Sequences.{comma, in_parentheses, optional};
+ghost use Rattle.td_print.specs.Writing.{piece_text};
+
+use crate::expressions::write_expression;
+use crate::printer::Printer;
+use crate::words::{number_word, write_name, write_plain};
+use std::alloc::AllocError;
+use td_ast::expressions::Expr;
+use td_ast::parameters::{HeadTree, ParamTree, TargetTree};
+
+fn write_target(out: &mut Printer, target: &TargetTree) -> Result<(), AllocError>
+    ensures { OnOk result (out.new ≡ out.old ++ piece_text (target_piece target.now)) }
+{
+    match target {
+        TargetTree::Number(tree) => {
+            out.write(number_word(tree.number))?;
+            Ok(())
+        }
+        TargetTree::Pointer(_) => {
+            out.write(b"PUINT8")?;
+            Ok(())
+        }
+        TargetTree::Named(name) => {
+            write_name(out, name)?;
+            Ok(())
+        }
+    }
+}
+
+// `T a` or `mutable T *a`
+fn write_parameter(out: &mut Printer, parameter: &ParamTree) -> Result<(), AllocError>
+    ensures { OnOk result (out.new ≡ out.old ++ text_of (parameter_pieces parameter.now)) }
+{
+    match parameter {
+        ParamTree::Value(plain, name) => {
+            write_plain(out, plain)?;
+            out.write(b" ")?;
+            write_name(out, name)?;
+            Ok(())
+        }
+        ParamTree::Mutable(target, name) => {
+            out.write(b"mutable ")?;
+            write_target(out, target)?;
+            out.write(b" *")?;
+            write_name(out, name)?;
+            Ok(())
+        }
+    }
+}
+
+// Parameters, each after a comma.
+fn write_others(out: &mut Printer, others: &[ParamTree]) -> Result<(), AllocError>
+    ensures { OnOk result (out.new ≡ out.old ++ text_of (flat_map (λ parameter. comma ++ parameter_pieces parameter) others.now)) }
+{
+    for parameter in others {
+        out.write(b", ")?;
+        write_parameter(out, parameter)?;
+    }
+    Ok(())
+}
+
+// `(T a, T b)`, and nothing where there are none.
+fn write_parameters(out: &mut Printer, parameters: &[ParamTree]) -> Result<(), AllocError>
+    ensures { OnOk result (out.new ≡ out.old ++ text_of (in_parentheses parameter_pieces parameters.now)) }
+{
+    match parameters {
+        [] => Ok(()),
+        [first, others @ ..] => {
+            out.write(b"(")?;
+            write_parameter(out, first)?;
+            write_others(out, others)?;
+            out.write(b")")?;
+            Ok(())
+        }
+    }
+}
+
+// ` where e`
+fn write_condition(out: &mut Printer, condition: &Option<Expr>) -> Result<(), AllocError>
+    ensures { OnOk result (out.new ≡ out.old ++ text_of (optional condition_pieces condition.now)) }
+{
+    match condition {
+        None => Ok(()),
+        Some(condition) => {
+            out.write(b" where ")?;
+            write_expression(out, condition)?;
+            Ok(())
+        }
+    }
+}
+
+/// Writes a head: the parameters, then the condition.
+pub(crate) fn write_head(out: &mut Printer, head: &HeadTree) -> Result<(), AllocError>
+    ensures { OnOk result (out.new ≡ out.old ++ text_of (head_pieces head.now)) }
+{
+    write_parameters(out, head.params.as_slice())?;
+    write_condition(out, &head.condition)?;
+    Ok(())
+}

@@ -1,0 +1,20 @@
+//! The canonical text of a module.
+
+ghost use Rattle.std.specs.Prelude.{◌≡◌, IfOk};
+ghost use Rattle.td_layout.specs.Definitions.{canonical_text};
+
+use crate::definitions::write_definitions;
+use crate::printer::Printer;
+use std::alloc::{AllocError, Global};
+use td_ast::definitions::ModuleTree;
+use td_num::text::Text;
+
+/// The canonical text of a module: one form for all texts that spell the same tree, its places aside. In time linear in the
+/// tree. `AllocError`: out of memory.
+pub fn print(alloc: Global, tree: &ModuleTree) -> Result<Text, AllocError>
+    ensures { IfOk result (λ text. text ≡ canonical_text tree.now) }
+{
+    let mut out = Printer::new(alloc);
+    write_definitions(&mut out, tree.definitions.as_slice())?;
+    Ok(out.into_text())
+}

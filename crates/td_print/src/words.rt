@@ -1,0 +1,67 @@
+//! Names, constants and types that are one token.
+
+ghost use Rattle.std.specs.Prelude.{◌≡◌, ◌++◌, OnOk};
+ghost use Rattle.td_joined.specs.Pieces.{type_spelling};
+ghost use Rattle.td_layout.specs.Sequences.{constant_piece, plain_piece};
+ghost use Rattle.td_print.specs.Writing.{piece_text};
+
+use crate::printer::Printer;
+use std::alloc::AllocError;
+use td_ast::names::{ConstTree, Name, PlainTree};
+use td_num::number::{ByteOrder, NumberType, Width};
+
+/// The word of a number type.
+pub(crate) fn number_word(number: NumberType) -> &'static [u8]
+    ensures { result.now ≡ type_spelling number.width number.order }
+{
+    match (number.width, number.order) {
+        (Width::One, ByteOrder::LittleEndian) => b"UINT8",
+        (Width::One, ByteOrder::BigEndian) => b"UINT8BE",
+        (Width::Two, ByteOrder::LittleEndian) => b"UINT16",
+        (Width::Two, ByteOrder::BigEndian) => b"UINT16BE",
+        (Width::Four, ByteOrder::LittleEndian) => b"UINT32",
+        (Width::Four, ByteOrder::BigEndian) => b"UINT32BE",
+        (Width::Eight, ByteOrder::LittleEndian) => b"UINT64",
+        (Width::Eight, ByteOrder::BigEndian) => b"UINT64BE",
+    }
+}
+
+/// Writes a name.
+pub(crate) fn write_name(out: &mut Printer, name: &Name) -> Result<(), AllocError>
+    ensures { OnOk result (out.new ≡ out.old ++ name.now.text) }
+{
+    out.write(name.text.as_slice())?;
+    Ok(())
+}
+
+/// Writes a constant.
+pub(crate) fn write_constant(out: &mut Printer, constant: &ConstTree) -> Result<(), AllocError>
+    ensures { OnOk result (out.new ≡ out.old ++ piece_text (constant_piece constant.now)) }
+{
+    match constant {
+        ConstTree::Number(literal) => {
+            out.write_number(literal.value, literal.base)?;
+            Ok(())
+        }
+        ConstTree::Named(name) => {
+            write_name(out, name)?;
+            Ok(())
+        }
+    }
+}
+
+/// Writes a plain type.
+pub(crate) fn write_plain(out: &mut Printer, plain: &PlainTree) -> Result<(), AllocError>
+    ensures { OnOk result (out.new ≡ out.old ++ piece_text (plain_piece plain.now)) }
+{
+    match plain {
+        PlainTree::Number(tree) => {
+            out.write(number_word(tree.number))?;
+            Ok(())
+        }
+        PlainTree::Named(name) => {
+            write_name(out, name)?;
+            Ok(())
+        }
+    }
+}
