@@ -26,11 +26,11 @@ pub same_count : (values : List Value) → items_len (items_view values) ≡ len
 same_count [] = refl
 same_count (value ∷ values) = ap suc (same_count values)
 
-limited : (many : Bool) (e : JobError) (others : List JobError) → many ≡ true → IsFirst (fault_if many e ++ others) e
+pub limited : (many : Bool) (e : JobError) (others : List JobError) → many ≡ true → IsFirst (fault_if many e ++ others) e
 limited true e others h = record { others = others; is = refl }
 limited false e others h = absurd (cc)
 
-unlimited : (many : Bool) (e : JobError) (others : List JobError) → many ≡ false → fault_if many e ++ others ≡ others
+pub unlimited : (many : Bool) (e : JobError) (others : List JobError) → many ≡ false → fault_if many e ++ others ≡ others
 unlimited true e others h = absurd (cc)
 unlimited false e others h = refl
 

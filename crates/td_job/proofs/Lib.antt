@@ -5,3 +5,4 @@ pub mod Members
 pub mod Numbers
 pub mod Texts
 pub mod Unique
+pub mod NamedJobs

@@ -57,11 +57,11 @@ pub both_empty : (a b : List JobError) → a ++ b ≡ [] → (a ≡ []) × (b �
 both_empty [] b h = (refl, h)
 both_empty (e ∷ a) b h = absurd (cc)
 
-not_over : (over : Bool) (e : JobError) → fault_if over e ≡ [] → over ≡ false
+pub not_over : (over : Bool) (e : JobError) → fault_if over e ≡ [] → over ≡ false
 not_over true e h = absurd (cc)
 not_over false e h = refl
 
-value_fits : (place : Path) (most : ℕ) (number : Option ℕ) → value_faults place most number ≡ [] → (n : ℕ) × (number ≡ Some n) × (n ≤ most)
+pub value_fits : (place : Path) (most : ℕ) (number : Option ℕ) → value_faults place most number ≡ [] → (n : ℕ) × (number ≡ Some n) × (n ≤ most)
 value_fits place most None h = absurd (cc)
 value_fits place most (Some n) h =
     let within = not_over (nat_lt most n) (Fault rule.Values place) h in

@@ -26,21 +26,21 @@ one_number m name a b ha hb =
       | inr (inr more) ↦ absurd (ha.first b.number more hb.named)
     ]
 
-one_entry : (m : Module) (name : Option (List ℕ)) (a b : Entry) → IsEntry m name a → IsEntry m name b → a ≡ b
+pub one_entry : (m : Module) (name : Option (List ℕ)) (a b : Entry) → IsEntry m name a → IsEntry m name b → a ≡ b
 one_entry m None a b ha hb = absurd ha
 one_entry m (Some name) a b ha hb =
     let numbered : ℕ → Entry = λ n. record { number = n } in
     ap numbered (one_number m name a b ha.1 hb.1)
 
-one_entry_fault : (m : Module) (name : Option (List ℕ)) (a b : JobError) → EntryFault m name a → EntryFault m name b → a ≡ b
+pub one_entry_fault : (m : Module) (name : Option (List ℕ)) (a b : JobError) → EntryFault m name a → EntryFault m name b → a ≡ b
 one_entry_fault m None a b ha hb = ha ∙ sym hb
 one_entry_fault m (Some name) a b ha hb = ha.0 ∙ sym hb.0
 
-entry_or_fault : (m : Module) (name : Option (List ℕ)) (entry : Entry) (e : JobError) → IsEntry m name entry → EntryFault m name e → ⊥
+pub entry_or_fault : (m : Module) (name : Option (List ℕ)) (entry : Entry) (e : JobError) → IsEntry m name entry → EntryFault m name e → ⊥
 entry_or_fault m None entry e h wrong = h
 entry_or_fault m (Some name) entry e h wrong = wrong.1 entry.number h.0 h.1.named
 
-one_first : (faults : List JobError) (a b : JobError) → IsFirst faults a → IsFirst faults b → a ≡ b
+pub one_first : (faults : List JobError) (a b : JobError) → IsFirst faults a → IsFirst faults b → a ≡ b
 one_first faults a b ha hb = let ia = ha.is in let ib = hb.is in cc
 
 one_fault : (m : Module) (job : Data) (a b : JobError) → FirstFault m job a → FirstFault m job b → a ≡ b
@@ -118,7 +118,7 @@ exact bytes m (Ok found) right cause e h = absurd (job_or_refusal bytes m found 
 exact bytes m (Err other) right (inl memory) e h = inr (ap Err memory)
 exact bytes m (Err other) right (inr wrong) e h = inl (ap Err (one_refusal bytes m other e wrong h))
 
-named_within : (m : Module) (name : Option (List ℕ)) (entry : Entry) → IsEntry m name entry → entry.number < length m.entries
+pub named_within : (m : Module) (name : Option (List ℕ)) (entry : Entry) → IsEntry m name entry → entry.number < length m.entries
 named_within m None entry h = absurd h
 named_within m (Some name) entry h = h.1.named.0
 

@@ -4,6 +4,8 @@ use Rattle.td_core.specs.declared.module.Module.{Module}
 use Rattle.td_job.specs.declared.error.JobError.{JobError}
 use Rattle.td_job.specs.declared.run_job.RunJob.{RunJob}
 use Rattle.td_job.specs.Jobs.{IsRunJob, RefusedJob}
+use Rattle.td_job.specs.declared.named.NamedJob.{NamedJob}
+use Rattle.td_job.specs.Named.{IsNamedJob, FirstNamedFault}
 
 -- bytes stand for at most one run job
 abbrev pub OneJobEach : Type 0
@@ -20,3 +22,15 @@ NeverBoth = (bytes : List ℕ) (m : Module) (j : RunJob) (e : JobError) → IsRu
 -- bytes stand for a run job or have a fault
 abbrev pub AlwaysOne : Type 0
 AlwaysOne = (bytes : List ℕ) (m : Module) → ((j : RunJob) × IsRunJob bytes m j) ⊎ ((e : JobError) × RefusedJob bytes m e)
+
+-- a job with a name is at most one run job of a module
+abbrev pub OneNamedJobEach : Type 0
+OneNamedJobEach = (m : Module) (job : NamedJob) (a b : RunJob) → IsNamedJob m job a → IsNamedJob m job b → a ≡ b
+
+-- it has at most one first fault
+abbrev pub OneNamedFaultEach : Type 0
+OneNamedFaultEach = (m : Module) (job : NamedJob) (e f : JobError) → FirstNamedFault m job e → FirstNamedFault m job f → e ≡ f
+
+-- and where it is a run job, none
+abbrev pub NeverBothNamed : Type 0
+NeverBothNamed = (m : Module) (job : NamedJob) (j : RunJob) (e : JobError) → IsNamedJob m job j → FirstNamedFault m job e → ⊥

@@ -51,7 +51,7 @@ pub enum JobRule {
     Form,
     /// No entry point has the name.
     NoEntry,
-    /// A list is not as long as the entry point asks.
+    /// A list is not as long as the entry point asks, or a value doesn't fit its type.
     Values,
     /// A text is not an even number of hexadecimal digits, or a store's is not 16.
     Digits,

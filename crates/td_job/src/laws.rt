@@ -1,6 +1,6 @@
 //! Laws of jobs and their faults. They do nothing when they are called.
 
-ghost use Rattle.td_job.specs.Laws.{OneJobEach, OneFaultEach, NeverBoth, AlwaysOne};
+ghost use Rattle.td_job.specs.Laws.{OneJobEach, OneFaultEach, NeverBoth, AlwaysOne, OneNamedJobEach, OneNamedFaultEach, NeverBothNamed};
 
 /// The bytes of a job stand for at most one run job, or have at most one fault, and never both.
 pub fn one_answer_each()
@@ -12,4 +12,11 @@ pub fn one_answer_each()
 /// The bytes of a job stand for a run job, or they have a fault.
 pub fn job_or_fault()
     ensures { AlwaysOne }
+{}
+
+/// A job that names its entry point is at most one run job of a module, or has at most one first fault, and never both.
+pub fn one_named_answer_each()
+    ensures one_job { OneNamedJobEach }
+    ensures one_fault { OneNamedFaultEach }
+    ensures never_both { NeverBothNamed }
 {}

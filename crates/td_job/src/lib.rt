@@ -7,9 +7,10 @@ mod checks;
 pub mod error;
 mod json;
 pub mod laws;
+pub mod named;
 pub mod run_job;
 mod stores;
 #[cfg(test)]
 mod tests;
 mod values;
-mod words;
+pub mod words;

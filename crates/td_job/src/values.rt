@@ -50,7 +50,7 @@ impl Slots<'_> {
     }
 
     /// The greatest value that fits; none past the last of them. A pointer's cell has 32 bits.
-    fn most(self, index: usize) -> Option<u64>
+    pub(crate) fn most(self, index: usize) -> Option<u64>
         ensures { result ≡ option_map (λ bound. bound.most) (slice_get (slot_bounds self.entry) index) }
     {
         match self {

@@ -28,7 +28,7 @@ fn word_at(bytes: &[u8], start: usize) -> u64
 
 /// The first words that bytes fill, this many, the byte of least weight first; zero bytes stand past the end of the bytes.
 /// `AllocError`: there was no memory for them.
-pub(crate) fn fill_words(alloc: Global, bytes: &[u8], count: u32) -> Result<Items<u64>, AllocError>
+pub fn fill_words(alloc: Global, bytes: &[u8], count: u32) -> Result<Items<u64>, AllocError>
     requires { 8 * count < length bytes.now + 8 }
     ensures { IfOk result (λ words. IsFilled bytes.now count words) }
 {
