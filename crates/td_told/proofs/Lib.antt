@@ -1,0 +1,4 @@
+pub mod Jobs
+pub mod Names
+pub mod Told
+pub mod Runs

@@ -1,0 +1,114 @@
+-- Loads, cells and endings as a report prints them: names, numbers of 64 bits, and a value for each cell.
+use Rattle.std.proofs.Common.{◌≡◌, inl, inr, ℕ, zero, suc, ◌*◌, ◌^◌, ◌<◌, ◌≤◌, List, [], ◌∷◌, length, Some, refl, sym, ap, subst, arith, slice_index}
+use Rattle.std.specs.List.{All}
+use Rattle.std.proofs.lemmas.Bool.{cases_order}
+use Rattle.std.proofs.lemmas.List.Elements.{All-nil, All-cons, All-head, All-tail, All-append, All-filter}
+use Rattle.std.proofs.Math.ListN.{get_or-eq_default}
+use Rattle.td_num.specs.declared.number.Width.{Width}
+use Rattle.td_num.specs.declared.number.Width.TheVariants.{One, Two, Four, Eight}
+use Rattle.td_core.specs.declared.module.Module.{Module}
+use Rattle.td_core.specs.declared.module.Entry.{Entry}
+use Rattle.td_core.specs.declared.module.Cell.{Cell}
+use Rattle.td_core.specs.declared.module.CellKind.{CellKind}
+use Rattle.td_core.specs.declared.module.CellKind.TheVariants.{Number, Pointer}
+use Rattle.td_core.specs.declared.module.TypeDef.{TypeDef}
+use Rattle.td_core.specs.declared.outcome.Reason.{Reason}
+use Rattle.td_core.specs.declared.outcome.TraceFrame.{TraceFrame}
+use Rattle.td_core.specs.declared.outcome.Outcome.{Outcome}
+use Rattle.td_core.specs.Outcome.{Ending, Accepted, Rejected, outcome_of}
+use Rattle.td_core.specs.Entries.{entry_definition}
+use Rattle.td_core.specs.Formed.{AllFit, cell_bound, cell_bounds}
+use Rattle.td_core.specs.WellFormed.{Each, IsDefinitionNamed}
+use Rattle.td_stream.specs.declared.load.Load.{Load}
+use Rattle.td_stream.specs.Loads.{Inside}
+use Rattle.td_sched.specs.declared.store.PlannedStore.{PlannedStore}
+use Rattle.td_sched.specs.Plan.{numbered, up_to, to_word, last_value, at, ArePlanned}
+use Rattle.td_meaning.specs.Framing.{AllFor, IsFramed, AreNamed}
+use Rattle.td_endings.specs.Endings.{AreCells, IsEndingWithin}
+use Rattle.td_report.specs.Laws.{IsNamedFrame, IsNamedCell, HasCells, IsOf64Bits}
+use Rattle.td_report.specs.Report.{entry_cells}
+use Rattle.td_told.specs.Laws.{IsTold}
+use Rattle.td_told.proofs.Names.{frames_named, cells_named}
+
+-- ---- loads
+
+abbrev Small : PlannedStore → Type 0
+Small s = s.value < 2 ^ 64
+
+up_to_small : (k : ℕ) (stores : List PlannedStore) → All Small stores → All Small (up_to k stores)
+up_to_small zero stores h = All-filter _ Small stores h
+up_to_small (suc k) stores h = All-append Small (up_to k stores) (numbered (suc k) stores) (up_to_small k stores h) (All-filter _ Small stores h)
+
+last_small : (v : ℕ) (stores : List PlannedStore) → v < 2 ^ 64 → All Small stores → last_value v stores < 2 ^ 64
+last_small v [] lt h = lt
+last_small v (s ∷ stores) lt h = last_small s.value stores (All-head Small s stores h) (All-tail Small s stores h)
+
+index_small : (words : List ℕ) (i : ℕ) → All (λ w. w < 2 ^ 64) words → slice_index words i < 2 ^ 64
+index_small words i h = elim (cases_order i (length words)) [
+  | inl same ↦ past (omega (arith, same))
+  | inr other ↦ elim other [ inl inside ↦ h i 0 inside | inr outside ↦ past (omega (arith, outside)) ]
+]
+  where
+    past : length words ≤ i → slice_index words i < 2 ^ 64
+    past le = let none : slice_index words i ≡ 0 = get_or-eq_default words 0 le in omega (arith, none)
+
+planned_small : (words : List ℕ) (stores : List PlannedStore) (k i : ℕ) → All (λ w. w < 2 ^ 64) words → All Small stores → at words stores k i < 2 ^ 64
+planned_small words stores k i h g = last_small (slice_index words i) (to_word i (up_to k stores)) (index_small words i h) (All-filter _ Small (up_to k stores) (up_to_small k stores g))
+
+pub loads_small : (n : ℕ) (words : List ℕ) (stores : List PlannedStore) (k : ℕ) (loads : List Load) → n ≤ 1048576 → All (λ w. w < 2 ^ 64) words → All Small stores
+    → Inside n loads → ArePlanned words stores k loads → All IsOf64Bits loads
+loads_small n words stores k [] low h g inside planned = All-nil IsOf64Bits
+loads_small n words stores k (l ∷ loads) low h g inside planned =
+    let within = All-head (λ (l : Load). 8 * l.word < n) l loads inside in
+    All-cons IsOf64Bits l loads
+    (record { word = omega (arith, within, low); value = omega (arith, planned.0, planned_small words stores k l.word h g) })
+    (loads_small n words stores (suc k) loads low h g (All-tail (λ (l : Load). 8 * l.word < n) l loads inside) planned.1)
+
+-- ---- cells
+
+width_small : (w : Width) (v : ℕ) → v ≤ (cell_bound (Number w)).most → v < 2 ^ 64
+width_small One v le = omega (arith, le)
+width_small Two v le = omega (arith, le)
+width_small Four v le = omega (arith, le)
+width_small Eight v le = omega (arith, le)
+
+cell_small : (kind : CellKind) (v : ℕ) → v ≤ (cell_bound kind).most → v < 2 ^ 64
+cell_small (Number w) v le = width_small w v le
+cell_small Pointer v le = omega (arith, le)
+
+pub given_cells : (cells : List Cell) (values : List ℕ) → AllFit (cell_bounds cells) values → AreCells (length cells) values
+given_cells [] [] h = (refl, tt)
+given_cells [] (v ∷ vs) h = absurd h
+given_cells (c ∷ cs) [] h = absurd h
+given_cells (c ∷ cs) (v ∷ vs) h = let rest = given_cells cs vs h.1 in (ap suc rest.0, (cell_small c.kind v h.0, rest.1))
+
+all_small : (values : List ℕ) → Each (λ v. v < 2 ^ 64) values → All (λ v. v < 2 ^ 64) values
+all_small [] h = All-nil (λ v. v < 2 ^ 64)
+all_small (v ∷ vs) h = All-cons (λ v. v < 2 ^ 64) v vs h.0 (all_small vs h.1)
+
+-- ---- endings
+
+one_reason : (reason : Reason) (trace : List TraceFrame) → AllFor reason trace → All (λ f. f.reason ≡ reason) trace
+one_reason reason [] h = All-nil (λ f. f.reason ≡ reason)
+one_reason reason (f ∷ fs) h = All-cons (λ f. f.reason ≡ reason) f fs h.0 (one_reason reason fs h.1)
+
+has_cells : (m : Module) (entry : Entry) (d : TypeDef) (o : Outcome) → entry_definition m entry.number ≡ Some d → IsDefinitionNamed (length m.names) d → AreCells (length d.cells) o.cells → HasCells m entry o
+has_cells m entry d o e named h = record {
+  named = subst (λ x. All (IsNamedCell m) (entry_cells x)) (sym e) (cells_named m d.cells named.cells);
+  each = subst (λ x. length o.cells ≡ length (entry_cells x)) (sym e) h.0;
+  small = all_small o.cells h.1;
+}
+
+pub ending_told : (m : Module) (entry : Entry) (d : TypeDef) (end : ℕ) (o : Ending) → end ≤ 1048576 → entry_definition m entry.number ≡ Some d → Each (IsDefinitionNamed (length m.names)) m.definitions → IsDefinitionNamed (length m.names) d
+    → IsEndingWithin end (length d.cells) o → IsFramed o → AreNamed m.definitions d o → IsTold m entry (outcome_of o)
+ending_told m entry d end (Accepted q cells) low e each own h framed named = record {
+  named = record { position = omega (arith, low, h.0); frames = All-nil (IsNamedFrame m) };
+  frames = refl;
+  cells = has_cells m entry d _ e own h.1;
+}
+ending_told m entry d end (Rejected reason q [] cells) low e each own h framed named = absurd framed
+ending_told m entry d end (Rejected reason q (f ∷ fs) cells) low e each own h framed named = record {
+  named = record { position = omega (arith, low, h.0); frames = frames_named m end (f ∷ fs) (omega (arith, low)) h.1.0 named.0 each };
+  frames = one_reason reason (f ∷ fs) framed.1;
+  cells = has_cells m entry d _ e own h.1.1;
+}

@@ -1,0 +1,33 @@
+//! Laws of what reports tell. They do nothing when they are called.
+
+ghost use Rattle.td_told.specs.Laws.{JobsAreSized, LoadsAreTold, ModulesHaveWords, RunsAreTold};
+
+use td_arith::laws::evaluated_is_sound;
+use td_endings::laws::endings_are_within;
+use td_meaning::laws::{frames_are_named, rejections_are_framed};
+
+/// Of each run job the entry point is one of the module's, values fit their parameters and cells, the message isn't too
+/// long, and words and stores are of 64 bits.
+pub fn jobs_are_sized()
+    ensures { JobsAreSized }
+{}
+
+/// The names of a checked module are words, no two are alike, and none is a word that a report has for what is no field.
+pub fn modules_have_words()
+    ensures { ModulesHaveWords }
+{}
+
+/// The outcome of a good job has named frames, numbers of 64 bits, and a value for each cell.
+pub fn runs_are_told()
+    ensures { RunsAreTold }
+{
+    evaluated_is_sound();
+    endings_are_within();
+    frames_are_named();
+    rejections_are_framed();
+}
+
+/// The loads of a good job are of words and values of 64 bits.
+pub fn loads_are_told()
+    ensures { LoadsAreTold }
+{}
