@@ -1,0 +1,3 @@
+pub mod Begins
+mod Blocks
+mod Listed

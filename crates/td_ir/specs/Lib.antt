@@ -1,0 +1,9 @@
+pub mod Tables
+pub mod WellFormed
+pub mod Listing
+pub mod Entries
+pub mod State
+pub mod Values
+pub mod Flow
+pub mod Run
+pub mod RunLaws

@@ -1,0 +1,12 @@
+//! The code of compiled validators: instructions, the tables that they name, what code does on a message that stays, and
+//! the listing. The layer above rests on two promises: the tables of a `Code` fit together, and a listing is the lines of
+//! its instructions. What is safe to run, td_verify says.
+#![tactic(auto)]
+
+pub mod code;
+pub mod entries;
+pub mod instructions;
+pub mod laws;
+pub mod listing;
+pub mod tables;
+mod tests_of_tables;

@@ -1,0 +1,12 @@
+pub mod Shape
+pub mod Brackets
+pub mod Contexts
+pub mod Ways
+pub mod Marks
+pub mod Rules
+pub mod Flat
+pub mod Operands
+pub mod Codes
+pub mod Verify
+pub mod Findings
+pub mod Safe
