@@ -1,73 +1,45 @@
 -- An input has one answer, and none where it is refused.
-use Rattle.std.proofs.Common.{◌≡◌, ◌⊎◌, inl, inr, ℕ, suc, ◌+◌, ◌<◌, ◌≤◌, List, [], ◌∷◌, length, slice_index, refl, sym, ap, ap₂, subst, ◌∙◌, arith}
-use Rattle.std.specs.List.{All}
-use Rattle.std.proofs.lemmas.Bool.{cases_order}
-use Rattle.std.proofs.Math.ListN.{get_or-eq_default}
+use Rattle.std.proofs.Common.{◌≡◌, ℕ, ◌<◌, ◌≤◌, List, length, Result, Ok, sym, ap, ap₂, subst, ◌∙◌, arith}
+use Rattle.std.specs.Prelude.{◌↔◌}
 use Rattle.td_core.specs.declared.module.Module.{Module}
 use Rattle.td_core.specs.declared.outcome.Outcome.{Outcome}
 use Rattle.td_stream.specs.declared.load.Load.{Load}
-use Rattle.td_stream.specs.Loads.{IsRising, Carries, Exactly}
-use Rattle.td_sched.specs.declared.store.PlannedStore.{PlannedStore}
-use Rattle.td_sched.specs.Plan.{at, ArePlanned}
-use Rattle.td_meaning.specs.Meaning.{meaning}
-use Rattle.td_runs.specs.Runs.{AreGiven, IsRun, RunsAreOne}
-use Rattle.td_arith.specs.Laws.{AreBytes}
+use Rattle.td_runs.specs.Runs.{RunsAreOne}
 use Rattle.td_front.specs.declared.error.FrontError.{FrontError}
-use Rattle.td_front.specs.ModuleText.{IsModuleText, RefusedBy}
+use Rattle.td_ast.specs.declared.token.Token.{Token}
+use Rattle.td_ast.specs.declared.definitions.ModuleTree.{ModuleTree}
+use Rattle.td_lexer.specs.declared.error.LexError.{LexError}
+use Rattle.td_lexer.specs.Scanner.{tokens_of}
+use Rattle.td_lexer.specs.Splits.{Splits}
+use Rattle.td_grammar.specs.Definitions.{module_text}
+use Rattle.td_grammar.specs.Laws.{OneTree}
+use Rattle.td_layout.specs.Definitions.{canonical_text}
+use Rattle.td_front.specs.ModuleText.{SpellsTree, IsModuleText, RefusedBy}
 use Rattle.td_front.specs.Laws.{OneModuleEach, NeverBoth as NeverBothTexts}
 use Rattle.td_job.specs.declared.run_job.RunJob.{RunJob}
 use Rattle.td_job.specs.Jobs.{IsRunJob, RefusedJob}
-use Rattle.td_job.specs.Laws.{OneJobEach, NeverBoth as NeverBothJobs}
+use Rattle.td_job.specs.Laws.{OneJobEach, NeverBoth as NeverBothJobs, OneNamedJobEach, NeverBothNamed}
+use Rattle.td_gen.specs.Laws.{OneMessageEach}
 use Rattle.td_report.specs.Report.{report}
 use Rattle.td_report.specs.Summary.{summary}
 use Rattle.td_cli.specs.declared.command.Command.{Command}
-use Rattle.td_cli.specs.declared.command.Command.TheVariants.{Check, Run}
+use Rattle.td_cli.specs.declared.command.Command.TheVariants.{Check, Tidy, Run, Bench}
 use Rattle.td_cli.specs.declared.refusal.Refusal.{Refusal}
 use Rattle.td_cli.specs.declared.refusal.Refusal.TheVariants.{TooLong, NoJob, BadModule, BadJob}
 use Rattle.td_cli.specs.declared.tool.TheConstants.{INPUT_LIMIT}
 use Rattle.td_cli.specs.Run.{IsRunOf}
-use Rattle.td_cli.specs.Answers.{text_part, job_part, IsRunInput, IsReport, IsSummary, RefusesRun, Answers, Admits, Refuses}
+use Rattle.td_cli.specs.Answers.{text_part, job_part, IsRunInput, IsReport, IsSummary, IsTidy, RefusesRun, Answers, Admits, Refuses}
 use Rattle.td_cli.specs.Laws.{OneAnswer, AnsweredIsAdmitted, NeverBoth}
+use Rattle.td_cli.proofs.OneRun.{SomeCarry, same_run}
+use Rattle.td_cli.proofs.Benches.{one_bench, totals_admitted, never_refused}
 use Rattle.td_cli.proofs.Inputs.{one_marker, text_there, job_there, nothing_refuses, checked_not_refused}
 
--- ---- runs
-
--- what a plan has is what a memory gives
-given : (opening : List ℕ) (stores : List PlannedStore) (k : ℕ) (loads : List Load) → ArePlanned opening stores k loads → AreGiven (at opening stores) k loads
-given opening stores k [] h = tt
-given opening stores k (l ∷ loads) h = (h.0, given opening stores (suc k) loads h.1)
-
-bytes_of : (b : List ℕ) → All (λ x. x < 256) b → AreBytes b
-bytes_of b all i =
-    elim (cases_order i (length b)) [
-      | inl same ↦ past (omega arith)
-      | inr other ↦ elim other [ inl inside ↦ all i 0 inside | inr outside ↦ past (omega arith) ]
-    ]
-  where
-    past : length b ≤ i → slice_index b i < 256
-    past h = let none : slice_index b i ≡ 0 = get_or-eq_default b 0 h in omega arith
-
-abbrev pub SomeCarry : Type 0
-SomeCarry = (n : ℕ) (loads : List Load) → IsRising loads → (b : List ℕ) × Carries n b loads × All (λ x. x < 256) b
-
-is_run : (m : Module) (job : RunJob) (o : Outcome) (l : List Load) → IsRunOf m job o l → IsRun m job.entry job.args job.cells job.length (at job.words job.stores) l
-is_run m job o l h = record {
-  rising = h.rising;
-  given = given job.words job.stores 0 l h.held;
-  exact = λ b carries all. (h.meant b (bytes_of b all) carries).exact;
-}
+-- ---- reports
 
 one_run : RunsAreOne → SomeCarry → (m : Module) (job : RunJob) (o p : Outcome) (l k : List Load) → IsRunOf m job o l → IsRunOf m job p k → report o m job.entry l ≡ report p m job.entry k
 one_run one some m job o p l k h g =
-    let runs = one m job.entry job.args job.cells job.length (at job.words job.stores) l k (is_run m job o l h) (is_run m job p k g) in
-    let message = some job.length l h.rising in
-    let bytes : AreBytes message.0 = bytes_of message.0 message.2 in
-    let C : List Load → Type 0 = λ x. Carries job.length message.0 x in
-    let first = (h.meant message.0 bytes message.1).same in
-    let second = (g.meant message.0 bytes (subst C runs.0 message.1)).same in
-    ap₂ (λ (x : Outcome) (y : List Load). report x m job.entry y) (sym first ∙ second) runs.0
-
--- ---- reports
+    let same = same_run one some m job o p l k h g in
+    ap₂ (λ (x : Outcome) (y : List Load). report x m job.entry y) same.0 same.1
 
 one_report : OneModuleEach → OneJobEach → RunsAreOne → SomeCarry → (input a b : List ℕ) → IsReport input a → IsReport input b → a ≡ b
 one_report modules jobs one some input a b h g =
@@ -87,26 +59,57 @@ one_report modules jobs one some input a b h g =
 one_summary : OneModuleEach → (input a b : List ℕ) → IsSummary input a → IsSummary input b → a ≡ b
 one_summary modules input a b h g = h.2 ∙ ap summary (modules input h.0 g.0 h.1 g.1) ∙ sym g.2
 
-pub one_answer : OneModuleEach → OneJobEach → RunsAreOne → SomeCarry → OneAnswer
-one_answer modules jobs one some Check input a b h g = one_summary modules input a b h.1 g.1
-one_answer modules jobs one some Run input a b h g = one_report modules jobs one some input a b h.1 g.1
+-- ---- trees
+
+-- a text splits into its tokens, and these are one list
+abbrev pub TokensAreOne : Type 0
+TokensAreOne = (text : List ℕ) (tokens : List Token) → (tokens_of text ≡ Ok tokens) ↔ Splits text tokens
+
+one_list : TokensAreOne → (text : List ℕ) (a b : List Token) → Splits text a → Splits text b → a ≡ b
+one_list split text a b h g = same (tokens_of text) ((split text a).1 h) ((split text b).1 g)
+  where
+    same : (r : Result (List Token) LexError) → r ≡ Ok a → r ≡ Ok b → a ≡ b
+    same r e f = cc
+
+tree_of_text : TokensAreOne → OneTree → (text : List ℕ) (a b : ModuleTree) → SpellsTree text a → SpellsTree text b → a ≡ b
+tree_of_text split one text a b h g =
+    let S : List Token → Type 0 = λ t. module_text.Spells a t in
+    one g.tokens a b (subst S (one_list split text h.tokens g.tokens h.split g.split) h.spelled) g.spelled g.within
+
+one_tidy : TokensAreOne → OneTree → (input a b : List ℕ) → IsTidy input a → IsTidy input b → a ≡ b
+one_tidy split one input a b h g = h.2 ∙ ap canonical_text (tree_of_text split one input h.1.tree g.1.tree h.1.spells g.1.spells) ∙ sym g.2
+
+-- ---- each command
+
+pub one_answer : TokensAreOne → OneTree → OneModuleEach → OneJobEach → OneMessageEach → OneNamedJobEach → RunsAreOne → SomeCarry → OneAnswer
+one_answer split tree modules jobs messages named one some Check input a b h g = one_summary modules input a b h.1 g.1
+one_answer split tree modules jobs messages named one some Tidy input a b h g = one_tidy split tree input a b h.1 g.1
+one_answer split tree modules jobs messages named one some Run input a b h g = one_report modules jobs one some input a b h.1 g.1
+one_answer split tree modules jobs messages named one some (Bench n) input a b h g = one_bench modules messages named one some n a b h g
 
 -- ---- never both
 
 pub answered_admitted : AnsweredIsAdmitted
 answered_admitted Check input output h = (h.0, h.1.0, h.1.1)
+answered_admitted Tidy input output h = (h.0, h.1.0, h.1.1)
 answered_admitted Run input output h = (h.0, h.1.m, h.1.job, h.1.input_is)
+answered_admitted (Bench n) input output h = totals_admitted n h.0 h.1
 
 refused : OneModuleEach → NeverBothTexts → NeverBothJobs → (input : List ℕ) (m : Module) (job : RunJob) → IsRunInput input m job → (refusal : Refusal) → RefusesRun input refusal → ⊥
 refused modules texts jobs input m job h refusal g =
     nothing_refuses input h.place m h.marker (λ x k. modules (text_part input h.place) m x h.text k) (λ e k. texts (text_part input h.place) m e h.text k) (λ e k. jobs (job_part input h.place) m job e h.good k) refusal g
 
-pub never_both : OneModuleEach → NeverBothTexts → NeverBothJobs → NeverBoth
-never_both modules texts jobs Check input TooLong h g = let short : length input ≤ INPUT_LIMIT = h.0 in let over : INPUT_LIMIT < length input = g in omega arith
-never_both modules texts jobs Check input NoJob h g = g.1
-never_both modules texts jobs Check input (BadModule e) h g = texts input h.1 e h.2 g.1
-never_both modules texts jobs Check input (BadJob e) h g = g.1
-never_both modules texts jobs Run input TooLong h g = let short : length input ≤ INPUT_LIMIT = h.0 in let over : INPUT_LIMIT < length input = g in omega arith
-never_both modules texts jobs Run input NoJob h g = g.1 h.3.place h.3.marker.marker
-never_both modules texts jobs Run input (BadModule e) h g = refused modules texts jobs input h.1 h.2 h.3 (BadModule e) g.1
-never_both modules texts jobs Run input (BadJob e) h g = refused modules texts jobs input h.1 h.2 h.3 (BadJob e) g.1
+pub never_both : OneModuleEach → NeverBothTexts → NeverBothJobs → OneMessageEach → NeverBothNamed → NeverBoth
+never_both modules texts jobs messages named Check input TooLong h g = let short : length input ≤ INPUT_LIMIT = h.0 in let over : INPUT_LIMIT < length input = g in omega arith
+never_both modules texts jobs messages named Check input NoJob h g = g.1
+never_both modules texts jobs messages named Check input (BadModule e) h g = texts input h.1 e h.2 g.1
+never_both modules texts jobs messages named Check input (BadJob e) h g = g.1
+never_both modules texts jobs messages named Tidy input TooLong h g = let short : length input ≤ INPUT_LIMIT = h.0 in let over : INPUT_LIMIT < length input = g in omega arith
+never_both modules texts jobs messages named Tidy input NoJob h g = g.1
+never_both modules texts jobs messages named Tidy input (BadModule e) h g = texts input h.1 e h.2 g.1
+never_both modules texts jobs messages named Tidy input (BadJob e) h g = g.1
+never_both modules texts jobs messages named Run input TooLong h g = let short : length input ≤ INPUT_LIMIT = h.0 in let over : INPUT_LIMIT < length input = g in omega arith
+never_both modules texts jobs messages named Run input NoJob h g = g.1 h.3.place h.3.marker.marker
+never_both modules texts jobs messages named Run input (BadModule e) h g = refused modules texts jobs input h.1 h.2 h.3 (BadModule e) g.1
+never_both modules texts jobs messages named Run input (BadJob e) h g = refused modules texts jobs input h.1 h.2 h.3 (BadJob e) g.1
+never_both modules texts jobs messages named (Bench n) input refusal h g = never_refused modules texts messages named n refusal h g

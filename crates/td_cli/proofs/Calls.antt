@@ -1,23 +1,27 @@
 -- How a call ends, from how its words were understood, its source was read and its input was answered.
-use Rattle.std.proofs.Common.{◌≡◌, ◌≢◌, inl, inr, ℕ, zero, suc, ◌+◌, ◌<◌, ◌≤◌, List, [], ◌∷◌, length, Option, Some, None, Result, Ok, Err, refl, sym, subst, ◌∙◌, arith}
+use Rattle.std.proofs.Common.{◌≡◌, ◌≢◌, inl, inr, ℕ, zero, suc, ◌+◌, ◌<◌, ◌≤◌, List, [], ◌∷◌, length, Option, Some, None, Result, Ok, Err, refl, sym, subst, ap, slice_index, ◌∙◌, arith}
+use Rattle.std.specs.Fmt.{decimal}
+use Rattle.std.specs.Str.Parse.{digits_value}
+use Rattle.std.proofs.lemmas.Fmt.{decimal_is_IsNumeral}
 use Rattle.std.specs.Io.KnownBytes.{IsAtEnd}
 use Rattle.td_io.specs.declared.reading.ReadError.{ReadError}
 use Rattle.td_io.specs.declared.reading.ReadError.TheVariants as reading
 use Rattle.td_io.specs.Causes.{ReadWhole, HasMore, TookAtMost}
 use Rattle.td_io.specs.States.{SourceState, SinkState}
 use Rattle.td_cli.specs.declared.command.Command.{Command}
-use Rattle.td_cli.specs.declared.command.Command.TheVariants.{Check, Run}
+use Rattle.td_cli.specs.declared.command.Command.TheVariants.{Check, Tidy, Run, Bench}
 use Rattle.td_cli.specs.declared.refusal.Refusal.{Refusal}
 use Rattle.td_cli.specs.declared.refusal.Refusal.TheVariants.{TooLong}
 use Rattle.td_cli.specs.declared.status.Status.{Status}
 use Rattle.td_cli.specs.declared.status.Status.TheVariants as at
 use Rattle.td_cli.specs.declared.tool.TheConstants.{INPUT_LIMIT}
-use Rattle.td_cli.specs.Command.{Means, MeansNone, name_of}
+use Rattle.td_cli.specs.declared.command.TheConstants.{MOST_MESSAGES}
+use Rattle.td_cli.specs.Command.{Means, MeansNone, IsInRange, name_of}
 use Rattle.td_cli.specs.Answers.{Admits, Refuses}
 use Rattle.td_cli.specs.Errors.{unread_status, unread_line}
 use Rattle.td_cli.specs.Lines.{usage_line, read_line, memory_line, refusal_line}
 use Rattle.td_io.specs.declared.reading.TheConstants.{PIECE}
-use Rattle.td_cli.specs.Ends.{Passage, passage, CallEnds, StopsReading, WriteFails, ReadFails, NoReadFails, WithinLimit, Held, IsOutput, IsErrorLine, EndsAs}
+use Rattle.td_cli.specs.Ends.{Passage, passage, CallEnds, StopsReading, WriteFails, ReadFails, NoReadFails, WithinLimit, Held, Reads, Took, Saw, Tells, MayLackMemory, IsOutput, IsErrorLine, EndsAs}
 use Rattle.td_cli.specs.Endings.{EndsWith, EndsWithOutput, EndsWithLine, InputEnds}
 
 -- ---- text that goes out
@@ -58,7 +62,7 @@ output_ends words source output out err result is (inl taken, free) =
 output_ends words source output out err result is (inr failed, free) =
     let P : Status → Type 0 = λ s. EndsAs s words source out err in subst P (sym failed.0) (inl (output, is, failed.1, free))
 
--- ---- an input that was read
+-- ---- an input that was taken
 
 -- what is known of a source that was read to its end
 pub record WasRead (source : Passage SourceState) (input : List ℕ) : Type 0 where
@@ -67,14 +71,39 @@ pub record WasRead (source : Passage SourceState) (input : List ℕ) : Type 0 wh
   pub quiet : NoReadFails source
   pub within : WithinLimit source
 
+-- and of one of which a command took what it takes
+pub record WasTaken (words : List (List ℕ)) (command : Command) (source : Passage SourceState) (input : List ℕ) : Type 0 where
+  pub took : Took command source input
+  pub saw : Saw command source input
+  pub lack : MayLackMemory words source
+
+took_read : (command : Command) (source : Passage SourceState) (input : List ℕ) → Reads command → WasRead source input → Took command source input
+took_read Check source input reads read = (read.held, read.end, read.quiet)
+took_read Tidy source input reads read = (read.held, read.end, read.quiet)
+took_read Run source input reads read = (read.held, read.end, read.quiet)
+took_read (Bench n) source input reads read = absurd reads
+
+saw_read : (command : Command) (source : Passage SourceState) (input : List ℕ) → Reads command → Held source input → NoReadFails source → Saw command source input
+saw_read Check source input reads held quiet = (held, quiet)
+saw_read Tidy source input reads held quiet = (held, quiet)
+saw_read Run source input reads held quiet = (held, quiet)
+saw_read (Bench n) source input reads held quiet = absurd reads
+
+pub was_taken : (words : List (List ℕ)) (command : Command) (source : Passage SourceState) (input : List ℕ) → Means words command → Reads command → WasRead source input → WasTaken words command source input
+was_taken words command source input means reads read = record {
+  took = took_read command source input reads read;
+  saw = saw_read command source input reads read.held read.quiet;
+  lack = inr ((command, means, reads), read.quiet, read.within);
+}
+
 pub input_ends : (words : List (List ℕ)) (command : Command) (source : Passage SourceState) (input : List ℕ) (out err : Passage SinkState) (result : Status)
-    → Means words command → WasRead source input → InputEnds command input out err result → EndsAs result words source out err
-input_ends words command source input out err result means read (inl h) =
-    output_ends words source h.0 out err result (record { command = command; means = means; input = input; held = read.held; end = read.end; quiet = read.quiet; answers = h.1 }) h.2
-input_ends words command source input out err result means read (inr (inl h)) =
-    line_ends at.Refused words source (refusal_line input h.0) out err result (record { command = command; means = means; input = input; held = read.held; quiet = read.quiet; refusal = h.0; refuses = h.1; line_is = refl }) h.2
-input_ends words command source input out err result means read (inr (inr h)) =
-    line_ends at.NoMemory words source memory_line out err result (inr ((command, means), read.quiet, read.within), refl) h
+    → Means words command → WasTaken words command source input → InputEnds command input out err result → EndsAs result words source out err
+input_ends words command source input out err result means taken (inl h) =
+    output_ends words source h.0 out err result (record { command = command; means = means; input = input; took = taken.took; answers = h.1 }) h.2
+input_ends words command source input out err result means taken (inr (inl h)) =
+    line_ends at.Refused words source (refusal_line input h.0) out err result (record { command = command; means = means; input = input; saw = taken.saw; refusal = h.0; refuses = h.1; line_is = refl }) h.2
+input_ends words command source input out err result means taken (inr (inr h)) =
+    line_ends at.NoMemory words source memory_line out err result (taken.lack, refl) h
 
 -- an input that was read ends a call in one of four ways
 pub input_never : (command : Command) (input : List ℕ) (out err : Passage SinkState) (result other : Status)
@@ -94,9 +123,11 @@ long_input : (left : Option (List ℕ)) → HasMore left INPUT_LIMIT → (input 
 long_input None more = let long = some_longer INPUT_LIMIT in (long.0, tt, long.1)
 long_input (Some bytes) more = (bytes, refl, more)
 
-refuses_long : (command : Command) (input : List ℕ) → INPUT_LIMIT < length input → Refuses command input TooLong
-refuses_long Check input long = long
-refuses_long Run input long = long
+refuses_long : (command : Command) (input : List ℕ) → Reads command → INPUT_LIMIT < length input → Refuses command input TooLong
+refuses_long Check input reads long = long
+refuses_long Tidy input reads long = long
+refuses_long Run input reads long = long
+refuses_long (Bench n) input reads long = absurd reads
 
 -- what is known of a source that wasn't
 pub record WasUnread (source : Passage SourceState) (error : ReadError) : Type 0 where
@@ -106,15 +137,15 @@ pub record WasUnread (source : Passage SourceState) (error : ReadError) : Type 0
   pub within : (error ≡ reading.TooLong → ⊥) → WithinLimit source
 
 pub unread_ends : (words : List (List ℕ)) (command : Command) (source : Passage SourceState) (error : ReadError) (out err : Passage SinkState) (result : Status)
-    → Means words command → WasUnread source error → EndsWithLine (unread_status error) (unread_line error) out err result → EndsAs result words source out err
-unread_ends words command source reading.Fault out err result means was h =
-    line_ends at.ReadFault words source read_line out err result ((command, means), was.fault refl, refl) h
-unread_ends words command source reading.TooLong out err result means was h =
+    → Means words command → Reads command → WasUnread source error → EndsWithLine (unread_status error) (unread_line error) out err result → EndsAs result words source out err
+unread_ends words command source reading.Fault out err result means reads was h =
+    line_ends at.ReadFault words source read_line out err result ((command, means, reads), was.fault refl, refl) h
+unread_ends words command source reading.TooLong out err result means reads was h =
     let long = long_input source.before.left (was.long refl) in
     let quiet : NoReadFails source = was.quiet (λ same. cc) in
-    line_ends at.Refused words source (refusal_line [] TooLong) out err result (record { command = command; means = means; input = long.0; held = long.1; quiet = quiet; refusal = TooLong; refuses = refuses_long command long.0 long.2; line_is = refl }) h
-unread_ends words command source reading.NoMemory out err result means was h =
-    line_ends at.NoMemory words source memory_line out err result (inr ((command, means), was.quiet (λ same. cc), was.within (λ same. cc)), refl) h
+    line_ends at.Refused words source (refusal_line [] TooLong) out err result (record { command = command; means = means; input = long.0; saw = saw_read command source long.0 reads long.1 quiet; refusal = TooLong; refuses = refuses_long command long.0 reads long.2; line_is = refl }) h
+unread_ends words command source reading.NoMemory out err result means reads was h =
+    line_ends at.NoMemory words source memory_line out err result (inr ((command, means, reads), was.quiet (λ same. cc), was.within (λ same. cc)), refl) h
 
 -- a source that wasn't read to its end is neither answered nor no command
 pub unread_never : (error : ReadError) (err : Passage SinkState) (result other : Status)
@@ -123,23 +154,25 @@ unread_never reading.Fault err result other read refused memory fault h = ends_o
 unread_never reading.TooLong err result other read refused memory fault h = ends_or_fails at.Refused (refusal_line [] TooLong) err result other h refused fault
 unread_never reading.NoMemory err result other read refused memory fault h = ends_or_fails at.NoMemory memory_line err result other h memory fault
 
-admits_short : (command : Command) (input : List ℕ) → Admits command input → length input ≤ INPUT_LIMIT
-admits_short Check input h = h.0
-admits_short Run input h = h.0
+admits_short : (command : Command) (input : List ℕ) → Reads command → Admits command input → length input ≤ INPUT_LIMIT
+admits_short Check input reads h = h.0
+admits_short Tidy input reads h = h.0
+admits_short Run input reads h = h.0
+admits_short (Bench n) input reads h = absurd reads
 
-long_not_admitted : (command : Command) (left : Option (List ℕ)) (input : List ℕ) → left ≡ Some input → Admits command input → HasMore left INPUT_LIMIT → ⊥
-long_not_admitted command left input told admits more =
+long_not_admitted : (command : Command) (left : Option (List ℕ)) (input : List ℕ) → Reads command → left ≡ Some input → Admits command input → HasMore left INPUT_LIMIT → ⊥
+long_not_admitted command left input reads told admits more =
     let P : Option (List ℕ) → Type 0 = λ o. HasMore o INPUT_LIMIT in
     let over : INPUT_LIMIT < length input = subst P told more in
-    let short : length input ≤ INPUT_LIMIT = admits_short command input admits in
+    let short : length input ≤ INPUT_LIMIT = admits_short command input reads admits in
     omega arith
 
 -- and not refused, where its input is one that the command answers
 pub unread_good : (command : Command) (left : Option (List ℕ)) (error : ReadError) (input : List ℕ) (err : Passage SinkState) (result : Status)
-    → left ≡ Some input → Admits command input → (error ≡ reading.TooLong → HasMore left INPUT_LIMIT) → EndsWith (unread_status error) (unread_line error) err result → result ≢ at.Refused
-unread_good command left reading.Fault input err result told admits long h = ends_or_fails at.ReadFault read_line err result at.Refused h (λ e. cc) (λ e. cc)
-unread_good command left reading.TooLong input err result told admits long h = absurd (long_not_admitted command left input told admits (long refl))
-unread_good command left reading.NoMemory input err result told admits long h = ends_or_fails at.NoMemory memory_line err result at.Refused h (λ e. cc) (λ e. cc)
+    → Reads command → left ≡ Some input → Admits command input → (error ≡ reading.TooLong → HasMore left INPUT_LIMIT) → EndsWith (unread_status error) (unread_line error) err result → result ≢ at.Refused
+unread_good command left reading.Fault input err result reads told admits long h = ends_or_fails at.ReadFault read_line err result at.Refused h (λ e. cc) (λ e. cc)
+unread_good command left reading.TooLong input err result reads told admits long h = absurd (long_not_admitted command left input reads told admits (long refl))
+unread_good command left reading.NoMemory input err result reads told admits long h = ends_or_fails at.NoMemory memory_line err result at.Refused h (λ e. cc) (λ e. cc)
 
 pub ok_no_error : {T E : Type 0} (x : T) (e : E) → (let r : Result T E = Ok x in r ≡ Err e) → ⊥
 ok_no_error x e same = cc
@@ -161,24 +194,73 @@ refuses_read command left input bytes refusal told whole refuses = let P : List 
 
 -- ---- words
 
+pub same_some : {A : Type 0} (a b : A) → (let x : Option A = Some a in x ≡ Some b) → a ≡ b
+same_some a b e = cc
+
+-- commands of different kinds have different names
+apart : (a b : List ℕ) → (let name : Option (List ℕ) = Some a in name ≡ Some b) → (a ≡ b → ⊥) → ⊥
+apart a b e other = other (same_some a b e)
+
+check_tidy : name_of Check ≡ name_of Tidy → ⊥
+check_tidy e = let first : ◌≡◌ {A = ℕ} 99 116 = ap (λ (xs : List ℕ). slice_index xs 0) e in absurd (omega (arith, first))
+
+tidy_run : name_of Tidy ≡ name_of Run → ⊥
+tidy_run e = let first : ◌≡◌ {A = ℕ} 116 114 = ap (λ (xs : List ℕ). slice_index xs 0) e in absurd (omega (arith, first))
+
+tidy_bench : (n : ℕ) → name_of Tidy ≡ name_of (Bench n) → ⊥
+tidy_bench n e = let first : ◌≡◌ {A = ℕ} 116 98 = ap (λ (xs : List ℕ). slice_index xs 0) e in absurd (omega (arith, first))
+
+check_run : name_of Check ≡ name_of Run → ⊥
+check_run e = let first : ◌≡◌ {A = ℕ} 99 114 = ap (λ (xs : List ℕ). slice_index xs 0) e in absurd (omega (arith, first))
+
+check_bench : (n : ℕ) → name_of Check ≡ name_of (Bench n) → ⊥
+check_bench n e = let first : ◌≡◌ {A = ℕ} 99 98 = ap (λ (xs : List ℕ). slice_index xs 0) e in absurd (omega (arith, first))
+
+run_bench : (n : ℕ) → name_of Run ≡ name_of (Bench n) → ⊥
+run_bench n e = let first : ◌≡◌ {A = ℕ} 114 98 = ap (λ (xs : List ℕ). slice_index xs 0) e in absurd (omega (arith, first))
+
+-- numbers below 10,000 that are written the same are the same
+pub one_decimal : (m n : ℕ) → m ≤ MOST_MESSAGES → n ≤ MOST_MESSAGES → decimal m ≡ decimal n → m ≡ n
+one_decimal m n few small same =
+    let a = decimal_is_IsNumeral m (omega (arith, few)) in
+    let b = decimal_is_IsNumeral n (omega (arith, small)) in
+    sym a.1 ∙ ap (digits_value 10) same ∙ b.1
+
 -- words mean one command
 pub one_command : (words : List (List ℕ)) (a b : Command) → Means words a → Means words b → a ≡ b
 one_command words Check Check one two = refl
-one_command words Check Run one two = absurd (apart (sym one.1 ∙ two.1))
-  where
-    apart : (let name : Option (List ℕ) = Some (name_of Check) in name ≡ Some (name_of Run)) → ⊥
-    apart e = cc
-one_command words Run Check one two = absurd (apart (sym one.1 ∙ two.1))
-  where
-    apart : (let name : Option (List ℕ) = Some (name_of Run) in name ≡ Some (name_of Check)) → ⊥
-    apart e = cc
+one_command words Check Tidy one two = absurd (apart (name_of Check) (name_of Tidy) (sym one.1.0 ∙ two.1.0) check_tidy)
+one_command words Check Run one two = absurd (apart (name_of Check) (name_of Run) (sym one.1.0 ∙ two.1.0) check_run)
+one_command words Check (Bench n) one two = absurd (apart (name_of Check) (name_of (Bench n)) (sym one.1.0 ∙ two.1.0) (check_bench n))
+one_command words Tidy Check one two = absurd (apart (name_of Check) (name_of Tidy) (sym two.1.0 ∙ one.1.0) check_tidy)
+one_command words Tidy Tidy one two = refl
+one_command words Tidy Run one two = absurd (apart (name_of Tidy) (name_of Run) (sym one.1.0 ∙ two.1.0) tidy_run)
+one_command words Tidy (Bench n) one two = absurd (apart (name_of Tidy) (name_of (Bench n)) (sym one.1.0 ∙ two.1.0) (tidy_bench n))
+one_command words Run Check one two = absurd (apart (name_of Check) (name_of Run) (sym two.1.0 ∙ one.1.0) check_run)
+one_command words Run Tidy one two = absurd (apart (name_of Tidy) (name_of Run) (sym two.1.0 ∙ one.1.0) tidy_run)
 one_command words Run Run one two = refl
+one_command words Run (Bench n) one two = absurd (apart (name_of Run) (name_of (Bench n)) (sym one.1.0 ∙ two.1.0) (run_bench n))
+one_command words (Bench n) Check one two = absurd (apart (name_of Check) (name_of (Bench n)) (sym two.1.0 ∙ one.1.0) (check_bench n))
+one_command words (Bench n) Tidy one two = absurd (apart (name_of Tidy) (name_of (Bench n)) (sym two.1.0 ∙ one.1.0) (tidy_bench n))
+one_command words (Bench n) Run one two = absurd (apart (name_of Run) (name_of (Bench n)) (sym two.1.0 ∙ one.1.0) (run_bench n))
+one_command words (Bench n) (Bench m) one two =
+    let texts : decimal n ≡ decimal m = same_some (decimal n) (decimal m) (sym one.1.1.1 ∙ two.1.1.1) in
+    ap Bench (one_decimal n m one.1.1.3 two.1.1.3 texts)
+
+pub in_range : (words : List (List ℕ)) (command : Command) → Means words command → IsInRange command
+in_range words Check means = tt
+in_range words Tidy means = tt
+in_range words Run means = tt
+in_range words (Bench n) means = means.1.1.3
 
 means_admits : (words : List (List ℕ)) (a b : Command) (input : List ℕ) → Means words a → Means words b → Admits b input → Admits a input
 means_admits words a b input one two admits = let P : Command → Type 0 = λ k. Admits k input in subst P (one_command words b a two one) admits
 
 means_refuses : (words : List (List ℕ)) (a b : Command) (input : List ℕ) (refusal : Refusal) → Means words a → Means words b → Refuses b input refusal → Refuses a input refusal
 means_refuses words a b input refusal one two refuses = let P : Command → Type 0 = λ k. Refuses k input refusal in subst P (one_command words b a two one) refuses
+
+means_tells : (words : List (List ℕ)) (a b : Command) (source : Passage SourceState) (input : List ℕ) → Means words a → Means words b → Tells b source input → Tells a source input
+means_tells words a b source input one two tells = let P : Command → Type 0 = λ k. Tells k source input in subst P (one_command words b a two one) tells
 
 -- ---- the whole
 
@@ -190,16 +272,16 @@ took_none (Some bytes) most = ([], refl, omega arith)
 pub record Answered (words : List (List ℕ)) (command : Command) (status : Status) (source : Passage SourceState) (out err : Passage SinkState) : Type 0 where
   pub ends : EndsAs status words source out err
   pub usage : status ≢ at.Usage
-  pub good : (input : List ℕ) → source.before.left ≡ Some input → Admits command input → status ≢ at.Refused
-  pub bad : (input : List ℕ) (refusal : Refusal) → source.before.left ≡ Some input → Refuses command input refusal → status ≢ at.Done
+  pub good : (input : List ℕ) → Tells command source input → Admits command input → status ≢ at.Refused
+  pub bad : (input : List ℕ) (refusal : Refusal) → Tells command source input → Refuses command input refusal → status ≢ at.Done
   pub taken : StopsReading source
 
 pub answered_call : (words : List (List ℕ)) (command : Command) (status : Status) (source : Passage SourceState) (out err : Passage SinkState)
     → Means words command → Answered words command status source out err → CallEnds words status source out err
 answered_call words command status source out err means was = record {
   ends = was.ends;
-  good = λ h. (was.usage, was.good h.1 h.3 (means_admits words command h.0 h.1 means h.2 h.4));
-  bad = λ h. (was.usage, was.bad h.1 h.2 h.4 (means_refuses words command h.0 h.1 h.2 means h.3 h.5));
+  good = λ h. (was.usage, was.good h.1 (means_tells words command h.0 source h.1 means h.2 h.3) (means_admits words command h.0 h.1 means h.2 h.4));
+  bad = λ h. (was.usage, was.bad h.1 h.2 (means_tells words command h.0 source h.1 means h.3 h.4) (means_refuses words command h.0 h.1 h.2 means h.3 h.5));
   taken = was.taken;
 }
 
@@ -229,3 +311,21 @@ memory_call words status source out err unread h = record {
 -- a stream that was handed to nothing
 pub never_read : {S : Type 0} (state : S → SourceState) (src : S) → IsUnread (passage state src src)
 never_read state src = record { untouched = refl; taken = took_none (state src).left (INPUT_LIMIT + PIECE) }
+
+-- of one that isn't read a command takes nothing
+pub untaken : {S : Type 0} (words : List (List ℕ)) (n : ℕ) (state : S → SourceState) (src : S) → WasTaken words (Bench n) (passage state src src) []
+untaken words n state src = record { took = refl; saw = refl; lack = inl refl }
+
+-- a command that reads nothing was answered
+pub bench_call : {S : Type 0} (words : List (List ℕ)) (n : ℕ) (status : Status) (state : S → SourceState) (src : S) (out err : Passage SinkState)
+    → Means words (Bench n) → InputEnds (Bench n) [] out err status
+    → (Admits (Bench n) [] → status ≢ at.Refused) → ((refusal : Refusal) → Refuses (Bench n) [] refusal → status ≢ at.Done)
+    → CallEnds words status (passage state src src) out err
+bench_call words n status state src out err means ends good bad =
+    answered_call words (Bench n) status (passage state src src) out err means (record {
+      ends = input_ends words (Bench n) (passage state src src) [] out err status means (untaken words n state src) ends;
+      usage = input_never (Bench n) [] out err status at.Usage (λ e. cc) (λ e. cc) (λ e. cc) (λ e. cc) ends;
+      good = λ input tells admits. good admits;
+      bad = λ input refusal tells refuses. bad refusal refuses;
+      taken = (never_read state src).taken;
+    })

@@ -1,7 +1,13 @@
 pub mod Inputs
 pub mod Calls
 pub mod Words
+pub mod Matches
 pub mod Runs
 pub mod Sounds
 pub mod Checks
+pub mod OneRun
+pub mod Benches
+pub mod Tidies
 pub mod Answering
+pub mod Reports
+pub mod Always

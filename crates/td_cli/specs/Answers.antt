@@ -1,4 +1,5 @@
--- What each command answers an input, and what refuses its input (own rule). One case a command.
+-- What each command answers an input, and what refuses its input (own rule). One case a command. `bench` has no input, so
+-- none of these asks anything of one.
 use Rattle.std.specs.Prelude.{◌≡◌, ℕ, ◌+◌, ◌<◌, ◌≤◌, List, length, take, drop}
 use Rattle.td_core.specs.declared.module.Module.{Module}
 use Rattle.td_core.specs.declared.outcome.Outcome.{Outcome}
@@ -8,13 +9,15 @@ use Rattle.td_job.specs.declared.run_job.RunJob.{RunJob}
 use Rattle.td_job.specs.Jobs.{IsRunJob, RefusedJob}
 use Rattle.td_report.specs.Report.{report}
 use Rattle.td_report.specs.Summary.{summary}
+use Rattle.td_layout.specs.Definitions.{canonical_text}
 use Rattle.td_cli.specs.declared.command.Command.{Command}
-use Rattle.td_cli.specs.declared.command.Command.TheVariants.{Check as CheckCommand, Run as RunCommand}
+use Rattle.td_cli.specs.declared.command.Command.TheVariants.{Check as CheckCommand, Tidy as TidyCommand, Run as RunCommand, Bench as BenchCommand}
 use Rattle.td_cli.specs.declared.refusal.Refusal.{Refusal}
 use Rattle.td_cli.specs.declared.refusal.Refusal.TheVariants.{TooLong, NoJob, BadModule, BadJob}
 use Rattle.td_cli.specs.declared.tool.TheConstants.{INPUT_LIMIT}
 use Rattle.td_cli.specs.Input.{IsMarker, IsFirstMarker}
 use Rattle.td_cli.specs.Run.{IsRunOf}
+use Rattle.td_cli.specs.Bench.{IsBench, AdmitsBench, RefusesBench}
 
 -- ---- run
 
@@ -55,27 +58,39 @@ RefusesRun input (BadJob e) = (n : ℕ) × (m : Module) × IsFirstMarker input n
 abbrev pub IsSummary : List ℕ → List ℕ → Type 0
 IsSummary input text = (m : Module) × IsModuleText input m × (text ≡ summary m)
 
--- why an input that isn't too long is refused
+-- why an input that isn't too long is refused, by `check` and by `tidy`
 abbrev pub RefusesCheck : List ℕ → Refusal → Type 0
 RefusesCheck input TooLong = ⊥
 RefusesCheck input NoJob = ⊥
 RefusesCheck input (BadModule e) = RefusedBy input e
 RefusesCheck input (BadJob e) = ⊥
 
+-- ---- tidy
+
+-- the text is the canonical one of the tree that the input spells, and the input stands for a module
+abbrev pub IsTidy : List ℕ → List ℕ → Type 0
+IsTidy input text = (m : Module) × (stands : IsModuleText input m) × (text ≡ canonical_text stands.tree)
+
 -- ---- each command
 
 -- the command answers the input with this output
 abbrev pub Answers : Command → List ℕ → List ℕ → Type 0
 Answers CheckCommand input output = (length input ≤ INPUT_LIMIT) × IsSummary input output
+Answers TidyCommand input output = (length input ≤ INPUT_LIMIT) × IsTidy input output
 Answers RunCommand input output = (length input ≤ INPUT_LIMIT) × IsReport input output
+Answers (BenchCommand n) input output = IsBench n output
 
 -- the input is one that the command answers
 abbrev pub Admits : Command → List ℕ → Type 0
 Admits CheckCommand input = (length input ≤ INPUT_LIMIT) × (m : Module) × IsModuleText input m
+Admits TidyCommand input = (length input ≤ INPUT_LIMIT) × (m : Module) × IsModuleText input m
 Admits RunCommand input = (length input ≤ INPUT_LIMIT) × (m : Module) × (job : RunJob) × IsRunInput input m job
+Admits (BenchCommand n) input = AdmitsBench n
 
 -- the command refuses the input for this reason, the first in the order in which an input is looked at
 abbrev pub Refuses : Command → List ℕ → Refusal → Type 0
+Refuses (BenchCommand n) input refusal = RefusesBench n refusal
 Refuses command input TooLong = INPUT_LIMIT < length input
 Refuses CheckCommand input refusal = (length input ≤ INPUT_LIMIT) × RefusesCheck input refusal
+Refuses TidyCommand input refusal = (length input ≤ INPUT_LIMIT) × RefusesCheck input refusal
 Refuses RunCommand input refusal = (length input ≤ INPUT_LIMIT) × RefusesRun input refusal

@@ -6,6 +6,7 @@ use Rattle.td_io.specs.Causes.{ReadWhole, TookAtMost}
 use Rattle.td_io.specs.States as io
 use Rattle.td_io.specs.declared.reading.TheConstants.{PIECE}
 use Rattle.td_cli.specs.declared.command.Command.{Command}
+use Rattle.td_cli.specs.declared.command.Command.TheVariants.{Bench}
 use Rattle.td_cli.specs.declared.refusal.Refusal.{Refusal}
 use Rattle.td_cli.specs.declared.status.Status.{Status}
 use Rattle.td_cli.specs.declared.status.Status.TheVariants.{Done, Refused, Usage, ReadFault, WriteFault, NoMemory}
@@ -51,16 +52,36 @@ StopsReading source = TookAtMost source.before.left source.after.left (INPUT_LIM
 abbrev pub Held : Passage io.SourceState → List ℕ → Type 0
 Held source input = ReadWhole source.before.left input
 
+-- ---- what a command takes of its source: `bench` nothing, and each other command its input
+
+-- the command reads its source
+abbrev pub Reads : Command → Type 0
+Reads (Bench n) = ⊥
+Reads command = Unit {0}
+
+-- the input was taken of the source, whole
+abbrev pub Took : Command → Passage io.SourceState → List ℕ → Type 0
+Took (Bench n) source input = source.Untouched
+Took command source input = Held source input × IsAtEnd source.after.left × NoReadFails source
+
+-- or as far as was looked at
+abbrev pub Saw : Command → Passage io.SourceState → List ℕ → Type 0
+Saw (Bench n) source input = source.Untouched
+Saw command source input = Held source input × NoReadFails source
+
+-- the source tells that it holds this input
+abbrev pub Tells : Command → Passage io.SourceState → List ℕ → Type 0
+Tells (Bench n) source input = Unit {0}
+Tells command source input = source.before.left ≡ Some input
+
 -- ---- what goes out
 
--- the words mean a command, the source was read to its end, and the output is what the command answers its input
+-- the words mean a command, its source was read to its end, and the output is what the command answers its input
 pub record IsOutput (words : List (List ℕ)) (source : Passage io.SourceState) (output : List ℕ) : Type 0 where
   pub command : Command
   pub means : Means words command
   pub input : List ℕ
-  pub held : Held source input
-  pub end : IsAtEnd source.after.left
-  pub quiet : NoReadFails source
+  pub took : Took command source input
   pub answers : Answers command input output
 
 -- the words mean a command, and the line says why it refuses the source's input
@@ -68,25 +89,25 @@ pub record IsRefusal (words : List (List ℕ)) (source : Passage io.SourceState)
   pub command : Command
   pub means : Means words command
   pub input : List ℕ
-  pub held : Held source input
-  pub quiet : NoReadFails source
+  pub saw : Saw command source input
   pub refusal : Refusal
   pub refuses : Refuses command input refusal
   pub line_is : line ≡ refusal_line input refusal
 
--- the words mean a command
-abbrev pub MeansSome : List (List ℕ) → Type 0
-MeansSome words = (command : Command) × Means words command
+-- the words mean a command that reads its source
+abbrev pub MeansReader : List (List ℕ) → Type 0
+MeansReader words = (command : Command) × Means words command × Reads command
 
--- there was no memory: for the words, so nothing was read; or for a command, before the limit was passed
+-- there was no memory: for the words, or for a command that reads nothing, so nothing was read; or for another command, before
+-- the limit was passed
 abbrev pub MayLackMemory : List (List ℕ) → Passage io.SourceState → Type 0
-MayLackMemory words source = source.Untouched ⊎ (MeansSome words × NoReadFails source × WithinLimit source)
+MayLackMemory words source = source.Untouched ⊎ (MeansReader words × NoReadFails source × WithinLimit source)
 
 -- the line that goes to the error stream at a status, and how that came about
 abbrev pub IsErrorLine : Status → List (List ℕ) → Passage io.SourceState → List ℕ → Type 0
 IsErrorLine Refused words source line = IsRefusal words source line
 IsErrorLine Usage words source line = MeansNone words × source.Untouched × (line ≡ usage_line)
-IsErrorLine ReadFault words source line = MeansSome words × ReadFails source × (line ≡ read_line)
+IsErrorLine ReadFault words source line = MeansReader words × ReadFails source × (line ≡ read_line)
 IsErrorLine NoMemory words source line = MayLackMemory words source × (line ≡ memory_line)
 IsErrorLine other words source line = ⊥
 
@@ -103,10 +124,10 @@ EndsAs status words source out err = (line : List ℕ) × IsErrorLine status wor
 
 -- the words mean a command, and the source tells what it holds: an input that the command answers, or one that it refuses
 abbrev pub HasGoodInput : List (List ℕ) → Passage io.SourceState → Type 0
-HasGoodInput words source = (command : Command) × (input : List ℕ) × Means words command × (source.before.left ≡ Some input) × Admits command input
+HasGoodInput words source = (command : Command) × (input : List ℕ) × Means words command × Tells command source input × Admits command input
 
 abbrev pub HasBadInput : List (List ℕ) → Passage io.SourceState → Type 0
-HasBadInput words source = (command : Command) × (input : List ℕ) × (refusal : Refusal) × Means words command × (source.before.left ≡ Some input) × Refuses command input refusal
+HasBadInput words source = (command : Command) × (input : List ℕ) × (refusal : Refusal) × Means words command × Tells command source input × Refuses command input refusal
 
 -- how a call ends, and which ends can't come: an input that is answered is no usage and no refusal, and one that is
 -- refused is no usage and isn't answered. So much is read at most

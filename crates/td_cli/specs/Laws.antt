@@ -1,8 +1,9 @@
 -- What holds of answers and refusals.
-use Rattle.std.specs.Prelude.{◌≡◌, ℕ, List}
+use Rattle.std.specs.Prelude.{◌≡◌, ◌⊎◌, ℕ, List}
 use Rattle.td_cli.specs.declared.command.Command.{Command}
 use Rattle.td_cli.specs.declared.refusal.Refusal.{Refusal}
-use Rattle.td_cli.specs.Answers.{Answers, Admits, Refuses}
+use Rattle.td_cli.specs.Answers.{Answers, Admits, Refuses, IsReport}
+use Rattle.td_cli.specs.Ends.{Reads}
 
 -- a command answers an input with at most one output; so a report is one function of its input
 abbrev pub OneAnswer : Type 0
@@ -15,3 +16,14 @@ AnsweredIsAdmitted = (command : Command) (input output : List ℕ) → Answers c
 -- what a command admits it doesn't refuse
 abbrev pub NeverBoth : Type 0
 NeverBoth = (command : Command) (input : List ℕ) (refusal : Refusal) → Admits command input → Refuses command input refusal → ⊥
+
+-- each input of a command that reads its source is one that the command admits, or it is refused
+abbrev pub AlwaysOne : Type 0
+AlwaysOne = (command : Command) (input : List ℕ) → Reads command → Admits command input ⊎ ((refusal : Refusal) × Refuses command input refusal)
+
+-- runs of one module (as those of inputs with one module text are) whose reports are equal have equal verdicts, traces,
+-- cells and loads
+abbrev pub ReportsDetermineRuns : Type 0
+ReportsDetermineRuns =
+    (one other text : List ℕ) (a : IsReport one text) (b : IsReport other text) → a.m ≡ b.m →
+    (a.outcome.verdict ≡ b.outcome.verdict) × (a.outcome.trace ≡ b.outcome.trace) × (a.outcome.cells ≡ b.outcome.cells) × (a.loads ≡ b.loads)

@@ -2,6 +2,9 @@ pub mod Command
 pub mod Input
 pub mod Status
 pub mod Run
+pub mod Totals
+pub mod Bench
+pub mod Benching
 pub mod Answers
 pub mod Errors
 pub mod Lines

@@ -1,9 +1,10 @@
 //! How a call ends once all is decided: text goes to a sink, and the status follows. Nothing here takes memory, so nothing
 //! that was decided can be told as want of it.
 
-ghost use Rattle.std.specs.Prelude.{MatchResult};
+ghost use Rattle.std.specs.Prelude.{[], MatchResult};
 ghost use Rattle.td_report.specs.Report.{report};
 ghost use Rattle.td_report.specs.Summary.{summary};
+ghost use Rattle.td_cli.specs.Totals.{totals_text};
 ghost use Rattle.td_cli.specs.Ends.{passage};
 ghost use Rattle.td_cli.specs.Endings.{EndsWith, EndsWithLine, EndsWithOutput};
 ghost use Rattle.td_cli.specs.Errors.{unanswered_line, unanswered_status, unread_line, unread_status};
@@ -13,8 +14,10 @@ use crate::lines::{MEMORY, READ, write_refusal};
 use crate::refusal::{InputError, Refusal};
 use crate::run::FinishedRun;
 use crate::status::Status;
+use crate::totals::{Totals, write_totals};
 use td_core::module::Module;
 use td_io::{ReadError, Sink, write_all};
+use td_num::text::Text;
 use td_report::report::run_report;
 use td_report::summary::module_summary;
 
@@ -123,5 +126,58 @@ pub(crate) fn finish_check<O: Sink, E: Sink>(
     match checked {
         Ok(m) => finish_summary(m, out),
         Err(error) => finish_unanswered(input, error, err),
+    }
+}
+
+// Ends a call with a text.
+fn finish_text<O: Sink>(text: &Text, out: &mut O) -> Status
+    ensures { EndsWith Status.Done text.now (passage O.state out.old out.new) result }
+{
+    match write_all(out, text.as_slice()) {
+        Ok(()) => Status::Done,
+        Err(_) => Status::WriteFault,
+    }
+}
+
+/// Ends a call of `tidy`: writes the canonical text, or the line that says why there is none.
+pub(crate) fn finish_tidy<O: Sink, E: Sink>(
+    input: &[u8],
+    text: &Result<Text, InputError>,
+    out: &mut O,
+    err: &mut E,
+) -> Status
+    ensures { MatchResult text.now
+        (λ text. EndsWithOutput text (passage O.state out.old out.new) (passage E.state err.old err.new) result)
+        (λ error. EndsWithLine (unanswered_status error) (unanswered_line input.now error) (passage O.state out.old out.new) (passage E.state err.old err.new) result) }
+{
+    match text {
+        Ok(text) => finish_text(text, out),
+        Err(error) => finish_unanswered(input, error, err),
+    }
+}
+
+// Ends a call with the totals over some runs.
+fn finish_totals<O: Sink>(totals: Totals, out: &mut O) -> Status
+    ensures { EndsWith Status.Done (totals_text totals) (passage O.state out.old out.new) result }
+{
+    match write_totals(totals, out) {
+        Ok(()) => Status::Done,
+        Err(_) => Status::WriteFault,
+    }
+}
+
+/// Ends a call of `bench`, which has no input: writes the totals, or the line that says why there are none.
+pub(crate) fn finish_bench<O: Sink, E: Sink>(
+    totals: &Result<Totals, InputError>,
+    out: &mut O,
+    err: &mut E,
+) -> Status
+    ensures { MatchResult totals.now
+        (λ totals. EndsWithOutput (totals_text totals) (passage O.state out.old out.new) (passage E.state err.old err.new) result)
+        (λ error. EndsWithLine (unanswered_status error) (unanswered_line [] error) (passage O.state out.old out.new) (passage E.state err.old err.new) result) }
+{
+    match totals {
+        Ok(totals) => finish_totals(*totals, out),
+        Err(error) => finish_unanswered(&[], error, err),
     }
 }

@@ -1,18 +1,27 @@
 //! Laws of answers and refusals. They do nothing when they are called.
 
-ghost use Rattle.td_cli.specs.Laws.{AnsweredIsAdmitted, NeverBoth, OneAnswer};
+ghost use Rattle.td_cli.specs.Laws.{AlwaysOne, AnsweredIsAdmitted, NeverBoth, OneAnswer, ReportsDetermineRuns};
 
 use td_front::laws as front;
+use td_gen::laws::one_message_each;
+use td_grammar::laws::one_tree;
 use td_job::laws as jobs;
+use td_lexer::tokens_are_the_splitting;
+use td_report::laws::reports_determine_outcomes;
 use td_runs::laws::runs_are_one;
 use td_stream::laws::some_message_carries;
+use td_told::laws::{jobs_are_sized, loads_are_told, modules_have_words, runs_are_told};
 
 /// A command answers an input with at most one output: so a report is one function of its input.
 pub fn one_answer()
     ensures { OneAnswer }
 {
+    tokens_are_the_splitting();
+    one_tree();
     front::one_answer_each();
     jobs::one_answer_each();
+    jobs::one_named_answer_each();
+    one_message_each();
     runs_are_one();
     some_message_carries();
 }
@@ -24,4 +33,28 @@ pub fn never_both()
 {
     front::one_answer_each();
     jobs::one_answer_each();
+    jobs::one_named_answer_each();
+    one_message_each();
+}
+
+/// Each input of a command that reads its source is one that the command admits, or it is refused.
+pub fn admitted_or_refused()
+    ensures { AlwaysOne }
+{
+    front::module_or_refusal();
+    jobs::job_or_fault();
+}
+
+/// Two runs of one module whose reports are equal have equal verdicts, traces, cells and loads: what is said of a run can
+/// be read off its report.
+pub fn reports_determine_runs()
+    ensures { ReportsDetermineRuns }
+{
+    front::modules_are_checked();
+    jobs_are_sized();
+    modules_have_words();
+    runs_are_told();
+    loads_are_told();
+    some_message_carries();
+    reports_determine_outcomes();
 }

@@ -35,7 +35,8 @@ pub(crate) fn of_module(error: FrontError) -> InputError
     }
 }
 
-fn of_job(error: JobError) -> InputError
+/// An error of a job. That there was no memory is never held by a refusal.
+pub(crate) fn of_job(error: JobError) -> InputError
     ensures { result ≡ of_job error }
 {
     match error {

@@ -81,8 +81,8 @@ fn run_on_cells(
     Ok(Finished { outcome, loads })
 }
 
-// Runs a job of a module. `AllocError`: there was no memory.
-fn run_job(alloc: Global, m: &Module, job: &RunJob) -> Result<Finished, AllocError>
+/// Runs a job of a module. It looks at nothing of how the run came out. `AllocError`: there was no memory.
+pub(crate) fn run_job(alloc: Global, m: &Module, job: &RunJob) -> Result<Finished, AllocError>
     requires many { length job.now.words < 2 ^ 32 }
     requires room { job.now.length ≤ 8 * length job.now.words }
     requires sound { IsSoundJob m.now job.now }

@@ -7,3 +7,5 @@
 mod bodies;
 #[cfg(test)]
 mod ends;
+#[cfg(test)]
+mod messages;

@@ -1,12 +1,23 @@
-use Rattle.std.proofs.Common.{rules, ap, ap₂, ◌∙◌, true}
+use Rattle.std.proofs.Common.{◌≡◌, rules, ap, ap₂, ◌∙◌, true, false, Some, codes}
 use Rattle.clap.specs.Words.{App, with_subcommand}
-use Rattle.clap.specs.Simple.{app_of_fields, on_top}
+use Rattle.clap.specs.Simple.{app_of_fields, on_top, new_rule}
+use Rattle.clap.specs.Walk.{Rule, rule_of}
+use Rattle.clap.specs.declared.builder.action.ArgAction.TheVariants.{Set}
+use Rattle.clap.specs.declared.builder.arg.Arg.{Arg}
 use Rattle.td_cli.specs.Command.{tool}
+use Rattle.td_cli.proofs.Matches.{bench_shape, bench_plain}
 use Rattle.td_cli.proofs.command.tool.Goals as goal
 
 pub returns : goal.returns
 unfolding tool
 returns c =
+    let rule : rule_of c.action-number.result ≡ record (new_rule (codes "N")) { required = true; action = Some Set } =
+    ap rule_of c.action-number.ensures ∙ ap (λ (r : Rule). record r { action = Some Set }) (ap rule_of c.required.ensures ∙ ap (λ (r : Rule). record r { required = true }) c.new-number.ensures.rule) in
+    let local : c.action-number.result.global ≡ false = ap (λ (a : Arg). a.global) c.action-number.ensures ∙ ap (λ (a : Arg). a.global) c.required.ensures ∙ c.new-number.ensures.optional.1 in
+    let shape = bench_shape c.new-bench.result c.in_ok-bench.bench c.action-number.result c.new-bench.ensures.app local rule c.in_ok-bench.ensures in
+    let plain = bench_plain c.new-bench.result c.in_ok-bench.bench c.action-number.result c.new-bench.ensures.local local c.in_ok-bench.ensures in
     let first = c.in_ok-subcommand.ensures.shape (search rules) ∙ ap₂ with_subcommand c.new.ensures.app (ap (λ (a : App). a.top) c.new-check.ensures.app) in
-    let both = c.in_ok-tool.ensures.shape (search rules) ∙ ap₂ with_subcommand first (ap (λ (a : App). a.top) c.new-run.ensures.app) in
-    ap app_of_fields c.subcommand_required.ensures ∙ ap (on_top (λ s. record s { subcommand_required = true })) both
+    let second = c.in_ok-subcommand-2.ensures.shape (search rules) ∙ ap₂ with_subcommand first (ap (λ (a : App). a.top) c.new-tidy.ensures.app) in
+    let third = c.in_ok-subcommand-3.ensures.shape (search rules) ∙ ap₂ with_subcommand second (ap (λ (a : App). a.top) c.new-run.ensures.app) in
+    let all = c.in_ok-tool.ensures.shape plain ∙ ap₂ with_subcommand third shape in
+    ap app_of_fields c.subcommand_required.ensures ∙ ap (on_top (λ s. record s { subcommand_required = true })) all

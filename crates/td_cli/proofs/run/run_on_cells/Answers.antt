@@ -43,6 +43,6 @@ returns c =
     record {
       rising = done.rising;
       inside = done.inside;
-      held = held c.in_ok-planned.planned c.validate_recorded.new.words c.args.job.now.words c.args.job.now.stores c.validate_recorded.new.loads.list done.goes (opened.opening ∙ c.as_slice-words.ensures) (opened.stores ∙ c.as_slice-stores.ensures) opened.loads done.loads;
+      held = held c.in_ok-planned.planned c.validate_recorded.new.words c.args.job.now.words c.args.job.now.stores c.validate_recorded.new.loads.list done.reaches (opened.opening ∙ c.as_slice-words.ensures) (opened.stores ∙ c.as_slice-stores.ensures) opened.loads done.loads;
       meant = λ b bytes carried. meant_with c.args.m.now c.args.job.now.entry b c.validate_recorded.new.loads.list c.in_ok-verdict.verdict c.validate_recorded.new.trace c.as_slice-args.result.now c.args.job.now.args c.args.cells.now c.args.job.now.cells c.validate_recorded.new.cells c.in_ok-cells.cells c.as_slice-args.ensures c.requires.cells c.in_ok-cells.ensures.ok (done.behavior b carried) (c.requires.sound b bytes carried.size);
     }

@@ -1,20 +1,20 @@
 use Rattle.std.proofs.Common.{refl, map, List, ℕ, string_bytes, Global}
 use Rattle.td_cli.specs.Command.{Means, MeansNone}
 use Rattle.td_cli.specs.Ends.{passage}
-use Rattle.td_cli.proofs.Calls.{answered_call, usage_call, memory_call, never_read}
+use Rattle.td_cli.proofs.Calls.{usage_call, memory_call, never_read, in_range}
 use Rattle.td_cli.proofs.tool.run_alone.Goals as goal
+
+pub answer_command-requires : goal.answer_command-requires
+answer_command-requires g c =
+    let words : List (List ℕ) = map (string_bytes {Z = Global}) c.args.words.now in
+    let means : Means words c.in-Ok-Some.command = rw c.in-Ok-Some.field-0-is at c.in-Ok-Some.ensures in
+    in_range words c.in-Ok-Some.command means
 
 pub returns-in-Ok-Some-clause-ends : goal.returns-in-Ok-Some-clause-ends
 returns-in-Ok-Some-clause-ends g c =
     let words : List (List ℕ) = map (string_bytes {Z = Global}) c.args.words.now in
     let means : Means words c.in-Ok-Some.command = rw c.in-Ok-Some.field-0-is at c.in-Ok-Some.ensures in
-    answered_call words c.in-Ok-Some.command c.answer_source.result (passage g.S.Source.state c.args.src.now c.answer_source.new.src) (passage g.O.Sink.state c.args.out.now c.answer_source.new.out) (passage g.E.Sink.state c.args.err.now c.answer_source.new.err) means (record {
-      ends = c.answer_source.ensures.ends words means;
-      usage = c.answer_source.ensures.usage;
-      good = c.answer_source.ensures.good;
-      bad = c.answer_source.ensures.bad;
-      taken = c.answer_source.ensures.taken;
-    })
+    c.answer_command.ensures words means
 
 pub returns-in-Ok-None-clause-ends : goal.returns-in-Ok-None-clause-ends
 returns-in-Ok-None-clause-ends g c =

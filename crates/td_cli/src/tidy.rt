@@ -1,0 +1,83 @@
+//! The command `tidy`: the canonical text of a module text that is accepted.
+
+ghost use Rattle.std.specs.Prelude.{◌≡◌, ◌≢◌, ◌<◌, ◌≤◌, ◌-◌, ◌^◌, length, IfOk, IfErr, IsErr};
+ghost use Rattle.td_ast.specs.declared.definitions.ModuleTree.{ModuleTree};
+ghost use Rattle.td_core.specs.declared.module.Module.{Module};
+ghost use Rattle.td_front.specs.ModuleText.{IsModuleText, SpellsTree};
+ghost use Rattle.td_layout.specs.Definitions.{canonical_text};
+ghost use Rattle.td_cli.specs.declared.refusal.Refusal.{Refusal};
+ghost use Rattle.td_cli.specs.declared.command.Command.TheVariants as commands;
+ghost use Rattle.td_cli.specs.Answers.{Admits, IsTidy, Refuses, RefusesCheck};
+ghost use Rattle.td_cli.specs.Ends.{passage};
+ghost use Rattle.td_cli.specs.Endings.{InputEnds};
+ghost use Rattle.td_cli.specs.Errors.{HasCause};
+
+use crate::finish::finish_tidy;
+use crate::parse::of_module;
+use crate::refusal::InputError;
+use crate::status::Status;
+use crate::tool::INPUT_LIMIT;
+use std::alloc::{AllocError, Global};
+use td_ast::definitions::ModuleTree;
+use td_front::check_module;
+use td_io::Sink;
+use td_lexer::lex;
+use td_num::text::Text;
+use td_parser::parse;
+use td_print::print;
+
+// The tree of a text that is a module. `AllocError`: out of memory; nothing else keeps such a text from having its tree.
+fn tree_of(alloc: Global, input: &[u8]) -> Result<ModuleTree, AllocError>
+    requires { length input.now < 2 ^ 32 - 1 }
+    ensures { (tree : ModuleTree) → SpellsTree input.now tree → IfOk result (λ found. found ≡ tree) }
+{
+    let Ok(tokens) = lex(alloc, input) else {
+        return Err(AllocError);
+    };
+    match parse(alloc, tokens.as_slice()) {
+        Ok(tree) => Ok(tree),
+        Err(_) => Err(AllocError),
+    }
+}
+
+// The canonical text of a text that is a module. `AllocError`: out of memory.
+fn canonical_text(alloc: Global, input: &[u8]) -> Result<Text, AllocError>
+    requires { length input.now < 2 ^ 32 - 1 }
+    ensures { (tree : ModuleTree) → SpellsTree input.now tree → IfOk result (λ text. text ≡ canonical_text tree) }
+{
+    let tree = tree_of(alloc, input)?;
+    print(alloc, &tree)
+}
+
+// The canonical text of the module for which an input stands.
+fn tidy_input(alloc: Global, input: &[u8]) -> Result<Text, InputError>
+    requires { length input.now < 2 ^ 32 - 1 }
+    ensures tidy { IfOk result (IsTidy input.now) }
+    ensures cause { IfErr result (HasCause (RefusesCheck input.now)) }
+    ensures complete { (m : Module) → IsModuleText input.now m → IfErr result (λ e. e ≡ InputError.NoMemory) }
+    ensures refused { (refusal : Refusal) → RefusesCheck input.now refusal → IsErr result }
+{
+    match check_module(alloc, input) {
+        Err(error) => Err(of_module(error)),
+        Ok(_) => match canonical_text(alloc, input) {
+            Ok(text) => Ok(text),
+            Err(_) => Err(InputError::NoMemory),
+        },
+    }
+}
+
+/// Answers the input of `tidy`: with the canonical text of its module, or the line that refuses it.
+pub(crate) fn answer_tidy<O: Sink, E: Sink>(
+    alloc: Global,
+    input: &[u8],
+    out: &mut O,
+    err: &mut E,
+) -> Status
+    requires { length input.now ≤ INPUT_LIMIT }
+    ensures ends { InputEnds commands.Tidy input.now (passage O.state out.old out.new) (passage E.state err.old err.new) result }
+    ensures good { Admits commands.Tidy input.now → result ≢ Status.Refused }
+    ensures bad { (refusal : Refusal) → Refuses commands.Tidy input.now refusal → result ≢ Status.Done }
+{
+    let text = tidy_input(alloc, input);
+    finish_tidy(input, &text, out, err)
+}
