@@ -1,9 +1,15 @@
-"""Inputs that grow: for a size, the command, its input, and what is written."""
+"""Inputs that grow: for a size, the command's words, its input, and what is written (for `bench`, whose sums nobody has worked
+out, a pattern of it)."""
+
+import re
 
 INPUT_LIMIT = 4_194_304
 MESSAGE_LIMIT = 1_048_576
 STORES_LIMIT = 65_536
 FIELDS = 256
+# Elements of the arrays that are as large at each size, so that what grows is an element's type.
+LEVELLED = 32_768
+BY_CASE = 65_536
 SMALL_MODULE = "entrypoint typedef struct _P { UINT16 x; UINT16BE y { y >= 3 }; } P;\n"
 SMALL_JOB = '{"entry":"P","length":4,"bytes":"01000003"}\n'
 SMALL_REPORT = "accept 4\nload 0 0000000003000001\n"
@@ -62,6 +68,7 @@ def all_ones_loaded(size):
 
 BYTE = "typedef struct _I { UINT8 x { x == 0 }; } I;"
 PAIR = "typedef struct _I { UINT32 a; UINT32 b; } I;"
+ANY = "typedef struct _I { UINT64 x { true }; } I;"
 WIDE = "typedef struct _I { UINT64 x { x == 0 }; } I;"
 VARIABLE = "typedef struct _I { UINT8 n { n <= 3 }; UINT8 d[n]; } I;"
 CHAINED = "typedef struct _I { UINT8 f0; %s } I;" % " ".join(
@@ -96,6 +103,87 @@ def stores(count):
     listed = ",".join(['[0,0,"ffffffffffffffff"]'] * count)
     job = SMALL_JOB.replace("}", ',"stores":[%s]}' % listed)
     return "run", SMALL_MODULE + "%%\n" + job, "accept 4\nload 0 ffffffffffffffff\n"
+
+
+def stores_to_words(order):
+    """`count` stores, each to another word, and each word is loaded once its store came. `order` gives them their order."""
+
+    def make(count):
+        listed = ",".join('[%d,%d,"%016x"]' % (place, place, place) for place in order(range(count)))
+        module = "%s entrypoint typedef struct _A(UINT32 n) { I a[:byte-size n]; } A;\n" % ANY
+        size = 8 * count
+        job = '{"entry":"A","args":[%d],"length":%d,"bytes":"","stores":[%s]}\n' % (size, size, listed)
+        job = job.replace('"bytes":""', '"bytes":"%s"' % ("00" * size))
+        loads = "".join("load %d %s\n" % (place, place.to_bytes(8, "little").hex()) for place in range(count))
+        return "run", module + "%%\n" + job, "accept %d\n" % size + loads
+
+    return make
+
+
+def levels_of_types(levels):
+    """An array of 32,768 elements, whose type holds a type and a tested byte, and so on: so many levels with the array's own."""
+    found = ["typedef struct _T0 { UINT8 a { a == 0 }; } T0;"]
+    found += ["typedef struct _T%d { T%d inner; UINT8 a { a == 0 }; } T%d;" % (place, place - 1, place) for place in range(1, levels - 1)]
+    size = (levels - 1) * LEVELLED
+    return array(" ".join(found), "T%d a[:byte-size n];" % (levels - 2), all_zeros_loaded)(size)
+
+
+def trace_of_levels(levels):
+    """As many structs in each other, of which the innermost is wrong: a frame for each. The message is short, so what grows is
+    the text and the trace."""
+    found = ["typedef struct _T0 { UINT8 a { a == 1 }; } T0;"]
+    found += ["typedef struct _T%d { T%d a; } T%d;" % (place, place - 1, place) for place in range(1, levels - 1)]
+    found += ["entrypoint typedef struct _T%d { T%d a; } T%d;\n" % (levels - 1, levels - 2, levels - 1)]
+    job = '{"entry":"T%d","length":1,"bytes":"00"}\n' % (levels - 1)
+    frames = "".join("frame T%d.a 0\n" % place for place in range(levels))
+    return "run", "\n".join(found) + "%%\n" + job, "reject constraint 0\n" + frames + "load 0 0000000000000000\n"
+
+
+def elements_by_case(count):
+    """An array of 65,536 elements of two bytes, of which each has the last of so many cases."""
+    cases = " ".join("case %d: UINT8 f%d { f%d < 9 };" % (place, place, place) for place in range(count))
+    types = "casetype _C(UINT8 t) { switch (t) { %s } } C; typedef struct _I { UINT8 t; C(t) c; } I;" % cases
+    element = "%02x00" % (count - 1)
+    loads = "".join("load %d %s\n" % (word, ("00%02x" % (count - 1)) * 4) for word in range(2 * BY_CASE // 8))
+    module = "%s entrypoint typedef struct _A(UINT32 n) { I a[:byte-size n]; } A;\n" % types
+    job = '{"entry":"A","args":[%d],"length":%d,"bytes":"%s"}\n' % (2 * BY_CASE, 2 * BY_CASE, element * BY_CASE)
+    return "run", module + "%%\n" + job, "accept %d\n" % (2 * BY_CASE) + loads
+
+
+# ---- Commands that the program may not have yet.
+
+
+def laid_out(definitions):
+    """Structs without parameters, by their names and fields, as `tidy` writes them."""
+    return "\n".join("typedef struct _%s {\n    %s\n} %s;\n" % (name, "\n    ".join(fields), name) for name, fields in definitions)
+
+
+def tidied_comment(size):
+    """One comment, which isn't kept."""
+    module = SMALL_MODULE.replace("entrypoint ", "")
+    text = "/*" + "c" * (size - len(module) - 5) + "*/\n" + module
+    return "tidy", text, laid_out([("P", ["UINT16 x;", "UINT16BE y { y >= 3 };"])])
+
+
+def tidied_names(size):
+    """A text of a thousand structs with long names, that is laid out already."""
+    length = size // 1000 // 3 - 20
+    text = laid_out(("T%d" % place + "b" * length, ["UINT8 %s;" % ("a" * length)]) for place in range(1000))
+    return "tidy", text, text
+
+
+def tidied_nodes(count):
+    """A text of so many nodes on one line."""
+    fields = []
+    for place in range(count // 240):
+        tests = " && ".join("f%d < %d" % (place, 100 + test) for test in range(60))
+        fields.append("UINT8 f%d { %s };" % (place, tests))
+    return "tidy", "typedef struct _F { %s } F;\n" % " ".join(fields), laid_out([("F", fields)])
+
+
+def benched(count):
+    wanted = r"messages %d\naccepted \d+\nrejected \d+\nbytes \d+\nloads \d+\n" % count
+    return "bench %d" % count, "", re.compile(wanted)
 
 
 def checked(definitions, count, entries):
@@ -141,6 +229,22 @@ def many_nodes(count):
     return checked(["entrypoint typedef struct _F { %s } F;" % " ".join(fields)], 1, 1)
 
 
+def wide_definitions(count):
+    """Structs, of which each but the first sixteen has a field of each of the first sixteen."""
+    found = []
+    for place in range(count):
+        inner = " ".join("T%d a%d;" % (other, other) for other in range(16)) if place >= 16 else "UINT8 a;"
+        found.append("typedef struct _T%d { %s } T%d;" % (place, inner, place))
+    return checked(found, count, 0)
+
+
+def constants(count):
+    """Constants, and a struct that names a quarter of them."""
+    found = ["#define K%d %d" % (place, place) for place in range(count - 1)]
+    fields = " ".join("UINT16 a%d { a%d != K%d };" % (place, place, count - 2 - place) for place in range(count // 4))
+    return checked(found + ["typedef struct _S { %s } S;" % fields], count, 0)
+
+
 def facts_in_force(count):
     """So many facts, and then fields with 500 nodes of sums under all of them."""
     fields = []
@@ -167,11 +271,26 @@ CASES = [
     ("input, one comment", "bytes", INPUT_LIMIT, one_comment),
     ("input, comments of five bytes", "bytes", INPUT_LIMIT, many_comments),
     ("input, spaces", "bytes", INPUT_LIMIT, spaces),
-    ("stores", "stores", STORES_LIMIT, stores),
+    ("stores to one word", "stores", STORES_LIMIT, stores),
+    ("stores to as many words", "stores", STORES_LIMIT, stores_to_words(list)),
+    ("stores to as many words, last first", "stores", STORES_LIMIT, stores_to_words(reversed)),
     ("definitions in chains of 32", "definitions", 1000, chained_definitions),
+    ("definitions that name sixteen others", "definitions", 1000, wide_definitions),
+    ("constants", "definitions", 1000, constants),
     ("definitions with long names", "bytes", INPUT_LIMIT, long_names),
     ("cases", "cases", 256, many_cases),
+    ("elements of the last case", "cases", 256, elements_by_case),
+    ("elements of nested types", "levels", 32, levels_of_types),
+    ("trace of nested types", "levels", 32, trace_of_levels),
     ("fields that name each other", "fields", 256, fields_that_name_each_other),
     ("nodes", "nodes", 20_000, many_nodes),
-    ("facts in force", "facts", 3000, facts_in_force),
+    ("facts in force", "facts", 3200, facts_in_force),
+]
+
+# Left out, with a line that says so, where the program doesn't take the command.
+LATER = [
+    ("tidy, one comment", "bytes", INPUT_LIMIT, tidied_comment),
+    ("tidy, long names", "bytes", INPUT_LIMIT, tidied_names),
+    ("tidy, nodes", "nodes", 20_000, tidied_nodes),
+    ("bench", "messages", 10_000, benched),
 ]

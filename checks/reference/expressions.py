@@ -164,7 +164,7 @@ class Typing:
         if one == "truth" or (one is None and other == "truth"):
             return "truth", self.chosen(tree, cores, 1, (None, None))
         if one is None:
-            return other, None
+            return other if other is None else "untyped", None
         types = type_beside(one, other), type_beside(other, one)
         if None in types:
             return "untyped", None

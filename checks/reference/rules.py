@@ -141,7 +141,9 @@ class Elaborator:
         fields = []
         for tree in trees:
             element = self.element(scope, tree, note=False)
+            silent.breaches = Breaches()
             extent, ends = silent.extent(scope, tree)
+            ends = ends or bool(silent.breaches.found)
             readable = extent[0] == "once" and element is not None and element.kind in ("number", "enum")
             if element is None or ends:
                 break
@@ -272,6 +274,7 @@ class Elaborator:
         scope, cells, taken = Scope(), [], set()
         self.names, self.vars = [], []
         parameters = [self.parameter(scope, parameter, cells, taken) for parameter in tree.parameters]
+        parameters = [parameter for parameter in parameters if parameter is not None]
         if tree.kind == "struct":
             scope.this = self.this_size(scope, tree.fields)
         guard = None
