@@ -2,7 +2,7 @@
 # Runs the proved program with these words and this input. Where it isn't built yet, or a source of a crate that it stands on
 # (all but td_rows) is newer, it is proved and built first; that is said on standard error, and takes minutes the first time.
 set -u
-top=$(cd "$(dirname "$0")" && pwd)
+top=$(dirname "$(readlink -f "$0")")
 program=$top/crates/td/out/td
 
 is_stale() {
@@ -12,8 +12,12 @@ is_stale() {
 }
 
 if is_stale; then
-    echo "td: proving and building the program first" >&2
+    if ! command -v rt >/dev/null; then
+        echo "td: the program isn't built, or is older than its sources, and \`rt\`, which builds it, isn't on the path" >&2
+        exit 70
+    fi
     log=$(mktemp)
+    echo "td: proving and building the program first, half an hour and more where nothing is proved yet; the log: $log" >&2
     rm -f "$program"
     # Without words the program ends as a wrong command line does, so its status says nothing of the build.
     (cd "$top/crates/td" && rt run </dev/null >"$log" 2>&1)

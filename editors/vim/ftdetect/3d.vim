@@ -1,0 +1,1 @@
+autocmd BufNewFile,BufRead *.3d setfiletype 3d
