@@ -1,4 +1,5 @@
 //! Actions and their statements.
+#![tactic(auto, using(crate::proofs::Texts::texts))]
 
 ghost use Rattle.std.specs.Prelude.{◌≡◌, ◌++◌, OnOk, flat_map};
 ghost use Rattle.td_ast.specs.Statements.{block_of};

@@ -1,4 +1,5 @@
 //! Definitions, with an empty line between two.
+#![tactic(auto, using(crate::proofs::Texts::texts))]
 
 ghost use Rattle.std.specs.Prelude.{◌≡◌, [], ◌∷◌, ◌++◌, OnOk, flat_map};
 ghost use Rattle.td_ast.specs.declared.token.TokenKind.TheVariants as kinds;

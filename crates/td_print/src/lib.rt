@@ -1,6 +1,6 @@
 //! Canonical texts. The layer above rests on one promise: `print` writes exactly the canonical text of a tree
 //! (crate td_layout), whose tokens spell that tree again, its places aside.
-#![tactic(auto, using(crate::proofs::Texts::texts))]
+#![tactic(auto)]
 
 mod actions;
 mod definitions;

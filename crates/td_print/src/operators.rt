@@ -1,4 +1,5 @@
 //! Operators: how each is spelled, and how tightly it binds.
+#![tactic(auto, using(crate::proofs::Texts::texts))]
 
 ghost use Rattle.std.specs.Prelude.{◌≡◌};
 ghost use Rattle.td_joined.specs.Pieces.{spelling};

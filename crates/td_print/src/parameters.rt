@@ -1,4 +1,5 @@
 //! What stands between the first name of a struct or casetype and its body.
+#![tactic(auto, using(crate::proofs::Texts::texts))]
 
 ghost use Rattle.std.specs.Prelude.{◌≡◌, ◌++◌, OnOk, flat_map};
 ghost use Rattle.td_joined.specs.Pieces.{text_of};

@@ -1,4 +1,5 @@
 //! A text that grows at its end.
+#![tactic(auto, using(crate::proofs::Texts::texts))]
 
 ghost use Rattle.std.specs.Prelude.{◌≡◌, [], ◌++◌, OnOk};
 ghost use Rattle.td_joined.specs.Pieces.{number_spelling};

@@ -1,4 +1,5 @@
 //! The canonical text of a module.
+#![tactic(auto, using(crate::proofs::Texts::texts))]
 
 ghost use Rattle.std.specs.Prelude.{◌≡◌, IfOk};
 ghost use Rattle.td_layout.specs.Definitions.{canonical_text};

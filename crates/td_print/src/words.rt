@@ -1,4 +1,5 @@
 //! Names, constants and types that are one token.
+#![tactic(auto, using(crate::proofs::Texts::texts))]
 
 ghost use Rattle.std.specs.Prelude.{◌≡◌, ◌++◌, OnOk};
 ghost use Rattle.td_joined.specs.Pieces.{type_spelling};
