@@ -1,7 +1,7 @@
 -- A number that isn't needed may be taken for another: what arithmetic in 64 bits gives rests on the values that are
 -- named alone.
-use Rattle.std.proofs.Common.{◌≡◌, ℕ, zero, suc, ◌<◌, ◌≤◌, ◌+◌, ◌-◌, List, [], ◌∷◌, ◌++◌, length, map, Bool, true, false, cond, Option, Some, None, refl, sym, ap, ◌∙◌, arith, subst, inl, inr, length-append, pos}
-use Rattle.std.specs.Prelude.{slice_index, slice_set, nat_eq, ◌⊎◌, ◌||◌, is_some}
+use Rattle.std.proofs.Common.{◌≡◌, ℕ, suc, ◌-◌, List, [], ◌∷◌, ◌++◌, length, map, Bool, true, false, Option, Some, None, refl, sym, ap, ◌∙◌, arith, subst, inl, inr, length-append}
+use Rattle.std.specs.Prelude.{slice_index, slice_set, ◌||◌, is_some}
 use Rattle.std.proofs.lemmas.Bool.{eq-eqb, false≢true}
 use Rattle.td_core.specs.Term.{Term, number, name, complement, negation, compute, compare, both, either, choice, range_okay, Deed, done, set, keep, fork, answer, give_up}
 use Rattle.td_core.specs.Types.{limit, type_of}

@@ -1,5 +1,5 @@
 -- Where each expression that the meaning evaluates is sound, the meaning is the one that arithmetic in 64 bits gives.
-use Rattle.std.proofs.Common.{◌≡◌, ℕ, zero, suc, ◌+◌, Bool, true, false, cond, List, [], ◌∷◌, ◌++◌, length, map, Option, Some, None, refl, sym, ap, ◌∙◌, subst}
+use Rattle.std.proofs.Common.{◌≡◌, ℕ, zero, suc, Bool, true, false, cond, List, [], ◌∷◌, ◌++◌, length, map, Option, Some, None, refl, ap, ◌∙◌}
 use Rattle.std.specs.Prelude.{slice_get, slice_index, slice_set, nat_eq}
 use Rattle.td_num.specs.Numbers.{places_from}
 use Rattle.td_core.specs.Term.{Term, Deed, done, set, keep, fork, answer, give_up}
@@ -16,7 +16,7 @@ use Rattle.td_core.specs.declared.module.TypeDef.{TypeDef}
 use Rattle.td_core.specs.declared.module.Module.{Module}
 use Rattle.td_core.specs.declared.module.Entry.{Entry}
 use Rattle.td_core.specs.declared.outcome.Reason.TheVariants.{Constraint, ListSize}
-use Rattle.td_core.specs.Outcome.{Ending, Accepted, Rejected, Behavior, FramePlace, accepted, after_reading, onward, and_then, ending_within, within}
+use Rattle.td_core.specs.Outcome.{Ending, Accepted, Rejected, Behavior, accepted, after_reading, onward, and_then, within}
 use Rattle.td_expr.specs.Sound.{Sound}
 use Rattle.td_meaning.specs.Doing.{Effect, On, Returned, Aborted, after, either_way, natural_of, is_true}
 use Rattle.td_meaning.specs.Doing as whole
@@ -24,7 +24,7 @@ use Rattle.td_meaning.specs.Naming.{is_needed}
 use Rattle.td_meaning.specs.Meaning.{Sense, taken, demanded, elements, filled, filled_once, element_up_to_zero, divides, equals, ended, refined, bits_of, field_place, field_number, number_places, first_name, extended, case_for, where_place, pick, entry_place}
 use Rattle.td_meaning.specs.Meaning as whole_of
 use Rattle.td_meaning.specs.Throughout.{Through, OnEnding, OnEffect, OnOption, OnAll, OnDeed, OnAction, OnParts, OnElement, OnElements, OnShape, OnFields, OnChosen, OnBody, OnDefinition, pick_through, through_below, Throughout}
-use Rattle.td_meaning.specs.Machine.{is_truth, value_of, values, is_met, doing, acted, checked, with_part, parts_meaning, element_meaning, shape_meaning, fields_meaning, body_fields, chosen_meaning, definition_meaning, below, meaning}
+use Rattle.td_meaning.specs.Machine.{values, is_met, doing, acted, checked, with_part, parts_meaning, element_meaning, shape_meaning, fields_meaning, body_fields, chosen_meaning, definition_meaning, below, meaning}
 use Rattle.td_meaning.proofs.Ending.{on_map, on_within}
 use Rattle.td_meaning.proofs.MachineValues.{natural_is, truth_is}
 

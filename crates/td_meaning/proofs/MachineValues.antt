@@ -1,5 +1,5 @@
 -- A sound expression has the value that arithmetic in 64 bits gives.
-use Rattle.std.proofs.Common.{◌≡◌, ℕ, zero, suc, ◌+◌, ◌-◌, ◌*◌, ◌/◌, ◌%◌, ◌^◌, ◌<◌, ◌≤◌, min, Bool, true, false, cond, List, [], ◌∷◌, map, Option, Some, None, refl, sym, ap, ◌∙◌, subst, arith, nat_lt, slice_index, bit_and, bit_or, bit_xor, ℤ, pos, negsuc}
+use Rattle.std.proofs.Common.{◌≡◌, ℕ, zero, suc, ◌+◌, ◌-◌, ◌*◌, ◌/◌, ◌%◌, ◌^◌, ◌<◌, min, Bool, true, false, cond, List, refl, sym, ap, ◌∙◌, subst, arith, nat_lt, bit_and, bit_or, bit_xor, ℤ, pos, negsuc}
 use Rattle.std.specs.Prelude.{◌-ℤ◌}
 use Rattle.std.proofs.lemmas.Bool.{ltb-true, ltb-false, lt-ltb}
 use Rattle.std.proofs.Math.Nat.{mod-eq_of_lt}

@@ -1,5 +1,5 @@
 -- What verdicts and the ends of actions stand for, with what is beside them in the code; of use below the validators.
-use Rattle.std.specs.Prelude.{◌≡◌, ℕ, Bool, List, []}
+use Rattle.std.specs.Prelude.{◌≡◌, ℕ, List, []}
 use Rattle.td_core.specs.declared.module.NameId.{NameId}
 use Rattle.td_core.specs.declared.outcome.Spot.{Spot}
 use Rattle.td_core.specs.declared.outcome.TraceFrame.{TraceFrame}

@@ -1,5 +1,5 @@
 -- Numbers up to the first 0, turn by turn; of use below the validators alone.
-use Rattle.std.specs.Prelude.{ℕ, zero, suc, ◌+◌, cond, nat_eq, List, Bool}
+use Rattle.std.specs.Prelude.{ℕ, zero, suc, ◌+◌, cond, nat_eq, List}
 use Rattle.td_num.specs.Numbers.{bytes_in, number_at, places_from}
 use Rattle.td_num.specs.declared.number.NumberType.{NumberType}
 use Rattle.td_core.specs.declared.outcome.Reason.{Reason}

@@ -1,6 +1,6 @@
 //! Some bits of a number.
 
-ghost use Rattle.std.specs.Prelude.{◌≡◌, ◌/◌, ◌%◌, ◌^◌};
+ghost use Rattle.std.specs.Prelude.{◌≡◌};
 ghost use Rattle.td_meaning.specs.Meaning.{bits_of};
 
 use td_core::module::Bits;
@@ -11,24 +11,6 @@ pub fn bits_of(bits: Option<Bits>, number: u64) -> u64
 {
     match bits {
         None => number,
-        Some(bits) => low_bits(high_bits(number, bits.low), bits.width),
-    }
-}
-
-/// The bits from one on.
-fn high_bits(number: u64, low: u32) -> u64
-    ensures { result ≡ number / 2 ^ low }
-{
-    if low < 64 { number >> low } else { 0 }
-}
-
-/// The lowest bits.
-fn low_bits(number: u64, width: u32) -> u64
-    ensures { result ≡ number % 2 ^ width }
-{
-    if width < 64 {
-        number % (1 << width)
-    } else {
-        number
+        Some(bits) => td_num::bits::bits(number, bits.low, bits.width),
     }
 }

@@ -102,7 +102,11 @@ pub fn value_of(e: &CoreExpr, env: &[u64]) -> u64
 pub fn values_of(alloc: Global, exprs: &[CoreExpr], env: &[u64]) -> Result<Vec<u64>, AllocError>
     ensures { IfOk result (λ numbers. numbers.items ≡ values exprs.now env.now) }
 {
-    exprs.iter().map(|expr| value_of(expr, env)).collect(alloc)
+    let mut numbers = Vec::new(alloc);
+    for expr in exprs {
+        numbers.push(value_of(expr, env))?;
+    }
+    Ok(numbers)
 }
 
 /// Whether a test, where there is one, is met.

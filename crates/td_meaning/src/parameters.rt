@@ -17,9 +17,11 @@ pub fn place_at(places: &[usize], number: u32) -> usize
 pub fn cells_of(alloc: Global, own: &[u32], places: &[usize]) -> Result<Vec<usize>, AllocError>
     ensures { IfOk result (λ cells. cells.items ≡ map (slice_index places.now) own.now) }
 {
-    own.iter()
-        .map(|number| place_at(places, *number))
-        .collect(alloc)
+    let mut cells = Vec::new(alloc);
+    for number in own {
+        cells.push(place_at(places, *number))?;
+    }
+    Ok(cells)
 }
 
 /// The places from 0 on, so many of them. `AllocError`: there was no memory for them.

@@ -1,6 +1,6 @@
-use Rattle.std.proofs.Common.{◌≡◌, ℕ, List, [], ◌∷◌, ◌+◌, drop, true, false, refl, sym, ap, ◌∙◌, arith}
+use Rattle.std.proofs.Common.{◌≡◌, List, [], ◌∷◌, ◌+◌, drop, false, sym, ap, ◌∙◌, arith}
 use Rattle.std.specs.Prelude.{Option}
-use Rattle.std.proofs.lemmas.Bool.{eq-eqb, ne_eqb}
+use Rattle.std.proofs.lemmas.Bool.{ne_eqb}
 use Rattle.std.proofs.lemmas.List.{drop_more, drop_all}
 use Rattle.td_core.specs.declared.module.Case.{Case}
 use Rattle.td_core.specs.declared.module.Field.{Field}
