@@ -14,6 +14,4 @@ pub mod laws;
 pub mod modules;
 pub mod relations;
 pub mod same;
-#[cfg(test)]
-mod tests;
 pub mod walk;

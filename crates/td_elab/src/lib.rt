@@ -7,5 +7,3 @@ mod casetypes;
 mod definitions;
 pub mod elaborate;
 pub mod laws;
-#[cfg(test)]
-mod tests;

@@ -1,9 +1,8 @@
 -- Texts and their first breaches: actions.
-use Rattle.std.specs.Prelude.{ℕ, true, false, List, [], ◌∷◌, Option, Some, None, codes}
-use Rattle.td_num.specs.declared.number.Width.TheVariants.{One, Two, Four, Eight}
-use Rattle.td_num.specs.declared.number.ByteOrder.TheVariants.{LittleEndian, BigEndian}
-use Rattle.td_ast.specs.declared.token.Base.TheVariants.{Decimal, Hexadecimal}
-use Rattle.td_ast.specs.declared.expressions.UnaryOperator.TheVariants as operator_of_one
+use Rattle.std.specs.Prelude.{true, false, List, [], ◌∷◌, Some, None}
+use Rattle.td_num.specs.declared.number.Width.TheVariants.{One, Two}
+use Rattle.td_num.specs.declared.number.ByteOrder.TheVariants.{LittleEndian}
+use Rattle.td_ast.specs.declared.token.Base.TheVariants.{Decimal}
 use Rattle.td_ast.specs.declared.expressions.BinaryOperator.TheVariants as operator
 use Rattle.td_ast.specs.declared.expressions.SizeofOperand.TheVariants as operand
 use Rattle.td_ast.specs.Trees as tree
@@ -17,8 +16,8 @@ use Rattle.td_ast.specs.declared.parameters.ParamTree.TheVariants as param
 use Rattle.td_ast.specs.declared.fields.TypeKind.TheVariants as type
 use Rattle.td_ast.specs.declared.fields.ExtentTree.TheVariants as extent
 use Rattle.td_ast.specs.declared.definitions.SlotKind.TheVariants as slot
-use Rattle.td_ast.specs.declared.definitions.Def.TheVariants.{Define, Enum, Alias, Struct, Casetype, Output}
-use Rattle.td_rules.specs.declared.breach.Rule.TheVariants.{Unknown, Twice, NotReadable, WrongArgs, Mismatch, Narrowing, NotConstant, BadAction}
+use Rattle.td_ast.specs.declared.definitions.Def.TheVariants.{Struct, Casetype, Output}
+use Rattle.td_rules.specs.declared.breach.Rule.TheVariants.{Unknown, Twice, WrongArgs, Mismatch, Narrowing, BadAction}
 use Rattle.td_examples.specs.Rows.{Row, sp, nm, number}
 
 abbrev pub actions : List Row

@@ -7,3 +7,6 @@ pub mod Parameters
 pub mod Names
 pub mod Expressions
 pub mod Formats
+pub mod WorkedTrees
+pub mod WorkedModules
+pub mod Worked

@@ -1,24 +1,17 @@
 -- Texts and their first breaches: parameters.
-use Rattle.std.specs.Prelude.{ℕ, true, false, List, [], ◌∷◌, Option, Some, None, codes}
-use Rattle.td_num.specs.declared.number.Width.TheVariants.{One, Two, Four, Eight}
+use Rattle.std.specs.Prelude.{false, List, [], ◌∷◌, Some, None, codes}
+use Rattle.td_num.specs.declared.number.Width.TheVariants.{One, Two}
 use Rattle.td_num.specs.declared.number.ByteOrder.TheVariants.{LittleEndian, BigEndian}
-use Rattle.td_ast.specs.declared.token.Base.TheVariants.{Decimal, Hexadecimal}
-use Rattle.td_ast.specs.declared.expressions.UnaryOperator.TheVariants as operator_of_one
+use Rattle.td_ast.specs.declared.token.Base.TheVariants.{Decimal}
 use Rattle.td_ast.specs.declared.expressions.BinaryOperator.TheVariants as operator
-use Rattle.td_ast.specs.declared.expressions.SizeofOperand.TheVariants as operand
 use Rattle.td_ast.specs.Trees as tree
-use Rattle.td_ast.specs.declared.actions.Assigned.TheVariants.{Value, FieldPtr}
-use Rattle.td_ast.specs.declared.actions.ActionKind.TheVariants.{Act, Check, OnSuccess}
-use Rattle.td_ast.specs.Statements.{Store, StoreField, Var, If, IfElse, Return, Abort, block_of}
-use Rattle.td_ast.specs.declared.names.ConstTree.TheVariants as constant
 use Rattle.td_ast.specs.declared.names.PlainTree.TheVariants as plain
 use Rattle.td_ast.specs.declared.parameters.TargetTree.TheVariants as target
 use Rattle.td_ast.specs.declared.parameters.ParamTree.TheVariants as param
 use Rattle.td_ast.specs.declared.fields.TypeKind.TheVariants as type
-use Rattle.td_ast.specs.declared.fields.ExtentTree.TheVariants as extent
 use Rattle.td_ast.specs.declared.definitions.SlotKind.TheVariants as slot
-use Rattle.td_ast.specs.declared.definitions.Def.TheVariants.{Define, Enum, Alias, Struct, Casetype, Output}
-use Rattle.td_rules.specs.declared.breach.Rule.TheVariants.{Unknown, Twice, NotReadable, WrongArgs, Mismatch, Narrowing, NotConstant, BadAction}
+use Rattle.td_ast.specs.declared.definitions.Def.TheVariants.{Define, Alias, Struct, Output}
+use Rattle.td_rules.specs.declared.breach.Rule.TheVariants.{Unknown, Twice, WrongArgs, Mismatch}
 use Rattle.td_examples.specs.Rows.{Row, sp, nm, number}
 
 abbrev pub parameters : List Row

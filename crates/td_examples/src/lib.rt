@@ -11,6 +11,7 @@ ghost use Rattle.td_examples.specs.Parameters.{parameters};
 ghost use Rattle.td_examples.specs.Names.{names};
 ghost use Rattle.td_examples.specs.Expressions.{expressions};
 ghost use Rattle.td_examples.specs.Formats.{formats};
+ghost use Rattle.td_examples.specs.Worked.{AreWorked};
 
 /// Rows on enums.
 pub fn enums_are_right()
@@ -50,4 +51,9 @@ pub fn expressions_are_right()
 /// Rows on formats.
 pub fn formats_are_right()
     ensures { AreRight formats }
+{}
+
+/// Worked texts: the module that each stands for, and what that means on messages.
+pub fn worked_texts_are_right()
+    ensures { AreWorked }
 {}
