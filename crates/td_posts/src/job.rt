@@ -1,0 +1,32 @@
+//! Host jobs.
+
+use td_core::module::{Entry, Module};
+use td_num::items::Items;
+
+/// A step of a guest's script.
+#[derive(Clone, Copy, PartialEq, Eq, Debug)]
+pub enum Step {
+    /// Stores a value to a word of the buffer; words are counted from 0.
+    Store { word: u32, value: u64 },
+    /// Posts a message of `length` bytes, the first of which is the buffer's word `base`'s byte of least weight.
+    Post { base: u32, length: u32 },
+}
+
+/// A job for a host: guests store to one buffer and post messages that lie in it, and workers validate them meanwhile.
+#[derive(Debug, Drop)]
+pub struct HostJob {
+    /// The module by which messages are validated.
+    pub format: Module,
+    /// The entry point at which each validation begins.
+    pub entry: Entry,
+    /// A value for each of its parameters.
+    pub args: Items<u64>,
+    /// How many cells it has; each validation begins with zeros in them.
+    pub cells: u32,
+    /// The words that the buffer opens with.
+    pub words: Items<u64>,
+    /// How many workers there are.
+    pub workers: u32,
+    /// The guests' scripts, in the order of their numbers, which are counted from 1.
+    pub guests: Items<Items<Step>>,
+}

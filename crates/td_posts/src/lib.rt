@@ -1,0 +1,10 @@
+//! Host jobs as data: several guests, each with a script of stores and posts over one buffer, and the replies to their
+//! posts. The layer above rests on the definitions: which posts a job has, under which names, how many stores stand before
+//! each, which words are stored, and which jobs a host can serve.
+#![tactic(auto)]
+
+pub mod job;
+pub mod limits;
+pub mod mail;
+pub mod name;
+pub mod reply;

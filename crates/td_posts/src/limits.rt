@@ -1,0 +1,12 @@
+//! How much a host job has at most (own rule).
+
+/// Guests.
+pub const MOST_GUESTS: usize = 16;
+/// Workers.
+pub const MOST_WORKERS: u32 = 16;
+/// Posts of all guests.
+pub const MOST_POSTS: usize = 4_096;
+/// Stores of all guests.
+pub const MOST_STORES: usize = 65_536;
+/// Words of all messages that are posted.
+pub const MOST_MESSAGE_WORDS: u64 = 1_048_576;

@@ -1,0 +1,52 @@
+//! A ring with room for one post, and tickets, in one thread.
+
+use crate::posts::{Any, post};
+use std::test::Fail;
+use td_ring::post::{Full, Post};
+use td_ring::ring::Ring;
+use td_ring::tickets::Tickets;
+use td_words::shared::Shared;
+
+fn refused(answer: Result<(), Full>) -> u32 {
+    match answer {
+        Ok(()) => 0,
+        Err(full) => full.post.name.number,
+    }
+}
+
+fn number(taken: Option<Post>) -> u32 {
+    match taken {
+        Some(post) => post.name.number,
+        None => 0,
+    }
+}
+
+#[test]
+fn a_full_ring_hands_the_post_back(rt: HostRuntime) -> Result<(), Fail> {
+    let alloc = rt.alloc();
+    let (shared, mut host) = Shared::open(alloc, &[])?;
+    let guest = shared.split_guest(&mut host);
+    let (ring, mut posts, mut takes) = Ring::<Any>::new(alloc, 1)?;
+    let first = refused(ring.post(&rt, &mut posts, &guest, post(alloc, 1, 1)?));
+    let second = refused(ring.post(&rt, &mut posts, &guest, post(alloc, 1, 2)?));
+    assert_eq!(rt; (first, second), (0, 2));
+    let got = number(ring.take(&rt, &mut takes));
+    let none = number(ring.take(&rt, &mut takes));
+    assert_eq!(rt; (got, none), (1, 0));
+    ring.settle(&mut posts, takes);
+    Ok(())
+}
+
+#[test]
+fn tickets_are_drawn_in_turn(rt: HostRuntime) -> Result<(), Fail> {
+    let (tickets, mut first) = Tickets::new(rt.alloc())?;
+    let mut second = tickets.split(&mut first);
+    let drawn = [
+        tickets.draw(&mut first),
+        tickets.draw(&mut second),
+        tickets.draw(&mut first),
+    ];
+    tickets.gather(&mut first, second);
+    assert_eq!(rt; drawn, [0, 1, 2]);
+    Ok(())
+}
