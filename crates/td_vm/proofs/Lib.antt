@@ -1,0 +1,9 @@
+mod Stretches
+mod Shapes
+mod Members
+mod Bytes
+mod Elements
+mod Keeps
+mod Turns
+mod Rooms
+mod Told

@@ -1,0 +1,282 @@
+-- Turns of loops, calls, and the room of a run.
+use Rattle.std.proofs.Common.{◌≡◌, ℕ, zero, suc, ◌+◌, ◌-◌, ◌*◌, ◌<◌, ◌≤◌, true, false, cond, List, [], ◌∷◌, ◌++◌, length, Option, Some, None, sym, refl, ap, ◌∙◌, subst, arith, take, drop}
+use Rattle.std.specs.Prelude.{slice_range, slice_index, slice_set, replicate, nat_eq}
+use Rattle.std.specs.List.{All}
+use Rattle.std.proofs.lemmas.List.Elements.{All-nil, All-cons, All-map, All-weaker, All-get_or}
+use Rattle.std.proofs.lemmas.List.{length-map}
+use Rattle.std.proofs.Math.Nat.{mul-le-mul_left, mul-le-mul_right}
+use Rattle.std.proofs.Math.Seq.{drop-cons, take-suc-set}
+use Rattle.td_num.specs.Numbers.{places_from}
+use Rattle.td_core.specs.declared.outcome.Reason.{Reason}
+use Rattle.td_core.specs.declared.outcome.TraceFrame.{TraceFrame}
+use Rattle.td_ir.specs.declared.tables.Parts.{Parts}
+use Rattle.td_ir.specs.declared.tables.Routine.{Routine}
+use Rattle.td_ir.specs.declared.instructions.Instr.{Instr}
+use Rattle.td_ir.specs.declared.instructions.Instr.TheVariants as instr
+use Rattle.td_ir.specs.Tables.{routine_of, map_of, instruction_of, lengths_of, first_of, end_of as end_at}
+use Rattle.td_ir.specs.State.{State, left, registers_from, Exit, after}
+use Rattle.td_ir.specs.State as ir
+use Rattle.td_ir.specs.Run.{places_by, entered, again, turns}
+use Rattle.td_ir.proofs.Begins.{begin_next, begin_up}
+use Rattle.td_verify.specs.declared.shape.Shape.TheVariants.{While, Call, Return}
+use Rattle.td_verify.specs.Shape.{shape, shapes_of}
+use Rattle.td_verify.specs.Operands.{HasRegisters, HasTables, callee_params, AreBelow}
+use Rattle.td_verify.specs.Rules.{CallsWell}
+use Rattle.td_verify.specs.declared.bracket.Bracket.{Bracket}
+use Rattle.td_verify.specs.declared.bracket.Bracket.TheVariants.{Loop}
+use Rattle.td_verify.specs.Brackets.{shape_at, opened, and_then, opening, in_loop, window_bytes}
+use Rattle.td_verify.specs.Ways.{MayBeEmpty}
+use Rattle.td_verify.specs.Verify.{IsIn, depths}
+use Rattle.td_verify.specs.Safe.{IsSafe, IsWhole, IsWholeAt, before, looped}
+use Rattle.td_vm.specs.Exits.{frames_of, exit_by, way_of, call_way, WhenTurned, WhenReturned, NotTurned, NotReturned, Traced}
+use Rattle.td_vm.specs.Need.{room_below, registers, cells, level}
+use Rattle.td_vm.specs.Machine.{Idle, IsRunnable, HasRoom, HasEntryRoom, IsStretch, IsCallee, IdleTurn, IdleReturn, scale}
+use Rattle.td_vm.specs.declared.activation.TraceRoom.{TraceRoom}
+use Rattle.td_vm.specs.declared.activation.Env.{Env}
+use Rattle.td_vm.specs.declared.activation.Left.{Left}
+use Rattle.td_vm.specs.declared.activation.Left.TheVariants.{Returned, Turned, Failed}
+use Rattle.td_vm.proofs.Shapes.{next_opened, shape_there}
+use Rattle.td_vm.proofs.Keeps.{callee_need, goes_on}
+
+below_all : (n : ℕ) (xs : List ℕ) → AreBelow n xs → All (λ x. x < n) xs
+below_all n [] h = All-nil (λ x. x < n)
+below_all n (x ∷ xs) h = All-cons (λ x. x < n) x xs (h 0 (omega arith)) (below_all n xs (λ j l. h (suc j) (omega (arith, l))))
+
+-- the room of a callee
+pub callee_room : (e : Env) (n at m first k : ℕ) (places spare_places regs spare all mine_places rest_places mine rest : List ℕ) (t : TraceRoom) → HasRoom e n places spare_places regs spare all t → IsCallee e.parts.now n at m first k → length rest_places + cells e.parts.now m ≡ length spare_places → length mine ≡ registers e.parts.now m → length rest + registers e.parts.now m ≡ length spare → mine_places ≡ places_by places (map_of e.parts.now k) → HasRoom e m mine_places rest_places mine rest all t
+callee_room e n at m first k places sp regs spare all mp rp mine rest t h l pr rc rr q =
+    let c = e.parts.now in
+    let xs = map_of c k in
+    record {
+      runnable = h.runnable;
+      begins = h.begins;
+      routine = omega (arith, h.routine, l.lower);
+      place_count = ap length q ∙ length-map xs (slice_index places) ∙ l.cell_map.size;
+      place_room = omega (arith, callee_need (cells c) c n at m l.place l.is l.lower, h.place_room, pr);
+      register_count = rc;
+      register_room = omega (arith, callee_need (registers c) c n at m l.place l.is l.lower, h.register_room, rr);
+      in_cells = subst (All (λ c. c < length all)) (sym q) (All-map (λ c. c < length all) (slice_index places) xs (All-weaker (λ c. c < length places) (λ c. slice_index places c < length all) (λ c k. All-get_or (λ c. c < length all) places c 0 k h.in_cells) xs (subst (λ n. All (λ x. x < n) xs) (sym h.place_count) (below_all (cells c n) xs l.cell_map.numbers))));
+      trace = h.trace;
+      trace_room = omega (arith, callee_need level c n at m l.place l.is l.lower, h.trace_room);
+    }
+
+pub room_kept : (e : Env) (n : ℕ) (places spare_places spare_places' regs regs' spare spare' all all' : List ℕ) (t t' : TraceRoom) → HasRoom e n places spare_places regs spare all t → length spare_places' ≡ length spare_places → length regs' ≡ length regs → length spare' ≡ length spare → length all' ≡ length all → t'.count ≡ 0 → length t'.frames.items ≡ length t.frames.items → HasRoom e n places spare_places' regs' spare' all' t'
+room_kept e n places sp sp' regs regs' spare spare' all all' t t' h a b c d x f = record {
+  runnable = h.runnable;
+  begins = h.begins;
+  routine = h.routine;
+  place_count = h.place_count;
+  place_room = omega (arith, h.place_room, a);
+  register_count = b ∙ h.register_count;
+  register_room = omega (arith, h.register_room, c);
+  in_cells = subst (λ k. All (λ x. x < k) places) (sym d) h.in_cells;
+  trace = x;
+  trace_room = omega (arith, h.trace_room, f);
+}
+
+pub one_frame : (t t' : TraceRoom) (f : TraceFrame) → t.count ≡ 0 → frames_of t' ≡ frames_of t ++ f ∷ [] → f ∷ [] ≡ frames_of t'
+one_frame t t' f e h = sym (h ∙ ap (λ k. take k t.frames.items ++ f ∷ []) e)
+
+-- a routine from its beginning
+pub whole_stretch : (c : Parts) (n from to : ℕ) → IsRunnable c → n < length c.routines → from ≡ first_of c n → to ≡ end_at c n → IsStretch c n from to
+whole_stretch c n from to r l e f =
+    let b = r.safe.begins n l in
+    let place : IsIn c n from = subst (IsIn c n) (sym e) b.0 in
+    record {
+      place = place;
+      some = omega (arith, place.to, f);
+      within = omega (arith, f);
+      closed = λ q i k. omega (arith, i.to, f);
+      outside = ap window_bytes (ap (opened (shapes_of c)) e ∙ b.1);
+    }
+
+no_window : (p : ℕ) (o : Option (List Bracket)) → window_bytes (opening (Loop p) o) ≡ 0
+no_window p None = refl
+no_window p (Some bs) = refl
+
+pub loop_whole : (c : Parts) (n p t : ℕ) → IsRunnable c → IsIn c n p → shape_at (shapes_of c) p ≡ While t → IsWhole c n p t
+loop_whole c n p t r i e = subst (IsWholeAt c n p) e (r.safe.each n p i).whole
+
+-- a loop's body
+pub body_stretch : (c : Parts) (n p t : ℕ) → IsRunnable c → IsIn c n p → shape_at (shapes_of c) p ≡ While t → IsStretch c n (p + 1) t
+body_stretch c n p t r i e =
+    let w = loop_whole c n p t r i e in
+    record {
+      place = record { routine = i.routine; from = omega (arith, i.from); to = omega (arith, w.body, w.behind.to) };
+      some = w.body;
+      within = omega (arith, w.behind.to);
+      closed = λ q j k. r.safe.loops.inside n p t q i e j (k (r.safe.loops.turning n p t i e));
+      outside = ap window_bytes (next_opened (shapes_of c) p ∙ ap (λ j. and_then p j (opened (shapes_of c) p)) e) ∙ no_window p (opened (shapes_of c) p);
+    }
+
+-- a turn takes a byte
+pub turn_busy : (c : Parts) (n p t : ℕ) → IsRunnable c → IsIn c n p → shape_at (shapes_of c) p ≡ While t → IdleTurn c n (p + 1) → ⊥
+turn_busy c n p t r i e d =
+    let w = loop_whole c n p t r i e in
+    let q = r.safe.loops.one n p t d.at d.start i e d.within d.same d.is in
+    w.busy (subst (Idle c n (p + 1)) q d.way)
+
+pub no_turn : (c : Parts) (m from : ℕ) (way : Left) → IsRunnable c → m < length c.routines → from ≡ first_of c m → WhenTurned way (looped c from ≡ true) → NotTurned way
+no_turn c m from Returned s h d f = tt
+no_turn c m from Turned s h d f = let e = ap in_loop (s.safe.begins m h).1 in let g = ap (looped c) d in cc
+no_turn c m from (Failed reason at) s h d f = tt
+
+pub call_idle : (c : Parts) (m p q r from : ℕ) (way : Left) → IsRunnable c → from ≡ first_of c m → WhenReturned way (p ≡ q → IdleReturn c m from) → q ≡ r → WhenReturned way (p ≡ r → MayBeEmpty (shapes_of c) (lengths_of c) (suc m) m)
+call_idle c m p q r from Returned s d f e = λ k. let i = f (k ∙ sym e) in (s.safe.each m i.at i.within).empty i.is (subst (λ x. Idle c m x i.at) d i.way)
+call_idle c m p q r from Turned s d f e = tt
+call_idle c m p q r from (Failed reason at) s d f e = tt
+
+-- a callee's registers
+pub begun : (r : Routine) (args args' mine : List ℕ) (k : ℕ) → mine ≡ args' ++ replicate (k - length args') 0 → args' ≡ args → k ≡ r.registers → mine ≡ args ++ replicate (r.registers - length args) 0
+begun r args args' mine k e f g = e ∙ ap (λ l. l ++ replicate (k - length l) 0) f ∙ ap (λ n. args ++ replicate (n - length args) 0) g
+
+pub entered_is : (r : Routine) (args mine : List ℕ) (s : State) (start outer : ℕ) → mine ≡ args ++ replicate (r.registers - length args) 0 → start ≡ s.pos → outer ≡ s.end → entered r args s ≡ record { regs = mine; cells = s.cells; start = start; pos = s.pos; end = s.end; outer = outer }
+entered_is r args mine s start outer e f g =
+    λ i. record { regs = sym e i; cells = s.cells; start = sym f i; pos = s.pos; end = s.end; outer = sym g i }
+
+pub call_left : (way : Left) (s : State) (pos : ℕ) (trace : List TraceFrame) (touched : List ℕ) (steps : ℕ) (x : Exit) → NotTurned way → x ≡ exit_by (way_of way s trace) touched steps → s.pos ≡ pos → x ≡ exit_by (call_way way pos s.cells trace) touched steps
+call_left Returned s pos trace touched steps x h e f = e ∙ ap (λ p. exit_by (ir.Returned p s.cells) touched steps) f
+call_left Turned s pos trace touched steps x h e f = absurd h
+call_left (Failed reason at) s pos trace touched steps x h e f = e
+
+not_over : (pos end : ℕ) → 0 < end - pos → nat_eq pos end ≡ false
+not_over pos end h = grind arith
+
+is_over : (pos end : ℕ) → end - pos ≡ 0 → pos ≤ end → nat_eq pos end ≡ true
+is_over pos end h l = grind arith
+
+-- one turn more, one that fails, and none
+pub turn_more : (k : ℕ) (body behind : State → Exit) (s s' : State) (touched : List ℕ) (steps : ℕ) → 0 < left s → left s < k → body s ≡ exit_by (ir.Turned s') touched steps → turns k body behind s ≡ after touched (steps + 1) (turns (k - 1) body behind s')
+turn_more zero body behind s s' touched steps h l e = absurd (omega arith)
+turn_more (suc k) body behind s s' touched steps h l e =
+    let n : k ≡ suc k - 1 = omega arith in
+    ap (λ v. cond v (behind s) (again (turns k body behind) (body s))) (not_over s.pos s.end h) ∙ ap (again (turns k body behind)) e ∙ ap (λ x. after touched (steps + 1) (turns x body behind s')) n
+
+pub turn_fails : (k : ℕ) (body behind : State → Exit) (s : State) (reason : Reason) (pos : ℕ) (trace : List TraceFrame) (cells touched : List ℕ) (steps : ℕ) → 0 < left s → left s < k → body s ≡ exit_by (ir.Failed reason pos trace cells) touched steps → turns k body behind s ≡ exit_by (ir.Failed reason pos trace cells) touched steps
+turn_fails zero body behind s reason pos trace cells touched steps h l e = absurd (omega arith)
+turn_fails (suc k) body behind s reason pos trace cells touched steps h l e =
+    ap (λ v. cond v (behind s) (again (turns k body behind) (body s))) (not_over s.pos s.end h) ∙ ap (again (turns k body behind)) e
+
+pub turns_over : (k : ℕ) (body behind : State → Exit) (s : State) → left s ≡ 0 → s.pos ≤ s.end → turns k body behind s ≡ behind s
+turns_over zero body behind s h l = refl
+turns_over (suc k) body behind s h l = ap (λ v. cond v (behind s) (again (turns k body behind) (body s))) (is_over s.pos s.end h l)
+
+pub return_outside : (c : Parts) (n p : ℕ) → IsSafe c → IsIn c n p → shape_at (shapes_of c) p ≡ Return → looped c p ≡ false
+return_outside c n p s i e = ap in_loop (subst (IsWholeAt c n p) e (s.each n p i).whole)
+
+-- what the verifier says of a call
+pub callee_at : (c : Parts) (n p x m k site : ℕ) (j : Instr) → IsSafe c → IsIn c n p → j ≡ instruction_of c p → j ≡ instr.Call x m k site → IsCallee c n p m x k
+callee_at c n p x m k site j s i e f =
+    let a = s.each n p i in
+    let is : instruction_of c p ≡ instr.Call x m k site = sym e ∙ f in
+    let shaped : shape_at (shapes_of c) p ≡ Call m = shape_there c p ∙ ap shape is in
+    let registers_in = subst (λ y. HasRegisters (routine_of c n).registers (callee_params c y) y) is a.registers in
+    let tables_in = subst (HasTables c (routine_of c n).cells) is a.tables in
+    let calls = subst (CallsWell (depths (shapes_of c) (lengths_of c) n) n) shaped a.calls in
+    record { place = i; is = shaped; lower = calls.0; arguments = registers_in; cell_map = tables_in.1 }
+
+pub in_code : (c : Parts) (n p : ℕ) → IsRunnable c → IsIn c n p → p < length c.instructions
+in_code c n p r i = let a = begin_up (lengths_of c) (suc n) (length c.routines) (omega (arith, i.routine)) in let w = r.code.whole in omega (arith, i.to, a, w)
+
+pub traced_more : (way : Left) (t : TraceRoom) (m n : ℕ) → m ≤ n → Traced way t m → Traced way t n
+traced_more Returned t m n h k = k
+traced_more Turned t m n h k = k
+traced_more (Failed reason at) t m n h k = (omega (arith, h, k.0), k.1)
+
+-- the steps of a whole routine
+pub call_steps : (c : Parts) (m from to s0 s1 p0 p1 p2 : ℕ) → IsRunnable c → m < length c.routines → from ≡ first_of c m → to ≡ end_at c m → scale c from * s1 ≤ scale c from * s0 + (before c m to - before c m from) * (p1 - p0 + 1) → p2 ≡ p1 → s1 ≤ s0 + before c m (end_at c m) * (p2 - p0 + 1)
+call_steps c m from to s0 s1 p0 p1 p2 r l e f h k =
+    let z : scale c from ≡ 1 = ap (λ v. cond v 2 1) (ap (looped c) e ∙ ap in_loop (r.safe.begins m l).1) in
+    let a : before c m to ≡ before c m (end_at c m) = ap (before c m) f in
+    let one : 1 * s1 ≤ 1 * s0 + (before c m to - before c m from) * (p1 - p0 + 1) = subst (λ x. x * s1 ≤ x * s0 + (before c m to - before c m from) * (p1 - p0 + 1)) z h in
+    let two : (before c m to - before c m from) * (p1 - p0 + 1) ≤ before c m (end_at c m) * (p2 - p0 + 1) =
+    (let x : (before c m to - before c m from) * (p1 - p0 + 1) ≤ before c m (end_at c m) * (p1 - p0 + 1) = mul-le-mul_right (p1 - p0 + 1) (omega (arith, a)) in
+    subst (λ p. (before c m to - before c m from) * (p1 - p0 + 1) ≤ before c m (end_at c m) * (p - p0 + 1)) (sym k) x) in
+    omega (arith, one, two)
+
+pub end_is : (c : Parts) (m : ℕ) → end_at c m ≡ first_of c m + (routine_of c m).length
+end_is c m = begin_next c m
+
+pub end_in : (c : Parts) (m : ℕ) → IsRunnable c → m < length c.routines → end_at c m ≤ length c.instructions
+end_in c m r l = let a = begin_up (lengths_of c) (suc m) (length c.routines) (omega (arith, l)) in let w = r.code.whole in omega (arith, a, w)
+
+-- the instruction after a call
+pub call_on : (c : Parts) (n p m : ℕ) → IsSafe c → IsIn c n p → shape_at (shapes_of c) p ≡ Call m → (p < p + 1) × IsIn c n (p + 1) × (opened (shapes_of c) (p + 1) ≡ opened (shapes_of c) p)
+call_on c n p m s i e = goes_on c n p (p + 1) (Call m) s i e refl
+
+-- an instruction's own step, and what its call or its loop spent
+pub call_spent : (k s0 s1 s2 s3 p1 p2 p3 : ℕ) → s1 ≡ s0 + 1 → s2 ≤ s1 → s3 ≤ s2 + k * (p3 - p2 + 1) → p1 ≤ p2 → s3 ≤ s0 + 1 + k * (p3 - p1 + 1)
+call_spent k s0 s1 s2 s3 p1 p2 p3 e f h l =
+    let x : k * (p3 - p2 + 1) ≤ k * (p3 - p1 + 1) = mul-le-mul_left k (omega (arith, l)) in
+    omega (arith, e, f, h, x)
+
+-- places that are their own
+own_within : (n k : ℕ) → All (λ c. c < k + n) (places_from k n)
+own_within zero k = All-nil (λ c. c < k + zero)
+own_within (suc n) k =
+    let e : k + 1 + n ≡ k + suc n = omega arith in
+    All-cons (λ c. c < k + suc n) k (places_from (k + 1) n) (omega arith) (subst (λ x. All (λ c. c < x) (places_from (k + 1) n)) e (own_within n (k + 1)))
+
+length_places : (n k : ℕ) → length (places_from k n) ≡ n
+length_places zero k = refl
+length_places (suc n) k = ap suc (length_places n (k + 1))
+
+own_snoc : (n a : ℕ) → places_from a (suc n) ≡ places_from a n ++ (a + n) ∷ []
+own_snoc zero a = let e : a ≡ a + zero = omega arith in ap (λ x. x ∷ []) e
+own_snoc (suc n) a = let e : a + 1 + n ≡ a + suc n = omega arith in ap (λ l. a ∷ l) (own_snoc n (a + 1) ∙ ap (λ x. places_from (a + 1) n ++ x ∷ []) e)
+
+pub own_more : (xs : List ℕ) (i : ℕ) → i < length xs → take i xs ≡ places_from 0 i → take (i + 1) (slice_set xs i i) ≡ places_from 0 (i + 1)
+own_more xs i l h =
+    let e : i + 1 ≡ suc i = omega arith in
+    let z : i ≡ 0 + i = omega arith in
+    ap (λ k. take k (slice_set xs i i)) e ∙ take-suc-set xs i i l ∙ ap (λ ys. ys ++ i ∷ []) h ∙ ap (λ x. places_from 0 i ++ x ∷ []) z ∙ sym (own_snoc i 0) ∙ ap (places_from 0) (sym e)
+
+pub entry_room : (e : Env) (n : ℕ) (places all_places spare_places regs all_regs spare all : List ℕ) (t : TraceRoom) → HasEntryRoom e n all_places all_regs t → places ≡ places_from 0 (cells e.parts.now n) → length all ≡ cells e.parts.now n → length spare_places + cells e.parts.now n ≡ length all_places → length regs ≡ registers e.parts.now n → length spare + registers e.parts.now n ≡ length all_regs → t.count ≡ 0 → HasRoom e n places spare_places regs spare all t
+entry_room e n places ap' sp regs ar spare all t h q c pr rc rr tc = record {
+  runnable = h.runnable;
+  begins = h.begins;
+  routine = h.routine;
+  place_count = ap length q ∙ length_places (cells e.parts.now n) 0;
+  place_room = omega (arith, h.place_room, pr);
+  register_count = rc;
+  register_room = omega (arith, h.register_room, rr);
+  in_cells = subst (All (λ x. x < length all)) (sym q) (subst (λ k. All (λ x. x < k) (places_from 0 (cells e.parts.now n))) (let z : 0 + cells e.parts.now n ≡ length all = omega (arith, c) in z) (own_within (cells e.parts.now n) 0));
+  trace = tc;
+  trace_room = h.trace_room;
+}
+
+pub within_length : (s0 s1 k p0 p1 n : ℕ) → s1 ≤ s0 + k * (p1 - p0 + 1) → p1 ≤ n → s1 ≤ s0 + k * (n + 1)
+within_length s0 s1 k p0 p1 n h l =
+    let x : k * (p1 - p0 + 1) ≤ k * (n + 1) = mul-le-mul_left k (omega (arith, l)) in
+    omega (arith, h, x)
+
+pub traced_within : (way : Left) (t : TraceRoom) (n : ℕ) → Traced way t n → t.count ≤ length t.frames.items
+traced_within Returned t n h = omega (arith, h)
+traced_within Turned t n h = omega (arith, h)
+traced_within (Failed reason at) t n h = h.1
+
+-- arguments
+
+pub length_registers : (regs : List ℕ) (first n : ℕ) → length (registers_from regs first n) ≡ n
+length_registers regs first zero = refl
+length_registers regs first (suc n) = ap suc (length_registers regs (first + 1) n)
+
+registers_are : (regs : List ℕ) (first n : ℕ) → first + n ≤ length regs → registers_from regs first n ≡ take n (drop first regs)
+registers_are regs first zero h = refl
+registers_are regs first (suc n) h =
+    let there : first < length regs = omega (arith, h) in
+    let rest : first + 1 + n ≤ length regs = omega (arith, h) in
+    let e : first + 1 ≡ suc first = omega arith in
+    ap (λ l. slice_index regs first ∷ l) (registers_are regs (first + 1) n rest)
+    ∙ ap (λ m. slice_index regs first ∷ take n (drop m regs)) e
+    ∙ ap (take (suc n)) (sym (drop-cons regs first 0 there))
+
+pub sliced : (regs : List ℕ) (first n : ℕ) → first + n ≤ length regs → slice_range regs first (first + n) ≡ registers_from regs first n
+sliced regs first n h =
+    let e : first + n - first ≡ n = omega arith in
+    ap (λ m. take m (drop first regs)) e ∙ sym (registers_are regs first n h)
+
+pub none_on_return : (way : Left) (t : TraceRoom) (n : ℕ) → Traced way t n → WhenReturned way (t.count ≡ 0)
+none_on_return Returned t n h = h
+none_on_return Turned t n h = tt
+none_on_return (Failed reason at) t n h = tt

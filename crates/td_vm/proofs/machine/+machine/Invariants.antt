@@ -1,0 +1,61 @@
+use Rattle.std.proofs.Common.{◌≡◌, ℕ, suc, ◌+◌, ◌-◌, ◌*◌, ◌<◌, ◌≤◌, length, true}
+use Rattle.td_ir.specs.Tables.{first_of, end_of as end_at}
+use Rattle.td_ir.specs.State.{State, Exit, after}
+use Rattle.td_ir.specs.Run.{turns, block}
+use Rattle.td_verify.specs.Shape.{shapes_of}
+use Rattle.td_verify.specs.Brackets.{opened, window_bytes}
+use Rattle.td_verify.specs.Verify.{IsIn}
+use Rattle.td_verify.specs.Safe.{before, looped}
+use Rattle.td_stream.specs.StreamInvariant.{IsStream, Later, position, end_of}
+use Rattle.td_vm.specs.Stepping.{state_of, Ran, InWindow}
+use Rattle.td_vm.specs.Machine.{Idle, HasRoom, scale}
+use Rattle.td_vm.proofs.machine.+machine.Given as goal
+
+abbrev pub decreases-run_block : goal.decreases-run_block
+decreases-run_block g l = 2 * (first_of l.env.now.parts.now l.n + (end_at l.env.now.parts.now l.n - l.first))
+
+abbrev pub decreases-call : goal.decreases-call
+decreases-call g l = 2 * end_at l.env.now.parts.now l.m + 1
+
+abbrev pub decreases-run_turns : goal.decreases-run_turns
+decreases-run_turns g l = 2 * (first_of l.env.now.parts.now l.n + (end_at l.env.now.parts.now l.n - l.at)) - 1
+
+abbrev pub invariant-run_block-steps : goal.invariant-run_block-steps
+invariant-run_block-steps g l = record {
+  room : HasRoom l.env l.n l.places l.spare_places l.regs l.spare l.cells l.trace;
+  place : IsIn l.env.parts.now l.n l.pc;
+  on : l.first ≤ l.pc;
+  under : l.pc < l.to;
+  later : Later g.W.Words.loads g.W.Words.reaches l.fn.stream l.stream;
+  whole : IsStream g.W.Words.loads g.W.Words.size l.stream;
+  window : InWindow l.act l.stream;
+  outer : l.act.outer ≤ l.fn.act.outer;
+  frames : length l.trace.frames.items ≡ length l.fn.trace.frames.items;
+  kind : looped l.env.parts.now l.pc ≡ looped l.env.parts.now l.first;
+  fixed : looped l.env.parts.now l.first ≡ true → opened (shapes_of l.env.parts.now) l.pc ≡ opened (shapes_of l.env.parts.now) l.first;
+  end : looped l.env.parts.now l.first ≡ true → end_of l.stream ≡ end_of l.fn.stream;
+  narrow : position l.fn.stream + window_bytes (opened (shapes_of l.env.parts.now) l.pc) ≤ end_of l.stream;
+  begun : before l.env.parts.now l.n l.first ≤ before l.env.parts.now l.n l.pc;
+  cost : scale l.env.parts.now l.first * l.steps ≤ scale l.env.parts.now l.first * l.fn.steps + (before l.env.parts.now l.n l.pc - before l.env.parts.now l.n l.first) * (position l.stream - position l.fn.stream + 1);
+  idle : position l.fn.stream ≡ position l.stream → Idle l.env.parts.now l.n l.first l.pc;
+  same : Ran g.W.Words.loads l.fn.stream l.stream l.fn.steps l.steps (λ b touched taken. block l.env.parts.now b l.n l.places l.first (state_of l.fn.regs l.fn.cells l.fn.act l.fn.stream) ≡ after touched taken (block l.env.parts.now b l.n l.places l.pc (state_of l.regs l.cells l.act l.stream)));
+}
+
+abbrev pub decreases-run_block-steps : goal.decreases-run_block-steps
+decreases-run_block-steps g l = l.to - l.pc
+
+abbrev pub invariant-run_turns-turns : goal.invariant-run_turns-turns
+invariant-run_turns-turns g l = record {
+  room : HasRoom l.env l.n l.places l.spare_places l.regs l.spare l.cells l.trace;
+  later : Later g.W.Words.loads g.W.Words.reaches l.fn.stream l.stream;
+  whole : IsStream g.W.Words.loads g.W.Words.size l.stream;
+  window : InWindow l.act l.stream;
+  outer : l.act.outer ≤ l.fn.act.outer;
+  frames : length l.trace.frames.items ≡ length l.fn.trace.frames.items;
+  end : end_of l.stream ≡ end_of l.fn.stream;
+  cost : l.steps ≤ l.fn.steps + (before l.env.parts.now l.n l.to - before l.env.parts.now l.n (l.at + 1) + 1) * (position l.stream - position l.fn.stream);
+  same : (k : ℕ) × (end_of l.stream - position l.stream < k) × (Ran g.W.Words.loads l.fn.stream l.stream l.fn.steps l.steps (λ b touched taken. (behind : State → Exit) → turns (suc (end_of l.fn.stream - position l.fn.stream)) (block l.env.parts.now b l.n l.places (l.at + 1)) behind (state_of l.fn.regs l.fn.cells l.fn.act l.fn.stream) ≡ after touched taken (turns k (block l.env.parts.now b l.n l.places (l.at + 1)) behind (state_of l.regs l.cells l.act l.stream))));
+}
+
+abbrev pub decreases-run_turns-turns : goal.decreases-run_turns-turns
+decreases-run_turns-turns g l = end_of l.stream - position l.stream

@@ -1,0 +1,21 @@
+use Rattle.std.proofs.Common.{◌≡◌, ap, ◌∙◌, subst, arith}
+use Rattle.td_ir.specs.declared.tables.Parts.{Parts}
+use Rattle.td_vm.specs.Need.{most_need, most_entry_cells, registers, cells, level}
+use Rattle.td_vm.specs.Frames.{AreBegins}
+use Rattle.td_vm.proofs.validate.Frame.arm.Goals as goal
+
+pub returns-clause-armed : goal.returns-clause-armed
+returns-clause-armed c =
+    let same = c.runnable-parts.ensures.same in
+    let C = c.args.code.now in
+    let first : c.in_ok-registers.registers ≡ most_need (registers C) C = c.in_ok-registers.ensures ∙ ap (λ (x : Parts). most_need (registers x) x) same in
+    let second : c.in_ok-places.places ≡ most_need (cells C) C = c.in_ok-places.ensures ∙ ap (λ (x : Parts). most_need (cells x) x) same in
+    let third : c.in_ok-levels.levels ≡ most_need level C = c.in_ok-levels.ensures ∙ ap (λ (x : Parts). most_need level x) same in
+    let fourth : c.most_cells.result ≡ most_entry_cells C = c.most_cells.ensures ∙ ap most_entry_cells same in
+    record {
+      begins = subst (λ (x : Parts). AreBegins x c.in_ok-begins.begins.items) same c.in_ok-begins.ensures;
+      register_room = omega (arith, c.in_ok-vec.field-0.ok.0, c.in_ok-vec.ensures.len, first);
+      place_room = omega (arith, c.in_ok-vec-2.field-0.ok.0, c.in_ok-vec-2.ensures.len, second);
+      trace_room = omega (arith, c.in_ok-vec-4.field-0.ok.0, c.in_ok-vec-4.ensures.len, third);
+      cell_room = omega (arith, c.in_ok-vec-3.field-0.ok.0, c.in_ok-vec-3.ensures.len, fourth);
+    }

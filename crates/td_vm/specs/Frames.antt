@@ -1,0 +1,29 @@
+-- What a frame has room for (own rule).
+use Rattle.std.specs.Prelude.{◌≡◌, ℕ, ◌+◌, ◌≤◌, List, length, slice_index}
+use Rattle.td_core.specs.declared.outcome.TraceFrame.{TraceFrame}
+use Rattle.td_ir.specs.declared.tables.Parts.{Parts}
+use Rattle.td_ir.specs.Tables.{first_of}
+use Rattle.td_vm.specs.Need.{most_need, most_entry_cells, registers, cells, level}
+
+-- a table of where routines begin, how many registers, places, frames and cells there is room for, the cells, and the frames of the last failure
+pub record FrameView : Type 0 where
+  pub begins : List ℕ
+  pub register_room : ℕ
+  pub place_room : ℕ
+  pub trace_room : ℕ
+  pub cell_room : ℕ
+  pub cells : List ℕ
+  pub trace : List TraceFrame
+
+-- where each routine begins, and where the last one ends
+pub record AreBegins (c : Parts) (begins : List ℕ) : Type 0 where
+  pub count : length begins ≡ length c.routines + 1
+  pub each : (n : ℕ) → n ≤ length c.routines → slice_index begins n ≡ first_of c n
+
+-- a frame has the room that this code needs, and no more
+pub record IsArmed (c : Parts) (f : FrameView) : Type 0 where
+  pub begins : AreBegins c f.begins
+  pub register_room : f.register_room ≡ most_need (registers c) c
+  pub place_room : f.place_room ≡ most_need (cells c) c
+  pub trace_room : f.trace_room ≡ most_need level c
+  pub cell_room : f.cell_room ≡ most_entry_cells c

@@ -1,0 +1,7 @@
+pub mod Need
+pub mod Frames
+pub mod Stepping
+pub mod Exits
+pub mod Machine
+pub mod Outcomes
+pub mod Arm

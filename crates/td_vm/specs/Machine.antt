@@ -1,0 +1,92 @@
+-- What the machine rests on, and what its calls keep; of use in this crate alone.
+use Rattle.std.specs.Prelude.{◌≡◌, ℕ, ◌+◌, ◌<◌, ◌≤◌, Bool, true, cond, List, length, slice_index}
+use Rattle.std.specs.List.{All}
+use Rattle.td_ir.specs.declared.tables.Parts.{Parts}
+use Rattle.td_ir.specs.Tables.{routine_of, lengths_of, end_of}
+use Rattle.td_ir.specs.WellFormed.{IsCode}
+use Rattle.td_ir.specs.RunLaws.{RunGoes, RunFails, RunReturns, RunTurns, RunCalls, RunLoops}
+use Rattle.td_verify.specs.declared.shape.Shape.TheVariants.{Call, Return, Again}
+use Rattle.td_verify.specs.Shape.{shapes_of}
+use Rattle.td_verify.specs.Brackets.{shape_at, opened, window_bytes}
+use Rattle.td_verify.specs.Ways.{IdleWay, MayBeEmpty}
+use Rattle.td_verify.specs.Operands.{IsCellMap}
+use Rattle.td_verify.specs.Verify.{IsIn}
+use Rattle.td_verify.specs.Safe.{IsSafe, before, looped}
+use Rattle.td_vm.specs.Frames.{AreBegins}
+use Rattle.td_vm.specs.Need.{room_below, registers, cells, level}
+use Rattle.td_vm.specs.declared.activation.TraceRoom.{TraceRoom}
+use Rattle.td_vm.specs.declared.activation.Env.{Env}
+
+-- tables that fit together, and instructions that keep what the verifier asks of them
+pub record IsRunnable (c : Parts) : Type 0 where
+  pub code : IsCode c
+  pub safe : IsSafe c
+
+-- the laws of run
+pub record AreLaws : Type 0 where
+  pub goes : RunGoes
+  pub fails : RunFails
+  pub returns : RunReturns
+  pub turns : RunTurns
+  pub calls : RunCalls
+  pub loops : RunLoops
+
+abbrev pub Idle : Parts → (n from to : ℕ) → Type 0
+Idle c n from to = IdleWay (shapes_of c) (MayBeEmpty (shapes_of c) (lengths_of c) n) from to
+
+-- each step in a loop counts twice
+abbrev pub scale : Parts → ℕ → ℕ
+scale c p = cond (looped c p) 2 1
+
+-- what a run needs: runnable code, as many registers and places as routine n has, and room for its calls
+pub record HasRoom (e : Env) (n : ℕ) (places spare_places regs spare all : List ℕ) (t : TraceRoom) : Type 0 where
+  pub runnable : IsRunnable e.parts.now
+  pub begins : AreBegins e.parts.now e.begins.now
+  pub routine : n < length e.parts.now.routines
+  pub place_count : length places ≡ cells e.parts.now n
+  pub place_room : room_below (cells e.parts.now) e.parts.now n ≤ length spare_places
+  pub register_count : length regs ≡ registers e.parts.now n
+  pub register_room : room_below (registers e.parts.now) e.parts.now n ≤ length spare
+  pub in_cells : All (λ c. c < length all) places
+  pub trace : t.count ≡ 0
+  pub trace_room : room_below level e.parts.now n + 1 ≤ length t.frames.items
+
+-- a routine from its beginning, or a loop's body
+pub record IsStretch (c : Parts) (n first to : ℕ) : Type 0 where
+  pub place : IsIn c n first
+  pub some : first < to
+  pub within : to ≤ end_of c n
+  pub closed : (q : ℕ) → IsIn c n q → (looped c first ≡ true → opened (shapes_of c) q ≡ opened (shapes_of c) first) → q < to
+  pub outside : window_bytes (opened (shapes_of c) first) ≡ 0
+
+-- a way with no byte to the end of a turn, and to a return
+pub record IdleTurn (c : Parts) (n first : ℕ) : Type 0 where
+  pub at : ℕ
+  pub start : ℕ
+  pub within : IsIn c n at
+  pub is : shape_at (shapes_of c) at ≡ Again start
+  pub same : opened (shapes_of c) at ≡ opened (shapes_of c) first
+  pub way : Idle c n first at
+
+pub record IdleReturn (c : Parts) (n first : ℕ) : Type 0 where
+  pub at : ℕ
+  pub within : IsIn c n at
+  pub is : shape_at (shapes_of c) at ≡ Return
+  pub way : Idle c n first at
+
+-- the routine that an instruction of routine n calls, with its arguments and its cells
+pub record IsCallee (c : Parts) (n at m first map : ℕ) : Type 0 where
+  pub place : IsIn c n at
+  pub is : shape_at (shapes_of c) at ≡ Call m
+  pub lower : m < n
+  pub arguments : (j : ℕ) → j < (routine_of c m).params → first + j < registers c n
+  pub cell_map : IsCellMap c (cells c n) m map
+
+-- room for routine n, run from outside, and for its calls
+pub record HasEntryRoom (e : Env) (n : ℕ) (spare_places spare : List ℕ) (t : TraceRoom) : Type 0 where
+  pub runnable : IsRunnable e.parts.now
+  pub begins : AreBegins e.parts.now e.begins.now
+  pub routine : n < length e.parts.now.routines
+  pub place_room : cells e.parts.now n + room_below (cells e.parts.now) e.parts.now n ≤ length spare_places
+  pub register_room : registers e.parts.now n + room_below (registers e.parts.now) e.parts.now n ≤ length spare
+  pub trace_room : room_below level e.parts.now n + 1 ≤ length t.frames.items

@@ -1,0 +1,53 @@
+-- The room that a routine needs with its calls: the greatest over the chains of calls that begin at it (own rule).
+use Rattle.std.specs.Prelude.{ℕ, zero, suc, ◌+◌, max, cond, nat_eq, List, length, slice_index}
+use Rattle.td_ir.specs.declared.tables.Parts.{Parts}
+use Rattle.td_ir.specs.Tables.{routine_of, entry_of, lengths_of, begin}
+use Rattle.td_verify.specs.declared.shape.Shape.{Shape}
+use Rattle.td_verify.specs.declared.shape.Shape.TheVariants.{Call}
+use Rattle.td_verify.specs.Shape.{shapes_of}
+use Rattle.td_verify.specs.Brackets.{shape_at}
+
+-- what is said of the routine that an instruction calls; nothing of other instructions
+abbrev pub called : (ℕ → ℕ) → Shape → ℕ
+called f (Call m) = f m
+called f j = 0
+
+-- the greatest of k instructions from a place on
+abbrev pub greatest : List Shape → (ℕ → ℕ) → ℕ → ℕ → ℕ
+greatest s f from zero = 0
+greatest s f from (suc k) = max (greatest s f from k) (called f (shape_at s (from + k)))
+
+-- the need of routine m, of the first n, where f says what a routine takes itself
+abbrev pub need : (ℕ → ℕ) → List Shape → List ℕ → ℕ → ℕ → ℕ
+need f s ls zero m = 0
+need f s ls (suc n) m = cond (nat_eq m n) (f n + greatest s (need f s ls n) (begin ls n) (slice_index ls n)) (need f s ls n m)
+
+-- what the calls of routine n need
+abbrev pub room_below : (ℕ → ℕ) → Parts → ℕ → ℕ
+room_below f c n = greatest (shapes_of c) (need f (shapes_of c) (lengths_of c) n) (begin (lengths_of c) n) (slice_index (lengths_of c) n)
+
+-- the greatest need of the first n routines, and of all
+abbrev pub most : (ℕ → ℕ) → Parts → ℕ → ℕ
+most f c zero = 0
+most f c (suc n) = max (most f c n) (f n + room_below f c n)
+
+abbrev pub most_need : (ℕ → ℕ) → Parts → ℕ
+most_need f c = most f c (length c.routines)
+
+-- what routine n takes itself: registers, places of cells, a level of calls
+abbrev pub registers : Parts → ℕ → ℕ
+registers c n = (routine_of c n).registers
+
+abbrev pub cells : Parts → ℕ → ℕ
+cells c n = (routine_of c n).cells
+
+abbrev pub level : ℕ → ℕ
+level n = 1
+
+-- the most cells of the first n entry points, and of all
+abbrev pub most_cells : Parts → ℕ → ℕ
+most_cells c zero = 0
+most_cells c (suc n) = max (most_cells c n) (length (entry_of c n).cells)
+
+abbrev pub most_entry_cells : Parts → ℕ
+most_entry_cells c = most_cells c (length c.entries)

@@ -1,0 +1,87 @@
+//! Runs a routine from outside.
+
+ghost use Rattle.std.specs.Prelude.{◌≡◌, ◌+◌, ◌*◌, ◌≤◌, length};
+ghost use Rattle.td_num.specs.Numbers.{places_from};
+ghost use Rattle.td_ir.specs.Tables.{routine_of};
+ghost use Rattle.td_ir.specs.Run.{run_routine};
+ghost use Rattle.td_stream.specs.StreamInvariant.{IsStream, Later, length_of, position, end_of};
+ghost use Rattle.td_vm.specs.Stepping.{Ran};
+ghost use Rattle.td_vm.specs.Exits.{frames_of, exit_by, call_way, NotTurned, WhenReturned};
+ghost use Rattle.td_vm.specs.Machine.{HasEntryRoom};
+ghost use Rattle.td_vm.specs.Need.{cells as cells_in};
+ghost use Rattle.td_vm.specs.Outcomes.{weight};
+
+use crate::activation::{Activation, Env, Left, TraceRoom};
+use crate::machine::{run_block, set_registers};
+use crate::steps::Steps;
+use crate::tables::routine_at;
+use std::sync::ledger::Ledger;
+use td_stream::stream::Stream;
+use td_stream::words::Words;
+
+// The cells of an entry point are its own, in order.
+fn set_own_places(mine: &mut [usize])
+    ensures { mine.new ≡ places_from 0 (length mine.old) }
+{
+    for i in 0..mine.len() {
+        mine[i] = i;
+    }
+}
+
+/// Runs routine n over a stream that stands at its start.
+pub fn run_entry<W: Words, L: Ledger>(
+    env: &Env<'_>,
+    n: usize,
+    args: &[u64],
+    spare_places: &mut [usize],
+    spare: &mut [u64],
+    cells: &mut [u64],
+    stream: &mut Stream<W>,
+    trace: &mut TraceRoom,
+    steps: &mut Steps<L>,
+) -> Left
+    requires room { HasEntryRoom env.now n spare_places.old spare.old trace.old }
+    requires cells { length cells.old ≡ cells_in env.now.parts.now n }
+    requires empty { trace.old.count ≡ 0 }
+    requires args { length args.now ≡ (routine_of env.now.parts.now n).params }
+    requires whole { IsStream W.loads W.size stream.old }
+    requires start { position stream.old ≡ 0 }
+    requires end { end_of stream.old ≡ length_of stream.old }
+    ensures later { Later W.loads W.reaches stream.old stream.new }
+    ensures whole { IsStream W.loads W.size stream.new }
+    ensures trace_room { length trace.new.frames.items ≡ length trace.old.frames.items }
+    ensures frames { trace.new.count ≤ length trace.new.frames.items }
+    ensures no_turn { NotTurned result }
+    ensures none { WhenReturned result (trace.new.count ≡ 0) }
+    ensures cost { steps.new ≤ steps.old + weight env.now.parts.now n * (length_of stream.old + 1) }
+    ensures same { Ran W.loads stream.old stream.new steps.old steps.new (λ b touched taken. length b ≡ length_of stream.old →
+        run_routine env.now.parts.now n args.now cells.old b
+        ≡ exit_by (call_way result (position stream.new) cells.new (frames_of trace.new)) touched taken) }
+{
+    let routine = routine_at(env.parts, n);
+    let from = env.begins[n];
+    let to = env.begins[n + 1];
+    let (mine, rest) = spare.split_at_mut(routine.registers as usize);
+    let (mine_places, rest_places) = spare_places.split_at_mut(routine.cells as usize);
+    set_registers(mine, args);
+    set_own_places(mine_places);
+    let mut act = Activation {
+        start: stream.pos(),
+        outer: stream.end(),
+    };
+    run_block(
+        env,
+        n,
+        from,
+        to,
+        mine_places,
+        rest_places,
+        mine,
+        rest,
+        cells,
+        &mut act,
+        stream,
+        trace,
+        steps,
+    )
+}

@@ -1,0 +1,12 @@
+//! Laws of room. They do nothing when they are called.
+
+ghost use Rattle.std.specs.Prelude.{ℕ, ◌≤◌, List, length};
+ghost use Rattle.td_core.specs.declared.module.Entry.{Entry};
+ghost use Rattle.td_ir.specs.declared.tables.Parts.{Parts};
+ghost use Rattle.td_ir.specs.Entries.{Fits};
+ghost use Rattle.td_vm.specs.Need.{most_entry_cells};
+
+/// Cells that fit an entry point of code are no more than a frame has room for that was armed for the code.
+pub fn fitting_cells_have_room()
+    ensures { (c : Parts) (entry : Entry) (args cells : List ℕ) → Fits c entry args cells → length cells ≤ most_entry_cells c }
+{}

@@ -1,0 +1,336 @@
+//! Runs a routine.
+
+ghost use Rattle.std.specs.Prelude.{◌≡◌, ℕ, suc, ◌+◌, ◌-◌, ◌*◌, ◌<◌, ◌≤◌, true, false, List, [], ◌∷◌, ◌++◌, length, replicate};
+ghost use Rattle.td_core.specs.Outcome as outcomes;
+ghost use Rattle.td_ir.specs.WellFormed.{IsCode};
+ghost use Rattle.td_ir.specs.Tables.{routine_of, map_of, lengths_of, first_of};
+ghost use Rattle.td_ir.specs.State.{State, Exit, registers_from};
+ghost use Rattle.td_ir.specs.Run.{place_of_site, places_by, entered, turns, block};
+ghost use Rattle.td_verify.specs.declared.shape.Shape.TheVariants.{While};
+ghost use Rattle.td_verify.specs.Shape.{shapes_of};
+ghost use Rattle.td_verify.specs.Brackets.{shape_at};
+ghost use Rattle.td_verify.specs.Ways.{MayBeEmpty};
+ghost use Rattle.td_verify.specs.Operands.{AreBelow};
+ghost use Rattle.td_verify.specs.Verify.{IsIn};
+ghost use Rattle.td_verify.specs.Safe.{before, looped};
+ghost use Rattle.td_stream.specs.StreamInvariant.{IsStream, Later, position, end_of};
+ghost use Rattle.td_vm.specs.Stepping.{state_of, Ran, InWindow};
+ghost use Rattle.td_vm.specs.Exits.{frames_of, exit_by, way_of, call_way, loop_exit, WhenTurned, WhenReturned, NotTurned, NotReturned, Traced};
+ghost use Rattle.td_vm.specs.Machine.{AreLaws, HasRoom, IsStretch, IsCallee, IdleTurn, IdleReturn, scale};
+ghost use Rattle.td_vm.specs.Outcomes.{weight};
+ghost use Rattle.td_vm.specs.Need.{room_below, level};
+
+use crate::activation::{Activation, Env, Left, Step, TraceRoom};
+use crate::step::step;
+use crate::steps::Steps;
+use crate::tables::{frame_at, instruction_at, map_at, routine_at};
+use std::sync::ledger::Ledger;
+use td_core::outcome::Reason;
+use td_ir::laws::{
+    run_calls, run_fails, run_goes, run_loops, run_returns, run_turns as run_turned,
+};
+use td_ir::tables::Parts;
+use td_stream::stream::Stream;
+use td_stream::words::Words;
+
+// The laws of run. Does nothing.
+fn laws()
+    ensures { AreLaws }
+{
+    run_goes();
+    run_fails();
+    run_returns();
+    run_turned();
+    run_calls();
+    run_loops();
+}
+
+// One frame more.
+fn push_frame(trace: &mut TraceRoom, parts: &Parts, site: u32, start: u32, reason: Reason)
+    requires room { trace.old.count < length trace.old.frames.items }
+    requires code { IsCode parts.now }
+    requires site { site < length parts.now.sites }
+    ensures frames { frames_of trace.new ≡ frames_of trace.old ++ outcomes.frame_at (place_of_site parts.now site start) reason ∷ [] }
+    ensures count { trace.new.count ≡ trace.old.count + 1 }
+    ensures kept { length trace.new.frames.items ≡ length trace.old.frames.items }
+{
+    trace.frames[trace.count] = frame_at(parts, site, start, reason);
+    trace.count += 1;
+}
+
+// So many registers from one on; where there are none, that register need not be there.
+fn arguments(regs: &[u64], first: usize, count: usize) -> &[u64]
+    requires { 0 < count → first + count ≤ length regs.now }
+    ensures { result.now ≡ registers_from regs.now first count }
+{
+    if count == 0 {
+        &regs[..0]
+    } else {
+        &regs[first..first + count]
+    }
+}
+
+/// The registers of a routine that begins: its arguments, and zeros.
+pub fn set_registers(mine: &mut [u64], args: &[u64])
+    requires { length args.now ≤ length mine.old }
+    ensures { mine.new ≡ args.now ++ replicate (length mine.old - length args.now) 0 }
+{
+    let (front, rest) = mine.split_at_mut(args.len());
+    front.copy_from_slice(args);
+    rest.fill(0);
+}
+
+// The places of a callee's cells, by those of its caller.
+fn set_places(mine: &mut [usize], places: &[usize], map: &[u32])
+    requires within { AreBelow (length places.now) map.now }
+    requires fits { length mine.old ≡ length map.now }
+    ensures { mine.new ≡ places_by places.now map.now }
+{
+    for i in 0..map.len() {
+        mine[i] = places[map[i] as usize];
+    }
+}
+
+/// Runs from an instruction on, to the end of the routine or of a loop's turn.
+#[cycle(machine)]
+pub fn run_block<W: Words, L: Ledger>(
+    env: &Env<'_>,
+    n: usize,
+    first: usize,
+    to: usize,
+    places: &[usize],
+    spare_places: &mut [usize],
+    regs: &mut [u64],
+    spare: &mut [u64],
+    cells: &mut [u64],
+    act: &mut Activation,
+    stream: &mut Stream<W>,
+    trace: &mut TraceRoom,
+    steps: &mut Steps<L>,
+) -> Left
+    requires room { HasRoom env.now n places.now spare_places.old regs.old spare.old cells.old trace.old }
+    requires stretch { IsStretch env.now.parts.now n first to }
+    requires whole { IsStream W.loads W.size stream.old }
+    requires window { InWindow act.old stream.old }
+    ensures later { Later W.loads W.reaches stream.old stream.new }
+    ensures whole { IsStream W.loads W.size stream.new }
+    ensures window { InWindow act.new stream.new }
+    ensures outer { act.new.outer ≤ act.old.outer }
+    ensures traced { Traced result trace.new (room_below level env.now.parts.now n + 1) }
+    ensures trace_room { length trace.new.frames.items ≡ length trace.old.frames.items }
+    ensures outside { WhenReturned result (looped env.now.parts.now first ≡ false) }
+    ensures inside { WhenTurned result (looped env.now.parts.now first ≡ true) }
+    ensures idle_turn { WhenTurned result (position stream.old ≡ position stream.new → IdleTurn env.now.parts.now n first) }
+    ensures idle_return { WhenReturned result (position stream.old ≡ position stream.new → IdleReturn env.now.parts.now n first) }
+    ensures end { WhenTurned result (end_of stream.new ≡ end_of stream.old) }
+    ensures cost { scale env.now.parts.now first * steps.new
+        ≤ scale env.now.parts.now first * steps.old + (before env.now.parts.now n to - before env.now.parts.now n first) * (position stream.new - position stream.old + 1) }
+    ensures same { Ran W.loads stream.old stream.new steps.old steps.new (λ b touched taken.
+        block env.now.parts.now b n places.now first (state_of regs.old cells.old act.old stream.old)
+        ≡ exit_by (way_of result (state_of regs.new cells.new act.new stream.new) (frames_of trace.new)) touched taken) }
+{
+    laws();
+    let mut pc = first;
+    'steps: while pc < to {
+        steps.tick();
+        let instruction = instruction_at(env.parts, pc);
+        match step(
+            env.parts,
+            instruction,
+            pc,
+            places,
+            regs,
+            cells,
+            act,
+            stream,
+            steps,
+        ) {
+            Step::Goes(target) => pc = target,
+            Step::Fails { reason, site, pos } => {
+                push_frame(trace, env.parts, site, act.start, reason);
+                return Left::Failed { reason, pos };
+            }
+            Step::Calls {
+                first: from,
+                routine,
+                map,
+                site,
+            } => {
+                match call(
+                    env,
+                    n,
+                    routine as usize,
+                    from as usize,
+                    map as usize,
+                    pc,
+                    places,
+                    spare_places,
+                    regs,
+                    spare,
+                    cells,
+                    stream,
+                    trace,
+                    steps,
+                ) {
+                    Left::Returned => pc += 1,
+                    Left::Turned => unreachable!(),
+                    Left::Failed { reason, pos } => {
+                        push_frame(trace, env.parts, site, act.start, reason);
+                        return Left::Failed { reason, pos };
+                    }
+                }
+            }
+            Step::Returns => return Left::Returned,
+            Step::Loops(target) => {
+                match run_turns(
+                    env,
+                    n,
+                    pc,
+                    target,
+                    places,
+                    spare_places,
+                    regs,
+                    spare,
+                    cells,
+                    act,
+                    stream,
+                    trace,
+                    steps,
+                ) {
+                    Left::Turned => pc = target,
+                    Left::Returned => unreachable!(),
+                    Left::Failed { reason, pos } => return Left::Failed { reason, pos },
+                }
+            }
+            Step::Turns(_) => return Left::Turned,
+        }
+    }
+    unreachable!()
+}
+
+// Runs all turns of the loop from a place on, behind which another stands. The `While` is run again after each turn, which is
+// a step.
+#[cycle(machine)]
+fn run_turns<W: Words, L: Ledger>(
+    env: &Env<'_>,
+    n: usize,
+    at: usize,
+    to: usize,
+    places: &[usize],
+    spare_places: &mut [usize],
+    regs: &mut [u64],
+    spare: &mut [u64],
+    cells: &mut [u64],
+    act: &mut Activation,
+    stream: &mut Stream<W>,
+    trace: &mut TraceRoom,
+    steps: &mut Steps<L>,
+) -> Left
+    requires room { HasRoom env.now n places.now spare_places.old regs.old spare.old cells.old trace.old }
+    requires place { IsIn env.now.parts.now n at }
+    requires loops { shape_at (shapes_of env.now.parts.now) at ≡ While to }
+    requires whole { IsStream W.loads W.size stream.old }
+    requires window { InWindow act.old stream.old }
+    ensures later { Later W.loads W.reaches stream.old stream.new }
+    ensures whole { IsStream W.loads W.size stream.new }
+    ensures window { InWindow act.new stream.new }
+    ensures outer { act.new.outer ≤ act.old.outer }
+    ensures traced { Traced result trace.new (room_below level env.now.parts.now n + 1) }
+    ensures trace_room { length trace.new.frames.items ≡ length trace.old.frames.items }
+    ensures no_return { NotReturned result }
+    ensures end { WhenTurned result (end_of stream.new ≡ end_of stream.old) }
+    ensures cost { steps.new ≤ steps.old
+        + (before env.now.parts.now n to - before env.now.parts.now n (at + 1) + 1) * (position stream.new - position stream.old + 1) }
+    ensures same { Ran W.loads stream.old stream.new steps.old steps.new (λ b touched taken. (behind : State → Exit) →
+        turns (suc (end_of stream.old - position stream.old)) (block env.now.parts.now b n places.now (at + 1)) behind (state_of regs.old cells.old act.old stream.old)
+        ≡ loop_exit result behind (state_of regs.new cells.new act.new stream.new) (frames_of trace.new) touched taken) }
+{
+    'turns: while stream.need(1) {
+        match run_block(
+            env,
+            n,
+            at + 1,
+            to,
+            places,
+            spare_places,
+            regs,
+            spare,
+            cells,
+            act,
+            stream,
+            trace,
+            steps,
+        ) {
+            Left::Turned => steps.tick(),
+            Left::Returned => unreachable!(),
+            Left::Failed { reason, pos } => return Left::Failed { reason, pos },
+        }
+    }
+    Left::Turned
+}
+
+// Runs a callee, to its return.
+#[cycle(machine)]
+fn call<W: Words, L: Ledger>(
+    env: &Env<'_>,
+    n: usize,
+    m: usize,
+    first: usize,
+    map: usize,
+    at: usize,
+    places: &[usize],
+    spare_places: &mut [usize],
+    regs: &[u64],
+    spare: &mut [u64],
+    cells: &mut [u64],
+    stream: &mut Stream<W>,
+    trace: &mut TraceRoom,
+    steps: &mut Steps<L>,
+) -> Left
+    requires room { HasRoom env.now n places.now spare_places.old regs.now spare.old cells.old trace.old }
+    requires callee { IsCallee env.now.parts.now n at m first map }
+    requires whole { IsStream W.loads W.size stream.old }
+    ensures later { Later W.loads W.reaches stream.old stream.new }
+    ensures whole { IsStream W.loads W.size stream.new }
+    ensures end { end_of stream.new ≡ end_of stream.old }
+    ensures traced { Traced result trace.new (room_below level env.now.parts.now n) }
+    ensures trace_room { length trace.new.frames.items ≡ length trace.old.frames.items }
+    ensures no_turn { NotTurned result }
+    ensures idle { WhenReturned result (position stream.old ≡ position stream.new → MayBeEmpty (shapes_of env.now.parts.now) (lengths_of env.now.parts.now) (suc m) m) }
+    ensures cost { steps.new ≤ steps.old + weight env.now.parts.now m * (position stream.new - position stream.old + 1) }
+    ensures same { (start outer : ℕ) → Ran W.loads stream.old stream.new steps.old steps.new (λ b touched taken.
+        block env.now.parts.now b m (places_by places.now (map_of env.now.parts.now map)) (first_of env.now.parts.now m)
+        (entered (routine_of env.now.parts.now m) (registers_from regs.now first (routine_of env.now.parts.now m).params)
+        (record { regs = regs.now; cells = cells.old; start = start; pos = position stream.old; end = end_of stream.old; outer = outer }))
+        ≡ exit_by (call_way result (position stream.new) cells.new (frames_of trace.new)) touched taken) }
+{
+    let routine = routine_at(env.parts, m);
+    let from = env.begins[m];
+    let to = env.begins[m + 1];
+    let (mine, rest) = spare.split_at_mut(routine.registers as usize);
+    let (mine_places, rest_places) = spare_places.split_at_mut(routine.cells as usize);
+    set_registers(mine, arguments(regs, first, routine.params as usize));
+    set_places(mine_places, places, map_at(env.parts, map));
+    let end = stream.end();
+    let mut act = Activation {
+        start: stream.pos(),
+        outer: end,
+    };
+    let left = run_block(
+        env,
+        m,
+        from,
+        to,
+        mine_places,
+        rest_places,
+        mine,
+        rest,
+        cells,
+        &mut act,
+        stream,
+        trace,
+        steps,
+    );
+    stream.widen(end);
+    left
+}

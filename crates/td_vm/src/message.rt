@@ -1,0 +1,111 @@
+//! Runs a routine over a message.
+
+ghost use Rattle.std.specs.Prelude.{◌≡◌, ℕ, ◌+◌, ◌*◌, ◌≤◌, List, [], length, take};
+ghost use Rattle.td_ir.specs.Tables.{routine_of};
+ghost use Rattle.td_ir.specs.Run.{run_routine};
+ghost use Rattle.td_stream.specs.Loads.{Carries, Inside, IsRising};
+ghost use Rattle.td_vm.specs.Exits.{frames_of};
+ghost use Rattle.td_vm.specs.Outcomes.{IsRun, weight};
+ghost use Rattle.td_vm.specs.Machine.{HasEntryRoom};
+ghost use Rattle.td_vm.specs.Need.{cells as cells_in};
+
+use crate::activation::{Env, Left, TraceRoom};
+use crate::entry::run_entry;
+use crate::steps::Steps;
+use std::sync::ledger::Ledger;
+use td_core::outcome::Verdict;
+use td_stream::stream::Stream;
+use td_stream::words::Words;
+
+/// Runs routine n over a message of `size` bytes in words of which none was loaded.
+pub fn run_message<W: Words, L: Ledger>(
+    env: &Env<'_>,
+    n: usize,
+    args: &[u64],
+    size: u32,
+    spare_places: &mut [usize],
+    spare: &mut [u64],
+    cells: &mut [u64],
+    trace: &mut TraceRoom,
+    words: &mut W,
+    steps: &mut Steps<L>,
+) -> Verdict
+    requires room { HasEntryRoom env.now n spare_places.old spare.old trace.old }
+    requires cells { length cells.old ≡ cells_in env.now.parts.now n }
+    requires empty { trace.old.count ≡ 0 }
+    requires args { length args.now ≡ (routine_of env.now.parts.now n).params }
+    requires words { size ≤ 8 * W.size words.old }
+    requires fresh { W.loads words.old ≡ [] }
+    ensures reaches { W.reaches words.old words.new }
+    ensures rising { IsRising (W.loads words.new) }
+    ensures within { Inside size (W.loads words.new) }
+    ensures trace_room { length trace.new.frames.items ≡ length trace.old.frames.items }
+    ensures frames { trace.new.count ≤ length trace.new.frames.items }
+    ensures cost { steps.new ≤ steps.old + weight env.now.parts.now n * (size + 1) }
+    ensures run { (b : List ℕ) → Carries size b (W.loads words.new)
+        → IsRun (W.loads words.new) (run_routine env.now.parts.now n args.now cells.old b)
+        (record { verdict = result; trace = frames_of trace.new; cells = cells.new }) steps.old steps.new }
+{
+    let mut stream = Stream::over(words, size);
+    match run_entry(
+        env,
+        n,
+        args,
+        spare_places,
+        spare,
+        cells,
+        &mut stream,
+        trace,
+        steps,
+    ) {
+        Left::Returned => Verdict::Accept { pos: stream.pos() },
+        Left::Turned => unreachable!(),
+        Left::Failed { reason, pos } => Verdict::Reject { reason, pos },
+    }
+}
+
+/// The same with the first `count` cells of a longer list, and a trace that is emptied first.
+pub fn run_front<W: Words, L: Ledger>(
+    env: &Env<'_>,
+    n: usize,
+    args: &[u64],
+    size: u32,
+    spare_places: &mut [usize],
+    spare: &mut [u64],
+    all: &mut [u64],
+    count: usize,
+    trace: &mut TraceRoom,
+    words: &mut W,
+    steps: &mut Steps<L>,
+) -> Verdict
+    requires room { HasEntryRoom env.now n spare_places.old spare.old trace.old }
+    requires args { length args.now ≡ (routine_of env.now.parts.now n).params }
+    requires cell_room { count ≤ length all.old }
+    requires cells { count ≡ cells_in env.now.parts.now n }
+    requires words { size ≤ 8 * W.size words.old }
+    requires fresh { W.loads words.old ≡ [] }
+    ensures reaches { W.reaches words.old words.new }
+    ensures rising { IsRising (W.loads words.new) }
+    ensures within { Inside size (W.loads words.new) }
+    ensures trace_room { length trace.new.frames.items ≡ length trace.old.frames.items }
+    ensures frames { trace.new.count ≤ length trace.new.frames.items }
+    ensures cost { steps.new ≤ steps.old + weight env.now.parts.now n * (size + 1) }
+    ensures run { (b : List ℕ) → Carries size b (W.loads words.new)
+        → IsRun (W.loads words.new) (run_routine env.now.parts.now n args.now (take count all.old) b)
+        (record { verdict = result; trace = frames_of trace.new; cells = take count all.new }) steps.old steps.new }
+{
+    trace.count = 0;
+    let (mine, _) = all.split_at_mut(count);
+    run_message(
+        env,
+        n,
+        args,
+        size,
+        spare_places,
+        spare,
+        mine,
+        trace,
+        words,
+        steps,
+    )
+}

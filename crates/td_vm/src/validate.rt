@@ -1,0 +1,206 @@
+//! Validates messages by verified code, in room that was taken before.
+
+ghost use Rattle.std.specs.Prelude.{◌≡◌, ℕ, ◌+◌, ◌*◌, ◌≤◌, List, [], length as size_of, take, IfOk};
+ghost use Rattle.td_ir.specs.declared.tables.Parts as tables;
+ghost use Rattle.td_ir.specs.Entries.{Fits};
+ghost use Rattle.td_ir.specs.Run.{run};
+ghost use Rattle.td_stream.specs.Loads.{Carries, Inside, IsRising};
+ghost use Rattle.td_vm.specs.Frames.{IsArmed};
+ghost use Rattle.td_vm.specs.Machine.{IsRunnable};
+ghost use Rattle.td_vm.specs.Outcomes.{IsRun, entry_weight};
+
+use crate::activation::{Env, TraceRoom};
+use crate::arm::{Kind, begins_of, most_cells, need_of};
+use crate::message::run_front;
+use crate::steps::Steps;
+use crate::tables::entry_at;
+use std::alloc::{AllocError, Global};
+use std::marker::Model;
+use std::sync::ledger::Ledger;
+use td_core::module::{Entry, NameId};
+use td_core::outcome::{Outcome, Reason, Spot, TraceFrame, Verdict};
+use td_ir::tables::Parts;
+use td_num::items::Items;
+use td_stream::words::Words;
+use td_verify::laws::sound_code_is_safe;
+use td_verify::verify::Verified;
+
+/// Room for validations by one code, with the cells that the next one begins with and those and the trace that the last
+/// one left. A contract sees how much room there is, the cells and the trace.
+#[derive(Drop)]
+pub struct Frame {
+    begins: Vec<usize>,
+    registers: Vec<u64>,
+    places: Vec<usize>,
+    cells: Vec<u64>,
+    // How many of the cells are in use.
+    count: usize,
+    trace: TraceRoom,
+}
+
+impl Model for Frame {
+    ghost use Rattle.std.specs.Prelude.{◌≤◌, length, take};
+    ghost use Rattle.td_vm.specs.Frames.{FrameView};
+    ghost use Rattle.td_vm.specs.Exits.{frames_of};
+
+    ghost Value = { FrameView };
+
+    ghost view = { λ f. record {
+      begins = f.begins.items;
+      register_room = length f.registers.items;
+      place_room = length f.places.items;
+      trace_room = length f.trace.frames.items;
+      cell_room = length f.cells.items;
+      cells = take f.count f.cells.items;
+      trace = frames_of f.trace;
+    } };
+
+    ghost invariant = { λ f. (f.count ≤ length f.cells.items) × (f.trace.count ≤ length f.trace.frames.items) };
+}
+
+// The parts of verified code, which can be run.
+fn runnable(code: &Verified) -> &Parts
+    ensures same { result.now ≡ code.now }
+    ensures runnable { IsRunnable result.now }
+{
+    sound_code_is_safe();
+    code.code().parts()
+}
+
+// Puts values at the front of the cells.
+fn fill(cells: &mut [u64], values: &[u64])
+    requires { size_of values.now ≤ size_of cells.old }
+    ensures { take (size_of values.now) cells.new ≡ values.now }
+{
+    let (mine, _) = cells.split_at_mut(values.len());
+    mine.copy_from_slice(values);
+}
+
+// The elements at the front of a list.
+fn first_of<T: Copy>(mut elements: Vec<T>, count: usize) -> Items<T>
+    requires { count ≤ size_of elements.items }
+    ensures { result ≡ take count elements.items }
+{
+    elements.truncate(count);
+    Items::of(elements)
+}
+
+impl Frame {
+    /// Room for all validations by this code: the registers and the places of cells of the chain of calls that needs most of
+    /// each, a frame for each level of the deepest, and the cells of the entry point that has most. It has no cells and an
+    /// empty trace. `AllocError`: there was no memory for it.
+    pub fn arm(alloc: Global, code: &Verified) -> Result<Frame, AllocError>
+        ensures armed { IfOk result (λ frame. IsArmed code.now frame) }
+        ensures cells { IfOk result (λ frame. frame.cells ≡ []) }
+        ensures trace { IfOk result (λ frame. frame.trace ≡ []) }
+    {
+        let parts = runnable(code);
+        let begins = begins_of(alloc, parts)?;
+        let registers = need_of(alloc, parts, &begins, Kind::Registers)?;
+        let places = need_of(alloc, parts, &begins, Kind::Cells)?;
+        let levels = need_of(alloc, parts, &begins, Kind::Levels)?;
+        let empty = TraceFrame {
+            ty: NameId { number: 0 },
+            field: Spot::Where,
+            reason: Reason::NotEnough,
+            start: 0,
+        };
+        Ok(Frame {
+            begins,
+            registers: vec![in alloc; 0; registers as usize]?,
+            places: vec![in alloc; 0; places as usize]?,
+            cells: vec![in alloc; 0; most_cells(parts) as usize]?,
+            count: 0,
+            trace: TraceRoom {
+                frames: vec![in alloc; empty; levels as usize]?,
+                count: 0,
+            },
+        })
+    }
+
+    /// The cells with which the next validation begins, no more than some entry point of the code has. Takes no memory.
+    pub fn set_cells(&mut self, values: &[u64])
+        requires { size_of values.now ≤ self.old.cell_room }
+        ensures cells { self.new.cells ≡ values.now }
+        ensures trace { self.new.trace ≡ self.old.trace }
+        ensures armed { (c : tables.Parts) → IsArmed c self.old → IsArmed c self.new }
+    {
+        fill(self.cells.as_mut_slice(), values);
+        self.count = values.len();
+    }
+
+    /// The cells as they were set, or as the last validation left them.
+    pub fn cells(&self) -> &[u64]
+        ensures { result.now ≡ self.now.cells }
+    {
+        &self.cells[..self.count]
+    }
+
+    /// The frames of the last validation's failure, the innermost first; none where it accepted.
+    pub fn trace(&self) -> &[TraceFrame]
+        ensures { result.now ≡ self.now.trace }
+    {
+        &self.trace.frames[..self.trace.count]
+    }
+
+    /// The outcome of the last validation, which had this verdict: with the frame's trace and cells. Takes no memory.
+    pub fn into_outcome(self, verdict: Verdict) -> Outcome
+        ensures { result ≡ record { verdict = verdict; trace = self.trace; cells = self.cells } }
+    {
+        let most = self.trace.count;
+        let count = self.count;
+        Outcome {
+            verdict,
+            trace: first_of(self.trace.frames, most),
+            cells: first_of(self.cells, count),
+        }
+    }
+}
+
+/// Validates a message of `length` bytes, in words of which none was loaded, from an entry point of verified code on. The
+/// frame was armed for this code, and the arguments and the frame's cells fit the entry point (`td_ir::entries::fits`). It
+/// takes no memory and waits for nobody. Words are loaded only where a byte of them is looked at, in rising order, each at
+/// most once; the verdict, and the frame's trace and cells, are those of `run` on each message that carries these loads, and
+/// so is the count of steps.
+pub fn validate<W: Words, L: Ledger>(
+    code: &Verified,
+    entry: Entry,
+    args: &[u64],
+    length: u32,
+    frame: &mut Frame,
+    words: &mut W,
+    steps: &mut Steps<L>,
+) -> Verdict
+    requires armed { IsArmed code.now frame.old }
+    requires fits { Fits code.now entry args.now frame.old.cells }
+    requires room { length ≤ 8 * W.size words.old }
+    requires fresh { W.loads words.old ≡ [] }
+    ensures reaches { W.reaches words.old words.new }
+    ensures rising { IsRising (W.loads words.new) }
+    ensures within { Inside length (W.loads words.new) }
+    ensures run { (b : List ℕ) → Carries length b (W.loads words.new)
+        → IsRun (W.loads words.new) (run code.now entry args.now frame.old.cells b)
+        (record { verdict = result; trace = frame.new.trace; cells = frame.new.cells }) steps.old steps.new }
+    ensures cost { steps.new ≤ steps.old + entry_weight code.now entry * (length + 1) }
+    ensures armed { IsArmed code.now frame.new }
+{
+    let parts = runnable(code);
+    let point = entry_at(parts, entry.number as usize);
+    let env = Env {
+        parts,
+        begins: frame.begins.as_slice(),
+    };
+    run_front(
+        &env,
+        point.routine as usize,
+        args,
+        length,
+        frame.places.as_mut_slice(),
+        frame.registers.as_mut_slice(),
+        frame.cells.as_mut_slice(),
+        frame.count,
+        &mut frame.trace,
+        words,
+        steps,
+    )
+}
