@@ -1,0 +1,215 @@
+"""A second reading of docs/language/code.md: which code the verifier refuses, and where. Short and slow: each rule is looked
+at for each instruction by itself."""
+
+KINDS = (
+    "Const Member Op Bits Pos Jump JumpIf JumpUnless Call Return Fetch SkipK Skip Rest Zeros Zeroterm NarrowK Narrow Divides"
+    " While Again Widen Fail Get Set Mark"
+).split()
+# What each kind writes or reads by number: registers, a site, a target, as places among its operands.
+REGISTERS = {
+    "Const": [0], "Member": [0, 1], "Op": [0, 2, 3], "Bits": [0, 1], "Pos": [0], "JumpIf": [0], "JumpUnless": [0], "Fetch": [0],
+    "Skip": [0], "Zeroterm": [0], "Narrow": [0], "Divides": [0], "Get": [0], "Set": [0],
+}  # fmt: skip
+SITES = {
+    "Call": 3, "Fetch": 3, "SkipK": 1, "Skip": 1, "Zeros": 0, "Zeroterm": 2, "NarrowK": 1, "Narrow": 1, "Divides": 2,
+    "Widen": 0, "Fail": 1,
+}  # fmt: skip
+OPENS = ("NarrowK", "Narrow")
+MOST_DEPTH = 32
+MOST_WEIGHT = 2**40
+
+
+class Routine:
+    """A routine with its instructions, each the words of its listing, and where it begins."""
+
+    def __init__(self, code, number, start):
+        self.code, self.number, self.start = code, number, start
+        self.params, self.cells, self.registers, length = code.routines[number][1:]
+        self.end = start + length
+        self.depth = self.weight = 0
+        self.may_take_none = False
+
+    def at(self, place):
+        return self.code.instructions[place]
+
+    def opened(self, place):
+        """The places of what is open before an instruction, the innermost last. None behind a closing of something else."""
+        found = []
+        for p in range(self.start, place):
+            kind = self.at(p)[0]
+            if kind in OPENS or kind == "While":
+                found.append(p)
+            elif kind in ("Widen", "Again"):
+                if not found or (self.at(found[-1])[0] == "While") != (kind == "Again"):
+                    return None
+                found.pop()
+        return found
+
+    def is_open(self, place, kinds):
+        return any(self.at(p)[0] in kinds for p in self.opened(place) or [])
+
+    def in_window(self, place):
+        return self.is_open(place, OPENS)
+
+    def in_loop(self, place):
+        return self.is_open(place, ("While",))
+
+
+def leads_well(routine, place):
+    """Whether a jump, a While or an Again leads where it may."""
+    kind, *operands = routine.at(place)
+    if kind in ("Jump", "JumpIf", "JumpUnless"):
+        target = operands[-1]
+        return place < target < routine.end and routine.opened(target) == routine.opened(place)
+    if kind == "While":
+        last = operands[0] - 1
+        if not place < last < routine.end or routine.at(last)[0] != "Again":
+            return False
+        return (routine.opened(last) or [None])[-1] == place
+    if kind == "Again":
+        innermost = (routine.opened(place) or [None])[-1]
+        return innermost is not None and innermost == operands[0] and routine.at(innermost)[0] == "While"
+    return True
+
+
+def keeps_target(routine, place):
+    is_last = place == routine.end - 1
+    return leads_well(routine, place) and (not is_last or routine.at(place)[0] in ("Return", "Fail", "Jump"))
+
+
+def keeps_registers(routine, place):
+    kind, *operands = routine.at(place)
+    if kind == "Call":
+        known = routine.code.routines
+        params = known[operands[1]][1] if operands[1] < len(known) else 0
+        return all(operands[0] + k < routine.registers for k in range(params))
+    return all(operands[k] < routine.registers for k in REGISTERS.get(kind, []))
+
+
+def keeps_depth(routine, place, lower):
+    kind, *operands = routine.at(place)
+    return kind != "Call" or (operands[1] < routine.number and lower[operands[1]].depth + 1 <= MOST_DEPTH)
+
+
+def is_idle(routine, place, lower):
+    """Whether an instruction may take no byte."""
+    kind, *operands = routine.at(place)
+    if kind in ("Fetch", "Zeroterm"):
+        return operands[{"Fetch": 2, "Zeroterm": 1}[kind]] == 0
+    if kind == "SkipK":
+        return operands[0] == 0
+    if kind == "Call":
+        return operands[1] >= routine.number or lower[operands[1]].may_take_none
+    if kind == "Widen":
+        innermost = (routine.opened(place) or [None])[-1]
+        return innermost is None or routine.at(innermost)[0] != "NarrowK" or routine.at(innermost)[1] == 0
+    return True
+
+
+def next_places(routine, place):
+    kind, *operands = routine.at(place)
+    if kind == "Jump" or kind == "While":
+        return [operands[0]]
+    if kind in ("JumpIf", "JumpUnless"):
+        return [operands[1], place + 1]
+    return [] if kind in ("Return", "Fail", "Again") else [place + 1]
+
+
+def reached_idly(routine, start, lower):
+    """The places that some way from one on reaches without taking a byte."""
+    reached = {start}
+    for place in range(start, routine.end):
+        if place in reached and is_idle(routine, place, lower):
+            reached.update(target for target in next_places(routine, place) if target > place)
+    return reached
+
+
+def keeps_nesting(routine, place, lower):
+    kind, *operands = routine.at(place)
+    window, loop = routine.in_window(place), routine.in_loop(place)
+    if kind in OPENS and window:
+        return False
+    if kind in ("Widen", "While") and (not window or loop):
+        return False
+    if kind == "Return" and (window or loop):
+        return False
+    if place == routine.end - 1 and (routine.in_window(routine.end) or routine.in_loop(routine.end)):
+        return False
+    return kind != "While" or operands[0] - 1 not in reached_idly(routine, place + 1, lower)
+
+
+def keeps_tables(routine, place):
+    code = routine.code
+    kind, *operands = routine.at(place)
+    if kind in SITES and operands[SITES[kind]] >= len(code.sites):
+        return False
+    if kind == "Member":
+        return operands[2] < len(code.sets)
+    if kind in ("Get", "Set"):
+        return operands[1] < routine.cells
+    if kind == "Call":
+        if operands[2] >= len(code.maps):
+            return False
+        cells = code.maps[operands[2]]
+        callee_cells = code.routines[operands[1]][2] if operands[1] < len(code.routines) else 0
+        return len(cells) == callee_cells and all(cell < routine.cells for cell in cells)
+    return True
+
+
+def weight_of(routine, place, lower):
+    kind, *operands = routine.at(place)
+    if kind in ("While", "Again"):
+        return 3
+    own = 2 if kind in ("Zeros", "Zeroterm") else 1
+    if kind == "Call" and operands[1] < routine.number:
+        own += lower[operands[1]].weight
+    return 2 * own if routine.in_loop(place) else own
+
+
+def keeps_operands(routine, place):
+    kind, *operands = routine.at(place)
+    if kind == "Op":
+        return operands[1] <= 13
+    if kind == "Bits":
+        return operands[3] >= 1 and operands[2] + operands[3] <= 64
+    if kind == "Fetch":
+        return operands[1] <= 1 and operands[2] in (1, 2, 4, 8)
+    if kind == "Zeroterm":
+        return operands[1] in (1, 2, 4, 8)
+    if kind in ("SkipK", "NarrowK"):
+        return operands[0] < 2**32
+    if kind == "Divides":
+        return operands[1] >= 1
+    return kind != "Fail" or operands[0] <= 5
+
+
+def finish(routine, lower):
+    """What the routines above need to know of one that keeps all rules."""
+    called = [lower[operands[1]].depth for kind, *operands in map(routine.at, range(routine.start, routine.end)) if kind == "Call"]
+    routine.depth = 1 + max(called, default=0)
+    reached = reached_idly(routine, routine.start, lower)
+    routine.may_take_none = any(routine.at(place)[0] == "Return" for place in reached if place < routine.end)
+
+
+def refusal(code):
+    """The first instruction that breaks a rule, and the lowest rule that it breaks, as `V4 at 1`; None where none does."""
+    lower, start = [], 0
+    for number in range(len(code.routines)):
+        routine = Routine(code, number, start)
+        for place in range(routine.start, routine.end):
+            routine.weight += weight_of(routine, place, lower)
+            kept = [
+                keeps_target(routine, place),
+                keeps_registers(routine, place),
+                keeps_depth(routine, place, lower),
+                keeps_nesting(routine, place, lower),
+                keeps_tables(routine, place),
+                routine.weight <= MOST_WEIGHT,
+                keeps_operands(routine, place),
+            ]
+            if not all(kept):
+                return "V%d at %d" % (1 + kept.index(False), place)
+        finish(routine, lower)
+        lower.append(routine)
+        start = routine.end
+    return None

@@ -1,0 +1,148 @@
+-- Parts that have an image fit together.
+use Rattle.std.proofs.Common.{◌≡◌, ℕ, zero, suc, ◌+◌, ◌-◌, ◌≤◌, ◌<◌, ◌⊎◌, inl, inr, Bool, true, false, ◌&&◌, ◌||◌, not, List, [], ◌∷◌, length, map, Option, Some, None, refl, sym, ap, subst, ◌∙◌, arith, slice_index_or}
+use Rattle.std.specs.Prelude.{nat_le, nat_lt, ◌==◌}
+use Rattle.std.proofs.lemmas.Bool.{eqb-true, leb-true, ltb-true}
+use Rattle.td_core.specs.declared.module.NameId.{NameId}
+use Rattle.td_core.specs.declared.module.Param.{Param}
+use Rattle.td_core.specs.declared.module.Cell.{Cell}
+use Rattle.td_ir.specs.declared.tables.Parts.{Parts}
+use Rattle.td_ir.specs.declared.tables.Site.{Site}
+use Rattle.td_ir.specs.declared.tables.Routine.{Routine}
+use Rattle.td_ir.specs.declared.tables.EntryPoint.{EntryPoint}
+use Rattle.td_ir.specs.Tables.{routine_of, site_of, entry_of, set_of, param_of, cell_of, begin}
+use Rattle.td_ir.specs.WellFormed.{IsName, IsField, IsSite, IsRoutine, IsCellNamed, IsEntry, Rises, IsCode}
+use Rattle.td_image.specs.declared.routines.Room.{Room}
+use Rattle.td_image.specs.declared.limits.TheConstants.{NO_FIELD, MOST_INSTRUCTIONS, MOST_NUMBERS}
+use Rattle.td_image.specs.Format.{Format, all_fit}
+use Rattle.td_image.specs.Image as format
+
+-- each of a list fits, in the state that those before it made
+module _ {S A : Type 0} (f : S → Format A) (next : S → A → S) where
+  pub fit_at : (s : S) (xs : List A) (other : A) (k : ℕ) → all_fit f next s xs → k < length xs → (t : S) × (f t).Fits (slice_index_or xs k other)
+  unfolding all_fit
+  fit_at s [] other k fits lt = absurd (omega (arith, lt))
+  fit_at s (x ∷ xs) other zero fits lt = (s, fits.0)
+  fit_at s (x ∷ xs) other (suc k) fits lt = fit_at (next s x) xs other k fits.1 (omega (arith, lt))
+
+both : (a b : Bool) → (a && b) ≡ true → (a ≡ true) × (b ≡ true)
+both true b e = (refl, e)
+both false b e = absurd cc
+
+either : (a b : Bool) → (a || b) ≡ true → (a ≡ true) ⊎ (b ≡ true)
+either true b e = inl refl
+either false b e = inr e
+
+not_or : (a b : Bool) → a ≡ true → (not a || b) ≡ true → b ≡ true
+not_or true b e f = f
+not_or false b e f = absurd cc
+
+-- ---- sites, parameters, cells
+
+site_fits : (names : ℕ) (s : Site) → (format.site names).Fits s → IsSite names s
+unfolding format.site
+site_fits names s (ty, field) = record { ty_named = ltb-true _ _ ty.1; field_named = ltb-true _ _ field.1 }
+
+param_fits : (names : ℕ) (p : Param) → (format.param names).Fits p → IsName names p.name
+unfolding format.param
+param_fits names p (name, width) = ltb-true _ _ name.1
+
+no_name : (name : NameId) → format.field_of NO_FIELD ≡ Some name → ⊥
+no_name name e = absurd cc
+
+field_fits : (names : ℕ) (field : Option NameId) → (format.cell_field names).Fits field → IsField names field
+field_fits names None fits = tt
+field_fits names (Some name) fits = elim (either _ _ fits.0.1) [
+  | inl lt ↦ ltb-true _ _ lt
+  | inr none ↦ absurd (no_name name (subst (λ (n : ℕ). format.field_of n ≡ Some name) (eqb-true _ _ none) fits.1))
+]
+
+cell_fits : (names : ℕ) (c : Cell) → (format.cell names).Fits c → IsCellNamed names c
+unfolding format.cell
+cell_fits names c (name, (field, kind)) = record { named = ltb-true _ _ name.1; field_named = field_fits names c.field field }
+
+-- ---- routines
+
+has_length : (room : Room) (n : ℕ) → format.is_length room n ≡ true → (1 ≤ n) × (n ≤ room.left) × (room.more ≡ 1 → n ≡ room.left)
+has_length room n e =
+    let p = both (nat_le 1 n && nat_le n room.left) (not (room.more == 1) || (n == room.left)) e in
+    let q = both (nat_le 1 n) (nat_le n room.left) p.0 in
+    (leb-true _ _ q.0, leb-true _ _ q.1, λ one. eqb-true _ _ (not_or (room.more == 1) (n == room.left) (subst (λ (m : ℕ). (m == 1) ≡ true) (sym one) refl) p.1))
+
+length_fits : (names : ℕ) (room : Room) (r : Routine) → (format.routine names room).Fits r → format.is_length room r.length ≡ true
+unfolding format.routine
+length_fits names room r (name, (params, (cells, (registers, l)))) = l.1
+
+routine_fits : (names : ℕ) (room : Room) (r : Routine) → (format.routine names room).Fits r → IsRoutine names r
+unfolding format.routine
+routine_fits names room r (name, (params, (cells, (registers, l)))) = record {
+  named = ltb-true _ _ name.1;
+  some = (has_length room r.length l.1).0;
+  room = leb-true _ _ (both _ _ registers.1).0;
+}
+
+-- the sum of the routines' lengths
+abbrev pub sum_of : List Routine → ℕ
+sum_of [] = 0
+sum_of (r ∷ rs) = r.length + sum_of rs
+
+sums : (names : ℕ) (room : Room) (r : Routine) (rs : List Routine) → room.more ≡ suc (length rs) → all_fit (format.routine names) format.after_routine room (r ∷ rs) → sum_of (r ∷ rs) ≡ room.left
+unfolding all_fit
+sums names room r [] more fits =
+    let l = has_length room r.length (length_fits names room r fits.0) in
+    let e = l.2 more in
+    omega (arith, e)
+sums names room r (x ∷ rs) more fits =
+    let l = has_length room r.length (length_fits names room r fits.0) in
+    let e = sums names (format.after_routine room r) x rs (omega (arith, more)) fits.1 in
+    omega (arith, e, l.1)
+
+divided : (names : ℕ) (rs : List Routine) (n : ℕ) → all_fit (format.routine names) format.after_routine (record { left = n; more = length rs }) rs → (nat_lt 0 (length rs) || (n == 0)) ≡ true → sum_of rs ≡ n
+divided names [] n fits e = sym (eqb-true _ _ e)
+divided names (r ∷ rs) n fits e = sums names (record { left = n; more = length (r ∷ rs) }) r rs refl fits
+
+begin_cons : (l : ℕ) (ls : List ℕ) (n : ℕ) → begin (l ∷ ls) (suc n) ≡ l + begin ls n
+begin_cons l ls zero = omega arith
+begin_cons l ls (suc n) = let h = begin_cons l ls n in omega (arith, h)
+
+pub begin_whole : (rs : List Routine) → begin (map (λ r. r.length) rs) (length rs) ≡ sum_of rs
+begin_whole [] = refl
+begin_whole (r ∷ rs) = begin_cons r.length (map (λ x. x.length) rs) (length rs) ∙ ap (λ n. r.length + n) (begin_whole rs)
+
+-- ---- entry points
+
+entry_fits : (c : Parts) (e : EntryPoint) → (format.entry (length c.names) c.routines).Fits e → IsEntry c e
+unfolding format.entry
+entry_fits c e (routine, (params, cells)) = record {
+  there = ltb-true _ _ routine.1;
+  param_count = params.0;
+  cell_count = cells.0;
+  params_named = λ k lt. let f = fit_at (λ (s : Unit {0}). format.param (length c.names)) (λ s x. s) tt e.params _ k params.1 lt in param_fits (length c.names) (param_of e.params k) f.1;
+  cells_named = λ k lt. let f = fit_at (λ (s : Unit {0}). format.cell (length c.names)) (λ s x. s) tt e.cells _ k cells.1 lt in cell_fits (length c.names) (cell_of e.cells k) f.1;
+}
+
+-- ---- sets
+
+rising : (last : Option ℕ) (xs : List ℕ) → all_fit format.element (λ s x. Some x) last xs → Rises xs
+unfolding all_fit
+rising last [] fits j lt = absurd (omega (arith, lt))
+rising last (x ∷ []) fits j lt = absurd (omega (arith, lt))
+rising last (x ∷ y ∷ xs) fits zero lt = ltb-true _ _ fits.1.0.1
+rising last (x ∷ y ∷ xs) fits (suc j) lt = rising (Some x) (y ∷ xs) fits.1 j (omega (arith, lt))
+
+set_fits : (left : ℕ) (xs : List ℕ) → (format.set left).Fits xs → Rises xs
+unfolding format.set
+set_fits left xs (count, fits) = rising None xs fits.1
+
+-- ---- all tables
+
+pub tables_fit : (p : Parts) → format.image.Fits p → IsCode p
+unfolding format.image format.header
+tables_fit p ((m, (v, (z, (n, (s, (a, (t, (r, (e, i))))))))), (names, (sites, (maps, (sets, (routines, (entries, instructions))))))) =
+    let ns = length p.names in
+    record {
+      sites = λ k lt. let f = fit_at (λ (s : Unit {0}). format.site ns) (λ s x. s) tt p.sites _ k sites.1 lt in site_fits ns (site_of p k) f.1;
+      routines = λ k lt. let f = fit_at (format.routine ns) format.after_routine _ p.routines _ k routines.1 lt in routine_fits ns f.0 (routine_of p k) f.1;
+      whole = begin_whole p.routines ∙ divided ns p.routines (length p.instructions) routines.1 (both (nat_le (length p.instructions) MOST_INSTRUCTIONS) (nat_lt 0 (length p.routines) || (length p.instructions == 0)) i.1).1;
+      entries = λ k lt. let f = fit_at (λ (s : Unit {0}). format.entry ns p.routines) (λ s x. s) tt p.entries _ k entries.1 lt in entry_fits p (entry_of p k) f.1;
+      sets = λ k lt. let f = fit_at format.set (λ left x. left - length x) MOST_NUMBERS p.sets _ k sets.1 lt in set_fits f.0 (set_of p k) f.1;
+    }

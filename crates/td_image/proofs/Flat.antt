@@ -1,0 +1,107 @@
+-- The bytes of a list are those of its rows.
+use Rattle.std.proofs.Common.{◌≡◌, ℕ, ◌-◌, List, [], ◌∷◌, ◌++◌, length, Some, None, refl, ap}
+use Rattle.std.specs.List.{flat_map}
+use Rattle.std.specs.Int.{w8, w16, w32, w64, to_le_bytes}
+use Rattle.std.proofs.lemmas.List.Concat.{flat_map-cons}
+use Rattle.td_ir.specs.declared.tables.Parts.{Parts}
+use Rattle.td_image.specs.declared.limits.TheConstants.{MAGIC, VERSION, MOST_NUMBERS}
+use Rattle.td_names.specs.Names.{with_name}
+use Rattle.td_image.specs.declared.counts.Counts.{Counts}
+use Rattle.td_image.specs.declared.operands.Fields.{Fields}
+use Rattle.td_ir.specs.declared.tables.Site.{Site}
+use Rattle.td_ir.specs.declared.tables.Routine.{Routine}
+use Rattle.td_core.specs.declared.module.Param.{Param}
+use Rattle.td_core.specs.declared.module.Cell.{Cell}
+use Rattle.td_ir.specs.declared.tables.EntryPoint.{EntryPoint}
+use Rattle.td_image.specs.declared.routines.Room.{Room}
+use Rattle.td_image.specs.Format.{Format, all_bytes, number, times}
+use Rattle.td_image.specs.Image as format
+use Rattle.td_image.specs.Rows as rows
+
+joined : {a b c d : List ℕ} → a ≡ b → c ≡ d → a ++ c ≡ b ++ d
+joined e f = rw (e, f) refl
+
+pub flat : {S A : Type 0} (f : S → Format A) (next : S → A → S) (g : A → List ℕ) → ((s : S) (x : A) → (f s).bytes x ≡ g x) → (s : S) (xs : List A) → all_bytes f next s xs ≡ flat_map g xs
+unfolding all_bytes
+flat f next g same s [] = refl
+flat f next g same s (x ∷ xs) = rw (flat_map-cons, same s x, flat f next g same (next s x) xs) refl
+
+pub flat_times : {A : Type 0} (n : ℕ) (f : Format A) (xs : List A) → (times n f).bytes xs ≡ flat_map f.bytes xs
+flat_times n f xs = flat (λ (s : Unit {0}). f) (λ s x. s) f.bytes (λ s x. refl) tt xs
+
+pub site_same : (n : ℕ) (x : Site) → (format.site n).bytes x ≡ rows.site x
+unfolding format.site
+site_same n x = refl
+
+pub name_same : (s : List (List ℕ)) (x : List ℕ) → (format.name s).bytes x ≡ rows.name x
+unfolding format.name
+name_same s x = refl
+
+pub set_same : (s : ℕ) (x : List ℕ) → (format.set s).bytes x ≡ rows.set x
+unfolding format.set
+set_same s x = refl
+
+pub routine_same : (n : ℕ) (s : Room) (x : Routine) → (format.routine n s).bytes x ≡ rows.routine x
+unfolding format.routine
+routine_same n s x = refl
+
+pub param_same : (n : ℕ) (x : Param) → (format.param n).bytes x ≡ rows.param x
+unfolding format.param
+param_same n x = refl
+
+pub cell_same : (n : ℕ) (x : Cell) → (format.cell n).bytes x ≡ rows.cell x
+unfolding format.cell
+cell_same n x = refl
+
+params_same : (n k : ℕ) (xs : List Param) → (times k (format.param n)).bytes xs ≡ flat_map rows.param xs
+params_same n k xs = flat (λ (s : Unit {0}). format.param n) (λ s x. s) rows.param (λ s x. param_same n x) tt xs
+
+cells_same : (n k : ℕ) (xs : List Cell) → (times k (format.cell n)).bytes xs ≡ flat_map rows.cell xs
+cells_same n k xs = flat (λ (s : Unit {0}). format.cell n) (λ s x. s) rows.cell (λ s x. cell_same n x) tt xs
+
+pub entry_same : (n : ℕ) (rs : List Routine) (x : EntryPoint) → (format.entry n rs).bytes x ≡ rows.entry x
+unfolding format.entry
+entry_same n rs x =
+    let r = x.routine in
+    rw (
+      params_same n ((format.routine_of rs r).params) x.params,
+      cells_same n ((format.routine_of rs r).cells) x.cells,
+      params_same 0 ((format.routine_of [] r).params) x.params,
+      cells_same 0 ((format.routine_of [] r).cells) x.cells,
+    ) refl
+
+pub map_flat : (xs : List ℕ) → rows.map xs ≡ to_le_bytes w32 (length xs) ++ flat_map rows.number xs
+unfolding format.map_format
+map_flat xs = ap (λ (l : List ℕ). to_le_bytes w32 (length xs) ++ l) (flat_times (length xs) (number w32) xs)
+
+pub set_flat : (xs : List ℕ) → rows.set xs ≡ to_le_bytes w32 (length xs) ++ flat_map rows.element xs
+unfolding format.set
+set_flat xs = ap (λ (l : List ℕ). to_le_bytes w32 (length xs) ++ l) (flat format.element (λ last x. Some x) rows.element (λ s x. refl) None xs)
+
+pub entry_flat : (x : EntryPoint) → rows.entry x ≡ to_le_bytes w32 x.routine ++ (flat_map rows.param x.params ++ flat_map rows.cell x.cells)
+unfolding format.entry
+entry_flat x =
+    let r = x.routine in
+    rw (params_same 0 ((format.routine_of [] r).params) x.params, cells_same 0 ((format.routine_of [] r).cells) x.cells) refl
+
+pub fields_flat : (f : Fields) → rows.fields f ≡ to_le_bytes w8 f.number ++ (to_le_bytes w8 f.x ++ (to_le_bytes w16 f.a ++ (to_le_bytes w16 f.b ++ (to_le_bytes w16 f.c
+    ++ (to_le_bytes w32 f.t ++ (to_le_bytes w32 f.site ++ to_le_bytes w64 f.k))))))
+unfolding format.fields
+fields_flat f = refl
+
+pub header_flat : (c : Counts) → format.header.bytes c ≡ to_le_bytes w32 MAGIC ++ (to_le_bytes w16 VERSION ++ (to_le_bytes w16 0 ++ (to_le_bytes w32 c.names ++ (to_le_bytes w32 c.sites ++ (to_le_bytes w32 c.maps ++ (to_le_bytes w32 c.sets
+    ++ (to_le_bytes w32 c.routines ++ (to_le_bytes w32 c.entries ++ to_le_bytes w32 c.instructions))))))))
+unfolding format.header
+header_flat c = refl
+
+pub image_flat : (p : Parts) → format.image.bytes p ≡ format.header.bytes (format.counts_of p) ++ rows.tables p
+unfolding format.image
+image_flat p =
+    let n = flat format.name with_name rows.name name_same [] p.names in
+    let s = flat (λ (s : Unit {0}). format.site (length p.names)) (λ s x. s) rows.site (λ s x. site_same (length p.names) x) tt p.sites in
+    let m = flat_times (length p.maps) format.map_format p.maps in
+    let t = flat format.set (λ left x. left - length x) rows.set set_same MOST_NUMBERS p.sets in
+    let r = flat (format.routine (length p.names)) format.after_routine rows.routine (routine_same (length p.names)) (record { left = length p.instructions; more = length p.routines }) p.routines in
+    let e = flat (λ (s : Unit {0}). format.entry (length p.names) p.routines) (λ s x. s) rows.entry (λ s x. entry_same (length p.names) p.routines x) tt p.entries in
+    let i = flat_times (length p.instructions) format.instruction p.instructions in
+    ap (λ (l : List ℕ). format.header.bytes (format.counts_of p) ++ l) (joined n (joined s (joined m (joined t (joined r (joined e i))))))

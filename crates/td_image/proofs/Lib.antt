@@ -1,0 +1,9 @@
+pub mod Exact
+pub mod Twentysix
+pub mod Whole
+pub mod Loop
+pub mod Flat
+pub mod Chain
+pub mod Answering
+pub mod Fitting
+pub mod Within

@@ -1,0 +1,71 @@
+-- An instruction's fields give it back, and those that fit are given back.
+use Rattle.std.proofs.Common.{◌≡◌, ℕ, zero, suc, ◌≤◌, Bool, cond, refl, arith}
+use Rattle.td_ir.specs.declared.instructions.Instr.{Instr}
+use Rattle.td_ir.specs.declared.instructions.Instr.TheVariants as i
+use Rattle.td_image.specs.declared.operands.Fields.{Fields}
+use Rattle.td_image.specs.Instructions.{has_x, has_a, has_b, has_c, has_t, has_site, has_k, instruction_by, instruction_of, fields_of}
+
+pub given_back : (i : Instr) → instruction_of (fields_of i) ≡ i
+given_back (i.Const into value) = refl
+given_back (i.Member into source set) = refl
+given_back (i.Op into operator left right) = refl
+given_back (i.Bits into source low count) = refl
+given_back (i.Pos into) = refl
+given_back (i.Jump target) = refl
+given_back (i.JumpIf test target) = refl
+given_back (i.JumpUnless test target) = refl
+given_back (i.Call first routine map site) = refl
+given_back i.Return = refl
+given_back (i.Fetch into order width site) = refl
+given_back (i.SkipK bytes site) = refl
+given_back (i.Skip size site) = refl
+given_back i.Rest = refl
+given_back (i.Zeros site) = refl
+given_back (i.Zeroterm bound width site) = refl
+given_back (i.NarrowK bytes site) = refl
+given_back (i.Narrow size site) = refl
+given_back (i.Divides size step site) = refl
+given_back (i.While target) = refl
+given_back (i.Again target) = refl
+given_back (i.Widen site) = refl
+given_back (i.Fail reason site) = refl
+given_back (i.Get into cell) = refl
+given_back (i.Set source cell) = refl
+given_back i.Mark = refl
+
+abbrev pub keep : Bool → ℕ → ℕ
+keep used n = cond used n 0
+
+-- without what the kind hasn't
+abbrev pub kept : ℕ → Fields → Fields
+kept n f =
+    record { number = n; x = keep (has_x n) f.x; a = keep (has_a n) f.a; b = keep (has_b n) f.b; c = keep (has_c n) f.c; t = keep (has_t n) f.t; site = keep (has_site n) f.site; k = keep (has_k n) f.k }
+
+pub kept_by : (number : ℕ) (f : Fields) → number ≤ 25 → fields_of (instruction_by number f) ≡ kept number f
+kept_by zero f le = refl
+kept_by (suc zero) f le = refl
+kept_by (suc (suc zero)) f le = refl
+kept_by (suc (suc (suc zero))) f le = refl
+kept_by (suc (suc (suc (suc zero)))) f le = refl
+kept_by (suc (suc (suc (suc (suc zero))))) f le = refl
+kept_by (suc (suc (suc (suc (suc (suc zero)))))) f le = refl
+kept_by (suc (suc (suc (suc (suc (suc (suc zero))))))) f le = refl
+kept_by (suc (suc (suc (suc (suc (suc (suc (suc zero)))))))) f le = refl
+kept_by (suc (suc (suc (suc (suc (suc (suc (suc (suc zero))))))))) f le = refl
+kept_by (suc (suc (suc (suc (suc (suc (suc (suc (suc (suc zero)))))))))) f le = refl
+kept_by (suc (suc (suc (suc (suc (suc (suc (suc (suc (suc (suc zero))))))))))) f le = refl
+kept_by (suc (suc (suc (suc (suc (suc (suc (suc (suc (suc (suc (suc zero)))))))))))) f le = refl
+kept_by (suc (suc (suc (suc (suc (suc (suc (suc (suc (suc (suc (suc (suc zero))))))))))))) f le = refl
+kept_by (suc (suc (suc (suc (suc (suc (suc (suc (suc (suc (suc (suc (suc (suc zero)))))))))))))) f le = refl
+kept_by (suc (suc (suc (suc (suc (suc (suc (suc (suc (suc (suc (suc (suc (suc (suc zero))))))))))))))) f le = refl
+kept_by (suc (suc (suc (suc (suc (suc (suc (suc (suc (suc (suc (suc (suc (suc (suc (suc zero)))))))))))))))) f le = refl
+kept_by (suc (suc (suc (suc (suc (suc (suc (suc (suc (suc (suc (suc (suc (suc (suc (suc (suc zero))))))))))))))))) f le = refl
+kept_by (suc (suc (suc (suc (suc (suc (suc (suc (suc (suc (suc (suc (suc (suc (suc (suc (suc (suc zero)))))))))))))))))) f le = refl
+kept_by (suc (suc (suc (suc (suc (suc (suc (suc (suc (suc (suc (suc (suc (suc (suc (suc (suc (suc (suc zero))))))))))))))))))) f le = refl
+kept_by (suc (suc (suc (suc (suc (suc (suc (suc (suc (suc (suc (suc (suc (suc (suc (suc (suc (suc (suc (suc zero)))))))))))))))))))) f le = refl
+kept_by (suc (suc (suc (suc (suc (suc (suc (suc (suc (suc (suc (suc (suc (suc (suc (suc (suc (suc (suc (suc (suc zero))))))))))))))))))))) f le = refl
+kept_by (suc (suc (suc (suc (suc (suc (suc (suc (suc (suc (suc (suc (suc (suc (suc (suc (suc (suc (suc (suc (suc (suc zero)))))))))))))))))))))) f le = refl
+kept_by (suc (suc (suc (suc (suc (suc (suc (suc (suc (suc (suc (suc (suc (suc (suc (suc (suc (suc (suc (suc (suc (suc (suc zero))))))))))))))))))))))) f le = refl
+kept_by (suc (suc (suc (suc (suc (suc (suc (suc (suc (suc (suc (suc (suc (suc (suc (suc (suc (suc (suc (suc (suc (suc (suc (suc zero)))))))))))))))))))))))) f le = refl
+kept_by (suc (suc (suc (suc (suc (suc (suc (suc (suc (suc (suc (suc (suc (suc (suc (suc (suc (suc (suc (suc (suc (suc (suc (suc (suc zero))))))))))))))))))))))))) f le = refl
+kept_by (suc (suc (suc (suc (suc (suc (suc (suc (suc (suc (suc (suc (suc (suc (suc (suc (suc (suc (suc (suc (suc (suc (suc (suc (suc (suc n)))))))))))))))))))))))))) f le = absurd (omega (arith, le))

@@ -1,0 +1,9 @@
+pub mod Format
+pub mod Instructions
+pub mod Names
+pub mod Image
+pub mod Reading
+pub mod Rows
+pub mod Answer
+pub mod Within
+pub mod Laws

@@ -1,0 +1,13 @@
+-- What a function that reads returned: what the format reads, unless memory ran out.
+use Rattle.std.specs.Prelude.{◌≡◌, Result, Ok, Err}
+use Rattle.td_image.specs.declared.fault.Fault.{Fault}
+use Rattle.td_image.specs.declared.fault.ReadError.{ReadError}
+use Rattle.td_image.specs.declared.fault.ReadError.TheVariants as errors
+
+abbrev pub Ends : {Y : Type 0} → ReadError → Result Y Fault → Type 0
+Ends errors.NoMemory read = Unit {0}
+Ends (errors.Fault fault) read = read ≡ Err fault
+
+abbrev pub Reads : {X Y : Type 0} → (X → Y) → Result X ReadError → Result Y Fault → Type 0
+Reads view (Ok x) read = read ≡ Ok (view x)
+Reads view (Err e) read = Ends e read

@@ -1,0 +1,59 @@
+-- Which code has an image, in one record: tables that fit together have one exactly where they are within this (own rule).
+use Rattle.std.specs.Prelude.{◌≡◌, ℕ, ◌+◌, ◌^◌, ◌<◌, ◌≤◌, true, List, [], ◌∷◌, length, Some, slice_get}
+use Rattle.td_core.specs.WellFormed.{Each}
+use Rattle.td_ir.specs.declared.tables.Routine.{Routine}
+use Rattle.td_ir.specs.declared.tables.Parts.{Parts}
+use Rattle.td_image.specs.declared.limits.TheConstants.{MOST_ROWS, MOST_INSTRUCTIONS, MOST_CELLS, MOST_NUMBERS, MOST_PARAMETERS, MOST_REGISTERS}
+use Rattle.td_image.specs.declared.operands.Fields.{Fields}
+use Rattle.td_image.specs.Format.{AreBytes}
+use Rattle.td_image.specs.Instructions.{fields_of}
+use Rattle.td_image.specs.Names.{is_name}
+
+-- a letter or `_`, and then letters, digits and `_`
+pub record IsSpelled (name : List ℕ) : Type 0 where
+  pub word : is_name name ≡ true
+  pub bytes : AreBytes name
+  pub few : length name < 2 ^ 32
+
+-- no two names have the same bytes
+abbrev pub AreApart : List (List ℕ) → Type 0
+AreApart names = (i j : ℕ) (name : List ℕ) → slice_get names i ≡ Some name → slice_get names j ≡ Some name → i ≡ j
+
+pub record IsSmallMap (cells : List ℕ) : Type 0 where
+  pub few : length cells ≤ MOST_CELLS
+  pub numbers : Each (λ n. n < 2 ^ 32) cells
+
+abbrev pub total : List (List ℕ) → ℕ
+total [] = 0
+total (xs ∷ xss) = length xs + total xss
+
+pub record IsSmallRoutine (r : Routine) : Type 0 where
+  pub params : r.params ≤ MOST_PARAMETERS
+  pub cells : r.cells ≤ MOST_CELLS
+  pub registers : r.registers ≤ MOST_REGISTERS
+
+-- operands are numbers of their fields' bytes
+pub record HasSmallOperands (f : Fields) : Type 0 where
+  pub x : f.x < 2 ^ 8
+  pub a : f.a < 2 ^ 16
+  pub b : f.b < 2 ^ 16
+  pub c : f.c < 2 ^ 16
+  pub t : f.t < 2 ^ 32
+  pub site : f.site < 2 ^ 32
+  pub k : f.k < 2 ^ 64
+
+pub record IsWithinFormat (p : Parts) : Type 0 where
+  pub names : length p.names ≤ MOST_ROWS
+  pub sites : length p.sites ≤ MOST_ROWS
+  pub maps : length p.maps ≤ MOST_ROWS
+  pub sets : length p.sets ≤ MOST_ROWS
+  pub routines : length p.routines ≤ MOST_ROWS
+  pub entries : length p.entries ≤ MOST_ROWS
+  pub instructions : length p.instructions ≤ MOST_INSTRUCTIONS
+  pub spelled : Each IsSpelled p.names
+  pub apart : AreApart p.names
+  pub small_maps : Each IsSmallMap p.maps
+  pub numbers : Each (Each (λ n. n < 2 ^ 64)) p.sets
+  pub few_numbers : total p.sets ≤ MOST_NUMBERS
+  pub small_routines : Each IsSmallRoutine p.routines
+  pub small_operands : Each (λ i. HasSmallOperands (fields_of i)) p.instructions

@@ -1,0 +1,121 @@
+//! The table of instructions.
+
+ghost use Rattle.std.specs.Prelude.{◌≡◌};
+ghost use Rattle.std.specs.Int.{w8, w16, w32, w64};
+ghost use Rattle.td_image.specs.Format.{times};
+ghost use Rattle.td_image.specs.Image as format;
+ghost use Rattle.td_image.specs.Reading.{Reads};
+
+use crate::fault::{Cause, ReadError};
+use crate::fields::{u8_at, u16_at, u32_at, u64_at, wrong};
+use crate::limits::LAST_KIND;
+use crate::operands::{Fields, has_a, has_b, has_c, has_k, has_site, has_t, has_x, instruction_of};
+use std::alloc::Global;
+use td_ir::instructions::Instr;
+use td_num::items::Items;
+
+fn kind_at(bytes: &[u8]) -> Result<(u8, &[u8]), ReadError>
+    ensures { Reads (λ x. (x.0, x.1.now)) result (format.kind.read bytes.now) }
+{
+    let (n, rest) = u8_at(bytes)?;
+    if n <= LAST_KIND {
+        Ok((n, rest))
+    } else {
+        Err(wrong(Cause::Field, bytes))
+    }
+}
+
+// An operand that is zero where the kind hasn't it.
+fn u8_operand(used: bool, bytes: &[u8]) -> Result<(u8, &[u8]), ReadError>
+    ensures { Reads (λ x. (x.0, x.1.now)) result ((format.operand w8 used).read bytes.now) }
+{
+    let (n, rest) = u8_at(bytes)?;
+    if used || n == 0 {
+        Ok((n, rest))
+    } else {
+        Err(wrong(Cause::Field, bytes))
+    }
+}
+
+fn u16_operand(used: bool, bytes: &[u8]) -> Result<(u16, &[u8]), ReadError>
+    ensures { Reads (λ x. (x.0, x.1.now)) result ((format.operand w16 used).read bytes.now) }
+{
+    let (n, rest) = u16_at(bytes)?;
+    if used || n == 0 {
+        Ok((n, rest))
+    } else {
+        Err(wrong(Cause::Field, bytes))
+    }
+}
+
+fn u32_operand(used: bool, bytes: &[u8]) -> Result<(u32, &[u8]), ReadError>
+    ensures { Reads (λ x. (x.0, x.1.now)) result ((format.operand w32 used).read bytes.now) }
+{
+    let (n, rest) = u32_at(bytes)?;
+    if used || n == 0 {
+        Ok((n, rest))
+    } else {
+        Err(wrong(Cause::Field, bytes))
+    }
+}
+
+fn u64_operand(used: bool, bytes: &[u8]) -> Result<(u64, &[u8]), ReadError>
+    ensures { Reads (λ x. (x.0, x.1.now)) result ((format.operand w64 used).read bytes.now) }
+{
+    let (n, rest) = u64_at(bytes)?;
+    if used || n == 0 {
+        Ok((n, rest))
+    } else {
+        Err(wrong(Cause::Field, bytes))
+    }
+}
+
+#[tactic(auto, unfolding(crate::specs::Image::fields))]
+fn fields_at(bytes: &[u8]) -> Result<(Fields, &[u8]), ReadError>
+    ensures { Reads (λ x. (x.0, x.1.now)) result (format.fields.read bytes.now) }
+{
+    let (number, rest) = kind_at(bytes)?;
+    let (x, rest) = u8_operand(has_x(number), rest)?;
+    let (a, rest) = u16_operand(has_a(number), rest)?;
+    let (b, rest) = u16_operand(has_b(number), rest)?;
+    let (c, rest) = u16_operand(has_c(number), rest)?;
+    let (t, rest) = u32_operand(has_t(number), rest)?;
+    let (site, rest) = u32_operand(has_site(number), rest)?;
+    let (k, rest) = u64_operand(has_k(number), rest)?;
+    let fields = Fields {
+        number,
+        x,
+        a,
+        b,
+        c,
+        t,
+        site,
+        k,
+    };
+    Ok((fields, rest))
+}
+
+fn instruction_at(bytes: &[u8]) -> Result<(Instr, &[u8]), ReadError>
+    ensures { Reads (λ x. (x.0, x.1.now)) result (format.instruction.read bytes.now) }
+{
+    let (fields, rest) = fields_at(bytes)?;
+    let instruction = instruction_of(fields);
+    Ok((instruction, rest))
+}
+
+pub(crate) fn instructions_of(
+    alloc: Global,
+    count: u32,
+    bytes: &[u8],
+) -> Result<(Items<Instr>, &[u8]), ReadError>
+    ensures { Reads (λ x. (x.0, x.1.now)) result ((times count format.instruction).read bytes.now) }
+{
+    let mut rows = Items::new(alloc);
+    let mut rest = bytes;
+    for _ in 0..count {
+        let (row, after) = instruction_at(rest)?;
+        rows.push(row)?;
+        rest = after;
+    }
+    Ok((rows, rest))
+}

@@ -1,0 +1,31 @@
+//! Laws of images. They do nothing when they are called.
+
+ghost use Rattle.td_image.specs.Laws.{OfOneCode, OneSpelling, OneFault, NoFault, NoLonger, CutIsShort, TablesFit, WithinHasImage};
+
+/// Bytes are the image of one code at most, and a code has one image at most.
+pub fn one_spelling()
+    ensures of_one_code { OfOneCode }
+    ensures one { OneSpelling }
+{}
+
+/// One field at most is the first that is wrong, and none of an image; nor do bytes follow what is an image itself.
+pub fn one_fault()
+    ensures one { OneFault }
+    ensures none { NoFault }
+    ensures no_longer { NoLonger }
+{}
+
+/// The first bytes of an image, fewer than all, are no image, and end within a field.
+pub fn cut_is_short()
+    ensures { CutIsShort }
+{}
+
+/// Parts that have an image fit together.
+pub fn tables_fit()
+    ensures { TablesFit }
+{}
+
+/// Parts that fit together and are within the limits have an image.
+pub fn code_within_the_limits_has_an_image()
+    ensures { WithinHasImage }
+{}

@@ -1,0 +1,22 @@
+//! The numbers of the format of images, version 1 (own rule). docs/language/images.md has the whole format.
+
+/// The first four bytes as a number, the byte of least weight first: `54 44 33 49`, in ASCII `TD3I`.
+pub const MAGIC: u32 = 1_228_096_596;
+/// The version.
+pub const VERSION: u16 = 1;
+/// Rows at most of each table but that of instructions.
+pub const MOST_ROWS: usize = 65_536;
+/// Instructions at most.
+pub const MOST_INSTRUCTIONS: u32 = 1_048_576;
+/// Cells at most in a cell map, and of a routine.
+pub const MOST_CELLS: u16 = 64;
+/// Numbers at most in all sets together.
+pub const MOST_NUMBERS: usize = 65_536;
+/// Parameters at most of a routine.
+pub const MOST_PARAMETERS: u16 = 16;
+/// Registers at most of a routine.
+pub const MOST_REGISTERS: u16 = 65_535;
+/// What stands in place of a field's name where a cell isn't one of a record.
+pub const NO_FIELD: u32 = 4_294_967_295;
+/// The greatest number of a kind of instruction.
+pub const LAST_KIND: u8 = 25;
