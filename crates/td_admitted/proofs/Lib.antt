@@ -9,3 +9,4 @@ pub mod Linked
 pub mod Heads
 pub mod Definitions
 pub mod Within
+pub mod Stepped

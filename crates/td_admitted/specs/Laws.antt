@@ -9,7 +9,8 @@ use Rattle.td_limits.specs.Sizes.{sizes_passed}
 use Rattle.td_core.specs.declared.module.Module.{Module}
 use Rattle.td_core.specs.declared.limits.TheConstants.{MOST_NODES, MOST_DEPTH, MOST_WEIGHT}
 use Rattle.td_core.specs.Weights.{depth_of, definitions_nodes, weight_of}
-use Rattle.td_core.specs.WellFormed.{Each, IsWithin}
+use Rattle.td_core.specs.WellFormed.{Each, EachField, IsWithin}
+use Rattle.td_sizes.specs.Sizes.{IsFieldStepped}
 use Rattle.td_rules.specs.Modules.{StandsFor}
 
 -- each name of a module of a text is a word, and no keyword
@@ -38,3 +39,7 @@ DepthsAreWithin = (t : ModuleTree) (m : Module) → HasLimits t → StandsFor t 
 -- no definition is heavier than a text's may be
 abbrev pub WeightsAreWithin : Type 0
 WeightsAreWithin = (t : ModuleTree) (m : Module) → HasLimits t → StandsFor t m → (n : ℕ) → weight_of m.definitions n ≤ MOST_WEIGHT
+
+-- the step of each array is the size of its elements
+abbrev pub StepsAreSizes : Type 0
+StepsAreSizes = (t : ModuleTree) (m : Module) → StandsFor t m → Each (λ d. EachField IsFieldStepped d.body) m.definitions

@@ -1,6 +1,6 @@
 //! Laws of the modules that admitted trees stand for. They do nothing when they are called.
 
-ghost use Rattle.td_admitted.specs.Laws.{NamesAreWords, ModulesAreWithin, NodesAreWithin, DepthsAreWithin, WeightsAreWithin};
+ghost use Rattle.td_admitted.specs.Laws.{NamesAreWords, ModulesAreWithin, NodesAreWithin, DepthsAreWithin, WeightsAreWithin, StepsAreSizes};
 
 use td_rules::laws::names_are_written;
 
@@ -31,4 +31,9 @@ pub fn depths_are_within()
 /// No definition of a module that an admitted tree stands for is heavier than a text's may be.
 pub fn weights_are_within()
     ensures { WeightsAreWithin }
+{}
+
+/// In a module that a tree stands for, the step of each array is the size of its elements, where these alone tell it.
+pub fn steps_are_sizes()
+    ensures { StepsAreSizes }
 {}

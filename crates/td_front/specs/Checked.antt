@@ -5,6 +5,7 @@ use Rattle.td_core.specs.Formed.{IsModuleFormed}
 use Rattle.td_core.specs.declared.limits.TheConstants.{MOST_NODES, MOST_DEPTH, MOST_WEIGHT}
 use Rattle.td_core.specs.Weights.{depth_of, definitions_nodes, weight_of}
 use Rattle.td_core.specs.WellFormed.{Each, EachField, IsWhole, IsFieldWhole, IsDefinitionSorted, IsDefinitionNamed, IsWithin}
+use Rattle.td_sizes.specs.Sizes.{IsFieldStepped}
 use Rattle.td_lexer.specs.Splits.{IsName}
 use Rattle.td_kinds.specs.KindRules.{kind_faults}
 use Rattle.td_arith.specs.SafeModule.{module_unsafe}
@@ -22,6 +23,8 @@ pub record IsChecked (m : Module) : Type 0 where
   pub whole : IsWhole m
   -- bit fields lie in their numbers, refinements stand on numbers, enums have their values
   pub fields : Each (λ d. EachField (IsFieldWhole (length m.listed)) d.body) m.definitions
+  -- the step of each array is the size of its elements
+  pub steps : Each (λ d. EachField IsFieldStepped d.body) m.definitions
   -- each name in a definition has its bytes, and no other name has them
   pub named : Each (IsDefinitionNamed (length m.names)) m.definitions
   pub apart : AreApart m.names

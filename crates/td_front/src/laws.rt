@@ -3,7 +3,8 @@
 ghost use Rattle.td_front.specs.Laws.{OneModuleEach, OneRefusalEach, NeverBoth, AlwaysOne, ModulesAreChecked};
 
 use td_admitted::laws::{
-    depths_are_within, modules_are_within, names_are_words, nodes_are_within, weights_are_within,
+    depths_are_within, modules_are_within, names_are_words, nodes_are_within, steps_are_sizes,
+    weights_are_within,
 };
 use td_elab::laws::{one_is_first, some_is_first};
 use td_grammar::laws::{each_answered, never_both, one_refused, one_too_deep, one_tree};
@@ -59,4 +60,5 @@ pub fn modules_are_checked()
     nodes_are_within();
     depths_are_within();
     weights_are_within();
+    steps_are_sizes();
 }

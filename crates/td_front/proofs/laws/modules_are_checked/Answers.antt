@@ -15,6 +15,7 @@ returns c =
       sorted = c.modules_are_sorted.ensures h.tree m stands;
       whole = c.modules_are_whole.ensures h.tree m stands;
       fields = c.fields_are_whole.ensures h.tree m stands;
+      steps = c.steps_are_sizes.ensures h.tree m stands;
       named = c.modules_are_named.ensures h.tree m stands;
       apart = c.names_are_apart.ensures h.tree m stands;
       words = c.names_are_words.ensures text h.spells.tokens h.tree m h.spells.split h.spells.spelled stands;

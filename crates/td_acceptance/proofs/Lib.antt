@@ -1,0 +1,16 @@
+mod Verifier
+mod Through
+mod Fine
+mod Weighing
+mod Busy
+mod Values
+mod Stepping
+mod Sound
+mod Empties
+mod Lowered
+mod Goods
+mod Measured
+mod Least
+mod Fitting
+mod Modules
+mod Operands

@@ -1,0 +1,7 @@
+use Rattle.td_blocks.specs.Constructs.{body}
+use Rattle.td_acceptance.proofs.Fine.{ends_some}
+use Rattle.td_acceptance.proofs.Stepping.{ends_body}
+use Rattle.td_acceptance.proofs.laws.blocks_have_code.Goals as goal
+
+pub returns : goal.returns
+returns c = λ b. ends_some (body b) (ends_body b)

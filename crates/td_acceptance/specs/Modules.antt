@@ -1,0 +1,41 @@
+-- Code that is a module's blocks, laid out, and that the verifier accepts it.
+use Rattle.std.specs.Prelude.{◌≡◌, ℕ, ◌≤◌, [], length, Some, slice_get}
+use Rattle.td_core.specs.declared.module.TypeDef.{TypeDef}
+use Rattle.td_core.specs.declared.module.Module.{Module}
+use Rattle.td_core.specs.declared.limits.TheConstants.{MOST_DEPTH, MOST_WEIGHT}
+use Rattle.td_core.specs.Formed.{IsModuleFormed}
+use Rattle.td_core.specs.WellFormed.{Each, EachField, IsFieldWhole}
+use Rattle.td_core.specs.Weights.{depth_of, weight_of}
+use Rattle.td_kinds.specs.KindRules.{kind_faults}
+use Rattle.td_ir.specs.declared.tables.Parts.{Parts}
+use Rattle.td_ir.specs.Tables.{routine_of}
+use Rattle.td_verify.specs.Verify.{IsSound}
+use Rattle.td_blocks.specs.Lowered.{first_site}
+use Rattle.td_blocks.specs.Laid.{IsLaid}
+use Rattle.td_blocks.specs.Tabled.{IsTabled}
+use Rattle.td_blocks.specs.Placed.{ArePlaced}
+use Rattle.td_blocks.specs.Tops.{body_cells, body_bits}
+
+-- a routine has its definition's cells, and the tables are as long as a module's sites and enums want them
+pub record IsSupplied (c : Parts) (m : Module) : Type 0 where
+  pub cells : (n : ℕ) (d : TypeDef) → slice_get m.definitions n ≡ Some d → (routine_of c n).cells ≡ length d.cells
+  pub sites : first_site m.definitions (length m.definitions) ≤ length c.sites
+  pub maps : length c.sites ≤ length c.maps
+  pub sets : length m.listed ≤ length c.sets
+
+-- what the rules of the verifier rest on in a module
+pub record IsAdmissible (m : Module) : Type 0 where
+  pub formed : IsModuleFormed m
+  pub fields : Each (λ d. EachField (IsFieldWhole (length m.listed)) d.body) m.definitions
+  pub depth : (n : ℕ) → depth_of m.definitions n ≤ MOST_DEPTH
+  pub weight : (n : ℕ) → weight_of m.definitions n ≤ MOST_WEIGHT
+  pub kinds : kind_faults m ≡ []
+
+-- it keeps all rules
+abbrev pub ModulesAreAccepted : Type 0
+ModulesAreAccepted = (c : Parts) (units : ℕ → ℕ) (m : Module) → IsAdmissible m → IsLaid c units m → IsTabled c m → ArePlaced c units m → IsSupplied c m → IsSound c
+
+-- the cells that a definition's actions name are its own, and the bits of its bit fields are those of a number
+abbrev pub OperandsFit : Type 0
+OperandsFit =
+    (m : Module) (n : ℕ) (d : TypeDef) → IsAdmissible m → slice_get m.definitions n ≡ Some d → (body_cells d.body ≤ length d.cells) × (body_bits d.body ≤ 64)

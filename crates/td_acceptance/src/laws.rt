@@ -1,0 +1,29 @@
+//! Laws of code in blocks. They do nothing when they are called.
+
+ghost use Rattle.td_acceptance.specs.Laws.{LaidCodeIsSound, LoweredCodeIsSound, BlocksHaveCode};
+ghost use Rattle.td_acceptance.specs.Modules.{ModulesAreAccepted, OperandsFit};
+
+/// Code whose routines are blocks that stand as they may keeps all rules.
+pub fn laid_code_is_sound()
+    ensures { LaidCodeIsSound }
+{}
+
+/// Code whose routines are constructs of the language as they may be keeps all rules.
+pub fn lowered_code_is_sound()
+    ensures { LoweredCodeIsSound }
+{}
+
+/// The code of a module, laid out by its tables, keeps all rules.
+pub fn modules_are_accepted()
+    ensures { ModulesAreAccepted }
+{}
+
+/// The block of a definition has at least one instruction.
+pub fn blocks_have_code()
+    ensures { BlocksHaveCode }
+{}
+
+/// A definition's actions name its own cells, and its bit fields are bits of a number.
+pub fn operands_fit()
+    ensures { OperandsFit }
+{}

@@ -1,0 +1,7 @@
+pub mod Block
+pub mod Constructs
+pub mod Lowered
+pub mod Placed
+pub mod Tabled
+pub mod Laid
+pub mod Tops

@@ -1,0 +1,250 @@
+-- The tables of a module's code fit together, and stand for what they should.
+use Rattle.std.proofs.Common.{◌≡◌, ℕ, zero, suc, ◌+◌, ◌<◌, ◌≤◌, ◌||◌, List, [], ◌∷◌, ◌++◌, length, nat_eq, slice_index_or, slice_get, codes, Option, Some, None, refl, sym, ap, subst, ◌∙◌, arith, length-append}
+use Rattle.td_num.specs.declared.number.Width.TheVariants.{One}
+use Rattle.td_core.specs.declared.module.NameId.{NameId}
+use Rattle.td_core.specs.declared.module.Param.{Param}
+use Rattle.td_core.specs.declared.module.Cell.{Cell}
+use Rattle.td_core.specs.declared.module.CellKind.TheVariants.{Pointer}
+use Rattle.td_core.specs.declared.module.Part.{Part}
+use Rattle.td_core.specs.declared.module.Field.{Field}
+use Rattle.td_core.specs.declared.module.Case.{Case}
+use Rattle.td_core.specs.declared.module.Body.{Body}
+use Rattle.td_core.specs.declared.module.Body.TheVariants.{Struct, Casetype}
+use Rattle.td_core.specs.declared.module.TypeDef.{TypeDef}
+use Rattle.td_core.specs.declared.module.Module.{Module}
+use Rattle.td_core.specs.WellFormed.{Each, OfSome, EachField, HasParts, IsWhole, IsNameThere, IsDefinitionNamed}
+use Rattle.td_meaning.specs.Meaning as meaning
+use Rattle.td_lexer.specs.Splits.{IsName}
+use Rattle.td_ir.specs.declared.tables.EntryPoint.{EntryPoint}
+use Rattle.td_ir.specs.declared.tables.Parts.{Parts}
+use Rattle.td_ir.specs.Tables.{routine_of, entry_of, param_of, cell_of, lengths_of, begin}
+use Rattle.td_ir.specs.Values.{is_among}
+use Rattle.td_ir.specs.WellFormed.{IsName as IsNameIn, IsField, IsSite, IsRoutine, IsCellNamed, IsEntry, IsCode}
+use Rattle.td_blocks.specs.Block.{size, LayingOut}
+use Rattle.td_blocks.specs.Constructs.{body}
+use Rattle.td_blocks.specs.Lowered.{definition_body, definition_block, block_of, first_site}
+use Rattle.td_blocks.specs.Laid.{IsLaid}
+use Rattle.td_blocks.specs.Placed.{count_of}
+use Rattle.td_blocks.specs.Tabled.{IsTabled, DefinitionSited}
+use Rattle.td_blocks.specs.Tops.{fields_levels, cases_levels, body_levels}
+use Rattle.td_acceptance.specs.Laws.{BlocksHaveCode}
+use Rattle.td_acceptance.specs.Modules.{IsSupplied}
+use Rattle.td_lower.specs.Tables.{where_name, switch_name, parts_sites, fields_sites, default_sites, cases_sites, body_sites, definition_sites, definitions_sites, definition_maps, params_or_none, cells_or_none, entry_for, entries_for}
+use Rattle.td_lower.specs.Code.{units_of, routine_for, IsWritten}
+use Rattle.td_lower.proofs.Standing.{From, all_from, sites_from, maps_from, all_sites, all_maps}
+use Rattle.td_lower.proofs.Tabling.{definition_sited}
+use Rattle.td_lower.proofs.Places.{routines_count, routine_is, length_is, begins, stands_at}
+
+-- of lists
+pub got : {A : Type 0} (xs : List A) (n : ℕ) → n < length xs → (x : A) × (slice_get xs n ≡ Some x)
+got [] n h = absurd (omega arith)
+got (x ∷ xs) zero h = (x, refl)
+got (x ∷ xs) (suc n) h = got xs n (omega arith)
+
+pub there : {A : Type 0} (xs : List A) (n : ℕ) (x : A) → slice_get xs n ≡ Some x → n < length xs
+there [] n x h = absurd (cc)
+there (y ∷ ys) zero x h = omega arith
+there (y ∷ ys) (suc n) x h = (let k = there ys n x h in omega (arith, k))
+
+pub each_at : {A : Type 0} (P : A → Type 0) (xs : List A) (n : ℕ) (x : A) → Each P xs → slice_get xs n ≡ Some x → P x
+each_at P [] n x e h = absurd (cc)
+each_at P (y ∷ ys) zero x e h = (let same : y ≡ x = cc in subst P same e.0)
+each_at P (y ∷ ys) (suc n) x e h = each_at P ys n x e.1 h
+
+each_index : {A : Type 0} (P : A → Type 0) (xs : List A) (d : A) (n : ℕ) → Each P xs → n < length xs → P (slice_index_or xs n d)
+each_index P [] d n e h = absurd (omega (arith, h))
+each_index P (x ∷ xs) d zero e h = e.0
+each_index P (x ∷ xs) d (suc n) e h = each_index P xs d n e.1 (omega (arith, h))
+
+each_append : {A : Type 0} (P : A → Type 0) (xs ys : List A) → Each P xs → Each P ys → Each P (xs ++ ys)
+each_append P [] ys h k = k
+each_append P (x ∷ xs) ys h k = (h.0, each_append P xs ys h.1 k)
+
+pub index_of : {A : Type 0} (xs : List A) (n : ℕ) (x d : A) → slice_get xs n ≡ Some x → slice_index_or xs n d ≡ x
+index_of [] n x d h = absurd (cc)
+index_of (y ∷ ys) zero x d h = cc
+index_of (y ∷ ys) (suc n) x d h = index_of ys n x d h
+
+-- names
+module _ (count names : ℕ) (more : count ≤ names) where
+  parts_named : (ty : NameId) (ps : List Part) → IsNameThere count ty → Each (λ p. IsNameThere count p.name) ps → Each (IsSite names) (parts_sites ty ps)
+  parts_named ty [] t h = tt
+  parts_named ty (p ∷ ps) t h = (record { ty_named = omega (arith, t, more); field_named = (let x = h.0 in omega (arith, x, more)) }, parts_named ty ps t h.1)
+
+  fields_named : (ty : NameId) (fs : List Field) → IsNameThere count ty → Each (λ f. Each (λ p. IsNameThere count p.name) f.parts) fs → Each (IsSite names) (fields_sites ty fs)
+  fields_named ty [] t h = tt
+  fields_named ty (f ∷ fs) t h = each_append (IsSite names) (parts_sites ty f.parts) (fields_sites ty fs) (parts_named ty f.parts t h.0) (fields_named ty fs t h.1)
+
+  default_named : (ty : NameId) (o : Option (List Field)) → IsNameThere count ty → OfSome (Each (λ f. Each (λ p. IsNameThere count p.name) f.parts)) o → Each (IsSite names) (default_sites ty o)
+  default_named ty None t h = tt
+  default_named ty (Some fs) t h = fields_named ty fs t h
+
+  cases_named : (ty : NameId) (cs : List Case) (o : Option (List Field)) → IsNameThere count ty → Each (λ x. Each (λ f. Each (λ p. IsNameThere count p.name) f.parts) x.fields) cs → OfSome (Each (λ f. Each (λ p. IsNameThere count p.name) f.parts)) o
+      → Each (IsSite names) (cases_sites ty cs o)
+  cases_named ty [] o t h k = default_named ty o t k
+  cases_named ty (x ∷ cs) o t h k = each_append (IsSite names) (fields_sites ty x.fields) (cases_sites ty cs o) (fields_named ty x.fields t h.0) (cases_named ty cs o t h.1 k)
+
+  body_named : (ty : NameId) (b : Body) → IsNameThere count ty → EachField (λ f. Each (λ p. IsNameThere count p.name) f.parts) b → Each (IsSite names) (body_sites ty b)
+  body_named ty (Struct fs) t h = fields_named ty fs t h
+  body_named ty (Casetype e cases o) t h = cases_named ty cases o t h.0 h.1
+
+  definitions_named : (w s : NameId) → w.number < names → s.number < names → (ds : List TypeDef) → Each (IsDefinitionNamed count) ds → Each (IsSite names) (definitions_sites w s ds)
+  definitions_named w s a b [] h = tt
+  definitions_named w s a b (d ∷ ds) h =
+      let t = h.0.own in (
+        record { ty_named = omega (arith, t, more); field_named = a },
+        (
+          record { ty_named = omega (arith, t, more); field_named = b },
+          each_append (IsSite names) (body_sites d.name d.body) (definitions_sites w s ds) (body_named d.name d.body t h.0.fields) (definitions_named w s a b ds h.1),
+        ),
+      )
+
+  params_named : (ps : List Param) (k : ℕ) → Each (λ p. IsNameThere count p.name) ps → k < length ps → IsNameIn names (param_of ps k).name
+  params_named ps k h l = (let x = each_index (λ p. IsNameThere count p.name) ps (record { name = record { number = 0 }; width = One }) k h l in omega (arith, x, more))
+
+  field_in : (o : Option NameId) → OfSome (IsNameThere count) o → IsField names o
+  field_in None h = tt
+  field_in (Some name) h = omega (arith, h, more)
+
+  cells_named : (cs : List Cell) (k : ℕ) → Each (λ x. IsNameThere count x.name × OfSome (IsNameThere count) x.field) cs → k < length cs → IsCellNamed names (cell_of cs k)
+  cells_named cs k h l =
+      let x = each_index (λ x. IsNameThere count x.name × OfSome (IsNameThere count) x.field) cs (record { name = record { number = 0 }; field = None; kind = Pointer }) k h l in
+      record { named = (let y = x.0 in omega (arith, y, more)); field_named = field_in _ x.1 }
+
+-- levels begin with those that are given
+fields_up : (L : ℕ) (fs : List Field) → L ≤ fields_levels L fs
+fields_up L [] = omega arith
+fields_up L (f ∷ fs) = (let x = fields_up (length f.parts + L) fs in omega (arith, x))
+
+cases_up : (L : ℕ) (cs : List Case) → L ≤ cases_levels L cs
+cases_up L [] = omega arith
+cases_up L (c ∷ cs) = (let x = cases_up L cs in omega (arith, x))
+
+body_up : (L : ℕ) (b : Body) → L ≤ body_levels L b
+body_up L (Struct fs) = fields_up L fs
+body_up L (Casetype e cases o) = (let x = cases_up L cases in omega (arith, x))
+
+-- values of enums
+among_same : (xs : List ℕ) (n : ℕ) → is_among xs n ≡ meaning.is_among xs n
+among_same [] n = refl
+among_same (x ∷ xs) n = ap (λ b. nat_eq n x || b) (among_same xs n)
+
+values_same : (all : List (List ℕ)) (v : ℕ) → slice_index_or all v [] ≡ meaning.values_of all v
+values_same [] v = refl
+values_same (x ∷ xs) zero = refl
+values_same (x ∷ xs) (suc v) = values_same xs v
+
+-- entry points
+entries_count : (ds : List TypeDef) (places : List ℕ) → length (entries_for ds places) ≡ length places
+entries_count ds [] = refl
+entries_count ds (p ∷ ps) = ap suc (entries_count ds ps)
+
+abbrev no_entry : EntryPoint
+no_entry = record { routine = 0; params = []; cells = [] }
+
+entry_at : (ds : List TypeDef) (places : List ℕ) (n place : ℕ) → slice_get places n ≡ Some place → slice_index_or (entries_for ds places) n no_entry ≡ entry_for ds place
+entry_at ds [] n place h = absurd (cc)
+entry_at ds (p ∷ ps) zero place h = (let same : p ≡ place = cc in ap (entry_for ds) same)
+entry_at ds (p ∷ ps) (suc n) place h = entry_at ds ps n place h
+
+module _ (c : Parts) (m : Module) (w : IsWritten c m) (whole : IsWhole m) (named : Each (IsDefinitionNamed (length m.names)) m.definitions) (words : Each IsName m.names)
+    (law : LayingOut) (some : BlocksHaveCode) where
+  names_are : length c.names ≡ length m.names + 2
+  names_are = (let x = ap length w.names in let y = length-append m.names (codes "where" ∷ codes "switch" ∷ []) in omega (arith, x, y))
+
+  sites_named : Each (IsSite (length c.names)) c.sites
+  sites_named =
+      let k = names_are in
+      subst (Each (IsSite (length c.names))) (sym w.sites)
+      (definitions_named (length m.names) (length c.names) (omega (arith, k)) (where_name m) (switch_name m) (omega (arith, k)) (omega (arith, k)) m.definitions named)
+
+  count_is : length c.routines ≡ length m.definitions
+  count_is = ap length w.routines ∙ routines_count (units_of m) m.definitions (length m.definitions)
+
+  pub routine_at : (n : ℕ) (d : TypeDef) → slice_get m.definitions n ≡ Some d → routine_of c n ≡ routine_for (size (block_of (units_of m) m.definitions n)) (Some d)
+  routine_at n d e =
+      routine_is c (units_of m) m.definitions w.routines w.instructions n (there m.definitions n d e) ∙ ap (routine_for (size (block_of (units_of m) m.definitions n))) e
+
+  routine_good : (n : ℕ) → n < length m.definitions → IsRoutine (length c.names) (routine_of c n)
+  routine_good n h =
+      let x = got m.definitions n h in
+      let d = x.0 in
+      let r = routine_at n d x.1 in
+      let own = (each_at (IsDefinitionNamed (length m.names)) m.definitions n d named x.1).own in
+      let k = names_are in
+      let block : block_of (units_of m) m.definitions n ≡ body (definition_body (first_site m.definitions n) (units_of m n) d) = ap (definition_block (first_site m.definitions n) (units_of m n)) x.1 in
+      let z = some (definition_body (first_site m.definitions n) (units_of m n) d) in
+      let b = ap size block in
+      let up = body_up (length d.params) d.body in
+      subst (IsRoutine (length c.names)) (sym r) (record { named = omega (arith, own, k); some = omega (arith, z, b); room = omega (arith, up) })
+
+  entry_good : (n : ℕ) → n < length c.entries → IsEntry c (entry_of c n)
+  entry_good n h =
+      let l = ap length w.entries ∙ entries_count m.definitions m.entries in
+      let p = got m.entries n (omega (arith, h, l)) in
+      let inside = each_at (λ place. place < length m.definitions) m.entries n p.0 whole.entries p.1 in
+      let x = got m.definitions p.0 inside in
+      let d = x.0 in
+      let e : entry_of c n ≡ record { routine = p.0; params = d.params; cells = d.cells } =
+      ap (λ y. slice_index_or y n no_entry) w.entries ∙ (entry_at m.definitions m.entries n p.0 p.1 ∙ ap (λ o. record { routine = p.0; params = params_or_none o; cells = cells_or_none o }) x.1) in
+      let r = routine_at p.0 d x.1 in
+      let k = names_are in
+      let count = count_is in
+      let own = each_at (IsDefinitionNamed (length m.names)) m.definitions p.0 d named x.1 in
+      let rp : length d.params ≡ (routine_of c p.0).params = sym (ap (λ y. y.params) r) in
+      let rc : length d.cells ≡ (routine_of c p.0).cells = sym (ap (λ y. y.cells) r) in
+      subst (IsEntry c) (sym e) (record {
+        there = omega (arith, inside, count);
+        param_count = rp;
+        cell_count = rc;
+        params_named = λ j l'. params_named (length m.names) (length c.names) (omega (arith, k)) d.params j own.params l';
+        cells_named = λ j l'. cells_named (length m.names) (length c.names) (omega (arith, k)) d.cells j own.cells l';
+      })
+
+  pub is_code : IsCode c
+  is_code = record {
+    sites = λ k h. each_index (IsSite (length c.names)) c.sites _ k sites_named h;
+    routines = λ k h. (let e = count_is in routine_good k (omega (arith, h, e)));
+    whole = (let e = count_is in ap (begin (lengths_of c)) e ∙ (begins c (units_of m) m.definitions w.routines w.instructions (length m.definitions) (omega arith) ∙ sym (ap length w.instructions)));
+    entries = λ k h. entry_good k h;
+    sets = λ k h. (w.sets.each k).rises;
+  }
+
+  pub is_laid : IsLaid c (units_of m) m
+  is_laid = record {
+    count = count_is;
+    stands = λ n h. stands_at c (units_of m) m.definitions w.routines w.instructions law n h;
+    sizes = λ n h. length_is c (units_of m) m.definitions w.routines w.instructions n h;
+    params = λ n h. (let x = got m.definitions n h in ap (λ y. y.params) (routine_at n x.0 x.1) ∙ sym (ap count_of x.1));
+    entries = λ n place h. ap (λ y. (slice_index_or y n no_entry).routine) w.entries ∙ ap (λ y. y.routine) (entry_at m.definitions m.entries n place h);
+    entry_count = ap length w.entries ∙ entries_count m.definitions m.entries;
+    entry_params = λ n place d h e. ap (λ y. (slice_index_or y n no_entry).params) w.entries ∙ (ap (λ y. y.params) (entry_at m.definitions m.entries n place h) ∙ ap params_or_none e);
+    entry_cells = λ n place d h e. ap (λ y. (slice_index_or y n no_entry).cells) w.entries ∙ (ap (λ y. y.cells) (entry_at m.definitions m.entries n place h) ∙ ap cells_or_none e);
+  }
+
+  sited : (n : ℕ) → n < length m.definitions → DefinitionSited c (first_site m.definitions n) (slice_get m.definitions n)
+  sited n h =
+      let x = got m.definitions n h in
+      let d = x.0 in
+      let z : first_site m.definitions n + 0 ≡ first_site m.definitions n = omega arith in
+      let s = sites_from c.sites _ (where_name m) (switch_name m) m.definitions 0 n d (subst (λ y. From c.sites (record { ty = record { number = 0 }; field = record { number = 0 } }) 0 y) w.sites (all_from c.sites _)) x.1 in
+      let g = maps_from c.maps [] m.definitions 0 n d (subst (λ y. From c.maps [] 0 y) w.maps (all_from c.maps [])) x.1 in
+      subst (DefinitionSited c (first_site m.definitions n)) (sym x.1)
+      (definition_sited c m w.names words (first_site m.definitions n) d (each_at (λ y. EachField (λ f. HasParts f.parts) y.body) m.definitions n d whole.parts x.1)
+      (each_at (IsDefinitionNamed (length m.names)) m.definitions n d named x.1).fields
+      (subst (λ k. From c.sites (record { ty = record { number = 0 }; field = record { number = 0 } }) k (definition_sites (where_name m) (switch_name m) d)) z s)
+      (subst (λ k. From c.maps [] k (definition_maps d)) z g))
+
+  pub is_tabled : IsTabled c m
+  is_tabled = record {
+    sited = sited;
+    listed = λ v n. (w.sets.each v).same n ∙ (among_same (slice_index_or m.listed v []) n ∙ ap (λ y. meaning.is_among y n) (values_same m.listed v));
+  }
+
+  pub is_supplied : IsSupplied c m
+  is_supplied = record {
+    cells = λ n d e. ap (λ y. y.cells) (routine_at n d e);
+    sites = (let a = ap length w.sites in let b = all_sites (where_name m) (switch_name m) m.definitions in omega (arith, a, b));
+    maps = (let a = ap length w.sites in let b = all_sites (where_name m) (switch_name m) m.definitions in let x = ap length w.maps in let y = all_maps m.definitions in omega (arith, a, b, x, y));
+    sets = (let x = w.sets.count in omega (arith, x));
+  }

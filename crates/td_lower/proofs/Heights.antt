@@ -1,0 +1,277 @@
+-- A definition needs no more registers than twice its nodes and a few.
+use Rattle.std.proofs.Common.{◌≡◌, ℕ, zero, suc, ◌+◌, ◌*◌, ◌≤◌, max, List, [], ◌∷◌, ◌++◌, length, map, slice_get, Option, Some, None, refl, ap, arith, length-append}
+use Rattle.td_core.specs.declared.expressions.Binary.{Binary}
+use Rattle.td_core.specs.declared.expressions.Binary.TheVariants.{Plus, Minus, Times, Over, Modulo, BitAnd, BitOr, BitXor, ShiftLeft, ShiftRight}
+use Rattle.td_core.specs.declared.expressions.Relation.{Relation}
+use Rattle.td_core.specs.declared.expressions.Relation.TheVariants.{Equal, NotEqual, Less, LessEqual, Greater, GreaterEqual}
+use Rattle.td_core.specs.Term.{Term, number, name, complement, negation, compute, compare, both, either, choice, range_okay, measure, Deed, done, set, keep, fork, answer, give_up}
+use Rattle.td_core.specs.Formed.{Bound, scalar_of, whole, param_bounds, given, part_bound, parts_scope, IsScoped, IsOptionScoped, IsDeedFormed, IsActionFormed, ArePartsFormed, AreArgsFormed, params_at, IsElementFormed, IsExtentFormed, AreFieldsFormed, AreCasesFormed, IsDefaultFormed, IsBodyFormed, IsDefinitionFormed}
+use Rattle.td_core.specs.declared.expressions.Scalar.TheVariants as scalar
+use Rattle.td_core.specs.declared.module.Param.{Param}
+use Rattle.td_core.specs.declared.module.Element.{Element}
+use Rattle.td_core.specs.declared.module.Element.TheVariants.{Number, Listed, Named, Unit as UnitElement, Rest, Zeros}
+use Rattle.td_core.specs.declared.module.Extent.{Extent}
+use Rattle.td_core.specs.declared.module.Extent.TheVariants.{Once, Filling, OnceFilling, UpToZero}
+use Rattle.td_core.specs.declared.module.Part.{Part}
+use Rattle.td_core.specs.declared.module.Field.{Field}
+use Rattle.td_core.specs.declared.module.Case.{Case}
+use Rattle.td_core.specs.declared.module.Body.{Body}
+use Rattle.td_core.specs.declared.module.Body.TheVariants.{Struct, Casetype}
+use Rattle.td_core.specs.declared.module.TypeDef.{TypeDef}
+use Rattle.td_core.specs.Weights.{option_nodes, terms_nodes, deed_nodes, action_nodes, element_nodes, extent_nodes, part_nodes, total, fields_nodes, default_nodes, cases_nodes, body_nodes, head_nodes}
+use Rattle.td_blocks.specs.Constructs.{Expr}
+use Rattle.td_blocks.specs.Lowered.{computed_of, compared_of, mask_of, expr_of, terms_of}
+use Rattle.td_blocks.specs.Tops.{deed_levels, action_levels, parts_levels, fields_levels, default_levels, cases_levels, body_levels, definition_levels, top, terms_top, test_top, deed_top, action_top, parts_top, sized_top, shape_top, fields_top, default_top, cases_top, body_top, definition_top}
+
+-- levels
+
+deed_low : (L : ℕ) (d : Deed) → deed_levels L d ≤ L + deed_nodes d
+deed_low L done = omega arith
+deed_low L (set cell e then) = (let x = deed_low L then in omega (arith, x))
+deed_low L (keep cell then) = (let x = deed_low (suc L) then in omega (arith, x))
+deed_low L (fork e one other then) = (let x = deed_low L one in let y = deed_low L other in let z = deed_low L then in omega (arith, x, y, z))
+deed_low L (answer e) = omega arith
+deed_low L give_up = omega arith
+
+action_low : (L : ℕ) (o : Option Deed) → action_levels L o ≤ L + 1 + action_nodes o
+action_low L None = omega arith
+action_low L (Some d) = (let x = deed_low (suc L) d in omega (arith, x))
+
+parts_low : (L : ℕ) (ps : List Part) → parts_levels L ps ≤ L + 1 + (length ps + total part_nodes ps)
+parts_low L [] = omega arith
+parts_low L (p ∷ ps) = (let x = action_low (suc L) p.action in let y = parts_low (suc L) ps in omega (arith, x, y))
+
+fields_low : (L : ℕ) (fs : List Field) → fields_levels L fs ≤ L + 1 + fields_nodes fs
+fields_low L [] = omega arith
+fields_low L (f ∷ fs) = (let x = parts_low L f.parts in let y = fields_low (length f.parts + L) fs in omega (arith, x, y))
+
+default_low : (L : ℕ) (o : Option (List Field)) → default_levels L o ≤ L + 1 + default_nodes o
+default_low L None = omega arith
+default_low L (Some fs) = fields_low L fs
+
+cases_low : (L : ℕ) (cs : List Case) → cases_levels L cs ≤ L + 1 + cases_nodes cs
+cases_low L [] = omega arith
+cases_low L (c ∷ cs) = (let x = fields_low L c.fields in let y = cases_low L cs in omega (arith, x, y))
+
+body_low : (L : ℕ) (b : Body) → body_levels L b ≤ L + 1 + body_nodes b
+body_low L (Struct fs) = fields_low L fs
+body_low L (Casetype e cases o) = (let x = cases_low L cases in let y = default_low L o in omega (arith, x, y))
+
+-- registers
+
+computed_top : (op : Binary) (mask t : ℕ) (a b : Expr) → top t (computed_of op mask a b) ≡ max (top t a) (top (t + 1) b)
+computed_top Plus mask t a b = refl
+computed_top Minus mask t a b = refl
+computed_top Times mask t a b = refl
+computed_top Over mask t a b = refl
+computed_top Modulo mask t a b = refl
+computed_top BitAnd mask t a b = refl
+computed_top BitOr mask t a b = refl
+computed_top BitXor mask t a b = refl
+computed_top ShiftLeft mask t a b = refl
+computed_top ShiftRight mask t a b = refl
+
+compared_top : (r : Relation) (t m : ℕ) (a b : Expr) → top t a ≤ m → top (t + 1) a ≤ m → top t b ≤ m → top (t + 1) b ≤ m → top t (compared_of r a b) ≤ m
+compared_top Equal t m a b h k i j = omega (arith, h, j)
+compared_top NotEqual t m a b h k i j = omega (arith, h, j)
+compared_top Less t m a b h k i j = omega (arith, h, j)
+compared_top LessEqual t m a b h k i j = omega (arith, h, j)
+compared_top Greater t m a b h k i j = omega (arith, k, i)
+compared_top GreaterEqual t m a b h k i j = omega (arith, k, i)
+
+within : {A : Type 0} (xs : List A) (i : ℕ) (x : A) → slice_get xs i ≡ Some x → i + 1 ≤ length xs
+within [] i x h = absurd (cc)
+within (y ∷ ys) zero x h = omega arith
+within (y ∷ ys) (suc i) x h = (let k = within ys i x h in omega (arith, k))
+
+some_measure : (e : Term) → 1 ≤ measure e
+some_measure (number n w) = omega arith
+some_measure (name i w most) = omega arith
+some_measure (complement a) = omega arith
+some_measure (negation a) = omega arith
+some_measure (compute op s a b) = omega arith
+some_measure (compare r a b) = omega arith
+some_measure (both a b) = omega arith
+some_measure (either a b) = omega arith
+some_measure (choice c a b) = omega arith
+some_measure (range_okay s o a) = omega arith
+
+value_low : (scope : List Bound) (u : ℕ) (e : Term) → IsScoped scope e → length scope ≤ u → top u (expr_of e) ≤ u + measure e
+value_low scope u (number n w) h k = omega arith
+value_low scope u (name i w most) h k = (let x = within scope i _ h.0 in omega (arith, x, k))
+value_low scope u (complement a) h k = (let x = value_low scope u a h k in let y = some_measure a in omega (arith, x, y))
+value_low scope u (negation a) h k = (let x = value_low scope u a h k in let y = some_measure a in omega (arith, x, y))
+value_low scope u (compute op s a b) h k =
+    (let x = value_low scope u a h.0 k in let y = value_low scope (u + 1) b h.1 (omega (arith, k)) in let z = computed_top op (mask_of a) u (expr_of a) (expr_of b) in omega (arith, x, y, z))
+value_low scope u (compare r a b) h k =
+    let x = value_low scope u a h.0 k in let x' = value_low scope (u + 1) a h.0 (omega (arith, k)) in
+    let y = value_low scope u b h.1 k in let y' = value_low scope (u + 1) b h.1 (omega (arith, k)) in
+    compared_top r u (u + (1 + (measure a + measure b))) (expr_of a) (expr_of b) (omega (arith, x)) (omega (arith, x')) (omega (arith, y)) (omega (arith, y'))
+value_low scope u (both a b) h k = (let x = value_low scope u a h.0 k in let y = value_low scope u b h.1 k in omega (arith, x, y))
+value_low scope u (either a b) h k = (let x = value_low scope u a h.0 k in let y = value_low scope u b h.1 k in omega (arith, x, y))
+value_low scope u (choice c a b) h k =
+    (let x = value_low scope u c h.0 k in let y = value_low scope u a h.1.0 k in let z = value_low scope u b h.1.1 k in omega (arith, x, y, z))
+value_low scope u (range_okay s o a) h k =
+    let x = value_low scope u s h.0 k in let y = value_low scope (u + 1) o h.1.0 (omega (arith, k)) in let z = value_low scope (u + 2) a h.1.1 (omega (arith, k)) in
+    let x' = some_measure s in let y' = some_measure o in let z' = some_measure a in
+    omega (arith, x, y, z, x', y', z')
+
+args_low : (scope bs : List Bound) (u : ℕ) (es : List Term) → AreArgsFormed scope bs es → length scope ≤ u → terms_top u es ≤ u + 1 + terms_nodes es
+args_low scope [] u [] h k = omega arith
+args_low scope [] u (e ∷ es) h k = absurd h
+args_low scope (b ∷ bs) u [] h k = absurd h
+args_low scope (b ∷ bs) u (e ∷ es) h k =
+    (let x = value_low scope u e h.0 k in let y = args_low scope bs (u + 1) es h.1.1 (omega (arith, k)) in let z = some_measure e in omega (arith, x, y, z))
+
+count_low : (es : List Term) → length es ≤ terms_nodes es
+count_low [] = omega arith
+count_low (e ∷ es) = (let x = count_low es in let y = some_measure e in omega (arith, x, y))
+
+test_low : (scope : List Bound) (u : ℕ) (o : Option Term) → IsOptionScoped scope o → length scope ≤ u → test_top u o ≤ u + 1 + option_nodes o
+test_low scope u None h k = omega arith
+test_low scope u (Some e) h k = (let x = value_low scope u e h k in omega (arith, x))
+
+given_low : (scope : List Bound) (o : Option Bound) → length (given scope o) ≤ suc (length scope)
+given_low scope None = omega arith
+given_low scope (Some b) = (let x = length-append scope (b ∷ []) in omega (arith, x))
+
+levels_up : (L : ℕ) (d : Deed) → L ≤ deed_levels L d
+levels_up L done = omega arith
+levels_up L (set cell e then) = levels_up L then
+levels_up L (keep cell then) = (let x = levels_up (suc L) then in omega (arith, x))
+levels_up L (fork e one other then) = (let x = levels_up L one in omega (arith, x))
+levels_up L (answer e) = omega arith
+levels_up L give_up = omega arith
+
+acts_low : (cells scope : List Bound) (L u : ℕ) (d : Deed) → IsDeedFormed cells scope d → length scope ≤ L → deed_levels L d ≤ u → deed_top L u d ≤ u + 1 + deed_nodes d
+acts_low cells scope L u done h k l = omega arith
+acts_low cells scope L u (set cell e then) h k l =
+    let up = levels_up L then in
+    let x = value_low scope u e h.0 (omega (arith, k, up, l)) in let y = acts_low cells scope L u then h.1.1 k l in omega (arith, x, y)
+acts_low cells scope L u (keep cell then) h k l =
+    let g = given_low scope (slice_get cells cell) in
+    let up = levels_up (suc L) then in
+    let y = acts_low cells (given scope (slice_get cells cell)) (suc L) u then h.1 (omega (arith, k, g)) l in omega (arith, y, up, l)
+acts_low cells scope L u (fork e one other then) h k l =
+    let up = levels_up L then in
+    let x = value_low scope u e h.0 (omega (arith, k, up, l)) in
+    let y = acts_low cells scope L (u + 1) one h.1.0 k (omega (arith, l)) in
+    let z = acts_low cells scope L (u + 1) other h.1.1.0 k (omega (arith, l)) in
+    let w = acts_low cells scope L u then h.1.1.1 k (omega (arith, l)) in
+    omega (arith, x, y, z, w)
+acts_low cells scope L u (answer e) h k l = (let x = value_low scope u e h (omega (arith, k, l)) in omega (arith, x))
+acts_low cells scope L u give_up h k l = omega arith
+
+effect_low : (cells scope : List Bound) (L u : ℕ) (o : Option Deed) → IsActionFormed cells scope o → length scope ≤ L → action_levels L o ≤ u → L ≤ u → action_top L (suc u) o ≤ u + 2 + action_nodes o
+effect_low cells scope L u None h k l m = omega arith
+effect_low cells scope L u (Some d) h k l m =
+    let g = length-append scope (whole scalar.ThirtyTwo ∷ []) in
+    let up = levels_up (suc L) d in
+    let x = acts_low cells (scope ++ whole scalar.ThirtyTwo ∷ []) (suc L) (suc u) d h (omega (arith, k, g)) (omega (arith, l)) in
+    omega (arith, x, up, l)
+
+first_level : (L : ℕ) (ps : List Part) → L ≤ parts_levels L ps
+first_level L [] = omega arith
+first_level L (p ∷ ps) = (let x = first_level (suc L) ps in omega (arith, x))
+
+members_low : (cells : List Bound) (element : Element) (extent : Extent) (scope : List Bound) (L t : ℕ) (ps : List Part) → ArePartsFormed cells element extent scope ps → length scope ≤ L → parts_levels L ps ≤ t → parts_top L t ps ≤ t + 2 + total part_nodes ps
+members_low cells element extent scope L t [] h k l = omega arith
+members_low cells element extent scope L t (p ∷ ps) h k l =
+    let inner = scope ++ part_bound element extent p.bits ∷ [] in
+    let g = length-append scope (part_bound element extent p.bits ∷ []) in
+    let f = first_level (suc L) ps in
+    let x = test_low inner (suc t) p.refinement h.0 (omega (arith, k, g, f, l)) in
+    let y = effect_low cells inner (suc L) t p.action h.1.0 (omega (arith, k, g)) (omega (arith, l)) (omega (arith, f, l)) in
+    let z = members_low cells element extent inner (suc L) t ps h.1.1 (omega (arith, k, g)) (omega (arith, l)) in
+    omega (arith, x, y, z, f, l)
+
+scope_low : (element : Element) (extent : Extent) (scope : List Bound) (ps : List Part) → length (parts_scope element extent scope ps) ≡ length ps + length scope
+scope_low element extent scope [] = omega arith
+scope_low element extent scope (p ∷ ps) =
+    (let x = scope_low element extent (scope ++ part_bound element extent p.bits ∷ []) ps in let g = length-append scope (part_bound element extent p.bits ∷ []) in omega (arith, x, g))
+
+element_low : (ds : List TypeDef) (n : ℕ) (cells scope : List Bound) (t : ℕ) (element : Element) → IsElementFormed ds n cells scope element → length scope ≤ t → terms_top (suc t) (terms_of element) ≤ t + 2 + element_nodes element
+element_low ds n cells scope t (Number type) h k = omega arith
+element_low ds n cells scope t (Listed base v) h k = omega arith
+element_low ds n cells scope t (Named j args own) h k = (let x = args_low scope (params_at (slice_get ds j)) (suc t) args h.1.0 (omega (arith, k)) in omega (arith, x))
+element_low ds n cells scope t UnitElement h k = omega arith
+element_low ds n cells scope t Rest h k = omega arith
+element_low ds n cells scope t Zeros h k = omega arith
+
+args_count : (element : Element) → length (terms_of element) ≤ element_nodes element
+args_count (Number type) = omega arith
+args_count (Listed base v) = omega arith
+args_count (Named j args own) = count_low args
+args_count UnitElement = omega arith
+args_count Rest = omega arith
+args_count Zeros = omega arith
+
+sized_low : (ds : List TypeDef) (n : ℕ) (cells scope : List Bound) (t : ℕ) (element : Element) (size : Term) → IsElementFormed ds n cells scope element → IsScoped scope size → length scope ≤ t
+    → sized_top t element size ≤ t + 4 + (element_nodes element + measure size)
+sized_low ds n cells scope t element size h s k =
+    let x = element_low ds n cells scope t element h k in
+    let y = args_count element in
+    let z = value_low scope (suc t + length (terms_of element)) size s (omega (arith, k)) in
+    omega (arith, x, y, z)
+
+shape_low : (ds : List TypeDef) (n : ℕ) (cells scope : List Bound) (t : ℕ) (element : Element) (extent : Extent) → IsElementFormed ds n cells scope element → IsExtentFormed scope extent → length scope ≤ t
+    → shape_top t element extent ≤ t + 4 + (element_nodes element + extent_nodes extent)
+shape_low ds n cells scope t element Once h s k = (let x = element_low ds n cells scope t element h k in omega (arith, x))
+shape_low ds n cells scope t element (Filling size step) h s k = sized_low ds n cells scope t element size h s k
+shape_low ds n cells scope t element (OnceFilling size step) h s k = sized_low ds n cells scope t element size h s k
+shape_low ds n cells scope t element (UpToZero size) h s k = (let x = value_low scope (suc t) size s (omega (arith, k)) in omega (arith, x))
+
+field_level : (L : ℕ) (fs : List Field) → L ≤ fields_levels L fs
+field_level L [] = omega arith
+field_level L (f ∷ fs) = (let x = first_level L f.parts in omega (arith, x))
+
+all_low : (ds : List TypeDef) (n : ℕ) (cells scope : List Bound) (L t : ℕ) (fs : List Field) → AreFieldsFormed ds n cells scope fs → length scope ≤ L → fields_levels L fs ≤ t → fields_top L t fs ≤ t + 4 + fields_nodes fs
+all_low ds n cells scope L t [] h k l = omega arith
+all_low ds n cells scope L t (f ∷ fs) h k l =
+    let up = field_level L (f ∷ fs) in
+    let x = shape_low ds n cells scope t f.element f.extent h.0 h.1.0 (omega (arith, k, up, l)) in
+    let y = members_low cells f.element f.extent scope L t f.parts h.1.1.0 k (omega (arith, l)) in
+    let g = scope_low f.element f.extent scope f.parts in
+    let z = all_low ds n cells (parts_scope f.element f.extent scope f.parts) (length f.parts + L) t fs h.1.1.1 (omega (arith, k, g)) (omega (arith, l)) in
+    omega (arith, x, y, z)
+
+last_low : (ds : List TypeDef) (n : ℕ) (cells scope : List Bound) (L t : ℕ) (o : Option (List Field)) → IsDefaultFormed ds n cells scope o → length scope ≤ L → default_levels L o ≤ t → default_top L t o ≤ t + 4 + default_nodes o
+last_low ds n cells scope L t None h k l = omega arith
+last_low ds n cells scope L t (Some fs) h k l = all_low ds n cells scope L t fs h k l
+
+each_low : (ds : List TypeDef) (n : ℕ) (cells scope : List Bound) (L t : ℕ) (cs : List Case) → AreCasesFormed ds n cells scope cs → length scope ≤ L → cases_levels L cs ≤ t → cases_top L t cs ≤ t + 4 + cases_nodes cs
+each_low ds n cells scope L t [] h k l = omega arith
+each_low ds n cells scope L t (c ∷ cs) h k l =
+    (let x = all_low ds n cells scope L t c.fields h.0 k (omega (arith, l)) in let y = each_low ds n cells scope L t cs h.1 k (omega (arith, l)) in omega (arith, x, y))
+
+case_level : (L : ℕ) (cs : List Case) → L ≤ cases_levels L cs
+case_level L [] = omega arith
+case_level L (c ∷ cs) = (let x = case_level L cs in omega (arith, x))
+
+inside_low : (ds : List TypeDef) (n : ℕ) (cells scope : List Bound) (L t : ℕ) (b : Body) → IsBodyFormed ds n cells scope b → length scope ≤ L → body_levels L b ≤ t → body_top L t b ≤ t + 4 + body_nodes b
+inside_low ds n cells scope L t (Struct fs) h k l = all_low ds n cells scope L t fs h k l
+inside_low ds n cells scope L t (Casetype e cases o) h k l =
+    let up = case_level L cases in
+    let x = value_low scope (suc t) e h.0 (omega (arith, k, up, l)) in
+    let y = each_low ds n cells scope L t cases h.1.0 k (omega (arith, l)) in
+    let z = last_low ds n cells scope L t o h.1.1 k (omega (arith, l)) in
+    omega (arith, x, y, z)
+
+body_level : (L : ℕ) (b : Body) → L ≤ body_levels L b
+body_level L (Struct fs) = field_level L fs
+body_level L (Casetype e cases o) = (let x = case_level L cases in omega (arith, x))
+
+mapped : {A B : Type 0} (f : A → B) (xs : List A) → length (map f xs) ≡ length xs
+mapped f [] = refl
+mapped f (x ∷ xs) = ap suc (mapped f xs)
+
+pub registers_low : (ds : List TypeDef) (n : ℕ) (d : TypeDef) → IsDefinitionFormed ds n d → definition_top (definition_levels d) d ≤ 2 * (head_nodes d + body_nodes d.body) + 6
+registers_low ds n d h =
+    let t = definition_levels d in
+    let scope = param_bounds d.params in
+    let count : length scope ≡ length d.params = mapped (λ (p : Param). whole (scalar_of p.width)) d.params in
+    let low = body_low (length d.params) d.body in
+    let up = body_level (length d.params) d.body in
+    let x = test_low scope (suc t) d.guard h.0 (omega (arith, count, up)) in
+    let y = inside_low ds n _ scope (length d.params) t d.body h.1 (omega (arith, count)) (omega arith) in
+    omega (arith, x, y, low)

@@ -1,0 +1,24 @@
+-- Sets of the values of enums.
+use Rattle.std.specs.Prelude.{◌≡◌, ℕ, ◌<◌, List, [], ◌∷◌, cond, nat_eq, length, slice_index_or}
+use Rattle.td_ir.specs.WellFormed.{Rises}
+use Rattle.td_ir.specs.Values.{is_among}
+
+-- the same numbers, strictly rising
+pub record IsSetOf (values set : List ℕ) : Type 0 where
+  pub rises : Rises set
+  pub same : (n : ℕ) → is_among set n ≡ is_among values n
+
+-- of the first n enums
+pub record AreSetsTo (all sets : List (List ℕ)) (n : ℕ) : Type 0 where
+  pub count : length sets ≡ n
+  pub each : (k : ℕ) → k < n → IsSetOf (slice_index_or all k []) (slice_index_or sets k [])
+
+pub record AreSetsOf (all sets : List (List ℕ)) : Type 0 where
+  pub count : length sets ≡ length all
+  pub each : (k : ℕ) → IsSetOf (slice_index_or all k []) (slice_index_or sets k [])
+
+-- of numbers in order, the last of each that are equal
+abbrev pub once : List ℕ → List ℕ
+once [] = []
+once (x ∷ []) = x ∷ []
+once (x ∷ y ∷ ys) = cond (nat_eq x y) (once (y ∷ ys)) (x ∷ once (y ∷ ys))

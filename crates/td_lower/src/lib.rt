@@ -1,0 +1,8 @@
+//! Compiles a module into code. The layer above rests on one promise: the code of a checked module is accepted by the
+//! verifier, and is the module's blocks, laid out.
+#![tactic(auto)]
+
+pub mod lower;
+mod routines;
+mod sets;
+mod tables;

@@ -1,0 +1,15 @@
+pub mod Puts
+pub mod Ontos
+pub mod Valued
+pub mod Acts
+pub mod Parts
+pub mod Looking
+pub mod Shapes
+pub mod Arrays
+pub mod Fields
+pub mod Definitions
+pub mod Unfolding
+pub mod Laid
+pub mod Forming
+pub mod CodeRuns
+pub mod Fitting

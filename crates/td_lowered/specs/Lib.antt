@@ -1,0 +1,2 @@
+pub mod BlockRun
+pub mod CodeRun

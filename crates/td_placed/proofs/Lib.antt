@@ -1,0 +1,3 @@
+pub mod Rooms
+pub mod Hiding
+pub mod Placing
