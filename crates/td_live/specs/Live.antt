@@ -1,15 +1,11 @@
 -- What a reader's seat loaded of a message in a shared buffer (own rule: the message's word i is the buffer's word base + i).
-use Rattle.std.specs.Prelude.{◌≡◌, ℕ, ◌+◌, ◌/◌, List, [], ◌∷◌, ◌++◌, refl}
+use Rattle.std.specs.Prelude.{◌≡◌, ℕ, ◌+◌, List, [], ◌∷◌, ◌++◌, refl}
 use Rattle.std.proofs.Common.{◌∙◌}
 use Rattle.td_words.specs.declared.view.Access.{Access}
 use Rattle.td_words.specs.declared.view.Access.TheVariants.{Load as LoadOf}
 use Rattle.td_stream.specs.declared.load.Load.{Load}
 use Rattle.td_words.specs.Views.{seat_view}
 use Rattle.td_words.specs.Seats.{SeatState, seat_state}
-
--- how many words have a byte of a message of n bytes
-abbrev pub words_in : ℕ → ℕ
-words_in n = (n + 7) / 8
 
 -- the steps of a seat that made these loads of the message's words
 abbrev pub steps_for : ℕ → List Load → List Access

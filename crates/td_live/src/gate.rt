@@ -1,11 +1,6 @@
 //! Where a thread can be held.
 
-/// The name of a message that a guest posts: the guest, and which of its messages it is, both counted from 1.
-#[derive(Clone, Copy, PartialEq, Eq, Debug)]
-pub struct PostName {
-    pub guest: u32,
-    pub number: u32,
-}
+pub use td_posts::name::PostName;
 
 /// Is called between the steps of a run, so that a test can hold a thread there or store meanwhile. No clause rests on it: a
 /// gate may do whatever another thread may.

@@ -1,0 +1,16 @@
+//! Tests of what no built program shows: a buffer that threads share, and validation in it, step by step and under real
+//! threads. Each test ends by itself, whatever the schedule. Nothing stands on this crate.
+#![tactic(auto)]
+
+#[cfg(test)]
+mod buffer;
+#[cfg(test)]
+mod counters;
+#[cfg(test)]
+mod modules;
+#[cfg(test)]
+mod one_word;
+#[cfg(test)]
+mod readers;
+#[cfg(test)]
+mod slots;
