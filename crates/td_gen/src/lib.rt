@@ -7,8 +7,6 @@ mod fillers;
 pub mod job;
 pub mod kind;
 pub mod laws;
-#[cfg(test)]
-mod tests;
 
 pub use job::{make_job, message_job};
 pub use kind::format_of;

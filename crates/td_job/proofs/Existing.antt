@@ -23,9 +23,10 @@ use Rattle.td_job.specs.declared.error.JobError.TheVariants.{Fault}
 use Rattle.td_job.specs.declared.run_job.RunJob.{RunJob}
 use Rattle.td_job.specs.Fields.{Reads, text_of}
 use Rattle.td_job.specs.Values.{given_args, given_cells}
-use Rattle.td_job.specs.Jobs.{given_bytes, given_stores, message_words, spelled_bytes, bytes_or_none, EntryFault, IsEntry, FirstFault, later_faults, length_faults, IsJob, IsRunJob, RefusedJob}
+use Rattle.td_job.specs.Jobs.{given_bytes, given_stores, message_words, spelled_bytes, bytes_or_none, EntryFault, IsEntry, FirstFaultOf, later_faults, length_faults, IsJob, IsRunJob, RefusedJobOf, RefusedJob}
 use Rattle.td_job.proofs.Bytes.{AreBytes, filled}
 use Rattle.td_job.proofs.Numbers.{both_empty}
+use Rattle.td_job.proofs.Unique.{Later}
 
 none_small : AreBytes []
 none_small i = lit< tt
@@ -39,7 +40,7 @@ decoded_small text (Ok bytes) h = (decode_pairs-ok 0 text bytes (by_parity (leng
 decoded_small text (Err e) h = none_small
 
 -- what a job gives are bytes
-spelled_small : (text : Option (List ℕ)) → AreBytes (spelled_bytes text)
+pub spelled_small : (text : Option (List ℕ)) → AreBytes (spelled_bytes text)
 spelled_small None = none_small
 spelled_small (Some text) = decoded_small text (decode_of text) refl
 
@@ -116,38 +117,55 @@ faultless_job m job entry named faultless =
       record { named = named; faultless = faultless; args = refl; cells = refl; filled = words.1; as_long = number.1; stored = refl },
     )
 
-by_faults : (m : Module) (job : Data) (entry : Entry) → IsEntry m (text_of key.Entry job) entry → (faults : List JobError) → later_faults (entry_definition m entry.number) job ≡ faults
-    → ((j : RunJob) × IsJob m job j) ⊎ ((e : JobError) × FirstFault m job e)
-by_faults m job entry named [] h = inl (faultless_job m job entry named h)
-by_faults m job entry named (e ∷ others) h = inr (e, inr (entry, named, record { others = others; is = h }))
+by_faults : (later : Later) (m : Module) (job : Data) (J : Type 0) → (entry : Entry) → IsEntry m (text_of key.Entry job) entry
+    → (later (entry_definition m entry.number) job ≡ [] → J) → (faults : List JobError) → later (entry_definition m entry.number) job ≡ faults
+    → J ⊎ ((e : JobError) × FirstFaultOf later m job e)
+by_faults later m job J entry named make [] h = inl (make h)
+by_faults later m job J entry named make (e ∷ others) h = inr (e, inr (entry, named, record { others = others; is = h }))
 
-job_or_fault : (m : Module) (job : Data) → ((j : RunJob) × IsJob m job j) ⊎ ((e : JobError) × FirstFault m job e)
-job_or_fault m job =
+-- a job has no fault, and then there is what is made of it, or a first one
+pub made_or_fault : (later : Later) (m : Module) (job : Data) (J : Type 0)
+    → ((entry : Entry) → IsEntry m (text_of key.Entry job) entry → later (entry_definition m entry.number) job ≡ [] → J)
+    → J ⊎ ((e : JobError) × FirstFaultOf later m job e)
+made_or_fault later m job J make =
     elim (entry_or_fault m (text_of key.Entry job)) [
-      | inl found ↦ by_faults m job found.0 found.1 (later_faults (entry_definition m found.0.number) job) refl
+      | inl found ↦ by_faults later m job J found.0 found.1 (make found.0 found.1) (later (entry_definition m found.0.number) job) refl
       | inr wrong ↦ inr (wrong.0, inl wrong.1)
     ]
 
-Answered : List ℕ → Module → Type 0
-Answered bytes m = ((j : RunJob) × IsRunJob bytes m j) ⊎ ((e : JobError) × RefusedJob bytes m e)
+-- what bytes come to where each text that they stand for comes to a J or is refused
+Answered : Later → (Data → Type 0) → List ℕ → Module → Type 0
+Answered later J bytes m = ((job : Data) × Reads bytes job × J job) ⊎ ((e : JobError) × RefusedJobOf later bytes m e)
 
-no_json : (bytes : List ℕ) (m : Module) → ((job : Data) → Reads bytes job → ⊥) → Answered bytes m
+no_json : (later : Later) (J : Data → Type 0) (bytes : List ℕ) (m : Module) → ((job : Data) → Reads bytes job → ⊥) → Answered later J bytes m
 unfolding Answered
-no_json bytes m none = inr (Fault rule.NotJson path.Job, inl (refl, none))
+no_json later J bytes m none = inr (Fault rule.NotJson path.Job, inl (refl, none))
 
-by_value : (bytes : List ℕ) (m : Module) → IsUtf8 bytes → (value : Option Data) → read_text bytes ≡ value → Answered bytes m
+by_value : (later : Later) (J : Data → Type 0) (bytes : List ℕ) (m : Module) → ((job : Data) → J job ⊎ ((e : JobError) × FirstFaultOf later m job e))
+    → IsUtf8 bytes → (value : Option Data) → read_text bytes ≡ value → Answered later J bytes m
 unfolding Answered
-by_value bytes m text None h = no_json bytes m (λ job reads. let read = reads.1 in absurd (cc))
-by_value bytes m text (Some job) h =
-    elim (job_or_fault m job) [
-      | inl good ↦ inl (good.0, (job, (text, h), good.1))
+by_value later J bytes m each text None h = no_json later J bytes m (λ job reads. let read = reads.1 in absurd (cc))
+by_value later J bytes m each text (Some job) h =
+    elim (each job) [
+      | inl good ↦ inl (job, (text, h), good)
       | inr bad ↦ inr (bad.0, inr (job, (text, h), bad.1))
     ]
 
-by_text : (bytes : List ℕ) (m : Module) (test : Bool) → is_utf8 bytes ≡ test → Answered bytes m
-by_text bytes m true h = by_value bytes m (IsUtf8-from_is_utf8 bytes h) (read_text bytes) refl
-by_text bytes m false h = no_json bytes m (λ job reads. let yes = is_utf8-from_IsUtf8 bytes reads.0 in absurd (cc))
+by_text : (later : Later) (J : Data → Type 0) (bytes : List ℕ) (m : Module) → ((job : Data) → J job ⊎ ((e : JobError) × FirstFaultOf later m job e))
+    → (test : Bool) → is_utf8 bytes ≡ test → Answered later J bytes m
+by_text later J bytes m each true h = by_value later J bytes m each (IsUtf8-from_is_utf8 bytes h) (read_text bytes) refl
+by_text later J bytes m each false h = no_json later J bytes m (λ job reads. let yes = is_utf8-from_IsUtf8 bytes reads.0 in absurd (cc))
+
+-- bytes stand for a text that comes to a J, or they are refused
+pub made_or_refused : (later : Later) (J : Data → Type 0) (bytes : List ℕ) (m : Module) → ((job : Data) → J job ⊎ ((e : JobError) × FirstFaultOf later m job e))
+    → ((job : Data) × Reads bytes job × J job) ⊎ ((e : JobError) × RefusedJobOf later bytes m e)
+unfolding Answered
+made_or_refused later J bytes m each = by_text later J bytes m each (is_utf8 bytes) refl
 
 pub always_one : (bytes : List ℕ) (m : Module) → ((j : RunJob) × IsRunJob bytes m j) ⊎ ((e : JobError) × RefusedJob bytes m e)
-unfolding Answered
-always_one bytes m = by_text bytes m (is_utf8 bytes) refl
+always_one bytes m =
+    let J : Data → Type 0 = λ job. (j : RunJob) × IsJob m job j in
+    elim (made_or_refused later_faults J bytes m (λ job. made_or_fault later_faults m job (J job) (faultless_job m job))) [
+      | inl good ↦ inl (good.2.0, (good.0, good.1, good.2.1))
+      | inr bad ↦ inr bad
+    ]

@@ -1,5 +1,5 @@
 -- Jobs that name their entry point by text: their numbers and stores, and that each is one run job or has one first fault.
-use Rattle.std.proofs.Common.{◌≡◌, ℕ, zero, suc, ◌+◌, ◌/◌, ◌<◌, ◌≤◌, List, [], ◌∷◌, ◌++◌, length, drop, Bool, true, false, not, nat_eq, nat_lt, nat_le, option_map, slice_get, get_or, Option, Some, None, ◌⊎◌, inl, inr, refl, sym, ap, subst, ◌∙◌, arith}
+use Rattle.std.proofs.Common.{◌≡◌, ℕ, zero, suc, ◌+◌, ◌/◌, ◌<◌, ◌≤◌, List, [], ◌∷◌, ◌++◌, length, drop, Bool, true, false, not, nat_eq, nat_lt, nat_le, option_map, slice_get, get_or, Some, None, inl, inr, refl, sym, ap, subst, ◌∙◌, arith}
 use Rattle.std.specs.List.{All}
 use Rattle.std.proofs.lemmas.Bool.Decides.{nat_tests}
 use Rattle.std.proofs.lemmas.List.{at_drop_more}
@@ -17,14 +17,12 @@ use Rattle.td_job.specs.declared.error.Path.TheVariants as path
 use Rattle.td_job.specs.declared.error.JobError.{JobError}
 use Rattle.td_job.specs.declared.error.JobError.TheVariants.{Fault}
 use Rattle.td_job.specs.declared.checks.TheConstants.{MOST_BYTES}
-use Rattle.td_job.specs.declared.stores.TheConstants.{MOST_STORES}
 use Rattle.td_job.specs.declared.named.NamedJob.{NamedJob}
 use Rattle.td_job.specs.declared.run_job.RunJob.{RunJob}
 use Rattle.td_job.specs.Fields.{fault_if, IsFirst}
 use Rattle.td_job.specs.Values.{value_faults, args_bounds, cells_bounds}
-use Rattle.td_job.specs.Jobs.{EntryFault, IsEntry, HasRoom, HasValues}
-use Rattle.td_job.specs.Named.{each_number_faults, number_faults, limit_faults, each_word_faults, word_faults, named_faults, FirstNamedFault, IsNamedJob}
-use Rattle.td_job.proofs.Elements.{limited, unlimited}
+use Rattle.td_job.specs.Jobs.{IsEntry, HasRoom, HasValues}
+use Rattle.td_job.specs.Named.{each_number_faults, number_faults, each_word_faults, named_faults, FirstNamedFault, IsNamedJob}
 use Rattle.td_job.proofs.Numbers.{both_empty, not_over, drop_get, drop_next}
 use Rattle.td_job.proofs.Unique.{one_entry, one_entry_fault, entry_or_fault, one_first, named_within}
 

@@ -1,10 +1,11 @@
 -- Bytes stand for one run job alone, or are refused for one cause alone.
-use Rattle.std.proofs.Common.{length, ◌<◌, ◌≡◌, ℕ, List, Option, Some, None, Result, Ok, Err, ◌⊎◌, inl, inr, sym, ap, ◌∙◌, subst}
+use Rattle.std.proofs.Common.{length, ◌<◌, ◌≡◌, ℕ, List, [], Option, Some, None, Result, Ok, Err, ◌⊎◌, inl, inr, sym, ap, ◌∙◌, subst}
 use Rattle.std.proofs.lemmas.Bool.{cases_order}
 use Rattle.std.specs.Prelude.{IfOk, IfErr, MatchResult}
 use Rattle.serde_json.specs.Data.{Data}
 use Rattle.td_core.specs.declared.module.Module.{Module}
 use Rattle.td_core.specs.declared.module.Entry.{Entry}
+use Rattle.td_core.specs.declared.module.TypeDef.{TypeDef}
 use Rattle.td_core.specs.Entries.{IsFirstNamed, entry_definition}
 use Rattle.td_sched.specs.declared.store.PlannedStore.{PlannedStore}
 use Rattle.td_job.specs.declared.error.Key.TheVariants as key
@@ -14,7 +15,7 @@ use Rattle.td_job.specs.declared.run_job.RunJob.{RunJob}
 use Rattle.td_core.specs.Formed.{AllFit}
 use Rattle.td_job.specs.Fields.{Reads, text_of, field_of, IsFirst}
 use Rattle.td_job.specs.Values.{args_bounds, cells_bounds, given_args, given_cells}
-use Rattle.td_job.specs.Jobs.{given_bytes, message_words, EntryFault, IsEntry, FirstFault, later_faults, IsJob, IsRunJob, RefusedJob, HasValues}
+use Rattle.td_job.specs.Jobs.{given_bytes, message_words, EntryFault, IsEntry, FirstFaultOf, later_faults, IsJob, IsRunJob, RefusedJobOf, RefusedJob, HasValues}
 use Rattle.td_job.proofs.Bytes.{filled_once}
 use Rattle.td_job.proofs.Numbers.{both_empty, args_fit, cells_fit}
 
@@ -43,20 +44,24 @@ entry_or_fault m (Some name) entry e h wrong = wrong.1 entry.number h.0 h.1.name
 pub one_first : (faults : List JobError) (a b : JobError) → IsFirst faults a → IsFirst faults b → a ≡ b
 one_first faults a b ha hb = let ia = ha.is in let ib = hb.is in cc
 
-one_fault : (m : Module) (job : Data) (a b : JobError) → FirstFault m job a → FirstFault m job b → a ≡ b
-one_fault m job a b (inl ha) (inl hb) = one_entry_fault m (text_of key.Entry job) a b ha hb
-one_fault m job a b (inl ha) (inr hb) = absurd (entry_or_fault m (text_of key.Entry job) hb.0 a hb.1 ha)
-one_fault m job a b (inr ha) (inl hb) = absurd (entry_or_fault m (text_of key.Entry job) ha.0 b ha.1 hb)
-one_fault m job a b (inr ha) (inr hb) =
-    let same = one_entry m (text_of key.Entry job) hb.0 ha.0 hb.1 ha.1 in
-    one_first (later_faults (entry_definition m ha.0.number) job) a b ha.2 (subst (λ (entry : Entry). IsFirst (later_faults (entry_definition m entry.number) job) b) same hb.2)
+-- what is wrong with a job after its entry point
+abbrev pub Later : Type 0
+Later = Option TypeDef → Data → List JobError
 
-job_or_fault : (m : Module) (job : Data) (j : RunJob) (e : JobError) → IsJob m job j → FirstFault m job e → ⊥
-job_or_fault m job j e h (inl wrong) = entry_or_fault m (text_of key.Entry job) j.entry e h.named wrong
-job_or_fault m job j e h (inr wrong) =
-    let same = one_entry m (text_of key.Entry job) wrong.0 j.entry wrong.1 h.named in
-    let first = subst (λ (entry : Entry). IsFirst (later_faults (entry_definition m entry.number) job) e) same wrong.2 in
-    let none = h.faultless in
+one_fault : (later : Later) (m : Module) (job : Data) (a b : JobError) → FirstFaultOf later m job a → FirstFaultOf later m job b → a ≡ b
+one_fault later m job a b (inl ha) (inl hb) = one_entry_fault m (text_of key.Entry job) a b ha hb
+one_fault later m job a b (inl ha) (inr hb) = absurd (entry_or_fault m (text_of key.Entry job) hb.0 a hb.1 ha)
+one_fault later m job a b (inr ha) (inl hb) = absurd (entry_or_fault m (text_of key.Entry job) ha.0 b ha.1 hb)
+one_fault later m job a b (inr ha) (inr hb) =
+    let same = one_entry m (text_of key.Entry job) hb.0 ha.0 hb.1 ha.1 in
+    one_first (later (entry_definition m ha.0.number) job) a b ha.2 (subst (λ (entry : Entry). IsFirst (later (entry_definition m entry.number) job) b) same hb.2)
+
+faultless_or_fault : (later : Later) (m : Module) (job : Data) (entry : Entry) (e : JobError) → IsEntry m (text_of key.Entry job) entry
+    → later (entry_definition m entry.number) job ≡ [] → FirstFaultOf later m job e → ⊥
+faultless_or_fault later m job entry e named none (inl wrong) = entry_or_fault m (text_of key.Entry job) entry e named wrong
+faultless_or_fault later m job entry e named none (inr wrong) =
+    let same = one_entry m (text_of key.Entry job) wrong.0 entry wrong.1 named in
+    let first = subst (λ (entry : Entry). IsFirst (later (entry_definition m entry.number) job) e) same wrong.2 in
     let some = first.is in
     absurd (cc)
 
@@ -78,7 +83,7 @@ one_job m job a b ha hb =
     ∙ ap (λ x. make b.entry b.args b.cells b.words x a.stores) length
     ∙ ap (λ x. make b.entry b.args b.cells b.words b.length x) stores
 
-one_value : (bytes : List ℕ) (a b : Data) → Reads bytes a → Reads bytes b → a ≡ b
+pub one_value : (bytes : List ℕ) (a b : Data) → Reads bytes a → Reads bytes b → a ≡ b
 one_value bytes a b ha hb = let ia = ha.1 in let ib = hb.1 in cc
 
 pub one_run_job : (bytes : List ℕ) (m : Module) (a b : RunJob) → IsRunJob bytes m a → IsRunJob bytes m b → a ≡ b
@@ -86,37 +91,43 @@ one_run_job bytes m a b ha hb =
     let same = one_value bytes hb.0 ha.0 hb.1 ha.1 in
     one_job m ha.0 a b ha.2 (subst (λ job. IsJob m job b) same hb.2)
 
-pub one_refusal : (bytes : List ℕ) (m : Module) (a b : JobError) → RefusedJob bytes m a → RefusedJob bytes m b → a ≡ b
-one_refusal bytes m a b (inl ha) (inl hb) = ha.0 ∙ sym hb.0
-one_refusal bytes m a b (inl ha) (inr hb) = absurd (ha.1 hb.0 hb.1)
-one_refusal bytes m a b (inr ha) (inl hb) = absurd (hb.1 ha.0 ha.1)
-one_refusal bytes m a b (inr ha) (inr hb) =
+-- bytes are refused for one cause alone
+pub one_refusal : (later : Later) (bytes : List ℕ) (m : Module) (a b : JobError) → RefusedJobOf later bytes m a → RefusedJobOf later bytes m b → a ≡ b
+one_refusal later bytes m a b (inl ha) (inl hb) = ha.0 ∙ sym hb.0
+one_refusal later bytes m a b (inl ha) (inr hb) = absurd (ha.1 hb.0 hb.1)
+one_refusal later bytes m a b (inr ha) (inl hb) = absurd (hb.1 ha.0 ha.1)
+one_refusal later bytes m a b (inr ha) (inr hb) =
     let same = one_value bytes hb.0 ha.0 hb.1 ha.1 in
-    one_fault m ha.0 a b ha.2 (subst (λ job. FirstFault m job b) same hb.2)
+    one_fault later m ha.0 a b ha.2 (subst (λ job. FirstFaultOf later m job b) same hb.2)
+
+-- bytes that stand for a job without a fault aren't refused
+pub faultless_or_refusal : (later : Later) (bytes : List ℕ) (m : Module) (job : Data) (entry : Entry) (e : JobError) → Reads bytes job
+    → IsEntry m (text_of key.Entry job) entry → later (entry_definition m entry.number) job ≡ [] → RefusedJobOf later bytes m e → ⊥
+faultless_or_refusal later bytes m job entry e reads named none (inl wrong) = wrong.1 job reads
+faultless_or_refusal later bytes m job entry e reads named none (inr wrong) =
+    let same = one_value bytes wrong.0 job wrong.1 reads in
+    faultless_or_fault later m job entry e named none (subst (λ job. FirstFaultOf later m job e) same wrong.2)
 
 pub job_or_refusal : (bytes : List ℕ) (m : Module) (j : RunJob) (e : JobError) → IsRunJob bytes m j → RefusedJob bytes m e → ⊥
-job_or_refusal bytes m j e h (inl wrong) = wrong.1 h.0 h.1
-job_or_refusal bytes m j e h (inr wrong) =
-    let same = one_value bytes wrong.0 h.0 wrong.1 h.1 in
-    job_or_fault m h.0 j e h.2 (subst (λ job. FirstFault m job e) same wrong.2)
+job_or_refusal bytes m j e h wrong = faultless_or_refusal later_faults bytes m h.0 j.entry e h.1 h.2.named h.2.faultless wrong
 
 abbrev pub Answer : Type 0
 Answer = Result RunJob JobError
 
 -- an answer that is right where it is a job, and has a cause where it is an error, is the only one
-pub complete : (bytes : List ℕ) (m : Module) (answer : Answer) → IfOk answer (IsRunJob bytes m)
-    → IfErr answer (λ e. (e ≡ NoMemory) ⊎ RefusedJob bytes m e)
-    → (j : RunJob) → IsRunJob bytes m j → MatchResult answer (λ found. found ≡ j) (λ e. e ≡ NoMemory)
-complete bytes m (Ok found) right cause j h = one_run_job bytes m found j right h
-complete bytes m (Err e) right (inl memory) j h = memory
-complete bytes m (Err e) right (inr wrong) j h = absurd (job_or_refusal bytes m j e h wrong)
+pub complete : {J : Type 0} (Is : J → Type 0) (Refuses : JobError → Type 0) (answer : Result J JobError) → ((a b : J) → Is a → Is b → a ≡ b) → ((j : J) (e : JobError) → Is j → Refuses e → ⊥)
+    → IfOk answer Is → IfErr answer (λ e. (e ≡ NoMemory) ⊎ Refuses e)
+    → (j : J) → Is j → MatchResult answer (λ found. found ≡ j) (λ e. e ≡ NoMemory)
+complete Is Refuses (Ok found) one never right cause j h = one found j right h
+complete Is Refuses (Err e) one never right (inl memory) j h = memory
+complete Is Refuses (Err e) one never right (inr wrong) j h = absurd (never j e h wrong)
 
-pub exact : (bytes : List ℕ) (m : Module) (answer : Answer) → IfOk answer (IsRunJob bytes m)
-    → IfErr answer (λ e. (e ≡ NoMemory) ⊎ RefusedJob bytes m e)
-    → (e : JobError) → RefusedJob bytes m e → (answer ≡ Err e) ⊎ (answer ≡ Err NoMemory)
-exact bytes m (Ok found) right cause e h = absurd (job_or_refusal bytes m found e right h)
-exact bytes m (Err other) right (inl memory) e h = inr (ap Err memory)
-exact bytes m (Err other) right (inr wrong) e h = inl (ap Err (one_refusal bytes m other e wrong h))
+pub exact : {J : Type 0} (Is : J → Type 0) (Refuses : JobError → Type 0) (answer : Result J JobError) → ((a b : JobError) → Refuses a → Refuses b → a ≡ b) → ((j : J) (e : JobError) → Is j → Refuses e → ⊥)
+    → IfOk answer Is → IfErr answer (λ e. (e ≡ NoMemory) ⊎ Refuses e)
+    → (e : JobError) → Refuses e → (answer ≡ Err e) ⊎ (answer ≡ Err NoMemory)
+exact Is Refuses (Ok found) one never right cause e h = absurd (never found e right h)
+exact Is Refuses (Err other) one never right (inl memory) e h = inr (ap Err memory)
+exact Is Refuses (Err other) one never right (inr wrong) e h = inl (ap Err (one other e wrong h))
 
 pub named_within : (m : Module) (name : Option (List ℕ)) (entry : Entry) → IsEntry m name entry → entry.number < length m.entries
 named_within m None entry h = absurd h

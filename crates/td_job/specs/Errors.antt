@@ -1,5 +1,5 @@
 -- The codes and the paths of error lines (own rule).
-use Rattle.std.specs.Prelude.{ℕ, List, [], Some, codes}
+use Rattle.std.specs.Prelude.{ℕ, List, [], ◌++◌, Some, codes}
 use Rattle.td_core.specs.Paths.{indexed}
 use Rattle.td_job.specs.declared.error.Key.{Key}
 use Rattle.td_job.specs.declared.error.Key.TheVariants as key
@@ -18,6 +18,12 @@ key_name key.Cells = codes "cells"
 key_name key.Bytes = codes "bytes"
 key_name key.Length = codes "length"
 key_name key.Stores = codes "stores"
+key_name key.Buffer = codes "buffer"
+key_name key.Workers = codes "workers"
+key_name key.Guests = codes "guests"
+key_name key.Script = codes "script"
+key_name key.Posts = codes "posts"
+key_name key.Words = codes "words"
 
 abbrev pub rule_code : JobRule → List ℕ
 rule_code rule.NotJson = codes "J1"
@@ -29,12 +35,20 @@ rule_code rule.NoWord = codes "J6"
 rule_code rule.PastBytes = codes "J7"
 rule_code rule.Limit = codes "J8"
 
--- `job` for the whole of it, a field's name, an element's place in its list after that, or the name that no job has
+-- after a guest's place in the list of guests and a dot, what stands within the guest
+abbrev pub guest_bytes : ℕ → List ℕ → List ℕ
+guest_bytes guest within = indexed (key_name key.Guests) (Some guest) ++ codes "." ++ within
+
+-- `job` for the whole of it, a field's name, an element's place in its list after that, or the name that no job has; and
+-- the same within a guest
 abbrev pub path_bytes : Path → List ℕ
 path_bytes path.Job = codes "job"
 path_bytes (path.Whole k) = key_name k
 path_bytes (path.Element k index) = indexed (key_name k) (Some index)
 path_bytes (path.Unknown name) = name
+path_bytes (path.Script guest) = guest_bytes guest (key_name key.Script)
+path_bytes (path.Step guest index) = guest_bytes guest (indexed (key_name key.Script) (Some index))
+path_bytes (path.UnknownOf guest name) = guest_bytes guest name
 
 abbrev pub path_of : JobError → List ℕ
 path_of (fault.Fault r place) = path_bytes place

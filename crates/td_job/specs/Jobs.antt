@@ -4,7 +4,7 @@
 -- in that order, each field looked at for all that can be wrong with it (a list first for its length, and then element
 -- by element), and then the fields of other names; at one place the lower code stands first. The answer is the first
 -- fault. A job that is no object has no field.
-use Rattle.std.specs.Prelude.{◌≡◌, ℕ, ◌+◌, ◌*◌, ◌/◌, ◌%◌, ◌<◌, ◌≤◌, ◌^◌, List, [], ◌∷◌, ◌++◌, length, Bool, ◌||◌, nat_lt, nat_le, if◌then◌else◌, bytes_eq, Option, Some, None, option_and_then, IsSomeAnd, Result, Ok, Err, ◌⊎◌}
+use Rattle.std.specs.Prelude.{◌≡◌, ℕ, ◌+◌, ◌*◌, ◌/◌, ◌%◌, ◌<◌, ◌≤◌, ◌^◌, List, [], ◌∷◌, ◌++◌, length, Bool, false, ◌||◌, nat_lt, nat_le, if◌then◌else◌, bytes_eq, Option, Some, None, option_and_then, IsSomeAnd, Result, Ok, Err, ◌⊎◌}
 use Rattle.std.specs.List.{All}
 use Rattle.serde_json.specs.Data.{Data, Items, no_items, item, Members, no_members, member}
 use Rattle.serde_json.specs.Events.{items_len}
@@ -18,6 +18,7 @@ use Rattle.td_core.specs.Entries.{IsEntryNamed, IsFirstNamed, entry_definition}
 use Rattle.td_core.specs.Formed.{AllFit}
 use Rattle.td_num.specs.Numbers.{rising_at}
 use Rattle.td_sched.specs.declared.store.PlannedStore.{PlannedStore}
+use Rattle.td_job.specs.declared.error.Key.{Key}
 use Rattle.td_job.specs.declared.error.Key.TheVariants as key
 use Rattle.td_job.specs.declared.error.JobRule.TheVariants as rule
 use Rattle.td_job.specs.declared.error.Path.{Path}
@@ -42,14 +43,14 @@ abbrev pub IsEntry : Module → Option (List ℕ) → Entry → Type 0
 IsEntry m None entry = ⊥
 IsEntry m (Some name) entry = (entry.number < 2 ^ 32) × IsFirstNamed m name entry
 
--- `bytes` is a text (J2) of an even number of hexadecimal digits of either case (J5), two for each byte
-abbrev pub digit_faults : Result (List ℕ) FromHexError → List JobError
-digit_faults (Ok bytes) = []
-digit_faults (Err e) = Fault rule.Digits (path.Whole key.Bytes) ∷ []
+-- A field of bytes is a text (J2) of an even number of hexadecimal digits of either case (J5), two for each byte
+abbrev pub digit_faults : Key → Result (List ℕ) FromHexError → List JobError
+digit_faults k (Ok bytes) = []
+digit_faults k (Err e) = Fault rule.Digits (path.Whole k) ∷ []
 
-abbrev pub bytes_faults : Option (List ℕ) → List JobError
-bytes_faults None = Fault rule.Form (path.Whole key.Bytes) ∷ []
-bytes_faults (Some text) = digit_faults (decode_of text)
+abbrev pub bytes_faults : Key → Option (List ℕ) → List JobError
+bytes_faults k None = Fault rule.Form (path.Whole k) ∷ []
+bytes_faults k (Some text) = digit_faults k (decode_of text)
 
 abbrev pub bytes_or_none : Result (List ℕ) FromHexError → List ℕ
 bytes_or_none (Ok bytes) = bytes
@@ -151,33 +152,47 @@ listed_stores (Some values) = each_store values
 abbrev pub given_stores : Data → List PlannedStore
 given_stores job = listed_stores (option_and_then as_array (field_of key.Stores job))
 
--- a field has one of the six names (J2)
-abbrev pub is_known : List ℕ → Bool
-is_known name = bytes_eq name (key_name key.Entry) || bytes_eq name (key_name key.Args) || bytes_eq name (key_name key.Cells) || bytes_eq name (key_name key.Bytes) || bytes_eq name (key_name key.Length) || bytes_eq name (key_name key.Stores)
+-- the name of one of these fields
+abbrev pub is_known : List Key → List ℕ → Bool
+is_known [] name = false
+is_known (k ∷ keys) name = bytes_eq name (key_name k) || is_known keys name
 
-abbrev pub member_faults : Members → List JobError
-member_faults no_members = []
-member_faults (member name value others) = (if is_known name then [] else Fault rule.Form (path.Unknown name) ∷ []) ++ member_faults others
+-- the first member that is none of these fields; members stand in the byte order of their names
+abbrev pub first_unknown_in : List Key → Members → Option (List ℕ)
+first_unknown_in keys no_members = None
+first_unknown_in keys (member name value others) = if is_known keys name then first_unknown_in keys others else Some name
 
-abbrev pub name_faults : Option Members → List JobError
-name_faults None = []
-name_faults (Some members) = member_faults members
+abbrev pub first_unknown : List Key → Option Members → Option (List ℕ)
+first_unknown keys None = None
+first_unknown keys (Some members) = first_unknown_in keys members
+
+-- such a field is a fault (J2), at the path of its name
+abbrev pub unknown_faults : (List ℕ → Path) → Option (List ℕ) → List JobError
+unknown_faults place None = []
+unknown_faults place (Some name) = Fault rule.Form (place name) ∷ []
+
+-- the fields of a run job
+abbrev pub run_keys : List Key
+run_keys = key.Entry ∷ key.Args ∷ key.Cells ∷ key.Bytes ∷ key.Length ∷ key.Stores ∷ []
 
 -- the faults of a job after those of `entry`, whose definition this is
 abbrev pub later_faults : Option TypeDef → Data → List JobError
 later_faults d job =
     args_faults (args_bounds d) (field_of key.Args job)
     ++ cells_faults (cells_bounds d) (field_of key.Cells job)
-    ++ bytes_faults (text_of key.Bytes job)
+    ++ bytes_faults key.Bytes (text_of key.Bytes job)
     ++ length_faults (length (given_bytes job)) (number_of key.Length job)
     ++ stores_faults (message_words job) (field_of key.Stores job)
-    ++ name_faults (as_object job)
+    ++ unknown_faults path.Unknown (first_unknown run_keys (as_object job))
 
--- the first fault of a job
-abbrev pub FirstFault : Module → Data → JobError → Type 0
-FirstFault m job e =
+-- the first fault of a job whose faults after those of `entry` are these
+abbrev pub FirstFaultOf : (Option TypeDef → Data → List JobError) → Module → Data → JobError → Type 0
+FirstFaultOf later m job e =
     EntryFault m (text_of key.Entry job) e
-    ⊎ ((entry : Entry) × IsEntry m (text_of key.Entry job) entry × IsFirst (later_faults (entry_definition m entry.number) job) e)
+    ⊎ ((entry : Entry) × IsEntry m (text_of key.Entry job) entry × IsFirst (later (entry_definition m entry.number) job) e)
+
+abbrev pub FirstFault : Module → Data → JobError → Type 0
+FirstFault = FirstFaultOf later_faults
 
 -- memory may be lacking for a job: what is looked at before memory is taken has no fault, which is the entry point, the
 -- two lists, and the number of digits
@@ -216,7 +231,10 @@ pub record HasValues (m : Module) (j : RunJob) : Type 0 where
   pub cells : AllFit (cells_bounds (entry_definition m j.entry.number)) j.cells
 
 -- how the bytes are refused: they aren't JSON (J1), or stand for a job with a fault, of which it is the first
-abbrev pub RefusedJob : List ℕ → Module → JobError → Type 0
-RefusedJob bytes m e =
+abbrev pub RefusedJobOf : (Option TypeDef → Data → List JobError) → List ℕ → Module → JobError → Type 0
+RefusedJobOf later bytes m e =
     ((e ≡ Fault rule.NotJson path.Job) × ((job : Data) → Reads bytes job → ⊥))
-    ⊎ ((job : Data) × Reads bytes job × FirstFault m job e)
+    ⊎ ((job : Data) × Reads bytes job × FirstFaultOf later m job e)
+
+abbrev pub RefusedJob : List ℕ → Module → JobError → Type 0
+RefusedJob = RefusedJobOf later_faults

@@ -2,6 +2,7 @@ pub mod Errors
 pub mod Fields
 pub mod Jobs
 pub mod Named
+pub mod Parts
 pub mod Laws
 pub mod Slots
 pub mod Values

@@ -3,7 +3,6 @@
 use Rattle.std.specs.Prelude.{◌≡◌, ℕ, ◌+◌, List, [], ◌∷◌, ◌++◌, length, not, nat_eq, nat_lt, nat_le, Some, ◌⊎◌}
 use Rattle.td_core.specs.declared.module.Module.{Module}
 use Rattle.td_core.specs.declared.module.Entry.{Entry}
-use Rattle.td_core.specs.declared.module.TypeDef.{TypeDef}
 use Rattle.td_core.specs.Entries.{entry_definition}
 use Rattle.td_core.specs.Formed.{Bound}
 use Rattle.td_sched.specs.declared.store.PlannedStore.{PlannedStore}

@@ -1,10 +1,10 @@
 //! The fields of a job, each looked at for all that can be wrong with it.
 
-ghost use Rattle.std.specs.Prelude.{◌≡◌, ◌≢◌, ◌%◌, [], ◌⊎◌, length, IsOk, IfOk, IfErr, OnOk, IsSomeAnd, MatchOption, Some};
+ghost use Rattle.std.specs.Prelude.{◌≡◌, ◌≢◌, ◌%◌, [], ◌⊎◌, length, IsOk, IfOk, IfErr, OnOk, IsSomeAnd, Some, option_map};
 ghost use Rattle.serde_json.specs.Find.{as_object};
 ghost use Rattle.serde_json.specs.View.{view};
 ghost use Rattle.td_job.specs.Fields.{text_of, number_of, IsFirst};
-ghost use Rattle.td_job.specs.Jobs.{EntryFault, IsEntry, bytes_faults, given_bytes, length_faults, is_known, name_faults};
+ghost use Rattle.td_job.specs.Jobs.{EntryFault, IsEntry, bytes_faults, spelled_bytes, length_faults, is_known, first_unknown, unknown_faults};
 
 use crate::error::{JobError, JobRule, Key, Path};
 use crate::json::{number_of, text_of};
@@ -19,7 +19,7 @@ use td_num::text::Text;
 pub const MOST_BYTES: u64 = 1_048_576;
 
 /// The entry point that a job names. J2: `entry` is missing or no text. J3: no entry point has the name.
-pub(crate) fn entry_of(job: &Value, m: &Module) -> Result<Entry, JobError>
+pub fn entry_of(job: &Value, m: &Module) -> Result<Entry, JobError>
     ensures ok { IfOk result (λ entry. IsEntry m.now (text_of Key.Entry (view job.now)) entry) }
     ensures err { IfErr result (λ e. EntryFault m.now (text_of Key.Entry (view job.now)) e) }
 {
@@ -34,29 +34,29 @@ pub(crate) fn entry_of(job: &Value, m: &Module) -> Result<Entry, JobError>
 
 /// The cause of an error of reading hexadecimal digits: out of memory exactly where it was that, else J5. Takes no
 /// memory.
-fn fault_of(error: FromHexError) -> JobError
+fn fault_of(error: FromHexError, key: Key) -> JobError
     ensures memory { error ≡ FromHexError.OutOfMemory → result ≡ JobError.NoMemory }
-    ensures digits { error ≢ FromHexError.OutOfMemory → result ≡ JobError.Fault JobRule.Digits (Path.Whole Key.Bytes) }
+    ensures digits { error ≢ FromHexError.OutOfMemory → result ≡ JobError.Fault JobRule.Digits (Path.Whole key) }
 {
     match error {
         FromHexError::OutOfMemory => JobError::NoMemory,
-        _ => JobRule::Digits.at(Path::Whole(Key::Bytes)),
+        _ => JobRule::Digits.at(Path::Whole(key)),
     }
 }
 
-/// The bytes that a job gives. J2: `bytes` is missing or no text. J5: it is not an even number of hexadecimal digits.
-/// `NoMemory`: there was no memory for the bytes; never where the number of digits is odd.
-pub(crate) fn bytes_of(alloc: Global, job: &Value) -> Result<Vec<u8>, JobError>
-    ensures ok { IfOk result (λ bytes. (bytes_faults (text_of Key.Bytes (view job.now)) ≡ []) × (given_bytes (view job.now) ≡ bytes.items)) }
-    ensures err { IfErr result (λ e. (e ≡ JobError.NoMemory) ⊎ IsFirst (bytes_faults (text_of Key.Bytes (view job.now))) e) }
-    ensures memory { result ≡ Err JobError.NoMemory → IsSomeAnd (text_of Key.Bytes (view job.now)) (λ text. length text % 2 ≡ 0) }
+/// The bytes that a field of a job gives. J2: it is missing or no text. J5: it is not an even number of hexadecimal
+/// digits. `NoMemory`: there was no memory for the bytes; never where the number of digits is odd.
+pub fn bytes_of(alloc: Global, job: &Value, key: Key) -> Result<Vec<u8>, JobError>
+    ensures ok { IfOk result (λ bytes. (bytes_faults key (text_of key (view job.now)) ≡ []) × (spelled_bytes (text_of key (view job.now)) ≡ bytes.items)) }
+    ensures err { IfErr result (λ e. (e ≡ JobError.NoMemory) ⊎ IsFirst (bytes_faults key (text_of key (view job.now))) e) }
+    ensures memory { result ≡ Err JobError.NoMemory → IsSomeAnd (text_of key (view job.now)) (λ text. length text % 2 ≡ 0) }
 {
-    let Some(text) = text_of(job, Key::Bytes) else {
-        return Err(JobRule::Form.at(Path::Whole(Key::Bytes)));
+    let Some(text) = text_of(job, key) else {
+        return Err(JobRule::Form.at(Path::Whole(key)));
     };
     match hex::decode(alloc, text) {
         Ok(bytes) => Ok(bytes),
-        Err(error) => Err(fault_of(error)),
+        Err(error) => Err(fault_of(error, key)),
     }
 }
 
@@ -78,39 +78,40 @@ pub(crate) fn length_of(job: &Value, given: usize) -> Result<u32, JobError>
     }
 }
 
-/// Whether a field of this name is one of a job's.
-fn is_known(name: &str) -> bool
-    ensures { result ≡ is_known name.now }
+/// Whether a field of this name is one of these.
+fn is_known(name: &str, keys: &[Key]) -> bool
+    ensures { result ≡ is_known keys.now name.now }
 {
-    name == Key::Entry.name()
-        || name == Key::Args.name()
-        || name == Key::Cells.name()
-        || name == Key::Bytes.name()
-        || name == Key::Length.name()
-        || name == Key::Stores.name()
+    for key in keys {
+        if name == key.name() {
+            return true;
+        }
+    }
+    false
 }
 
-/// The first name in byte order of a field that no job has. None: each field has a known name.
-fn unknown_name(job: &Value) -> Option<&str>
-    ensures { MatchOption result (name_faults (as_object (view job.now)) ≡ []) (λ name. IsFirst (name_faults (as_object (view job.now))) (JobError.Fault JobRule.Form (Path.Unknown name.now))) }
+/// The first name in byte order of a field that is none of these. None: each field is one of these, or the value is no
+/// object. Takes no memory.
+pub fn unknown_name<'a>(job: &'a Value, keys: &[Key]) -> Option<&'a str>
+    ensures { option_map (λ name. name.now) result ≡ first_unknown keys.now (as_object (view job.now)) }
 {
     let members = job.as_object()?;
     for (name, _) in members {
-        if !is_known(name.as_str()) {
+        if !is_known(name.as_str(), keys) {
             return Some(name.as_str());
         }
     }
     None
 }
 
-/// Tests that each field has a known name. J2, at the first other name in byte order. `NoMemory`: there was no memory
-/// for that name; never where each name is known.
-pub(crate) fn check_names(alloc: Global, job: &Value) -> Result<(), JobError>
-    ensures ok { OnOk result (name_faults (as_object (view job.now)) ≡ []) }
-    ensures err { IfErr result (λ e. (e ≡ JobError.NoMemory) ⊎ IsFirst (name_faults (as_object (view job.now))) e) }
-    ensures known { name_faults (as_object (view job.now)) ≡ [] → IsOk result }
+/// Tests that each field of a job is one of these. J2, at the first other name in byte order. `NoMemory`: there was no
+/// memory for that name; never where each name is known.
+pub fn check_names(alloc: Global, job: &Value, keys: &[Key]) -> Result<(), JobError>
+    ensures ok { OnOk result (unknown_faults Path.Unknown (first_unknown keys.now (as_object (view job.now))) ≡ []) }
+    ensures err { IfErr result (λ e. (e ≡ JobError.NoMemory) ⊎ IsFirst (unknown_faults Path.Unknown (first_unknown keys.now (as_object (view job.now)))) e) }
+    ensures known { unknown_faults Path.Unknown (first_unknown keys.now (as_object (view job.now))) ≡ [] → IsOk result }
 {
-    let Some(name) = unknown_name(job) else {
+    let Some(name) = unknown_name(job, keys) else {
         return Ok(());
     };
     let bytes = Text::copy_of(alloc, name.as_bytes())?;

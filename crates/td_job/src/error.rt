@@ -2,14 +2,15 @@
 
 ghost use Rattle.std.specs.Prelude.{◌≡◌};
 ghost use Rattle.td_core.specs.Paths.{indexed};
-ghost use Rattle.td_job.specs.Errors.{rule_code, key_name, path_bytes, code_of, path_of};
+ghost use Rattle.td_job.specs.Errors.{rule_code, key_name, guest_bytes, path_bytes, code_of, path_of};
+ghost use Rattle.td_job.specs.Parts.{parts_bytes};
 
 use std::alloc::AllocError;
 use std::fmt;
 use td_num::text::Text;
 use thiserror::Error;
 
-/// The name of a field of a run job.
+/// The name of a field of a run job, of a host job or of a guest in one, or of a total over a host job.
 #[derive(Clone, Copy, PartialEq, Eq, Debug)]
 pub enum Key {
     /// The name of the entry point.
@@ -22,8 +23,20 @@ pub enum Key {
     Bytes,
     /// How many bytes the message has.
     Length,
-    /// What others store to the words, and when.
+    /// What others store to the words, and when; and the total of the stores of all guests.
     Stores,
+    /// The bytes that the guests' messages lie in, as hexadecimal digits.
+    Buffer,
+    /// How many workers validate messages.
+    Workers,
+    /// The guests.
+    Guests,
+    /// What a guest does, step by step.
+    Script,
+    /// The total of the posts of all guests.
+    Posts,
+    /// The total of the words of all messages.
+    Words,
 }
 
 impl Key {
@@ -38,6 +51,12 @@ impl Key {
             Key::Bytes => "bytes",
             Key::Length => "length",
             Key::Stores => "stores",
+            Key::Buffer => "buffer",
+            Key::Workers => "workers",
+            Key::Guests => "guests",
+            Key::Script => "script",
+            Key::Posts => "posts",
+            Key::Words => "words",
         }
     }
 }
@@ -55,9 +74,9 @@ pub enum JobRule {
     Values,
     /// A text is not an even number of hexadecimal digits, or a store's is not 16.
     Digits,
-    /// A store's word is none of the message's.
+    /// A store's word is none of the message's, or of the buffer's.
     NoWord,
-    /// The message is longer than the bytes given.
+    /// The message is longer than the bytes given, or a post's passes the end of the buffer.
     PastBytes,
     /// A limit is passed.
     Limit,
@@ -81,7 +100,7 @@ impl JobRule {
     }
 
     /// The fault of a job that breaks the rule here.
-    pub(crate) fn at(self, path: Path) -> JobError
+    pub fn at(self, path: Path) -> JobError
         ensures { result ≡ JobError.Fault self path }
     {
         JobError::Fault { rule: self, path }
@@ -99,39 +118,78 @@ pub enum Path {
     Element { key: Key, index: usize },
     /// A field that no job has, by the bytes of its name.
     Unknown(Text),
+    /// The script of a guest, by the guest's place in the list of guests, counted from 0.
+    Script { guest: usize },
+    /// A step of a guest's script, counted from 0.
+    Step { guest: usize, index: usize },
+    /// A field of a guest that no guest has, by the bytes of its name.
+    UnknownOf { guest: usize, name: Text },
 }
 
-/// The path of an error line, in the parts that it is written of: a name, and the place in a list, from 0, which
-/// stands after it in brackets.
+/// An element of a list: the list's name, and the place in it, from 0.
+#[derive(Clone, Copy, Debug)]
+pub struct ListElement<'a> {
+    pub list: &'a [u8],
+    pub place: usize,
+}
+
+/// The path of an error line, in the parts that it is written of: the element that it goes on from, before a dot, where
+/// there is one; a name; and the place in a list, from 0, which stands after it in brackets.
 #[derive(Clone, Copy, Debug)]
 pub struct PathParts<'a> {
+    pub within: Option<ListElement<'a>>,
     pub name: &'a [u8],
     pub index: Option<usize>,
 }
 
-impl Path {
-    /// The name, and the place in a list where there is one. Takes no memory.
-    pub fn parts(&self) -> PathParts<'_>
-        ensures { indexed result.name.now result.index ≡ path_bytes self.now }
+impl<'a> PathParts<'a> {
+    fn of(name: &'a [u8], index: Option<usize>) -> PathParts<'a>
+        ensures { parts_bytes result ≡ indexed name.now index }
     {
-        match self {
-            Path::Job => PathParts {
-                name: b"job",
-                index: None,
-            },
-            Path::Whole(key) => PathParts {
-                name: key.name().as_bytes(),
-                index: None,
-            },
-            Path::Element { key, index } => PathParts {
-                name: key.name().as_bytes(),
-                index: Some(*index),
-            },
-            Path::Unknown(name) => PathParts {
-                name: name.as_slice(),
-                index: None,
-            },
+        PathParts {
+            within: None,
+            name,
+            index,
         }
+    }
+
+    fn of_guest(guest: usize, name: &'a [u8], index: Option<usize>) -> PathParts<'a>
+        ensures { parts_bytes result ≡ guest_bytes guest (indexed name.now index) }
+    {
+        PathParts {
+            within: Some(ListElement {
+                list: Key::Guests.name().as_bytes(),
+                place: guest,
+            }),
+            name,
+            index,
+        }
+    }
+}
+
+impl Path {
+    /// The parts that it is written of. Takes no memory.
+    pub fn parts(&self) -> PathParts<'_>
+        ensures { parts_bytes result ≡ path_bytes self.now }
+    {
+        let script = Key::Script.name().as_bytes();
+        match self {
+            Path::Job => PathParts::of(b"job", None),
+            Path::Whole(key) => PathParts::of(key.name().as_bytes(), None),
+            Path::Element { key, index } => PathParts::of(key.name().as_bytes(), Some(*index)),
+            Path::Unknown(name) => PathParts::of(name.as_slice(), None),
+            Path::Script { guest } => PathParts::of_guest(*guest, script, None),
+            Path::Step { guest, index } => PathParts::of_guest(*guest, script, Some(*index)),
+            Path::UnknownOf { guest, name } => PathParts::of_guest(*guest, name.as_slice(), None),
+        }
+    }
+}
+
+/// A name of a field that no job has. A name in JSON is UTF-8, so the mark that stands for any other isn't met.
+fn shown(name: &Text) -> &str {
+    match str::from_utf8(name.as_slice()) {
+        Ok(name) => name,
+        Err(_) => "?",
     }
 }
 
@@ -141,11 +199,10 @@ impl fmt::Display for Path {
             Path::Job => write!(f, "job"),
             Path::Whole(key) => write!(f, "{}", key.name()),
             Path::Element { key, index } => write!(f, "{}[{index}]", key.name()),
-            Path::Unknown(name) => match str::from_utf8(name.as_slice()) {
-                Ok(name) => write!(f, "{name}"),
-                // A name in JSON is UTF-8, so this isn't met.
-                Err(_) => write!(f, "?"),
-            },
+            Path::Unknown(name) => write!(f, "{}", shown(name)),
+            Path::Script { guest } => write!(f, "guests[{guest}].script"),
+            Path::Step { guest, index } => write!(f, "guests[{guest}].script[{index}]"),
+            Path::UnknownOf { guest, name } => write!(f, "guests[{guest}].{}", shown(name)),
         }
     }
 }
@@ -186,14 +243,11 @@ impl JobError {
     /// The path of its error line, such as `args[3]`, in parts. Takes no memory. Out of memory has no path, and none is
     /// given.
     pub fn path(&self) -> PathParts<'_>
-        ensures { indexed result.name.now result.index ≡ path_of self.now }
+        ensures { parts_bytes result ≡ path_of self.now }
     {
         match self {
             JobError::Fault { path, .. } => path.parts(),
-            JobError::NoMemory => PathParts {
-                name: b"",
-                index: None,
-            },
+            JobError::NoMemory => PathParts::of(b"", None),
         }
     }
 }

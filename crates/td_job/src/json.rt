@@ -24,7 +24,7 @@ fn fault_of(error: &Error) -> JobError
 
 /// The value that the bytes stand for. J1: they are not JSON. `NoMemory`: there was no memory for it; never where there
 /// are no bytes.
-pub(crate) fn read_json(alloc: Global, bytes: &[u8]) -> Result<Value, JobError>
+pub fn read_json(alloc: Global, bytes: &[u8]) -> Result<Value, JobError>
     ensures ok { IfOk result (λ job. Reads bytes.now (view job)) }
     ensures err { IfErr result (λ e. (e ≡ JobError.NoMemory) ⊎ ((e ≡ JobError.Fault JobRule.NotJson Path.Job) × ((job : Data) → Reads bytes.now job → ⊥))) }
     ensures memory { result ≡ Err JobError.NoMemory → 0 < length bytes.now }
@@ -36,21 +36,21 @@ pub(crate) fn read_json(alloc: Global, bytes: &[u8]) -> Result<Value, JobError>
 }
 
 /// A field's value. None: it is missing.
-pub(crate) fn field_of(job: &Value, key: Key) -> Option<&Value>
+pub fn field_of(job: &Value, key: Key) -> Option<&Value>
     ensures { option_map (λ v. view v.now) result ≡ field_of key (view job.now) }
 {
     job.get(key.name())
 }
 
 /// A field's text. None: it is missing or no text.
-pub(crate) fn text_of(job: &Value, key: Key) -> Option<&str>
+pub fn text_of(job: &Value, key: Key) -> Option<&str>
     ensures { option_map (λ t. t.now) result ≡ text_of key (view job.now) }
 {
     field_of(job, key).and_then(Value::as_str)
 }
 
 /// A field's number. None: it is missing or no whole number below 2^64.
-pub(crate) fn number_of(job: &Value, key: Key) -> Option<u64>
+pub fn number_of(job: &Value, key: Key) -> Option<u64>
     ensures { result ≡ number_of key (view job.now) }
 {
     field_of(job, key).and_then(Value::as_u64)

@@ -33,6 +33,16 @@ pub struct RunJob {
     pub stores: Items<PlannedStore>,
 }
 
+/// The fields of a run job.
+const FIELDS: &[Key] = &[
+    Key::Entry,
+    Key::Args,
+    Key::Cells,
+    Key::Bytes,
+    Key::Length,
+    Key::Stores,
+];
+
 /// The run job of a parsed text, or its first fault.
 fn job_of(alloc: Global, job: &Value, m: &Module) -> Result<RunJob, JobError>
     ensures ok { IfOk result (λ j. IsJob m.now (view job.now) j) }
@@ -45,10 +55,10 @@ fn job_of(alloc: Global, job: &Value, m: &Module) -> Result<RunJob, JobError>
     let (params, cells) = (params_of(definition), cells_of(definition));
     check_args(job, params)?;
     check_cells(job, cells)?;
-    let bytes = bytes_of(alloc, job)?;
+    let bytes = bytes_of(alloc, job, Key::Bytes)?;
     let length = length_of(job, bytes.len())?;
     let stores = stores_of(alloc, job, length.div_ceil(8))?;
-    check_names(alloc, job)?;
+    check_names(alloc, job, FIELDS)?;
     let words = fill_words(alloc, bytes.as_slice(), length.div_ceil(8))?;
     Ok(RunJob {
         entry,

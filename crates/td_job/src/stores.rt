@@ -42,7 +42,7 @@ fn spelled_store(value: &Value) -> Option<SpelledStore<'_>>
 }
 
 /// The word of 16 hexadecimal digits, two for each byte, that of least weight first. None: the text is anything else.
-fn word_of(text: &str) -> Option<u64>
+pub fn word_of(text: &str) -> Option<u64>
     ensures { result ≡ spelled_word text.now }
 {
     let bytes = <[u8; 8] as FromHex>::from_hex(text).ok()?;

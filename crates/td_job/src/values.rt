@@ -21,7 +21,7 @@ use td_num::number::Width;
 
 /// What the values of a list stand for: parameters or cells.
 #[derive(Clone, Copy)]
-pub(crate) enum Slots<'a> {
+pub enum Slots<'a> {
     Params(&'a [Param]),
     Cells(&'a [Cell]),
 }
@@ -40,7 +40,7 @@ fn greatest(width: Width) -> u64
 
 impl Slots<'_> {
     /// How many there are.
-    pub(crate) fn len(self) -> usize
+    pub fn len(self) -> usize
         ensures { result ≡ length (slot_bounds self.entry) }
     {
         match self {
@@ -64,14 +64,14 @@ impl Slots<'_> {
 }
 
 /// The definition of an entry point; none where there is no such entry point, or that has no definition.
-pub(crate) fn definition_of(m: &Module, entry: Entry) -> Option<&TypeDef>
+pub fn definition_of(m: &Module, entry: Entry) -> Option<&TypeDef>
     ensures { option_map (λ d. d.now) result ≡ entry_definition m.now entry.number }
 {
     entry_definition(m, entry)
 }
 
 /// The parameters of an entry point with this definition.
-pub(crate) fn params_of(definition: Option<&TypeDef>) -> Slots<'_>
+pub fn params_of(definition: Option<&TypeDef>) -> Slots<'_>
     ensures { slot_bounds result ≡ args_bounds (option_map (λ d. d.now) definition.entry) }
 {
     match definition {
@@ -81,7 +81,7 @@ pub(crate) fn params_of(definition: Option<&TypeDef>) -> Slots<'_>
 }
 
 /// The cells of an entry point with this definition.
-pub(crate) fn cells_of(definition: Option<&TypeDef>) -> Slots<'_>
+pub fn cells_of(definition: Option<&TypeDef>) -> Slots<'_>
     ensures { slot_bounds result ≡ cells_bounds (option_map (λ d. d.now) definition.entry) }
 {
     match definition {
@@ -139,7 +139,7 @@ fn check_list(value: &Value, key: Key, slots: Slots) -> Result<(), JobError>
 
 /// Tests the arguments. J2: `args` is left out though there are parameters, or it is no list, or an element is no whole
 /// number. J4: it has another length than the parameters, or an element doesn't fit. Takes no memory.
-pub(crate) fn check_args(job: &Value, slots: Slots) -> Result<(), JobError>
+pub fn check_args(job: &Value, slots: Slots) -> Result<(), JobError>
     ensures ok { OnOk result (args_faults (slot_bounds slots.entry) (field_of Key.Args (view job.now)) ≡ []) }
     ensures err { IfErr result (λ e. IsFirst (args_faults (slot_bounds slots.entry) (field_of Key.Args (view job.now))) e) }
     ensures broken { IfErr result (λ e. e ≢ JobError.NoMemory) }
@@ -187,7 +187,7 @@ fn zeros(alloc: Global, count: usize) -> Result<Items<u64>, AllocError>
 
 /// The values that a job gives for parameters or cells: those of its list, or zeros where that is left out. `AllocError`:
 /// there was no memory for them.
-pub(crate) fn values_of(
+pub fn values_of(
     alloc: Global,
     job: &Value,
     key: Key,

@@ -30,15 +30,15 @@ abbrev first_of : List ℕ → ℕ
 first_of [] = 0
 first_of (x ∷ xs) = x
 
-differ : (m n : ℕ) → m < n → m ≡ n → ⊥
+pub differ : (m n : ℕ) → m < n → m ≡ n → ⊥
 differ m n less same = omega arith
 
 -- ---- decimals
 
-digits_above : (n : ℕ) → n < 2 ^ 64 → Above 47 (decimal n)
+pub digits_above : (n : ℕ) → n < 2 ^ 64 → Above 47 (decimal n)
 digits_above n small = decimal_by_steps (λ n ds. Above 47 ds) (λ n one. (omega arith, tt)) (λ n ds many h. above_append 47 ds ((48 + n % 10) ∷ []) h (omega arith, tt)) n small
 
-decimal_above : (m n : ℕ) → m < 48 → n < 2 ^ 64 → Above m (decimal n)
+pub decimal_above : (m n : ℕ) → m < 48 → n < 2 ^ 64 → Above m (decimal n)
 decimal_above m n low small = above_less m 47 (decimal n) (omega arith) (digits_above n small)
 
 -- ---- verdicts
@@ -68,7 +68,7 @@ same_reason : (r s : Reason) → reason_word r ≡ reason_word s → r ≡ s
 same_reason r s e = sym (reason_back r) ∙ ap reason_of e ∙ reason_back s
 
 -- the words of the verdict's line
-abbrev verdict_words : Verdict → List ℕ
+abbrev pub verdict_words : Verdict → List ℕ
 verdict_words (Accept pos) = codes "accept " ++ decimal pos
 verdict_words (Reject reason pos) = codes "reject " ++ reason_word reason ++ codes " " ++ decimal pos
 
@@ -102,7 +102,7 @@ same_verdict (Reject r m) (Reject s n) hm hn e =
 
 -- ---- loads
 
-abbrev load_words : Load → List ℕ
+abbrev pub load_words : Load → List ℕ
 load_words load = codes "load " ++ decimal load.word ++ codes " " ++ hex_digits 16 load.value
 
 load_is : (load : Load) → load_line load ≡ line (load_words load)
@@ -178,7 +178,7 @@ spot_above least m (Field name) low words within = name_above least m name low w
 spot_above least m Where low words within = search arith
 spot_above least m Switch low words within = search arith
 
-abbrev frame_words : Module → TraceFrame → List ℕ
+abbrev pub frame_words : Module → TraceFrame → List ℕ
 frame_words m frame = codes "frame " ++ name_bytes m frame.ty ++ codes "." ++ spot_word m frame.field ++ codes " " ++ decimal frame.start
 
 frame_is : (m : Module) (frame : TraceFrame) → frame_line m frame ≡ line (frame_words m frame)
@@ -233,7 +233,7 @@ named_above : (least : ℕ) (m : Module) (cell : Cell) → least < 46 → HasWor
 named_above least m cell low words named =
     above_append least (name_bytes m cell.name) (field_word m cell.field) (name_above least m cell.name (omega arith) words named.name) (field_above least m cell.field low words named.field)
 
-abbrev cell_words : Module → CellValue → List ℕ
+abbrev pub cell_words : Module → CellValue → List ℕ
 cell_words m c = codes "out " ++ name_bytes m c.cell.name ++ field_word m c.cell.field ++ codes " " ++ decimal c.value
 
 cell_is : (m : Module) (c : CellValue) → cell_line m c ≡ line (cell_words m c)
@@ -330,11 +330,11 @@ cut_lines c (x ∷ xs) us (z ∷ ys) vs ha hb hc hd e =
     ((cc), rest.1)
 
 -- all of these lines begin with one byte
-all_begin : {A : Type 0} (P : List ℕ → Type 0) (words : A → List ℕ) → ((a : A) → P (words a)) → (xs : List A) → All P (map words xs)
+pub all_begin : {A : Type 0} (P : List ℕ → Type 0) (words : A → List ℕ) → ((a : A) → P (words a)) → (xs : List A) → All P (map words xs)
 all_begin P words each [] = All-nil P
 all_begin P words each (x ∷ xs) = All-cons P (words x) (map words xs) (each x) (all_begin P words each xs)
 
-both_all : (P : List ℕ → Type 0) (xs ys : List (List ℕ)) → All P xs → All P ys → All P (xs ++ ys)
+pub both_all : (P : List ℕ → Type 0) (xs ys : List (List ℕ)) → All P xs → All P ys → All P (xs ++ ys)
 both_all P [] ys hx hy = hy
 both_all P (x ∷ xs) ys hx hy = All-cons P x (xs ++ ys) (All-head P x xs hx) (both_all P xs ys (All-tail P x xs hx) hy)
 
@@ -364,10 +364,10 @@ same_frame_list m (f ∷ fs) (g ∷ gs) words hf hg e =
 
 -- ---- reports
 
-abbrev shown_cells : Module → Entry → Outcome → List CellValue
+abbrev pub shown_cells : Module → Entry → Outcome → List CellValue
 shown_cells m entry outcome = with_values (entry_cells (entry_definition m entry.number)) outcome.cells
 
-abbrev part_words : Module → Entry → Outcome → List Load → List (List ℕ)
+abbrev pub part_words : Module → Entry → Outcome → List Load → List (List ℕ)
 part_words m entry outcome loads =
     map (frame_words m) (frames_of outcome.verdict outcome.trace) ++ (map (cell_words m) (shown_cells m entry outcome) ++ map load_words loads)
 
@@ -383,7 +383,7 @@ frames_by_lines : (m : Module) (v : Verdict) (trace : List TraceFrame) → frame
 frames_by_lines m (Accept pos) trace = refl
 frames_by_lines m (Reject reason pos) trace = by_lines (frame_line m) (frame_words m) (frame_is m) trace
 
-report_by_lines : (m : Module) (outcome : Outcome) (entry : Entry) (loads : List Load) → report outcome m entry loads ≡ flat_map line (verdict_words outcome.verdict ∷ part_words m entry outcome loads)
+pub report_by_lines : (m : Module) (outcome : Outcome) (entry : Entry) (loads : List Load) → report outcome m entry loads ≡ flat_map line (verdict_words outcome.verdict ∷ part_words m entry outcome loads)
 report_by_lines m outcome entry loads =
     let head = line (verdict_words outcome.verdict) in
     let frames = frame_lines m outcome.verdict outcome.trace in
@@ -403,7 +403,7 @@ are_lines : {A : Type 0} (P : A → Type 0) (words : A → List ℕ) → ((a : A
 are_lines P words above [] h = tt
 are_lines P words above (x ∷ xs) h = (above x (All-head P x xs h), are_lines P words above xs (All-tail P x xs h))
 
-parts_are_lines : (m : Module) (entry : Entry) (outcome : Outcome) (loads : List Load) → HasWords m → IsNamedOutcome m outcome → HasCells m entry outcome → All IsOf64Bits loads
+pub parts_are_lines : (m : Module) (entry : Entry) (outcome : Outcome) (loads : List Load) → HasWords m → IsNamedOutcome m outcome → HasCells m entry outcome → All IsOf64Bits loads
     → AreLines (verdict_words outcome.verdict ∷ part_words m entry outcome loads)
 parts_are_lines m entry outcome loads words named cells small = (
   verdict_above outcome.verdict named.position,

@@ -6,8 +6,6 @@ pub mod error_line;
 mod hexadecimal;
 pub mod laws;
 pub mod path_line;
-mod pieces;
+pub mod pieces;
 pub mod report;
 pub mod summary;
-#[cfg(test)]
-mod tests;

@@ -1,6 +1,6 @@
 //! The lines of errors that have a path.
 
-ghost use Rattle.std.specs.Prelude.{◌≡◌, [], None};
+ghost use Rattle.std.specs.Prelude.{◌≡◌, ◌++◌, [], None, Some, codes};
 ghost use Rattle.td_core.specs.Paths.{indexed};
 ghost use Rattle.td_io.specs.States.{Writes};
 ghost use Rattle.td_report.specs.ErrorLine.{error_line, after_space};
@@ -21,6 +21,18 @@ fn write_path<E: Sink>(err: &mut E, name: &[u8], index: Option<usize>) -> Result
     write_pieces(err, &[b" ", name, b"[", index, b"]"])
 }
 
+// Writes the name that stands within what the path goes on from.
+fn write_inner<E: Sink>(err: &mut E, name: &[u8], index: Option<usize>) -> Result<(), WriteFault>
+    ensures { Writes (E.state err.old) (E.state err.new) (codes "." ++ indexed name.now index) result }
+{
+    let Some(index) = index else {
+        return write_pieces(err, &[b".", name]);
+    };
+    let mut buffer = Buffer::new();
+    let index = buffer.format(index).as_bytes();
+    write_pieces(err, &[b".", name, b"[", index, b"]"])
+}
+
 /// Writes the line of an error that has a path in place of a place: `error`, its code, and a name, after which stands in
 /// brackets the place in a list, from 0, where there is one. Takes no memory.
 ///
@@ -36,5 +48,27 @@ pub fn path_line<E: Sink>(
 {
     write_code(err, code)?;
     write_path(err, name, index)?;
+    write_pieces(err, &[b"\n"])
+}
+
+/// Writes the line of an error whose path goes on from an element of a list: `error`, its code, the list's name with the
+/// element's place, from 0, in brackets, a dot, and the name within, after which stands in brackets the place in a list,
+/// where there is one. Takes no memory.
+///
+/// `WriteFault`: a write failed. What went out is a prefix of the line.
+#[tactic(auto, unfolding(crate::specs::ErrorLine::error_line))]
+pub fn inner_path_line<E: Sink>(
+    code: &[u8],
+    list: &[u8],
+    place: usize,
+    name: &[u8],
+    index: Option<usize>,
+    err: &mut E,
+) -> Result<(), WriteFault>
+    ensures { Writes (E.state err.old) (E.state err.new) (error_line [] None code.now (indexed list.now (Some place) ++ codes "." ++ indexed name.now index)) result }
+{
+    write_code(err, code)?;
+    write_path(err, list, Some(place))?;
+    write_inner(err, name, index)?;
     write_pieces(err, &[b"\n"])
 }

@@ -85,18 +85,23 @@ fn write_frame<O: Sink>(out: &mut O, m: &Module, frame: TraceFrame) -> Result<()
 fn write_frames<O: Sink>(out: &mut O, m: &Module, frames: &[TraceFrame]) -> Result<(), WriteFault>
     ensures { Writes (O.state out.old) (O.state out.new) (flat_map (frame_line m.now) frames.now) result }
 {
-    for frame in frames {
-        write_frame(out, m, *frame)?;
+    for place in 0..frames.len() {
+        write_frame(out, m, frames[place])?;
     }
     Ok(())
 }
 
-fn write_trace<O: Sink>(out: &mut O, m: &Module, outcome: &Outcome) -> Result<(), WriteFault>
-    ensures { Writes (O.state out.old) (O.state out.new) (frame_lines m.now outcome.now.verdict outcome.now.trace) result }
+fn write_trace<O: Sink>(
+    out: &mut O,
+    m: &Module,
+    verdict: Verdict,
+    trace: &[TraceFrame],
+) -> Result<(), WriteFault>
+    ensures { Writes (O.state out.old) (O.state out.new) (frame_lines m.now verdict trace.now) result }
 {
-    match outcome.verdict {
+    match verdict {
         Verdict::Accept { .. } => Ok(()),
-        Verdict::Reject { .. } => write_frames(out, m, outcome.trace.as_slice()),
+        Verdict::Reject { .. } => write_frames(out, m, trace),
     }
 }
 
@@ -161,11 +166,32 @@ fn write_loads<O: Sink>(out: &mut O, loads: &[Load]) -> Result<(), WriteFault>
     Ok(())
 }
 
+/// Writes the report of a run by its parts: how it ended, the frames of its failure by the names of the module, the cells
+/// of the entry point, and the loads. Takes no memory.
+///
+/// `WriteFault`: a write failed. What went out is a prefix of the report.
+#[tactic(auto, unfolding(crate::specs::Report::report))]
+pub fn report_of_parts<O: Sink>(
+    verdict: Verdict,
+    trace: &[TraceFrame],
+    cells: &[u64],
+    loads: &[Load],
+    m: &Module,
+    entry: Entry,
+    out: &mut O,
+) -> Result<(), WriteFault>
+    ensures { Writes (O.state out.old) (O.state out.new) (report (record { verdict = verdict; trace = trace.now; cells = cells.now }) m.now entry loads.now) result }
+{
+    write_verdict(out, verdict)?;
+    write_trace(out, m, verdict, trace)?;
+    write_cells(out, m, cells_of(m, entry), cells)?;
+    write_loads(out, loads)
+}
+
 /// Writes the report of a run: how it ended, the frames of its failure by the names of the module, the cells of the entry
 /// point, and the loads. Takes no memory.
 ///
 /// `WriteFault`: a write failed. What went out is a prefix of the report.
-#[tactic(auto, unfolding(crate::specs::Report::report))]
 pub fn run_report<O: Sink>(
     outcome: &Outcome,
     m: &Module,
@@ -175,8 +201,13 @@ pub fn run_report<O: Sink>(
 ) -> Result<(), WriteFault>
     ensures { Writes (O.state out.old) (O.state out.new) (report outcome.now m.now entry loads.now.list) result }
 {
-    write_verdict(out, outcome.verdict)?;
-    write_trace(out, m, outcome)?;
-    write_cells(out, m, cells_of(m, entry), outcome.cells.as_slice())?;
-    write_loads(out, loads.as_slice())
+    report_of_parts(
+        outcome.verdict,
+        outcome.trace.as_slice(),
+        outcome.cells.as_slice(),
+        loads.as_slice(),
+        m,
+        entry,
+        out,
+    )
 }

@@ -9,3 +9,10 @@ returns-in_err-stores-clause-err c =
     let eighths : words_of (Some c.in_ok-length.length) ≡ c.div_ceil.result = omega (arith, c.div_ceil.ensures) in
     let words : message_words (view c.args.job.now) ≡ c.div_ceil.result = ap words_of length ∙ eighths in
     search (rules, words)
+
+pub returns-in_err-check_names-clause-err : goal.returns-in_err-check_names-clause-err
+returns-in_err-check_names-clause-err c =
+    let length = c.in_ok-length.ensures.ok.1 in
+    let eighths : words_of (Some c.in_ok-length.length) ≡ c.div_ceil.result = omega (arith, c.div_ceil.ensures) in
+    let words : message_words (view c.args.job.now) ≡ c.div_ceil.result = ap words_of length ∙ eighths in
+    search (rules, words)

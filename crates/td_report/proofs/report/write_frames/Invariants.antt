@@ -4,5 +4,5 @@ use Rattle.td_report.specs.Report.{frame_line}
 use Rattle.td_io.specs.States.{Writes}
 use Rattle.td_report.proofs.report.write_frames.Given as goal
 
-abbrev pub invariant-loop-frame : goal.invariant-loop-frame
-invariant-loop-frame g l = Writes {T = Unit {0}} {E = WriteFault} (g.O.Sink.state l.fn.out) (g.O.Sink.state l.out) (flat_map (frame_line l.m) (take l.frame-index l.frames)) (Ok tt)
+abbrev pub invariant-loop-place : goal.invariant-loop-place
+invariant-loop-place g l = Writes {T = Unit {0}} {E = WriteFault} (g.O.Sink.state l.fn.out) (g.O.Sink.state l.out) (flat_map (frame_line l.m) (take l.place l.frames)) (Ok tt)

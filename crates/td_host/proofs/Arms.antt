@@ -1,0 +1,251 @@
+-- How a host is armed.
+use Rattle.std.proofs.Common.{◌≡◌, ℕ, zero, suc, ◌+◌, ◌<◌, ◌≤◌, ◌^◌, true, false, List, [], ◌∷◌, ◌++◌, length, drop, refl, sym, ap, ◌∙◌, subst, arith, append_assoc, length-append}
+use Rattle.std.specs.Prelude.{slice_index_or}
+use Rattle.std.specs.List.{All}
+use Rattle.std.proofs.lemmas.List.{drop_more, drop_all}
+use Rattle.std.proofs.lemmas.List.Elements.{All-contains, Contains-append_left, Contains-append_right, Contains-get_or}
+use Rattle.td_words.specs.Views.{new_seat, one_more}
+use Rattle.td_words.specs.Seats.{BufferState, HostState, with_view, seat_state}
+use Rattle.td_ring.specs.declared.post.Post.{Post}
+use Rattle.atomic_table.specs.Seated.{TableId}
+use Rattle.td_ring.specs.Ring.{PassState, RingState, pass_with, one_more_put, new_put, one_more_take, new_take}
+use Rattle.td_ring.specs.Tickets.{DrawerState, drawer_with, one_more as one_more_draw, new_seat as new_drawer}
+use Rattle.td_posts.specs.declared.job.Step.{Step}
+use Rattle.td_posts.specs.declared.job.Step.TheVariants as step
+use Rattle.td_posts.specs.declared.mail.Mail.{Mail}
+use Rattle.td_posts.specs.declared.reply.Reply.{Reply}
+use Rattle.td_posts.specs.declared.job.HostJob.{HostJob}
+use Rattle.td_posts.specs.Posts.{mail, post_name, mails_from, mails_of, all_mails}
+use Rattle.td_host.specs.declared.actor.Actor.{Actor}
+use Rattle.td_host.specs.declared.actor.Actor.TheVariants as kind
+use Rattle.td_host.specs.declared.actor.Worker.{Worker}
+use Rattle.td_host.specs.declared.actor.Guest.{Guest}
+use Rattle.td_host.specs.Acting.{RoomsFor, StoresInside, post_of}
+use Rattle.td_host.specs.Gathered.{FreshWorker, FreshWorkers, FreshGuest, FreshGuests, WorkersSeated, GuestsSeated, Armed, host_at, posts_at, takes_at, draws_at}
+
+append_nil : {A : Type 0} (xs : List A) → xs ++ [] ≡ xs
+append_nil [] = refl
+append_nil (x ∷ xs) = ap (λ l. x ∷ l) (append_nil xs)
+
+-- ---- posts of a script that is gone through
+pub record Listing (guest : ℕ) (whole : List Step) (before mails : List Mail) (rest : List Step) (number made : ℕ) : Type 0 where
+  pub is : mails ++ mails_from guest (number + 1) made rest ≡ before ++ mails_of guest whole
+  pub counted : number + made + length rest ≡ length whole
+
+module _ (guest : ℕ) (whole : List Step) (before : List Mail) where
+  pub lists_none : Listing guest whole before before whole 0 0
+  lists_none = record { is = refl; counted = let e : 0 + 0 + length whole ≡ length whole = omega arith in e }
+
+  module _ (mails : List Mail) (rest rest' : List Step) (number made : ℕ) (p : Listing guest whole before mails rest number made) where
+    pub lists_store : (w v : ℕ) → rest ≡ step.Store w v ∷ rest' → Listing guest whole before mails rest' number (made + 1)
+    unfolding mails_from
+    lists_store w v e = record {
+      is = ap (λ l. mails ++ mails_from guest (number + 1) made l) (sym e) ∙ p.is;
+      counted = let c = p.counted in let d = ap length e in omega arith;
+    }
+
+    pub lists_post : (b l : ℕ) (mails' : List Mail) → rest ≡ step.Post b l ∷ rest' → mails' ≡ mails ++ mail (post_name guest (number + 1)) made b l ∷ [] → Listing guest whole before mails' rest' (number + 1) made
+    unfolding mails_from
+    lists_post b l mails' e f = record {
+      is = ap (λ x. x ++ mails_from guest (number + 1 + 1) made rest') f ∙ (append_assoc mails (mail (post_name guest (number + 1)) made b l ∷ []) (mails_from guest (number + 1 + 1) made rest') ∙ (ap (λ x. mails ++ mails_from guest (number + 1) made x) (sym e) ∙ p.is));
+      counted = let c = p.counted in let d = ap length e in omega arith;
+    }
+
+    pub lists_all : rest ≡ [] → mails ≡ before ++ mails_of guest whole
+    unfolding mails_from
+    lists_all e = sym (append_nil mails) ∙ (ap (λ x. mails ++ mails_from guest (number + 1) made x) (sym e) ∙ p.is)
+
+-- ---- all posts
+pub all_none : (ss : List (List Step)) → [] ++ all_mails 1 (drop 0 ss) ≡ all_mails 1 ss
+all_none ss = refl
+
+pub all_more : (ss : List (List Step)) (i : ℕ) (d : List Step) (mails mails' : List Mail) → i < length ss → mails ++ all_mails (i + 1) (drop i ss) ≡ all_mails 1 ss → mails' ≡ mails ++ mails_of (i + 1) (slice_index_or ss i d)
+    → mails' ++ all_mails (i + 1 + 1) (drop (i + 1) ss) ≡ all_mails 1 ss
+unfolding all_mails
+all_more ss i d mails mails' lt e f =
+    ap (λ x. x ++ all_mails (i + 1 + 1) (drop (i + 1) ss)) f ∙ (append_assoc mails (mails_of (i + 1) (slice_index_or ss i d)) (all_mails (i + 1 + 1) (drop (i + 1) ss)) ∙ (ap (λ x. mails ++ all_mails (i + 1) x) (sym (drop_more ss i d lt)) ∙ e))
+
+pub all_over : (ss : List (List Step)) (i : ℕ) (mails : List Mail) → length ss ≤ i → mails ++ all_mails (i + 1) (drop i ss) ≡ all_mails 1 ss → mails ≡ all_mails 1 ss
+unfolding all_mails
+all_over ss i mails le e = sym (append_nil mails) ∙ (ap (λ x. mails ++ all_mails (i + 1) x) (sym (drop_all i ss le)) ∙ e)
+
+-- what holds of all posts holds of those of each guest
+pub of_guest : (P : Mail → Type 0) (g : ℕ) (ss : List (List Step)) (k : ℕ) (d : List Step) → k < length ss → All P (all_mails g ss) → All P (mails_of (g + k) (slice_index_or ss k d))
+unfolding all_mails
+of_guest P g [] k d lt a = absurd (omega arith)
+of_guest P g (s ∷ ss) zero d lt a = let e : g ≡ g + 0 = omega arith in subst (λ n. All P (mails_of n s)) e (left (mails_of g s) (all_mails (g + 1) ss) a)
+  where
+    left : (xs ys : List Mail) → All P (xs ++ ys) → All P xs
+    left xs ys a k d lt = All-contains P (xs ++ ys) (slice_index_or xs k d) a (Contains-append_left xs ys (slice_index_or xs k d) (Contains-get_or xs k d lt))
+of_guest P g (s ∷ ss) (suc k) d lt a = let e : (g + 1) + k ≡ g + suc k = omega arith in subst (λ n. All P (mails_of n (slice_index_or ss k d))) e (of_guest P (g + 1) ss k d (omega arith) (right (mails_of g s) (all_mails (g + 1) ss) a))
+  where
+    right : (xs ys : List Mail) → All P (xs ++ ys) → All P ys
+    right xs ys a k d lt = All-contains P (xs ++ ys) (slice_index_or ys k d) a (Contains-append_right xs ys (slice_index_or ys k d) (Contains-get_or ys k d lt))
+
+-- ---- rooms
+pub record Rooming (names : Post → Type 0) (P : Mail → Type 0) (guest : ℕ) (whole : List Step) (rooms : List Reply) (rest : List Step) (number : ℕ) : Type 0 where
+  pub made : ℕ
+  pub more : (tail : List Reply) → RoomsFor names (mails_from guest (number + 1) made rest) tail → RoomsFor names (mails_of guest whole) (rooms ++ tail)
+  pub met : All P (mails_from guest (number + 1) made rest)
+  pub counted : number + made + length rest ≡ length whole
+
+module _ (names : Post → Type 0) (P : Mail → Type 0) (guest : ℕ) (whole : List Step) where
+  pub rooms_none : All P (mails_of guest whole) → Rooming names P guest whole [] whole 0
+  rooms_none met = record { made = 0; more = λ tail r. r; met = met; counted = let e : 0 + 0 + length whole ≡ length whole = omega arith in e }
+
+  module _ (rooms : List Reply) (rest rest' : List Step) (number : ℕ) (p : Rooming names P guest whole rooms rest number) where
+    pub rooms_store : (w v : ℕ) → rest ≡ step.Store w v ∷ rest' → Rooming names P guest whole rooms rest' number
+    unfolding mails_from
+    rooms_store w v e = record {
+      made = p.made + 1;
+      more = λ tail r. p.more tail (subst (λ l. RoomsFor names (mails_from guest (number + 1) p.made l) tail) (sym e) r);
+      met = subst (λ l. All P (mails_from guest (number + 1) p.made l)) e p.met;
+      counted = let c = p.counted in let d = ap length e in omega arith;
+    }
+
+    pub rooms_post : (b l : ℕ) (r : Reply) (rooms' : List Reply) → rest ≡ step.Post b l ∷ rest' → rooms' ≡ rooms ++ r ∷ []
+        → ((m : Mail) → P m → m.name ≡ post_name guest (number + 1) → m.length ≡ l → names (post_of m r)) → Rooming names P guest whole rooms' rest' (number + 1)
+    unfolding mails_from RoomsFor
+    rooms_post b l r rooms' e f fits =
+        let m : Mail = mail (post_name guest (number + 1)) p.made b l in
+        let ms = mails_from guest (number + 1 + 1) p.made rest' in
+        let met : All P (m ∷ ms) = subst (λ x. All P (mails_from guest (number + 1) p.made x)) e p.met in
+        record {
+          made = p.made;
+          more = λ tail h. subst (RoomsFor names (mails_of guest whole)) (sym (ap (λ x. x ++ tail) f ∙ append_assoc rooms (r ∷ []) tail))
+              (p.more (r ∷ tail) (subst (λ x. RoomsFor names (mails_from guest (number + 1) p.made x) (r ∷ tail)) (sym e) (fits m (met 0 m (omega arith)) refl refl, h)));
+          met = λ k d lt. met (suc k) d (omega arith);
+          counted = let c = p.counted in let d = ap length e in omega arith;
+        }
+
+    pub rooms_all : rest ≡ [] → RoomsFor names (mails_of guest whole) rooms
+    unfolding mails_from RoomsFor
+    rooms_all e = subst (RoomsFor names (mails_of guest whole)) (append_nil rooms) (p.more [] (subst (λ x. RoomsFor names (mails_from guest (number + 1) p.made x) []) (sym e) tt))
+
+-- ---- workers and guests
+module _ {G : Type 0} where
+  fresh-push : (shared : BufferState) (ring : RingState) (tickets : TableId) (opened : List ℕ) (ws : List (Actor G)) (w : Worker G) → FreshWorkers shared ring tickets opened ws → FreshWorker shared ring tickets opened w → FreshWorkers shared ring tickets opened (ws ++ kind.Worker w ∷ [])
+  unfolding FreshWorkers
+  fresh-push shared ring tickets opened [] w f x = (x, tt)
+  fresh-push shared ring tickets opened (kind.Worker v ∷ ws) w f x = (f.0, fresh-push shared ring tickets opened ws w f.1 x)
+  fresh-push shared ring tickets opened (kind.Guest g ∷ ws) w f x = absurd f
+
+  module _ (shared : BufferState) (ring : RingState) (tickets : TableId) (opened : List ℕ) where
+    pub no_worker : (seat : HostState) (takes : PassState) (drawer : DrawerState) (ws : List (Actor G)) → ws ≡ [] → seat ≡ host_at shared.table opened 0 → takes ≡ takes_at ring.queue 1 → drawer ≡ draws_at tickets 1
+        → WorkersSeated shared ring tickets opened 0 seat takes drawer ws
+    unfolding FreshWorkers
+    no_worker seat takes drawer ws e a b c = record { as_many = ap length e; fresh = subst (FreshWorkers shared ring tickets opened) (sym e) tt; is_seat = a; is_takes = b; is_drawer = c }
+
+    pub one_worker : (n : ℕ) (seat seat' : HostState) (takes takes' : PassState) (drawer drawer' : DrawerState) (ws ws' : List (Actor G)) (w : Worker G) → WorkersSeated shared ring tickets opened n seat takes drawer ws
+        → seat' ≡ with_view seat (one_more seat.view) → w.seat ≡ seat_state seat.table (new_seat seat.view false)
+        → takes' ≡ pass_with takes (one_more_take takes.view) → w.pass ≡ pass_with takes (new_take takes.view)
+        → drawer' ≡ drawer_with drawer (one_more_draw drawer.view) → w.drawer ≡ drawer_with drawer (new_drawer drawer.view)
+        → w.replies.items ≡ [] → ws' ≡ ws ++ kind.Worker w ∷ [] → WorkersSeated shared ring tickets opened (n + 1) seat' takes' drawer' ws'
+    one_worker n seat seat' takes takes' drawer drawer' ws ws' w p es ew et ep ed eq none e = record {
+      as_many = ap length e ∙ (length-append ws (kind.Worker w ∷ []) ∙ ap (λ k. k + 1) p.as_many);
+      fresh = subst (FreshWorkers shared ring tickets opened) (sym e) (fresh-push shared ring tickets opened ws w p.fresh record {
+        seat_number = n;
+        pass_number = 1 + n;
+        drawer_number = 1 + n;
+        is_seat = ew ∙ ap (λ (k : HostState). seat_state k.table (new_seat k.view false)) p.is_seat;
+        is_pass = ep ∙ ap (λ (h : PassState). pass_with h (new_take h.view)) p.is_takes;
+        is_drawer = eq ∙ ap (λ (d : DrawerState). drawer_with d (new_drawer d.view)) p.is_drawer;
+        no_reply = none;
+      });
+      is_seat = es ∙ ap (λ (k : HostState). with_view k (one_more k.view)) p.is_seat;
+      is_takes = et ∙ (ap (λ (h : PassState). pass_with h (one_more_take h.view)) p.is_takes ∙ ap (takes_at ring.queue) (let z : 1 + n + 1 ≡ 1 + (n + 1) = omega arith in z));
+      is_drawer = ed ∙ (ap (λ (d : DrawerState). drawer_with d (one_more_draw d.view)) p.is_drawer ∙ ap (draws_at tickets) (let z : 1 + n + 1 ≡ 1 + (n + 1) = omega arith in z));
+    }
+
+  module _ (names : Post → Type 0) (shared : BufferState) (ring : RingState) (job : HostJob) (workers : List (Actor G)) where
+    pub record Seating (n : ℕ) (seat : HostState) (posts : PassState) (actors : List (Actor G)) : Type 0 where
+      pub guests : List (Actor G)
+      pub are : actors ≡ workers ++ guests
+      pub as_many : length guests ≡ n
+      pub seat_bound : ℕ
+      pub pass_bound : ℕ
+      pub seat_below : seat_bound ≤ length workers + n
+      pub pass_below : pass_bound ≤ 1 + n
+      pub more : (tail : List (Actor G)) → FreshGuests names shared ring job.words (n + 1) seat_bound pass_bound (drop n job.guests) tail → FreshGuests names shared ring job.words 1 0 0 job.guests (guests ++ tail)
+      pub is_seat : seat ≡ host_at shared.table job.words (length workers + n)
+      pub is_posts : posts ≡ posts_at ring.queue (1 + n)
+
+    pub no_guest : (seat : HostState) (posts : PassState) (actors : List (Actor G)) → actors ≡ workers → seat ≡ host_at shared.table job.words (length workers) → posts ≡ posts_at ring.queue 1 → Seating 0 seat posts actors
+    no_guest seat posts actors e a b = record {
+      guests = [];
+      are = e ∙ sym (append_nil workers);
+      as_many = refl;
+      seat_bound = 0;
+      pass_bound = 0;
+      seat_below = omega arith;
+      pass_below = omega arith;
+      more = λ tail f. f;
+      is_seat = a ∙ ap (host_at shared.table job.words) (let z : length workers ≡ length workers + 0 = omega arith in z);
+      is_posts = b;
+    }
+
+    pub one_guest : (n : ℕ) (d : List Step) (seat seat' : HostState) (posts posts' : PassState) (actors actors' : List (Actor G)) (g : Guest G) → Seating n seat posts actors → n < length job.guests
+        → g.number ≡ n + 1 → g.script ≡ slice_index_or job.guests n d
+        → seat' ≡ with_view seat (one_more seat.view) → g.seat ≡ seat_state seat.table (new_seat seat.view true)
+        → posts' ≡ pass_with posts (one_more_put posts.view) → g.pass ≡ pass_with posts (new_put posts.view)
+        → StoresInside shared.count (slice_index_or job.guests n d) → length (slice_index_or job.guests n d) < 2 ^ 32
+        → RoomsFor names (mails_of (n + 1) (slice_index_or job.guests n d)) g.rooms.items
+        → actors' ≡ actors ++ kind.Guest g ∷ [] → Seating (n + 1) seat' posts' actors'
+    unfolding FreshGuests
+    one_guest n d seat seat' posts posts' actors actors' g p lt number script es eg ep eq stays few rooms e =
+        let s = slice_index_or job.guests n d in
+        let w = length workers in
+        let x : FreshGuest names shared ring job.words (n + 1) p.seat_bound p.pass_bound s g = record {
+          seat_number = w + n;
+          pass_number = 1 + n;
+          seat_rises = p.seat_below;
+          pass_rises = p.pass_below;
+          is_number = number;
+          is_script = script;
+          is_seat = eg ∙ ap (λ (k : HostState). seat_state k.table (new_seat k.view true)) p.is_seat;
+          is_pass = eq ∙ ap (λ (h : PassState). pass_with h (new_put h.view)) p.is_posts;
+          stays = stays;
+          few = few;
+          has_rooms = rooms;
+        } in
+        record {
+          guests = p.guests ++ kind.Guest g ∷ [];
+          are = e ∙ (ap (λ l. l ++ kind.Guest g ∷ []) p.are ∙ append_assoc workers p.guests (kind.Guest g ∷ []));
+          as_many = length-append p.guests (kind.Guest g ∷ []) ∙ ap (λ k. k + 1) p.as_many;
+          seat_bound = w + n + 1;
+          pass_bound = 1 + n + 1;
+          seat_below = omega arith;
+          pass_below = omega arith;
+          more = λ tail f. subst (FreshGuests names shared ring job.words 1 0 0 job.guests) (sym (append_assoc p.guests (kind.Guest g ∷ []) tail))
+              (p.more (kind.Guest g ∷ tail) (subst (λ l. FreshGuests names shared ring job.words (n + 1) p.seat_bound p.pass_bound l (kind.Guest g ∷ tail)) (sym (drop_more job.guests n d lt)) (x, f)));
+          is_seat = es ∙ (ap (λ (k : HostState). with_view k (one_more k.view)) p.is_seat ∙ ap (host_at shared.table job.words) (let z : w + n + 1 ≡ w + (n + 1) = omega arith in z));
+          is_posts = ep ∙ (ap (λ (h : PassState). pass_with h (one_more_put h.view)) p.is_posts ∙ ap (posts_at ring.queue) (let z : 1 + n + 1 ≡ 1 + (n + 1) = omega arith in z));
+        }
+
+    pub all_guests : (n : ℕ) (seat : HostState) (posts : PassState) (actors : List (Actor G)) → Seating n seat posts actors → length job.guests ≡ n → GuestsSeated names shared ring job workers seat posts actors
+    unfolding FreshGuests
+    all_guests n seat posts actors p e = record {
+      guests = p.guests;
+      are = p.are;
+      fresh = subst (FreshGuests names shared ring job.words 1 0 0 job.guests) (append_nil p.guests) (p.more [] (subst (λ l. FreshGuests {G = G} names shared ring job.words (n + 1) p.seat_bound p.pass_bound l []) (sym (drop_all n job.guests (let z = e in omega arith))) tt));
+      is_seat = p.is_seat ∙ ap (λ k. host_at shared.table job.words (length workers + k)) (sym p.as_many);
+      is_posts = p.is_posts ∙ ap (λ k. posts_at ring.queue (1 + k)) (sym p.as_many);
+    }
+
+  pub arms : (names : Post → Type 0) (shared : BufferState) (ring : RingState) (tickets : TableId) (job : HostJob) (opened : List ℕ) (count : ℕ) (seat seat' : HostState) (posts' takes takes' : PassState) (drawer drawer' : DrawerState) (workers actors : List (Actor G))
+      → WorkersSeated shared ring tickets opened count seat takes drawer workers → opened ≡ job.words → 0 < count → GuestsSeated names shared ring job workers seat' posts' actors → takes' ≡ takes → drawer' ≡ drawer
+      → Armed names shared ring tickets job seat' posts' takes' drawer' actors
+  arms names shared ring tickets job opened count seat seat' posts' takes takes' drawer drawer' workers actors w is_opened some g t d =
+      let many : 1 + count ≡ length workers + 1 = (let z = w.as_many in omega arith) in
+      record {
+        workers = workers;
+        guests = g.guests;
+        are = g.are;
+        some_worker = (let z = w.as_many in omega arith);
+        fresh_workers = subst (λ o. FreshWorkers shared ring tickets o workers) is_opened w.fresh;
+        fresh_guests = g.fresh;
+        host = g.is_seat;
+        post_head = g.is_posts ∙ ap (posts_at ring.queue) (let z : 1 + length g.guests ≡ length g.guests + 1 = omega arith in z);
+        take_head = t ∙ (w.is_takes ∙ ap (takes_at ring.queue) many);
+        ticket_head = d ∙ (w.is_drawer ∙ ap (draws_at tickets) many);
+      }

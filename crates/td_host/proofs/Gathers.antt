@@ -1,0 +1,108 @@
+-- The host in the middle of its gathering.
+use Rattle.std.proofs.Common.{◌≡◌, ℕ, List, [], ◌∷◌, ◌++◌, length, Option, Some, None, refl, sym, ap, ◌∙◌, subst, arith, append_assoc}
+use Rattle.std.specs.List.{All}
+use Rattle.std.proofs.lemmas.List.Elements.{All-head, All-tail}
+use Rattle.td_words.specs.Views.{with_ended}
+use Rattle.td_words.specs.Seats.{BufferState, HostState, with_view}
+use Rattle.td_roll.specs.declared.parts.Part.{Part}
+use Rattle.td_roll.specs.declared.parts.Head.{Head}
+use Rattle.td_ring.specs.declared.post.Post.{Post}
+use Rattle.td_ring.specs.declared.view.RingView.{RingView}
+use Rattle.atomic_table.specs.Seated.{TableId}
+use Rattle.td_ring.specs.declared.view.TicketView.{TicketView}
+use Rattle.td_roll.specs.Heads.{HasHead, with_ended as part_ended}
+use Rattle.td_ring.specs.Ring.{PassState, RingState, pass_with}
+use Rattle.td_ring.specs.Tickets.{DrawerState, drawer_with}
+use Rattle.td_posts.specs.declared.reply.Reply.{Reply}
+use Rattle.td_host.specs.declared.actor.Actor.{Actor}
+use Rattle.td_host.specs.declared.actor.Actor.TheVariants as kind
+use Rattle.td_host.specs.Gathered.{view_of, IsAt, put_one, take_one, draw_one, replies_of, seats_all, puts_all, takes_all, draws_all, all_replies}
+
+put_keeps : (h : Option (Head Post)) (p : Option (Part Post)) → HasHead h → HasHead (part_ended h p)
+put_keeps None p e = e
+put_keeps (Some h) None e = e
+put_keeps (Some h) (Some p) e = refl
+
+draw_keeps : (h : Option (Head ℕ)) (p : Option (Part ℕ)) → HasHead h → HasHead (part_ended h p)
+draw_keeps None p e = e
+draw_keeps (Some h) None e = e
+draw_keeps (Some h) (Some p) e = refl
+
+append_nil : {A : Type 0} (xs : List A) → xs ++ [] ≡ xs
+append_nil [] = refl
+append_nil (x ∷ xs) = ap (λ l. x ∷ l) (append_nil xs)
+
+module _ {G : Type 0} where
+  no_actor : (xs : List (Actor G)) → length xs ≡ 0 → xs ≡ []
+  no_actor [] e = refl
+  no_actor (x ∷ xs) e = absurd (omega arith)
+
+  put_head : (v : RingView) (a : Actor G) → HasHead v.put_head → HasHead (put_one v a).put_head
+  put_head v (kind.Worker w) e = e
+  put_head v (kind.Guest g) e = put_keeps v.put_head g.pass.view.put e
+
+  take_head : (v : RingView) (a : Actor G) → HasHead v.take_head → HasHead (take_one v a).take_head
+  take_head v (kind.Guest g) e = e
+  take_head v (kind.Worker w) e = put_keeps v.take_head w.pass.view.take e
+
+  draw_head : (v : TicketView) (a : Actor G) → HasHead v.head → HasHead (draw_one v a).head
+  draw_head v (kind.Guest g) e = e
+  draw_head v (kind.Worker w) e = draw_keeps v.head w.drawer.view.draws e
+
+  module _ (shared : BufferState) (ring : RingState) (tickets : TableId) (whole : List (Actor G)) (seat0 : HostState) (posts0 takes0 : PassState) (drawer0 : DrawerState) (found0 : List Reply) where
+    pub record Gathering (rest : List (Actor G)) (seat : HostState) (posts takes : PassState) (drawer : DrawerState) (found : List Reply) : Type 0 where
+      pub seat_own : seat.table ≡ seat0.table
+      pub posts_own : posts.queue ≡ posts0.queue
+      pub takes_own : takes.queue ≡ takes0.queue
+      pub drawer_own : drawer.table ≡ drawer0.table
+      pub heads : HasHead posts.view.put_head × HasHead takes.view.take_head × HasHead drawer.view.head
+      pub seats : seats_all seat.view rest ≡ seats_all seat0.view whole
+      pub puts : puts_all posts.view rest ≡ puts_all posts0.view whole
+      pub takings : takes_all takes.view rest ≡ takes_all takes0.view whole
+      pub draws : draws_all drawer.view rest ≡ draws_all drawer0.view whole
+      pub replies : found ++ all_replies rest ≡ found0 ++ all_replies whole
+      pub at : All (IsAt shared ring tickets) rest
+
+    pub begins : HasHead posts0.view.put_head × HasHead takes0.view.take_head × HasHead drawer0.view.head → All (IsAt shared ring tickets) whole → Gathering whole seat0 posts0 takes0 drawer0 found0
+    begins heads at = record { seat_own = refl; posts_own = refl; takes_own = refl; drawer_own = refl; heads = heads; seats = refl; puts = refl; takings = refl; draws = refl; replies = refl; at = at }
+
+    module _ (rest : List (Actor G)) (seat : HostState) (posts takes : PassState) (drawer : DrawerState) (found : List Reply) (p : Gathering rest seat posts takes drawer found) where
+      pub first : (a : Actor G) (rest' : List (Actor G)) → rest ≡ a ∷ rest' → IsAt shared ring tickets a
+      first a rest' e = All-head (IsAt shared ring tickets) a rest' (subst (All (IsAt shared ring tickets)) e p.at)
+
+      pub gathers : (a : Actor G) (rest' : List (Actor G)) (seat' : HostState) (posts' takes' : PassState) (drawer' : DrawerState) (found' : List Reply) → rest ≡ a ∷ rest'
+          → seat' ≡ with_view seat (with_ended seat.view (view_of a)) → posts' ≡ pass_with posts (put_one posts.view a) → takes' ≡ pass_with takes (take_one takes.view a) → drawer' ≡ drawer_with drawer (draw_one drawer.view a)
+          → found' ≡ found ++ replies_of a → Gathering rest' seat' posts' takes' drawer' found'
+      unfolding seats_all puts_all takes_all draws_all all_replies
+      gathers a rest' seat' posts' takes' drawer' found' e es ep et ed ef =
+          let q : Gathering (a ∷ rest') seat posts takes drawer found = subst (λ l. Gathering l seat posts takes drawer found) e p in
+          record {
+            seat_own = ap (λ (k : HostState). k.table) es ∙ q.seat_own;
+            posts_own = ap (λ (h : PassState). h.queue) ep ∙ q.posts_own;
+            takes_own = ap (λ (h : PassState). h.queue) et ∙ q.takes_own;
+            drawer_own = ap (λ (d : DrawerState). d.table) ed ∙ q.drawer_own;
+            heads = (
+              subst (λ (h : PassState). HasHead h.view.put_head) (sym ep) (put_head posts.view a q.heads.0),
+              subst (λ (h : PassState). HasHead h.view.take_head) (sym et) (take_head takes.view a q.heads.1),
+              subst (λ (d : DrawerState). HasHead d.view.head) (sym ed) (draw_head drawer.view a q.heads.2),
+            );
+            seats = ap (λ (k : HostState). seats_all k.view rest') es ∙ q.seats;
+            puts = ap (λ (h : PassState). puts_all h.view rest') ep ∙ q.puts;
+            takings = ap (λ (h : PassState). takes_all h.view rest') et ∙ q.takings;
+            draws = ap (λ (d : DrawerState). draws_all d.view rest') ed ∙ q.draws;
+            replies = ap (λ l. l ++ all_replies rest') ef ∙ (append_assoc found (replies_of a) (all_replies rest') ∙ q.replies);
+            at = All-tail (IsAt shared ring tickets) a rest' q.at;
+          }
+
+      pub ends : length rest ≡ 0
+          → (seat ≡ with_view seat0 (seats_all seat0.view whole)) × (posts ≡ pass_with posts0 (puts_all posts0.view whole)) × (takes ≡ pass_with takes0 (takes_all takes0.view whole))
+          × (drawer ≡ drawer_with drawer0 (draws_all drawer0.view whole)) × (found ≡ found0 ++ all_replies whole)
+      unfolding seats_all puts_all takes_all draws_all all_replies
+      ends e =
+          let q : Gathering [] seat posts takes drawer found = subst (λ l. Gathering l seat posts takes drawer found) (no_actor rest e) p in (
+            (λ i. record { table = q.seat_own i; view = q.seats i }),
+            (λ i. record { queue = q.posts_own i; view = q.puts i }),
+            (λ i. record { queue = q.takes_own i; view = q.takings i }),
+            (λ i. record { table = q.drawer_own i; view = q.draws i }),
+            sym (append_nil found) ∙ q.replies,
+          )

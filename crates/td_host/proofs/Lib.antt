@@ -1,0 +1,15 @@
+pub mod Named
+pub mod Plays
+pub mod Works
+pub mod Shares
+pub mod Ends
+pub mod Unique
+pub mod Fetching
+pub mod Wholes
+pub mod Gathers
+pub mod Orders
+pub mod Serves
+pub mod Arms
+pub mod Bounds
+pub mod Crossing
+pub mod Hosting

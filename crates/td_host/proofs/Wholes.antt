@@ -1,0 +1,240 @@
+-- All posts are served, from what each actor did and what the ring, the tickets and the buffer tell.
+use Rattle.std.proofs.Common.{◌≡◌, ℕ, suc, ◌+◌, ◌<◌, ◌^◌, List, [], ◌∷◌, ◌++◌, map, length, Option, Some, None, refl, sym, ap, ◌∙◌, subst, arith, append_assoc, length-append}
+use Rattle.std.specs.Prelude.{slice_index_or}
+use Rattle.std.specs.List.{sum_by}
+use Rattle.std.specs.List.Sorted.{IsPermutation}
+use Rattle.std.proofs.lemmas.List.{map-append, length-map}
+use Rattle.std.proofs.lemmas.List.Sorted.{IsPermutation-map, All-permutation, sum_by-IsPermutation}
+use Rattle.td_posts.specs.declared.name.PostName.{PostName}
+use Rattle.td_words.specs.declared.view.HostView.{HostView}
+use Rattle.td_words.specs.Views.{host_view}
+use Rattle.td_words.specs.History.{Entry as HistoryEntry}
+use Rattle.td_words.specs.Gathered.{Fetched, Told}
+use Rattle.td_words.specs.Seats.{BufferState, HostState}
+use Rattle.td_roll.specs.declared.parts.Part.{Part}
+use Rattle.td_roll.specs.declared.parts.Head.{Head}
+use Rattle.td_roll.specs.Roll.{Entry, part_of, head_of, owned}
+use Rattle.td_ring.specs.declared.post.Post.{Post}
+use Rattle.td_ring.specs.declared.view.RingView.{RingView}
+use Rattle.atomic_table.specs.Seated.{TableId}
+use Rattle.td_ring.specs.declared.view.TicketView.{TicketView}
+use Rattle.td_ring.specs.Ring.{PassState, RingState, ring_view, with_takes, Settled}
+use Rattle.td_ring.specs.Tickets.{DrawerState, ticket_view, Told as Drawn}
+use Rattle.td_posts.specs.declared.job.Step.{Step}
+use Rattle.td_posts.specs.declared.mail.Mail.{Mail}
+use Rattle.td_posts.specs.declared.reply.Reply.{Reply}
+use Rattle.td_posts.specs.declared.job.HostJob.{HostJob}
+use Rattle.td_posts.specs.Posts.{mails_of, all_mails, reply_name}
+use Rattle.td_host.specs.declared.actor.Actor.{Actor}
+use Rattle.td_host.specs.Served.{ArePosted, label, mail_label, Served}
+use Rattle.td_host.specs.Acting.{Answered}
+use Rattle.td_host.specs.Actors.{Did}
+use Rattle.td_host.specs.Gathered.{view_of, seats_all, puts_all, takes_all, draws_all, all_replies, replies_of, Armed}
+use Rattle.td_host.proofs.Shares.{all_taken, drawn_all, drawn_below}
+use Rattle.td_host.proofs.Ends.{put_of, take_of, draw_of, put_parts, take_parts, draw_parts, seats_are, puts_are, takes_are, draws_are, DidAll, did_all, did_both, GuestsDone, guests_done, AllWhole, WorkersDone, workers_done, cons_opt, append_nil}
+use Rattle.td_host.proofs.Unique.{replies_to}
+use Rattle.td_host.proofs.Fetching.{fetches}
+
+-- what the guests posted is what the scripts have
+labels_all : (g m : ℕ) (ss : List (List Step)) (ps : List (Part Post)) → ArePosted g m ss ps → map label (owned ps) ≡ map mail_label (all_mails g ss)
+unfolding ArePosted owned all_mails
+labels_all g m [] [] p = refl
+labels_all g m [] (x ∷ ps) p = absurd p
+labels_all g m (s ∷ ss) [] p = absurd p
+labels_all g m (s ∷ ss) (x ∷ ps) p =
+    map-append label x.own (owned ps) ∙ ((λ i. p.1 i ++ labels_all (g + 1) (x.number + 1) ss ps p.2 i) ∙ sym (map-append mail_label (mails_of g s) (all_mails (g + 1) ss)))
+
+names_posts : (ps : List Post) → map (λ (p : Post). p.name) ps ≡ map (λ (x : PostName × ℕ). x.0) (map label ps)
+names_posts [] = refl
+names_posts (p ∷ ps) = ap (λ l. p.name ∷ l) (names_posts ps)
+
+names_mails : (ms : List Mail) → map (λ (m : Mail). m.name) ms ≡ map (λ (x : PostName × ℕ). x.0) (map mail_label ms)
+names_mails [] = refl
+names_mails (m ∷ ms) = ap (λ l. m.name ∷ l) (names_mails ms)
+
+cons-append : {A : Type 0} (o : Option A) (xs ys zs : List A) → zs ≡ xs ++ ys → cons_opt o zs ≡ cons_opt o xs ++ ys
+unfolding cons_opt
+cons-append None xs ys zs e = e
+cons-append (Some x) xs ys zs e = ap (λ l. x ∷ l) e
+
+module _ {G : Type 0} where
+  puts-append : (xs ys : List (Actor G)) → put_parts (xs ++ ys) ≡ put_parts xs ++ put_parts ys
+  unfolding put_parts
+  puts-append [] ys = refl
+  puts-append (x ∷ xs) ys = cons-append (put_of x) (put_parts xs) (put_parts ys) (put_parts (xs ++ ys)) (puts-append xs ys)
+
+  takes-append : (xs ys : List (Actor G)) → take_parts (xs ++ ys) ≡ take_parts xs ++ take_parts ys
+  unfolding take_parts
+  takes-append [] ys = refl
+  takes-append (x ∷ xs) ys = cons-append (take_of x) (take_parts xs) (take_parts ys) (take_parts (xs ++ ys)) (takes-append xs ys)
+
+  draws-append : (xs ys : List (Actor G)) → draw_parts (xs ++ ys) ≡ draw_parts xs ++ draw_parts ys
+  unfolding draw_parts
+  draws-append [] ys = refl
+  draws-append (x ∷ xs) ys = cons-append (draw_of x) (draw_parts xs) (draw_parts ys) (draw_parts (xs ++ ys)) (draws-append xs ys)
+
+  replies-append : (xs ys : List (Actor G)) → all_replies (xs ++ ys) ≡ all_replies xs ++ all_replies ys
+  unfolding all_replies
+  replies-append [] ys = refl
+  replies-append (x ∷ xs) ys = ap (λ l. replies_of x ++ l) (replies-append xs ys) ∙ sym (append_assoc (replies_of x) (all_replies xs) (all_replies ys))
+
+  module _ (job : HostJob) (mails : List Mail) where
+    did_length : (xs ys : List (Actor G)) → DidAll job mails xs ys → length ys ≡ length xs
+    unfolding DidAll
+    did_length [] [] d = refl
+    did_length [] (y ∷ ys) d = absurd d
+    did_length (x ∷ xs) [] d = absurd d
+    did_length (x ∷ xs) (y ∷ ys) d = ap suc (did_length xs ys d.1)
+
+    whole_left : (xs ys : List (Actor G)) → AllWhole job mails (xs ++ ys) → AllWhole job mails xs
+    unfolding AllWhole
+    whole_left [] ys w = tt
+    whole_left (x ∷ xs) ys w = (w.0, whole_left xs ys w.1)
+
+  module _ (names : Post → Type 0) (shared : BufferState) (ring : RingState) (tickets : TableId) (job : HostJob) (mails : List Mail)
+      (seat : HostState) (posts takes : PassState) (drawer : DrawerState) (olds news : List (Actor G)) where
+    pub record Halves : Type 0 where
+      pub workers : List (Actor G)
+      pub guests : List (Actor G)
+      pub are : news ≡ workers ++ guests
+      pub worked : WorkersDone job mails workers
+      pub stored_by : GuestsDone job mails 1 0 0 job.guests guests
+      pub some_worker : 0 < length workers
+      pub host : seat.view ≡ host_view job.words (length workers + length guests) []
+      pub post_head : posts.view ≡ ring_view (Some (head_of (length guests + 1) [])) (Some (part_of 0 [])) None None
+      pub take_head : takes.view ≡ ring_view None None (Some (head_of (length workers + 1) [])) (Some (part_of 0 []))
+      pub ticket_head : drawer.view ≡ ticket_view (Some (head_of (length workers + 1) [])) (Some (part_of 0 []))
+
+    pub halves : Armed names shared ring tickets job seat posts takes drawer olds → length news ≡ length olds
+        → ((i : ℕ) (d : Actor G) → i < length olds → Did job mails (slice_index_or olds i d) (slice_index_or news i d)) → AllWhole job mails news → Halves
+    halves a len did whole =
+        let b = did_both job mails a.workers a.guests news (subst (λ l. DidAll job mails l news) a.are (did_all job mails olds news len did)) in
+        let ls = b.0 in
+        let rs = b.1 in
+        let w : length ls ≡ length a.workers = did_length job mails a.workers ls b.3 in
+        let g : length rs ≡ length a.guests = did_length job mails a.guests rs b.4 in
+        let some = a.some_worker in
+        record {
+          workers = ls;
+          guests = rs;
+          are = b.2;
+          worked = workers_done job mails shared ring tickets job.words a.workers ls a.fresh_workers b.3 (whole_left job mails ls rs (subst (AllWhole job mails) b.2 whole));
+          stored_by = guests_done job mails names shared ring job.words 1 0 0 job.guests a.guests rs a.fresh_guests b.4;
+          some_worker = omega arith;
+          host = ap (λ (k : HostState). k.view) a.host ∙ (λ i. host_view job.words (sym w i + sym g i) []);
+          post_head = ap (λ (h : PassState). h.view) a.post_head ∙ (λ i. ring_view (Some (head_of (sym g i + 1) [])) (Some (part_of 0 [])) None None);
+          take_head = ap (λ (h : PassState). h.view) a.take_head ∙ (λ i. ring_view None None (Some (head_of (sym w i + 1) [])) (Some (part_of 0 [])));
+          ticket_head = ap (λ (d : DrawerState). d.view) a.ticket_head ∙ (λ i. ticket_view (Some (head_of (sym w i + 1) [])) (Some (part_of 0 [])));
+        }
+
+    module _ (h : Halves) where
+      puts_right : put_parts news ≡ put_parts h.guests
+      puts_right = ap put_parts h.are ∙ (puts-append h.workers h.guests ∙ ap (λ l. l ++ put_parts h.guests) h.worked.no_puts)
+
+      takes_left : take_parts news ≡ take_parts h.workers
+      takes_left = ap take_parts h.are ∙ (takes-append h.workers h.guests ∙ (ap (λ l. take_parts h.workers ++ l) h.stored_by.no_takes ∙ append_nil (take_parts h.workers)))
+
+      draws_left : draw_parts news ≡ draw_parts h.workers
+      draws_left = ap draw_parts h.are ∙ (draws-append h.workers h.guests ∙ (ap (λ l. draw_parts h.workers ++ l) h.stored_by.no_draws ∙ append_nil (draw_parts h.workers)))
+
+      replies_left : all_replies news ≡ all_replies h.workers
+      replies_left = ap all_replies h.are ∙ (replies-append h.workers h.guests ∙ (ap (λ l. all_replies h.workers ++ l) h.stored_by.no_replies ∙ append_nil (all_replies h.workers)))
+
+      -- the ring's view at the end
+      pub ring_is : with_takes (puts_all posts.view news) (takes_all takes.view news)
+          ≡ ring_view (Some (head_of (length h.guests + 1) (put_parts h.guests))) (Some (part_of 0 [])) (Some (head_of (length h.workers + 1) (take_parts h.workers))) (Some (part_of 0 []))
+      ring_is =
+          (λ i. with_takes (puts_all (h.post_head i) news) (takes_all (h.take_head i) news))
+          ∙ ((λ i. with_takes (puts_are (length h.guests + 1) [] (Some (part_of 0 [])) None None news i) (takes_are (length h.workers + 1) [] None (Some (part_of 0 [])) None news i))
+          ∙ (λ i. ring_view (Some (head_of (length h.guests + 1) (puts_right i))) (Some (part_of 0 [])) (Some (head_of (length h.workers + 1) (takes_left i))) (Some (part_of 0 []))))
+
+      pub tickets_are : draws_all drawer.view news ≡ ticket_view (Some (head_of (length h.workers + 1) (draw_parts h.workers))) (Some (part_of 0 []))
+      tickets_are = ap (λ v. draws_all v news) h.ticket_head ∙ (draws_are (length h.workers + 1) [] (Some (part_of 0 [])) news ∙ ap (λ l. ticket_view (Some (head_of (length h.workers + 1) l)) (Some (part_of 0 []))) draws_left)
+
+      pub seats_are_both : seats_all seat.view news ≡ host_view job.words (length h.workers + length h.guests) (map view_of h.workers ++ map view_of h.guests)
+      seats_are_both = ap (λ v. seats_all v news) h.host ∙ (seats_are (host_view job.words (length h.workers + length h.guests) []) news ∙ ap (host_view job.words (length h.workers + length h.guests)) (ap (map view_of) h.are ∙ map-append view_of h.workers h.guests))
+
+      labels : map label (owned (put_parts h.guests)) ≡ map mail_label (all_mails 1 job.guests)
+      labels = labels_all 1 0 job.guests (put_parts h.guests) h.stored_by.posted
+
+      -- what was taken is what was posted
+      pub taken : (v : RingView) (items : List Post) → v ≡ with_takes (puts_all posts.view news) (takes_all takes.view news) → Settled v items
+          → (w : TicketView) (log : List (Entry ℕ)) → w ≡ draws_all drawer.view news → Drawn w log → mails ≡ all_mails 1 job.guests → length mails < 2 ^ 64
+          → IsPermutation (owned (take_parts h.workers)) (owned (put_parts h.guests))
+      taken v items v_is settled w log w_is drawn is few =
+          let r = v_is ∙ ring_is in
+          let t = w_is ∙ tickets_are in
+          let hp : Head Post = head_of (length h.guests + 1) (put_parts h.guests) in
+          let ht : Head Post = head_of (length h.workers + 1) (take_parts h.workers) in
+          let hd : Head ℕ = head_of (length h.workers + 1) (draw_parts h.workers) in
+          let p : Part Post = part_of 0 [] in
+          let q : Part ℕ = part_of 0 [] in
+          let n = length mails in
+          let a = h.stored_by.as_many in
+          let b = h.worked.as_many_takes in
+          let c = h.worked.as_many_draws in
+          let perm = drawn_all w log hd q drawn (ap (λ (x : TicketView). x.head) t) (ap (λ (x : TicketView). x.draws) t) refl (ap (λ k. k + 1) c) in
+          let last = h.worked.some h.some_worker in
+          let many = drawn_below n (length log) last.0 (owned (draw_parts h.workers)) few perm last.1 last.2 in
+          let counts = h.worked.counts in
+          let l : length (owned (put_parts h.guests)) ≡ n =
+          sym (length-map (owned (put_parts h.guests)) label) ∙ (ap length labels ∙ (length-map (all_mails 1 job.guests) mail_label ∙ ap length (sym is))) in
+          all_taken v items hp ht p p settled (ap (λ (x : RingView). x.put_head) r) (ap (λ (x : RingView). x.put) r) (ap (λ (x : RingView). x.take_head) r) (ap (λ (x : RingView). x.take) r)
+          refl refl (ap (λ k. k + 1) a) (ap (λ k. k + 1) b) (omega arith)
+
+      -- as many replies of each name as posts
+      pub same_names : IsPermutation (owned (take_parts h.workers)) (owned (put_parts h.guests)) → mails ≡ all_mails 1 job.guests
+          → (f : PostName → ℕ) → sum_by f (map reply_name (all_replies news)) ≡ sum_by f (map (λ (m : Mail). m.name) mails)
+      same_names perm is f =
+          let name : Post → PostName = λ (p : Post). p.name in
+          let a = ap (λ l. sum_by f (map reply_name l)) replies_left in
+          let b = ap (sum_by f) h.worked.names in
+          let c = sum_by-IsPermutation f (map name (owned (take_parts h.workers))) (map name (owned (put_parts h.guests))) (IsPermutation-map name (owned (take_parts h.workers)) (owned (put_parts h.guests)) perm) in
+          let d : map name (owned (put_parts h.guests)) ≡ map (λ (m : Mail). m.name) mails =
+          names_posts (owned (put_parts h.guests)) ∙ (ap (map (λ (x : PostName × ℕ). x.0)) labels ∙ (sym (names_mails (all_mails 1 job.guests)) ∙ ap (map (λ (m : Mail). m.name)) (sym is))) in
+          a ∙ (b ∙ (sym c ∙ ap (sum_by f) d))
+
+      pub served : IsPermutation (owned (take_parts h.workers)) (owned (put_parts h.guests)) → mails ≡ all_mails 1 job.guests
+          → (v : RingView) → v ≡ with_takes (puts_all posts.view news) (takes_all takes.view news)
+          → (k : HostView) → k ≡ seats_all seat.view news → (length k.ended ≡ k.made → Fetched k) → (log : List HistoryEntry) → Told k log
+          → (replies : List Reply) → map reply_name replies ≡ map (λ (m : Mail). m.name) mails → IsPermutation (all_replies news) replies → Served job replies k v
+      served perm is v v_is k k_is fetched log told replies named order =
+          let r = v_is ∙ ring_is in
+          let e = k_is ∙ seats_are_both in
+          let order' = subst (λ l. IsPermutation l replies) replies_left order in
+          let ended = ap (λ (x : HostView). x.ended) e in
+          let vs = map view_of h.workers in
+          let us = map view_of h.guests in
+          let all_ended : length k.ended ≡ k.made =
+          (let a = ap length ended ∙ length-append vs us in
+          let b = length-map h.workers view_of in
+          let c = length-map h.guests view_of in
+          let d = ap (λ (x : HostView). x.made) e in
+          omega arith) in
+          let opened = ap (λ (x : HostView). x.opened) e in
+          record {
+            replies_are = replies_to job replies (named ∙ ap (map (λ (m : Mail). m.name)) is) (All-permutation (Answered job) (all_replies h.workers) replies order' h.worked.answered);
+            seats = record {
+              readers = vs;
+              guests = us;
+              ended = ended;
+              all_ended = all_ended;
+              opened = opened;
+              history = log;
+              told = told;
+              reading = h.worked.reading;
+              divided = record { shares = h.worked.shares; are_pieces = h.worked.are_pieces; each_once = subst (λ l. IsPermutation l replies) (sym h.worked.divided) order' };
+              stored_by = h.stored_by.stored_by;
+              fetched = fetches job k vs us ended opened (fetched all_ended) h.worked.quiet h.stored_by.stored_by;
+            };
+            passes_are = record {
+              posts = head_of (length h.guests + 1) (put_parts h.guests);
+              takes = head_of (length h.workers + 1) (take_parts h.workers);
+              post_head = ap (λ (x : RingView). x.put_head) r;
+              take_head = ap (λ (x : RingView). x.take_head) r;
+              all_posts = ap (λ n. n + 1) h.stored_by.as_many;
+              all_takes = ap (λ n. n + 1) h.worked.as_many_takes;
+              posted = h.stored_by.posted;
+              taken = perm;
+            };
+          }

@@ -1,0 +1,139 @@
+-- A worker in the middle of its work.
+use Rattle.std.proofs.Common.{◌≡◌, ℕ, zero, suc, take, drop, ◌+◌, ◌<◌, ◌≤◌, List, [], ◌∷◌, ◌++◌, length, map, Some, refl, sym, ap, ◌∙◌, subst, arith, append_assoc, length-append}
+use Rattle.std.proofs.lemmas.List.{map-append}
+use Rattle.std.specs.List.{All}
+use Rattle.std.proofs.lemmas.List.Elements.{All-nil, All-push}
+use Rattle.td_stream.specs.declared.load.Load.{Load}
+use Rattle.td_posts.specs.declared.name.PostName.{PostName}
+use Rattle.td_words.specs.declared.view.Access.{Access}
+use Rattle.td_words.specs.declared.view.Access.TheVariants as access
+use Rattle.td_words.specs.Views.{seat_view}
+use Rattle.td_words.specs.History.{loads, stores}
+use Rattle.td_words.specs.Seats.{SeatState, seat_state}
+use Rattle.td_ring.specs.declared.post.Post.{Post}
+use Rattle.td_ring.specs.Ring.{PassState, pass_with, did_take}
+use Rattle.td_ring.specs.Tickets.{DrawerState, drawer_with, did_draw}
+use Rattle.td_posts.specs.declared.mail.Mail.{Mail}
+use Rattle.td_posts.specs.declared.reply.Reply.{Reply}
+use Rattle.td_posts.specs.declared.job.HostJob.{HostJob}
+use Rattle.td_posts.specs.Posts.{all_mails, mail_named, reply_name}
+use Rattle.td_live.specs.Live.{steps_for, HasLoaded}
+use Rattle.td_host.specs.Served.{pieces, placed, base_in, base_or}
+use Rattle.td_host.specs.Acting.{Answered, read_seat, take_pass, ticket_seat, RanWorker}
+
+loads-append : (xs ys : List Access) → loads (xs ++ ys) ≡ loads xs ++ loads ys
+loads-append [] ys = refl
+loads-append (access.Load j x ∷ xs) ys = ap (λ l. (j, x) ∷ l) (loads-append xs ys)
+loads-append (access.Store j x ∷ xs) ys = loads-append xs ys
+
+stores-append : (xs ys : List Access) → stores (xs ++ ys) ≡ stores xs ++ stores ys
+stores-append [] ys = refl
+stores-append (access.Load j x ∷ xs) ys = stores-append xs ys
+stores-append (access.Store j x ∷ xs) ys = ap (λ l. (j, x) ∷ l) (stores-append xs ys)
+
+loads_placed : (base : ℕ) (more : List Load) → loads (steps_for base more) ≡ placed base more
+unfolding placed
+loads_placed base [] = refl
+loads_placed base (l ∷ ls) = ap (λ t. (base + l.word, l.value) ∷ t) (loads_placed base ls)
+
+no_stores : (base : ℕ) (more : List Load) → stores (steps_for base more) ≡ []
+no_stores base [] = refl
+no_stores base (l ∷ ls) = no_stores base ls
+
+take_all : (xs ys : List ℕ) (n : ℕ) → length xs ≡ n → take n (xs ++ ys) ≡ xs
+take_all [] [] zero e = refl
+take_all [] (y ∷ ys) zero e = refl
+take_all [] ys (suc n) e = absurd (omega arith)
+take_all (x ∷ xs) ys zero e = absurd (omega arith)
+take_all (x ∷ xs) ys (suc n) e = ap (λ l. x ∷ l) (take_all xs ys n (omega arith))
+
+-- what a vector has whose slice was lent
+pub whole : (n : ℕ) (xs ys : List ℕ) → length xs ≡ n → take n (xs ++ drop (length xs) ys) ≡ xs
+whole n xs ys e = take_all xs (drop (length xs) ys) n e
+
+append_nil : {A : Type 0} (xs : List A) → xs ++ [] ≡ xs
+append_nil [] = refl
+append_nil (x ∷ xs) = ap (λ l. x ∷ l) (append_nil xs)
+
+pub pieces-push : (mails : List Mail) (rs : List Reply) (r : Reply) → pieces mails (rs ++ r ∷ []) ≡ pieces mails rs ++ placed (base_in mails r) r.loads.list
+unfolding pieces
+pieces-push mails [] r = append_nil (placed (base_in mails r) r.loads.list)
+pieces-push mails (s ∷ rs) r = ap (λ l. placed (base_in mails s) s.loads.list ++ l) (pieces-push mails rs r) ∙ sym (append_assoc (placed (base_in mails s) s.loads.list) (pieces mails rs) (placed (base_in mails r) r.loads.list))
+
+pub base_is : (mails : List Mail) (name : PostName) (m : Mail) (r : Reply) → reply_name r ≡ name → mail_named name mails ≡ Some m → base_in mails r ≡ m.base
+base_is mails name m r e f = ap base_or (ap (λ n. mail_named n mails) e ∙ f)
+
+pub record RunningWorker (job : HostJob) (count : ℕ) (seat0 seat : SeatState) (pass0 pass : PassState) (drawer0 drawer : DrawerState) (replies : List Reply) : Type 0 where
+  pub steps : List Access
+  pub posts : List Post
+  pub below : List ℕ
+  pub is_seat : (opened : List ℕ) (n : ℕ) → seat0 ≡ read_seat seat0.table opened n [] → seat ≡ read_seat seat0.table opened n steps
+  pub is_pass : (n : ℕ) → pass0 ≡ take_pass pass0.queue n [] → pass ≡ take_pass pass0.queue n posts
+  pub is_drawer : (n : ℕ) → drawer0 ≡ ticket_seat drawer0.table n [] → drawer ≡ ticket_seat drawer0.table n below
+  pub loaded : loads steps ≡ pieces (all_mails 1 job.guests) replies
+  pub stored : stores steps ≡ []
+  pub names : map reply_name replies ≡ map (λ (p : Post). p.name) posts
+  pub answered : All (Answered job) replies
+  pub all_below : All (λ (k : ℕ). k < count) below
+  pub as_many : length below ≡ length posts
+
+module _ (job : HostJob) (count : ℕ) where
+  pub begins : (seat : SeatState) (pass : PassState) (drawer : DrawerState) (replies : List Reply) → replies ≡ [] → RunningWorker job count seat seat pass pass drawer drawer replies
+  unfolding pieces
+  begins seat pass drawer replies none = subst (RunningWorker job count seat seat pass pass drawer drawer) (sym none) record {
+    steps = [];
+    posts = [];
+    below = [];
+    is_seat = λ opened n e. e;
+    is_pass = λ n e. e;
+    is_drawer = λ n e. e;
+    loaded = refl;
+    stored = refl;
+    names = refl;
+    answered = All-nil (Answered job);
+    all_below = All-nil (λ (k : ℕ). k < count);
+    as_many = refl;
+  }
+
+  module _ (seat0 seat : SeatState) (pass0 pass : PassState) (drawer0 drawer : DrawerState) (replies : List Reply) (w : RunningWorker job count seat0 seat pass0 pass drawer0 drawer replies) where
+    pub answers : (seat' : SeatState) (pass' : PassState) (drawer' : DrawerState) (k : ℕ) (p : Post) (r : Reply) (replies' : List Reply)
+        → drawer' ≡ drawer_with drawer (did_draw drawer.view k) → k < count
+        → pass' ≡ pass_with pass (did_take pass.view p) → reply_name r ≡ p.name → Answered job r
+        → HasLoaded (base_in (all_mails 1 job.guests) r) seat seat' r.loads.list → replies' ≡ replies ++ r ∷ []
+        → RunningWorker job count seat0 seat' pass0 pass' drawer0 drawer' replies'
+    answers seat' pass' drawer' k p r replies' drew less took name answered read is =
+        let mails = all_mails 1 job.guests in
+        let base = base_in mails r in
+        let more : List Access = steps_for base r.loads.list in
+        subst (RunningWorker job count seat0 seat' pass0 pass' drawer0 drawer') (sym is) record {
+          steps = w.steps ++ more;
+          posts = w.posts ++ p ∷ [];
+          below = w.below ++ k ∷ [];
+          is_seat = λ opened n e. read ∙ ap (λ (s : SeatState). seat_state s.table (seat_view s.view.opened s.view.number s.view.guest (s.view.steps ++ more))) (w.is_seat opened n e);
+          is_pass = λ n e. took ∙ ap (λ (h : PassState). pass_with h (did_take h.view p)) (w.is_pass n e);
+          is_drawer = λ n e. drew ∙ ap (λ (d : DrawerState). drawer_with d (did_draw d.view k)) (w.is_drawer n e);
+          loaded = loads-append w.steps more ∙ ((λ i. w.loaded i ++ loads_placed base r.loads.list i) ∙ sym (pieces-push mails replies r));
+          stored = stores-append w.steps more ∙ (λ i. w.stored i ++ no_stores base r.loads.list i);
+          names = map-append reply_name replies (r ∷ []) ∙ ((λ i. w.names i ++ name i ∷ []) ∙ sym (map-append (λ (x : Post). x.name) w.posts (p ∷ [])));
+          answered = All-push (Answered job) replies r w.answered answered;
+          all_below = All-push (λ (x : ℕ). x < count) w.below k w.all_below less;
+          as_many = length-append w.below (k ∷ []) ∙ (ap (λ n. n + 1) w.as_many ∙ sym (length-append w.posts (p ∷ [])));
+        }
+
+    pub ends : (drawer' : DrawerState) (k : ℕ) → drawer' ≡ drawer_with drawer (did_draw drawer.view k) → count ≤ k → RanWorker job count seat0 seat pass0 pass drawer0 drawer' replies
+    ends drawer' k drew enough = record {
+      steps = w.steps;
+      posts = w.posts;
+      below = w.below;
+      last = k;
+      is_seat = w.is_seat;
+      is_pass = w.is_pass;
+      is_drawer = λ n e. drew ∙ ap (λ (d : DrawerState). drawer_with d (did_draw d.view k)) (w.is_drawer n e);
+      loaded = w.loaded;
+      stored = w.stored;
+      names = w.names;
+      answered = w.answered;
+      all_below = w.all_below;
+      enough = enough;
+      as_many = w.as_many;
+    }

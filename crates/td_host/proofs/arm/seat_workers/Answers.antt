@@ -1,0 +1,30 @@
+use Rattle.std.proofs.Common.{rules, ◌≡◌, ◌+◌, true, length, refl, ap, arith}
+use Rattle.td_host.proofs.Arms.{no_worker, one_worker}
+use Rattle.td_host.proofs.arm.seat_workers.Goals as goal
+
+pub loop-gate-init : goal.loop-gate-init
+loop-gate-init g c =
+    let a = c.args in
+    let k = a.heads.now in
+    let r = c.requires in
+    let same : c.into_iter-gate-iterator.result.rest.items ≡ a.gates.items = search rules in
+    record {
+      n = 0;
+      seated = no_worker a.shared.now a.ring.now a.tickets.now k.seat.view.opened k.seat k.takes k.drawer a.actors.now.items r.empty r.seat r.takes r.drawer;
+      counted = let e = ap length same in omega arith;
+      posts = refl;
+    }
+
+pub loop-gate-preserved : goal.loop-gate-preserved
+loop-gate-preserved g c =
+    let a = c.args in
+    let l = c.loop-gate in
+    let i = l.invariant in
+    record {
+      n = i.n + 1;
+      seated = one_worker a.shared.now a.ring.now a.tickets.now a.heads.now.seat.view.opened i.n l.heads.seat c.split_reader.new.host l.heads.takes c.split_take.new.pass l.heads.drawer c.split.new.seat l.actors.items c.push.new.self.items
+          (record { seat = c.split_reader.result; pass = c.split_take.result; drawer = c.split.result; replies = c.new.result; complete = true; gate = c.in-Some.gate }) i.seated
+          c.split_reader.ensures.host c.split_reader.ensures.seat c.split_take.ensures.kept c.split_take.ensures.given c.split.ensures.kept c.split.ensures.given c.new.ensures.items c.in_ok-push.ensures.items;
+      counted = let e = ap length c.in-Some.ensures.steps.0 in let f = i.counted in omega arith;
+      posts = i.posts;
+    }

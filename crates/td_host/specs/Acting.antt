@@ -1,0 +1,102 @@
+-- What guests and workers are before they run, and what they did.
+use Rattle.std.specs.Prelude.{◌≡◌, ℕ, ◌<◌, ◌≤◌, true, false, List, [], ◌∷◌, ◌++◌, map, length, Some, None}
+use Rattle.std.specs.List.{All}
+use Rattle.atomic_table.specs.Seated.{TableId}
+use Rattle.td_words.specs.declared.view.Access.{Access}
+use Rattle.td_words.specs.declared.view.Access.TheVariants as access
+use Rattle.td_words.specs.Views.{seat_view}
+use Rattle.td_words.specs.Seats.{SeatState, seat_state}
+use Rattle.td_words.specs.History.{loads, stores}
+use Rattle.td_roll.specs.Roll.{part_of}
+use Rattle.td_ring.specs.declared.post.Post.{Post}
+use Rattle.td_ring.specs.Ring.{PassState, pass_state, ring_view}
+use Rattle.td_ring.specs.Tickets.{DrawerState, drawer_state, ticket_view}
+use Rattle.td_posts.specs.declared.job.Step.{Step}
+use Rattle.td_posts.specs.declared.job.Step.TheVariants as step
+use Rattle.td_posts.specs.declared.mail.Mail.{Mail}
+use Rattle.td_posts.specs.declared.reply.Reply.{Reply}
+use Rattle.td_posts.specs.declared.job.HostJob.{HostJob}
+use Rattle.td_posts.specs.Posts.{mails_of, all_mails, mail_named, zeros, reply_name}
+use Rattle.td_posts.specs.Posts.{words_in}
+use Rattle.td_host.specs.Served.{IsReplyTo, pieces, label, mail_label}
+
+-- ---- what a post promises
+-- the post is one of the job's, by its first of that name, and its room is empty and large enough
+pub record Fits (job : HostJob) (p : Post) : Type 0 where
+  pub mail : Mail
+  pub is : mail_named p.name (all_mails 1 job.guests) ≡ Some mail
+  pub made : p.made ≡ mail.made
+  pub name : reply_name p.room ≡ p.name
+  pub empty : p.room.loads.list ≡ []
+  pub room : words_in mail.length ≤ p.room.loads.room
+  pub cells : p.room.cells.items ≡ zeros job.cells
+
+abbrev pub post_of : Mail → Reply → Post
+post_of m r = record { name = m.name; made = m.made; room = r }
+
+-- a room for each of these posts
+unfoldable pub RoomsFor : (Post → Type 0) → List Mail → List Reply → Type 0
+RoomsFor names [] rooms = Unit {0}
+RoomsFor names (m ∷ ms) [] = ⊥
+RoomsFor names (m ∷ ms) (r ∷ rooms) = names (post_of m r) × RoomsFor names ms rooms
+
+-- ---- guests
+-- the steps of a seat that makes the stores of a script
+unfoldable pub acts_of : List Step → List Access
+acts_of [] = []
+acts_of (step.Store word value ∷ steps) = access.Store word value ∷ acts_of steps
+acts_of (step.Post base length ∷ steps) = acts_of steps
+
+-- each word that is stored to is in the buffer
+unfoldable pub StoresInside : ℕ → List Step → Type 0
+StoresInside count [] = Unit {0}
+StoresInside count (step.Store word value ∷ steps) = (word < count) × StoresInside count steps
+StoresInside count (step.Post base length ∷ steps) = StoresInside count steps
+
+-- the seat has the number n, is a guest's, and made these steps
+abbrev pub guest_seat : TableId → List ℕ → ℕ → List Access → SeatState
+guest_seat table opened n steps = seat_state table (seat_view opened n true steps)
+
+abbrev pub read_seat : TableId → List ℕ → ℕ → List Access → SeatState
+read_seat table opened n steps = seat_state table (seat_view opened n false steps)
+
+abbrev pub post_pass : TableId → ℕ → List Post → PassState
+post_pass queue n posts = pass_state queue (ring_view None (Some (part_of n posts)) None None)
+
+abbrev pub take_pass : TableId → ℕ → List Post → PassState
+take_pass queue n posts = pass_state queue (ring_view None None None (Some (part_of n posts)))
+
+abbrev pub ticket_seat : TableId → ℕ → List ℕ → DrawerState
+ticket_seat table n draws = drawer_state table (ticket_view None (Some (part_of n draws)))
+
+-- the guest made the stores of its script and its posts
+pub record RanScript (guest : ℕ) (script : List Step) (seat seat' : SeatState) (pass pass' : PassState) : Type 0 where
+  pub posts : List Post
+  pub labels : map label posts ≡ map mail_label (mails_of guest script)
+  pub is_seat : (opened : List ℕ) (n : ℕ) → seat ≡ guest_seat seat.table opened n [] → seat' ≡ guest_seat seat.table opened n (acts_of script)
+  pub is_pass : (n : ℕ) → pass ≡ post_pass pass.queue n [] → pass' ≡ post_pass pass.queue n posts
+
+-- ---- workers
+-- the reply is to the job's post of its name
+pub record Answered (job : HostJob) (r : Reply) : Type 0 where
+  pub mail : Mail
+  pub is : mail_named (reply_name r) (all_mails 1 job.guests) ≡ Some mail
+  pub reply : IsReplyTo job mail r
+
+-- the worker drew tickets below the count of posts and then one that isn't, and for each of those took one post and
+-- answered it, with loads of its own seat
+pub record RanWorker (job : HostJob) (count : ℕ) (seat seat' : SeatState) (pass pass' : PassState) (drawer drawer' : DrawerState) (replies : List Reply) : Type 0 where
+  pub steps : List Access
+  pub posts : List Post
+  pub below : List ℕ
+  pub last : ℕ
+  pub is_seat : (opened : List ℕ) (n : ℕ) → seat ≡ read_seat seat.table opened n [] → seat' ≡ read_seat seat.table opened n steps
+  pub is_pass : (n : ℕ) → pass ≡ take_pass pass.queue n [] → pass' ≡ take_pass pass.queue n posts
+  pub is_drawer : (n : ℕ) → drawer ≡ ticket_seat drawer.table n [] → drawer' ≡ ticket_seat drawer.table n (below ++ last ∷ [])
+  pub loaded : loads steps ≡ pieces (all_mails 1 job.guests) replies
+  pub stored : stores steps ≡ []
+  pub names : map reply_name replies ≡ map (λ p. p.name) posts
+  pub answered : All (Answered job) replies
+  pub all_below : All (λ k. k < count) below
+  pub enough : count ≤ last
+  pub as_many : length below ≡ length posts

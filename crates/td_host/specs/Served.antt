@@ -1,0 +1,151 @@
+-- When all posts of a job are served (own rule).
+use Rattle.std.specs.Prelude.{◌≡◌, ◌⊎◌, ℕ, ◌+◌, ◌<◌, ◌≤◌, ◌^◌, true, false, List, [], ◌∷◌, ◌++◌, map, length, slice_index, Option, Some, None}
+use Rattle.std.specs.List.{All}
+use Rattle.std.specs.List.Sorted.{IsPermutation}
+use Rattle.td_stream.specs.declared.load.Load.{Load}
+use Rattle.td_stream.specs.Loads.{IsRising, Inside, Carries}
+use Rattle.td_posts.specs.declared.name.PostName.{PostName}
+use Rattle.td_expr.specs.Sound.{Sound}
+use Rattle.td_meaning.specs.Meaning.{meaning}
+use Rattle.td_meaning.specs.Throughout.{Throughout}
+use Rattle.td_leaves.specs.Outcomes.{IsBehaviorOf}
+use Rattle.td_words.specs.declared.view.SeatView.{SeatView}
+use Rattle.td_words.specs.declared.view.HostView.{HostView}
+use Rattle.td_words.specs.History.{Entry, loads, stores}
+use Rattle.td_words.specs.Gathered.{Told}
+use Rattle.td_roll.specs.declared.parts.Part.{Part}
+use Rattle.td_roll.specs.declared.parts.Head.{Head}
+use Rattle.td_roll.specs.Roll.{owned}
+use Rattle.td_ring.specs.declared.post.Post.{Post}
+use Rattle.td_ring.specs.declared.view.RingView.{RingView}
+use Rattle.td_posts.specs.declared.job.Step.{Step}
+use Rattle.td_posts.specs.declared.mail.Mail.{Mail}
+use Rattle.td_posts.specs.declared.reply.Reply.{Reply}
+use Rattle.td_posts.specs.declared.job.HostJob.{HostJob}
+use Rattle.td_posts.specs.Posts.{mails_of, all_mails, stores_of, mail_named, zeros, reply_name, outcome_in}
+
+abbrev pub AreBytes : List ℕ → Type 0
+AreBytes message = (i : ℕ) → slice_index message i < 256
+
+-- whatever bytes a message of the job has, each expression that the meaning evaluates lies in its type's range
+abbrev pub IsSoundJob : HostJob → Type 0
+IsSoundJob job = (b : List ℕ) → AreBytes b → length b < 2 ^ 32 → Throughout Sound job.format job.entry job.args (zeros job.cells) b
+
+-- the reply to a post: its words rise and lie in the message, and its outcome is the module's meaning, from cells of zeros,
+-- on every list of bytes that carries its loads, which are of exactly the words that the meaning reads
+pub record IsReplyTo (job : HostJob) (m : Mail) (r : Reply) : Type 0 where
+  pub name : reply_name r ≡ m.name
+  pub rising : IsRising r.loads.list
+  pub inside : Inside m.length r.loads.list
+  pub meant : (b : List ℕ) → AreBytes b → Carries m.length b r.loads.list → IsBehaviorOf r.loads.list (meaning job.format job.entry job.args (zeros job.cells) b) (outcome_in r)
+
+-- the first replies to the first, the second to the second, and so on; there are as many of the one as of the other
+unfoldable pub RepliesTo : HostJob → List Mail → List Reply → Type 0
+RepliesTo job [] [] = Unit {0}
+RepliesTo job [] (r ∷ rs) = ⊥
+RepliesTo job (m ∷ ms) [] = ⊥
+RepliesTo job (m ∷ ms) (r ∷ rs) = IsReplyTo job m r × RepliesTo job ms rs
+
+-- ---- the loads
+-- loads of a message whose first word is the buffer's word `base`, by the buffer's words
+unfoldable pub placed : ℕ → List Load → List (ℕ × ℕ)
+placed base [] = []
+placed base (l ∷ ls) = (base + l.word, l.value) ∷ placed base ls
+
+abbrev pub base_or : Option Mail → ℕ
+base_or None = 0
+base_or (Some m) = m.base
+
+-- the first word of the post to which this is the reply
+abbrev pub base_in : List Mail → Reply → ℕ
+base_in mails r = base_or (mail_named (reply_name r) mails)
+
+-- the loads of these replies, directly one piece after the other, each with its post's base added
+unfoldable pub pieces : List Mail → List Reply → List (ℕ × ℕ)
+pieces mails [] = []
+pieces mails (r ∷ rs) = placed (base_in mails r) r.loads.list ++ pieces mails rs
+
+-- the loads of each seat are the pieces of one of these shares of the replies
+unfoldable pub ArePieces : List Mail → List SeatView → List (List Reply) → Type 0
+ArePieces mails [] [] = Unit {0}
+ArePieces mails [] (share ∷ shares) = ⊥
+ArePieces mails (v ∷ vs) [] = ⊥
+ArePieces mails (v ∷ vs) (share ∷ shares) = (loads v.steps ≡ pieces mails share) × ArePieces mails vs shares
+
+-- these lists, one after the other
+unfoldable pub joined : {A : Type 0} → List (List A) → List A
+joined [] = []
+joined (xs ∷ xss) = xs ++ joined xss
+
+-- the replies are divided among the seats, each to one seat and once, and the loads of each seat are its replies' pieces
+pub record Divided (mails : List Mail) (seats : List SeatView) (replies : List Reply) : Type 0 where
+  pub shares : List (List Reply)
+  pub are_pieces : ArePieces mails seats shares
+  pub each_once : IsPermutation (joined shares) replies
+
+-- ---- the seats
+-- a seat for each script, in order by rising numbers from n on; its stores are the script's
+unfoldable pub AreStored : ℕ → List (List Step) → List SeatView → Type 0
+AreStored n [] [] = Unit {0}
+AreStored n [] (v ∷ vs) = ⊥
+AreStored n (s ∷ ss) [] = ⊥
+AreStored n (s ∷ ss) (v ∷ vs) = (v.guest ≡ true) × (n ≤ v.number) × (stores v.steps ≡ stores_of s) × AreStored (v.number + 1) ss vs
+
+-- x stands in the list
+unfoldable pub In : {A : Type 0} → A → List A → Type 0
+In x [] = ⊥
+In x (y ∷ ys) = (y ≡ x) ⊎ In x ys
+
+-- of a word and a value: the value stood in the word when the buffer was opened, or some guest's script stores it there
+abbrev pub Comes : HostJob → ℕ × ℕ → Type 0
+Comes job l = (l.1 ≡ slice_index job.words l.0) ⊎ ((s : List Step) × In s job.guests × In (l.0, l.1) (stores_of s))
+
+-- what the host's seat knows of all that was done to the buffer: it gathered each seat that it made, first the readers and
+-- then a guest for each script; all their loads and stores stand in one history, and so each load is the opening word, or
+-- some guest's script stores it to that word
+pub record SeatsServed (job : HostJob) (replies : List Reply) (host : HostView) : Type 0 where
+  pub readers : List SeatView
+  pub guests : List SeatView
+  pub ended : host.ended ≡ readers ++ guests
+  pub all_ended : length host.ended ≡ host.made
+  pub opened : host.opened ≡ job.words
+  pub history : List Entry
+  pub told : Told host history
+  pub reading : All (λ v. v.guest ≡ false) readers
+  pub divided : Divided (all_mails 1 job.guests) readers replies
+  pub stored_by : AreStored 0 job.guests guests
+  pub fetched : (v : SeatView) (l : ℕ × ℕ) → In v readers → In l (loads v.steps) → Comes job l
+
+-- ---- the passes
+-- a post's name, and the number of stores before it
+abbrev pub label : Post → PostName × ℕ
+label p = (p.name, p.made)
+
+abbrev pub mail_label : Mail → PostName × ℕ
+mail_label m = (m.name, m.made)
+
+-- a pass for each script, in order by rising numbers from n on; its posts are the script's, in order, each with the number
+-- of stores before it
+unfoldable pub ArePosted : ℕ → ℕ → List (List Step) → List (Part Post) → Type 0
+ArePosted g n [] [] = Unit {0}
+ArePosted g n [] (p ∷ ps) = ⊥
+ArePosted g n (s ∷ ss) [] = ⊥
+ArePosted g n (s ∷ ss) (p ∷ ps) = (n ≤ p.number) × (map label p.own ≡ map mail_label (mails_of g s)) × ArePosted (g + 1) (p.number + 1) ss ps
+
+-- what the ring's first pass knows: it gathered each pass that was made, and what was taken is what was posted, each once
+pub record PassesServed (job : HostJob) (passes : RingView) : Type 0 where
+  pub posts : Head Post
+  pub takes : Head Post
+  pub post_head : passes.put_head ≡ Some posts
+  pub take_head : passes.take_head ≡ Some takes
+  pub all_posts : length posts.ended + 1 ≡ posts.made
+  pub all_takes : length takes.ended + 1 ≡ takes.made
+  pub posted : ArePosted 1 0 job.guests posts.ended
+  pub taken : IsPermutation (owned takes.ended) (owned posts.ended)
+
+-- All posts of the job are served: there is one reply for each post, by guest and number, and no other; and this is what the
+-- seats of the buffer and the passes of the ring did.
+pub record Served (job : HostJob) (replies : List Reply) (host : HostView) (passes : RingView) : Type 0 where
+  pub replies_are : RepliesTo job (all_mails 1 job.guests) replies
+  pub seats : SeatsServed job replies host
+  pub passes_are : PassesServed job passes

@@ -1,0 +1,110 @@
+//! What runs in a thread.
+
+ghost use Rattle.std.specs.Prelude.{◌≡◌, ◌+◌, ◌≤◌, true};
+ghost use Rattle.std.specs.List.{All};
+ghost use Rattle.td_ring.specs.declared.post.Post.{Post};
+ghost use Rattle.td_posts.specs.Posts.{all_mails, words_in};
+ghost use Rattle.td_host.specs.Served.{IsSoundJob};
+ghost use Rattle.td_host.specs.Acting.{Fits};
+ghost use Rattle.td_host.specs.Actors.{IsReady, Did};
+
+use crate::guest::run_script;
+use crate::worker::run_worker;
+use std::alloc::Global;
+use std::collections::VecDeque;
+use std::sync::Wait;
+use td_live::gate::Gate;
+use td_num::items::Items;
+use td_posts::job::{HostJob, Step};
+use td_posts::mail::Mail;
+use td_posts::reply::Reply;
+use td_ring::naming::Naming;
+use td_ring::passes::{PostPass, TakePass};
+use td_ring::ring::Ring;
+use td_ring::ticket_seat::TicketSeat;
+use td_ring::tickets::Tickets;
+use td_words::seats::{GuestSeat, ReadSeat};
+use td_words::shared::Shared;
+
+/// What all actors look at: the buffer, the ring, the tickets, and the job.
+#[derive(Drop)]
+pub struct Desk<J: Naming> {
+    pub shared: Shared,
+    pub ring: Ring<J>,
+    pub tickets: Tickets,
+    pub job: HostJob,
+    /// The job's posts, by guest and number.
+    pub mails: Vec<Mail>,
+}
+
+/// A guest: its number, from 1, and script, what it acts with, and a room for each of its posts that it hasn't made yet.
+#[derive(Drop)]
+pub struct Guest<G> {
+    pub number: u32,
+    pub script: Items<Step>,
+    pub seat: GuestSeat,
+    pub pass: PostPass,
+    pub rooms: VecDeque<Reply>,
+    pub gate: G,
+}
+
+/// A worker: what it acts with, and the replies that it made.
+#[derive(Drop)]
+pub struct Worker<G> {
+    pub seat: ReadSeat,
+    pub pass: TakePass,
+    pub drawer: TicketSeat,
+    pub replies: Vec<Reply>,
+    /// Whether there was memory for each answer.
+    pub complete: bool,
+    pub gate: G,
+}
+
+/// What runs in a thread.
+#[derive(Drop)]
+pub enum Actor<G> {
+    Worker(Worker<G>),
+    Guest(Guest<G>),
+}
+
+impl<G: Gate> Actor<G> {
+    /// Does all that the actor has to do: a worker answers posts, a guest runs its script.
+    pub fn run<J: Naming, R: Wait>(&mut self, rt: &R, alloc: Global, desk: &Desk<J>)
+        requires ready { IsReady J.names desk.now.shared desk.now.ring desk.now.tickets self.old }
+        requires mails { desk.now.mails.items ≡ all_mails 1 desk.now.job.guests }
+        requires inside { All (λ m. m.base + words_in m.length ≤ desk.now.shared.count) desk.now.mails.items }
+        requires says { (p : Post) → J.names p → Fits desk.now.job p }
+        requires sound { IsSoundJob desk.now.job }
+        ensures { Did desk.now.job desk.now.mails.items self.old self.new }
+    {
+        match self {
+            Actor::Worker(worker) => {
+                worker.complete = run_worker(
+                    rt,
+                    alloc,
+                    &desk.shared,
+                    &desk.ring,
+                    &desk.tickets,
+                    &desk.job,
+                    desk.mails.as_slice(),
+                    &mut worker.seat,
+                    &mut worker.pass,
+                    &mut worker.drawer,
+                    &mut worker.replies,
+                    &mut worker.gate,
+                );
+            }
+            Actor::Guest(guest) => run_script(
+                rt,
+                &desk.shared,
+                &desk.ring,
+                guest.number,
+                guest.script.as_slice(),
+                &mut guest.seat,
+                &mut guest.pass,
+                &mut guest.rooms,
+                &mut guest.gate,
+            ),
+        }
+    }
+}

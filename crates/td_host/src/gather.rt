@@ -1,0 +1,159 @@
+//! The host takes back what all actors had.
+
+ghost use Rattle.std.specs.Prelude.{◌≡◌, ◌++◌, true, OnOk};
+ghost use Rattle.std.specs.List.{All};
+ghost use Rattle.td_words.specs.Seats.{with_view};
+ghost use Rattle.td_words.specs.Views.{with_ended};
+ghost use Rattle.td_roll.specs.Heads.{HasHead};
+ghost use Rattle.td_ring.specs.Ring.{pass_with, with_put, with_take};
+ghost use Rattle.td_ring.specs.Tickets.{drawer_with, with_seat};
+ghost use Rattle.td_host.specs.Gathered.{IsComplete, IsAt, view_of, put_one, take_one, draw_one, replies_of, seats_all, puts_all, takes_all, draws_all, all_replies};
+
+use crate::actor::{Actor, Desk, Guest, Worker};
+use std::alloc::AllocError;
+use td_posts::reply::Reply;
+use td_ring::naming::Naming;
+use td_ring::passes::{PostPass, TakePass};
+use td_ring::ticket_seat::TicketSeat;
+use td_words::seats::HostSeat;
+
+/// What the host acts with: its seat at the buffer, and the first passes and the first ticket seat.
+#[derive(Drop)]
+pub struct Heads {
+    pub seat: HostSeat,
+    pub posts: PostPass,
+    pub takes: TakePass,
+    pub drawer: TicketSeat,
+}
+
+/// Whether there was memory for all that the actor did.
+fn is_complete<G>(actor: &Actor<G>) -> bool
+    ensures { result ≡ true → IsComplete actor.now }
+{
+    match actor {
+        Actor::Worker(worker) => worker.complete,
+        Actor::Guest(_) => true,
+    }
+}
+
+/// Whether there was memory for all that the actors did.
+pub fn all_complete<G>(actors: &[Actor<G>]) -> bool
+    ensures { result ≡ true → All IsComplete actors.now }
+{
+    for actor in actors {
+        if !is_complete(actor) {
+            return false;
+        }
+    }
+    true
+}
+
+/// Takes back what a worker had.
+fn gather_worker<J: Naming, G: Drop>(
+    desk: &Desk<J>,
+    heads: &mut Heads,
+    found: &mut Vec<Reply>,
+    worker: Worker<G>,
+) -> Result<(), AllocError>
+    requires seat { heads.old.seat.table ≡ desk.now.shared.table }
+    requires passes { (heads.old.posts.queue ≡ desk.now.ring.queue) × (heads.old.takes.queue ≡ desk.now.ring.queue) }
+    requires drawer { heads.old.drawer.table ≡ desk.now.tickets }
+    requires first { HasHead heads.old.posts.view.put_head × HasHead heads.old.takes.view.take_head × HasHead heads.old.drawer.view.head }
+    requires at { (worker.seat.table ≡ desk.now.shared.table) × (worker.pass.queue ≡ desk.now.ring.queue) × (worker.drawer.table ≡ desk.now.tickets) }
+    ensures seat { OnOk result (heads.new.seat ≡ with_view heads.old.seat (with_ended heads.old.seat.view worker.seat.view)) }
+    ensures posts { OnOk result (heads.new.posts ≡ heads.old.posts) }
+    ensures takes { OnOk result (heads.new.takes ≡ pass_with heads.old.takes (with_take heads.old.takes.view worker.pass.view)) }
+    ensures drawer { OnOk result (heads.new.drawer ≡ drawer_with heads.old.drawer (with_seat heads.old.drawer.view worker.drawer.view)) }
+    ensures found { OnOk result (found.new.items ≡ found.old.items ++ worker.replies.items) }
+{
+    let Worker {
+        seat,
+        pass,
+        drawer,
+        replies,
+        complete: _,
+        gate: _,
+    } = worker;
+    let mut replies = replies;
+    found.append(&mut replies)?;
+    desk.shared.gather_reader(&mut heads.seat, seat);
+    desk.ring.gather_take(&mut heads.takes, pass);
+    desk.tickets.gather(&mut heads.drawer, drawer);
+    Ok(())
+}
+
+/// Takes back what a guest had.
+fn gather_guest<J: Naming, G: Drop>(desk: &Desk<J>, heads: &mut Heads, guest: Guest<G>)
+    requires seat { heads.old.seat.table ≡ desk.now.shared.table }
+    requires passes { (heads.old.posts.queue ≡ desk.now.ring.queue) × (heads.old.takes.queue ≡ desk.now.ring.queue) }
+    requires drawer { heads.old.drawer.table ≡ desk.now.tickets }
+    requires first { HasHead heads.old.posts.view.put_head × HasHead heads.old.takes.view.take_head × HasHead heads.old.drawer.view.head }
+    requires at { (guest.seat.table ≡ desk.now.shared.table) × (guest.pass.queue ≡ desk.now.ring.queue) }
+    ensures seat { heads.new.seat ≡ with_view heads.old.seat (with_ended heads.old.seat.view guest.seat.view) }
+    ensures posts { heads.new.posts ≡ pass_with heads.old.posts (with_put heads.old.posts.view guest.pass.view) }
+    ensures takes { heads.new.takes ≡ heads.old.takes }
+    ensures drawer { heads.new.drawer ≡ heads.old.drawer }
+{
+    let Guest {
+        number: _,
+        script: _,
+        seat,
+        pass,
+        rooms: _,
+        gate: _,
+    } = guest;
+    desk.shared.gather_guest(&mut heads.seat, seat);
+    desk.ring.gather_post(&mut heads.posts, pass);
+}
+
+/// Takes back what one actor had.
+fn gather_one<J: Naming, G: Drop>(
+    desk: &Desk<J>,
+    heads: &mut Heads,
+    found: &mut Vec<Reply>,
+    actor: Actor<G>,
+) -> Result<(), AllocError>
+    requires seat { heads.old.seat.table ≡ desk.now.shared.table }
+    requires passes { (heads.old.posts.queue ≡ desk.now.ring.queue) × (heads.old.takes.queue ≡ desk.now.ring.queue) }
+    requires drawer { heads.old.drawer.table ≡ desk.now.tickets }
+    requires first { HasHead heads.old.posts.view.put_head × HasHead heads.old.takes.view.take_head × HasHead heads.old.drawer.view.head }
+    requires at { IsAt desk.now.shared desk.now.ring desk.now.tickets actor }
+    ensures seat { OnOk result (heads.new.seat ≡ with_view heads.old.seat (with_ended heads.old.seat.view (view_of actor))) }
+    ensures posts { OnOk result (heads.new.posts ≡ pass_with heads.old.posts (put_one heads.old.posts.view actor)) }
+    ensures takes { OnOk result (heads.new.takes ≡ pass_with heads.old.takes (take_one heads.old.takes.view actor)) }
+    ensures drawer { OnOk result (heads.new.drawer ≡ drawer_with heads.old.drawer (draw_one heads.old.drawer.view actor)) }
+    ensures found { OnOk result (found.new.items ≡ found.old.items ++ replies_of actor) }
+{
+    match actor {
+        Actor::Worker(worker) => Ok(gather_worker(desk, heads, found, worker)?),
+        Actor::Guest(guest) => {
+            gather_guest(desk, heads, guest);
+            Ok(())
+        }
+    }
+}
+
+/// Takes back what all actors had, in order. `AllocError`: there was no memory for the list of replies.
+pub fn gather_all<J: Naming, G: Drop>(
+    desk: &Desk<J>,
+    heads: &mut Heads,
+    found: &mut Vec<Reply>,
+    actors: Vec<Actor<G>>,
+) -> Result<(), AllocError>
+    requires seat { heads.old.seat.table ≡ desk.now.shared.table }
+    requires passes { (heads.old.posts.queue ≡ desk.now.ring.queue) × (heads.old.takes.queue ≡ desk.now.ring.queue) }
+    requires drawer { heads.old.drawer.table ≡ desk.now.tickets }
+    requires first { HasHead heads.old.posts.view.put_head × HasHead heads.old.takes.view.take_head × HasHead heads.old.drawer.view.head }
+    requires at { All (IsAt desk.now.shared desk.now.ring desk.now.tickets) actors.items }
+    ensures seat { OnOk result (heads.new.seat ≡ with_view heads.old.seat (seats_all heads.old.seat.view actors.items)) }
+    ensures posts { OnOk result (heads.new.posts ≡ pass_with heads.old.posts (puts_all heads.old.posts.view actors.items)) }
+    ensures takes { OnOk result (heads.new.takes ≡ pass_with heads.old.takes (takes_all heads.old.takes.view actors.items)) }
+    ensures drawer { OnOk result (heads.new.drawer ≡ drawer_with heads.old.drawer (draws_all heads.old.drawer.view actors.items)) }
+    ensures first { OnOk result (HasHead heads.new.posts.view.put_head × HasHead heads.new.takes.view.take_head) }
+    ensures found { OnOk result (found.new.items ≡ found.old.items ++ all_replies actors.items) }
+{
+    for actor in actors {
+        gather_one(desk, heads, found, actor)?;
+    }
+    Ok(())
+}

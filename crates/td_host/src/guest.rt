@@ -1,0 +1,86 @@
+//! Guests, which store to the buffer and post messages.
+
+ghost use Rattle.std.specs.Prelude.{◌≡◌, ◌<◌, ◌^◌, [], length};
+ghost use Rattle.td_words.specs.History.{stores};
+ghost use Rattle.td_ring.specs.Ring.{pass_with, did_post};
+ghost use Rattle.td_posts.specs.Posts.{mails_of};
+ghost use Rattle.td_host.specs.Acting.{RoomsFor, StoresInside, RanScript};
+
+use std::collections::VecDeque;
+use std::sync::Wait;
+use std::thread;
+use td_live::gate::Gate;
+use td_posts::job::Step;
+use td_posts::name::PostName;
+use td_posts::reply::Reply;
+use td_ring::naming::Naming;
+use td_ring::passes::PostPass;
+use td_ring::post::Post;
+use td_ring::ring::Ring;
+use td_words::seats::GuestSeat;
+use td_words::shared::Shared;
+
+/// Posts, trying again while the ring is full.
+fn post<J: Naming, R: Wait>(
+    rt: &R,
+    ring: &Ring<J>,
+    pass: &mut PostPass,
+    seat: &GuestSeat,
+    post: Post,
+)
+    requires own { pass.old.queue ≡ ring.now.queue }
+    requires made { post.made ≡ length (stores seat.now.view.steps) }
+    requires named { J.names post }
+    ensures { pass.new ≡ pass_with pass.old (did_post pass.old.view post) }
+{
+    let mut waiting = post;
+    for _ in rt.forever() {
+        match ring.post(rt, pass, seat, waiting) {
+            Ok(()) => return,
+            Err(full) => waiting = full.post,
+        }
+        thread::yield_now();
+    }
+    unreachable!()
+}
+
+/// Makes the steps of a guest's script in order: stores to the buffer, and posts, each with the next of the rooms. The gate
+/// is called before each step.
+pub fn run_script<J: Naming, R: Wait, G: Gate>(
+    rt: &R,
+    shared: &Shared,
+    ring: &Ring<J>,
+    guest: u32,
+    script: &[Step],
+    seat: &mut GuestSeat,
+    pass: &mut PostPass,
+    rooms: &mut VecDeque<Reply>,
+    gate: &mut G,
+)
+    requires own { (seat.old.table ≡ shared.now.table) × (pass.old.queue ≡ ring.now.queue) }
+    requires inside { StoresInside shared.now.count script.now }
+    requires few { length script.now < 2 ^ 32 }
+    requires fresh { stores seat.old.view.steps ≡ [] }
+    requires rooms { RoomsFor J.names (mails_of guest script.now) rooms.old.items }
+    ensures { RanScript guest script.now seat.old seat.new pass.old pass.new }
+{
+    let mut number = 0;
+    let mut made = 0;
+    for step in script {
+        gate.before_step(guest, number + made + 1);
+        match *step {
+            Step::Store { word, value } => {
+                shared.store(seat, word, value);
+                made += 1;
+            }
+            Step::Post { base: _, length: _ } => {
+                number += 1;
+                let Some(room) = rooms.pop_front() else {
+                    unreachable!()
+                };
+                let name = PostName { guest, number };
+                post(rt, ring, pass, &*seat, Post { name, made, room });
+            }
+        }
+    }
+}

@@ -1,0 +1,53 @@
+//! Replies in the order of the posts.
+
+ghost use Rattle.std.specs.Prelude.{◌≡◌, ℕ, ◌<◌, false, map, length, slice_index_or, IfOk, MatchOption};
+ghost use Rattle.std.specs.List.{All, sum_by};
+ghost use Rattle.std.specs.List.Sorted.{IsPermutation};
+ghost use Rattle.td_posts.specs.declared.name.PostName.{PostName};
+ghost use Rattle.td_posts.specs.declared.mail.Mail.{Mail};
+ghost use Rattle.td_posts.specs.declared.reply.Reply.{Reply};
+ghost use Rattle.td_posts.specs.Posts.{same_name, reply_name};
+
+use std::alloc::{AllocError, Global};
+use td_posts::mail::Mail;
+use td_posts::name::PostName;
+use td_posts::reply::Reply;
+
+/// Whether a reply has this name.
+fn has_name(reply: &Reply, name: PostName) -> bool
+    ensures { result ≡ same_name (reply_name reply.now) name }
+{
+    reply.guest == name.guest && reply.number == name.number
+}
+
+/// The place of the first reply of a name.
+fn place_of(replies: &[Reply], name: PostName) -> Option<usize>
+    ensures { MatchOption result
+        (All (λ r. same_name (reply_name r) name ≡ false) replies.now)
+        (λ i. (i < length replies.now) × ((d : Reply) → reply_name (slice_index_or replies.now i d) ≡ name)) }
+{
+    for i in 0..replies.len() {
+        if has_name(&replies[i], name) {
+            return Some(i);
+        }
+    }
+    None
+}
+
+/// The replies in the order of the posts, of which each has one of its name. `AllocError`: there was no memory for the
+/// list.
+pub fn in_order(alloc: Global, mails: &[Mail], found: Vec<Reply>) -> Result<Vec<Reply>, AllocError>
+    requires { (f : PostName → ℕ) → sum_by f (map reply_name found.items) ≡ sum_by f (map (λ m. m.name) mails.now) }
+    ensures names { IfOk result (λ v. map reply_name v.items ≡ map (λ m. m.name) mails.now) }
+    ensures order { IfOk result (λ v. IsPermutation found.items v.items) }
+{
+    let mut left = found;
+    let mut replies = Vec::with_capacity(alloc, mails.len())?;
+    for mail in mails {
+        let Some(place) = place_of(left.as_slice(), mail.name) else {
+            unreachable!()
+        };
+        replies.push(left.swap_remove(place))?;
+    }
+    Ok(replies)
+}

@@ -1,0 +1,54 @@
+//! A job, from its arming to its replies.
+
+ghost use Rattle.std.specs.Prelude.{◌≡◌, ◌+◌, length, IfOk};
+ghost use Rattle.td_ring.specs.declared.post.Post.{Post};
+ghost use Rattle.td_host.specs.Acting.{Fits};
+ghost use Rattle.td_posts.specs.Servable.{IsServable};
+ghost use Rattle.td_host.specs.Served.{IsSoundJob};
+ghost use Rattle.td_host.specs.Hosts.{IsServedJob};
+
+use crate::host::Host;
+use std::alloc::{AllocError, Global};
+use std::marker::Brand;
+use std::sync::Wait;
+use std::thread::Threads;
+use td_live::gate::Gate;
+use td_num::items::Items;
+use td_posts::job::HostJob;
+use td_posts::reply::Reply;
+use td_ring::naming::Naming;
+
+/// As `serve_job`, with a name for what the job's posts promise.
+fn serve_under<J: Naming + Send + Sync, R: Threads + Wait + Sync, G: Gate + Send + Drop>(
+    rt: &R,
+    alloc: Global,
+    job: HostJob,
+    gates: Vec<G>,
+) -> Result<Items<Reply>, AllocError>
+    requires servable { IsServable job }
+    requires sound { IsSoundJob job }
+    requires gates { length gates.items ≡ job.workers + length job.guests }
+    requires said { (p : Post) → Fits job p → J.names p }
+    requires says { (p : Post) → J.names p → Fits job p }
+    ensures { IfOk result (λ replies. IsServedJob job replies) }
+{
+    let mut host = Host::<J, G>::arm(alloc, job, gates)?;
+    host.serve(rt, alloc)?;
+    Ok(host.into_replies(alloc))
+}
+
+/// Serves the posts of a job, with a gate for each worker and then one for each guest, and gives the replies, by guest and
+/// number. `AllocError`: there was no memory for it.
+pub fn serve_job<R: Threads + Wait + Sync, G: Gate + Send + Drop>(
+    rt: &R,
+    alloc: Global,
+    job: HostJob,
+    gates: Vec<G>,
+) -> Result<Items<Reply>, AllocError>
+    requires servable { IsServable job }
+    requires sound { IsSoundJob job }
+    requires gates { length gates.items ≡ job.workers + length job.guests }
+    ensures { IfOk result (λ replies. IsServedJob job replies) }
+{
+    serve_under::<Brand, R, G>(rt, alloc, job, gates)
+}

@@ -1,0 +1,35 @@
+-- Lists of steps and guests, by their lengths.
+use Rattle.std.proofs.Common.{◌≡◌, ℕ, List, [], ◌∷◌, length, Bool, true, false, ◌||◌, nat_eq, nat_lt, Some, None, refl, ap, ◌∙◌}
+use Rattle.serde_json.specs.Events.{items_len}
+use Rattle.serde_json.specs.View.{items_view}
+use Rattle.serde_json.specs.declared.value.Value.{Value}
+use Rattle.td_job.specs.declared.error.Key.TheVariants as key
+use Rattle.td_job.specs.declared.error.Path.TheVariants as path
+use Rattle.td_job.specs.declared.error.JobRule.TheVariants as rule
+use Rattle.td_job.specs.declared.error.JobError.TheVariants.{Fault}
+use Rattle.td_job.specs.Fields.{IsFirst}
+use Rattle.td_job.proofs.Elements.{same_count, limited, unlimited}
+use Rattle.td_posts.specs.declared.limits.TheConstants.{MOST_GUESTS}
+use Rattle.td_host_job.specs.Steps.{step_parts}
+use Rattle.td_host_job.specs.Guests.{guests_faults, each_guest_faults}
+
+-- a list of another length than three has no parts
+pub other_count : (values : List Value) → (length values ≡ 3 → ⊥) → None ≡ step_parts (items_view values)
+other_count [] h = refl
+other_count (a ∷ []) h = refl
+other_count (a ∷ b ∷ []) h = refl
+other_count (a ∷ b ∷ c ∷ []) h = absurd (h refl)
+other_count (a ∷ b ∷ c ∷ d ∷ values) h = refl
+
+-- so many guests are none or too many
+abbrev pub past_limit : ℕ → Bool
+past_limit count = nat_eq count 0 || nat_lt MOST_GUESTS count
+
+counted : (values : List Value) (test : Bool) → past_limit (length values) ≡ test → past_limit (items_len (items_view values)) ≡ test
+counted values test h = ap past_limit (same_count values) ∙ h
+
+pub too_many : (words : ℕ) (values : List Value) → past_limit (length values) ≡ true → IsFirst (guests_faults words (Some (items_view values))) (Fault rule.Limit (path.Whole key.Guests))
+too_many words values h = limited (past_limit (items_len (items_view values))) (Fault rule.Limit (path.Whole key.Guests)) (each_guest_faults words 0 (items_view values)) (counted values true h)
+
+pub few_enough : (words : ℕ) (values : List Value) → past_limit (length values) ≡ false → guests_faults words (Some (items_view values)) ≡ each_guest_faults words 0 (items_view values)
+few_enough words values h = unlimited (past_limit (items_len (items_view values))) (Fault rule.Limit (path.Whole key.Guests)) (each_guest_faults words 0 (items_view values)) (counted values false h)

@@ -1,0 +1,80 @@
+-- What a host job is, and what is wrong with one (own rule).
+--
+-- A host job is a JSON object with the fields `entry`, `args`, `buffer`, `workers` and `guests`. Its faults stand in that
+-- order, each field looked at for all that can be wrong with it (a list first for its length, and then element by element),
+-- then the fields of other names, and at last the totals `posts`, `stores` and `words` over all scripts; at one place the
+-- lower code stands first. The answer is the first fault. `entry` and `args` are those of a run job, and `buffer` is as its
+-- `bytes`.
+use Rattle.std.specs.Prelude.{◌≡◌, ℕ, ◌<◌, ◌≤◌, List, [], ◌∷◌, ◌++◌, length, Option, Some}
+use Rattle.std.specs.List.{All}
+use Rattle.serde_json.specs.Data.{Data}
+use Rattle.serde_json.specs.Find.{as_object}
+use Rattle.td_core.specs.declared.module.Module.{Module}
+use Rattle.td_core.specs.declared.module.TypeDef.{TypeDef}
+use Rattle.td_core.specs.Entries.{entry_definition}
+use Rattle.td_core.specs.Formed.{AllFit}
+use Rattle.td_job.specs.declared.checks.TheConstants.{MOST_BYTES}
+use Rattle.td_job.specs.declared.error.Key.{Key}
+use Rattle.td_job.specs.declared.error.Key.TheVariants as key
+use Rattle.td_job.specs.declared.error.Path.TheVariants as path
+use Rattle.td_job.specs.declared.error.JobError.{JobError}
+use Rattle.td_job.specs.Fields.{Reads, field_of, text_of, number_of}
+use Rattle.td_job.specs.Values.{args_bounds, cells_bounds, args_faults, given_args}
+use Rattle.td_job.specs.Words.{IsFilled}
+use Rattle.td_job.specs.Jobs.{IsEntry, bytes_faults, spelled_bytes, first_unknown, unknown_faults, RefusedJobOf}
+use Rattle.td_posts.specs.declared.job.HostJob.{HostJob}
+use Rattle.td_posts.specs.declared.mail.Mail.{Mail}
+use Rattle.td_posts.specs.Posts.{words_in}
+use Rattle.td_posts.specs.Servable.{job_mails}
+use Rattle.td_host_job.specs.Guests.{listed_in, workers_faults, guests_faults, given_guests}
+use Rattle.td_host_job.specs.Totals.{totals_faults}
+
+-- the bytes of the buffer, and how many words they fill
+abbrev pub given_buffer : Data → List ℕ
+given_buffer job = spelled_bytes (text_of key.Buffer job)
+
+abbrev pub buffer_words : Data → ℕ
+buffer_words job = words_in (length (given_buffer job))
+
+-- the fields of a host job
+abbrev pub host_keys : List Key
+host_keys = key.Entry ∷ key.Args ∷ key.Buffer ∷ key.Workers ∷ key.Guests ∷ []
+
+-- the faults of a job after those of `entry`, whose definition this is
+abbrev pub host_faults : Option TypeDef → Data → List JobError
+host_faults d job =
+    args_faults (args_bounds d) (field_of key.Args job)
+    ++ bytes_faults key.Buffer (text_of key.Buffer job)
+    ++ workers_faults (number_of key.Workers job)
+    ++ guests_faults (buffer_words job) (listed_in key.Guests job)
+    ++ unknown_faults path.Unknown (first_unknown host_keys (as_object job))
+    ++ totals_faults (given_guests job)
+
+-- the host job that a job without a fault is
+pub record IsHost (m : Module) (job : Data) (j : HostJob) : Type 0 where
+  pub named : IsEntry m (text_of key.Entry job) j.entry
+  pub faultless : host_faults (entry_definition m j.entry.number) job ≡ []
+  pub by : j.format ≡ m
+  pub args : j.args ≡ given_args (entry_definition m j.entry.number) job
+  pub cells : j.cells ≡ length (cells_bounds (entry_definition m j.entry.number))
+  pub filled : IsFilled (given_buffer job) (buffer_words job) j.words
+  pub worked : number_of key.Workers job ≡ Some j.workers
+  pub scripted : j.guests ≡ given_guests job
+
+-- the host job that the bytes stand for
+abbrev pub IsHostJob : List ℕ → Module → HostJob → Type 0
+IsHostJob bytes m j = (job : Data) × Reads bytes job × IsHost m job j
+
+-- how the bytes are refused: they aren't JSON (J1), or stand for a job with a fault, of which it is the first
+abbrev pub RefusedHostJob : List ℕ → Module → JobError → Type 0
+RefusedHostJob = RefusedJobOf host_faults
+
+-- the entry point is the module's, each of its parameters has its value, which fits there, and its cells are so many
+pub record HasHostValues (m : Module) (j : HostJob) : Type 0 where
+  pub entry : j.entry.number < length m.entries
+  pub args : AllFit (args_bounds (entry_definition m j.entry.number)) j.args
+  pub cells : j.cells ≡ length (cells_bounds (entry_definition m j.entry.number))
+
+-- no message has more than a MiB
+abbrev pub HasShortMessages : HostJob → Type 0
+HasShortMessages j = All (λ (mail : Mail). mail.length ≤ MOST_BYTES) (job_mails j)

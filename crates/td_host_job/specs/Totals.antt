@@ -1,0 +1,45 @@
+-- The totals over a host job (own rule): at most 4,096 posts, 65,536 stores, and messages of 1,048,576 words in all (J8).
+use Rattle.std.specs.Prelude.{ℕ, List, ◌++◌, nat_lt}
+use Rattle.std.specs.List.{sum_by}
+use Rattle.td_job.specs.declared.error.Key.{Key}
+use Rattle.td_job.specs.declared.error.Key.TheVariants as key
+use Rattle.td_job.specs.declared.error.JobError.{JobError}
+use Rattle.td_job.specs.declared.error.JobError.TheVariants.{Fault}
+use Rattle.td_job.specs.declared.error.JobRule.TheVariants as rule
+use Rattle.td_job.specs.declared.error.Path.TheVariants as path
+use Rattle.td_job.specs.Fields.{fault_if}
+use Rattle.td_posts.specs.declared.job.Step.{Step}
+use Rattle.td_posts.specs.declared.job.Step.TheVariants.{Store, Post}
+use Rattle.td_posts.specs.declared.limits.TheConstants.{MOST_POSTS, MOST_STORES, MOST_MESSAGE_WORDS}
+use Rattle.td_posts.specs.Posts.{words_in}
+use Rattle.td_host_job.specs.declared.totals.Total.{Total}
+use Rattle.td_host_job.specs.declared.totals.Total.TheVariants.{Posts, Stores, Words}
+
+-- by how much a step counts: a post is one, a store is one, and a message has its words
+abbrev pub weight : Total → Step → ℕ
+weight Posts (Store word value) = 0
+weight Posts (Post base length) = 1
+weight Stores (Store word value) = 1
+weight Stores (Post base length) = 0
+weight Words (Store word value) = 0
+weight Words (Post base length) = words_in length
+
+abbrev pub most_of : Total → ℕ
+most_of Posts = MOST_POSTS
+most_of Stores = MOST_STORES
+most_of Words = MOST_MESSAGE_WORDS
+
+abbrev pub key_of : Total → Key
+key_of Posts = key.Posts
+key_of Stores = key.Stores
+key_of Words = key.Words
+
+-- over the scripts of all guests
+abbrev pub total : Total → List (List Step) → ℕ
+total what guests = sum_by (sum_by (weight what)) guests
+
+abbrev pub total_fault : Total → List (List Step) → List JobError
+total_fault what guests = fault_if (nat_lt (most_of what) (total what guests)) (Fault rule.Limit (path.Whole (key_of what)))
+
+abbrev pub totals_faults : List (List Step) → List JobError
+totals_faults guests = total_fault Posts guests ++ total_fault Stores guests ++ total_fault Words guests

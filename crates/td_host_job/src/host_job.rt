@@ -1,0 +1,93 @@
+//! Host jobs.
+
+ghost use Rattle.std.specs.Prelude.{◌≡◌, ◌⊎◌, ◌<◌, ◌^◌, Err, length, IfOk, IfErr, MatchResult};
+ghost use Rattle.serde_json.specs.View.{view};
+ghost use Rattle.td_posts.specs.Servable.{IsServable};
+ghost use Rattle.td_job.specs.Jobs.{FirstFaultOf};
+ghost use Rattle.td_host_job.specs.HostJobs.{host_faults, host_keys, IsHost, IsHostJob, RefusedHostJob, HasHostValues, HasShortMessages};
+
+use crate::guests::{guests_of, workers_of};
+use crate::totals::check_totals;
+use serde_json::Value;
+use std::alloc::Global;
+use td_core::module::Module;
+use td_job::checks::{bytes_of, check_names, entry_of};
+use td_job::error::{JobError, Key};
+use td_job::json::read_json;
+use td_job::values::{cells_of, check_args, definition_of, params_of, values_of};
+use td_job::words::fill_words;
+use td_posts::job::HostJob;
+
+/// The fields of a host job.
+const FIELDS: &[Key] = &[
+    Key::Entry,
+    Key::Args,
+    Key::Buffer,
+    Key::Workers,
+    Key::Guests,
+];
+
+/// A count in 32 bits. `NoMemory`: it has more, so that what is counted finds no memory.
+fn count_of(count: usize) -> Result<u32, JobError>
+    ensures ok { IfOk result (λ n. n ≡ count) }
+    ensures err { IfErr result (λ e. e ≡ JobError.NoMemory) }
+{
+    if count > u32::MAX as usize {
+        return Err(JobError::NoMemory);
+    }
+    Ok(count as u32)
+}
+
+/// The host job of a parsed text, or its first fault.
+fn host_job_of(alloc: Global, job: &Value, m: &Module) -> Result<HostJob, JobError>
+    ensures ok { IfOk result (λ j. IsHost m.now (view job.now) j) }
+    ensures words { IfOk result (λ j. length j.words < 2 ^ 32) }
+    ensures err { IfErr result (λ e. (e ≡ JobError.NoMemory) ⊎ FirstFaultOf host_faults m.now (view job.now) e) }
+{
+    let entry = entry_of(job, m)?;
+    let definition = definition_of(m, entry);
+    let params = params_of(definition);
+    check_args(job, params)?;
+    let bytes = bytes_of(alloc, job, Key::Buffer)?;
+    let count = count_of(bytes.len().div_ceil(8))?;
+    let workers = workers_of(job)?;
+    let guests = guests_of(alloc, job, count)?;
+    check_names(alloc, job, FIELDS)?;
+    check_totals(guests.as_slice())?;
+    Ok(HostJob {
+        format: m.copy(alloc)?,
+        entry,
+        args: values_of(alloc, job, Key::Args, params)?,
+        cells: count_of(cells_of(definition).len())?,
+        words: fill_words(alloc, bytes.as_slice(), count)?,
+        workers,
+        guests,
+    })
+}
+
+/// The host job that the bytes stand for, or their first fault.
+fn parsed_host_job(alloc: Global, bytes: &[u8], m: &Module) -> Result<HostJob, JobError>
+    ensures job { IfOk result (λ j. IsHostJob bytes.now m.now j) }
+    ensures words { IfOk result (λ j. length j.words < 2 ^ 32) }
+    ensures refused { IfErr result (λ e. (e ≡ JobError.NoMemory) ⊎ RefusedHostJob bytes.now m.now e) }
+    ensures memory { result ≡ Err JobError.NoMemory → 0 < length bytes.now }
+{
+    let job = read_json(alloc, bytes)?;
+    host_job_of(alloc, &job, m)
+}
+
+/// The host job that the bytes stand for, with a copy of the module. J1 to J8: their first fault, each exactly where the
+/// definition says so. `NoMemory`: there was no memory for it (a buffer of 2^32 words or more has none); never where there
+/// are no bytes.
+pub fn read_host_job(alloc: Global, bytes: &[u8], m: &Module) -> Result<HostJob, JobError>
+    ensures job { IfOk result (λ j. IsHostJob bytes.now m.now j) }
+    ensures servable { IfOk result IsServable }
+    ensures values { IfOk result (HasHostValues m.now) }
+    ensures short { IfOk result HasShortMessages }
+    ensures complete { (j : HostJob) → IsHostJob bytes.now m.now j → MatchResult result (λ found. found ≡ j) (λ e. e ≡ JobError.NoMemory) }
+    ensures refused { IfErr result (λ e. (e ≡ JobError.NoMemory) ⊎ RefusedHostJob bytes.now m.now e) }
+    ensures exact { (e : JobError) → RefusedHostJob bytes.now m.now e → (result ≡ Err e) ⊎ (result ≡ Err JobError.NoMemory) }
+    ensures memory { result ≡ Err JobError.NoMemory → 0 < length bytes.now }
+{
+    parsed_host_job(alloc, bytes, m)
+}

@@ -1,0 +1,10 @@
+//! Host jobs: which messages several guests post in one buffer that they go on writing, and how many workers validate
+//! them, as a JSON text says it. The layer above rests on one promise: a text is answered with the host job that it stands
+//! for, or with its first fault in the order of the fields, each exactly where the definition says so, out of memory apart.
+#![tactic(auto)]
+
+mod guests;
+pub mod host_job;
+pub mod laws;
+mod steps;
+mod totals;

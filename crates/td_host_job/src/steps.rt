@@ -1,0 +1,129 @@
+//! The steps of a guest's script.
+
+ghost use Rattle.std.specs.Prelude.{◌≡◌, [], ◌∷◌, ◌⊎◌, IfOk, IfErr, option_map};
+ghost use Rattle.serde_json.specs.View.{view, items_view};
+ghost use Rattle.td_job.specs.Fields.{IsFirst, whole};
+ghost use Rattle.serde_json.specs.Find.{as_str};
+ghost use Rattle.td_host_job.specs.Steps.{spelled_as, spelled_store, spelled_post, spelled_step, store_faults, post_faults, step_faults, step_in, store_in, post_in, each_step, each_step_faults};
+
+use serde_json::Value;
+use std::alloc::Global;
+use td_job::checks::MOST_BYTES;
+use td_job::error::{JobError, JobRule, Path};
+use td_job::stores::word_of;
+use td_num::items::Items;
+use td_posts::job::Step;
+
+/// A step of a script, as a job spells it.
+#[derive(Clone, Copy)]
+pub(crate) enum Spelled<'a> {
+    Store { word: u64, text: &'a str },
+    Post { base: u64, length: u64 },
+}
+
+/// A store by the parts after its verb. None: they are no whole number and a text.
+fn spelled_store<'a>(word: &Value, text: &'a Value) -> Option<Spelled<'a>>
+    ensures { option_map spelled_as result ≡ spelled_store (whole (view word.now)) (as_str (view text.now)) }
+{
+    Some(Spelled::Store {
+        word: word.as_u64()?,
+        text: text.as_str()?,
+    })
+}
+
+/// A post by the parts after its verb. None: they are no two whole numbers.
+fn spelled_post<'a>(base: &Value, length: &Value) -> Option<Spelled<'a>>
+    ensures { option_map spelled_as result ≡ spelled_post (whole (view base.now)) (whole (view length.now)) }
+{
+    Some(Spelled::Post {
+        base: base.as_u64()?,
+        length: length.as_u64()?,
+    })
+}
+
+/// A step. None: the value is no list of exactly a verb and its two parts.
+fn spelled_step(value: &Value) -> Option<Spelled<'_>>
+    ensures { option_map spelled_as result ≡ spelled_step (view value.now) }
+{
+    let [verb, first, second] = value.as_array()?.as_slice() else {
+        return None;
+    };
+    let verb = verb.as_str()?;
+    if verb == "store" {
+        spelled_store(first, second)
+    } else if verb == "post" {
+        spelled_post(first, second)
+    } else {
+        None
+    }
+}
+
+/// A store to a buffer of so many words, at this place of the job. J5: the text is not 16 hexadecimal digits. J6: the word
+/// is none of the buffer's.
+fn store_of(word: u64, text: &str, place: Path, words: u32) -> Result<Step, JobError>
+    ensures ok { IfOk result (λ s. (store_faults words place word text.now ≡ []) × (store_in word text.now ≡ s ∷ [])) }
+    ensures err { IfErr result (IsFirst (store_faults words place word text.now)) }
+{
+    let Some(value) = word_of(text) else {
+        return Err(JobRule::Digits.at(place));
+    };
+    if word >= u64::from(words) {
+        return Err(JobRule::NoWord.at(place));
+    }
+    Ok(Step::Store {
+        word: word as u32,
+        value,
+    })
+}
+
+/// A post of a message in a buffer of so many words, at this place of the job. J7: the message passes the end of the
+/// buffer. J8: it has more than 1,048,576 bytes.
+fn post_of(base: u64, length: u64, place: Path, words: u32) -> Result<Step, JobError>
+    ensures ok { IfOk result (λ s. (post_faults words place base length ≡ []) × (post_in base length ≡ s ∷ [])) }
+    ensures err { IfErr result (IsFirst (post_faults words place base length)) }
+{
+    let words = u64::from(words);
+    if base > words || length.div_ceil(8) > words - base {
+        Err(JobRule::PastBytes.at(place))
+    } else if length > MOST_BYTES {
+        Err(JobRule::Limit.at(place))
+    } else {
+        Ok(Step::Post {
+            base: base as u32,
+            length: length as u32,
+        })
+    }
+}
+
+/// A step of a guest's script, for a buffer of so many words. J2: it has another form. J5: a store's text is not 16
+/// hexadecimal digits. J6: a store's word is none of the buffer's. J7: a message passes the end of the buffer. J8: it has
+/// more than 1,048,576 bytes.
+fn step_of(value: &Value, guest: usize, index: usize, words: u32) -> Result<Step, JobError>
+    ensures ok { IfOk result (λ s. (step_faults words (Path.Step guest index) (spelled_step (view value.now)) ≡ []) × (step_in (spelled_step (view value.now)) ≡ s ∷ [])) }
+    ensures err { IfErr result (IsFirst (step_faults words (Path.Step guest index) (spelled_step (view value.now)))) }
+{
+    let place = Path::Step { guest, index };
+    match spelled_step(value) {
+        None => Err(JobRule::Form.at(place)),
+        Some(Spelled::Store { word, text }) => store_of(word, text, place, words),
+        Some(Spelled::Post { base, length }) => post_of(base, length, place, words),
+    }
+}
+
+/// The steps of a guest's script, for a buffer of so many words, or the first fault of these.
+pub(crate) fn steps_of(
+    alloc: Global,
+    values: &[Value],
+    guest: usize,
+    words: u32,
+) -> Result<Items<Step>, JobError>
+    ensures ok { IfOk result (λ steps. (each_step_faults words guest 0 (items_view values.now) ≡ []) × (steps ≡ each_step (items_view values.now))) }
+    ensures err { IfErr result (λ e. (e ≡ JobError.NoMemory) ⊎ IsFirst (each_step_faults words guest 0 (items_view values.now)) e) }
+{
+    let mut steps = Items::new(alloc);
+    for (index, value) in values.iter().enumerate() {
+        let step = step_of(value, guest, index, words)?;
+        steps.push(step)?;
+    }
+    Ok(steps)
+}

@@ -1,0 +1,31 @@
+use Rattle.std.proofs.Common.{◌≡◌, ℕ, List, sym, ap, ◌∙◌}
+use Rattle.td_core.specs.declared.outcome.TraceFrame.{TraceFrame}
+use Rattle.td_core.specs.declared.outcome.Outcome.{Outcome}
+use Rattle.td_stream.specs.declared.load.Load.{Load}
+use Rattle.td_posts.specs.Posts.{outcome_in}
+use Rattle.td_report.specs.Report.{report}
+use Rattle.td_report.proofs.Composing.{writes_both, writes_stopped, writes_as}
+use Rattle.td_host_report.specs.Report.{reply_report}
+use Rattle.td_host_report.proofs.report.write_reply.Goals as goal
+
+pub returns-in_err-write_reply_line : goal.returns-in_err-write_reply_line
+unfolding reply_report
+returns-in_err-write_reply_line g c =
+    let r = c.args.reply.now in
+    writes_stopped (report (outcome_in r) c.args.m.now c.args.entry r.loads.list) c.from_residual.result c.from_residual.ensures.0 c.in_err-write_reply_line.ensures
+
+pub returns : goal.returns
+unfolding reply_report
+returns g c =
+    let r = c.args.reply.now in
+    let m = c.args.m.now in
+    let e = c.args.entry in
+    let outcome : List TraceFrame → List ℕ → Outcome = λ trace cells. record { verdict = r.verdict; trace = trace; cells = cells } in
+    let trace : c.as_slice.result.now ≡ r.trace = c.as_slice.ensures in
+    let cells : c.deref.result.now ≡ r.cells.items = c.deref.ensures.value in
+    let loads : c.as_slice-2.result.now ≡ r.loads.list = c.as_slice-2.ensures in
+    let same : report (outcome_in r) m e r.loads.list ≡ report (outcome c.as_slice.result.now c.deref.result.now) m e c.as_slice-2.result.now =
+    ap (λ t. report (outcome t r.cells.items) m e r.loads.list) (sym trace)
+    ∙ ap (λ v. report (outcome c.as_slice.result.now v) m e r.loads.list) (sym cells)
+    ∙ ap (λ (l : List Load). report (outcome c.as_slice.result.now c.deref.result.now) m e l) (sym loads) in
+    writes_both c.in_ok-write_reply_line.ensures (writes_as same c.report_of_parts.ensures)

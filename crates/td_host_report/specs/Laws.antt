@@ -1,0 +1,36 @@
+-- What the report of a host determines: equal reports are of equal replies.
+use Rattle.std.specs.Prelude.{◌≡◌, ℕ, ◌<◌, ◌^◌, List, map}
+use Rattle.std.specs.List.{All}
+use Rattle.td_core.specs.declared.module.Module.{Module}
+use Rattle.td_core.specs.declared.module.Entry.{Entry}
+use Rattle.td_core.specs.declared.outcome.Outcome.{Outcome}
+use Rattle.td_stream.specs.declared.load.Load.{Load}
+use Rattle.td_report.specs.Laws.{HasWords, HasNoSpotWord, IsNamedOutcome, HasFrames, HasCells, IsOf64Bits}
+use Rattle.td_posts.specs.declared.reply.Reply.{Reply}
+use Rattle.td_posts.specs.Posts.{outcome_in}
+use Rattle.td_host_report.specs.Report.{host_report}
+
+-- what a report says of a reply: all of it
+pub record ReportedReply : Type 0 where
+  pub guest : ℕ
+  pub number : ℕ
+  pub outcome : Outcome
+  pub loads : List Load
+
+abbrev pub reported_reply : Reply → ReportedReply
+reported_reply r = record { guest = r.guest; number = r.number; outcome = outcome_in r; loads = r.loads.list }
+
+-- a reply of the entry point's cells and the module's names, within 64 bits
+pub record IsReportable (m : Module) (entry : Entry) (r : Reply) : Type 0 where
+  pub guest : r.guest < 2 ^ 64
+  pub number : r.number < 2 ^ 64
+  pub named : IsNamedOutcome m (outcome_in r)
+  pub frames : HasFrames r.verdict r.trace
+  pub cells : HasCells m entry (outcome_in r)
+  pub loads : All IsOf64Bits r.loads.list
+
+-- where no field is named `where` or `switch`, equal reports are of equal replies
+abbrev pub HostReportsDetermineReplies : Type 0
+HostReportsDetermineReplies =
+    (m : Module) (e f : Entry) (rs qs : List Reply) → HasWords m → HasNoSpotWord m → All (IsReportable m e) rs → All (IsReportable m f) qs
+    → host_report m e rs ≡ host_report m f qs → map reported_reply rs ≡ map reported_reply qs

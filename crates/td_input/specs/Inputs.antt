@@ -1,0 +1,54 @@
+-- Inputs: a module text, a marker and a job; and what refuses one that isn't too long (own rule).
+use Rattle.std.specs.Prelude.{◌≡◌, ℕ, ◌<◌, ◌^◌, List, length}
+use Rattle.td_core.specs.declared.module.Module.{Module}
+use Rattle.td_arith.specs.Laws.{AreBytes}
+use Rattle.td_expr.specs.Sound.{Sound}
+use Rattle.td_meaning.specs.Throughout.{Throughout}
+use Rattle.td_front.specs.ModuleText.{IsModuleText, RefusedBy}
+use Rattle.td_job.specs.declared.error.JobError.{JobError}
+use Rattle.td_job.specs.declared.run_job.RunJob.{RunJob}
+use Rattle.td_job.specs.Jobs.{IsRunJob, RefusedJob}
+use Rattle.td_posts.specs.declared.job.HostJob.{HostJob}
+use Rattle.td_posts.specs.Posts.{zeros}
+use Rattle.td_host_job.specs.HostJobs.{IsHostJob, RefusedHostJob}
+use Rattle.td_input.specs.declared.refusal.Refusal.{Refusal}
+use Rattle.td_input.specs.declared.refusal.Refusal.TheVariants.{TooLong, NoJob, BadModule, BadJob}
+use Rattle.td_input.specs.Marker.{IsMarker, IsFirstMarker, text_part, job_part}
+
+-- the input is a module text, a marker and a job, as jobs of this kind are read
+pub record IsInputOf {J : Type 0} (Is : List ℕ → Module → J → Type 0) (input : List ℕ) (m : Module) (job : J) : Type 0 where
+  pub place : ℕ
+  pub marker : IsFirstMarker input place
+  pub text : IsModuleText (text_part input place) m
+  pub good : Is (job_part input place) m job
+
+-- why an input that isn't too long is refused, as jobs of this kind are refused
+abbrev pub RefusesInput : (List ℕ → Module → JobError → Type 0) → List ℕ → Refusal → Type 0
+RefusesInput Bad input TooLong = ⊥
+RefusesInput Bad input NoJob = (n : ℕ) → IsMarker input n → ⊥
+RefusesInput Bad input (BadModule e) = (n : ℕ) × IsFirstMarker input n × RefusedBy (text_part input n) e
+RefusesInput Bad input (BadJob e) = (n : ℕ) × (m : Module) × IsFirstMarker input n × IsModuleText (text_part input n) m × Bad (job_part input n) m e
+
+-- ---- run jobs
+
+abbrev pub IsRunInput : List ℕ → Module → RunJob → Type 0
+IsRunInput = IsInputOf IsRunJob
+
+abbrev pub RefusesRun : List ℕ → Refusal → Type 0
+RefusesRun = RefusesInput RefusedJob
+
+-- whatever bytes the job's message has, each expression that the meaning evaluates lies in its type's range
+abbrev pub IsSoundJob : Module → RunJob → Type 0
+IsSoundJob m job = (b : List ℕ) → AreBytes b → length b ≡ job.length → Throughout Sound m job.entry job.args job.cells b
+
+-- ---- host jobs
+
+abbrev pub IsHostInput : List ℕ → Module → HostJob → Type 0
+IsHostInput = IsInputOf IsHostJob
+
+abbrev pub RefusesHost : List ℕ → Refusal → Type 0
+RefusesHost = RefusesInput RefusedHostJob
+
+-- whatever bytes a message has, each expression that the meaning evaluates from cells of zeros lies in its type's range
+abbrev pub IsSoundHost : HostJob → Type 0
+IsSoundHost job = (b : List ℕ) → AreBytes b → length b < 2 ^ 32 → Throughout Sound job.format job.entry job.args (zeros job.cells) b

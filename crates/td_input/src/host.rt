@@ -1,0 +1,56 @@
+//! The host job of an input, or why it has none.
+
+ghost use Rattle.std.specs.Prelude.{◌≡◌, ◌<◌, ◌^◌, ◌-◌, ℕ, length, IfOk, IfErr, IsErr, IsErrOf};
+ghost use Rattle.td_core.specs.declared.module.Module.{Module};
+ghost use Rattle.td_posts.specs.declared.job.HostJob.{HostJob};
+ghost use Rattle.td_posts.specs.Servable.{IsServable};
+ghost use Rattle.td_input.specs.declared.refusal.Refusal.{Refusal};
+ghost use Rattle.td_input.specs.Causes.{HasCause};
+ghost use Rattle.td_input.specs.Marker.{IsMarker};
+ghost use Rattle.td_input.specs.Inputs.{IsHostInput, RefusesHost, IsSoundHost};
+
+use crate::refusal::{InputError, Refusal, of_job, of_module};
+use crate::split::{find_marker, job_part, module_part};
+use std::alloc::Global;
+use td_arith::laws::evaluated_is_sound;
+use td_core::module::Module;
+use td_front::check_module;
+use td_host_job::host_job::read_host_job;
+use td_posts::job::HostJob;
+
+/// The module and the job of an input; the job has a copy of the module.
+#[derive(Debug, Drop)]
+pub struct HostInput {
+    pub module: Module,
+    pub job: HostJob,
+}
+
+/// Parses an input: a module text, the first line that is exactly `%%`, and a host job.
+///
+/// `Refused`: there is no such line, the text is no module, or the job is none for it; the first of these. `NoMemory`:
+/// there was no memory. The line is looked for without any, so where it is missing that is told in any case. The job is one
+/// that a host can serve, and whatever bytes a message has, each expression that the module's meaning evaluates lies in its
+/// type's range.
+pub fn parse_host_input(alloc: Global, input: &[u8]) -> Result<HostInput, InputError>
+    requires { length input.now < 2 ^ 32 - 1 }
+    ensures input { IfOk result (λ given. IsHostInput input.now given.module given.job) }
+    ensures servable { IfOk result (λ given. IsServable given.job) }
+    ensures sound { IfOk result (λ given. IsSoundHost given.job) }
+    ensures cause { IfErr result (HasCause (RefusesHost input.now)) }
+    ensures complete { (m : Module) (job : HostJob) → IsHostInput input.now m job → IfErr result (λ e. e ≡ InputError.NoMemory) }
+    ensures refused { (refusal : Refusal) → RefusesHost input.now refusal → IsErr result }
+    ensures no_job { ((n : ℕ) → IsMarker input.now n → ⊥) → IsErrOf result (InputError.Refused Refusal.NoJob) }
+{
+    evaluated_is_sound();
+    let Some(place) = find_marker(input) else {
+        return Err(InputError::Refused(Refusal::NoJob));
+    };
+    let module = match check_module(alloc, module_part(input, place)) {
+        Ok(module) => module,
+        Err(error) => return Err(of_module(error)),
+    };
+    match read_host_job(alloc, job_part(input, place), &module) {
+        Ok(job) => Ok(HostInput { module, job }),
+        Err(error) => Err(of_job(error)),
+    }
+}

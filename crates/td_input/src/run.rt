@@ -1,0 +1,54 @@
+//! The module and the run job of an input, or why it has none.
+
+ghost use Rattle.std.specs.Prelude.{◌≡◌, ◌<◌, ◌≤◌, ◌^◌, ◌-◌, ◌*◌, ℕ, length, IfOk, IfErr, IsErr, IsErrOf};
+ghost use Rattle.td_core.specs.declared.module.Module.{Module};
+ghost use Rattle.td_job.specs.declared.run_job.RunJob.{RunJob};
+ghost use Rattle.td_input.specs.declared.refusal.Refusal.{Refusal};
+ghost use Rattle.td_input.specs.Causes.{HasCause};
+ghost use Rattle.td_input.specs.Marker.{IsMarker};
+ghost use Rattle.td_input.specs.Inputs.{IsRunInput, RefusesRun, IsSoundJob};
+
+use crate::refusal::{InputError, Refusal, of_job, of_module};
+use crate::split::{find_marker, job_part, module_part};
+use std::alloc::Global;
+use td_arith::laws::evaluated_is_sound;
+use td_core::module::Module;
+use td_front::check_module;
+use td_job::run_job::{RunJob, read_run_job};
+
+/// The module and the job of an input.
+#[derive(Debug, Drop)]
+pub struct RunInput {
+    pub module: Module,
+    pub job: RunJob,
+}
+
+/// Parses an input: a module text, the first line that is exactly `%%`, and a run job.
+///
+/// `Refused`: there is no such line, the text is no module, or the job is none for it; the first of these. `NoMemory`:
+/// there was no memory. The line is looked for without any, so where it is missing that is told in any case. Whatever bytes
+/// the message of the job has, each expression that the module's meaning evaluates lies in its type's range.
+pub fn parse_run_input(alloc: Global, input: &[u8]) -> Result<RunInput, InputError>
+    requires { length input.now < 2 ^ 32 - 1 }
+    ensures input { IfOk result (λ given. IsRunInput input.now given.module given.job) }
+    ensures many { IfOk result (λ given. length given.job.words < 2 ^ 32) }
+    ensures room { IfOk result (λ given. given.job.length ≤ 8 * length given.job.words) }
+    ensures cause { IfErr result (HasCause (RefusesRun input.now)) }
+    ensures sound { IfOk result (λ given. IsSoundJob given.module given.job) }
+    ensures complete { (m : Module) (job : RunJob) → IsRunInput input.now m job → IfErr result (λ e. e ≡ InputError.NoMemory) }
+    ensures refused { (refusal : Refusal) → RefusesRun input.now refusal → IsErr result }
+    ensures no_job { ((n : ℕ) → IsMarker input.now n → ⊥) → IsErrOf result (InputError.Refused Refusal.NoJob) }
+{
+    evaluated_is_sound();
+    let Some(place) = find_marker(input) else {
+        return Err(InputError::Refused(Refusal::NoJob));
+    };
+    let module = match check_module(alloc, module_part(input, place)) {
+        Ok(module) => module,
+        Err(error) => return Err(of_module(error)),
+    };
+    match read_run_job(alloc, job_part(input, place), &module) {
+        Ok(job) => Ok(RunInput { module, job }),
+        Err(error) => Err(of_job(error)),
+    }
+}

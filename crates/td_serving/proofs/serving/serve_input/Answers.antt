@@ -1,0 +1,8 @@
+use Rattle.std.proofs.lemmas.Result.{err_from_is_err_and}
+use Rattle.td_serving.proofs.serving.serve_input.Goals as goal
+
+pub returns-in_err-given-clause-complete : goal.returns-in_err-given-clause-complete
+returns-in_err-given-clause-complete g c =
+    λ m job given.
+    let p = err_from_is_err_and c.from_residual.result c.from_residual.ensures.1 in
+    rw (p.1, p.2) (c.in_err-given.ensures.complete m job given)

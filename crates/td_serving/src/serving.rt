@@ -1,0 +1,63 @@
+//! The replies to an input's job.
+
+ghost use Rattle.std.specs.Prelude.{◌≡◌, ◌<◌, ◌^◌, ◌-◌, ◌*◌, ℕ, length, IfOk, IfErr, IsErr};
+ghost use Rattle.td_core.specs.declared.module.Module.{Module};
+ghost use Rattle.td_posts.specs.declared.job.HostJob.{HostJob};
+ghost use Rattle.td_input.specs.declared.refusal.Refusal.{Refusal};
+ghost use Rattle.td_input.specs.Causes.{HasCause};
+ghost use Rattle.td_input.specs.Inputs.{IsHostInput, RefusesHost};
+ghost use Rattle.td_serving.specs.Serving.{IsServedInput};
+
+use crate::gates::{GATES_OF_EACH, gates_of};
+use std::alloc::{AllocGlobal, Global};
+use std::sync::Wait;
+use std::thread::Threads;
+use td_core::module::{Entry, Module};
+use td_host::serving::serve_job;
+use td_input::host::parse_host_input;
+use td_input::refusal::InputError;
+use td_live::gate::Gate;
+use td_num::items::Items;
+use td_posts::reply::Reply;
+
+/// The replies to the posts of an input's job, by guest and number, and what names them in a report.
+#[derive(Debug, Drop)]
+pub struct ServedInput {
+    pub module: Module,
+    pub entry: Entry,
+    pub replies: Items<Reply>,
+}
+
+/// Serves the job of an input, with the first gates of each half: sixteen for workers, and then sixteen for guests. It may
+/// wait: a promise is kept where it returns.
+///
+/// `Refused`: the input has no marker, its text is no module, or its job is none; nothing was opened then. `NoMemory`: there
+/// was no memory.
+pub fn serve_input<R: AllocGlobal + Threads + Wait + Sync, G: Gate + Send + Drop>(
+    rt: &R,
+    input: &[u8],
+    gates: Vec<G>,
+) -> Result<ServedInput, InputError>
+    requires short { length input.now < 2 ^ 32 - 1 }
+    requires gates { length gates.items ≡ 2 * GATES_OF_EACH }
+    ensures served { IfOk result (λ s. IsServedInput input.now s.module s.entry s.replies) }
+    ensures cause { IfErr result (HasCause (RefusesHost input.now)) }
+    ensures complete { (m : Module) (job : HostJob) → IsHostInput input.now m job → IfErr result (λ e. e ≡ InputError.NoMemory) }
+    ensures refused { (refusal : Refusal) → RefusesHost input.now refusal → IsErr result }
+{
+    let given = parse_host_input(rt.alloc(), input)?;
+    let entry = given.job.entry;
+    let workers = given.job.workers as usize;
+    let guests = given.job.guests.len();
+    let Ok(gates) = gates_of(gates, workers, guests) else {
+        return Err(InputError::NoMemory);
+    };
+    match serve_job(rt, rt.alloc(), given.job, gates) {
+        Ok(replies) => Ok(ServedInput {
+            module: given.module,
+            entry,
+            replies,
+        }),
+        Err(_) => Err(InputError::NoMemory),
+    }
+}
