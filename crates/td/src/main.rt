@@ -5,22 +5,41 @@
 //! `run_tool` says of the streams' bytes holds of every source and sink; those of the system tell nothing of theirs.
 #![tactic(auto)]
 
+ghost use Rattle.std.specs.Prelude.{◌≡◌, ◌*◌, IfOk, length};
+
+use std::alloc::{AllocError, Global};
 use std::process::ExitCode;
 use std::{env, io};
 use td_cli::{finish_out_of_memory, run_tool};
 use td_io::{ReaderSource, WriterSink};
+use td_live::gate::OpenGate;
+use td_serving::gates::GATES_OF_EACH;
 
 fn main(rt: HostRuntime) -> ExitCode {
     let mut src = ReaderSource::over(rt.stdin());
     let mut out = WriterSink::over(rt.stdout());
     let mut err = WriterSink::over(rt.stderr());
+    let Ok(gates) = open_gates(rt.alloc()) else {
+        return ExitCode::from(finish_out_of_memory(&mut err).number());
+    };
     let status = match words(&rt) {
-        Ok(words) => run_tool(&rt, words.as_slice(), &mut src, &mut out, &mut err),
+        Ok(words) => run_tool(&rt, words.as_slice(), &mut src, &mut out, &mut err, gates),
         Err(error) if error.kind() == io::ErrorKind::OutOfMemory => finish_out_of_memory(&mut err),
         // A word that is no text makes the command line a wrong one, as no word does.
-        Err(_) => run_tool(&rt, &[], &mut src, &mut out, &mut err),
+        Err(_) => run_tool(&rt, &[], &mut src, &mut out, &mut err, gates),
     };
     ExitCode::from(status.number())
+}
+
+// Gates that hold nobody, for workers and for guests.
+fn open_gates(alloc: Global) -> Result<Vec<OpenGate>, AllocError>
+    ensures { IfOk result (λ gates. length gates.items ≡ 2 * GATES_OF_EACH) }
+{
+    let mut gates = Vec::new(alloc);
+    for _ in 0..2 * GATES_OF_EACH {
+        gates.push(OpenGate)?;
+    }
+    Ok(gates)
 }
 
 // The words of the command line, the program's name first. They are pushed one by one, as `collect` would try again where

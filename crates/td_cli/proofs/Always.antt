@@ -1,65 +1,23 @@
 -- Each input is admitted or refused.
-use Rattle.std.proofs.Common.{◌≡◌, ◌⊎◌, inl, inr, ℕ, zero, suc, ◌+◌, ◌-◌, ◌<◌, ◌≤◌, List, length, slice_index, refl, ap, subst, arith}
-use Rattle.std.proofs.lemmas.Bool.{cases_lt, cases_eq}
+use Rattle.std.proofs.Common.{◌≡◌, ◌⊎◌, inl, inr, ℕ, ◌<◌, ◌≤◌, List, length}
+use Rattle.std.proofs.lemmas.Bool.{cases_lt}
 use Rattle.td_front.specs.Laws.{AlwaysOne as AlwaysOneText}
+use Rattle.td_core.specs.declared.module.Module.{Module}
+use Rattle.td_job.specs.declared.error.JobError.{JobError}
+use Rattle.td_job.specs.Jobs.{IsRunJob, RefusedJob}
 use Rattle.td_job.specs.Laws.{AlwaysOne as AlwaysOneJob}
-use Rattle.td_cli.specs.declared.command.Command.TheVariants.{Check, Tidy, Run, Bench}
-use Rattle.td_cli.specs.declared.refusal.Refusal.{Refusal}
-use Rattle.td_cli.specs.declared.refusal.Refusal.TheVariants.{TooLong, NoJob, BadModule, BadJob}
+use Rattle.td_host_job.specs.HostJobs.{IsHostJob, RefusedHostJob}
+use Rattle.td_host_job.specs.Laws.{AlwaysOneHost}
+use Rattle.td_input.specs.Inputs.{IsInputOf, RefusesInput}
+use Rattle.td_input.proofs.Inputs.{Kind, Faults}
+use Rattle.td_cli.specs.declared.command.Command.TheVariants.{Check, Tidy, Run, Host, Code, Pack, Bench}
+use Rattle.td_input.specs.declared.refusal.Refusal.{Refusal}
+use Rattle.td_input.specs.declared.refusal.Refusal.TheVariants.{TooLong, NoJob, BadModule, BadJob}
 use Rattle.td_cli.specs.declared.tool.TheConstants.{INPUT_LIMIT}
-use Rattle.td_cli.specs.Input.{BeginsLine, EndsLine, IsMarker, IsFirstMarker}
-use Rattle.td_cli.specs.Answers.{text_part, job_part, Admits, Refuses}
+use Rattle.td_cli.specs.Answers.{Admits, Refuses}
+use Rattle.td_input.specs.Marker.{text_part, job_part}
 use Rattle.td_cli.specs.Laws.{AlwaysOne}
-
--- ---- the marker
-
-Decided : Type 0 → Type 0
-Decided P = P ⊎ (P → ⊥)
-
-either_decided : (P Q : Type 0) → Decided P → Decided Q → Decided (P ⊎ Q)
-unfolding Decided
-either_decided P Q (inl p) q = inl (inl p)
-either_decided P Q (inr p) (inl q) = inl (inr q)
-either_decided P Q (inr p) (inr q) = inr (λ h. elim h [ inl x ↦ p x | inr x ↦ q x ])
-
-same_decided : (a b : ℕ) → Decided (a ≡ b)
-unfolding Decided
-same_decided a b = cases_eq a b
-
-less_decided : (a b : ℕ) → Decided (a < b)
-unfolding Decided
-less_decided a b = elim (cases_lt a b) [ inl h ↦ inl h | inr h ↦ inr (λ g. omega (arith, h, g)) ]
-
-marker_decided : (input : List ℕ) (n : ℕ) → Decided (IsMarker input n)
-unfolding Decided
-marker_decided input n =
-    by (less_decided n (length input)) (same_decided (slice_index input n) 37) (same_decided (slice_index input (n + 1)) 37)
-    (either_decided (n ≡ 0) (slice_index input (n - 1) ≡ 10) (same_decided n 0) (same_decided (slice_index input (n - 1)) 10)) (either_decided (n + 2 ≡ length input) (slice_index input (n + 2) ≡ 10) (same_decided (n + 2) (length input)) (same_decided (slice_index input (n + 2)) 10))
-  where
-    by : Decided (n < length input) → Decided (slice_index input n ≡ 37) → Decided (slice_index input (n + 1) ≡ 37) → Decided (BeginsLine input n) → Decided (EndsLine input (n + 2)) → Decided (IsMarker input n)
-    by (inr bad) b c d e = inr (λ h. bad h.within)
-    by (inl a) (inr bad) c d e = inr (λ h. bad h.first)
-    by (inl a) (inl b) (inr bad) d e = inr (λ h. bad h.second)
-    by (inl a) (inl b) (inl c) (inr bad) e = inr (λ h. bad h.begins)
-    by (inl a) (inl b) (inl c) (inl d) (inr bad) = inr (λ h. bad h.ends)
-    by (inl a) (inl b) (inl c) (inl d) (inl e) = inl (record { within = a; first = b; second = c; begins = d; ends = e })
-
--- the first marker below a place, or none
-marker_below : (input : List ℕ) (k : ℕ) → ((n : ℕ) × IsFirstMarker input n) ⊎ ((n : ℕ) → n < k → IsMarker input n → ⊥)
-unfolding Decided
-marker_below input zero = inr (λ n lt h. omega (arith, lt))
-marker_below input (suc k) = by (marker_below input k) (marker_decided input k)
-  where
-    by : ((n : ℕ) × IsFirstMarker input n) ⊎ ((n : ℕ) → n < k → IsMarker input n → ⊥) → Decided (IsMarker input k) → ((n : ℕ) × IsFirstMarker input n) ⊎ ((n : ℕ) → n < suc k → IsMarker input n → ⊥)
-    by (inl found) d = inl found
-    by (inr none) (inl here) = inl (k, record { marker = here; before = none })
-    by (inr none) (inr never) = inr (λ n lt h. elim (cases_eq n k) [ inl e ↦ never (subst (IsMarker input) e h) | inr apart ↦ none n (omega (arith, lt, order n k lt apart)) h ])
-      where
-        order : (n k : ℕ) → n < suc k → (n ≡ k → ⊥) → n < k
-        order zero zero lt ne = absurd (ne refl)
-        order zero (suc k) lt ne = omega arith
-        order (suc n) zero lt ne = absurd (omega (arith, lt))
-        order (suc n) (suc k) lt ne = let less = order n k (omega (arith, lt)) (λ e. ne (ap suc e)) in omega (arith, less)
+use Rattle.td_input.proofs.Markers.{marker_below}
 
 -- ---- inputs
 
@@ -69,20 +27,49 @@ check_short texts input short = elim (texts input) [ inl (m, h) ↦ inl (short, 
 tidy_short : AlwaysOneText → (input : List ℕ) → length input ≤ INPUT_LIMIT → Admits Tidy input ⊎ ((refusal : Refusal) × Refuses Tidy input refusal)
 tidy_short texts input short = elim (texts input) [ inl (m, h) ↦ inl (short, m, h) | inr (e, h) ↦ inr (BadModule e, (short, h)) ]
 
-run_short : AlwaysOneText → AlwaysOneJob → (input : List ℕ) → length input ≤ INPUT_LIMIT → Admits Run input ⊎ ((refusal : Refusal) × Refuses Run input refusal)
-run_short texts jobs input short = elim (marker_below input (length input)) [
-  | inr none ↦ inr (NoJob, (short, λ n h. none n h.within h))
+code_short : AlwaysOneText → (input : List ℕ) → length input ≤ INPUT_LIMIT → Admits Code input ⊎ ((refusal : Refusal) × Refuses Code input refusal)
+code_short texts input short = elim (texts input) [ inl (m, h) ↦ inl (short, m, h) | inr (e, h) ↦ inr (BadModule e, (short, h)) ]
+
+pack_short : AlwaysOneText → (input : List ℕ) → length input ≤ INPUT_LIMIT → Admits Pack input ⊎ ((refusal : Refusal) × Refuses Pack input refusal)
+pack_short texts input short = elim (texts input) [ inl (m, h) ↦ inl (short, m, h) | inr (e, h) ↦ inr (BadModule e, (short, h)) ]
+
+-- what is known of an input of jobs of one kind
+job_short : {J : Type 0} (Is : Kind J) (Bad : Faults) → AlwaysOneText → ((bytes : List ℕ) (m : Module) → ((j : J) × Is bytes m j) ⊎ ((e : JobError) × Bad bytes m e))
+    → (input : List ℕ) → ((m : Module) × (job : J) × IsInputOf Is input m job) ⊎ ((refusal : Refusal) × RefusesInput Bad input refusal)
+job_short Is Bad texts jobs input = elim (marker_below input (length input)) [
+  | inr none ↦ inr (NoJob, λ n h. none n h.within h)
   | inl (n, first) ↦ elim (texts (text_part input n)) [
-    | inr (e, h) ↦ inr (BadModule e, (short, (n, first, h)))
+    | inr (e, h) ↦ inr (BadModule e, (n, first, h))
     | inl (m, h) ↦ elim (jobs (job_part input n) m) [
-      | inl (job, good) ↦ inl (short, m, job, record { place = n; marker = first; text = h; good = good })
-      | inr (e, wrong) ↦ inr (BadJob e, (short, (n, m, first, h, wrong)))
+      | inl (job, good) ↦ inl (m, job, record { place = n; marker = first; text = h; good = good })
+      | inr (e, wrong) ↦ inr (BadJob e, (n, m, first, h, wrong))
     ]
   ]
 ]
 
-pub always_one : AlwaysOneText → AlwaysOneJob → AlwaysOne
-always_one texts jobs Check input reads = elim (cases_lt INPUT_LIMIT (length input)) [ inl long ↦ inr (TooLong, long) | inr short ↦ check_short texts input short ]
-always_one texts jobs Tidy input reads = elim (cases_lt INPUT_LIMIT (length input)) [ inl long ↦ inr (TooLong, long) | inr short ↦ tidy_short texts input short ]
-always_one texts jobs Run input reads = elim (cases_lt INPUT_LIMIT (length input)) [ inl long ↦ inr (TooLong, long) | inr short ↦ run_short texts jobs input short ]
-always_one texts jobs (Bench n) input reads = absurd reads
+run_short : AlwaysOneText → AlwaysOneJob → (input : List ℕ) → length input ≤ INPUT_LIMIT → Admits Run input ⊎ ((refusal : Refusal) × Refuses Run input refusal)
+run_short texts jobs input short = elim (job_short IsRunJob RefusedJob texts jobs input) [
+  | inl h ↦ inl (short, h.0, h.1, h.2)
+  | inr (TooLong, h) ↦ absurd h
+  | inr (NoJob, h) ↦ inr (NoJob, (short, h))
+  | inr (BadModule e, h) ↦ inr (BadModule e, (short, h))
+  | inr (BadJob e, h) ↦ inr (BadJob e, (short, h))
+]
+
+host_short : AlwaysOneText → AlwaysOneHost → (input : List ℕ) → length input ≤ INPUT_LIMIT → Admits Host input ⊎ ((refusal : Refusal) × Refuses Host input refusal)
+host_short texts jobs input short = elim (job_short IsHostJob RefusedHostJob texts jobs input) [
+  | inl h ↦ inl (short, h.0, h.1, h.2)
+  | inr (TooLong, h) ↦ absurd h
+  | inr (NoJob, h) ↦ inr (NoJob, (short, h))
+  | inr (BadModule e, h) ↦ inr (BadModule e, (short, h))
+  | inr (BadJob e, h) ↦ inr (BadJob e, (short, h))
+]
+
+pub always_one : AlwaysOneText → AlwaysOneJob → AlwaysOneHost → AlwaysOne
+always_one texts jobs hosts Check input reads = elim (cases_lt INPUT_LIMIT (length input)) [ inl long ↦ inr (TooLong, long) | inr short ↦ check_short texts input short ]
+always_one texts jobs hosts Tidy input reads = elim (cases_lt INPUT_LIMIT (length input)) [ inl long ↦ inr (TooLong, long) | inr short ↦ tidy_short texts input short ]
+always_one texts jobs hosts Code input reads = elim (cases_lt INPUT_LIMIT (length input)) [ inl long ↦ inr (TooLong, long) | inr short ↦ code_short texts input short ]
+always_one texts jobs hosts Pack input reads = elim (cases_lt INPUT_LIMIT (length input)) [ inl long ↦ inr (TooLong, long) | inr short ↦ pack_short texts input short ]
+always_one texts jobs hosts Run input reads = elim (cases_lt INPUT_LIMIT (length input)) [ inl long ↦ inr (TooLong, long) | inr short ↦ run_short texts jobs input short ]
+always_one texts jobs hosts Host input reads = elim (cases_lt INPUT_LIMIT (length input)) [ inl long ↦ inr (TooLong, long) | inr short ↦ host_short texts hosts input short ]
+always_one texts jobs hosts (Bench n) input reads = absurd reads

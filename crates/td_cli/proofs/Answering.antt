@@ -17,22 +17,28 @@ use Rattle.td_layout.specs.Definitions.{canonical_text}
 use Rattle.td_front.specs.ModuleText.{SpellsTree, IsModuleText, RefusedBy}
 use Rattle.td_front.specs.Laws.{OneModuleEach, NeverBoth as NeverBothTexts}
 use Rattle.td_job.specs.declared.run_job.RunJob.{RunJob}
+use Rattle.td_job.specs.declared.error.JobError.{JobError}
 use Rattle.td_job.specs.Jobs.{IsRunJob, RefusedJob}
+use Rattle.td_host_job.specs.HostJobs.{IsHostJob, RefusedHostJob}
+use Rattle.td_host_job.specs.Laws.{NeverBothHost}
+use Rattle.td_input.specs.Inputs.{IsInputOf, RefusesInput}
 use Rattle.td_job.specs.Laws.{OneJobEach, NeverBoth as NeverBothJobs, OneNamedJobEach, NeverBothNamed}
 use Rattle.td_gen.specs.Laws.{OneMessageEach}
 use Rattle.td_report.specs.Report.{report}
 use Rattle.td_report.specs.Summary.{summary}
 use Rattle.td_cli.specs.declared.command.Command.{Command}
-use Rattle.td_cli.specs.declared.command.Command.TheVariants.{Check, Tidy, Run, Bench}
-use Rattle.td_cli.specs.declared.refusal.Refusal.{Refusal}
-use Rattle.td_cli.specs.declared.refusal.Refusal.TheVariants.{TooLong, NoJob, BadModule, BadJob}
+use Rattle.td_cli.specs.declared.command.Command.TheVariants.{Check, Tidy, Run, Host, Code, Pack, Bench}
+use Rattle.td_input.specs.declared.refusal.Refusal.{Refusal}
+use Rattle.td_input.specs.declared.refusal.Refusal.TheVariants.{TooLong, NoJob, BadModule, BadJob}
 use Rattle.td_cli.specs.declared.tool.TheConstants.{INPUT_LIMIT}
 use Rattle.td_cli.specs.Run.{IsRunOf}
-use Rattle.td_cli.specs.Answers.{text_part, job_part, IsRunInput, IsReport, IsSummary, IsTidy, RefusesRun, Answers, Admits, Refuses}
+use Rattle.td_cli.specs.Answers.{IsReport, IsSummary, IsTidy, Answers, Admits, Refuses}
+use Rattle.td_input.specs.Inputs.{IsRunInput, RefusesRun}
+use Rattle.td_input.specs.Marker.{text_part, job_part}
 use Rattle.td_cli.specs.Laws.{OneAnswer, AnsweredIsAdmitted, NeverBoth}
 use Rattle.td_cli.proofs.OneRun.{SomeCarry, same_run}
 use Rattle.td_cli.proofs.Benches.{one_bench, totals_admitted, never_refused}
-use Rattle.td_cli.proofs.Inputs.{one_marker, text_there, job_there, nothing_refuses, checked_not_refused}
+use Rattle.td_input.proofs.Inputs.{Kind, Faults, text_there, job_there, nothing_refuses}
 
 -- ---- reports
 
@@ -82,34 +88,54 @@ one_tidy split one input a b h g = h.2 ∙ ap canonical_text (tree_of_text split
 -- ---- each command
 
 pub one_answer : TokensAreOne → OneTree → OneModuleEach → OneJobEach → OneMessageEach → OneNamedJobEach → RunsAreOne → SomeCarry → OneAnswer
-one_answer split tree modules jobs messages named one some Check input a b h g = one_summary modules input a b h.1 g.1
-one_answer split tree modules jobs messages named one some Tidy input a b h g = one_tidy split tree input a b h.1 g.1
-one_answer split tree modules jobs messages named one some Run input a b h g = one_report modules jobs one some input a b h.1 g.1
-one_answer split tree modules jobs messages named one some (Bench n) input a b h g = one_bench modules messages named one some n a b h g
+one_answer split tree modules jobs messages named one some Check input a b alone h g = one_summary modules input a b h.1 g.1
+one_answer split tree modules jobs messages named one some Tidy input a b alone h g = one_tidy split tree input a b h.1 g.1
+one_answer split tree modules jobs messages named one some Run input a b alone h g = one_report modules jobs one some input a b h.1 g.1
+one_answer split tree modules jobs messages named one some Host input a b alone h g = absurd alone
+one_answer split tree modules jobs messages named one some Code input a b alone h g = absurd alone
+one_answer split tree modules jobs messages named one some Pack input a b alone h g = absurd alone
+one_answer split tree modules jobs messages named one some (Bench n) input a b alone h g = one_bench modules messages named one some n a b h g
 
 -- ---- never both
 
 pub answered_admitted : AnsweredIsAdmitted
 answered_admitted Check input output h = (h.0, h.1.0, h.1.1)
 answered_admitted Tidy input output h = (h.0, h.1.0, h.1.1)
+answered_admitted Code input output h = (h.0, h.1.0, h.1.1)
+answered_admitted Pack input output h = (h.0, h.1.0, h.1.1)
 answered_admitted Run input output h = (h.0, h.1.m, h.1.job, h.1.input_is)
+answered_admitted Host input output h = (h.0, h.1.m, h.1.served.job, h.1.served.input_is)
 answered_admitted (Bench n) input output h = totals_admitted n h.0 h.1
 
-refused : OneModuleEach → NeverBothTexts → NeverBothJobs → (input : List ℕ) (m : Module) (job : RunJob) → IsRunInput input m job → (refusal : Refusal) → RefusesRun input refusal → ⊥
-refused modules texts jobs input m job h refusal g =
-    nothing_refuses input h.place m h.marker (λ x k. modules (text_part input h.place) m x h.text k) (λ e k. texts (text_part input h.place) m e h.text k) (λ e k. jobs (job_part input h.place) m job e h.good k) refusal g
+-- an input of jobs of one kind isn't refused
+refused : {J : Type 0} (Is : Kind J) (Bad : Faults) → OneModuleEach → NeverBothTexts → ((bytes : List ℕ) (m : Module) (j : J) (e : JobError) → Is bytes m j → Bad bytes m e → ⊥)
+    → (input : List ℕ) (m : Module) (job : J) → IsInputOf Is input m job → (refusal : Refusal) → RefusesInput Bad input refusal → ⊥
+refused Is Bad modules texts jobs input m job h refusal g =
+    nothing_refuses Bad input h.place m h.marker (λ x k. modules (text_part input h.place) m x h.text k) (λ e k. texts (text_part input h.place) m e h.text k) (λ e k. jobs (job_part input h.place) m job e h.good k) refusal g
 
-pub never_both : OneModuleEach → NeverBothTexts → NeverBothJobs → OneMessageEach → NeverBothNamed → NeverBoth
-never_both modules texts jobs messages named Check input TooLong h g = let short : length input ≤ INPUT_LIMIT = h.0 in let over : INPUT_LIMIT < length input = g in omega arith
-never_both modules texts jobs messages named Check input NoJob h g = g.1
-never_both modules texts jobs messages named Check input (BadModule e) h g = texts input h.1 e h.2 g.1
-never_both modules texts jobs messages named Check input (BadJob e) h g = g.1
-never_both modules texts jobs messages named Tidy input TooLong h g = let short : length input ≤ INPUT_LIMIT = h.0 in let over : INPUT_LIMIT < length input = g in omega arith
-never_both modules texts jobs messages named Tidy input NoJob h g = g.1
-never_both modules texts jobs messages named Tidy input (BadModule e) h g = texts input h.1 e h.2 g.1
-never_both modules texts jobs messages named Tidy input (BadJob e) h g = g.1
-never_both modules texts jobs messages named Run input TooLong h g = let short : length input ≤ INPUT_LIMIT = h.0 in let over : INPUT_LIMIT < length input = g in omega arith
-never_both modules texts jobs messages named Run input NoJob h g = g.1 h.3.place h.3.marker.marker
-never_both modules texts jobs messages named Run input (BadModule e) h g = refused modules texts jobs input h.1 h.2 h.3 (BadModule e) g.1
-never_both modules texts jobs messages named Run input (BadJob e) h g = refused modules texts jobs input h.1 h.2 h.3 (BadJob e) g.1
-never_both modules texts jobs messages named (Bench n) input refusal h g = never_refused modules texts messages named n refusal h g
+pub never_both : OneModuleEach → NeverBothTexts → NeverBothJobs → NeverBothHost → OneMessageEach → NeverBothNamed → NeverBoth
+never_both modules texts jobs hosts messages named Check input TooLong h g = let short : length input ≤ INPUT_LIMIT = h.0 in let over : INPUT_LIMIT < length input = g in omega arith
+never_both modules texts jobs hosts messages named Check input NoJob h g = g.1
+never_both modules texts jobs hosts messages named Check input (BadModule e) h g = texts input h.1 e h.2 g.1
+never_both modules texts jobs hosts messages named Check input (BadJob e) h g = g.1
+never_both modules texts jobs hosts messages named Tidy input TooLong h g = let short : length input ≤ INPUT_LIMIT = h.0 in let over : INPUT_LIMIT < length input = g in omega arith
+never_both modules texts jobs hosts messages named Code input TooLong h g = let short : length input ≤ INPUT_LIMIT = h.0 in let over : INPUT_LIMIT < length input = g in omega arith
+never_both modules texts jobs hosts messages named Pack input TooLong h g = let short : length input ≤ INPUT_LIMIT = h.0 in let over : INPUT_LIMIT < length input = g in omega arith
+never_both modules texts jobs hosts messages named Tidy input NoJob h g = g.1
+never_both modules texts jobs hosts messages named Code input NoJob h g = g.1
+never_both modules texts jobs hosts messages named Pack input NoJob h g = g.1
+never_both modules texts jobs hosts messages named Tidy input (BadModule e) h g = texts input h.1 e h.2 g.1
+never_both modules texts jobs hosts messages named Code input (BadModule e) h g = texts input h.1 e h.2 g.1
+never_both modules texts jobs hosts messages named Pack input (BadModule e) h g = texts input h.1 e h.2 g.1
+never_both modules texts jobs hosts messages named Tidy input (BadJob e) h g = g.1
+never_both modules texts jobs hosts messages named Code input (BadJob e) h g = g.1
+never_both modules texts jobs hosts messages named Pack input (BadJob e) h g = g.1
+never_both modules texts jobs hosts messages named Run input TooLong h g = let short : length input ≤ INPUT_LIMIT = h.0 in let over : INPUT_LIMIT < length input = g in omega arith
+never_both modules texts jobs hosts messages named Run input NoJob h g = g.1 h.3.place h.3.marker.marker
+never_both modules texts jobs hosts messages named Run input (BadModule e) h g = refused IsRunJob RefusedJob modules texts jobs input h.1 h.2 h.3 (BadModule e) g.1
+never_both modules texts jobs hosts messages named Run input (BadJob e) h g = refused IsRunJob RefusedJob modules texts jobs input h.1 h.2 h.3 (BadJob e) g.1
+never_both modules texts jobs hosts messages named Host input TooLong h g = let short : length input ≤ INPUT_LIMIT = h.0 in let over : INPUT_LIMIT < length input = g in omega arith
+never_both modules texts jobs hosts messages named Host input NoJob h g = g.1 h.3.place h.3.marker.marker
+never_both modules texts jobs hosts messages named Host input (BadModule e) h g = refused IsHostJob RefusedHostJob modules texts hosts input h.1 h.2 h.3 (BadModule e) g.1
+never_both modules texts jobs hosts messages named Host input (BadJob e) h g = refused IsHostJob RefusedHostJob modules texts hosts input h.1 h.2 h.3 (BadJob e) g.1
+never_both modules texts jobs hosts messages named (Bench n) input refusal h g = never_refused modules texts messages named n refusal h g

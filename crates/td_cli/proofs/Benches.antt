@@ -27,17 +27,19 @@ use Rattle.td_gen.specs.Laws.{OneMessageEach}
 use Rattle.td_cli.specs.declared.totals.Totals.{Totals}
 use Rattle.td_cli.specs.Totals.{totals_text}
 use Rattle.td_cli.specs.declared.command.Command.TheVariants.{Bench}
-use Rattle.td_cli.specs.declared.refusal.Refusal.{Refusal}
-use Rattle.td_cli.specs.declared.refusal.Refusal.TheVariants.{TooLong, NoJob, BadModule, BadJob}
-use Rattle.td_cli.specs.declared.refusal.InputError.{InputError}
-use Rattle.td_cli.specs.declared.refusal.InputError.TheVariants.{Refused, NoMemory}
+use Rattle.td_input.specs.declared.refusal.Refusal.{Refusal}
+use Rattle.td_input.specs.declared.refusal.Refusal.TheVariants.{TooLong, NoJob, BadModule, BadJob}
+use Rattle.td_input.specs.declared.refusal.InputError.{InputError}
+use Rattle.td_input.specs.declared.refusal.InputError.TheVariants.{Refused, NoMemory}
 use Rattle.td_cli.specs.declared.bench.Modules.{Modules}
+use Rattle.td_cli.specs.declared.bench.Prepared.{Prepared}
 use Rattle.td_cli.specs.declared.status.Status.{Status}
 use Rattle.td_cli.specs.declared.status.Status.TheVariants as ends
 use Rattle.td_cli.specs.Answers.{Admits, Refuses}
 use Rattle.td_cli.specs.Bench.{HasModule, HaveBefore, HaveModules, HasJob, IsMessageOf, MessageRun, IsMessageRun, AreRuns, accepted_one, rejected_one, accepted_bytes, totals_of, AreTotals, IsBench, AdmitsBench, IsTextRefused, IsMessageRefused, RefusesBench}
-use Rattle.td_cli.specs.Benching.{module_of, IsTextModule, AreModules, RefusesText, RefusesSomeText, RefusesMessage, totals_with}
-use Rattle.td_cli.specs.Errors.{HasCause, of_module, of_job, unanswered_status, unanswered_line}
+use Rattle.td_cli.specs.Benching.{prepared_of, IsTextModule, IsPrepared, AreModules, RefusesText, RefusesSomeText, RefusesMessage, totals_with}
+use Rattle.td_cli.specs.Errors.{unanswered_status, unanswered_line}
+use Rattle.td_input.specs.Causes.{HasCause, of_module, of_job}
 use Rattle.td_cli.specs.Lines.{memory_line, refusal_line}
 use Rattle.td_cli.specs.Run.{IsRunOf}
 use Rattle.td_cli.specs.Ends.{Passage}
@@ -53,7 +55,7 @@ has_module format m h = (m, h.stands)
 
 pub have_modules : (ms : Modules) → AreModules ms → HaveModules
 have_modules ms h =
-    ((ms.ethernet, (h Ethernet).stands), (ms.ipv4, (h Ipv4).stands), (ms.tcp, (h Tcp).stands), (ms.rndis, (h Rndis).stands))
+    ((ms.ethernet.checked, (h Ethernet).text.stands), (ms.ipv4.checked, (h Ipv4).text.stands), (ms.tcp.checked, (h Tcp).text.stands), (ms.rndis.checked, (h Rndis).text.stands))
 
 text_module : HaveModules → (format : Format) → HasModule format
 text_module h Ethernet = h.0
@@ -61,7 +63,7 @@ text_module h Ipv4 = h.1
 text_module h Tcp = h.2
 text_module h Rndis = h.3
 
-pub are_modules : (a b c d : Module) → IsTextModule Ethernet a → IsTextModule Ipv4 b → IsTextModule Tcp c → IsTextModule Rndis d → AreModules (record { ethernet = a; ipv4 = b; tcp = c; rndis = d })
+pub are_modules : (a b c d : Prepared) → IsPrepared Ethernet a → IsPrepared Ipv4 b → IsPrepared Tcp c → IsPrepared Rndis d → AreModules (record { ethernet = a; ipv4 = b; tcp = c; rndis = d })
 are_modules a b c d h i j k Ethernet = h
 are_modules a b c d h i j k Ipv4 = i
 are_modules a b c d h i j k Tcp = j

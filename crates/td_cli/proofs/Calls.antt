@@ -1,5 +1,6 @@
 -- How a call ends, from how its words were understood, its source was read and its input was answered.
 use Rattle.std.proofs.Common.{◌≡◌, ◌≢◌, inl, inr, ℕ, zero, suc, ◌+◌, ◌<◌, ◌≤◌, List, [], ◌∷◌, length, Option, Some, None, Result, Ok, Err, refl, sym, subst, ap, slice_index, ◌∙◌, arith}
+use Rattle.std.specs.Prelude.{if◌then◌else◌, ◌==◌}
 use Rattle.std.specs.Fmt.{decimal}
 use Rattle.std.specs.Str.Parse.{digits_value}
 use Rattle.std.proofs.lemmas.Fmt.{decimal_is_IsNumeral}
@@ -9,9 +10,9 @@ use Rattle.td_io.specs.declared.reading.ReadError.TheVariants as reading
 use Rattle.td_io.specs.Causes.{ReadWhole, HasMore, TookAtMost}
 use Rattle.td_io.specs.States.{SourceState, SinkState}
 use Rattle.td_cli.specs.declared.command.Command.{Command}
-use Rattle.td_cli.specs.declared.command.Command.TheVariants.{Check, Tidy, Run, Bench}
-use Rattle.td_cli.specs.declared.refusal.Refusal.{Refusal}
-use Rattle.td_cli.specs.declared.refusal.Refusal.TheVariants.{TooLong}
+use Rattle.td_cli.specs.declared.command.Command.TheVariants.{Check, Tidy, Run, Host, Code, Pack, Bench}
+use Rattle.td_input.specs.declared.refusal.Refusal.{Refusal}
+use Rattle.td_input.specs.declared.refusal.Refusal.TheVariants.{TooLong}
 use Rattle.td_cli.specs.declared.status.Status.{Status}
 use Rattle.td_cli.specs.declared.status.Status.TheVariants as at
 use Rattle.td_cli.specs.declared.tool.TheConstants.{INPUT_LIMIT}
@@ -21,7 +22,7 @@ use Rattle.td_cli.specs.Answers.{Admits, Refuses}
 use Rattle.td_cli.specs.Errors.{unread_status, unread_line}
 use Rattle.td_cli.specs.Lines.{usage_line, read_line, memory_line, refusal_line}
 use Rattle.td_io.specs.declared.reading.TheConstants.{PIECE}
-use Rattle.td_cli.specs.Ends.{Passage, passage, CallEnds, StopsReading, WriteFails, ReadFails, NoReadFails, WithinLimit, Held, Reads, Took, Saw, Tells, MayLackMemory, IsOutput, IsErrorLine, EndsAs}
+use Rattle.td_cli.specs.Ends.{Passage, passage, CallEnds, IsHandedOn, StopsReading, WriteFails, ReadFails, NoReadFails, WithinLimit, Held, Reads, Took, Saw, Tells, MayLackMemory, IsOutput, IsErrorLine, EndsAs}
 use Rattle.td_cli.specs.Endings.{EndsWith, EndsWithOutput, EndsWithLine, InputEnds}
 
 -- ---- text that goes out
@@ -80,13 +81,19 @@ pub record WasTaken (words : List (List ℕ)) (command : Command) (source : Pass
 took_read : (command : Command) (source : Passage SourceState) (input : List ℕ) → Reads command → WasRead source input → Took command source input
 took_read Check source input reads read = (read.held, read.end, read.quiet)
 took_read Tidy source input reads read = (read.held, read.end, read.quiet)
+took_read Code source input reads read = (read.held, read.end, read.quiet)
+took_read Pack source input reads read = (read.held, read.end, read.quiet)
 took_read Run source input reads read = (read.held, read.end, read.quiet)
+took_read Host source input reads read = (read.held, read.end, read.quiet)
 took_read (Bench n) source input reads read = absurd reads
 
 saw_read : (command : Command) (source : Passage SourceState) (input : List ℕ) → Reads command → Held source input → NoReadFails source → Saw command source input
 saw_read Check source input reads held quiet = (held, quiet)
 saw_read Tidy source input reads held quiet = (held, quiet)
+saw_read Code source input reads held quiet = (held, quiet)
+saw_read Pack source input reads held quiet = (held, quiet)
 saw_read Run source input reads held quiet = (held, quiet)
+saw_read Host source input reads held quiet = (held, quiet)
 saw_read (Bench n) source input reads held quiet = absurd reads
 
 pub was_taken : (words : List (List ℕ)) (command : Command) (source : Passage SourceState) (input : List ℕ) → Means words command → Reads command → WasRead source input → WasTaken words command source input
@@ -126,7 +133,10 @@ long_input (Some bytes) more = (bytes, refl, more)
 refuses_long : (command : Command) (input : List ℕ) → Reads command → INPUT_LIMIT < length input → Refuses command input TooLong
 refuses_long Check input reads long = long
 refuses_long Tidy input reads long = long
+refuses_long Code input reads long = long
+refuses_long Pack input reads long = long
 refuses_long Run input reads long = long
+refuses_long Host input reads long = long
 refuses_long (Bench n) input reads long = absurd reads
 
 -- what is known of a source that wasn't
@@ -157,7 +167,10 @@ unread_never reading.NoMemory err result other read refused memory fault h = end
 admits_short : (command : Command) (input : List ℕ) → Reads command → Admits command input → length input ≤ INPUT_LIMIT
 admits_short Check input reads h = h.0
 admits_short Tidy input reads h = h.0
+admits_short Code input reads h = h.0
+admits_short Pack input reads h = h.0
 admits_short Run input reads h = h.0
+admits_short Host input reads h = h.0
 admits_short (Bench n) input reads h = absurd reads
 
 long_not_admitted : (command : Command) (left : Option (List ℕ)) (input : List ℕ) → Reads command → left ≡ Some input → Admits command input → HasMore left INPUT_LIMIT → ⊥
@@ -197,27 +210,60 @@ refuses_read command left input bytes refusal told whole refuses = let P : List 
 pub same_some : {A : Type 0} (a b : A) → (let x : Option A = Some a in x ≡ Some b) → a ≡ b
 same_some a b e = cc
 
--- commands of different kinds have different names
-apart : (a b : List ℕ) → (let name : Option (List ℕ) = Some a in name ≡ Some b) → (a ≡ b → ⊥) → ⊥
-apart a b e other = other (same_some a b e)
+-- the command of a name that begins with a `c`, by its second byte
+by_second : List ℕ → Command
+by_second [] = Check
+by_second (b ∷ rest) = if b == 111 then Code else Check
 
-check_tidy : name_of Check ≡ name_of Tidy → ⊥
-check_tidy e = let first : ◌≡◌ {A = ℕ} 99 116 = ap (λ (xs : List ℕ). slice_index xs 0) e in absurd (omega (arith, first))
+-- the command of a name, by its first byte, with a number for `bench`
+of_name : List ℕ → ℕ → Command
+of_name [] n = Check
+of_name (b ∷ rest) n = if b == 116 then Tidy else if b == 114 then Run else if b == 104 then Host else if b == 98 then Bench n else if b == 112 then Pack else by_second rest
 
-tidy_run : name_of Tidy ≡ name_of Run → ⊥
-tidy_run e = let first : ◌≡◌ {A = ℕ} 116 114 = ap (λ (xs : List ℕ). slice_index xs 0) e in absurd (omega (arith, first))
+number_in : Command → ℕ
+number_in (Bench n) = n
+number_in command = 0
 
-tidy_bench : (n : ℕ) → name_of Tidy ≡ name_of (Bench n) → ⊥
-tidy_bench n e = let first : ◌≡◌ {A = ℕ} 116 98 = ap (λ (xs : List ℕ). slice_index xs 0) e in absurd (omega (arith, first))
+named : (c : Command) → of_name (name_of c) (number_in c) ≡ c
+unfolding of_name by_second number_in
+named Check = refl
+named Tidy = refl
+named Code = refl
+named Pack = refl
+named Run = refl
+named Host = refl
+named (Bench n) = refl
 
-check_run : name_of Check ≡ name_of Run → ⊥
-check_run e = let first : ◌≡◌ {A = ℕ} 99 114 = ap (λ (xs : List ℕ). slice_index xs 0) e in absurd (omega (arith, first))
+-- a command other than `bench` is known by its name alone
+by_name : (a b : Command) → ((n : ℕ) → of_name (name_of a) n ≡ a) → name_of a ≡ name_of b → a ≡ b
+by_name a b known same = sym (known (number_in b)) ∙ ap (λ (name : List ℕ). of_name name (number_in b)) same ∙ named b
 
-check_bench : (n : ℕ) → name_of Check ≡ name_of (Bench n) → ⊥
-check_bench n e = let first : ◌≡◌ {A = ℕ} 99 98 = ap (λ (xs : List ℕ). slice_index xs 0) e in absurd (omega (arith, first))
+known_check : (n : ℕ) → of_name (name_of Check) n ≡ Check
+unfolding of_name by_second
+known_check n = refl
 
-run_bench : (n : ℕ) → name_of Run ≡ name_of (Bench n) → ⊥
-run_bench n e = let first : ◌≡◌ {A = ℕ} 114 98 = ap (λ (xs : List ℕ). slice_index xs 0) e in absurd (omega (arith, first))
+known_tidy : (n : ℕ) → of_name (name_of Tidy) n ≡ Tidy
+unfolding of_name by_second
+known_tidy n = refl
+
+known_code : (n : ℕ) → of_name (name_of Code) n ≡ Code
+unfolding of_name by_second
+known_code n = refl
+
+known_pack : (n : ℕ) → of_name (name_of Pack) n ≡ Pack
+unfolding of_name by_second
+known_pack n = refl
+
+known_run : (n : ℕ) → of_name (name_of Run) n ≡ Run
+unfolding of_name by_second
+known_run n = refl
+
+known_host : (n : ℕ) → of_name (name_of Host) n ≡ Host
+unfolding of_name by_second
+known_host n = refl
+
+same_name : (words : List (List ℕ)) (a b : Command) → Means words a → Means words b → name_of a ≡ name_of b
+same_name words a b one two = same_some (name_of a) (name_of b) (sym one.1.0 ∙ two.1.0)
 
 -- numbers below 10,000 that are written the same are the same
 pub one_decimal : (m n : ℕ) → m ≤ MOST_MESSAGES → n ≤ MOST_MESSAGES → decimal m ≡ decimal n → m ≡ n
@@ -228,21 +274,18 @@ one_decimal m n few small same =
 
 -- words mean one command
 pub one_command : (words : List (List ℕ)) (a b : Command) → Means words a → Means words b → a ≡ b
-one_command words Check Check one two = refl
-one_command words Check Tidy one two = absurd (apart (name_of Check) (name_of Tidy) (sym one.1.0 ∙ two.1.0) check_tidy)
-one_command words Check Run one two = absurd (apart (name_of Check) (name_of Run) (sym one.1.0 ∙ two.1.0) check_run)
-one_command words Check (Bench n) one two = absurd (apart (name_of Check) (name_of (Bench n)) (sym one.1.0 ∙ two.1.0) (check_bench n))
-one_command words Tidy Check one two = absurd (apart (name_of Check) (name_of Tidy) (sym two.1.0 ∙ one.1.0) check_tidy)
-one_command words Tidy Tidy one two = refl
-one_command words Tidy Run one two = absurd (apart (name_of Tidy) (name_of Run) (sym one.1.0 ∙ two.1.0) tidy_run)
-one_command words Tidy (Bench n) one two = absurd (apart (name_of Tidy) (name_of (Bench n)) (sym one.1.0 ∙ two.1.0) (tidy_bench n))
-one_command words Run Check one two = absurd (apart (name_of Check) (name_of Run) (sym two.1.0 ∙ one.1.0) check_run)
-one_command words Run Tidy one two = absurd (apart (name_of Tidy) (name_of Run) (sym two.1.0 ∙ one.1.0) tidy_run)
-one_command words Run Run one two = refl
-one_command words Run (Bench n) one two = absurd (apart (name_of Run) (name_of (Bench n)) (sym one.1.0 ∙ two.1.0) (run_bench n))
-one_command words (Bench n) Check one two = absurd (apart (name_of Check) (name_of (Bench n)) (sym two.1.0 ∙ one.1.0) (check_bench n))
-one_command words (Bench n) Tidy one two = absurd (apart (name_of Tidy) (name_of (Bench n)) (sym two.1.0 ∙ one.1.0) (tidy_bench n))
-one_command words (Bench n) Run one two = absurd (apart (name_of Run) (name_of (Bench n)) (sym two.1.0 ∙ one.1.0) (run_bench n))
+one_command words Check b one two = by_name Check b known_check (same_name words Check b one two)
+one_command words Tidy b one two = by_name Tidy b known_tidy (same_name words Tidy b one two)
+one_command words Code b one two = by_name Code b known_code (same_name words Code b one two)
+one_command words Pack b one two = by_name Pack b known_pack (same_name words Pack b one two)
+one_command words Run b one two = by_name Run b known_run (same_name words Run b one two)
+one_command words Host b one two = by_name Host b known_host (same_name words Host b one two)
+one_command words (Bench n) Check one two = sym (by_name Check (Bench n) known_check (same_name words Check (Bench n) two one))
+one_command words (Bench n) Tidy one two = sym (by_name Tidy (Bench n) known_tidy (same_name words Tidy (Bench n) two one))
+one_command words (Bench n) Code one two = sym (by_name Code (Bench n) known_code (same_name words Code (Bench n) two one))
+one_command words (Bench n) Pack one two = sym (by_name Pack (Bench n) known_pack (same_name words Pack (Bench n) two one))
+one_command words (Bench n) Run one two = sym (by_name Run (Bench n) known_run (same_name words Run (Bench n) two one))
+one_command words (Bench n) Host one two = sym (by_name Host (Bench n) known_host (same_name words Host (Bench n) two one))
 one_command words (Bench n) (Bench m) one two =
     let texts : decimal n ≡ decimal m = same_some (decimal n) (decimal m) (sym one.1.1.1 ∙ two.1.1.1) in
     ap Bench (one_decimal n m one.1.1.3 two.1.1.3 texts)
@@ -250,7 +293,10 @@ one_command words (Bench n) (Bench m) one two =
 pub in_range : (words : List (List ℕ)) (command : Command) → Means words command → IsInRange command
 in_range words Check means = tt
 in_range words Tidy means = tt
+in_range words Code means = tt
+in_range words Pack means = tt
 in_range words Run means = tt
+in_range words Host means = tt
 in_range words (Bench n) means = means.1.1.3
 
 means_admits : (words : List (List ℕ)) (a b : Command) (input : List ℕ) → Means words a → Means words b → Admits b input → Admits a input
@@ -329,3 +375,13 @@ bench_call words n status state src out err means ends good bad =
       bad = λ input refusal tells refuses. bad refusal refuses;
       taken = (never_read state src).taken;
     })
+
+-- `host` was handed on untouched, and then answered
+pub handed_call : {S O E : Type 0} (words : List (List ℕ)) (status : Status) (source : S → SourceState) (out : O → SinkState) (err : E → SinkState)
+    (s t u : S) (o p q : O) (e f h : E) → IsHandedOn words (passage source s t) (passage out o p) (passage err e f)
+    → Answered words Host status (passage source t u) (passage out p q) (passage err f h) → CallEnds words status (passage source s u) (passage out o q) (passage err e h)
+handed_call words status source out err s t u o p q e f h handed answered =
+    let there = answered_call words Host status (passage source t u) (passage out p q) (passage err f h) handed.means answered in
+    let from_source = subst (λ x. CallEnds words status (passage source x u) (passage out p q) (passage err f h)) handed.unread there in
+    let from_out = subst (λ x. CallEnds words status (passage source s u) (passage out x q) (passage err f h)) handed.no_output from_source in
+    subst (λ x. CallEnds words status (passage source s u) (passage out o q) (passage err x h)) handed.no_line from_out

@@ -3,11 +3,14 @@ pub mod Calls
 pub mod Words
 pub mod Matches
 pub mod Runs
-pub mod Sounds
+pub mod Hosts
 pub mod Checks
 pub mod OneRun
 pub mod Benches
 pub mod Tidies
+pub mod Codes
+pub mod Packs
 pub mod Answering
 pub mod Reports
 pub mod Always
+pub mod Compiled

@@ -17,7 +17,7 @@ use Rattle.clap.specs.declared.builder.command.Command.TheViews.{out-Command}
 use Rattle.clap.specs.declared.parser.matches.SubCommand.{SubCommand}
 use Rattle.clap.specs.declared.parser.matches.ArgMatches.TheViews.{out-ArgMatches, out-SubCommand}
 use Rattle.td_cli.specs.declared.command.Command.{Command as ToolCommand}
-use Rattle.td_cli.specs.declared.command.Command.TheVariants.{Check, Tidy, Run, Bench}
+use Rattle.td_cli.specs.declared.command.Command.TheVariants.{Check, Tidy, Run, Host, Code, Pack, Bench}
 use Rattle.td_cli.specs.declared.command.TheConstants.{MOST_MESSAGES}
 use Rattle.td_cli.specs.Command.{Found, Is, IsFound, Fits, IsNamed, bench}
 use Rattle.td_cli.proofs.Calls.{same_some, one_decimal}
@@ -97,7 +97,10 @@ pub fits_is : (count : ℕ) (rows : Found) (name : Option (List ℕ)) (number : 
     → MatchOption number ((n : ℕ) → Is count rows (Bench n) → ⊥) (λ n. Is count rows (Bench n)) → IsNamed name number found → IsFound count rows found
 fits_is count rows name number (Some Check) same has h = (same ∙ h, tt)
 fits_is count rows name number (Some Tidy) same has h = (same ∙ h, tt)
+fits_is count rows name number (Some Code) same has h = (same ∙ h, tt)
+fits_is count rows name number (Some Pack) same has h = (same ∙ h, tt)
 fits_is count rows name number (Some Run) same has h = (same ∙ h, tt)
+fits_is count rows name number (Some Host) same has h = (same ∙ h, tt)
 fits_is count rows name None (Some (Bench n)) same has h = absurd (none_some n h.1)
   where
     none_some : (n : ℕ) → (let x : Option ℕ = None in x ≡ Some n) → ⊥
@@ -114,7 +117,10 @@ fits_is count rows name number None same has h = λ command is. refused command 
     refused : (command : ToolCommand) → Is count rows command → ⊥
     refused Check is = h Check (sym same ∙ is.0)
     refused Tidy is = h Tidy (sym same ∙ is.0)
+    refused Code is = h Code (sym same ∙ is.0)
+    refused Pack is = h Pack (sym same ∙ is.0)
     refused Run is = h Run (sym same ∙ is.0)
+    refused Host is = h Host (sym same ∙ is.0)
     refused (Bench n) is = bench_refused number has h n is
 
 -- ---- the command `bench`

@@ -11,7 +11,8 @@ use Rattle.td_report.specs.Laws.{IsOf64Bits, ReportsDetermineOutcomes}
 use Rattle.td_report.specs.Report.{report}
 use Rattle.td_told.specs.Laws.{IsSized, JobsAreSized, ModulesHaveWords, IsTold, RunsAreTold, LoadsAreTold}
 use Rattle.td_cli.specs.Run.{IsRunOf}
-use Rattle.td_cli.specs.Answers.{text_part, job_part, IsReport}
+use Rattle.td_cli.specs.Answers.{IsReport}
+use Rattle.td_input.specs.Marker.{text_part, job_part}
 use Rattle.td_cli.specs.Laws.{ReportsDetermineRuns}
 use Rattle.td_cli.proofs.OneRun.{SomeCarry, bytes_of}
 

@@ -4,15 +4,16 @@ use Rattle.td_io.specs.States.{SinkState}
 use Rattle.td_core.specs.declared.module.Module.{Module}
 use Rattle.td_front.specs.ModuleText.{IsModuleText}
 use Rattle.td_cli.specs.declared.command.Command.TheVariants.{Tidy}
-use Rattle.td_cli.specs.declared.refusal.Refusal.{Refusal}
-use Rattle.td_cli.specs.declared.refusal.Refusal.TheVariants.{TooLong, NoJob, BadModule, BadJob}
-use Rattle.td_cli.specs.declared.refusal.InputError.{InputError}
-use Rattle.td_cli.specs.declared.refusal.InputError.TheVariants.{Refused, NoMemory}
+use Rattle.td_input.specs.declared.refusal.Refusal.{Refusal}
+use Rattle.td_input.specs.declared.refusal.Refusal.TheVariants.{TooLong, NoJob, BadModule, BadJob}
+use Rattle.td_input.specs.declared.refusal.InputError.{InputError}
+use Rattle.td_input.specs.declared.refusal.InputError.TheVariants.{Refused, NoMemory}
 use Rattle.td_cli.specs.declared.status.Status.{Status}
 use Rattle.td_cli.specs.declared.status.Status.TheVariants as ends
 use Rattle.td_cli.specs.declared.tool.TheConstants.{INPUT_LIMIT}
 use Rattle.td_cli.specs.Answers.{IsTidy, RefusesCheck, Admits, Refuses}
-use Rattle.td_cli.specs.Errors.{HasCause, unanswered_status, unanswered_line}
+use Rattle.td_cli.specs.Errors.{unanswered_status, unanswered_line}
+use Rattle.td_input.specs.Causes.{HasCause}
 use Rattle.td_cli.specs.Lines.{memory_line, refusal_line}
 use Rattle.td_cli.specs.Ends.{Passage}
 use Rattle.td_cli.specs.Endings.{EndsWithOutput, EndsWithLine, InputEnds}

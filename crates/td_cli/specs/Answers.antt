@@ -1,39 +1,27 @@
 -- What each command answers an input, and what refuses its input (own rule). One case a command. `bench` has no input, so
 -- none of these asks anything of one.
-use Rattle.std.specs.Prelude.{◌≡◌, ℕ, ◌+◌, ◌<◌, ◌≤◌, List, length, take, drop}
+use Rattle.std.specs.Prelude.{◌≡◌, ℕ, ◌<◌, ◌≤◌, List, length}
 use Rattle.td_core.specs.declared.module.Module.{Module}
 use Rattle.td_core.specs.declared.outcome.Outcome.{Outcome}
 use Rattle.td_stream.specs.declared.load.Load.{Load}
 use Rattle.td_front.specs.ModuleText.{IsModuleText, RefusedBy}
 use Rattle.td_job.specs.declared.run_job.RunJob.{RunJob}
-use Rattle.td_job.specs.Jobs.{IsRunJob, RefusedJob}
 use Rattle.td_report.specs.Report.{report}
 use Rattle.td_report.specs.Summary.{summary}
 use Rattle.td_layout.specs.Definitions.{canonical_text}
+use Rattle.td_coding.specs.Coding.{IsListing, IsPacked}
 use Rattle.td_cli.specs.declared.command.Command.{Command}
-use Rattle.td_cli.specs.declared.command.Command.TheVariants.{Check as CheckCommand, Tidy as TidyCommand, Run as RunCommand, Bench as BenchCommand}
-use Rattle.td_cli.specs.declared.refusal.Refusal.{Refusal}
-use Rattle.td_cli.specs.declared.refusal.Refusal.TheVariants.{TooLong, NoJob, BadModule, BadJob}
+use Rattle.td_cli.specs.declared.command.Command.TheVariants.{Check as CheckCommand, Tidy as TidyCommand, Code as CodeCommand, Pack as PackCommand, Run as RunCommand, Host as HostCommand, Bench as BenchCommand}
+use Rattle.td_input.specs.declared.refusal.Refusal.{Refusal}
+use Rattle.td_input.specs.declared.refusal.Refusal.TheVariants.{TooLong, NoJob, BadModule, BadJob}
 use Rattle.td_cli.specs.declared.tool.TheConstants.{INPUT_LIMIT}
-use Rattle.td_cli.specs.Input.{IsMarker, IsFirstMarker}
+use Rattle.td_posts.specs.declared.job.HostJob.{HostJob}
+use Rattle.td_input.specs.Inputs.{IsRunInput, RefusesRun, IsHostInput, RefusesHost}
+use Rattle.td_serving.specs.Serving.{IsHostReport}
 use Rattle.td_cli.specs.Run.{IsRunOf}
 use Rattle.td_cli.specs.Bench.{IsBench, AdmitsBench, RefusesBench}
 
 -- ---- run
-
--- the module text and the job of an input whose marker line begins at n
-abbrev pub text_part : List ℕ → ℕ → List ℕ
-text_part input n = take n input
-
-abbrev pub job_part : List ℕ → ℕ → List ℕ
-job_part input n = drop (n + 3) input
-
--- the input is a module text, a marker and a job
-pub record IsRunInput (input : List ℕ) (m : Module) (job : RunJob) : Type 0 where
-  pub place : ℕ
-  pub marker : IsFirstMarker input place
-  pub text : IsModuleText (text_part input place) m
-  pub good : IsRunJob (job_part input place) m job
 
 -- the text is the report of some run of the input's job
 pub record IsReport (input text : List ℕ) : Type 0 where
@@ -45,20 +33,13 @@ pub record IsReport (input text : List ℕ) : Type 0 where
   pub run : IsRunOf m job outcome loads
   pub text_is : text ≡ report outcome m job.entry loads
 
--- why an input that isn't too long is refused
-abbrev pub RefusesRun : List ℕ → Refusal → Type 0
-RefusesRun input TooLong = ⊥
-RefusesRun input NoJob = (n : ℕ) → IsMarker input n → ⊥
-RefusesRun input (BadModule e) = (n : ℕ) × IsFirstMarker input n × RefusedBy (text_part input n) e
-RefusesRun input (BadJob e) = (n : ℕ) × (m : Module) × IsFirstMarker input n × IsModuleText (text_part input n) m × RefusedJob (job_part input n) m e
-
 -- ---- check
 
 -- the text is that which is told of the module for which the input stands
 abbrev pub IsSummary : List ℕ → List ℕ → Type 0
 IsSummary input text = (m : Module) × IsModuleText input m × (text ≡ summary m)
 
--- why an input that isn't too long is refused, by `check` and by `tidy`
+-- why an input that isn't too long is refused, by `check`, `tidy`, `code` and `pack`
 abbrev pub RefusesCheck : List ℕ → Refusal → Type 0
 RefusesCheck input TooLong = ⊥
 RefusesCheck input NoJob = ⊥
@@ -71,20 +52,36 @@ RefusesCheck input (BadJob e) = ⊥
 abbrev pub IsTidy : List ℕ → List ℕ → Type 0
 IsTidy input text = (m : Module) × (stands : IsModuleText input m) × (text ≡ canonical_text stands.tree)
 
+-- ---- code and pack
+
+-- the text is the listing of code that does what the module means for which the input stands
+abbrev pub IsListingOf : List ℕ → List ℕ → Type 0
+IsListingOf input text = (m : Module) × IsModuleText input m × IsListing m text
+
+-- the bytes are what the format of images gives such code
+abbrev pub IsImageOf : List ℕ → List ℕ → Type 0
+IsImageOf input bytes = (m : Module) × IsModuleText input m × IsPacked m bytes
+
 -- ---- each command
 
 -- the command answers the input with this output
 abbrev pub Answers : Command → List ℕ → List ℕ → Type 0
 Answers CheckCommand input output = (length input ≤ INPUT_LIMIT) × IsSummary input output
 Answers TidyCommand input output = (length input ≤ INPUT_LIMIT) × IsTidy input output
+Answers CodeCommand input output = (length input ≤ INPUT_LIMIT) × IsListingOf input output
+Answers PackCommand input output = (length input ≤ INPUT_LIMIT) × IsImageOf input output
 Answers RunCommand input output = (length input ≤ INPUT_LIMIT) × IsReport input output
+Answers HostCommand input output = (length input ≤ INPUT_LIMIT) × IsHostReport input output
 Answers (BenchCommand n) input output = IsBench n output
 
 -- the input is one that the command answers
 abbrev pub Admits : Command → List ℕ → Type 0
 Admits CheckCommand input = (length input ≤ INPUT_LIMIT) × (m : Module) × IsModuleText input m
 Admits TidyCommand input = (length input ≤ INPUT_LIMIT) × (m : Module) × IsModuleText input m
+Admits CodeCommand input = (length input ≤ INPUT_LIMIT) × (m : Module) × IsModuleText input m
+Admits PackCommand input = (length input ≤ INPUT_LIMIT) × (m : Module) × IsModuleText input m
 Admits RunCommand input = (length input ≤ INPUT_LIMIT) × (m : Module) × (job : RunJob) × IsRunInput input m job
+Admits HostCommand input = (length input ≤ INPUT_LIMIT) × (m : Module) × (job : HostJob) × IsHostInput input m job
 Admits (BenchCommand n) input = AdmitsBench n
 
 -- the command refuses the input for this reason, the first in the order in which an input is looked at
@@ -93,4 +90,7 @@ Refuses (BenchCommand n) input refusal = RefusesBench n refusal
 Refuses command input TooLong = INPUT_LIMIT < length input
 Refuses CheckCommand input refusal = (length input ≤ INPUT_LIMIT) × RefusesCheck input refusal
 Refuses TidyCommand input refusal = (length input ≤ INPUT_LIMIT) × RefusesCheck input refusal
+Refuses CodeCommand input refusal = (length input ≤ INPUT_LIMIT) × RefusesCheck input refusal
+Refuses PackCommand input refusal = (length input ≤ INPUT_LIMIT) × RefusesCheck input refusal
 Refuses RunCommand input refusal = (length input ≤ INPUT_LIMIT) × RefusesRun input refusal
+Refuses HostCommand input refusal = (length input ≤ INPUT_LIMIT) × RefusesHost input refusal

@@ -1,6 +1,11 @@
 -- The steps of `bench`: its modules, what refuses one text or message, and totals with one more run.
-use Rattle.std.specs.Prelude.{◌≡◌, ℕ, ◌+◌, length}
+use Rattle.std.specs.Prelude.{◌≡◌, ℕ, ◌+◌, List, length}
 use Rattle.td_core.specs.declared.module.Module.{Module}
+use Rattle.td_core.specs.declared.outcome.Verdict.{Verdict}
+use Rattle.td_core.specs.declared.outcome.TraceFrame.{TraceFrame}
+use Rattle.td_stream.specs.declared.load.Load.{Load}
+use Rattle.td_lowered.specs.CodeRun.{IsCodeOf}
+use Rattle.td_vm.specs.Frames.{IsArmed}
 use Rattle.td_front.specs.Checked.{IsChecked}
 use Rattle.td_front.specs.ModuleText.{IsModuleText}
 use Rattle.td_job.specs.declared.named.NamedJob.{NamedJob}
@@ -10,24 +15,31 @@ use Rattle.td_formats.specs.declared.format.Format.TheVariants.{Ethernet, Ipv4, 
 use Rattle.td_formats.specs.Format.{text_of}
 use Rattle.td_cli.specs.declared.totals.Totals.{Totals}
 use Rattle.td_cli.specs.declared.bench.Modules.{Modules}
-use Rattle.td_cli.specs.declared.refusal.Refusal.{Refusal}
-use Rattle.td_cli.specs.declared.refusal.Refusal.TheVariants.{TooLong, NoJob, BadModule, BadJob}
-use Rattle.td_cli.specs.Bench.{IsTextRefused, IsMessageOf, MessageRun, accepted_one, rejected_one, accepted_bytes}
+use Rattle.td_cli.specs.declared.bench.Prepared.{Prepared}
+use Rattle.td_input.specs.declared.refusal.Refusal.{Refusal}
+use Rattle.td_input.specs.declared.refusal.Refusal.TheVariants.{TooLong, NoJob, BadModule, BadJob}
+use Rattle.td_cli.specs.Bench.{IsTextRefused, IsMessageOf, MessageRun, IsMessageRun, accepted_one, rejected_one, accepted_bytes}
 
--- the module of a format
-abbrev pub module_of : Modules → Format → Module
-module_of ms Ethernet = ms.ethernet
-module_of ms Ipv4 = ms.ipv4
-module_of ms Tcp = ms.tcp
-module_of ms Rndis = ms.rndis
+-- what is prepared for a format
+abbrev pub prepared_of : Modules → Format → Prepared
+prepared_of ms Ethernet = ms.ethernet
+prepared_of ms Ipv4 = ms.ipv4
+prepared_of ms Tcp = ms.tcp
+prepared_of ms Rndis = ms.rndis
 
 -- it is the one for which the format's text stands
 pub record IsTextModule (format : Format) (m : Module) : Type 0 where
   pub stands : IsModuleText (text_of format) m
   pub checked : IsChecked m
 
+-- with its code, and a frame that was armed for that
+pub record IsPrepared (format : Format) (p : Prepared) : Type 0 where
+  pub text : IsTextModule format p.checked
+  pub code : IsCodeOf p.code p.checked
+  pub armed : IsArmed p.code p.frame
+
 abbrev pub AreModules : Modules → Type 0
-AreModules ms = (format : Format) → IsTextModule format (module_of ms format)
+AreModules ms = (format : Format) → IsPrepared format (prepared_of ms format)
 
 -- why a text is refused, the first of the four
 abbrev pub RefusesText : Format → Refusal → Type 0
@@ -56,3 +68,9 @@ totals_with t run = record {
   bytes = t.bytes + accepted_bytes run.outcome.verdict;
   loads = t.loads + length run.loads;
 }
+
+-- a run of message k had this verdict and these loads
+pub record HasRun (k : ℕ) (verdict : Verdict) (loads : List Load) : Type 0 where
+  pub trace : List TraceFrame
+  pub cells : List ℕ
+  pub is : IsMessageRun k (record { outcome = record { verdict = verdict; trace = trace; cells = cells }; loads = loads })

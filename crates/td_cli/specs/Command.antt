@@ -5,13 +5,16 @@ use Rattle.clap.specs.Walk.{Row, first_of}
 use Rattle.clap.specs.declared.builder.action.ArgAction.TheVariants.{Set}
 use Rattle.clap.specs.Faults.{fault_of}
 use Rattle.td_cli.specs.declared.command.Command.{Command}
-use Rattle.td_cli.specs.declared.command.Command.TheVariants.{Check, Tidy, Run, Bench}
+use Rattle.td_cli.specs.declared.command.Command.TheVariants.{Check, Tidy, Run, Host, Code, Pack, Bench}
 use Rattle.td_cli.specs.declared.command.TheConstants.{MOST_MESSAGES}
 
 abbrev pub name_of : Command → List ℕ
 name_of Check = codes "check"
 name_of Tidy = codes "tidy"
 name_of Run = codes "run"
+name_of Host = codes "host"
+name_of Code = codes "code"
+name_of Pack = codes "pack"
 name_of (Bench n) = codes "bench"
 
 -- what `clap` found: a command's name, and the values of its arguments
@@ -53,7 +56,7 @@ bench = record (new_shape (codes "bench")) { rules = record (new_rule (codes "N"
 
 -- the program and its commands
 unfoldable pub tool : App
-tool = on_top (λ top. record top { subcommand_required = true }) (with_subcommand (with_subcommand (with_subcommand (with_subcommand (new_app (codes "td")) (new_shape (codes "check"))) (new_shape (codes "tidy"))) (new_shape (codes "run"))) bench)
+tool = on_top (λ top. record top { subcommand_required = true }) (with_subcommand (with_subcommand (with_subcommand (with_subcommand (with_subcommand (with_subcommand (with_subcommand (new_app (codes "td")) (new_shape (codes "check"))) (new_shape (codes "tidy"))) (new_shape (codes "run"))) (new_shape (codes "host"))) (new_shape (codes "code"))) (new_shape (codes "pack"))) bench)
 
 -- `clap` takes the words, of which the first is the program's name, and finds this command in them. `--help`, `help`,
 -- `--version` and a further word are faults of the words, as is a word that names no command

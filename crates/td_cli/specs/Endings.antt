@@ -4,7 +4,7 @@ use Rattle.td_io.specs.States.{SinkState}
 use Rattle.td_cli.specs.declared.status.Status.{Status}
 use Rattle.td_cli.specs.declared.status.Status.TheVariants as ends
 use Rattle.td_cli.specs.declared.command.Command.{Command}
-use Rattle.td_cli.specs.declared.refusal.Refusal.{Refusal}
+use Rattle.td_input.specs.declared.refusal.Refusal.{Refusal}
 use Rattle.td_cli.specs.Answers.{Answers, Refuses}
 use Rattle.td_cli.specs.Lines.{memory_line, refusal_line}
 use Rattle.td_cli.specs.Ends.{Passage, Takes, WriteFails}

@@ -6,8 +6,8 @@ use Rattle.td_io.specs.Causes.{ReadWhole, TookAtMost}
 use Rattle.td_io.specs.States as io
 use Rattle.td_io.specs.declared.reading.TheConstants.{PIECE}
 use Rattle.td_cli.specs.declared.command.Command.{Command}
-use Rattle.td_cli.specs.declared.command.Command.TheVariants.{Bench}
-use Rattle.td_cli.specs.declared.refusal.Refusal.{Refusal}
+use Rattle.td_cli.specs.declared.command.Command.TheVariants.{Host, Bench}
+use Rattle.td_input.specs.declared.refusal.Refusal.{Refusal}
 use Rattle.td_cli.specs.declared.status.Status.{Status}
 use Rattle.td_cli.specs.declared.status.Status.TheVariants.{Done, Refused, Usage, ReadFault, WriteFault, NoMemory}
 use Rattle.td_cli.specs.declared.tool.TheConstants.{INPUT_LIMIT}
@@ -128,6 +128,13 @@ HasGoodInput words source = (command : Command) × (input : List ℕ) × Means w
 
 abbrev pub HasBadInput : List (List ℕ) → Passage io.SourceState → Type 0
 HasBadInput words source = (command : Command) × (input : List ℕ) × (refusal : Refusal) × Means words command × Tells command source input × Refuses command input refusal
+
+-- the words mean `host`, and nothing was read or written
+pub record IsHandedOn (words : List (List ℕ)) (source : Passage io.SourceState) (out err : Passage io.SinkState) : Type 0 where
+  pub means : Means words Host
+  pub unread : source.Untouched
+  pub no_output : out.Untouched
+  pub no_line : err.Untouched
 
 -- how a call ends, and which ends can't come: an input that is answered is no usage and no refusal, and one that is
 -- refused is no usage and isn't answered. So much is read at most

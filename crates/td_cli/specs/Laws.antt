@@ -1,13 +1,27 @@
 -- What holds of answers and refusals.
 use Rattle.std.specs.Prelude.{◌≡◌, ◌⊎◌, ℕ, List}
 use Rattle.td_cli.specs.declared.command.Command.{Command}
-use Rattle.td_cli.specs.declared.refusal.Refusal.{Refusal}
+use Rattle.td_cli.specs.declared.command.Command.TheVariants.{Host, Code, Pack}
+use Rattle.td_input.specs.declared.refusal.Refusal.{Refusal}
 use Rattle.td_cli.specs.Answers.{Answers, Admits, Refuses, IsReport}
 use Rattle.td_cli.specs.Ends.{Reads}
 
--- a command answers an input with at most one output; so a report is one function of its input
+-- the command answers without others that run at the same time: each but `host`
+abbrev pub IsAlone : Command → Type 0
+IsAlone Host = ⊥
+IsAlone command = Unit {0}
+
+-- the command has one answer to an input: each but `host`, and `code` and `pack`, which answer by one code of those that do what
+-- the module means
+abbrev pub HasOneAnswer : Command → Type 0
+HasOneAnswer Host = ⊥
+HasOneAnswer Code = ⊥
+HasOneAnswer Pack = ⊥
+HasOneAnswer command = Unit {0}
+
+-- such a command answers an input with at most one output; so the report of a run is one function of its input
 abbrev pub OneAnswer : Type 0
-OneAnswer = (command : Command) (input a b : List ℕ) → Answers command input a → Answers command input b → a ≡ b
+OneAnswer = (command : Command) (input a b : List ℕ) → HasOneAnswer command → Answers command input a → Answers command input b → a ≡ b
 
 -- what a command answers it admits
 abbrev pub AnsweredIsAdmitted : Type 0

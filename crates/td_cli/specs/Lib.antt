@@ -1,5 +1,4 @@
 pub mod Command
-pub mod Input
 pub mod Status
 pub mod Run
 pub mod Totals

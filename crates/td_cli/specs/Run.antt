@@ -1,5 +1,5 @@
 -- What a run of a job comes to: the sentence that the whole tool is for.
-use Rattle.std.specs.Prelude.{◌≡◌, ℕ, List, length}
+use Rattle.std.specs.Prelude.{ℕ, List}
 use Rattle.td_core.specs.declared.module.Module.{Module}
 use Rattle.td_core.specs.declared.outcome.Outcome.{Outcome}
 use Rattle.td_stream.specs.declared.load.Load.{Load}
@@ -8,8 +8,6 @@ use Rattle.td_meaning.specs.Meaning.{meaning}
 use Rattle.td_sched.specs.Plan.{ArePlanned}
 use Rattle.td_arith.specs.Laws.{AreBytes}
 use Rattle.td_leaves.specs.Outcomes.{IsBehaviorOf}
-use Rattle.td_expr.specs.Sound.{Sound}
-use Rattle.td_meaning.specs.Throughout.{Throughout}
 use Rattle.td_job.specs.declared.run_job.RunJob.{RunJob}
 
 -- The loaded words rise, so that none is loaded twice, and lie in the message; each load gave what its word then held, by
@@ -20,7 +18,3 @@ pub record IsRunOf (m : Module) (job : RunJob) (outcome : Outcome) (loads : List
   pub inside : Inside job.length loads
   pub held : ArePlanned job.words job.stores 0 loads
   pub meant : (b : List ℕ) → AreBytes b → Carries job.length b loads → IsBehaviorOf loads (meaning m job.entry job.args job.cells b) outcome
-
--- whatever bytes the job's message has, each expression that the meaning evaluates lies in its type's range
-abbrev pub IsSoundJob : Module → RunJob → Type 0
-IsSoundJob m job = (b : List ℕ) → AreBytes b → length b ≡ job.length → Throughout Sound m job.entry job.args job.cells b

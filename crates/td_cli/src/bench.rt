@@ -1,22 +1,20 @@
 //! The command `bench`: messages of the generator, each run once while others store to its words. Nothing is read for it, and
 //! nothing of one message is kept for the next but counts and sums.
 
-ghost use Rattle.std.specs.Prelude.{◌≡◌, ◌≢◌, ◌<◌, ◌≤◌, ◌+◌, ◌*◌, ◌^◌, [], length, IfOk, IfErr};
+ghost use Rattle.std.specs.Prelude.{◌≡◌, ◌≢◌, ◌<◌, ◌≤◌, ℕ, ◌+◌, ◌*◌, ◌^◌, List, [], length, IfOk, IfErr};
+ghost use Rattle.td_core.specs.declared.outcome.TraceFrame.{TraceFrame};
 ghost use Rattle.td_gen.specs.Message.{format_of};
 ghost use Rattle.td_cli.specs.declared.command.Command.TheVariants as commands;
-ghost use Rattle.td_cli.specs.declared.refusal.Refusal.{Refusal};
+ghost use Rattle.td_input.specs.declared.refusal.Refusal.{Refusal};
 ghost use Rattle.td_cli.specs.Answers.{Admits, Refuses};
-ghost use Rattle.td_cli.specs.Bench.{AreTotals, HaveBefore, IsMessageRun, RefusesBench};
-ghost use Rattle.td_cli.specs.Benching.{AreModules, IsTextModule, RefusesMessage, RefusesSomeText, RefusesText, module_of, totals_with};
+ghost use Rattle.td_cli.specs.Bench.{AreTotals, HaveBefore, RefusesBench};
+ghost use Rattle.td_cli.specs.Benching.{AreModules, HasRun, IsPrepared, IsTextModule, RefusesMessage, RefusesSomeText, RefusesText, totals_with};
 ghost use Rattle.td_cli.specs.Ends.{passage};
 ghost use Rattle.td_cli.specs.Endings.{InputEnds};
-ghost use Rattle.td_cli.specs.Errors.{HasCause};
+ghost use Rattle.td_input.specs.Causes.{HasCause};
 
 use crate::command::MOST_MESSAGES;
 use crate::finish::finish_bench;
-use crate::parse::{of_job, of_module};
-use crate::refusal::InputError;
-use crate::run::{Finished, run_job};
 use crate::status::Status;
 use crate::totals::Totals;
 use std::alloc::Global;
@@ -27,30 +25,30 @@ use td_formats::Format;
 use td_front::{check_module, laws as front};
 use td_gen::laws::one_message_each;
 use td_gen::{format_of, message_job};
+use td_input::refusal::{InputError, of_job, of_module};
 use td_io::Sink;
 use td_job::laws as jobs;
+use td_job_run::planned::{Ran, run_in_frame};
+use td_lower::lower::lower;
+use td_lowered::laws::arguments_fit;
+use td_verify::verify::Verified;
+use td_vm::validate::Frame;
 
-/// The modules of the four formats.
-#[derive(Debug, Drop)]
-struct Modules {
-    ethernet: Module,
-    ipv4: Module,
-    tcp: Module,
-    rndis: Module,
+/// The module of a format's text, its code, and a frame that is armed for that.
+#[derive(Drop)]
+struct Prepared {
+    checked: Module,
+    code: Verified,
+    frame: Frame,
 }
 
-impl Modules {
-    /// The module of a format.
-    fn of(&self, format: Format) -> &Module
-        ensures { result.now ≡ module_of self.now format }
-    {
-        match format {
-            Format::Ethernet => &self.ethernet,
-            Format::Ipv4 => &self.ipv4,
-            Format::Tcp => &self.tcp,
-            Format::Rndis => &self.rndis,
-        }
-    }
+/// What is prepared for the four formats.
+#[derive(Drop)]
+struct Modules {
+    ethernet: Prepared,
+    ipv4: Prepared,
+    tcp: Prepared,
+    rndis: Prepared,
 }
 
 /// The module of a format's text, once the texts before it were found to be modules.
@@ -65,15 +63,36 @@ fn checked_module(alloc: Global, format: Format) -> Result<Module, InputError>
     }
 }
 
-/// The modules of the four texts, each of which is checked once.
-fn checked_modules(alloc: Global) -> Result<Modules, InputError>
+/// A format's module, its code and a frame, once the texts before it were found to be modules. Each text is checked once, and
+/// its module lowered once.
+fn prepare(alloc: Global, format: Format) -> Result<Prepared, InputError>
+    requires { HaveBefore format }
+    ensures prepared { IfOk result (IsPrepared format) }
+    ensures cause { IfErr result (HasCause (RefusesText format)) }
+{
+    let checked = checked_module(alloc, format)?;
+    let Ok(code) = lower(alloc, &checked) else {
+        return Err(InputError::NoMemory);
+    };
+    let Ok(frame) = Frame::arm(alloc, &code) else {
+        return Err(InputError::NoMemory);
+    };
+    Ok(Prepared {
+        checked,
+        code,
+        frame,
+    })
+}
+
+/// What is prepared for the four formats.
+fn prepare_all(alloc: Global) -> Result<Modules, InputError>
     ensures stand { IfOk result AreModules }
     ensures cause { IfErr result (HasCause RefusesSomeText) }
 {
-    let ethernet = checked_module(alloc, Format::Ethernet)?;
-    let ipv4 = checked_module(alloc, Format::Ipv4)?;
-    let tcp = checked_module(alloc, Format::Tcp)?;
-    let rndis = checked_module(alloc, Format::Rndis)?;
+    let ethernet = prepare(alloc, Format::Ethernet)?;
+    let ipv4 = prepare(alloc, Format::Ipv4)?;
+    let tcp = prepare(alloc, Format::Tcp)?;
+    let rndis = prepare(alloc, Format::Rndis)?;
     Ok(Modules {
         ethernet,
         ipv4,
@@ -82,41 +101,75 @@ fn checked_modules(alloc: Global) -> Result<Modules, InputError>
     })
 }
 
-/// Runs message k on its module. It looks at nothing of how the run came out.
-fn run_message(alloc: Global, m: &Module, k: u32) -> Result<Finished, InputError>
-    requires { IsTextModule (format_of k) m.now }
-    ensures run { IfOk result (λ run. IsMessageRun k (record { outcome = run.outcome; loads = run.loads.list })) }
-    ensures few { IfOk result (λ run. length run.loads.list < 2 ^ 32) }
+/// Runs message k by its format's code. All memory of the run is taken before its first load. It looks at nothing of how the
+/// run came out.
+fn run_message(alloc: Global, format: &mut Prepared, k: u32) -> Result<Ran, InputError>
+    requires { IsPrepared (format_of k) format.old }
+    ensures prepared { IsPrepared (format_of k) format.new }
+    ensures run { IfOk result (λ ran. HasRun k ran.verdict ran.loads.list) }
+    ensures few { IfOk result (λ ran. length ran.loads.list < 2 ^ 32) }
     ensures cause { IfErr result (HasCause (RefusesMessage k)) }
 {
     evaluated_is_sound();
+    arguments_fit();
     let Ok(message) = message_job(alloc, k) else {
         return Err(InputError::NoMemory);
     };
-    let job = match message.resolve(m) {
+    let job = match message.resolve(&format.checked) {
         Ok(job) => job,
         Err(error) => return Err(of_job(error)),
     };
-    let Ok(run) = run_job(alloc, m, &job) else {
+    let args = job.args.as_slice();
+    let cells = job.cells.as_slice();
+    let words = job.words.as_slice();
+    let stores = job.stores.as_slice();
+    let Ok(ran) = run_in_frame(
+        alloc,
+        &format.code,
+        &mut format.frame,
+        job.entry,
+        args,
+        cells,
+        job.length,
+        words,
+        stores,
+    ) else {
         return Err(InputError::NoMemory);
     };
-    Ok(run)
+    Ok(ran)
+}
+
+/// Runs message k by the code of its format.
+fn run_one(alloc: Global, modules: &mut Modules, k: u32) -> Result<Ran, InputError>
+    requires { AreModules modules.old }
+    ensures prepared { AreModules modules.new }
+    ensures run { IfOk result (λ ran. HasRun k ran.verdict ran.loads.list) }
+    ensures few { IfOk result (λ ran. length ran.loads.list < 2 ^ 32) }
+    ensures cause { IfErr result (HasCause (RefusesMessage k)) }
+{
+    match format_of(k) {
+        Format::Ethernet => run_message(alloc, &mut modules.ethernet, k),
+        Format::Ipv4 => run_message(alloc, &mut modules.ipv4, k),
+        Format::Tcp => run_message(alloc, &mut modules.tcp, k),
+        Format::Rndis => run_message(alloc, &mut modules.rndis, k),
+    }
 }
 
 /// The totals with one more run. Takes no memory.
-fn with_run(totals: Totals, run: &Finished) -> Totals
+fn with_run(totals: Totals, run: &Ran) -> Totals
     requires messages { totals.messages < 2 ^ 31 }
     requires verdicts { totals.accepted + totals.rejected < 2 ^ 31 }
     requires bytes { totals.bytes < 2 ^ 63 }
     requires loads { totals.loads < 2 ^ 63 }
     requires few { length run.now.loads.list < 2 ^ 32 }
-    ensures totals { result ≡ totals_with totals (record { outcome = run.now.outcome; loads = run.now.loads.list }) }
+    ensures totals { (trace : List TraceFrame) (cells : List ℕ) → result ≡ totals_with totals
+        (record { outcome = record { verdict = run.now.verdict; trace = trace; cells = cells }; loads = run.now.loads.list }) }
     ensures verdicts { result.accepted + result.rejected ≡ totals.accepted + totals.rejected + 1 }
     ensures bytes { result.bytes < totals.bytes + 2 ^ 32 }
 {
     let loads = totals.loads + run.loads.as_slice().len() as u64;
     let messages = totals.messages + 1;
-    match run.outcome.verdict {
+    match run.verdict {
         Verdict::Accept { pos } => Totals {
             messages,
             accepted: totals.accepted + 1,
@@ -143,16 +196,16 @@ const NO_TOTALS: Totals = Totals {
     loads: 0,
 };
 
-/// Runs the messages below n, each on its format's module.
-fn run_messages(alloc: Global, modules: &Modules, n: u32) -> Result<Totals, InputError>
-    requires modules { AreModules modules.now }
+/// Runs the messages below n, each by its format's code.
+fn run_messages(alloc: Global, modules: &mut Modules, n: u32) -> Result<Totals, InputError>
+    requires modules { AreModules modules.old }
     requires many { n ≤ MOST_MESSAGES }
     ensures totals { IfOk result (AreTotals n) }
     ensures cause { IfErr result (HasCause (RefusesBench n)) }
 {
     let mut totals = NO_TOTALS;
     for k in 0..n {
-        let run = run_message(alloc, modules.of(format_of(k)), k)?;
+        let run = run_one(alloc, modules, k)?;
         totals = with_run(totals, &run);
     }
     Ok(totals)
@@ -164,8 +217,8 @@ fn bench(alloc: Global, n: u32) -> Result<Totals, InputError>
     ensures totals { IfOk result (AreTotals n) }
     ensures cause { IfErr result (HasCause (RefusesBench n)) }
 {
-    let modules = checked_modules(alloc)?;
-    run_messages(alloc, &modules, n)
+    let mut modules = prepare_all(alloc)?;
+    run_messages(alloc, &mut modules, n)
 }
 
 /// Answers `bench` with this number of messages: with the totals over them, or the line that refuses a text or a message.

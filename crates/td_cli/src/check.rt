@@ -3,21 +3,20 @@
 ghost use Rattle.std.specs.Prelude.{◌≡◌, ◌≢◌, ◌<◌, ◌≤◌, ◌-◌, ◌^◌, length, IfOk, IfErr, IsErr};
 ghost use Rattle.td_core.specs.declared.module.Module.{Module};
 ghost use Rattle.td_front.specs.ModuleText.{IsModuleText};
-ghost use Rattle.td_cli.specs.declared.refusal.Refusal.{Refusal};
+ghost use Rattle.td_input.specs.declared.refusal.Refusal.{Refusal};
 ghost use Rattle.td_cli.specs.declared.command.Command.TheVariants as commands;
 ghost use Rattle.td_cli.specs.Answers.{Admits, Refuses, RefusesCheck};
 ghost use Rattle.td_cli.specs.Ends.{passage};
 ghost use Rattle.td_cli.specs.Endings.{InputEnds};
-ghost use Rattle.td_cli.specs.Errors.{HasCause};
+ghost use Rattle.td_input.specs.Causes.{HasCause};
 
 use crate::finish::finish_check;
-use crate::parse::of_module;
-use crate::refusal::InputError;
 use crate::status::Status;
 use crate::tool::INPUT_LIMIT;
 use std::alloc::Global;
 use td_core::module::Module;
 use td_front::check_module;
+use td_input::refusal::{InputError, of_module};
 use td_io::Sink;
 
 // The module for which an input stands.

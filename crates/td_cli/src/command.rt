@@ -18,6 +18,12 @@ pub enum Command {
     Tidy,
     /// Validates the message of a job by its module, while others store to its words, and reports it.
     Run,
+    /// Serves the posts of a job's guests by its module, while they go on storing, and reports the replies.
+    Host,
+    /// Writes the listing of the code of a module text that is accepted.
+    Code,
+    /// Writes the image of the code of a module text that is accepted.
+    Pack,
     /// Runs so many messages of the generator, and tells how many were accepted, up to which bytes, and by how many loads.
     Bench(u32),
 }
@@ -89,6 +95,9 @@ fn found(name: Option<&str>, number: Option<u32>) -> Option<Command>
         Some("check") => Some(Command::Check),
         Some("tidy") => Some(Command::Tidy),
         Some("run") => Some(Command::Run),
+        Some("host") => Some(Command::Host),
+        Some("code") => Some(Command::Code),
+        Some("pack") => Some(Command::Pack),
         Some("bench") => match number {
             Some(number) => Some(Command::Bench(number)),
             None => None,
@@ -104,6 +113,9 @@ fn tool<'a>(alloc: Global) -> Result<clap::Command<'a>, AllocError>
     let check = clap::Command::new(alloc, "check");
     let tidy = clap::Command::new(alloc, "tidy");
     let run = clap::Command::new(alloc, "run");
+    let host = clap::Command::new(alloc, "host");
+    let code = clap::Command::new(alloc, "code");
+    let pack = clap::Command::new(alloc, "pack");
     let number = Arg::new(alloc, "N");
     let number = number.required(true).action(ArgAction::Set);
     let bench = clap::Command::new(alloc, "bench");
@@ -112,6 +124,9 @@ fn tool<'a>(alloc: Global) -> Result<clap::Command<'a>, AllocError>
         .subcommand(check)?
         .subcommand(tidy)?
         .subcommand(run)?
+        .subcommand(host)?
+        .subcommand(code)?
+        .subcommand(pack)?
         .subcommand(bench)?;
     Ok(tool.subcommand_required(true))
 }

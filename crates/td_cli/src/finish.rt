@@ -3,6 +3,7 @@
 
 ghost use Rattle.std.specs.Prelude.{[], MatchResult};
 ghost use Rattle.td_report.specs.Report.{report};
+ghost use Rattle.td_host_report.specs.Report.{host_report};
 ghost use Rattle.td_report.specs.Summary.{summary};
 ghost use Rattle.td_cli.specs.Totals.{totals_text};
 ghost use Rattle.td_cli.specs.Ends.{passage};
@@ -11,15 +12,18 @@ ghost use Rattle.td_cli.specs.Errors.{unanswered_line, unanswered_status, unread
 ghost use Rattle.td_cli.specs.Lines.{memory_line, refusal_line};
 
 use crate::lines::{MEMORY, READ, write_refusal};
-use crate::refusal::{InputError, Refusal};
 use crate::run::FinishedRun;
 use crate::status::Status;
 use crate::totals::{Totals, write_totals};
 use td_core::module::Module;
+use td_host_report::report::host_report;
+use td_input::refusal::{InputError, Refusal};
 use td_io::{ReadError, Sink, write_all};
+use td_num::items::Items;
 use td_num::text::Text;
 use td_report::report::run_report;
 use td_report::summary::module_summary;
+use td_serving::serving::ServedInput;
 
 /// Writes a line to the error stream, and answers the status that was to come, or that of a fault in writing it.
 pub(crate) fn finish_with_line<E: Sink>(line: &[u8], status: Status, err: &mut E) -> Status
@@ -102,6 +106,33 @@ pub(crate) fn finish_run<O: Sink, E: Sink>(
     }
 }
 
+// Ends a call with the report of a host.
+fn finish_replies<O: Sink>(served: &ServedInput, out: &mut O) -> Status
+    ensures { EndsWith Status.Done (host_report served.now.module served.now.entry served.now.replies) (passage O.state out.old out.new) result }
+{
+    match host_report(&served.module, served.entry, served.replies.as_slice(), out) {
+        Ok(()) => Status::Done,
+        Err(_) => Status::WriteFault,
+    }
+}
+
+/// Ends a call of `host`: writes the report of the replies, or the line that says why the input has none.
+pub(crate) fn finish_host<O: Sink, E: Sink>(
+    input: &[u8],
+    served: &Result<ServedInput, InputError>,
+    out: &mut O,
+    err: &mut E,
+) -> Status
+    ensures { MatchResult served.now
+        (λ s. EndsWithOutput (host_report s.module s.entry s.replies) (passage O.state out.old out.new) (passage E.state err.old err.new) result)
+        (λ error. EndsWithLine (unanswered_status error) (unanswered_line input.now error) (passage O.state out.old out.new) (passage E.state err.old err.new) result) }
+{
+    match served {
+        Ok(served) => finish_replies(served, out),
+        Err(error) => finish_unanswered(input, error, err),
+    }
+}
+
 // Ends a call with what a module has.
 fn finish_summary<O: Sink>(m: &Module, out: &mut O) -> Status
     ensures { EndsWith Status.Done (summary m.now) (passage O.state out.old out.new) result }
@@ -152,6 +183,50 @@ pub(crate) fn finish_tidy<O: Sink, E: Sink>(
 {
     match text {
         Ok(text) => finish_text(text, out),
+        Err(error) => finish_unanswered(input, error, err),
+    }
+}
+
+/// Ends a call of `code`: writes the listing, or the line that says why there is none.
+pub(crate) fn finish_code<O: Sink, E: Sink>(
+    input: &[u8],
+    text: &Result<Text, InputError>,
+    out: &mut O,
+    err: &mut E,
+) -> Status
+    ensures { MatchResult text.now
+        (λ text. EndsWithOutput text (passage O.state out.old out.new) (passage E.state err.old err.new) result)
+        (λ error. EndsWithLine (unanswered_status error) (unanswered_line input.now error) (passage O.state out.old out.new) (passage E.state err.old err.new) result) }
+{
+    match text {
+        Ok(text) => finish_text(text, out),
+        Err(error) => finish_unanswered(input, error, err),
+    }
+}
+
+// Ends a call with bytes.
+fn finish_bytes<O: Sink>(bytes: &Items<u8>, out: &mut O) -> Status
+    ensures { EndsWith Status.Done bytes.now (passage O.state out.old out.new) result }
+{
+    match write_all(out, bytes.as_slice()) {
+        Ok(()) => Status::Done,
+        Err(_) => Status::WriteFault,
+    }
+}
+
+/// Ends a call of `pack`: writes the image, or the line that says why there is none.
+pub(crate) fn finish_pack<O: Sink, E: Sink>(
+    input: &[u8],
+    image: &Result<Items<u8>, InputError>,
+    out: &mut O,
+    err: &mut E,
+) -> Status
+    ensures { MatchResult image.now
+        (λ image. EndsWithOutput image (passage O.state out.old out.new) (passage E.state err.old err.new) result)
+        (λ error. EndsWithLine (unanswered_status error) (unanswered_line input.now error) (passage O.state out.old out.new) (passage E.state err.old err.new) result) }
+{
+    match image {
+        Ok(image) => finish_bytes(image, out),
         Err(error) => finish_unanswered(input, error, err),
     }
 }

@@ -5,6 +5,7 @@ ghost use Rattle.td_cli.specs.Laws.{AlwaysOne, AnsweredIsAdmitted, NeverBoth, On
 use td_front::laws as front;
 use td_gen::laws::one_message_each;
 use td_grammar::laws::one_tree;
+use td_host_job::laws as host_jobs;
 use td_job::laws as jobs;
 use td_lexer::tokens_are_the_splitting;
 use td_report::laws::reports_determine_outcomes;
@@ -12,7 +13,7 @@ use td_runs::laws::runs_are_one;
 use td_stream::laws::some_message_carries;
 use td_told::laws::{jobs_are_sized, loads_are_told, modules_have_words, runs_are_told};
 
-/// A command answers an input with at most one output: so a report is one function of its input.
+/// A command but `host`, `code` and `pack` answers an input with at most one output: so the report of a run is one function of its input.
 pub fn one_answer()
     ensures { OneAnswer }
 {
@@ -33,6 +34,7 @@ pub fn never_both()
 {
     front::one_answer_each();
     jobs::one_answer_each();
+    host_jobs::one_answer_each();
     jobs::one_named_answer_each();
     one_message_each();
 }
@@ -43,6 +45,7 @@ pub fn admitted_or_refused()
 {
     front::module_or_refusal();
     jobs::job_or_fault();
+    host_jobs::job_or_fault();
 }
 
 /// Two runs of one module whose reports are equal have equal verdicts, traces, cells and loads: what is said of a run can

@@ -3,12 +3,12 @@
 ghost use Rattle.td_io.specs.States.{Writes};
 ghost use Rattle.td_cli.specs.Lines.{job_line, module_line, refusal_line};
 
-use crate::refusal::Refusal;
 use td_front::{FrontError, line_of};
+use td_input::refusal::Refusal;
 use td_io::{Sink, WriteFault};
 use td_job::error::JobError;
 use td_report::error_line::front_line;
-use td_report::path_line::path_line;
+use td_report::path_line::{inner_path_line, path_line};
 
 /// Says what a command line may be.
 pub(crate) const USAGE: &[u8] = b"usage: td check|tidy|code|run|host|pack|bench N\n";
@@ -43,7 +43,17 @@ fn write_job_line<E: Sink>(error: &JobError, err: &mut E) -> Result<(), WriteFau
     ensures { Writes (E.state err.old) (E.state err.new) (job_line error.now) result }
 {
     let path = error.path();
-    path_line(error.code(), path.name, path.index, err)
+    match path.within {
+        None => path_line(error.code(), path.name, path.index, err),
+        Some(element) => inner_path_line(
+            error.code(),
+            element.list,
+            element.place,
+            path.name,
+            path.index,
+            err,
+        ),
+    }
 }
 
 /// Writes the line that refuses an input: `error`, a code, for a module text the line and the column at which it is

@@ -1,38 +1,37 @@
-//! The command `run`: the job's words are laid out, and the message in them is validated once, while others store to the
-//! words by the job's plan.
+//! The command `run`: the module becomes code, the job's words are laid out, and the message in them is validated once by
+//! that code, while others store to the words by the job's plan.
 
 ghost use Rattle.std.specs.Prelude.{◌≡◌, ◌≢◌, ◌<◌, ◌≤◌, ◌*◌, ◌^◌, ◌-◌, length, IfOk, IfErr, IsErr};
 ghost use Rattle.td_core.specs.declared.module.Module.{Module};
+ghost use Rattle.td_front.specs.Checked.{IsChecked};
 ghost use Rattle.td_job.specs.declared.run_job.RunJob.{RunJob};
-ghost use Rattle.td_cli.specs.declared.refusal.Refusal.{Refusal};
+ghost use Rattle.td_job.specs.Jobs.{HasValues};
+ghost use Rattle.td_input.specs.declared.refusal.Refusal.{Refusal};
 ghost use Rattle.td_cli.specs.declared.command.Command.TheVariants as commands;
-ghost use Rattle.td_cli.specs.Answers.{Admits, IsRunInput, Refuses, RefusesRun};
+ghost use Rattle.td_cli.specs.Answers.{Admits, Refuses};
+ghost use Rattle.td_input.specs.Inputs.{IsRunInput, RefusesRun};
 ghost use Rattle.td_cli.specs.Ends.{passage};
 ghost use Rattle.td_cli.specs.Endings.{InputEnds};
-ghost use Rattle.td_cli.specs.Errors.{HasCause};
-ghost use Rattle.td_cli.specs.Run.{IsRunOf, IsSoundJob};
+ghost use Rattle.td_input.specs.Causes.{HasCause};
+ghost use Rattle.td_cli.specs.Run.{IsRunOf};
+ghost use Rattle.td_input.specs.Inputs.{IsSoundJob};
 
 use crate::finish::finish_run;
-use crate::parse::{RunInput, parse_input};
-use crate::refusal::InputError;
 use crate::status::Status;
 use crate::tool::INPUT_LIMIT;
 use std::alloc::{AllocError, Global};
 use td_core::module::Module;
 use td_core::outcome::Outcome;
-use td_direct::recorded::validate_recorded;
+use td_front::laws as front;
+use td_input::refusal::InputError;
+use td_input::run::{RunInput, parse_run_input};
 use td_io::Sink;
 use td_job::run_job::RunJob;
-use td_num::items::Items;
-use td_sched::planned::Planned;
+use td_job_run::planned::{Run, run_planned};
+use td_lower::lower::lower;
+use td_lowered::laws::arguments_fit;
 use td_stream::loads::Loads;
-
-/// How the run of a job came out, and the loads that it made.
-#[derive(Debug, Drop)]
-pub(crate) struct Finished {
-    pub(crate) outcome: Outcome,
-    pub(crate) loads: Loads,
-}
+use td_told::laws::jobs_are_sized;
 
 /// The input of a run, how the run came out, and the loads that it made.
 #[derive(Debug, Drop)]
@@ -42,54 +41,26 @@ pub(crate) struct FinishedRun {
     pub(crate) loads: Loads,
 }
 
-// Runs a job on cells that are its own.
-fn run_on_cells(
-    alloc: Global,
-    m: &Module,
-    job: &RunJob,
-    cells: &mut [u64],
-) -> Result<Finished, AllocError>
+/// Runs a job of a checked module by the module's code. All memory is taken before the first load. It looks at nothing of how
+/// the run came out. `AllocError`: there was no memory; then no word was loaded.
+fn run_job(alloc: Global, m: &Module, job: &RunJob) -> Result<Run, AllocError>
+    requires checked { IsChecked m.now }
+    requires entry { job.now.entry.number < length m.now.entries }
+    requires values { HasValues m.now job.now }
     requires many { length job.now.words < 2 ^ 32 }
     requires room { job.now.length ≤ 8 * length job.now.words }
-    requires cells { cells.old ≡ job.now.cells }
     requires sound { IsSoundJob m.now job.now }
     ensures { IfOk result (λ run. IsRunOf m.now job.now run.outcome run.loads.list) }
 {
-    let words = job.words.as_slice();
-    let mut loads = Loads::with_room(alloc, words.len() as u32)?;
-    let stores = job.stores.as_slice();
-    let mut planned = Planned::open(alloc, words, stores)?;
-    let mut trace = Items::new(alloc);
+    arguments_fit();
+    let code = lower(alloc, m)?;
     let args = job.args.as_slice();
-    let verdict = validate_recorded(
-        alloc,
-        m,
-        job.entry,
-        args,
-        job.length,
-        cells,
-        &mut trace,
-        &mut planned,
-        &mut loads,
-    )?;
-    let cells = Items::copy_of(alloc, cells)?;
-    let outcome = Outcome {
-        verdict,
-        trace,
-        cells,
-    };
-    Ok(Finished { outcome, loads })
-}
-
-/// Runs a job of a module. It looks at nothing of how the run came out. `AllocError`: there was no memory.
-pub(crate) fn run_job(alloc: Global, m: &Module, job: &RunJob) -> Result<Finished, AllocError>
-    requires many { length job.now.words < 2 ^ 32 }
-    requires room { job.now.length ≤ 8 * length job.now.words }
-    requires sound { IsSoundJob m.now job.now }
-    ensures { IfOk result (λ run. IsRunOf m.now job.now run.outcome run.loads.list) }
-{
-    let mut cells = Vec::from_slice(alloc, job.cells.as_slice())?;
-    run_on_cells(alloc, m, job, &mut cells)
+    let cells = job.cells.as_slice();
+    let words = job.words.as_slice();
+    let stores = job.stores.as_slice();
+    run_planned(
+        alloc, &code, job.entry, args, cells, job.length, words, stores,
+    )
 }
 
 // Runs the job of an input. It looks at nothing of how the run came out.
@@ -101,7 +72,9 @@ fn run_input(alloc: Global, input: &[u8]) -> Result<FinishedRun, InputError>
     ensures complete { (m : Module) (job : RunJob) → IsRunInput input.now m job → IfErr result (λ e. e ≡ InputError.NoMemory) }
     ensures refused { (refusal : Refusal) → RefusesRun input.now refusal → IsErr result }
 {
-    let parsed = parse_input(alloc, input)?;
+    front::modules_are_checked();
+    jobs_are_sized();
+    let parsed = parse_run_input(alloc, input)?;
     let Ok(run) = run_job(alloc, &parsed.module, &parsed.job) else {
         return Err(InputError::NoMemory);
     };

@@ -1,22 +1,30 @@
 //! The whole tool, over any source and sinks.
 
-ghost use Rattle.std.specs.Prelude.{◌≡◌, ◌≢◌, ◌≤◌, ℕ, List, Some, IfSome, IsSome, length, map, string_bytes};
-ghost use Rattle.td_cli.specs.declared.refusal.Refusal.{Refusal};
+ghost use Rattle.std.specs.Prelude.{◌≡◌, ◌≢◌, ◌≤◌, ◌⊎◌, ◌*◌, ℕ, List, None, Some, IfSome, MatchOption, length, map, string_bytes};
+ghost use Rattle.td_input.specs.declared.refusal.Refusal.{Refusal};
 ghost use Rattle.td_cli.specs.Answers.{Admits, Refuses};
 ghost use Rattle.td_cli.specs.Command.{IsInRange, Means};
-ghost use Rattle.td_cli.specs.Ends.{CallEnds, EndsAs, Reads, StopsReading, passage};
+ghost use Rattle.td_cli.specs.Ends.{CallEnds, EndsAs, IsHandedOn, Reads, StopsReading, passage};
+ghost use Rattle.td_cli.specs.Laws.{IsAlone};
 ghost use Rattle.td_cli.specs.Endings.{InputEnds};
 
 use crate::bench::answer_bench;
 use crate::check::answer_check;
+use crate::code::answer_code;
 use crate::command::{Command, command_of};
 use crate::finish::{finish_out_of_memory, finish_unread, finish_with_line};
+use crate::host::answer_host;
 use crate::lines::USAGE;
+use crate::pack::answer_pack;
 use crate::run::answer_run;
 use crate::status::Status;
 use crate::tidy::answer_tidy;
-use std::alloc::Global;
+use std::alloc::{AllocGlobal, Global};
+use std::sync::Wait;
+use std::thread::Threads;
 use td_io::{Sink, Source, read_whole};
+use td_live::gate::Gate;
+use td_serving::gates::GATES_OF_EACH;
 
 /// How many bytes an input has at most: 4 MiB.
 pub const INPUT_LIMIT: usize = 4_194_304;
@@ -30,6 +38,7 @@ fn answer_input<O: Sink, E: Sink>(
     err: &mut E,
 ) -> Status
     requires reads { Reads command }
+    requires alone { IsAlone command }
     requires short { length input.now ≤ INPUT_LIMIT }
     ensures ends { InputEnds command input.now (passage O.state out.old out.new) (passage E.state err.old err.new) result }
     ensures good { Admits command input.now → result ≢ Status.Refused }
@@ -38,7 +47,10 @@ fn answer_input<O: Sink, E: Sink>(
     match command {
         Command::Check => answer_check(alloc, input, out, err),
         Command::Tidy => answer_tidy(alloc, input, out, err),
+        Command::Code => answer_code(alloc, input, out, err),
+        Command::Pack => answer_pack(alloc, input, out, err),
         Command::Run => answer_run(alloc, input, out, err),
+        Command::Host => unreachable!(),
         Command::Bench(_) => unreachable!(),
     }
 }
@@ -51,7 +63,8 @@ fn answer_source<S: Source, O: Sink, E: Sink>(
     out: &mut O,
     err: &mut E,
 ) -> Status
-    requires { Reads command }
+    requires reads { Reads command }
+    requires alone { IsAlone command }
     ensures ends { (words : List (List ℕ)) → Means words command →
         EndsAs result words (passage S.state src.old src.new) (passage O.state out.old out.new) (passage E.state err.old err.new) }
     ensures usage { result ≢ Status.Usage }
@@ -65,28 +78,57 @@ fn answer_source<S: Source, O: Sink, E: Sink>(
     }
 }
 
-// Answers a command: one that reads its source by what it holds, and `bench` without it.
+// Reads the source and answers its input as that of `host`. It may wait.
+fn answer_hosted<
+    R: AllocGlobal + Threads + Wait + Sync,
+    S: Source,
+    O: Sink,
+    E: Sink,
+    G: Gate + Send + Drop,
+>(rt: &R, src: &mut S, out: &mut O, err: &mut E, gates: Vec<G>) -> Status
+    requires { length gates.items ≡ 2 * GATES_OF_EACH }
+    ensures ends { (words : List (List ℕ)) → Means words Command.Host →
+        EndsAs result words (passage S.state src.old src.new) (passage O.state out.old out.new) (passage E.state err.old err.new) }
+    ensures usage { result ≢ Status.Usage }
+    ensures good { (input : List ℕ) → (S.state src.old).left ≡ Some input → Admits Command.Host input → result ≢ Status.Refused }
+    ensures bad { (input : List ℕ) (refusal : Refusal) → (S.state src.old).left ≡ Some input → Refuses Command.Host input refusal → result ≢ Status.Done }
+    ensures taken { StopsReading (passage S.state src.old src.new) }
+{
+    match read_whole(rt.alloc(), src, INPUT_LIMIT) {
+        Ok(input) => answer_host(rt, &input, out, err, gates),
+        Err(error) => finish_unread(error, err),
+    }
+}
+
+// Answers a command: one that reads its source by what it holds, and `bench` without it. None: it is `host`, and nothing
+// was read or written.
 fn answer_command<S: Source, O: Sink, E: Sink>(
     alloc: Global,
     command: Command,
     src: &mut S,
     out: &mut O,
     err: &mut E,
-) -> Status
+) -> Option<Status>
     requires { IsInRange command }
-    ensures { (words : List (List ℕ)) → Means words command →
-        CallEnds words result (passage S.state src.old src.new) (passage O.state out.old out.new) (passage E.state err.old err.new) }
+    ensures ends { (words : List (List ℕ)) → Means words command → MatchOption result
+        (IsHandedOn words (passage S.state src.old src.new) (passage O.state out.old out.new) (passage E.state err.old err.new))
+        (λ status. CallEnds words status (passage S.state src.old src.new) (passage O.state out.old out.new) (passage E.state err.old err.new)) }
+    ensures host { command ≡ Command.Host → result ≡ None }
 {
     match command {
-        Command::Check => answer_source(alloc, Command::Check, src, out, err),
-        Command::Tidy => answer_source(alloc, Command::Tidy, src, out, err),
-        Command::Run => answer_source(alloc, Command::Run, src, out, err),
-        Command::Bench(n) => answer_bench(alloc, n, out, err),
+        Command::Check => Some(answer_source(alloc, Command::Check, src, out, err)),
+        Command::Tidy => Some(answer_source(alloc, Command::Tidy, src, out, err)),
+        Command::Code => Some(answer_source(alloc, Command::Code, src, out, err)),
+        Command::Pack => Some(answer_source(alloc, Command::Pack, src, out, err)),
+        Command::Run => Some(answer_source(alloc, Command::Run, src, out, err)),
+        Command::Host => None,
+        Command::Bench(n) => Some(answer_bench(alloc, n, out, err)),
     }
 }
 
-/// Runs the tool on a command line, of which the first word is the program's name, and waits for nobody. Each command is
-/// answered here so far, so the answer is never none.
+/// Runs the tool on a command line, of which the first word is the program's name, and waits for nobody. None: the words mean
+/// `host`, which waits, and nothing was read or written. For such words there is another answer only where there was no
+/// memory.
 ///
 /// The words are looked at first; then the source is read to its end, or until one byte past the limit was read; then the
 /// input is answered. For `bench` nothing is read. A source that has more is taken from by at most 4,096 bytes past the limit, and never read again.
@@ -102,34 +144,39 @@ pub fn run_alone<S: Source, O: Sink, E: Sink>(
     out: &mut O,
     err: &mut E,
 ) -> Option<Status>
-    ensures some { IsSome result }
-    ensures ends { IfSome result (λ status. CallEnds (map string_bytes words.now) status
-        (passage S.state src.old src.new) (passage O.state out.old out.new) (passage E.state err.old err.new)) }
+    ensures ends { MatchOption result
+        (IsHandedOn (map string_bytes words.now) (passage S.state src.old src.new) (passage O.state out.old out.new) (passage E.state err.old err.new))
+        (λ status. CallEnds (map string_bytes words.now) status (passage S.state src.old src.new) (passage O.state out.old out.new) (passage E.state err.old err.new)) }
+    ensures host { Means (map string_bytes words.now) Command.Host → IfSome result (λ status. (status ≡ Status.NoMemory) ⊎ (status ≡ Status.WriteFault)) }
 {
     match command_of(alloc, words) {
-        Ok(Some(command)) => Some(answer_command(alloc, command, src, out, err)),
+        Ok(Some(command)) => answer_command(alloc, command, src, out, err),
         Ok(None) => Some(finish_with_line(USAGE, Status::Usage, err)),
         Err(_) => Some(finish_out_of_memory(err)),
     }
 }
 
 /// Runs the tool: the call that the program makes. It hands its words and streams to [`run_alone`] and says the same of
-/// them. At `Done` of `check` the input stands for a module, of which the counts were written. At `Done` of `tidy` it stands for
-/// one too, and the canonical text of its tree was written. At `Done` of `run` the input was answered by the report of a run in
+/// them; and it answers `host`, with the first gates of each half, sixteen for workers and then sixteen for guests. It may
+/// wait there, and what it says then holds if it returns. At `Done` of `check` the input stands for a module, of which the counts were written. At `Done` of `tidy` it stands for
+/// one too, and the canonical text of its tree was written. At `Done` of `code` and `pack` it stands for one too, and the
+/// listing, or the image, of code was written that does what the module means. At `Done` of `run` the input was answered by the report of a run in
 /// which each word of the message was loaded at most once, and whose outcome is the meaning's on every list of bytes that carries
-/// the loads. At `Done` of `bench` the counts and sums over one such run of each message were written.
-pub fn run_tool<R: AllocGlobal, S: Source, O: Sink, E: Sink>(
-    rt: &R,
-    words: &[String],
-    src: &mut S,
-    out: &mut O,
-    err: &mut E,
-) -> Status
+/// the loads. At `Done` of `host` the input was answered by the report of a list of replies by which all posts of its job are
+/// served. At `Done` of `bench` the counts and sums over one such run of each message were written.
+pub fn run_tool<
+    R: AllocGlobal + Threads + Wait + Sync,
+    S: Source,
+    O: Sink,
+    E: Sink,
+    G: Gate + Send + Drop,
+>(rt: &R, words: &[String], src: &mut S, out: &mut O, err: &mut E, gates: Vec<G>) -> Status
+    requires { length gates.items ≡ 2 * GATES_OF_EACH }
     ensures { CallEnds (map string_bytes words.now) result
         (passage S.state src.old src.new) (passage O.state out.old out.new) (passage E.state err.old err.new) }
 {
     match run_alone(rt.alloc(), words, src, out, err) {
         Some(status) => status,
-        None => unreachable!(),
+        None => answer_hosted(rt, src, out, err, gates),
     }
 }

@@ -1,4 +1,4 @@
-//! The same runs through the plain program and the validator.
+//! The same messages through the plain program and the validator.
 
 ghost use Rattle.std.specs.Prelude.{◌≡◌, ◌≤◌, ◌<◌, ◌*◌, length};
 
@@ -8,27 +8,22 @@ use std::process::Abort;
 use std::test::Fail;
 use td_core::module::Module;
 use td_core::outcome::{Outcome, Trace};
-use td_direct::recorded::validate_recorded;
+use td_direct::direct::validate_direct;
 use td_front::check_module;
-use td_io::MemorySink;
 use td_job::run_job::{RunJob, read_run_job};
 use td_num::items::Items;
 use td_plain::meaning::meaning;
-use td_report::report::run_report;
 use td_sched::planned::Planned;
-use td_stream::loads::Loads;
 
-// The outcome of the validator over the job's words and stores, and the loads that it made.
-fn direct(alloc: Global, m: &Module, job: &RunJob) -> Result<(Outcome, Loads), AllocError>
+// The outcome of the validator over the job's words and stores.
+fn direct(alloc: Global, m: &Module, job: &RunJob) -> Result<Outcome, AllocError>
     requires few { length job.now.words < 100 }
     requires room { job.now.length ≤ 8 * length job.now.words }
 {
-    let words = job.words.as_slice();
-    let mut loads = Loads::with_room(alloc, words.len() as u32)?;
-    let mut planned = Planned::open(alloc, words, job.stores.as_slice())?;
+    let mut planned = Planned::open(alloc, job.words.as_slice(), job.stores.as_slice())?;
     let mut trace = Trace::new(alloc);
     let mut cells = Vec::from_slice(alloc, job.cells.as_slice())?;
-    let verdict = validate_recorded(
+    let verdict = validate_direct(
         alloc,
         m,
         job.entry,
@@ -37,17 +32,15 @@ fn direct(alloc: Global, m: &Module, job: &RunJob) -> Result<(Outcome, Loads), A
         cells.as_mut_slice(),
         &mut trace,
         &mut planned,
-        &mut loads,
     )?;
-    let outcome = Outcome {
+    Ok(Outcome {
         verdict,
         trace,
         cells: Items::of(cells),
-    };
-    Ok((outcome, loads))
+    })
 }
 
-// The plain program on the carried message and the validator over the job's memory have one outcome, with this report.
+// The plain program on the carried message and the validator over the job's memory have one outcome.
 fn check_message(
     rt: &(impl AllocGlobal + Abort),
     m: &Module,
@@ -59,13 +52,10 @@ fn check_message(
     assert!(rt; job.words.len() < 100);
     let (args, cells) = (job.args.as_slice(), job.cells.as_slice());
     let plain = meaning(alloc, m, job.entry, args, cells, message.carried)?;
-    let (outcome, loads) = direct(alloc, m, &job)?;
+    let outcome = direct(alloc, m, &job)?;
     assert_eq!(rt; plain.verdict, outcome.verdict);
     assert_eq!(rt; plain.trace.as_slice(), outcome.trace.as_slice());
     assert_eq!(rt; plain.cells.as_slice(), outcome.cells.as_slice());
-    let mut out = MemorySink::with_room(alloc, 4096, Vec::new(alloc))?;
-    run_report(&outcome, m, job.entry, &loads, &mut out)?;
-    assert_eq!(rt; out.written(), message.report.as_bytes());
     Ok(())
 }
 

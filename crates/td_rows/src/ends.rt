@@ -4,7 +4,7 @@ use std::alloc::{AllocError, Global};
 use std::io;
 use std::process::Abort;
 use std::test::Fail;
-use td_cli::run_tool;
+use td_cli::{Status, run_alone};
 use td_io::{MemorySink, MemorySource, QuietSink, QuietSource, ReaderSource};
 
 const INPUT: &str =
@@ -86,10 +86,10 @@ fn check_call(rt: &(impl AllocGlobal + Abort), call: &Call) -> Result<(), Fail> 
     let mut out = MemorySink::with_room(alloc, 4096, [call.failing_write].to_vec(alloc)?)?;
     let mut err = MemorySink::with_room(alloc, 4096, Vec::new(alloc))?;
     let words = words_of(alloc, call.command)?;
-    let status = run_tool(rt, &words, &mut source, &mut out, &mut err);
+    let status = run_alone(alloc, &words, &mut source, &mut out, &mut err);
     assert_eq!(rt; err.written(), call.err.as_bytes());
     assert_eq!(rt; out.written(), call.out.as_bytes());
-    assert_eq!(rt; status.number(), call.status);
+    assert_eq!(rt; status.map(Status::number), Some(call.status));
     Ok(())
 }
 
@@ -130,11 +130,11 @@ fn other_sources_and_sinks_serve_too(rt: HostRuntime) -> Result<(), Fail> {
     let bytes = INPUT.as_bytes().to_vec(alloc)?;
     let mut source = ReaderSource::over(Dripping { bytes, at: 0 });
     let mut out = MemorySink::with_room(alloc, 4096, Vec::new(alloc))?;
-    let status = run_tool(&rt, &words, &mut source, &mut out, &mut QuietSink);
-    assert_eq!(rt; status.number(), 0);
+    let status = run_alone(alloc, &words, &mut source, &mut out, &mut QuietSink);
+    assert_eq!(rt; status.map(Status::number), Some(0));
     assert_eq!(rt; out.written(), REPORT.as_bytes());
     let mut source = QuietSource::over(INPUT.as_bytes().to_vec(alloc)?);
-    let status = run_tool(&rt, &words, &mut source, &mut QuietSink, &mut QuietSink);
-    assert_eq!(rt; status.number(), 0);
+    let status = run_alone(alloc, &words, &mut source, &mut QuietSink, &mut QuietSink);
+    assert_eq!(rt; status.map(Status::number), Some(0));
     Ok(())
 }

@@ -9,3 +9,5 @@ mod bodies;
 mod ends;
 #[cfg(test)]
 mod messages;
+#[cfg(test)]
+mod words;

@@ -1,6 +1,6 @@
 use Rattle.td_cli.specs.Ends.{passage}
 use Rattle.td_cli.specs.Bench.{AdmitsBench, RefusesBench}
-use Rattle.td_cli.specs.declared.refusal.Refusal.{Refusal}
+use Rattle.td_input.specs.declared.refusal.Refusal.{Refusal}
 use Rattle.td_cli.proofs.Benches.{never_refused, bench_ends, bench_good, bench_bad}
 use Rattle.td_cli.proofs.bench.answer_bench.Goals as goal
 

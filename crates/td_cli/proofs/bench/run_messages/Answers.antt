@@ -8,6 +8,7 @@ use Rattle.td_cli.proofs.bench.run_messages.Goals as goal
 
 pub loop-k-init : goal.loop-k-init
 loop-k-init c = record {
+  modules = c.requires.modules;
   totals = no_totals c.args.modules.now (record { messages = 0; accepted = 0; rejected = 0; bytes = 0; loads = 0 }) c.requires.modules refl;
   messages = refl;
   verdicts = refl;
@@ -22,11 +23,13 @@ returns-in_err-run-clause-cause c =
 
 pub loop-k-preserved : goal.loop-k-preserved
 loop-k-preserved c =
-    let run : MessageRun = record { outcome = c.in_ok-run.run'.outcome; loads = c.in_ok-run.run'.loads.list } in
-    let totals : c.with_run-totals.result ≡ totals_with c.loop-k.totals run = c.with_run-totals.ensures.totals in
+    let h = c.in_ok-run.ensures.run in
+    let run : MessageRun = record { outcome = record { verdict = c.in_ok-run.run'.verdict; trace = h.trace; cells = h.cells }; loads = c.in_ok-run.run'.loads.list } in
+    let totals : c.with_run-totals.result ≡ totals_with c.loop-k.totals run = c.with_run-totals.ensures.totals h.trace h.cells in
     let loads : c.with_run-totals.result.loads ≡ c.loop-k.totals.loads + length run.loads = ap (λ (t : Totals). t.loads) totals in
     record {
-      totals = totals_next c.loop-k.k c.loop-k.totals c.with_run-totals.result run c.loop-k.invariant.totals c.in_ok-run.ensures.run totals;
+      modules = c.run_one.ensures.prepared;
+      totals = totals_next c.loop-k.k c.loop-k.totals c.with_run-totals.result run c.loop-k.invariant.totals h.is totals;
       messages = ap (λ (t : Totals). t.messages) totals ∙ ap (λ n. n + 1) c.loop-k.invariant.messages;
       verdicts = omega (arith, c.with_run-totals.ensures.verdicts, c.loop-k.invariant.verdicts);
       bytes = omega (arith, c.with_run-totals.ensures.bytes, c.loop-k.invariant.bytes);

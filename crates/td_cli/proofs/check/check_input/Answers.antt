@@ -1,7 +1,7 @@
 use Rattle.std.proofs.Common.{sym, subst, ap, ◌∙◌}
 use Rattle.td_front.specs.declared.error.FrontError.TheVariants as front
 use Rattle.td_cli.specs.Answers.{RefusesCheck}
-use Rattle.td_cli.specs.Errors.{HasCause, of_module}
+use Rattle.td_input.specs.Causes.{HasCause, of_module}
 use Rattle.td_cli.proofs.Inputs.{check_cause, checked_not_refused}
 use Rattle.td_cli.proofs.check.check_input.Goals as goal
 

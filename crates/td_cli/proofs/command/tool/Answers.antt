@@ -6,6 +6,7 @@ use Rattle.clap.specs.declared.builder.action.ArgAction.TheVariants.{Set}
 use Rattle.clap.specs.declared.builder.arg.Arg.{Arg}
 use Rattle.td_cli.specs.Command.{tool}
 use Rattle.td_cli.proofs.Matches.{bench_shape, bench_plain}
+use Rattle.std.proofs.lemmas.Result.{err_from_is_err_and}
 use Rattle.td_cli.proofs.command.tool.Goals as goal
 
 pub returns : goal.returns
@@ -19,5 +20,17 @@ returns c =
     let first = c.in_ok-subcommand.ensures.shape (search rules) ∙ ap₂ with_subcommand c.new.ensures.app (ap (λ (a : App). a.top) c.new-check.ensures.app) in
     let second = c.in_ok-subcommand-2.ensures.shape (search rules) ∙ ap₂ with_subcommand first (ap (λ (a : App). a.top) c.new-tidy.ensures.app) in
     let third = c.in_ok-subcommand-3.ensures.shape (search rules) ∙ ap₂ with_subcommand second (ap (λ (a : App). a.top) c.new-run.ensures.app) in
-    let all = c.in_ok-tool.ensures.shape plain ∙ ap₂ with_subcommand third shape in
+    let fourth = c.in_ok-subcommand-4.ensures.shape (search rules) ∙ ap₂ with_subcommand third (ap (λ (a : App). a.top) c.new-host.ensures.app) in
+    let fifth = c.in_ok-subcommand-5.ensures.shape (search rules) ∙ ap₂ with_subcommand fourth (ap (λ (a : App). a.top) c.new-code.ensures.app) in
+    let sixth = c.in_ok-subcommand-6.ensures.shape (search rules) ∙ ap₂ with_subcommand fifth (ap (λ (a : App). a.top) c.new-pack.ensures.app) in
+    let all = c.in_ok-tool.ensures.shape plain ∙ ap₂ with_subcommand sixth shape in
     ap app_of_fields c.subcommand_required.ensures ∙ ap (on_top (λ s. record s { subcommand_required = true })) all
+
+pub returns-in_err-bench : goal.returns-in_err-bench
+returns-in_err-bench c = let p = err_from_is_err_and c.from_residual.result c.from_residual.ensures.1 in rw p.1 tt
+
+pub returns-in_err-subcommand : goal.returns-in_err-subcommand
+returns-in_err-subcommand c = let p = err_from_is_err_and c.from_residual-in_err-subcommand.result c.from_residual-in_err-subcommand.ensures.1 in rw p.1 tt
+
+pub returns-in_err-subcommand-2 : goal.returns-in_err-subcommand-2
+returns-in_err-subcommand-2 c = let p = err_from_is_err_and c.from_residual-in_err-subcommand-2.result c.from_residual-in_err-subcommand-2.ensures.1 in rw p.1 tt

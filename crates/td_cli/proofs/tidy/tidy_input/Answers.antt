@@ -1,6 +1,6 @@
 use Rattle.std.proofs.Common.{sym, subst, ap, ◌∙◌}
 use Rattle.td_cli.specs.Answers.{RefusesCheck}
-use Rattle.td_cli.specs.Errors.{HasCause, of_module}
+use Rattle.td_input.specs.Causes.{HasCause, of_module}
 use Rattle.td_cli.proofs.Inputs.{check_cause, checked_not_refused}
 use Rattle.td_cli.proofs.tidy.tidy_input.Goals as goal
 

@@ -17,7 +17,7 @@ returns-in-Ok-clause-ends g c =
       quiet = c.in-Ok.ensures.quiet (λ same. ok_no_error _ _ same);
       within = c.in-Ok.ensures.within (λ same. ok_no_error _ _ same);
     } in
-    input_ends words c.args.command (passage g.S.Source.state c.args.src.now c.read_whole.new.src) c.deref.result.now (passage g.O.Sink.state c.args.out.now c.answer_input.new.out) (passage g.E.Sink.state c.args.err.now c.answer_input.new.err) c.answer_input.result means (was_taken words c.args.command (passage g.S.Source.state c.args.src.now c.read_whole.new.src) c.deref.result.now means c.requires read) c.answer_input.ensures.ends
+    input_ends words c.args.command (passage g.S.Source.state c.args.src.now c.read_whole.new.src) c.deref.result.now (passage g.O.Sink.state c.args.out.now c.answer_input.new.out) (passage g.E.Sink.state c.args.err.now c.answer_input.new.err) c.answer_input.result means (was_taken words c.args.command (passage g.S.Source.state c.args.src.now c.read_whole.new.src) c.deref.result.now means c.requires.reads read) c.answer_input.ensures.ends
 
 pub returns-in-Ok-clause-usage : goal.returns-in-Ok-clause-usage
 returns-in-Ok-clause-usage g c =
@@ -46,7 +46,7 @@ returns-in-Err-clause-ends g c =
       long = λ same. c.in-Err.ensures.long (ap Err same);
       within = λ no. c.in-Err.ensures.within (λ same. no (same_error _ _ same));
     } in
-    unread_ends words c.args.command (passage g.S.Source.state c.args.src.now c.read_whole.new.src) c.in-Err.error (passage g.O.Sink.state c.args.out.now c.args.out.now) (passage g.E.Sink.state c.args.err.now c.finish_unread.new.err) c.finish_unread.result means c.requires was (c.finish_unread.ensures, refl)
+    unread_ends words c.args.command (passage g.S.Source.state c.args.src.now c.read_whole.new.src) c.in-Err.error (passage g.O.Sink.state c.args.out.now c.args.out.now) (passage g.E.Sink.state c.args.err.now c.finish_unread.new.err) c.finish_unread.result means c.requires.reads was (c.finish_unread.ensures, refl)
 
 pub returns-in-Err-clause-usage : goal.returns-in-Err-clause-usage
 returns-in-Err-clause-usage g c =
@@ -55,7 +55,7 @@ returns-in-Err-clause-usage g c =
 pub returns-in-Err-clause-good : goal.returns-in-Err-clause-good
 returns-in-Err-clause-good g c =
     λ input told admits.
-    unread_good c.args.command (g.S.Source.state c.args.src.now).left c.in-Err.error input (passage g.E.Sink.state c.args.err.now c.finish_unread.new.err) c.finish_unread.result c.requires told admits (λ same. c.in-Err.ensures.long (ap Err same)) c.finish_unread.ensures
+    unread_good c.args.command (g.S.Source.state c.args.src.now).left c.in-Err.error input (passage g.E.Sink.state c.args.err.now c.finish_unread.new.err) c.finish_unread.result c.requires.reads told admits (λ same. c.in-Err.ensures.long (ap Err same)) c.finish_unread.ensures
 
 pub returns-in-Err-clause-bad : goal.returns-in-Err-clause-bad
 returns-in-Err-clause-bad g c =

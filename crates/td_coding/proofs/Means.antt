@@ -1,0 +1,62 @@
+-- Lowered code does what a checked module means.
+use Rattle.std.proofs.Common.{◌≡◌, ℕ, zero, suc, ◌<◌, ◌^◌, List, [], ◌∷◌, length, Option, Some, Result, Ok, Err, IfOk, slice_get, subst, refl, arith}
+use Rattle.td_core.specs.declared.module.Module.{Module}
+use Rattle.td_core.specs.declared.module.TypeDef.{TypeDef}
+use Rattle.td_core.specs.declared.module.Entry.{Entry}
+use Rattle.td_core.specs.Entries.{entry_definition}
+use Rattle.td_core.specs.Formed.{AllFit, params_at, cells_at}
+use Rattle.td_core.specs.WellFormed.{Each}
+use Rattle.td_arith.specs.Laws.{AreBytes, EvaluatedIsSound}
+use Rattle.td_expr.specs.Sound.{Sound}
+use Rattle.td_meaning.specs.Throughout.{Throughout}
+use Rattle.td_front.specs.Checked.{IsChecked}
+use Rattle.td_ir.specs.declared.tables.Parts.{Parts}
+use Rattle.td_lowered.specs.CodeRun.{IsCodeOf, ArgumentsFit}
+use Rattle.td_lower.specs.Code.{IsLowerable, MeansModule}
+use Rattle.td_coding.specs.Coding.{DoesWhatItMeans}
+
+pub lowerable : (m : Module) → IsChecked m → IsLowerable m
+lowerable m h = record {
+  ready = record { formed = h.formed; sorted = h.sorted; fields = h.fields; steps = h.steps; kinds = h.kinds };
+  whole = h.whole;
+  named = h.named;
+  words = h.words;
+  within = h.within;
+  nodes = h.nodes;
+  depth = h.depth;
+  weight = h.weight;
+}
+
+got : {A : Type 0} (xs : List A) (n : ℕ) → n < length xs → (x : A) × (slice_get xs n ≡ Some x)
+got [] n h = absurd (omega arith)
+got (x ∷ xs) zero h = (x, refl)
+got (x ∷ xs) (suc n) h = got xs n (omega arith)
+
+each_at : {A : Type 0} (P : A → Type 0) (xs : List A) (n : ℕ) (x : A) → Each P xs → slice_get xs n ≡ Some x → P x
+each_at P [] n x each e = cc
+each_at P (y ∷ ys) zero x each e = let same : y ≡ x = cc in subst P same each.0
+each_at P (y ∷ ys) (suc n) x each e = each_at P ys n x each.1 e
+
+entry_of : (m : Module) (n place : ℕ) (d : TypeDef) → slice_get m.entries n ≡ Some place → slice_get m.definitions place ≡ Some d → entry_definition m n ≡ Some d
+entry_of m n place d e f = rw e f
+
+-- each expression that the meaning evaluates lies in its type's range, whatever the message's bytes are
+sound_values : (m : Module) (entry : Entry) (args cells : List ℕ) → EvaluatedIsSound → IsChecked m → entry.number < length m.entries
+    → AllFit (params_at (entry_definition m entry.number)) args → AllFit (cells_at (entry_definition m entry.number)) cells
+    → (b : List ℕ) → AreBytes b → length b < 2 ^ 32 → Throughout Sound m entry args cells b
+sound_values m entry args cells law checked inside fits_args fits_cells b bytes short =
+    let place = got m.entries entry.number inside in
+    let there : place.0 < length m.definitions = each_at (λ p. p < length m.definitions) m.entries entry.number place.0 checked.whole.entries place.1 in
+    let d = got m.definitions place.0 there in
+    let same : entry_definition m entry.number ≡ Some d.0 = entry_of m entry.number place.0 d.0 place.1 d.1 in
+    let P : Option TypeDef → Type 0 = λ o. AllFit (params_at o) args in
+    let Q : Option TypeDef → Type 0 = λ o. AllFit (cells_at o) cells in
+    law m entry place.0 d.0 args cells b checked.formed checked.safe place.1 d.1 (subst P same fits_args) (subst Q same fits_cells) bytes short
+
+pub does : (c : Parts) (m : Module) → EvaluatedIsSound → ArgumentsFit → IsChecked m → IsCodeOf c m → MeansModule c m → DoesWhatItMeans c m
+does c m law fitting checked code means = λ entry args cells message inside fits_args fits_cells bytes short.
+    means entry args cells message (fitting c m entry args cells code inside fits_args fits_cells) short (sound_values m entry args cells law checked inside fits_args fits_cells message bytes short)
+
+pub written_does : {E : Type 0} (r : Result Parts E) (m : Module) → EvaluatedIsSound → ArgumentsFit → IsChecked m → IfOk r (λ c. IsCodeOf c m) → IfOk r (λ c. MeansModule c m) → IfOk r (λ c. DoesWhatItMeans c m)
+written_does (Ok c) m law fitting checked code means = does c m law fitting checked code means
+written_does (Err e) m law fitting checked code means = tt

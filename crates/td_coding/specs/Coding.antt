@@ -1,0 +1,42 @@
+-- Code of a module, and what is written of it (own rule; docs/language/code.md and images.md).
+use Rattle.std.specs.Prelude.{◌≡◌, ℕ, ◌<◌, ◌^◌, List, length}
+use Rattle.td_core.specs.declared.module.Module.{Module}
+use Rattle.td_core.specs.declared.module.Entry.{Entry}
+use Rattle.td_core.specs.Entries.{entry_definition}
+use Rattle.td_core.specs.Formed.{AllFit, params_at, cells_at}
+use Rattle.td_meaning.specs.Meaning.{meaning}
+use Rattle.td_arith.specs.Laws.{AreBytes}
+use Rattle.td_ir.specs.declared.tables.Parts.{Parts}
+use Rattle.td_ir.specs.Listing.{listing}
+use Rattle.td_ir.specs.Run.{run}
+use Rattle.td_lowered.specs.CodeRun.{IsMeaning}
+use Rattle.td_verify.specs.Verify.{IsSound}
+use Rattle.td_image.specs.Answer.{IsImage}
+use Rattle.td_image.specs.Image.{image}
+use Rattle.td_image.specs.Within.{IsWithinFormat}
+
+-- from each entry point of the module, for arguments and cells that fit it, on each message, the code's run from the same entry
+-- point is left as the module's meaning ends, and looks at the places that the meaning reads, in the same order
+abbrev pub DoesWhatItMeans : Parts → Module → Type 0
+DoesWhatItMeans c m =
+    (entry : Entry) (args cells message : List ℕ) →
+    entry.number < length m.entries →
+    AllFit (params_at (entry_definition m entry.number)) args → AllFit (cells_at (entry_definition m entry.number)) cells →
+    AreBytes message → length message < 2 ^ 32 →
+    IsMeaning (run c entry args cells message) (meaning m entry args cells message)
+
+-- code that the verifier accepts, which does so
+pub record IsCodeFor (c : Parts) (m : Module) : Type 0 where
+  pub sound : IsSound c
+  pub means : DoesWhatItMeans c m
+
+-- the text is the listing of such code
+abbrev pub IsListing : Module → List ℕ → Type 0
+IsListing m text = (c : Parts) × IsCodeFor c m × (text ≡ listing c)
+
+-- the bytes are those that the format of images gives such code, and its image where the code is within the format
+pub record IsPacked (m : Module) (bytes : List ℕ) : Type 0 where
+  pub code : Parts
+  pub of : IsCodeFor code m
+  pub bytes_are : bytes ≡ image.bytes code
+  pub image_is : IsWithinFormat code → IsImage code bytes
