@@ -6,6 +6,8 @@ import re
 INPUT_LIMIT = 4_194_304
 MESSAGE_LIMIT = 1_048_576
 STORES_LIMIT = 65_536
+POSTS_LIMIT = 4_096
+WORDS_LIMIT = 1_048_576
 FIELDS = 256
 # Elements of the arrays that are as large at each size, so that what grows is an element's type.
 LEVELLED = 32_768
@@ -257,6 +259,37 @@ def facts_in_force(count):
     return checked(["entrypoint typedef struct _F { %s } F;" % " ".join(fields)], 1, 1)
 
 
+# ---- Hosts.
+
+
+def hosted(module, buffer, scripts, report):
+    guests = ",".join('{"script":[%s]}' % ",".join(steps) for steps in scripts)
+    job = '{"entry":"P","buffer":"%s","workers":1,"guests":[%s]}\n' % (buffer, guests)
+    return "host", module + "%%\n" + job, report
+
+
+def hosted_posts(count):
+    """Posts of four guests."""
+    each = count // 4
+    report = "".join("reply %d %d\n%s" % (guest, number, SMALL_REPORT) for guest in range(1, 5) for number in range(1, each + 1))
+    return hosted(SMALL_MODULE, "0100000300000000", [['["post",0,4]'] * each] * 4, report)
+
+
+def hosted_stores(count):
+    """Stores of four guests, and a post of none of these words."""
+    scripts = [['["store",1,"00000000000000ff"]'] * (count // 4)] * 4
+    scripts[0] = ['["post",0,4]'] + scripts[0]
+    return hosted(SMALL_MODULE, "0100000300000000" + "00" * 8, scripts, "reply 1 1\n" + SMALL_REPORT)
+
+
+def hosted_words(count):
+    """Sixteen messages of so many words in all, each word loaded."""
+    words = count // 16
+    module = "entrypoint typedef struct _P { all_zeros z; } P;\n"
+    report = "".join("reply 1 %d\naccept %d\n%s" % (number, 8 * words, zero_loads(words)) for number in range(1, 17))
+    return hosted(module, "00" * (8 * words), [['["post",0,%d]' % (8 * words)] * 16], report)
+
+
 CASES = [
     ("message, all 256 fields accepted", "bytes", MESSAGE_LIMIT, accepted_message),
     ("message, rejected at its first field", "bytes", MESSAGE_LIMIT, refused_message),
@@ -293,4 +326,7 @@ LATER = [
     ("tidy, long names", "bytes", INPUT_LIMIT, tidied_names),
     ("tidy, nodes", "nodes", 20_000, tidied_nodes),
     ("bench", "messages", 10_000, benched),
+    ("host, posts", "posts", POSTS_LIMIT, hosted_posts),
+    ("host, stores", "stores", STORES_LIMIT, hosted_stores),
+    ("host, words of messages", "words", WORDS_LIMIT, hosted_words),
 ]

@@ -297,6 +297,53 @@ class Maker:
             text = text[:place] + self.pick(["", "}", '"', ",", "[", " ", "x", "\n"]) + text[place + 1 :]
         return text
 
+    def script(self, words):
+        """Stores to a few words of the buffer, and messages in it, of which many overlap."""
+        steps = []
+        for _ in range(self.pick([0, 1, 2, 3, 4, 6, 8])):
+            if self.chance(0.45):
+                word = self.random.randrange(max(1, words)) if words and self.chance(0.999) else words
+                text = self.content(8)[:16]
+                steps.append(["store", word, text if self.chance(0.999) else self.pick(["", text[1:], text[1:] + "g"])])
+            else:
+                base = self.random.randrange(words + 1)
+                length = max(0, self.pick([8 * (words - base), 8 * (words - base), 24, 16, 9, 8, 4, 2, 1, 0]) - self.pick([0, 0, 1, 5]))
+                length = min(length, 8 * (words - base)) if self.chance(0.998) else length + self.pick([1, 8, 2**32, 2**63])
+                steps.append(["post", base, length])
+            if self.chance(0.002):
+                steps[-1] = self.pick([steps[-1][:2], steps[-1] + [0], ["stor", 0, "0" * 16], ["post", 0, "0"], "post", [0, 0, 0], {}])
+        return steps
+
+    def host_job(self, most):
+        """A job of up to so many guests and workers."""
+        entry = self.pick(self.entries) if self.entries and self.chance(0.99) else self.pick(["Q", "", "p"])
+        count = self.pick([0, 1, 8, 9, 16, 17, 24, 24, 32, 40, 64])
+        words = -(-count // 8)
+        values = [kind for kind in self.parameters.get(entry, []) if kind == "value"]
+        job = {
+            "entry": entry,
+            "buffer": self.content(count),
+            "workers": 1 + self.random.randrange(most),
+            "guests": [{"script": self.script(words)} for _ in range(1 + self.random.randrange(most))],
+        }
+        if values or self.chance(0.1):
+            job["args"] = [self.pick([0, 1, 2, 3, 5, 100, 255] + [256, 2**64] * self.chance(0.03)) for _ in values]
+        if self.chance(0.01):
+            del job[self.pick(sorted(job))]
+        if self.chance(0.02):
+            job.update(self.pick([{"workers": 0}, {"workers": 17}, {"guests": []}, {"guests": [{"script": []}] * 17}]))
+        if self.chance(0.02):
+            name = self.pick(["buffer", "workers", "guests", "entry", "args", "cells", "length", "zz", "A", "é", ""])
+            job[name] = self.pick(OTHER_VALUES + [[{}], [{"script": 0}]])
+        if self.chance(0.02):
+            guest = self.pick(job["guests"]) if isinstance(job.get("guests"), list) and job["guests"] else {}
+            guest[self.pick(["script", "scripts", "é", "", "a"])] = self.pick(OTHER_VALUES)
+        text = json.dumps(job, ensure_ascii=self.chance(0.5))
+        if self.chance(0.01):
+            place = self.random.randrange(len(text))
+            text = text[:place] + self.pick(["", "}", '"', ",", "[", " ", "x", "\n"]) + text[place + 1 :]
+        return text
+
     def input(self):
         """A command and its input."""
         if self.chance(0.25):

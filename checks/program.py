@@ -6,17 +6,27 @@ import sys
 
 TOP = os.path.dirname(os.path.dirname(os.path.abspath(__file__)))
 PROGRAM = os.path.join(TOP, "crates/td/out/td")
-# The gate builds the program by two compilers, and leaves what the second one made here.
-SECOND = PROGRAM + ".by-rattle"
 SECONDS = 60
 
 
-def built_programs(check):
-    """The program, and that of the second compiler where it is there. Ends the check where there is none."""
-    programs = [program for program in (PROGRAM, SECOND) if os.access(program, os.X_OK)]
-    if PROGRAM not in programs:
-        sys.exit("%s: %s isn't built" % (check, os.path.relpath(PROGRAM, TOP)))
+def built_programs(check, name="td"):
+    """The program of this name, and that of the second compiler where it is there. Ends the check where there is none."""
+    first = os.path.join(TOP, "crates", name, "out", name)
+    # The gate builds a program by two compilers, and leaves what the second one made here.
+    programs = [program for program in (first, first + ".by-rattle") if os.access(program, os.X_OK)]
+    if first not in programs:
+        sys.exit("%s: %s isn't built" % (check, os.path.relpath(first, TOP)))
     return programs
+
+
+def answers(program, lines):
+    """What a program that answers each line of its input wrote to these, line by line."""
+    text = "".join(line + "\n" for line in lines).encode()
+    ended = subprocess.run([program], input=text, stdout=subprocess.PIPE, check=True, timeout=10 * SECONDS)
+    found = ended.stdout.decode().splitlines()
+    if len(found) != len(lines):
+        sys.exit("%s: %d answers to %d lines" % (program, len(found), len(lines)))
+    return found
 
 
 def run(program, words, text):

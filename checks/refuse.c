@@ -15,6 +15,7 @@
 #define _GNU_SOURCE
 #include <errno.h>
 #include <fcntl.h>
+#include <stdatomic.h>
 #include <stdio.h>
 #include <stdlib.h>
 #include <string.h>
@@ -33,8 +34,9 @@ static long first = 0;
 static long last = 0;
 static int error = 0;
 static int is_short = 0;
-static long calls = 0;
-static long failed = 0;
+// The command `host` calls from several threads.
+static atomic_long calls = 0;
+static atomic_long failed = 0;
 
 static const char *setting(const char *name) {
     const char *value = getenv(name);
@@ -55,7 +57,7 @@ __attribute__((constructor)) static void begin(void) {
 __attribute__((destructor)) static void end(void) {
     counted = "";
     char line[64];
-    int length = snprintf(line, sizeof line, "%ld %ld\n", calls, failed);
+    int length = snprintf(line, sizeof line, "%ld %ld\n", atomic_load(&calls), atomic_load(&failed));
     int file = counts == NULL ? -1 : open(counts, O_WRONLY | O_CREAT | O_TRUNC, 0600);
     if (file >= 0) {
         syscall(SYS_write, file, line, length);
@@ -68,12 +70,20 @@ static int refuses(const char *kind) {
     if (strcmp(counted, kind) != 0) {
         return 0;
     }
-    calls += 1;
-    if (calls < first || calls > last) {
+    long call = atomic_fetch_add(&calls, 1) + 1;
+    if (call < first || call > last) {
         return 0;
     }
-    failed += 1;
+    atomic_fetch_add(&failed, 1);
     return 1;
+}
+
+// A program that may start threads leaves by this call, which runs no destructor.
+void _exit(int status) {
+    end();
+    for (;;) {
+        syscall(SYS_exit_group, status);
+    }
 }
 
 // What a read or a write that fails gives.
@@ -85,20 +95,29 @@ static ssize_t failure(void) {
     return -1;
 }
 
+// Whether an allocation is refused, as the C library itself refuses one: its threads look at the error.
+static int no_memory(void) {
+    if (!refuses("allocation")) {
+        return 0;
+    }
+    errno = ENOMEM;
+    return 1;
+}
+
 void *malloc(size_t size) {
-    return refuses("allocation") ? NULL : __libc_malloc(size);
+    return no_memory() ? NULL : __libc_malloc(size);
 }
 
 void *calloc(size_t count, size_t size) {
-    return refuses("allocation") ? NULL : __libc_calloc(count, size);
+    return no_memory() ? NULL : __libc_calloc(count, size);
 }
 
 void *realloc(void *block, size_t size) {
-    return refuses("allocation") ? NULL : __libc_realloc(block, size);
+    return no_memory() ? NULL : __libc_realloc(block, size);
 }
 
 void *aligned_alloc(size_t alignment, size_t size) {
-    return refuses("allocation") ? NULL : __libc_memalign(alignment, size);
+    return no_memory() ? NULL : __libc_memalign(alignment, size);
 }
 
 int posix_memalign(void **block, size_t alignment, size_t size) {

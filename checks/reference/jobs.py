@@ -58,31 +58,57 @@ def stores_of(job, words):
     return [(before, word, int.from_bytes(bytes.fromhex(text), "little")) for before, word, text in stores]
 
 
-def job_of(text, known):
-    """The entry point's type, its arguments and cells, the message's length, the words of memory, and the stores."""
+def object_of(text):
+    """The fields of a job; none where it is another value than an object."""
     try:
         job = json.loads(text.decode("utf-8"), parse_int=whole_or_float, parse_constant=refuse_constant)
     except ValueError:
         raise JobError("J1", "job") from None
-    if not isinstance(job, dict):
-        job = {}
+    return job if isinstance(job, dict) else {}
+
+
+def entry_of(job, known):
+    """The number of the entry point's type."""
     require(isinstance(job.get("entry"), str), "J2", "entry")
     entries = [number for number in known.entries if known.types[number].name == job["entry"]]
     require(entries, "J3", "entry")
-    made = known.types[entries[0]]
+    return entries[0]
+
+
+def arguments_of(job, made):
     limits = [2**parameter.bits for parameter in made.parameters if not parameter.mutable]
-    arguments = numbers_of(job, "args", limits, not limits)
+    return numbers_of(job, "args", limits, not limits)
+
+
+def bytes_of(job, name):
+    require(isinstance(job.get(name), str), "J2", name)
+    require(is_digits(job[name]), "J5", name)
+    return bytes.fromhex(job[name])
+
+
+def words_of(memory):
+    """The words that bytes fill, zero bytes making the last one whole."""
+    memory += bytes(-len(memory) % 8)
+    return [int.from_bytes(memory[i : i + 8], "little") for i in range(0, len(memory), 8)]
+
+
+def check_names(value, fields, path="%s"):
+    others = sorted(set(value) - fields, key=str.encode)
+    require(not others, "J2", path % others[0] if others else "")
+
+
+def job_of(text, known):
+    """The entry point's type, its arguments and cells, the message's length, the words of memory, and the stores."""
+    job = object_of(text)
+    entry = entry_of(job, known)
+    made = known.types[entry]
+    arguments = arguments_of(job, made)
     cells = numbers_of(job, "cells", [2 ** (bits or 32) for _, _, bits in made.cells], True)
-    require(isinstance(job.get("bytes"), str), "J2", "bytes")
-    require(is_digits(job["bytes"]), "J5", "bytes")
-    memory = bytes.fromhex(job["bytes"])
+    memory = bytes_of(job, "bytes")
     length = job.get("length")
     require(is_whole(length), "J2", "length")
     require(length <= len(memory), "J7", "length")
     require(length <= MESSAGE_LIMIT, "J8", "length")
     stores = stores_of(job, -(-length // 8))
-    others = sorted(set(job) - FIELDS, key=str.encode)
-    require(not others, "J2", others[0] if others else "")
-    memory += bytes(-len(memory) % 8)
-    words = [int.from_bytes(memory[i : i + 8], "little") for i in range(0, len(memory), 8)]
-    return entries[0], arguments, cells, length, words, stores
+    check_names(job, FIELDS)
+    return entry, arguments, cells, length, words_of(memory), stores

@@ -1,0 +1,49 @@
+"""The module texts of this repository, with the jobs beside them, and texts made at random."""
+
+import glob
+import os
+
+from inputs import Maker
+from program import TOP
+
+MADE = 400
+SEED = 1
+MARKER = b"\n%%\n"
+
+
+def parts(text):
+    """The module text and the job of an input; no job where no line is the marker."""
+    if text.startswith(MARKER[1:]):
+        return b"", text[len(MARKER) - 1 :]
+    module, marker, job = text.partition(MARKER)
+    return (module + b"\n", job) if marker else (text, None)
+
+
+def inputs_of_cases(path):
+    """The modules of a file of cases, each on a line of its own or on the lines below the word."""
+    with open(path, "rb") as file:
+        lines = file.read().split(b"\n")
+    for at, line in enumerate(lines):
+        if line == b"module":
+            below = [below[4:] for below in lines[at + 1 :]]
+            count = next((n for n, below in enumerate(lines[at + 1 :]) if below and not below.startswith(b"    ")), len(below))
+            yield b"\n".join(below[:count]) + b"\n", None
+        elif line.startswith(b"module "):
+            yield line[len(b"module ") :] + b"\n", None
+
+
+def found_inputs():
+    """Each input of the repository, and where it stands."""
+    for path in sorted(glob.glob(os.path.join(TOP, "cases/**/*.txt"), recursive=True)):
+        for module, job in inputs_of_cases(path):
+            yield os.path.relpath(path, TOP), module, job
+    for path in sorted(glob.glob(os.path.join(TOP, "examples/*/input")) + glob.glob(os.path.join(TOP, "errors/*/*"))):
+        if os.path.isfile(path) and not path.endswith(".md"):
+            with open(path, "rb") as file:
+                yield (os.path.relpath(path, TOP), *parts(file.read()))
+    for path in sorted(glob.glob(os.path.join(TOP, "examples/*/*.3d"))):
+        with open(path, "rb") as file:
+            yield os.path.relpath(path, TOP), file.read(), None
+    maker = Maker(SEED)
+    for count in range(MADE):
+        yield ("made %d" % count, *parts(maker.input()[1]))
