@@ -1,6 +1,6 @@
 //! The action of a field.
 
-ghost use Rattle.std.specs.Prelude.{◌≡◌, IfOk, OnOk};
+ghost use Rattle.std.specs.Prelude.{◌≡◌, ◌≢◌, IfOk, None, OnErr, OnOk};
 ghost use Rattle.td_ast.specs.Statements.{block_of};
 ghost use Rattle.td_rules.specs.Breach.{first_of};
 ghost use Rattle.td_rules.specs.Actions.{statement_breaches, block_breaches, vars_after, block_vars, scope_after, block_core, shape_breaches, inside, action_breaches, action_vars, action_core};
@@ -8,6 +8,7 @@ ghost use Rattle.td_actions.specs.Pieces.{piece_of, pieces_of, block_scope, foll
 
 use crate::pieces::{Piece, store_cell, store_slot, var};
 use crate::scopes::{add_level, cut_back};
+use crate::steps::{fork, read, set};
 use crate::ways::{block_ways, is_shaped};
 use std::alloc::{AllocError, Global};
 use td_ast::actions::{ActionTree, Block, Stmt, StmtKind};
@@ -114,20 +115,16 @@ fn chained(alloc: Global, pieces: Vec<Piece>) -> Result<Action, AllocError>
 fn followed(alloc: Global, piece: Piece, rest: Action) -> Result<Action, AllocError>
     ensures { IfOk result (λ a. a ≡ followed piece rest) }
 {
-    let step = match piece {
-        Piece::Nothing => return Ok(rest),
-        Piece::Set(cell, e) => Step::Set(cell, e, Box::new(alloc, rest)?),
-        Piece::Read(cell) => Step::Read(cell, Box::new(alloc, rest)?),
-        Piece::If(e, one, other) => Step::If(
-            e,
-            Box::new(alloc, one)?,
-            Box::new(alloc, other)?,
-            Box::new(alloc, rest)?,
-        ),
-        Piece::Return(e) => Step::Return(e),
-        Piece::Abort => Step::Abort,
-    };
-    Ok(Action { step })
+    match piece {
+        Piece::Nothing => Ok(rest),
+        Piece::Set(cell, e) => set(alloc, cell, e, rest),
+        Piece::Read(cell) => read(alloc, cell, rest),
+        Piece::If(e, one, other) => fork(alloc, e, one, other, rest),
+        Piece::Return(e) => Ok(Action {
+            step: Step::Return(e),
+        }),
+        Piece::Abort => Ok(Action { step: Step::Abort }),
+    }
 }
 
 /// An action whose paths its word doesn't have, or with a statement after a `return` or `abort` in its block.
@@ -173,6 +170,7 @@ pub fn action(
     tree: &Option<ActionTree>,
     findings: &mut Findings,
 ) -> Result<Option<Action>, AllocError>
+    ensures memory { OnErr result (tree.now ≢ None) }
     ensures core { IfOk result (λ a. a ≡ action_core known.now scope.old tree.now) }
     ensures first { OnOk result (findings.new.first ≡ first_of findings.old.first (action_breaches known.now taken.old scope.old tree.now)) }
     ensures taken { OnOk result (taken.new ≡ action_vars taken.old tree.now) }

@@ -1,7 +1,8 @@
 //! The cells that statements store to and read.
 
-ghost use Rattle.std.specs.Prelude.{◌≡◌, IfOk};
+ghost use Rattle.std.specs.Prelude.{◌≡◌, ◌≤◌, ◌+◌, ◌^◌, length, IfOk, OnErr};
 ghost use Rattle.td_rules.specs.Breach.{first_of};
+ghost use Rattle.td_actions.specs.Rows.{IsRowPast};
 ghost use Rattle.td_rules.specs.Actions.{cell_of, slot_cell, slot_at, row_cell, target_breaches, read_breaches};
 
 use std::alloc::AllocError;
@@ -36,7 +37,8 @@ fn slot_cell(cell: u32, number: Option<NumberType>) -> Target
 
 /// The cell of the slot of that name, where the first slot has cell `first`. `AllocError`: there are 2^32 cells or more.
 fn slot_at(first: u32, slots: &[Slot], name: &[u8]) -> Result<Target, AllocError>
-    ensures { IfOk result (λ t. t ≡ slot_at first slots.now name.now) }
+    ensures cell { IfOk result (λ t. t ≡ slot_at first slots.now name.now) }
+    ensures full { OnErr result (2 ^ 32 ≤ first + length slots.now) }
 {
     let mut cell = first;
     for slot in slots {
@@ -51,7 +53,8 @@ fn slot_at(first: u32, slots: &[Slot], name: &[u8]) -> Result<Target, AllocError
 /// `p->f`: the cell for the slot of that name of the output record that p names. `AllocError`: there are 2^32 cells or
 /// more.
 pub fn row_cell(known: &Known, found: Found, name: &[u8]) -> Result<Target, AllocError>
-    ensures { IfOk result (λ t. t ≡ row_cell known.now found name.now) }
+    ensures cell { IfOk result (λ t. t ≡ row_cell known.now found name.now) }
+    ensures full { OnErr result (IsRowPast known.now found) }
 {
     match found {
         Found::Nothing => Ok(Target::Unknown),

@@ -7,4 +7,5 @@ pub mod actions;
 mod cells;
 mod pieces;
 pub mod scopes;
+mod steps;
 mod ways;

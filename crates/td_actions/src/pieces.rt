@@ -26,7 +26,7 @@ use td_typing::findings::Findings;
 use td_typing::look_up::{is_literal_name, look_up};
 
 /// What a statement does, apart from what follows it. A cell is one of its definition's own, by its place.
-#[derive(Debug, Drop)]
+#[derive(Drop)]
 pub enum Piece {
     /// Nothing, as a rule is broken.
     Nothing,

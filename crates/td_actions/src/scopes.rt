@@ -1,6 +1,6 @@
 //! Scopes and names that are given, as they grow.
 
-ghost use Rattle.std.specs.Prelude.{◌≡◌, OnOk};
+ghost use Rattle.std.specs.Prelude.{◌≡◌, ◌-◌, ◌^◌, OnErr, OnOk};
 ghost use Rattle.td_core.specs.Formed.{scalar_of};
 ghost use Rattle.td_rules.specs.Known.{with_local, with_level, with_value, with_outer, with_field_name};
 ghost use Rattle.td_actions.specs.Scopes.{cut_back};
@@ -36,7 +36,8 @@ pub fn add_local(
 
 /// One more value in scope. `AllocError`: there are 2^32 - 1 of them.
 pub fn add_level(scope: &mut Scope) -> Result<(), AllocError>
-    ensures { OnOk result (scope.new ≡ with_level scope.old) }
+    ensures more { OnOk result (scope.new ≡ with_level scope.old) }
+    ensures full { OnErr result (scope.old.levels ≡ 2 ^ 32 - 1) }
 {
     scope.levels = scope.levels.checked_add(1).ok_or(AllocError)?;
     Ok(())

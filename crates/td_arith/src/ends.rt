@@ -10,7 +10,7 @@ use td_expr::types::greatest_of;
 use td_whole::whole::Whole;
 
 /// The least and the greatest number that an expression can be, both included.
-#[derive(Debug, Drop)]
+#[derive(Drop)]
 pub struct Ends {
     pub low: Whole,
     pub high: Whole,

@@ -41,8 +41,8 @@ pub fn learn<'a>(test: &'a Option<CoreExpr>, known: &mut Vec<Known<'a>>) -> Resu
     Ok(())
 }
 
-/// The first operator of fields that isn't safe where conditions are known to hold. Afterwards also the refinements of the
-/// fields are known. `AllocError`: there was no memory to look.
+/// The first operator of fields that isn't safe where conditions are known to hold. What is known afterwards is of no further
+/// use. `AllocError`: there was no memory to look.
 pub fn fields_unsafe<'a>(
     alloc: Global,
     fields: &'a [Field],

@@ -1,6 +1,6 @@
 //! The safety rule of a module.
 
-ghost use Rattle.std.specs.Prelude.{◌≡◌, ◌<◌, None, length, IfOk, IfErr, Err};
+ghost use Rattle.std.specs.Prelude.{◌≡◌, ◌≢◌, ◌<◌, None, length, IfOk, IfErr, Err};
 ghost use Rattle.td_arith.specs.SafeModule.{definitions_unsafe, module_unsafe, IsCause};
 
 use crate::casetypes::definition_unsafe;
@@ -17,7 +17,16 @@ pub fn arith(alloc: Global, m: &Module) -> Result<(), ArithError>
     ensures cause { IfErr result (λ e. IsCause (module_unsafe m.now) e) }
     ensures memory { result ≡ Err ArithError.NoMemory → 0 < length m.now.definitions }
 {
-    match definitions_unsafe(alloc, m.definitions.as_slice())? {
+    answer(definitions_unsafe(alloc, m.definitions.as_slice())?)
+}
+
+/// The error that names an operator, where one was found. Takes no memory.
+fn answer(found: Option<Unsafe>) -> Result<(), ArithError>
+    ensures admitted { IfOk result (λ _. found ≡ None) }
+    ensures cause { IfErr result (λ e. IsCause found e) }
+    ensures named { result ≢ Err ArithError.NoMemory }
+{
+    match found {
         Some(Unsafe { span, op }) => Err(ArithError::Unsafe { span, op }),
         None => Ok(()),
     }

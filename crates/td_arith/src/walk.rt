@@ -18,7 +18,7 @@ use td_core::expressions::{Binary, CoreExpr, Node};
 use td_expr::safety::Unsafe;
 
 /// What a look at an expression tells: its range, and its first operator that isn't safe.
-#[derive(Debug, Drop)]
+#[derive(Drop)]
 struct Seen {
     ends: Ends,
     unsafe_at: Option<Unsafe>,
@@ -26,7 +26,7 @@ struct Seen {
 
 /// What a look at an operator that computes tells: the ranges of its operands, and the first operator that isn't safe among
 /// theirs and itself.
-#[derive(Debug, Drop)]
+#[derive(Drop)]
 struct Operands {
     left: Ends,
     right: Ends,

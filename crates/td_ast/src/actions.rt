@@ -9,7 +9,7 @@ use std::alloc::{AllocError, Global};
 use std::marker::Model;
 
 /// What is stored.
-#[derive(Debug, Drop)]
+#[derive(Drop)]
 pub enum Assigned {
     /// The value of an expression.
     Value(Expr),
@@ -19,7 +19,7 @@ pub enum Assigned {
 
 /// A statement.
 #[cycle(statement)]
-#[derive(Debug, Drop)]
+#[derive(Drop)]
 pub struct Stmt {
     /// From its first token to its last one.
     pub span: Span,
@@ -28,7 +28,7 @@ pub struct Stmt {
 
 /// What a statement does.
 #[cycle(statement)]
-#[derive(Debug, Drop)]
+#[derive(Drop)]
 pub enum StmtKind {
     /// `*p = rhs;`
     Store(Name, Assigned),
@@ -48,13 +48,13 @@ pub enum StmtKind {
 
 /// Statements in order.
 #[cycle(statement)]
-#[derive(Debug, Drop)]
+#[derive(Drop)]
 pub struct Block {
     statements: Vec<Stmt>,
 }
 
 /// `{:act`, `{:check` or `{:on-success`
-#[derive(Clone, Copy, PartialEq, Eq, Debug)]
+#[derive(Clone, Copy, PartialEq, Eq)]
 pub enum ActionKind {
     Act,
     Check,
@@ -62,7 +62,7 @@ pub enum ActionKind {
 }
 
 /// `ACTWORD { stmt } "}"`, an action.
-#[derive(Debug, Drop)]
+#[derive(Drop)]
 pub struct ActionTree {
     pub kind: ActionKind,
     /// The span of its first token.

@@ -9,21 +9,21 @@ use crate::token::Span;
 use td_num::items::Items;
 
 /// `"#define" NAME NUM`, a constant.
-#[derive(Debug, Drop)]
+#[derive(Drop)]
 pub struct DefineTree {
     pub name: Name,
     pub value: Literal,
 }
 
 /// `NAME ["=" const]`, an item of an enum.
-#[derive(Debug, Drop)]
+#[derive(Drop)]
 pub struct ItemTree {
     pub name: Name,
     pub value: Option<ConstTree>,
 }
 
 /// `INT "enum" NAME "{" item { "," item } [","] "}" [";"]`, an enum.
-#[derive(Debug, Drop)]
+#[derive(Drop)]
 pub struct EnumTree {
     pub base: NumberTree,
     pub name: Name,
@@ -31,14 +31,14 @@ pub struct EnumTree {
 }
 
 /// `"typedef" plain NAME ";"`, another name of a type.
-#[derive(Debug, Drop)]
+#[derive(Drop)]
 pub struct AliasTree {
     pub target: PlainTree,
     pub name: Name,
 }
 
 /// `["entrypoint"] "typedef" "struct" NAME head "{" field { field } "}" NAME ";"`, a struct.
-#[derive(Debug, Drop)]
+#[derive(Drop)]
 pub struct StructTree {
     /// Whether `entrypoint` stands before it.
     pub entry: bool,
@@ -51,7 +51,7 @@ pub struct StructTree {
 }
 
 /// `"case" const ":" field { field }`, a case of a casetype.
-#[derive(Debug, Drop)]
+#[derive(Drop)]
 pub struct CaseTree {
     pub constant: ConstTree,
     pub fields: Items<FieldTree>,
@@ -59,7 +59,7 @@ pub struct CaseTree {
 
 /// `["entrypoint"] "casetype" NAME head "{" "switch" "(" expr ")" "{" case { case } ["default" ":" field { field }] "}"
 /// "}" NAME ";"`, a casetype.
-#[derive(Debug, Drop)]
+#[derive(Drop)]
 pub struct CasetypeTree {
     /// Whether `entrypoint` stands before it.
     pub entry: bool,
@@ -76,7 +76,7 @@ pub struct CasetypeTree {
 }
 
 /// What a slot of an output record holds.
-#[derive(Debug, Drop)]
+#[derive(Drop)]
 pub enum SlotKind {
     Number(NumberTree),
     /// `PUINT8`, by its span.
@@ -84,14 +84,14 @@ pub enum SlotKind {
 }
 
 /// `(INT | "PUINT8") NAME ";"`, a slot of an output record.
-#[derive(Debug, Drop)]
+#[derive(Drop)]
 pub struct SlotTree {
     pub kind: SlotKind,
     pub name: Name,
 }
 
 /// `"output" "typedef" "struct" NAME "{" slot { slot } "}" NAME ";"`, an output record.
-#[derive(Debug, Drop)]
+#[derive(Drop)]
 pub struct OutputTree {
     /// The name after `struct`, which is never looked up.
     pub tag: Name,
@@ -101,7 +101,7 @@ pub struct OutputTree {
 }
 
 /// A definition.
-#[derive(Debug, Drop)]
+#[derive(Drop)]
 pub enum Def {
     Define(DefineTree),
     Enum(EnumTree),
@@ -112,7 +112,7 @@ pub enum Def {
 }
 
 /// A module: its definitions, in the order of the text.
-#[derive(Debug, Drop)]
+#[derive(Drop)]
 pub struct ModuleTree {
     pub definitions: Items<Def>,
 }

@@ -11,7 +11,7 @@ use td_num::number::NumberType;
 use td_num::text::Text;
 
 /// An operator of one operand.
-#[derive(Clone, Copy, PartialEq, Eq, Debug)]
+#[derive(Clone, Copy, PartialEq, Eq)]
 pub enum UnaryOperator {
     /// `!`
     Not,
@@ -20,7 +20,7 @@ pub enum UnaryOperator {
 }
 
 /// An operator of two operands.
-#[derive(Clone, Copy, PartialEq, Eq, Debug)]
+#[derive(Clone, Copy, PartialEq, Eq)]
 pub enum BinaryOperator {
     /// `*`
     Multiply,
@@ -61,7 +61,7 @@ pub enum BinaryOperator {
 }
 
 /// What `sizeof` is asked of.
-#[derive(Debug, Drop)]
+#[derive(Drop)]
 pub enum SizeofOperand {
     /// A number type.
     Number(NumberType),
@@ -73,7 +73,7 @@ pub enum SizeofOperand {
 
 /// An expression, without its parentheses.
 #[cycle(expression)]
-#[derive(Debug, Drop)]
+#[derive(Drop)]
 pub struct Expr {
     /// From its first token to its last one, parentheses included.
     pub span: Span,
@@ -83,7 +83,7 @@ pub struct Expr {
 /// What an expression is made of. A span among the parts of a variant is that of its token alone, without the
 /// parentheses that may stand round the whole.
 #[cycle(expression)]
-#[derive(Debug, Drop)]
+#[derive(Drop)]
 pub enum ExprKind {
     /// A number, and how its digits are written.
     Number(u64, Base),

@@ -9,7 +9,7 @@ use td_num::number::NumberType;
 use td_num::text::Text;
 
 /// What a field has for a type.
-#[derive(Debug, Drop)]
+#[derive(Drop)]
 pub enum TypeKind {
     /// One of the eight number types.
     Number(NumberType),
@@ -24,14 +24,14 @@ pub enum TypeKind {
 }
 
 /// A type, and the span of its first token.
-#[derive(Debug, Drop)]
+#[derive(Drop)]
 pub struct TypeTree {
     pub span: Span,
     pub kind: TypeKind,
 }
 
 /// What stands after a field's name: an array's size or a bit width.
-#[derive(Debug, Drop)]
+#[derive(Drop)]
 pub enum ExtentTree {
     /// `[ e ]`
     Bytes(Expr),
@@ -46,7 +46,7 @@ pub enum ExtentTree {
 }
 
 /// `type NAME [extent] ["{" expr "}"] [action] ";"`, a field.
-#[derive(Debug, Drop)]
+#[derive(Drop)]
 pub struct FieldTree {
     pub type_tree: TypeTree,
     pub name: Name,

@@ -5,7 +5,7 @@ use td_num::number::NumberType;
 use td_num::text::Text;
 
 /// A name as it is written somewhere.
-#[derive(Debug, Drop)]
+#[derive(Drop)]
 pub struct Name {
     /// Its bytes.
     pub text: Text,
@@ -13,7 +13,7 @@ pub struct Name {
 }
 
 /// A number as it is written somewhere.
-#[derive(Clone, Copy, PartialEq, Eq, Debug)]
+#[derive(Clone, Copy, PartialEq, Eq)]
 pub struct Literal {
     pub value: u64,
     pub base: Base,
@@ -21,21 +21,21 @@ pub struct Literal {
 }
 
 /// A number type as it is written somewhere.
-#[derive(Clone, Copy, PartialEq, Eq, Debug)]
+#[derive(Clone, Copy, PartialEq, Eq)]
 pub struct NumberTree {
     pub number: NumberType,
     pub span: Span,
 }
 
 /// `NUM | NAME`, a constant.
-#[derive(Debug, Drop)]
+#[derive(Drop)]
 pub enum ConstTree {
     Number(Literal),
     Named(Name),
 }
 
 /// `INT | NAME`, a plain type.
-#[derive(Debug, Drop)]
+#[derive(Drop)]
 pub enum PlainTree {
     Number(NumberTree),
     Named(Name),

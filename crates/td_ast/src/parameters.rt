@@ -6,7 +6,7 @@ use crate::token::Span;
 use td_num::items::Items;
 
 /// `INT | "PUINT8" | NAME`, what a `mutable` parameter points to.
-#[derive(Debug, Drop)]
+#[derive(Drop)]
 pub enum TargetTree {
     Number(NumberTree),
     /// `PUINT8`, by its span.
@@ -15,7 +15,7 @@ pub enum TargetTree {
 }
 
 /// A parameter.
-#[derive(Debug, Drop)]
+#[derive(Drop)]
 pub enum ParamTree {
     /// `plain NAME`, a value.
     Value(PlainTree, Name),
@@ -24,7 +24,7 @@ pub enum ParamTree {
 }
 
 /// `["(" param { "," param } ")"] ["where" expr]`, a head. Where there are no parentheses, `params` is empty.
-#[derive(Debug, Drop)]
+#[derive(Drop)]
 pub struct HeadTree {
     pub params: Items<ParamTree>,
     /// The expression after `where`.

@@ -4,7 +4,7 @@ use crate::expressions::CoreExpr;
 use std::marker::Model;
 
 /// An action. A contract sees a `Deed`, which has no boxes.
-#[derive(Debug, Drop)]
+#[derive(Drop)]
 #[cycle(action)]
 pub struct Action {
     pub step: Step,
@@ -12,7 +12,7 @@ pub struct Action {
 
 /// What an action does first, and what it does then. A cell is one of its definition's own, by its place among them,
 /// from 0.
-#[derive(Debug, Drop)]
+#[derive(Drop)]
 #[cycle(action)]
 pub enum Step {
     /// The end of the action, or of a branch.

@@ -4,7 +4,7 @@ use std::marker::Model;
 use td_ast::token::Span;
 
 /// The type of an expression: a truth value, or a number of so many bits.
-#[derive(Clone, Copy, PartialEq, Eq, Debug)]
+#[derive(Clone, Copy, PartialEq, Eq)]
 pub enum Scalar {
     Truth,
     Eight,
@@ -29,7 +29,7 @@ pub enum Binary {
 }
 
 /// One of the six comparisons: `==`, `!=`, `<`, `<=`, `>`, `>=`.
-#[derive(Clone, Copy, PartialEq, Eq, Debug)]
+#[derive(Clone, Copy, PartialEq, Eq)]
 pub enum Relation {
     Equal,
     NotEqual,
@@ -40,14 +40,14 @@ pub enum Relation {
 }
 
 /// An expression. A contract sees a `Term`, which has no boxes.
-#[derive(Debug, Drop)]
+#[derive(Drop)]
 #[cycle(expression)]
 pub struct CoreExpr {
     pub node: Node,
 }
 
 /// An operator with its operands, or what has none.
-#[derive(Debug, Drop)]
+#[derive(Drop)]
 #[cycle(expression)]
 pub enum Node {
     /// A literal and its type. `true` and `false` are 1 and 0.

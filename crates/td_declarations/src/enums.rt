@@ -10,7 +10,7 @@ use crate::constants::{
     check_constant, check_global, check_literal, constant_span, constant_value, declare, is_past,
     number_or_zero,
 };
-use crate::numbers::{Numbers, add_value, is_value_among, next_place};
+use crate::numbers::{add_value, is_value_among, next_place};
 use crate::scopes::no_scope;
 use std::alloc::{AllocError, Global};
 use td_actions::scopes::scalar_of;
@@ -18,6 +18,7 @@ use td_ast::definitions::{EnumTree, ItemTree};
 use td_ast::names::ConstTree;
 use td_ast::token::Span;
 use td_core::expressions::Scalar;
+use td_names::numbers::Numbers;
 use td_num::items::Items;
 use td_num::number::NumberType;
 use td_rules::breach::Rule;

@@ -16,9 +16,10 @@ use td_core::module::{Body, Case, Field};
 use td_declarations::constants::{
     check_constant, constant_span, constant_value, is_past, number_or_zero,
 };
-use td_declarations::numbers::{Numbers, add_value, is_value_among};
+use td_declarations::numbers::{add_value, is_value_among};
 use td_fields::fields::fields;
 use td_names::names::Names;
+use td_names::numbers::Numbers;
 use td_num::items::Items;
 use td_rules::breach::Rule;
 use td_rules::known::{Known, Scope, Taken};

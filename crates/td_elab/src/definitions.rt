@@ -7,8 +7,9 @@ ghost use Rattle.td_rules.specs.Known.{nothing_known};
 ghost use Rattle.td_rules.specs.Sorts.{option_core};
 ghost use Rattle.td_rules.specs.ExprRules.{test_breaches};
 ghost use Rattle.td_rules.specs.Fields.{fields_breaches, fields_taken, fields_core};
+ghost use Rattle.td_rules.specs.Casetypes.{switch_breaches, switch_taken, switch_core};
 ghost use Rattle.td_rules.specs.Definitions.{with_names, entry_more, with_type, struct_scope, struct_breaches, after_struct, casetype_breaches, after_casetype, definition_breaches, after, definitions_breaches, known_after};
-ghost use Rattle.td_elab.specs.Heads.{with_definition};
+ghost use Rattle.td_elab.specs.Heads.{announced, with_definition};
 
 use crate::casetypes::switch;
 use std::alloc::{AllocError, Global};
@@ -52,6 +53,26 @@ fn add_entry(entries: &mut Items<u32>, is_entry: bool, place: u32) -> Result<(),
     Ok(())
 }
 
+/// What is known of a struct or casetype of that name, which gave these names, before the definition itself is there.
+/// `AllocError`: out of memory.
+fn announce(
+    alloc: Global,
+    known: &mut Known,
+    is_entry: bool,
+    name: &[u8],
+    given: &Names,
+) -> Result<(), AllocError>
+    ensures { OnOk result (known.new ≡ announced known.old is_entry name.now given.now) }
+{
+    let count = next_place(known.count as usize + 1)?;
+    let place = next_place(known.definitions.len())?;
+    declare(alloc, known, name, Meaning::Type(place))?;
+    see_names(alloc, &mut known.used, given)?;
+    add_entry(&mut known.entries, is_entry, place)?;
+    known.count = count;
+    Ok(())
+}
+
 /// What is known after a struct or casetype of that name, with these parameters, which gave these names. `AllocError`:
 /// out of memory.
 fn add_type(
@@ -65,12 +86,7 @@ fn add_type(
 ) -> Result<(), AllocError>
     ensures { OnOk result (known.new ≡ with_type known.old is_entry name.now parameters given.now definition) }
 {
-    let count = next_place(known.count as usize + 1)?;
-    let place = next_place(known.definitions.len())?;
-    declare(alloc, known, name, Meaning::Type(place))?;
-    see_names(alloc, &mut known.used, given)?;
-    add_entry(&mut known.entries, is_entry, place)?;
-    known.count = count;
+    announce(alloc, known, is_entry, name, given)?;
     push_type(known, parameters, definition)
 }
 
@@ -89,7 +105,7 @@ fn push_type(
 }
 
 /// `where` and the body of a struct or casetype.
-#[derive(Debug, Drop)]
+#[derive(Drop)]
 struct Inner {
     guard: Option<CoreExpr>,
     body: Body,
@@ -158,6 +174,27 @@ fn structure(
     )
 }
 
+/// `where` and the body of a casetype, in the scope of its head; their breaches are noted. `AllocError`: out of memory.
+#[tactic(auto, using(td_typing::proofs::Steps::first_append))]
+fn casetype_inner(
+    alloc: Global,
+    names: &Names,
+    known: &Known,
+    scope: &mut Scope,
+    taken: &mut Taken,
+    tree: &CasetypeTree,
+    findings: &mut Findings,
+) -> Result<Inner, AllocError>
+    ensures guard { IfOk result (λ i. i.guard ≡ option_core known.now scope.old tree.now.head.condition) }
+    ensures body { IfOk result (λ i. i.body ≡ switch_core names.now known.now scope.old tree.now) }
+    ensures first { OnOk result (findings.new.first ≡ first_of findings.old.first (test_breaches known.now scope.old tree.now.head.condition ++ switch_breaches known.now taken.old scope.old tree.now)) }
+    ensures taken { OnOk result (taken.new ≡ switch_taken taken.old tree.now) }
+{
+    let guard = test(alloc, known, scope, &tree.head.condition, findings)?;
+    let body = switch(alloc, names, known, scope, taken, tree, findings)?;
+    Ok(Inner { guard, body })
+}
+
 /// What is known after a casetype. `AllocError`: out of memory.
 #[tactic(auto, using(td_typing::proofs::Steps::first_append))]
 fn casetype(
@@ -172,8 +209,7 @@ fn casetype(
 {
     let head = head(alloc, names, known, tree.head.params.as_slice(), findings)?;
     let (mut scope, mut taken) = (head.scope, head.taken);
-    let guard = test(alloc, known, &scope, &tree.head.condition, findings)?;
-    let body = switch(alloc, names, known, &mut scope, &mut taken, tree, findings)?;
+    let inner = casetype_inner(alloc, names, known, &mut scope, &mut taken, tree, findings)?;
     check_global(known, &tree.name, findings);
     let name = tree.name.text.as_slice();
     let number = names.number(name);
@@ -181,8 +217,8 @@ fn casetype(
         name: NameId { number },
         params: head.params,
         cells: head.cells,
-        guard,
-        body,
+        guard: inner.guard,
+        body: inner.body,
     };
     add_type(
         alloc,

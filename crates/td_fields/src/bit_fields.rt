@@ -92,7 +92,7 @@ fn unit_field(unit: OpenUnit) -> Field
 }
 
 /// Fields, and the unit that is open after them.
-#[derive(Debug, Drop)]
+#[derive(Drop)]
 pub struct Gathering {
     pub fields: Items<Field>,
     pub unit: Option<OpenUnit>,

@@ -9,7 +9,7 @@ use td_limits::Limit;
 use td_rules::breach::Rule;
 
 /// What an error line says: the byte of the text at which it stands, a code and words.
-#[derive(Clone, Copy, Debug)]
+#[derive(Clone, Copy)]
 pub struct ErrorLine {
     /// A place in the text, in bytes, from 0. It is the text's length at an early end.
     pub at: u32,

@@ -12,7 +12,7 @@ use std::io::{Read, Write};
 use std::marker::Model;
 
 /// A reader, as standard input. A contract sees the reader, and its faults so far.
-#[derive(Debug, Drop)]
+#[derive(Drop)]
 pub struct ReaderSource<R> {
     reader: R,
     faults: Faults,
@@ -53,7 +53,7 @@ impl<R: Read> Source for ReaderSource<R> {
 }
 
 /// A writer, as standard output or standard error. A contract sees the writer, and its faults so far.
-#[derive(Debug, Drop)]
+#[derive(Drop)]
 pub struct WriterSink<W> {
     writer: W,
     faults: Faults,

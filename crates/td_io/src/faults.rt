@@ -4,7 +4,7 @@ ghost use Rattle.std.specs.Prelude.{◌≡◌};
 ghost use Rattle.td_io.specs.Faults.{after_fault, after_work, none_yet};
 
 /// How many calls of a source or of a sink failed so far, and whether the latest call did.
-#[derive(Clone, Copy, PartialEq, Eq, Debug)]
+#[derive(Clone, Copy, PartialEq, Eq)]
 pub struct Faults {
     /// The number of calls that failed, modulo 2^64.
     pub count: u64,

@@ -9,8 +9,6 @@ mod memory;
 mod quiet;
 mod reading;
 mod slices;
-#[cfg(test)]
-mod tests;
 mod traits;
 mod writing;
 

@@ -21,7 +21,7 @@ fn is_listed(calls: &[u64], call: u64) -> bool
 
 /// Bytes in memory, read from the first on, of which listed reads fail. A contract sees the bytes that are left, the
 /// list, how many reads were made, modulo 2^64, and their faults.
-#[derive(Debug, Drop)]
+#[derive(Drop)]
 pub struct MemorySource {
     bytes: Vec<u8>,
     at: usize,
@@ -88,7 +88,7 @@ impl Source for MemorySource {
 
 /// A sink in memory, of which listed writes fail, and those that find no room. A contract sees the bytes that were
 /// written, for how many more there is room, the list, how many writes were made, modulo 2^64, and their faults.
-#[derive(Debug, Drop)]
+#[derive(Drop)]
 pub struct MemorySink {
     bytes: Vec<u8>,
     room: usize,

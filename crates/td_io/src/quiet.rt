@@ -8,7 +8,7 @@ use crate::traits::{Failed, Sink, Source};
 use std::marker::Model;
 
 /// Bytes in memory, read from the first on. A contract sees those that are left.
-#[derive(Debug, Drop)]
+#[derive(Drop)]
 pub struct QuietSource {
     bytes: Vec<u8>,
     at: usize,
@@ -45,7 +45,7 @@ impl Source for QuietSource {
 }
 
 /// A sink that drops what it takes, and tells nothing of it.
-#[derive(Clone, Copy, PartialEq, Eq, Debug)]
+#[derive(Clone, Copy, PartialEq, Eq)]
 pub struct QuietSink;
 
 impl Sink for QuietSink {

@@ -9,5 +9,3 @@ pub mod error;
 pub mod fields;
 pub mod modules;
 pub mod sizes;
-#[cfg(test)]
-mod tests;

@@ -16,6 +16,3 @@ mod table;
 pub use error::LexError;
 pub use law::tokens_are_the_splitting;
 pub use lexing::lex;
-
-#[cfg(test)]
-mod tests;

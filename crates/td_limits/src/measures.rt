@@ -1,7 +1,7 @@
 //! What is known of the names of a text.
 
 /// What a name of a text is.
-#[derive(Clone, Copy, PartialEq, Eq, Debug)]
+#[derive(Clone, Copy, PartialEq, Eq)]
 pub enum NameSort {
     /// A constant.
     Constant,
@@ -12,7 +12,7 @@ pub enum NameSort {
 }
 
 /// How large the definition is that a name of a text stands for.
-#[derive(Clone, Copy, PartialEq, Eq, Debug)]
+#[derive(Clone, Copy, PartialEq, Eq)]
 pub struct Measure {
     pub sort: NameSort,
     /// How many cells a `mutable` parameter of this type names: one for each slot of an output record, else 1.

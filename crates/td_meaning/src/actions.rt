@@ -10,7 +10,7 @@ use std::alloc::AllocError;
 use td_core::actions::{Action, Step};
 
 /// How an action ends: what stands after it goes on, or it returned a truth value, or aborted.
-#[derive(Clone, Copy, PartialEq, Eq, Debug)]
+#[derive(Clone, Copy, PartialEq, Eq)]
 pub enum Ended {
     On,
     Returned(bool),

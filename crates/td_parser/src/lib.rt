@@ -13,6 +13,3 @@ mod structs;
 
 pub use error::ParseError;
 pub use parsing::parse;
-
-#[cfg(test)]
-mod tests;

@@ -7,7 +7,7 @@ use std::alloc::{AllocError, AllocFailed};
 use td_ast::token::Token;
 
 /// Why a production isn't read to its end.
-#[derive(Debug, Drop)]
+#[derive(Drop)]
 pub enum Failure<'a> {
     /// There was no memory.
     OutOfMemory,

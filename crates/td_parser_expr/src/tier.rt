@@ -12,7 +12,7 @@ use td_ast::expressions::BinaryOperator;
 use td_ast::token::{Span, Token, TokenKind};
 
 /// A level of operators of two operands, the tightest first.
-#[derive(Clone, Copy, PartialEq, Eq, Debug)]
+#[derive(Clone, Copy, PartialEq, Eq)]
 pub enum Tier {
     Product,
     Sum,

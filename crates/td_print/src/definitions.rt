@@ -1,7 +1,7 @@
 //! Definitions, with an empty line between two.
 #![tactic(auto, using(crate::proofs::Texts::texts))]
 
-ghost use Rattle.std.specs.Prelude.{◌≡◌, [], ◌∷◌, ◌++◌, OnOk, flat_map};
+ghost use Rattle.std.specs.Prelude.{◌≡◌, ◌<◌, [], ◌∷◌, ◌++◌, length, OnErr, OnOk, flat_map};
 ghost use Rattle.td_ast.specs.declared.token.TokenKind.TheVariants as kinds;
 ghost use Rattle.td_joined.specs.Pieces.{Blank, LineEnd, Word, text_of};
 ghost use Rattle.td_layout.specs.Definitions as layouts;
@@ -291,7 +291,8 @@ fn write_others(out: &mut Printer, others: &[Def]) -> Result<(), AllocError>
 
 /// Writes the definitions of a module.
 pub(crate) fn write_definitions(out: &mut Printer, definitions: &[Def]) -> Result<(), AllocError>
-    ensures { OnOk result (out.new ≡ out.old ++ text_of (parted_by (LineEnd ∷ []) layouts.definition_pieces definitions.now)) }
+    ensures memory { OnErr result (0 < length definitions.now) }
+    ensures text { OnOk result (out.new ≡ out.old ++ text_of (parted_by (LineEnd ∷ []) layouts.definition_pieces definitions.now)) }
 {
     match definitions {
         [] => Ok(()),

@@ -1,7 +1,7 @@
 //! The canonical text of a module.
 #![tactic(auto, using(crate::proofs::Texts::texts))]
 
-ghost use Rattle.std.specs.Prelude.{◌≡◌, IfOk};
+ghost use Rattle.std.specs.Prelude.{◌≡◌, ◌<◌, length, IfOk, OnErr};
 ghost use Rattle.td_layout.specs.Definitions.{canonical_text};
 
 use crate::definitions::write_definitions;
@@ -11,9 +11,10 @@ use td_ast::definitions::ModuleTree;
 use td_num::text::Text;
 
 /// The canonical text of a module: one form for all texts that spell the same tree, its places aside. In time linear in the
-/// tree. `AllocError`: out of memory.
+/// tree. `AllocError`: there is a definition, and out of memory.
 pub fn print(alloc: Global, tree: &ModuleTree) -> Result<Text, AllocError>
-    ensures { IfOk result (λ text. text ≡ canonical_text tree.now) }
+    ensures text { IfOk result (λ text. text ≡ canonical_text tree.now) }
+    ensures memory { OnErr result (0 < length tree.now.definitions) }
 {
     let mut out = Printer::new(alloc);
     write_definitions(&mut out, tree.definitions.as_slice())?;

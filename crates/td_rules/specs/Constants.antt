@@ -1,6 +1,5 @@
 -- The rules of what stands at a constant's place, and of distinct names (3D manual, "Constants", "Enums").
-use Rattle.std.specs.Prelude.{ℕ, Bool, false, not, ◌||◌, ◌&&◌, nat_eq, nat_le, List, [], ◌∷◌, ◌++◌, Option, Some, None, is_some, is_none, if◌then◌else◌}
-use Rattle.std.specs.List.{list_any}
+use Rattle.std.specs.Prelude.{ℕ, Bool, false, not, ◌||◌, ◌&&◌, nat_le, List, [], ◌++◌, Option, Some, None, is_some, is_none}
 use Rattle.td_ast.specs.declared.names.ConstTree.{ConstTree}
 use Rattle.td_ast.specs.declared.names.ConstTree.TheVariants.{Number, Named}
 use Rattle.td_ast.specs.declared.names.Name.{Name}
@@ -8,6 +7,7 @@ use Rattle.td_ast.specs.declared.token.Span.{Span}
 use Rattle.td_core.specs.Types.{limit}
 use Rattle.td_core.specs.declared.expressions.Scalar.{Scalar}
 use Rattle.td_names.specs.Names.{is_seen, looked_up, declared}
+use Rattle.td_names.specs.Numbers.{is_among, with_number}
 use Rattle.td_rules.specs.declared.breach.Rule.TheVariants.{Unknown, Twice, NotConstant}
 use Rattle.td_rules.specs.declared.breach.Breach.{Breach}
 use Rattle.td_rules.specs.declared.known.Meaning.{Meaning}
@@ -64,13 +64,6 @@ constant_breaches k s (Number n) = []
 constant_breaches k s (Named n) = number_name_breaches (found_in k s n.text) n.span
 
 -- the numbers of one enum or casetype
-abbrev pub is_among : List ℕ → ℕ → Bool
-is_among ns n = list_any (nat_eq n) ns
-
--- one more number at the end, unless it is there
-abbrev pub with_number : List ℕ → ℕ → List ℕ
-with_number ns n = if is_among ns n then ns else ns ++ n ∷ []
-
 abbrev pub is_value_among : List ℕ → Option ℕ → Bool
 is_value_among ns None = false
 is_value_among ns (Some n) = is_among ns n

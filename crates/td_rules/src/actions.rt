@@ -3,7 +3,7 @@
 use td_num::number::NumberType;
 
 /// The cell that a statement stores to or reads, by its place.
-#[derive(Clone, Copy, PartialEq, Eq, Debug)]
+#[derive(Clone, Copy, PartialEq, Eq)]
 pub enum Target {
     /// The name isn't known.
     Unknown,
@@ -16,7 +16,7 @@ pub enum Target {
 }
 
 /// The paths through statements.
-#[derive(Clone, Copy, PartialEq, Eq, Debug)]
+#[derive(Clone, Copy, PartialEq, Eq)]
 pub struct Ways {
     /// Whether one of them goes on after the statements.
     pub falls: bool,

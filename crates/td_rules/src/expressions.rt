@@ -3,7 +3,7 @@
 use td_core::expressions::{Binary, Relation, Scalar};
 
 /// What is known of an expression.
-#[derive(Clone, Copy, PartialEq, Eq, Debug)]
+#[derive(Clone, Copy, PartialEq, Eq)]
 pub enum Sort {
     /// A part is broken, and nothing is known.
     Broken,
@@ -18,7 +18,7 @@ pub enum Sort {
 }
 
 /// What an operator of two operands does.
-#[derive(Clone, Copy, PartialEq, Eq, Debug)]
+#[derive(Clone, Copy, PartialEq, Eq)]
 pub enum Operation {
     /// It gives a number of two numbers.
     Computes(Binary),

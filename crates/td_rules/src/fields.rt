@@ -8,14 +8,14 @@ use td_num::items::Items;
 use td_num::number::NumberType;
 
 /// The number that a field gives to what stands after its name: its type, and the greatest that it can be.
-#[derive(Clone, Copy, PartialEq, Eq, Debug)]
+#[derive(Clone, Copy, PartialEq, Eq)]
 pub struct Readable {
     pub scalar: Scalar,
     pub most: u64,
 }
 
 /// A field with its one part, before bit fields are gathered.
-#[derive(Debug, Drop)]
+#[derive(Drop)]
 pub struct FlatField {
     pub element: Element,
     pub extent: Extent,
@@ -28,14 +28,14 @@ pub struct FlatField {
 }
 
 /// A number that is divided among bit fields, and how many of its bits are taken.
-#[derive(Clone, Copy, PartialEq, Eq, Debug)]
+#[derive(Clone, Copy, PartialEq, Eq)]
 pub struct UnitRoom {
     pub base: NumberType,
     pub filled: u32,
 }
 
 /// A unit of bit fields so far: their number, their parts, and the first one's place.
-#[derive(Debug, Drop)]
+#[derive(Drop)]
 pub struct OpenUnit {
     pub room: UnitRoom,
     pub parts: Items<Part>,

@@ -10,7 +10,7 @@ use td_num::number::NumberType;
 use td_num::text::Text;
 
 /// What a `mutable` parameter points to.
-#[derive(Clone, Copy, PartialEq, Eq, Debug)]
+#[derive(Clone, Copy, PartialEq, Eq)]
 pub enum CellType {
     /// A cell with a number of this type.
     Number(NumberType),
@@ -21,21 +21,21 @@ pub enum CellType {
 }
 
 /// A slot of an output record: its name, and the type of the number in it, or none for a pointer.
-#[derive(Debug, Drop)]
+#[derive(Drop)]
 pub struct Slot {
     pub name: Text,
     pub number: Option<NumberType>,
 }
 
 /// What a parameter takes: a number that is no wider than this type, or cells.
-#[derive(Clone, Copy, PartialEq, Eq, Debug)]
+#[derive(Clone, Copy, PartialEq, Eq)]
 pub enum Parameter {
     Value(Scalar),
     Cells(CellType),
 }
 
 /// What the name of a definition, a constant or a member of an enum stands for.
-#[derive(Clone, Copy, PartialEq, Eq, Debug)]
+#[derive(Clone, Copy, PartialEq, Eq)]
 pub enum Meaning {
     /// The value of a `#define`.
     Constant(u64),
@@ -52,7 +52,7 @@ pub enum Meaning {
 }
 
 /// What a parameter, a field or a `var` stands for in its definition.
-#[derive(Clone, Copy, PartialEq, Eq, Debug)]
+#[derive(Clone, Copy, PartialEq, Eq)]
 pub enum Local {
     /// A number by its level (its place among the values in scope, from 0), its type, and the greatest that it can be.
     Value {
@@ -69,7 +69,7 @@ pub enum Local {
 }
 
 /// What a name stands for. A local hides a definition.
-#[derive(Clone, Copy, PartialEq, Eq, Debug)]
+#[derive(Clone, Copy, PartialEq, Eq)]
 pub enum Found {
     Nothing,
     Local(Local),

@@ -1,6 +1,6 @@
 //! Arguments of types.
 
-ghost use Rattle.std.specs.Prelude.{◌≡◌, ◌+◌, ◌++◌, not, IfOk, OnOk, slice_get};
+ghost use Rattle.std.specs.Prelude.{◌≡◌, ◌≤◌, ◌+◌, ◌^◌, ◌++◌, not, IfOk, OnErr, OnOk, slice_get};
 ghost use Rattle.td_rules.specs.Breach.{first_of, when};
 ghost use Rattle.td_rules.specs.declared.breach.Rule.TheVariants.{WrongArgs};
 ghost use Rattle.td_num.specs.Numbers.{places_from};
@@ -26,7 +26,7 @@ use td_typing::findings::Findings;
 use td_typing::look_up::{look_up, signature_at, slots_at};
 
 /// Cells one after the other: the place of the first, and how many they are.
-#[derive(Clone, Copy, PartialEq, Eq, Debug)]
+#[derive(Clone, Copy, PartialEq, Eq)]
 pub struct CellRun {
     pub first: u32,
     pub count: usize,
@@ -178,7 +178,8 @@ fn add_terms(
 
 /// The place so far after a first one. `AllocError`: it is 2^32 or more.
 fn place_after(first: u32, offset: usize) -> Result<u32, AllocError>
-    ensures { IfOk result (λ place. place ≡ first + offset) }
+    ensures place { IfOk result (λ place. place ≡ first + offset) }
+    ensures full { OnErr result (2 ^ 32 ≤ first + offset) }
 {
     match u32::try_from(offset) {
         Ok(offset) => first.checked_add(offset).ok_or(AllocError),

@@ -29,7 +29,7 @@ use td_rules::expressions::Sort;
 use td_rules::known::{Found, Known, Local, Meaning, Scope};
 
 /// What is known of an expression: its sort, and the core expression that it stands for.
-#[derive(Debug, Drop)]
+#[derive(Drop)]
 pub struct Typing {
     pub sort: Sort,
     pub core: CoreExpr,

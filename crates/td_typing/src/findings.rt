@@ -39,7 +39,7 @@ fn is_sooner(breach: Breach, other: Breach) -> bool
 }
 
 /// The first of the breaches that were noted so far.
-#[derive(Clone, Copy, PartialEq, Eq, Debug)]
+#[derive(Clone, Copy, PartialEq, Eq)]
 pub struct Findings {
     pub first: Option<Breach>,
 }

@@ -9,7 +9,7 @@ pub returns-clause-known : goal.returns-clause-known
 returns-clause-known c =
     let k = c.args.known.now in
     let d = c.args.tree.now in
-    let place = c.in_ok-place.ensures ∙ c.len.ensures in
+    let place = c.in_ok-place.ensures.place ∙ c.len.ensures in
     let named : c.declare.new.known ≡ with_enum_name k d =
     c.in_ok-declare.ensures
     ∙ ap (λ t. with_global k t (Enum d.base.number c.in_ok-place.place)) c.as_slice.ensures
@@ -18,7 +18,7 @@ returns-clause-known c =
     (c.in_ok-values.ensures.known
     ∙ ap (λ u. items_after u (Some 0) c.as_slice-2.result.now) named
     ∙ ap (λ is. items_after (with_enum_name k d) (Some 0) is) c.as_slice-2.ensures)
-    c.in_ok-count.ensures
+    c.in_ok-count.ensures.place
     (c.in_ok-values.ensures.values
     ∙ ap (λ u. item_values u (Some 0) c.as_slice-2.result.now) named
     ∙ ap (λ is. item_values (with_enum_name k d) (Some 0) is) c.as_slice-2.ensures)

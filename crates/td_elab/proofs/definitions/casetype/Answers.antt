@@ -1,4 +1,4 @@
-use Rattle.std.proofs.Common.{◌≡◌, List, ap, ◌∙◌}
+use Rattle.std.proofs.Common.{◌≡◌, List, ◌++◌, ap, ◌∙◌, append_assoc}
 use Rattle.td_ast.specs.declared.definitions.CasetypeTree.{CasetypeTree}
 use Rattle.td_rules.specs.declared.breach.Breach.{Breach}
 use Rattle.td_rules.specs.declared.known.Known.{Known}
@@ -8,7 +8,7 @@ use Rattle.td_rules.specs.ExprRules.{test_breaches}
 use Rattle.td_rules.specs.Constants.{global_breaches}
 use Rattle.td_rules.specs.Parameters.{no_head, head_of, params_breaches}
 use Rattle.td_rules.specs.Casetypes.{switch_breaches}
-use Rattle.td_elab.proofs.Chains.{on_ok_always, four}
+use Rattle.td_elab.proofs.Chains.{on_ok_always, three}
 use Rattle.td_elab.proofs.definitions.casetype.Goals as goal
 
 abbrev tested : Known → CasetypeTree → Head → List Breach
@@ -30,9 +30,9 @@ returns-clause-first c =
     let last = global_breaches k d.name in
     on_ok_always c.add_type.result
     (c.check_global.ensures
-    ∙ ap (λ x. first_of x last) c.in_ok-body.ensures.first
-    ∙ ap (λ x. first_of (first_of x (under k d h)) last) c.in_ok-guard.ensures.first
-    ∙ ap (λ x. first_of (first_of (first_of x (tested k d h)) (under k d h)) last) c.in_ok-head.ensures.first
-    ∙ ap (λ ps. first_of (first_of (first_of (first_of o (params_breaches names k no_head ps)) (tested k d h)) (under k d h)) last) c.as_slice.ensures
-    ∙ ap (λ g. first_of (first_of (first_of (first_of o own) (tested k d g)) (under k d g)) last) head
-    ∙ four o own (tested k d u) (under k d u) last)
+    ∙ ap (λ x. first_of x last) c.in_ok-inner.ensures.first
+    ∙ ap (λ x. first_of (first_of x (tested k d h ++ under k d h)) last) c.in_ok-head.ensures.first
+    ∙ ap (λ ps. first_of (first_of (first_of o (params_breaches names k no_head ps)) (tested k d h ++ under k d h)) last) c.as_slice.ensures
+    ∙ ap (λ g. first_of (first_of (first_of o own) (tested k d g ++ under k d g)) last) head
+    ∙ three o own (tested k d u ++ under k d u) last
+    ∙ ap (λ x. first_of o (own ++ x)) (append_assoc (tested k d u) (under k d u) last))

@@ -9,7 +9,7 @@ loop-offset-preserved c =
     let before = c.args.cells.now in
     let first = c.args.first in
     c.in_ok-push.ensures.ok
-    ∙ ap (λ p. l.cells ++ p ∷ []) c.in_ok-place_after.ensures
+    ∙ ap (λ p. l.cells ++ p ∷ []) c.in_ok-place_after.ensures.place
     ∙ ap (λ cs. cs ++ (first + l.offset) ∷ []) l.invariant
     ∙ append_assoc before (places_from first l.offset) ((first + l.offset) ∷ [])
     ∙ ap (λ ps. before ++ ps) (places-push first l.offset)
