@@ -1,11 +1,12 @@
 -- The verifier accepts lowered code.
 use Rattle.std.proofs.Common.{◌≡◌, ℕ, zero, suc, ◌+◌, ◌-◌, ◌<◌, ◌≤◌, [], ◌∷◌, Some, Bool, false, length, slice_index, length-append, refl, sym, ap, subst, arith}
 use Rattle.td_ir.specs.declared.tables.Parts.{Parts}
-use Rattle.td_ir.specs.Tables.{lengths_of}
+use Rattle.td_ir.specs.Tables.{lengths_of, end_of}
 use Rattle.td_verify.specs.Shape.{shapes_of}
 use Rattle.td_verify.specs.Brackets.{opened}
 use Rattle.td_ir.specs.Tables.{begin}
 use Rattle.td_verify.specs.Rules.{weigh}
+use Rattle.td_verify.specs.Safe.{before}
 use Rattle.td_verify.specs.Verify.{IsSound, weights}
 use Rattle.td_ir.proofs.Begins.{begin_next, length_there}
 use Rattle.td_acceptance.specs.Nesting.{Outside}
@@ -62,3 +63,19 @@ laid c bodies depth W least busy b = record {
 
 pub lowered_sound : (c : Parts) (bodies : ℕ → Body) (depth W least : ℕ → ℕ) (busy : ℕ → Bool) → IsLowered c bodies depth W least busy → IsSound c
 lowered_sound c bodies depth W least busy b = laid_sound c (λ n. body (bodies n)) depth busy (laid c bodies depth W least busy b)
+
+pub routine_light : (c : Parts) (bodies : ℕ → Body) (depth W least : ℕ → ℕ) (busy : ℕ → Bool) → IsLowered c bodies depth W least busy → (n : ℕ) → n < length c.routines → before c n (end_of c n) ≤ W n
+routine_light c bodies depth W least busy b n h =
+    let ws = weights (shapes_of c) (lengths_of c) n in
+    let from = begin (lengths_of c) n in
+    let lower = weights_less c bodies depth W least busy b n (omega arith) in
+    let g = b.good n h in
+    let whole = weighs c ws (NotBusy busy n) from (body (bodies n)) Outside false from 0 [] (omega arith) (b.stands n h) (nests_body c depth busy n (bodies n) g) tt (opens c bodies depth W least busy b n (omega arith)) in
+    let start : w_at c ws from from ≡ 0 = (let y : from - from ≡ 0 = omega arith in ap (weigh (shapes_of c) ws from) y) in
+    let top = weight_body c depth busy W ws n (bodies n) lower g in
+    let own = b.weights n h in
+    let z = b.sizes n h in
+    let e = begin_next c n in
+    let k : from + size (body (bodies n)) - from ≡ end_of c n - from = omega (arith, z, e) in
+    let same : before c n (end_of c n) ≡ w_at c ws from (from + size (body (bodies n))) = ap (weigh (shapes_of c) ws from) (sym k) in
+    omega (arith, whole, start, top, own, same)

@@ -15,7 +15,8 @@ use Rattle.td_core.specs.Weights.{definition_depth, body_depth, depth_of, defini
 use Rattle.td_kinds.specs.Kinds.{kinds_below, definition_kind, body_kind, pick_kind}
 use Rattle.td_kinds.specs.KindRules.{body_faults, definitions_faults, kinds_of}
 use Rattle.td_ir.specs.declared.tables.Parts.{Parts}
-use Rattle.td_ir.specs.Tables.{routine_of, first_of}
+use Rattle.td_ir.specs.Tables.{routine_of, first_of, end_of}
+use Rattle.td_verify.specs.Safe.{before}
 use Rattle.td_verify.specs.Verify.{IsSound}
 use Rattle.td_blocks.specs.Block.{Stands, size}
 use Rattle.td_blocks.specs.Constructs.{Body, Struct, End, body}
@@ -32,7 +33,7 @@ use Rattle.td_acceptance.proofs.Goods.{good_definition}
 use Rattle.td_acceptance.proofs.Measured.{definition_light}
 use Rattle.td_acceptance.proofs.Least.{definition_more}
 use Rattle.td_acceptance.proofs.Fitting.{body_fits, has_parts, none_first, none_then}
-use Rattle.td_acceptance.proofs.Lowered.{lowered_sound}
+use Rattle.td_acceptance.proofs.Lowered.{lowered_sound, routine_light}
 
 -- of lists
 got : {A : Type 0} (xs : List A) (n : ℕ) → n < length xs → (x : A) × (slice_get xs n ≡ Some x)
@@ -243,3 +244,6 @@ module _ (c : Parts) (units : ℕ → ℕ) (m : Module) (a : IsAdmissible m) (l 
 
   pub accepted : IsSound c
   accepted = lowered_sound c bodies depth (weight_of m.definitions) least busy lowered
+
+  pub light : (n : ℕ) → n < length c.routines → before c n (end_of c n) ≤ weight_of m.definitions n
+  light n h = routine_light c bodies depth (weight_of m.definitions) least busy lowered n h

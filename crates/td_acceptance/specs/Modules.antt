@@ -1,5 +1,5 @@
 -- Code that is a module's blocks, laid out, and that the verifier accepts it.
-use Rattle.std.specs.Prelude.{◌≡◌, ℕ, ◌≤◌, [], length, Some, slice_get}
+use Rattle.std.specs.Prelude.{◌≡◌, ℕ, ◌<◌, ◌≤◌, [], length, Some, slice_get}
 use Rattle.td_core.specs.declared.module.TypeDef.{TypeDef}
 use Rattle.td_core.specs.declared.module.Module.{Module}
 use Rattle.td_core.specs.declared.limits.TheConstants.{MOST_DEPTH, MOST_WEIGHT}
@@ -8,7 +8,8 @@ use Rattle.td_core.specs.WellFormed.{Each, EachField, IsFieldWhole}
 use Rattle.td_core.specs.Weights.{depth_of, weight_of}
 use Rattle.td_kinds.specs.KindRules.{kind_faults}
 use Rattle.td_ir.specs.declared.tables.Parts.{Parts}
-use Rattle.td_ir.specs.Tables.{routine_of}
+use Rattle.td_ir.specs.Tables.{routine_of, end_of}
+use Rattle.td_verify.specs.Safe.{before}
 use Rattle.td_verify.specs.Verify.{IsSound}
 use Rattle.td_blocks.specs.Lowered.{first_site}
 use Rattle.td_blocks.specs.Laid.{IsLaid}
@@ -34,6 +35,14 @@ pub record IsAdmissible (m : Module) : Type 0 where
 -- it keeps all rules
 abbrev pub ModulesAreAccepted : Type 0
 ModulesAreAccepted = (c : Parts) (units : ℕ → ℕ) (m : Module) → IsAdmissible m → IsLaid c units m → IsTabled c m → ArePlaced c units m → IsSupplied c m → IsSound c
+
+-- a routine weighs no more than the definition whose code it is
+abbrev pub IsNoHeavier : Parts → Module → Type 0
+IsNoHeavier c m = (n : ℕ) → n < length c.routines → before c n (end_of c n) ≤ weight_of m.definitions n
+
+-- so it is of such code
+abbrev pub ModulesAreLight : Type 0
+ModulesAreLight = (c : Parts) (units : ℕ → ℕ) (m : Module) → IsAdmissible m → IsLaid c units m → IsTabled c m → ArePlaced c units m → IsSupplied c m → IsNoHeavier c m
 
 -- the cells that a definition's actions name are its own, and the bits of its bit fields are those of a number
 abbrev pub OperandsFit : Type 0

@@ -1,7 +1,7 @@
 //! Laws of code in blocks. They do nothing when they are called.
 
 ghost use Rattle.td_acceptance.specs.Laws.{LaidCodeIsSound, LoweredCodeIsSound, BlocksHaveCode};
-ghost use Rattle.td_acceptance.specs.Modules.{ModulesAreAccepted, OperandsFit};
+ghost use Rattle.td_acceptance.specs.Modules.{ModulesAreAccepted, ModulesAreLight, OperandsFit};
 
 /// Code whose routines are blocks that stand as they may keeps all rules.
 pub fn laid_code_is_sound()
@@ -16,6 +16,11 @@ pub fn lowered_code_is_sound()
 /// The code of a module, laid out by its tables, keeps all rules.
 pub fn modules_are_accepted()
     ensures { ModulesAreAccepted }
+{}
+
+/// A routine of such code weighs no more than the definition whose code it is.
+pub fn modules_are_light()
+    ensures { ModulesAreLight }
 {}
 
 /// The block of a definition has at least one instruction.

@@ -1,5 +1,5 @@
 -- Code of a module, and what is written of it (own rule; docs/language/code.md and images.md).
-use Rattle.std.specs.Prelude.{◌≡◌, ℕ, ◌<◌, ◌^◌, List, length}
+use Rattle.std.specs.Prelude.{◌≡◌, ℕ, ◌<◌, ◌^◌, List, length, Result, Ok, Err}
 use Rattle.td_core.specs.declared.module.Module.{Module}
 use Rattle.td_core.specs.declared.module.Entry.{Entry}
 use Rattle.td_core.specs.Entries.{entry_definition}
@@ -11,9 +11,11 @@ use Rattle.td_ir.specs.Listing.{listing}
 use Rattle.td_ir.specs.Run.{run}
 use Rattle.td_lowered.specs.CodeRun.{IsMeaning}
 use Rattle.td_verify.specs.Verify.{IsSound}
-use Rattle.td_image.specs.Answer.{IsImage}
+use Rattle.td_image.specs.declared.error.ImageError.{ImageError}
+use Rattle.td_image.specs.declared.error.ImageError.TheVariants.{NoMemory}
+use Rattle.td_image.specs.Answer.{IsImage, IsAnswerFor}
 use Rattle.td_image.specs.Image.{image}
-use Rattle.td_image.specs.Within.{IsWithinFormat}
+use Rattle.td_within.specs.Small.{IsSmall}
 
 -- from each entry point of the module, for arguments and cells that fit it, on each message, the code's run from the same entry
 -- point is left as the module's meaning ends, and looks at the places that the meaning reads, in the same order
@@ -34,9 +36,26 @@ pub record IsCodeFor (c : Parts) (m : Module) : Type 0 where
 abbrev pub IsListing : Module → List ℕ → Type 0
 IsListing m text = (c : Parts) × IsCodeFor c m × (text ≡ listing c)
 
--- the bytes are those that the format of images gives such code, and its image where the code is within the format
+-- what `read_image` may answer to bytes: to the image of a code that code, or why the verifier refuses it, or want of memory
+abbrev pub MayBeRead : List ℕ → Result Parts ImageError → Type 0
+MayBeRead bytes answer = (p : Parts) → IsImage p bytes → IsAnswerFor p answer
+
+-- this code is read, unless there was no memory
+abbrev pub IsReadAs : Parts → Result Parts ImageError → Type 0
+IsReadAs c (Ok code) = code ≡ c
+IsReadAs c (Err NoMemory) = Unit {0}
+IsReadAs c (Err _) = ⊥
+
+-- the bytes are the image of such code, and are read as that code again
 pub record IsPacked (m : Module) (bytes : List ℕ) : Type 0 where
   pub code : Parts
   pub of : IsCodeFor code m
+  pub image_is : IsImage code bytes
+  pub read_again : (answer : Result Parts ImageError) → MayBeRead bytes answer → IsReadAs code answer
+
+-- the bytes are those that the format of images gives such code, and are its image where the module is no larger than a text's
+pub record IsSpelled (m : Module) (bytes : List ℕ) : Type 0 where
+  pub code : Parts
+  pub of : IsCodeFor code m
   pub bytes_are : bytes ≡ image.bytes code
-  pub image_is : IsWithinFormat code → IsImage code bytes
+  pub packed : IsSmall m → IsPacked m bytes

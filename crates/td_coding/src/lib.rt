@@ -1,7 +1,7 @@
-//! Modules written as code: the listing and the image of a module's code. The layer above rests on one promise: what is written
-//! is of code that the verifier accepts and that does, from each entry point, what the module means.
+//! Modules as code: the code of a checked module, its listing and its image. The layer above rests on one promise: it is
+//! code that the verifier accepts and that does, from each entry point, what the module means.
 #![tactic(auto)]
 
 mod coding;
 
-pub use coding::{code_listing, packed_image};
+pub use coding::{code_listing, code_of, packed_image};

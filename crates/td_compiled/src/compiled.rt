@@ -1,6 +1,6 @@
 //! Validations by code.
 
-ghost use Rattle.std.specs.Prelude.{◌≡◌, ℕ, ◌*◌, ◌≤◌, ◌<◌, List, []};
+ghost use Rattle.std.specs.Prelude.{◌≡◌, ℕ, ◌+◌, ◌*◌, ◌≤◌, ◌<◌, List, [], length as size_of};
 ghost use Rattle.td_core.specs.declared.module.Module.{Module};
 ghost use Rattle.td_expr.specs.Sound.{Sound};
 ghost use Rattle.td_meaning.specs.Meaning.{meaning};
@@ -11,7 +11,7 @@ ghost use Rattle.td_ir.specs.Entries.{Fits};
 ghost use Rattle.td_ir.specs.Run.{run};
 ghost use Rattle.td_lowered.specs.CodeRun.{IsCodeOf};
 ghost use Rattle.td_vm.specs.Frames.{IsArmed};
-ghost use Rattle.td_vm.specs.Outcomes.{IsRun};
+ghost use Rattle.td_vm.specs.Outcomes.{IsRun, entry_weight};
 
 use std::marker::Brand;
 use std::sync::ledger::{Blank, Ledger};
@@ -45,6 +45,8 @@ fn validate_counted<W: Words, L: Ledger>(
     ensures reaches { W.reaches words.old words.new }
     ensures rising { IsRising (W.loads words.new) }
     ensures inside { Inside length (W.loads words.new) }
+    ensures cost { (b : List ℕ) → Carries length b (W.loads words.new)
+        → (run code.now entry args.now frame.old.cells b).steps ≤ entry_weight code.now entry * (length + 1) }
     ensures run { (b : List ℕ) → Carries length b (W.loads words.new)
         → IsRun (W.loads words.new) (run code.now entry args.now frame.old.cells b)
         (record { verdict = result; trace = frame.new.trace; cells = frame.new.cells })
@@ -53,6 +55,7 @@ fn validate_counted<W: Words, L: Ledger>(
         → Throughout Sound m entry args.now frame.old.cells b
         → IsBehaviorOf (W.loads words.new) (meaning m entry args.now frame.old.cells b)
         (record { verdict = result; trace = frame.new.trace; cells = frame.new.cells }) }
+    ensures cell_count { size_of frame.new.cells ≡ size_of frame.old.cells }
     ensures armed { IsArmed code.now frame.new }
 {
     code_means();
@@ -63,7 +66,8 @@ fn validate_counted<W: Words, L: Ledger>(
 /// Validates a message of `length` bytes by verified code. The frame was armed for this code, and the arguments and the frame's
 /// cells fit the entry point. It takes no memory. Words are loaded only where a byte of them is looked at, in rising order,
 /// each at most once. On each message that carries these loads the verdict, and the trace and the cells that the frame is left
-/// with, are those of the code's run; where it is the code of a module, and every expression that the meaning evaluates lies in
+/// with, are those of the code's run, of which the steps are at most as many as the weight of the entry point's code for each byte
+/// and once more; where it is the code of a module, and every expression that the meaning evaluates lies in
 /// its type's range (as in a module that passed the safety rule), they are those of the module's meaning.
 pub fn validate_compiled<W: Words>(
     code: &Verified,
@@ -80,6 +84,8 @@ pub fn validate_compiled<W: Words>(
     ensures reaches { W.reaches words.old words.new }
     ensures rising { IsRising (W.loads words.new) }
     ensures inside { Inside length (W.loads words.new) }
+    ensures cost { (b : List ℕ) → Carries length b (W.loads words.new)
+        → (run code.now entry args.now frame.old.cells b).steps ≤ entry_weight code.now entry * (length + 1) }
     ensures run { (b : List ℕ) → Carries length b (W.loads words.new)
         → IsRun (W.loads words.new) (run code.now entry args.now frame.old.cells b)
         (record { verdict = result; trace = frame.new.trace; cells = frame.new.cells })
@@ -88,6 +94,7 @@ pub fn validate_compiled<W: Words>(
         → Throughout Sound m entry args.now frame.old.cells b
         → IsBehaviorOf (W.loads words.new) (meaning m entry args.now frame.old.cells b)
         (record { verdict = result; trace = frame.new.trace; cells = frame.new.cells }) }
+    ensures cell_count { size_of frame.new.cells ≡ size_of frame.old.cells }
     ensures armed { IsArmed code.now frame.new }
 {
     validate_counted::<W, Brand>(code, entry, args, length, frame, words, Blank::new(1))
@@ -113,6 +120,8 @@ pub fn validate_recorded<W: Words>(
     ensures loads { W.loads words.new ≡ loads.new.list }
     ensures rising { IsRising loads.new.list }
     ensures inside { Inside length loads.new.list }
+    ensures cost { (b : List ℕ) → Carries length b loads.new.list
+        → (run code.now entry args.now frame.old.cells b).steps ≤ entry_weight code.now entry * (length + 1) }
     ensures run { (b : List ℕ) → Carries length b loads.new.list
         → IsRun loads.new.list (run code.now entry args.now frame.old.cells b)
         (record { verdict = result; trace = frame.new.trace; cells = frame.new.cells })
@@ -121,6 +130,7 @@ pub fn validate_recorded<W: Words>(
         → Throughout Sound m entry args.now frame.old.cells b
         → IsBehaviorOf loads.new.list (meaning m entry args.now frame.old.cells b)
         (record { verdict = result; trace = frame.new.trace; cells = frame.new.cells }) }
+    ensures cell_count { size_of frame.new.cells ≡ size_of frame.old.cells }
     ensures armed { IsArmed code.now frame.new }
 {
     let mut recorder = Recorder::over(words, loads);

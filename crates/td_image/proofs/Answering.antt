@@ -8,10 +8,14 @@ use Rattle.td_image.specs.declared.fault.Fault.TheVariants.{Short, Wrong}
 use Rattle.td_image.specs.declared.fault.ReadError.{ReadError}
 use Rattle.td_image.specs.declared.fault.ReadError.TheVariants as ends
 use Rattle.td_image.specs.Reading.{Ends}
+use Rattle.td_image.specs.Reading as reading
 use Rattle.td_image.specs.Image as format
-use Rattle.td_image.specs.Answer.{IsImage, IsRefused, IsErrorFor, IsAnswerFor, error_of, IsBreach}
+use Rattle.td_image.specs.Answer.{IsImage, IsRefused, IsErrorFor, IsAnswerFor, error_of, told, RanOut, IsBreach}
 use Rattle.std.specs.Prelude.{IfOk, IfErr}
 use Rattle.td_image.specs.declared.error.ImageError.{ImageError}
+use Rattle.td_verify.specs.declared.rule.VerifyError.{VerifyError}
+use Rattle.td_verify.specs.declared.rule.VerifyError.TheVariants as verifying
+use Rattle.td_verify.specs.Verify.{IsRightError}
 use Rattle.td_image.specs.declared.error.ImageError.TheVariants as errors
 use Rattle.td_image.specs.Format.{AreBytes}
 use Rattle.td_image.proofs.Exact.{ok_is}
@@ -87,3 +91,16 @@ answer_err bytes p (errors.Rest at) a (q, rest, fits, e, some, place) = no_longe
 pub answer : (bytes : List ℕ) (r : Result Parts ImageError) → IfOk r (λ v. IsImage v bytes) → IfErr r (λ e. IsRefused bytes e) → (p : Parts) → IsImage p bytes → IsAnswerFor p r
 answer bytes (Ok v) found refused p a = same_parts bytes v p found a
 answer bytes (Err e) found refused p a = answer_err bytes p e a refused
+
+-- what was answered is want of memory only where reading ended so
+pub ran_out : (error : ReadError) (n : ℕ) → RanOut (error_of error n) → reading.RanOut error
+ran_out ends.NoMemory n h = tt
+ran_out (ends.Fault Short) n h = absurd h
+ran_out (ends.Fault (Wrong causes.Magic left)) n h = absurd h
+ran_out (ends.Fault (Wrong causes.Version left)) n h = absurd h
+ran_out (ends.Fault (Wrong causes.Field left)) n h = absurd h
+
+-- what the verifier answers to the code of which the bytes are the image
+pub verifier_told : (bytes : List ℕ) (p : Parts) (error : VerifyError) → IsImage p bytes → IsRightError p error → IsRefused bytes (told error)
+verifier_told bytes p verifying.NoMemory i right = tt
+verifier_told bytes p (verifying.Breaks breach) i right = (p, i, right)

@@ -2,6 +2,8 @@
 use Rattle.std.specs.Prelude.{◌≡◌, ℕ, ◌+◌, ◌-◌, ◌<◌, List, ◌++◌, length, Result, Ok, Err}
 use Rattle.td_ir.specs.declared.tables.Parts.{Parts}
 use Rattle.td_verify.specs.declared.rule.Breach.{Breach}
+use Rattle.td_verify.specs.declared.rule.VerifyError.{VerifyError}
+use Rattle.td_verify.specs.declared.rule.VerifyError.TheVariants as verifying
 use Rattle.td_verify.specs.Verify.{IsFirst}
 use Rattle.td_image.specs.declared.fault.Cause.TheVariants as causes
 use Rattle.td_image.specs.declared.fault.Fault.TheVariants.{Short, Wrong}
@@ -9,6 +11,7 @@ use Rattle.td_image.specs.declared.fault.ReadError.{ReadError}
 use Rattle.td_image.specs.declared.fault.ReadError.TheVariants as ends
 use Rattle.td_image.specs.declared.error.ImageError.{ImageError}
 use Rattle.td_image.specs.declared.error.ImageError.TheVariants as errors
+use Rattle.td_image.specs.declared.counts.Counts.{Counts}
 use Rattle.td_image.specs.Image as format
 
 -- the bytes that the format gives these parts, which are within its limits
@@ -22,6 +25,25 @@ error_of (ends.Fault Short) n = errors.Short n
 error_of (ends.Fault (Wrong causes.Magic left)) n = errors.Magic
 error_of (ends.Fault (Wrong causes.Version left)) n = errors.Version
 error_of (ends.Fault (Wrong causes.Field left)) n = errors.Field (n - left)
+
+-- the error for bytes of whose code the verifier answered so
+abbrev pub told : VerifyError → ImageError
+told verifying.NoMemory = errors.NoMemory
+told (verifying.Breaks breach) = errors.Refused breach
+
+-- each field of the header is whole, and has a value that is allowed
+abbrev pub HasHeader : List ℕ → Type 0
+HasHeader bytes = (counts : Counts) × (rest : List ℕ) × (format.header.read bytes ≡ Ok (counts, rest))
+
+-- there was no memory
+abbrev pub RanOut : ImageError → Type 0
+RanOut errors.NoMemory = Unit {0}
+RanOut errors.Magic = ⊥
+RanOut errors.Version = ⊥
+RanOut (errors.Short at) = ⊥
+RanOut (errors.Field at) = ⊥
+RanOut (errors.Rest at) = ⊥
+RanOut (errors.Refused breach) = ⊥
 
 -- the instruction that the verifier names
 abbrev pub IsBreach : Parts → Breach → Type 0

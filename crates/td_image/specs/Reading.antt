@@ -11,3 +11,14 @@ Ends (errors.Fault fault) read = read ≡ Err fault
 abbrev pub Reads : {X Y : Type 0} → (X → Y) → Result X ReadError → Result Y Fault → Type 0
 Reads view (Ok x) read = read ≡ Ok (view x)
 Reads view (Err e) read = Ends e read
+
+-- memory ran out
+abbrev pub RanOut : ReadError → Type 0
+RanOut errors.NoMemory = Unit {0}
+RanOut (errors.Fault fault) = ⊥
+
+-- what takes no memory is never out of it
+abbrev pub IsDecided : {X : Type 0} → Result X ReadError → Type 0
+IsDecided (Ok x) = Unit {0}
+IsDecided (Err errors.NoMemory) = ⊥
+IsDecided (Err (errors.Fault fault)) = Unit {0}

@@ -4,7 +4,7 @@ ghost use Rattle.std.specs.Prelude.{◌≡◌};
 ghost use Rattle.td_image.specs.Answer as answer;
 
 use crate::fault::{Cause, Fault, ReadError};
-use td_verify::rule::Breach;
+use td_verify::rule::{Breach, VerifyError};
 use thiserror::Error;
 
 /// Why bytes are no image of verified code (own rule; the codes are those that the tool prints). Fields are looked at in
@@ -49,5 +49,15 @@ pub(crate) fn error_of(error: ReadError, length: usize) -> ImageError
                 at: length.saturating_sub(left),
             },
         },
+    }
+}
+
+/// What is answered to bytes of whose code the verifier answered so.
+pub(crate) fn told(error: VerifyError) -> ImageError
+    ensures { result ≡ answer.told error }
+{
+    match error {
+        VerifyError::NoMemory => ImageError::NoMemory,
+        VerifyError::Breaks(breach) => ImageError::Refused(breach),
     }
 }

@@ -4,7 +4,7 @@ ghost use Rattle.std.specs.Prelude.{◌≡◌, ◌<◌, length, IfOk};
 ghost use Rattle.std.specs.Int.{w8, w16, w32, w64};
 ghost use Rattle.td_image.specs.Format.{number, text};
 ghost use Rattle.td_image.specs.Image as format;
-ghost use Rattle.td_image.specs.Reading.{Reads};
+ghost use Rattle.td_image.specs.Reading.{Reads, IsDecided};
 ghost use Rattle.td_image.specs.declared.fault.ReadError.TheVariants as errors;
 ghost use Rattle.td_image.specs.declared.fault.Fault.TheVariants as faults;
 
@@ -22,7 +22,8 @@ pub(crate) fn wrong(cause: Cause, bytes: &[u8]) -> ReadError
 }
 
 pub(crate) fn u8_at(bytes: &[u8]) -> Result<(u8, &[u8]), ReadError>
-    ensures { Reads (λ x. (x.0, x.1.now)) result ((number w8).read bytes.now) }
+    ensures read { Reads (λ x. (x.0, x.1.now)) result ((number w8).read bytes.now) }
+    ensures decided { IsDecided result }
 {
     if bytes.len() < 1 {
         return Err(ReadError::Fault(Fault::Short));
@@ -33,7 +34,8 @@ pub(crate) fn u8_at(bytes: &[u8]) -> Result<(u8, &[u8]), ReadError>
 }
 
 pub(crate) fn u16_at(bytes: &[u8]) -> Result<(u16, &[u8]), ReadError>
-    ensures { Reads (λ x. (x.0, x.1.now)) result ((number w16).read bytes.now) }
+    ensures read { Reads (λ x. (x.0, x.1.now)) result ((number w16).read bytes.now) }
+    ensures decided { IsDecided result }
 {
     if bytes.len() < 2 {
         return Err(ReadError::Fault(Fault::Short));
@@ -44,7 +46,8 @@ pub(crate) fn u16_at(bytes: &[u8]) -> Result<(u16, &[u8]), ReadError>
 }
 
 pub(crate) fn u32_at(bytes: &[u8]) -> Result<(u32, &[u8]), ReadError>
-    ensures { Reads (λ x. (x.0, x.1.now)) result ((number w32).read bytes.now) }
+    ensures read { Reads (λ x. (x.0, x.1.now)) result ((number w32).read bytes.now) }
+    ensures decided { IsDecided result }
 {
     if bytes.len() < 4 {
         return Err(ReadError::Fault(Fault::Short));
@@ -55,7 +58,8 @@ pub(crate) fn u32_at(bytes: &[u8]) -> Result<(u32, &[u8]), ReadError>
 }
 
 pub(crate) fn u64_at(bytes: &[u8]) -> Result<(u64, &[u8]), ReadError>
-    ensures { Reads (λ x. (x.0, x.1.now)) result ((number w64).read bytes.now) }
+    ensures read { Reads (λ x. (x.0, x.1.now)) result ((number w64).read bytes.now) }
+    ensures decided { IsDecided result }
 {
     if bytes.len() < 8 {
         return Err(ReadError::Fault(Fault::Short));
@@ -69,7 +73,8 @@ pub(crate) fn u64_at(bytes: &[u8]) -> Result<(u64, &[u8]), ReadError>
 
 /// So many bytes.
 pub(crate) fn text_at(bytes: &[u8], n: usize) -> Result<(&[u8], &[u8]), ReadError>
-    ensures { Reads (λ x. (x.0.now, x.1.now)) result ((text n).read bytes.now) }
+    ensures read { Reads (λ x. (x.0.now, x.1.now)) result ((text n).read bytes.now) }
+    ensures decided { IsDecided result }
 {
     if bytes.len() < n {
         return Err(ReadError::Fault(Fault::Short));
@@ -79,7 +84,8 @@ pub(crate) fn text_at(bytes: &[u8], n: usize) -> Result<(&[u8], &[u8]), ReadErro
 
 /// A number that is at most another.
 pub(crate) fn up_to(bytes: &[u8], most: usize) -> Result<(u32, &[u8]), ReadError>
-    ensures { Reads (λ x. (x.0, x.1.now)) result ((format.up_to most).read bytes.now) }
+    ensures read { Reads (λ x. (x.0, x.1.now)) result ((format.up_to most).read bytes.now) }
+    ensures decided { IsDecided result }
 {
     let (n, rest) = u32_at(bytes)?;
     if (n as usize) <= most {
@@ -90,7 +96,8 @@ pub(crate) fn up_to(bytes: &[u8], most: usize) -> Result<(u32, &[u8]), ReadError
 }
 
 pub(crate) fn u16_up_to(bytes: &[u8], most: u16) -> Result<(u16, &[u8]), ReadError>
-    ensures { Reads (λ x. (x.0, x.1.now)) result ((format.up_to most).read bytes.now) }
+    ensures read { Reads (λ x. (x.0, x.1.now)) result ((format.up_to most).read bytes.now) }
+    ensures decided { IsDecided result }
 {
     let (n, rest) = u32_at(bytes)?;
     if n <= most as u32 {
@@ -101,7 +108,8 @@ pub(crate) fn u16_up_to(bytes: &[u8], most: u16) -> Result<(u16, &[u8]), ReadErr
 }
 
 pub(crate) fn u16_between(bytes: &[u8], least: u16, most: u16) -> Result<(u16, &[u8]), ReadError>
-    ensures { Reads (λ x. (x.0, x.1.now)) result ((format.between least most).read bytes.now) }
+    ensures read { Reads (λ x. (x.0, x.1.now)) result ((format.between least most).read bytes.now) }
+    ensures decided { IsDecided result }
 {
     let (n, rest) = u32_at(bytes)?;
     if least as u32 <= n && n <= most as u32 {
@@ -115,6 +123,7 @@ pub(crate) fn u16_between(bytes: &[u8], least: u16, most: u16) -> Result<(u16, &
 pub(crate) fn place(bytes: &[u8], count: usize) -> Result<(u32, &[u8]), ReadError>
     ensures read { Reads (λ x. (x.0, x.1.now)) result ((format.place count).read bytes.now) }
     ensures within { IfOk result (λ x. x.0 < count) }
+    ensures decided { IsDecided result }
 {
     let (n, rest) = u32_at(bytes)?;
     if (n as usize) < count {
@@ -126,7 +135,8 @@ pub(crate) fn place(bytes: &[u8], count: usize) -> Result<(u32, &[u8]), ReadErro
 
 /// A name of a table of so many.
 pub(crate) fn name_place(bytes: &[u8], names: usize) -> Result<(NameId, &[u8]), ReadError>
-    ensures { Reads (λ x. (x.0, x.1.now)) result ((format.name_place names).read bytes.now) }
+    ensures read { Reads (λ x. (x.0, x.1.now)) result ((format.name_place names).read bytes.now) }
+    ensures decided { IsDecided result }
 {
     let (number, rest) = place(bytes, names)?;
     Ok((NameId { number }, rest))

@@ -4,7 +4,7 @@ ghost use Rattle.std.specs.Prelude.{◌≡◌};
 ghost use Rattle.std.specs.Int.{w8, w16, w32, w64};
 ghost use Rattle.td_image.specs.Format.{times};
 ghost use Rattle.td_image.specs.Image as format;
-ghost use Rattle.td_image.specs.Reading.{Reads};
+ghost use Rattle.td_image.specs.Reading.{Reads, IsDecided};
 
 use crate::fault::{Cause, ReadError};
 use crate::fields::{u8_at, u16_at, u32_at, u64_at, wrong};
@@ -15,7 +15,8 @@ use td_ir::instructions::Instr;
 use td_num::items::Items;
 
 fn kind_at(bytes: &[u8]) -> Result<(u8, &[u8]), ReadError>
-    ensures { Reads (λ x. (x.0, x.1.now)) result (format.kind.read bytes.now) }
+    ensures read { Reads (λ x. (x.0, x.1.now)) result (format.kind.read bytes.now) }
+    ensures decided { IsDecided result }
 {
     let (n, rest) = u8_at(bytes)?;
     if n <= LAST_KIND {
@@ -27,7 +28,8 @@ fn kind_at(bytes: &[u8]) -> Result<(u8, &[u8]), ReadError>
 
 // An operand that is zero where the kind hasn't it.
 fn u8_operand(used: bool, bytes: &[u8]) -> Result<(u8, &[u8]), ReadError>
-    ensures { Reads (λ x. (x.0, x.1.now)) result ((format.operand w8 used).read bytes.now) }
+    ensures read { Reads (λ x. (x.0, x.1.now)) result ((format.operand w8 used).read bytes.now) }
+    ensures decided { IsDecided result }
 {
     let (n, rest) = u8_at(bytes)?;
     if used || n == 0 {
@@ -38,7 +40,8 @@ fn u8_operand(used: bool, bytes: &[u8]) -> Result<(u8, &[u8]), ReadError>
 }
 
 fn u16_operand(used: bool, bytes: &[u8]) -> Result<(u16, &[u8]), ReadError>
-    ensures { Reads (λ x. (x.0, x.1.now)) result ((format.operand w16 used).read bytes.now) }
+    ensures read { Reads (λ x. (x.0, x.1.now)) result ((format.operand w16 used).read bytes.now) }
+    ensures decided { IsDecided result }
 {
     let (n, rest) = u16_at(bytes)?;
     if used || n == 0 {
@@ -49,7 +52,8 @@ fn u16_operand(used: bool, bytes: &[u8]) -> Result<(u16, &[u8]), ReadError>
 }
 
 fn u32_operand(used: bool, bytes: &[u8]) -> Result<(u32, &[u8]), ReadError>
-    ensures { Reads (λ x. (x.0, x.1.now)) result ((format.operand w32 used).read bytes.now) }
+    ensures read { Reads (λ x. (x.0, x.1.now)) result ((format.operand w32 used).read bytes.now) }
+    ensures decided { IsDecided result }
 {
     let (n, rest) = u32_at(bytes)?;
     if used || n == 0 {
@@ -60,7 +64,8 @@ fn u32_operand(used: bool, bytes: &[u8]) -> Result<(u32, &[u8]), ReadError>
 }
 
 fn u64_operand(used: bool, bytes: &[u8]) -> Result<(u64, &[u8]), ReadError>
-    ensures { Reads (λ x. (x.0, x.1.now)) result ((format.operand w64 used).read bytes.now) }
+    ensures read { Reads (λ x. (x.0, x.1.now)) result ((format.operand w64 used).read bytes.now) }
+    ensures decided { IsDecided result }
 {
     let (n, rest) = u64_at(bytes)?;
     if used || n == 0 {
@@ -72,7 +77,8 @@ fn u64_operand(used: bool, bytes: &[u8]) -> Result<(u64, &[u8]), ReadError>
 
 #[tactic(auto, unfolding(crate::specs::Image::fields))]
 fn fields_at(bytes: &[u8]) -> Result<(Fields, &[u8]), ReadError>
-    ensures { Reads (λ x. (x.0, x.1.now)) result (format.fields.read bytes.now) }
+    ensures read { Reads (λ x. (x.0, x.1.now)) result (format.fields.read bytes.now) }
+    ensures decided { IsDecided result }
 {
     let (number, rest) = kind_at(bytes)?;
     let (x, rest) = u8_operand(has_x(number), rest)?;
@@ -96,7 +102,8 @@ fn fields_at(bytes: &[u8]) -> Result<(Fields, &[u8]), ReadError>
 }
 
 fn instruction_at(bytes: &[u8]) -> Result<(Instr, &[u8]), ReadError>
-    ensures { Reads (λ x. (x.0, x.1.now)) result (format.instruction.read bytes.now) }
+    ensures read { Reads (λ x. (x.0, x.1.now)) result (format.instruction.read bytes.now) }
+    ensures decided { IsDecided result }
 {
     let (fields, rest) = fields_at(bytes)?;
     let instruction = instruction_of(fields);

@@ -1,9 +1,10 @@
 //! The header of an image, and its parts.
 
-ghost use Rattle.std.specs.Prelude.{◌≡◌};
+ghost use Rattle.std.specs.Prelude.{◌≡◌, OnOk, IfErr};
 ghost use Rattle.std.specs.Int.{w16, w32};
 ghost use Rattle.td_image.specs.Image as format;
-ghost use Rattle.td_image.specs.Reading.{Reads};
+ghost use Rattle.td_image.specs.Reading.{Reads, IsDecided, RanOut};
+ghost use Rattle.td_image.specs.Answer.{HasHeader};
 ghost use Rattle.td_image.specs.declared.limits.TheConstants.{MAGIC, VERSION};
 ghost use Rattle.td_image.specs.declared.fault.Cause.TheVariants.{Magic, Version, Field};
 
@@ -18,7 +19,8 @@ use std::alloc::Global;
 use td_ir::tables::Parts;
 
 fn magic_at(bytes: &[u8]) -> Result<&[u8], ReadError>
-    ensures { Reads (λ x. (tt, x.now)) result ((format.constant w32 Magic MAGIC).read bytes.now) }
+    ensures read { Reads (λ x. (tt, x.now)) result ((format.constant w32 Magic MAGIC).read bytes.now) }
+    ensures decided { IsDecided result }
 {
     let (n, rest) = u32_at(bytes)?;
     if n == MAGIC {
@@ -29,7 +31,8 @@ fn magic_at(bytes: &[u8]) -> Result<&[u8], ReadError>
 }
 
 fn version_at(bytes: &[u8]) -> Result<&[u8], ReadError>
-    ensures { Reads (λ x. (tt, x.now)) result ((format.constant w16 Version VERSION).read bytes.now) }
+    ensures read { Reads (λ x. (tt, x.now)) result ((format.constant w16 Version VERSION).read bytes.now) }
+    ensures decided { IsDecided result }
 {
     let (n, rest) = u16_at(bytes)?;
     if n == VERSION {
@@ -40,7 +43,8 @@ fn version_at(bytes: &[u8]) -> Result<&[u8], ReadError>
 }
 
 fn zeros_at(bytes: &[u8]) -> Result<&[u8], ReadError>
-    ensures { Reads (λ x. (tt, x.now)) result ((format.constant w16 Field 0).read bytes.now) }
+    ensures read { Reads (λ x. (tt, x.now)) result ((format.constant w16 Field 0).read bytes.now) }
+    ensures decided { IsDecided result }
 {
     let (n, rest) = u16_at(bytes)?;
     if n == 0 {
@@ -51,7 +55,8 @@ fn zeros_at(bytes: &[u8]) -> Result<&[u8], ReadError>
 }
 
 fn instruction_count(routines: u32, bytes: &[u8]) -> Result<(u32, &[u8]), ReadError>
-    ensures { Reads (λ x. (x.0, x.1.now)) result ((format.instruction_count routines).read bytes.now) }
+    ensures read { Reads (λ x. (x.0, x.1.now)) result ((format.instruction_count routines).read bytes.now) }
+    ensures decided { IsDecided result }
 {
     let (n, rest) = u32_at(bytes)?;
     if n <= MOST_INSTRUCTIONS && (0 < routines || n == 0) {
@@ -63,7 +68,8 @@ fn instruction_count(routines: u32, bytes: &[u8]) -> Result<(u32, &[u8]), ReadEr
 
 #[tactic(auto, unfolding(crate::specs::Image::header))]
 fn header_at(bytes: &[u8]) -> Result<(Counts, &[u8]), ReadError>
-    ensures { Reads (λ x. (x.0, x.1.now)) result (format.header.read bytes.now) }
+    ensures read { Reads (λ x. (x.0, x.1.now)) result (format.header.read bytes.now) }
+    ensures decided { IsDecided result }
 {
     let rest = magic_at(bytes)?;
     let rest = version_at(rest)?;
@@ -90,7 +96,9 @@ fn header_at(bytes: &[u8]) -> Result<(Counts, &[u8]), ReadError>
 /// The parts at the front, and the bytes behind them.
 #[tactic(auto, unfolding(crate::specs::Image::image))]
 pub(crate) fn parts_at(alloc: Global, bytes: &[u8]) -> Result<(Parts, &[u8]), ReadError>
-    ensures { Reads (λ x. (x.0, x.1.now)) result (format.image.read bytes.now) }
+    ensures read { Reads (λ x. (x.0, x.1.now)) result (format.image.read bytes.now) }
+    ensures header { OnOk result (HasHeader bytes.now) }
+    ensures memory { IfErr result (λ e. RanOut e → HasHeader bytes.now) }
 {
     let (counts, rest) = header_at(bytes)?;
     let (names, rest) = names_of(alloc, counts.names, rest)?;

@@ -3,7 +3,7 @@
 ghost use Rattle.std.specs.Prelude.{◌≡◌, ◌<◌, length};
 ghost use Rattle.td_image.specs.Format.{times};
 ghost use Rattle.td_image.specs.Image as format;
-ghost use Rattle.td_image.specs.Reading.{Reads};
+ghost use Rattle.td_image.specs.Reading.{Reads, IsDecided};
 
 use crate::fault::{Cause, ReadError};
 use crate::fields::{name_place, place, u16_between, u16_up_to, u32_at, wrong};
@@ -38,7 +38,8 @@ fn after_routine(room: Room, routine: Routine) -> Room
 }
 
 fn length_of(room: Room, bytes: &[u8]) -> Result<(u32, &[u8]), ReadError>
-    ensures { Reads (λ x. (x.0, x.1.now)) result ((format.routine_length room).read bytes.now) }
+    ensures read { Reads (λ x. (x.0, x.1.now)) result ((format.routine_length room).read bytes.now) }
+    ensures decided { IsDecided result }
 {
     let (n, rest) = u32_at(bytes)?;
     if is_length(room, n) {
@@ -50,7 +51,8 @@ fn length_of(room: Room, bytes: &[u8]) -> Result<(u32, &[u8]), ReadError>
 
 #[tactic(auto, unfolding(crate::specs::Image::routine))]
 fn routine_of(names: usize, room: Room, bytes: &[u8]) -> Result<(Routine, &[u8]), ReadError>
-    ensures { Reads (λ x. (x.0, x.1.now)) result ((format.routine names room).read bytes.now) }
+    ensures read { Reads (λ x. (x.0, x.1.now)) result ((format.routine names room).read bytes.now) }
+    ensures decided { IsDecided result }
 {
     let (name, rest) = name_place(bytes, names)?;
     let (params, rest) = u16_up_to(rest, MOST_PARAMETERS)?;
@@ -112,7 +114,8 @@ fn width_of(bits: u32) -> Width
 }
 
 fn width_at(bytes: &[u8]) -> Result<(Width, &[u8]), ReadError>
-    ensures { Reads (λ x. (x.0, x.1.now)) result (format.width.read bytes.now) }
+    ensures read { Reads (λ x. (x.0, x.1.now)) result (format.width.read bytes.now) }
+    ensures decided { IsDecided result }
 {
     let (bits, rest) = u32_at(bytes)?;
     if is_width(bits) {
@@ -124,7 +127,8 @@ fn width_at(bytes: &[u8]) -> Result<(Width, &[u8]), ReadError>
 
 #[tactic(auto, unfolding(crate::specs::Image::param))]
 fn param_of(names: usize, bytes: &[u8]) -> Result<(Param, &[u8]), ReadError>
-    ensures { Reads (λ x. (x.0, x.1.now)) result ((format.param names).read bytes.now) }
+    ensures read { Reads (λ x. (x.0, x.1.now)) result ((format.param names).read bytes.now) }
+    ensures decided { IsDecided result }
 {
     let (name, rest) = name_place(bytes, names)?;
     let (width, rest) = width_at(rest)?;
@@ -161,7 +165,8 @@ fn field_of(n: u32) -> Option<NameId>
 }
 
 fn field_at(names: usize, bytes: &[u8]) -> Result<(Option<NameId>, &[u8]), ReadError>
-    ensures { Reads (λ x. (x.0, x.1.now)) result ((format.cell_field names).read bytes.now) }
+    ensures read { Reads (λ x. (x.0, x.1.now)) result ((format.cell_field names).read bytes.now) }
+    ensures decided { IsDecided result }
 {
     let (n, rest) = u32_at(bytes)?;
     if (n as usize) < names || n == NO_FIELD {
@@ -182,7 +187,8 @@ fn kind_of(bits: u32) -> CellKind
 }
 
 fn kind_at(bytes: &[u8]) -> Result<(CellKind, &[u8]), ReadError>
-    ensures { Reads (λ x. (x.0, x.1.now)) result (format.cell_kind.read bytes.now) }
+    ensures read { Reads (λ x. (x.0, x.1.now)) result (format.cell_kind.read bytes.now) }
+    ensures decided { IsDecided result }
 {
     let (bits, rest) = u32_at(bytes)?;
     if bits == 0 || is_width(bits) {
@@ -194,7 +200,8 @@ fn kind_at(bytes: &[u8]) -> Result<(CellKind, &[u8]), ReadError>
 
 #[tactic(auto, unfolding(crate::specs::Image::cell))]
 fn cell_of(names: usize, bytes: &[u8]) -> Result<(Cell, &[u8]), ReadError>
-    ensures { Reads (λ x. (x.0, x.1.now)) result ((format.cell names).read bytes.now) }
+    ensures read { Reads (λ x. (x.0, x.1.now)) result ((format.cell names).read bytes.now) }
+    ensures decided { IsDecided result }
 {
     let (name, rest) = name_place(bytes, names)?;
     let (field, rest) = field_at(names, rest)?;

@@ -4,7 +4,7 @@ ghost use Rattle.std.specs.Prelude.{◌≡◌};
 ghost use Rattle.std.specs.Int.{w32};
 ghost use Rattle.td_image.specs.Format.{number, times};
 ghost use Rattle.td_image.specs.Image as format;
-ghost use Rattle.td_image.specs.Reading.{Reads};
+ghost use Rattle.td_image.specs.Reading.{Reads, IsDecided};
 
 use crate::fault::{Cause, ReadError};
 use crate::fields::{name_place, text_at, u32_at, u64_at, up_to, wrong};
@@ -16,10 +16,11 @@ use td_names::names::Names;
 use td_num::items::Items;
 use td_num::text::Text;
 
-/// A name that wasn't seen before.
+// A name that wasn't seen before, as it stands in the bytes. Takes no memory.
 #[tactic(auto, unfolding(crate::specs::Image::name))]
-fn name_of<'a>(alloc: Global, seen: &Names, bytes: &'a [u8]) -> Result<(Text, &'a [u8]), ReadError>
-    ensures { Reads (λ x. (x.0, x.1.now)) result ((format.name seen.now).read bytes.now) }
+fn name_at<'a>(seen: &Names, bytes: &'a [u8]) -> Result<(&'a [u8], &'a [u8]), ReadError>
+    ensures read { Reads (λ x. (x.0.now, x.1.now)) result ((format.name seen.now).read bytes.now) }
+    ensures decided { IsDecided result }
 {
     let (n, rest) = u32_at(bytes)?;
     if n < 1 {
@@ -27,11 +28,19 @@ fn name_of<'a>(alloc: Global, seen: &Names, bytes: &'a [u8]) -> Result<(Text, &'
     }
     let (text, after) = text_at(rest, n as usize)?;
     if is_name(text) && !seen.contains(text) {
-        let name = Text::copy_of(alloc, text)?;
-        Ok((name, after))
+        Ok((text, after))
     } else {
         Err(wrong(Cause::Field, rest))
     }
+}
+
+// A name that wasn't seen before.
+fn name_of<'a>(alloc: Global, seen: &Names, bytes: &'a [u8]) -> Result<(Text, &'a [u8]), ReadError>
+    ensures { Reads (λ x. (x.0, x.1.now)) result ((format.name seen.now).read bytes.now) }
+{
+    let (text, rest) = name_at(seen, bytes)?;
+    let name = Text::copy_of(alloc, text)?;
+    Ok((name, rest))
 }
 
 pub(crate) fn names_of(
@@ -55,7 +64,8 @@ pub(crate) fn names_of(
 
 #[tactic(auto, unfolding(crate::specs::Image::site))]
 fn site_of(bytes: &[u8], names: usize) -> Result<(Site, &[u8]), ReadError>
-    ensures { Reads (λ x. (x.0, x.1.now)) result ((format.site names).read bytes.now) }
+    ensures read { Reads (λ x. (x.0, x.1.now)) result ((format.site names).read bytes.now) }
+    ensures decided { IsDecided result }
 {
     let (ty, rest) = name_place(bytes, names)?;
     let (field, rest) = name_place(rest, names)?;
@@ -130,7 +140,8 @@ fn rises(last: Option<u64>, n: u64) -> bool
 }
 
 fn element_of(last: Option<u64>, bytes: &[u8]) -> Result<(u64, &[u8]), ReadError>
-    ensures { Reads (λ x. (x.0, x.1.now)) result ((format.element last).read bytes.now) }
+    ensures read { Reads (λ x. (x.0, x.1.now)) result ((format.element last).read bytes.now) }
+    ensures decided { IsDecided result }
 {
     let (n, rest) = u64_at(bytes)?;
     if rises(last, n) {

@@ -7,14 +7,14 @@ use td_num::text::Text;
 
 /// What a frame of a trace names: a type and one of its fields. A field's name that is `where` or `switch` stands for
 /// the `where` clause or the switch value of the type (no field has such a name, since these are keywords).
-#[derive(Clone, Copy, PartialEq, Eq, Debug)]
+#[derive(Clone, Copy, PartialEq, Eq)]
 pub struct Site {
     pub ty: NameId,
     pub field: NameId,
 }
 
 /// A stretch of the instructions. It runs on registers, the first of which are its value parameters, and on cells.
-#[derive(Clone, Copy, PartialEq, Eq, Debug)]
+#[derive(Clone, Copy, PartialEq, Eq)]
 pub struct Routine {
     pub name: NameId,
     pub params: u16,
@@ -25,7 +25,7 @@ pub struct Routine {
 }
 
 /// A routine that may be run from outside, with the names and widths of its parameters and cells.
-#[derive(Debug, Drop)]
+#[derive(Drop)]
 pub struct EntryPoint {
     pub routine: u32,
     pub params: Items<Param>,

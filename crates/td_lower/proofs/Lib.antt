@@ -1,8 +1,8 @@
-mod Standing
+pub mod Standing
 mod Tabling
-mod Places
+pub mod Places
 mod Codes
 mod Rising
-mod Rooms
-mod Heights
+pub mod Rooms
+pub mod Heights
 mod Lowers

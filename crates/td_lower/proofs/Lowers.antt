@@ -10,7 +10,7 @@ use Rattle.td_verify.specs.Verify.{IsSound}
 use Rattle.td_blocks.specs.Lowered.{first_site}
 use Rattle.td_blocks.specs.Placed.{IsPlaced, HasPlaced, ArePlaced}
 use Rattle.td_blocks.specs.Tops.{definition_levels}
-use Rattle.td_acceptance.specs.Modules.{IsAdmissible, OperandsFit}
+use Rattle.td_acceptance.specs.Modules.{IsAdmissible, IsNoHeavier, OperandsFit}
 use Rattle.td_lowered.specs.CodeRun.{IsCodeOf}
 use Rattle.td_lower.specs.Code.{unit_in, units_of, IsWritten, HasRoomFor, IsLowerable, MeansModule, HasLaws}
 use Rattle.td_lower.proofs.Codes.{got, there, each_at, routine_at, is_code, is_laid, is_tabled, is_supplied}
@@ -66,6 +66,11 @@ module _ (laws : HasLaws) (c : Parts) (m : Module) (w : IsWritten c m) (l : IsLo
   pub sound : IsSound c
   sound =
       laws.accepted c (units_of m) m (admissible m l) (is_laid c m w l.whole l.named l.words laws.laying laws.code) (is_tabled c m w l.whole l.named l.words laws.laying laws.code) placed
+      (is_supplied c m w l.whole l.named l.words laws.laying laws.code)
+
+  pub no_heavier : IsNoHeavier c m
+  no_heavier =
+      laws.light c (units_of m) m (admissible m l) (is_laid c m w l.whole l.named l.words laws.laying laws.code) (is_tabled c m w l.whole l.named l.words laws.laying laws.code) placed
       (is_supplied c m w l.whole l.named l.words laws.laying laws.code)
 
   pub code_of : IsCodeOf c m

@@ -15,7 +15,7 @@ use Rattle.td_ir.specs.Run.{run}
 use Rattle.td_lowered.specs.CodeRun.{IsMeaning, CodeMeans}
 use Rattle.td_placed.specs.Ready.{IsReady, DefinitionsArePlaced}
 use Rattle.td_acceptance.specs.Laws.{BlocksHaveCode}
-use Rattle.td_acceptance.specs.Modules.{ModulesAreAccepted}
+use Rattle.td_acceptance.specs.Modules.{ModulesAreAccepted, ModulesAreLight}
 use Rattle.td_ir.specs.declared.instructions.Instr.{Instr}
 use Rattle.td_ir.specs.declared.tables.Routine.{Routine}
 use Rattle.td_ir.specs.declared.tables.Parts.{Parts}
@@ -92,5 +92,6 @@ pub record HasLaws : Type 0 where
   pub laying : LayingOut
   pub code : BlocksHaveCode
   pub accepted : ModulesAreAccepted
+  pub light : ModulesAreLight
   pub placed : DefinitionsArePlaced
   pub means : CodeMeans

@@ -2,13 +2,16 @@
 
 ghost use Rattle.std.specs.Prelude.{◌≡◌, IfOk};
 ghost use Rattle.td_lowered.specs.CodeRun.{IsCodeOf};
+ghost use Rattle.td_acceptance.specs.Modules.{IsNoHeavier};
 ghost use Rattle.td_lower.specs.Code.{IsWritten, IsLowerable, MeansModule, HasLaws};
 
 use crate::routines::write_routines;
 use crate::sets::sets_of;
 use crate::tables::{names_of, push_entries, push_maps, push_sites};
 use std::alloc::{AllocError, Global};
-use td_acceptance::laws::{blocks_have_code, modules_are_accepted, operands_fit};
+use td_acceptance::laws::{
+    blocks_have_code, modules_are_accepted, modules_are_light, operands_fit,
+};
 use td_blocks::laws::laying_out;
 use td_core::module::{Module, NameId};
 use td_emit::writer::Writer;
@@ -65,17 +68,20 @@ fn laws()
     laying_out();
     blocks_have_code();
     modules_are_accepted();
+    modules_are_light();
     definitions_are_placed();
     code_means();
 }
 
 /// The code of a checked module: its definitions' routines in their order, its entry points, and the tables that they name.
-/// The verifier accepts it, and from each entry point it does what the module means. `AllocError`: there was no memory for it.
+/// The verifier accepts it, from each entry point it does what the module means, and each routine weighs no more than the
+/// definition whose code it is. `AllocError`: there was no memory for it.
 pub fn lower(alloc: Global, m: &Module) -> Result<Verified, AllocError>
     requires { IsLowerable m.now }
     ensures written { IfOk result (λ code. IsWritten code m.now) }
     ensures code { IfOk result (λ code. IsCodeOf code m.now) }
     ensures means { IfOk result (λ code. MeansModule code m.now) }
+    ensures weight { IfOk result (λ code. IsNoHeavier code m.now) }
 {
     laws();
     let parts = parts_of(alloc, m)?;

@@ -8,7 +8,7 @@ use Rattle.td_ir.specs.Tables.{lengths_of, begin}
 use Rattle.td_verify.specs.Brackets.{shape_at, opened}
 use Rattle.td_verify.specs.Ways.{IsIdle, IdleWay, CanReturn, MayBeEmpty}
 use Rattle.td_verify.specs.Marks.{IsEmptyBy}
-use Rattle.td_verify.specs.Rules.{TurnsBusy, KeepsNesting, deepest}
+use Rattle.td_verify.specs.Rules.{TurnsBusy, KeepsNesting, deepest, weigh}
 use Rattle.td_verify.specs.Verify.{KeepsBy, Keeps, depths, weights}
 use Rattle.td_verify.specs.declared.bracket.Bracket.{Bracket}
 use Rattle.td_verify.specs.declared.rule.Rule.{Rule}
@@ -90,6 +90,10 @@ empty_next s ls n es b size summary new m = ⊎_elim
 pub length_depths : (s : List Shape) (ls : List ℕ) (n : ℕ) → length (depths s ls n) ≡ n
 length_depths s ls zero = refl
 length_depths s ls (suc n) = let h = length_depths s ls n in length-append (depths s ls n) ((deepest s (depths s ls n) (begin ls n) (slice_index ls n) + 1) ∷ []) ∙ omega (arith, h)
+
+pub length_weights : (s : List Shape) (ls : List ℕ) (n : ℕ) → length (weights s ls n) ≡ n
+length_weights s ls zero = refl
+length_weights s ls (suc n) = let h = length_weights s ls n in length-append (weights s ls n) (weigh s (weights s ls n) (begin ls n) (slice_index ls n) ∷ []) ∙ omega (arith, h)
 
 pub light_next : (ws : List ℕ) (w b : ℕ) → ((m : ℕ) → slice_index ws m ≤ b) → w ≤ b → (m : ℕ) → slice_index (ws ++ w ∷ []) m ≤ b
 light_next [] w b h l zero = l

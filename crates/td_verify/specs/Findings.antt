@@ -1,5 +1,5 @@
 -- What the verifier keeps while it goes through the routines, and what it says of one.
-use Rattle.std.specs.Prelude.{◌≡◌, ℕ, suc, ◌+◌, ◌-◌, ◌^◌, ◌<◌, ◌≤◌, ◌↔◌, true, List, length, slice_index, Option, Some, None, []}
+use Rattle.std.specs.Prelude.{◌≡◌, ℕ, suc, ◌+◌, ◌-◌, ◌^◌, ◌<◌, ◌≤◌, ◌↔◌, true, List, length, slice_index, Option, Some, None, [], vec_capacity}
 use Rattle.td_ir.specs.declared.tables.Parts.{Parts}
 use Rattle.td_ir.specs.Tables.{routine_of, map_of, lengths_of, begin}
 use Rattle.td_verify.specs.Shape.{shapes_of}
@@ -12,11 +12,10 @@ use Rattle.td_verify.specs.Operands.{AreBelow}
 use Rattle.td_verify.specs.Verify.{KeepsBy, Keeps, KeepsAll, BreaksFirst, IsIn, depths, weights}
 use Rattle.td_verify.specs.declared.rule.Rule.{Rule}
 use Rattle.td_verify.specs.declared.rule.Breach.{Breach}
-use Rattle.td_verify.specs.declared.rule.VerifyError.{VerifyError}
-use Rattle.td_verify.specs.declared.rule.VerifyError.TheVariants as error
 use Rattle.td_verify.specs.declared.routine.Known.{Known}
 use Rattle.td_verify.specs.declared.routine.Summary.{Summary}
 use Rattle.td_verify.specs.declared.verify.Findings.{Findings}
+use Rattle.td_verify.specs.declared.verify.Room.{Room}
 
 -- parts of which the routines divide the instructions, each has some, and each has registers for its parameters
 pub record IsDivided (c : Parts) : Type 0 where
@@ -74,6 +73,12 @@ pub record AreFindings (c : Parts) (n : ℕ) (f : Findings) : Type 0 where
   pub empties : (m : ℕ) → IsEmptyBy f.empties.items m ↔ MayBeEmpty (shapes_of c) (lengths_of c) n m
   pub tops : AreTops c f.tops.items (length c.maps)
 
+-- room for the summaries of all routines
+pub record HasSpace (c : Parts) (f : Findings) : Type 0 where
+  pub depths : length c.routines ≤ vec_capacity f.depths
+  pub weights : length c.routines ≤ vec_capacity f.weights
+  pub empties : length c.routines ≤ vec_capacity f.empties
+
 -- routine n was passed, which ends at a place
 pub record HasPassed (c : Parts) (n : ℕ) (f : Findings) (to : ℕ) : Type 0 where
   pub findings : AreFindings c (suc n) f
@@ -87,6 +92,9 @@ pub record IsFirstIn (c : Parts) (n : ℕ) (e : Breach) : Type 0 where
   pub breaks : BreaksFirst (Keeps c n e.at) e.rule
   pub kept_before : (p : ℕ) → IsIn c n p → p < e.at → KeepsAll (Keeps c n p)
 
-abbrev pub FailsIn : Parts → ℕ → VerifyError → Type 0
-FailsIn c n error.NoMemory = Unit {0}
-FailsIn c n (error.Breaks e) = IsFirstIn c n e
+-- what is known of parts before their first routine is looked at, and room for all that is found
+pub record IsRoomFor (c : Parts) (r : Room) : Type 0 where
+  pub shapes : r.shapes.items ≡ shapes_of c
+  pub size : length r.marks.items ≡ length (shapes_of c)
+  pub findings : AreFindings c 0 r.findings
+  pub space : HasSpace c r.findings

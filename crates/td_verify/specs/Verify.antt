@@ -78,6 +78,14 @@ abbrev pub IsRightError : Parts → VerifyError → Type 0
 IsRightError c error.NoMemory = Unit {0}
 IsRightError c (error.Breaks breach) = IsFirst c breach.rule breach.at
 
+-- the answer where there was memory: the first instruction that breaks a rule, of code that is handed back as it was
+abbrev pub IsBroken : Parts → VerifyError → Type 0
+IsBroken c error.NoMemory = ⊥
+IsBroken c (error.Breaks breach) = IsFirst c breach.rule breach.at
+
+abbrev pub IsNamed : Parts → Parts × VerifyError → Type 0
+IsNamed c r = (r.0 ≡ c) × IsBroken c r.1
+
 -- handed back as it was
 abbrev pub IsHandedBack : Parts → Parts × VerifyError → Type 0
 IsHandedBack c r = (r.0 ≡ c) × IsRightError c r.1

@@ -1,19 +1,19 @@
 //! The verifier.
 
-ghost use Rattle.std.specs.Prelude.{◌≡◌, ◌+◌, ◌<◌, length, IfOk, IfErr, OnOk, map, [], ◌∷◌, ◌++◌, Some};
+ghost use Rattle.std.specs.Prelude.{◌≡◌, ◌+◌, ◌<◌, length, IfOk, IfErr, OnOk, map, [], ◌∷◌, ◌++◌, Some, vec_capacity};
 ghost use Rattle.td_ir.specs.Tables.{lengths_of, begin};
 ghost use Rattle.td_ir.specs.WellFormed.{IsCode};
 ghost use Rattle.td_verify.specs.Shape.{shape, shapes_of};
 ghost use Rattle.td_verify.specs.Brackets.{opened};
 ghost use Rattle.td_verify.specs.Contexts.{AreContexts};
-ghost use Rattle.td_verify.specs.Verify.{IsSound, IsRightError, IsHandedBack};
-ghost use Rattle.td_verify.specs.Findings.{IsDivided, AreFindings, HasPassed, FailsIn};
+ghost use Rattle.td_verify.specs.Verify.{IsSound, IsFirst, IsNamed, IsHandedBack};
+ghost use Rattle.td_verify.specs.Findings.{IsDivided, AreFindings, HasSpace, HasPassed, IsFirstIn, IsRoomFor};
 
 use crate::bracket::Innermost;
 use crate::contexts::fill;
 use crate::operands::{routine_at, tops};
 use crate::routine::{Known, Summary, check_routine};
-use crate::rule::VerifyError;
+use crate::rule::{Breach, VerifyError};
 use crate::shape::{Shape, shape_of};
 use std::alloc::{AllocError, Global};
 use std::marker::Model;
@@ -22,7 +22,7 @@ use td_ir::instructions::Instr;
 use td_ir::tables::Parts;
 
 /// What the verifier has found: what is open before each instruction, of each routine so far its depth, its weight and
-/// whether it may take no byte, and of each cell map one more than its greatest number.
+/// whether it may take no byte, with room for all routines, and of each cell map one more than its greatest number.
 #[derive(Drop)]
 pub struct Findings {
     contexts: Vec<Innermost>,
@@ -79,18 +79,23 @@ fn contexts(alloc: Global, shapes: &[Shape]) -> Result<Vec<Innermost>, AllocErro
     Ok(contexts)
 }
 
-// Keeps the summary of the next routine.
-fn note(findings: &mut Findings, summary: Summary) -> Result<(), AllocError>
+// Keeps the summary of the next routine, for which there is room.
+fn note(findings: &mut Findings, summary: Summary)
+    requires depth_room { length findings.old.depths.items < vec_capacity findings.old.depths }
+    requires weight_room { length findings.old.weights.items < vec_capacity findings.old.weights }
+    requires empty_room { length findings.old.empties.items < vec_capacity findings.old.empties }
     ensures contexts { findings.new.contexts.items ≡ findings.old.contexts.items }
     ensures tops { findings.new.tops.items ≡ findings.old.tops.items }
-    ensures depths { OnOk result (findings.new.depths.items ≡ findings.old.depths.items ++ summary.depth ∷ []) }
-    ensures weights { OnOk result (findings.new.weights.items ≡ findings.old.weights.items ++ summary.weight ∷ []) }
-    ensures empties { OnOk result (findings.new.empties.items ≡ findings.old.empties.items ++ summary.empty ∷ []) }
+    ensures depths { findings.new.depths.items ≡ findings.old.depths.items ++ summary.depth ∷ [] }
+    ensures weights { findings.new.weights.items ≡ findings.old.weights.items ++ summary.weight ∷ [] }
+    ensures empties { findings.new.empties.items ≡ findings.old.empties.items ++ summary.empty ∷ [] }
+    ensures depth_space { vec_capacity findings.new.depths ≡ vec_capacity findings.old.depths }
+    ensures weight_space { vec_capacity findings.new.weights ≡ vec_capacity findings.old.weights }
+    ensures empty_space { vec_capacity findings.new.empties ≡ vec_capacity findings.old.empties }
 {
-    findings.depths.push(summary.depth)?;
-    findings.weights.push(summary.weight)?;
-    findings.empties.push(summary.empty)?;
-    Ok(())
+    findings.depths.push_reserved(summary.depth);
+    findings.weights.push_reserved(summary.weight);
+    findings.empties.push_reserved(summary.empty);
 }
 
 // Goes through routine `n` and keeps what it finds; answers where it ends.
@@ -101,17 +106,19 @@ fn pass(
     findings: &mut Findings,
     n: usize,
     from: usize,
-) -> Result<usize, VerifyError>
+) -> Result<usize, Breach>
     requires divided { IsDivided parts.now }
     requires routine { n < length parts.now.routines }
     requires from { from ≡ begin (lengths_of parts.now) n }
     requires shapes { shapes.now ≡ shapes_of parts.now }
     requires size { length marks.old ≡ length shapes.now }
     requires findings { AreFindings parts.now n findings.old }
+    requires space { HasSpace parts.now findings.old }
     requires opens { opened shapes.now from ≡ Some [] }
     ensures size { length marks.new ≡ length marks.old }
+    ensures space { OnOk result (HasSpace parts.now findings.new) }
     ensures passed { IfOk result (λ to. HasPassed parts.now n findings.new to) }
-    ensures fails { IfErr result (λ r. FailsIn parts.now n r) }
+    ensures fails { IfErr result (λ e. IsFirstIn parts.now n e) }
 {
     let end = from + routine_at(parts, n).length as usize;
     let known = Known {
@@ -124,11 +131,11 @@ fn pass(
         tops: &findings.tops,
     };
     match check_routine(&known, marks, n, from, end) {
-        Ok(summary) => match note(findings, summary) {
-            Ok(()) => Ok(end),
-            Err(_) => Err(VerifyError::NoMemory),
-        },
-        Err(breach) => Err(VerifyError::Breaks(breach)),
+        Ok(summary) => {
+            note(findings, summary);
+            Ok(end)
+        }
+        Err(breach) => Err(breach),
     }
 }
 
@@ -138,69 +145,111 @@ fn pass_all(
     shapes: &[Shape],
     marks: &mut [bool],
     findings: &mut Findings,
-) -> Result<(), VerifyError>
+) -> Result<(), Breach>
     requires divided { IsDivided parts.now }
     requires shapes { shapes.now ≡ shapes_of parts.now }
     requires size { length marks.old ≡ length shapes.now }
     requires findings { AreFindings parts.now 0 findings.old }
+    requires space { HasSpace parts.now findings.old }
     ensures sound { OnOk result (IsSound parts.now) }
-    ensures error { IfErr result (λ r. IsRightError parts.now r) }
+    ensures breach { IfErr result (λ e. IsFirst parts.now e.rule e.at) }
 {
     let mut from = 0;
     for n in 0..parts.routines.len() {
         match pass(parts, shapes, marks, findings, n, from) {
             Ok(to) => from = to,
-            Err(error) => return Err(error),
+            Err(breach) => return Err(breach),
         }
     }
     Ok(())
 }
 
-fn inspect(alloc: Global, parts: &Parts) -> Result<(), VerifyError>
-    requires { IsDivided parts.now }
-    ensures sound { OnOk result (IsSound parts.now) }
-    ensures error { IfErr result (λ r. IsRightError parts.now r) }
+/// All that the verifier has beside the code: its shapes, room for marks, and for what is found.
+#[derive(Drop)]
+pub struct Room {
+    shapes: Vec<Shape>,
+    marks: Vec<bool>,
+    findings: Findings,
+}
+
+// All memory that is taken to look at parts, with what is known of them before their first routine is looked at.
+// `AllocError`: there was no memory for it.
+fn room_for(alloc: Global, parts: &Parts) -> Result<Room, AllocError>
+    ensures { IfOk result (λ room. IsRoomFor parts.now room) }
 {
-    let Ok(shapes) = shapes(alloc, parts.instructions.as_slice()) else {
-        return Err(VerifyError::NoMemory);
-    };
-    let Ok(contexts) = contexts(alloc, &shapes) else {
-        return Err(VerifyError::NoMemory);
-    };
-    let Ok(tops) = tops(alloc, parts) else {
-        return Err(VerifyError::NoMemory);
-    };
-    let Ok(mut marks) = vec![in alloc; false; shapes.len()] else {
-        return Err(VerifyError::NoMemory);
-    };
-    let mut findings = Findings {
+    let shapes = shapes(alloc, parts.instructions.as_slice())?;
+    let contexts = contexts(alloc, &shapes)?;
+    let tops = tops(alloc, parts)?;
+    let marks = vec![in alloc; false; shapes.len()]?;
+    let count = parts.routines.len();
+    let findings = Findings {
         contexts,
-        depths: Vec::new(alloc),
-        weights: Vec::new(alloc),
-        empties: Vec::new(alloc),
+        depths: Vec::with_capacity(alloc, count)?,
+        weights: Vec::with_capacity(alloc, count)?,
+        empties: Vec::with_capacity(alloc, count)?,
         tops,
     };
+    Ok(Room {
+        shapes,
+        marks,
+        findings,
+    })
+}
+
+// Whether all instructions keep all rules; else the first that breaks one. What it needs beside the parts was taken before.
+fn inspect(parts: &Parts, room: Room) -> Result<(), Breach>
+    requires divided { IsDivided parts.now }
+    requires room { IsRoomFor parts.now room }
+    ensures sound { OnOk result (IsSound parts.now) }
+    ensures breach { IfErr result (λ e. IsFirst parts.now e.rule e.at) }
+{
+    let Room {
+        shapes,
+        mut marks,
+        mut findings,
+    } = room;
     pass_all(parts, &shapes, &mut marks, &mut findings)
 }
 
-fn inspect_code(alloc: Global, code: &Code) -> Result<(), VerifyError>
+fn inspect_code(code: &Code, room: Room) -> Result<(), Breach>
+    requires { IsRoomFor code.now room }
     ensures sound { OnOk result (IsSound code.now) }
-    ensures error { IfErr result (λ r. IsRightError code.now r) }
+    ensures breach { IfErr result (λ e. IsFirst code.now e.rule e.at) }
 {
-    inspect(alloc, code.parts())
+    inspect(code.parts(), room)
+}
+
+fn room_for_code(alloc: Global, code: &Code) -> Result<Room, AllocError>
+    ensures { IfOk result (λ room. IsRoomFor code.now room) }
+{
+    room_for(alloc, code.parts())
+}
+
+// The answer to code, by room that was taken for it. Takes no memory, so it is never out of it.
+fn answer(code: Code, room: Room) -> Result<Verified, (Code, VerifyError)>
+    requires { IsRoomFor code room }
+    ensures same { IfOk result (λ verified. verified ≡ code) }
+    ensures sound { OnOk result (IsSound code) }
+    ensures refused { IfErr result (λ refusal. IsNamed code refusal) }
+{
+    match inspect_code(&code, room) {
+        Ok(()) => Ok(Verified { code }),
+        Err(breach) => Err((code, VerifyError::Breaks(breach))),
+    }
 }
 
 /// Accepts code exactly where each instruction keeps all rules. It takes time in proportion to the code, and memory for
-/// each instruction. `Breaks`: the first instruction that breaks a rule, with the lowest rule that it breaks; the code is
-/// handed back. `NoMemory`: there was no memory to look at it; the code is handed back.
+/// each instruction, all of it before the first rule is looked at. `Breaks`: the first instruction that breaks a rule, with
+/// the lowest rule that it breaks; the code is handed back. `NoMemory`: there was no memory to look at it; the code is
+/// handed back.
 pub fn verify(alloc: Global, code: Code) -> Result<Verified, (Code, VerifyError)>
     ensures same { IfOk result (λ verified. verified ≡ code) }
     ensures sound { OnOk result (IsSound code) }
     ensures refused { IfErr result (λ refusal. IsHandedBack code refusal) }
 {
-    match inspect_code(alloc, &code) {
-        Ok(()) => Ok(Verified { code }),
-        Err(error) => Err((code, error)),
+    match room_for_code(alloc, &code) {
+        Ok(room) => answer(code, room),
+        Err(_) => Err((code, VerifyError::NoMemory)),
     }
 }
 

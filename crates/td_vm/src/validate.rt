@@ -136,11 +136,20 @@ impl Frame {
         &self.cells[..self.count]
     }
 
-    /// The frames of the last validation's failure, the innermost first; none where it accepted.
+    /// The frames of the last validation's failure, the innermost first; none where it accepted. There are no more than the
+    /// frame has room for.
     pub fn trace(&self) -> &[TraceFrame]
-        ensures { result.now ≡ self.now.trace }
+        ensures frames { result.now ≡ self.now.trace }
+        ensures room { size_of result.now ≤ self.now.trace_room }
     {
         &self.trace.frames[..self.trace.count]
+    }
+
+    /// How many frames of a failure there is room for: as many as any failure has.
+    pub fn trace_room(&self) -> usize
+        ensures { result ≡ self.now.trace_room }
+    {
+        self.trace.frames.len()
     }
 
     /// The outcome of the last validation, which had this verdict: with the frame's trace and cells. Takes no memory.
@@ -182,6 +191,7 @@ pub fn validate<W: Words, L: Ledger>(
         → IsRun (W.loads words.new) (run code.now entry args.now frame.old.cells b)
         (record { verdict = result; trace = frame.new.trace; cells = frame.new.cells }) steps.old steps.new }
     ensures cost { steps.new ≤ steps.old + entry_weight code.now entry * (length + 1) }
+    ensures cell_count { size_of frame.new.cells ≡ size_of frame.old.cells }
     ensures armed { IsArmed code.now frame.new }
 {
     let parts = runnable(code);

@@ -15,3 +15,7 @@ returns-clause-behavior g c =
 pub returns-clause-run : goal.returns-clause-run
 returns-clause-run g c =
     λ b carries. (let r = c.validate.ensures.run b carries in record { outcome_is = r.outcome_is; exact = r.exact; counted = omega arith })
+
+pub returns-clause-cost : goal.returns-clause-cost
+returns-clause-cost g c =
+    λ b carries. (let r = c.validate.ensures.run b carries in let most = c.validate.ensures.cost in omega (arith, r.counted, most))

@@ -7,11 +7,11 @@ use Rattle.td_image.proofs.tables.numbers_of.Goals as goal
 pub returns-in_err-row : goal.returns-in_err-row
 returns-in_err-row c =
     let p = err_from_is_err_and c.from_residual.result c.from_residual.ensures.1 in
-    rw (p.1, p.2) (ends (λ (s : Unit {0}). number w32) (λ s x. s) c.in_err-row.field-0.0 c.loop.rows c.args.count c.loop.counter tt c.loop.rest.now ((times c.args.count (number w32)).read c.args.bytes.now) c.loop-test.true c.in_err-row.ensures c.loop.invariant)
+    rw (p.1, p.2) (ends (λ (s : Unit {0}). number w32) (λ s x. s) c.in_err-row.field-0.0 c.loop.rows c.args.count c.loop.counter tt c.loop.rest.now ((times c.args.count (number w32)).read c.args.bytes.now) c.loop-test.true c.in_err-row.ensures.read c.loop.invariant)
 
 pub loop-preserved : goal.loop-preserved
 loop-preserved c =
-    rw c.in_ok-push.ensures.ok (goes_on (λ (s : Unit {0}). number w32) (λ s x. s) c.loop.rows c.args.count c.loop.counter tt c.loop.rest.now c.in_ok-row.row c.in_ok-row.after.now ((times c.args.count (number w32)).read c.args.bytes.now) c.loop-test.true c.in_ok-row.ensures c.loop.invariant)
+    rw c.in_ok-push.ensures.ok (goes_on (λ (s : Unit {0}). number w32) (λ s x. s) c.loop.rows c.args.count c.loop.counter tt c.loop.rest.now c.in_ok-row.row c.in_ok-row.after.now ((times c.args.count (number w32)).read c.args.bytes.now) c.loop-test.true c.in_ok-row.ensures.read c.loop.invariant)
 
 pub returns : goal.returns
 returns c = is_done (λ (s : Unit {0}). number w32) (λ s x. s) c.loop.rows c.args.count c.loop.counter tt c.loop.rest.now ((times c.args.count (number w32)).read c.args.bytes.now) c.loop-test.false c.loop.invariant

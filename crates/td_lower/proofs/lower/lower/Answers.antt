@@ -4,7 +4,8 @@ use Rattle.td_ir.specs.declared.tables.Parts.{Parts}
 use Rattle.td_verify.specs.Verify.{IsSound}
 use Rattle.td_lowered.specs.CodeRun.{IsCodeOf}
 use Rattle.td_lower.specs.Code.{MeansModule}
-use Rattle.td_lower.proofs.Lowers.{code_fits, sound, code_of, means}
+use Rattle.td_acceptance.specs.Modules.{IsNoHeavier}
+use Rattle.td_lower.proofs.Lowers.{code_fits, sound, no_heavier, code_of, means}
 use Rattle.td_lower.proofs.lower.lower.Goals as goal
 
 pub verify_sound-requires : goal.verify_sound-requires
@@ -22,3 +23,8 @@ pub returns-clause-means : goal.returns-clause-means
 returns-clause-means c =
     IfOk-weaker c.verify_sound.result (λ code. code ≡ c.in-Ok.code) (λ code. MeansModule code c.args.m.now)
     (λ code h. subst (λ (x : Parts). MeansModule x c.args.m.now) (sym (h ∙ c.in-Ok.ensures.same)) (means c.laws.ensures c.in_ok-parts.parts c.args.m.now c.in_ok-parts.ensures c.requires)) c.verify_sound.ensures
+
+pub returns-clause-weight : goal.returns-clause-weight
+returns-clause-weight c =
+    IfOk-weaker c.verify_sound.result (λ code. code ≡ c.in-Ok.code) (λ code. IsNoHeavier code c.args.m.now)
+    (λ code h. subst (λ (x : Parts). IsNoHeavier x c.args.m.now) (sym (h ∙ c.in-Ok.ensures.same)) (no_heavier c.laws.ensures c.in_ok-parts.parts c.args.m.now c.in_ok-parts.ensures c.requires)) c.verify_sound.ensures

@@ -1,4 +1,5 @@
 use Rattle.std.proofs.Common.{◌≡◌, ℕ, suc, ◌+◌, ◌-◌, ◌^◌, ◌<◌, ◌≤◌, ◌↔◌, List, [], ◌∷◌, ◌++◌, Some, true, length, refl, sym, ap, subst, ◌∙◌, arith, length-append, slice_index}
+use Rattle.std.specs.Prelude.{vec_capacity}
 use Rattle.std.proofs.lemmas.List.{length-map}
 use Rattle.td_verify.specs.Shape.{shape, shapes_of}
 use Rattle.td_ir.specs.Tables.{lengths_of, routine_of, begin}
@@ -8,9 +9,9 @@ use Rattle.td_verify.specs.Ways.{MayBeEmpty, CanReturn}
 use Rattle.td_verify.specs.Marks.{IsEmptyBy}
 use Rattle.td_verify.specs.Rules.{deepest, weigh}
 use Rattle.td_verify.specs.Verify.{depths, weights, Keeps, KeepsBy}
-use Rattle.td_verify.specs.Findings.{AreTops, IsDivided, IsFirstIn, IsKnown, IsSummaryOf, FailsFirst, KeepsNow, AreFindings, HasPassed}
+use Rattle.td_verify.specs.Findings.{AreTops, IsDivided, IsFirstIn, IsKnown, IsSummaryOf, FailsFirst, KeepsNow, AreFindings, HasSpace, HasPassed}
 use Rattle.td_ir.proofs.Begins.{begin_next, begin_up, length_there}
-use Rattle.td_verify.proofs.Same.{to_keeps, from_keeps, empty_next, length_depths, light_next, returns_more}
+use Rattle.td_verify.proofs.Same.{to_keeps, from_keeps, empty_next, length_depths, length_weights, light_next, returns_more}
 use Rattle.td_ir.specs.declared.tables.Parts.{Parts}
 use Rattle.td_verify.specs.declared.shape.Shape.{Shape}
 use Rattle.td_verify.specs.declared.rule.Breach.{Breach}
@@ -121,15 +122,46 @@ check_routine-requires-clause-known c =
 pub check_routine-requires-clause-end : goal.check_routine-requires-clause-end
 check_routine-requires-clause-end c = within c.args.parts.now c.args.n c.args.from c.routine_at.result.length c.args.shapes.now c.requires.divided c.requires.routine c.requires.from c.requires.shapes (ap (λ r. r.length) c.routine_at.ensures)
 
-pub returns-in-Ok-note-clause-passed : goal.returns-in-Ok-note-clause-passed
-returns-in-Ok-note-clause-passed c =
+-- of n routines there is a summary, so there is room for one more
+pub note-requires-clause-depth_room : goal.note-requires-clause-depth_room
+note-requires-clause-depth_room c =
+    let f = c.requires.findings in
+    let count : length c.args.findings.now.depths.items ≡ c.args.n = ap length f.depths ∙ length_depths (shapes_of c.args.parts.now) (lengths_of c.args.parts.now) c.args.n in
+    let space = c.requires.space.depths in
+    let r = c.requires.routine in
+    omega (arith, count, space, r)
+
+pub note-requires-clause-weight_room : goal.note-requires-clause-weight_room
+note-requires-clause-weight_room c =
+    let f = c.requires.findings in
+    let count : length c.args.findings.now.weights.items ≡ c.args.n = ap length f.weights ∙ length_weights (shapes_of c.args.parts.now) (lengths_of c.args.parts.now) c.args.n in
+    let space = c.requires.space.weights in
+    let r = c.requires.routine in
+    omega (arith, count, space, r)
+
+pub note-requires-clause-empty_room : goal.note-requires-clause-empty_room
+note-requires-clause-empty_room c =
+    let count = c.requires.findings.size in
+    let space = c.requires.space.empties in
+    let r = c.requires.routine in
+    omega (arith, count, space, r)
+
+pub returns-in-Ok-clause-space : goal.returns-in-Ok-clause-space
+returns-in-Ok-clause-space c = record {
+  depths = subst (λ x. length c.args.parts.now.routines ≤ x) (sym c.note.ensures.depth_space) c.requires.space.depths;
+  weights = subst (λ x. length c.args.parts.now.routines ≤ x) (sym c.note.ensures.weight_space) c.requires.space.weights;
+  empties = subst (λ x. length c.args.parts.now.routines ≤ x) (sym c.note.ensures.empty_space) c.requires.space.empties;
+}
+
+pub returns-in-Ok-clause-passed : goal.returns-in-Ok-clause-passed
+returns-in-Ok-clause-passed c =
     let code = c.args.parts.now in
     let next : c.args.from + c.routine_at.result.length ≡ begin (lengths_of code) (suc c.args.n) = (let b = begin_next code c.args.n in let f = c.requires.from in let l : c.routine_at.result.length ≡ (routine_of code c.args.n).length = ap (λ r. r.length) c.routine_at.ensures in omega (arith, b, f, l)) in
     passed_here (record { parts = c.args.parts; shapes = c.args.shapes; contexts = c.deref.result; depths = c.deref-2.result; weights = c.deref-3.result; empties = c.deref-4.result; tops = c.deref-5.result })
     code c.args.shapes.now c.args.findings.now c.note.new.findings c.args.n c.args.from (c.args.from + c.routine_at.result.length) c.in-Ok.summary
     (refl, refl, c.deref.ensures.value, c.deref-2.ensures.value, c.deref-3.ensures.value, c.deref-4.ensures.value, c.deref-5.ensures.value) c.requires.shapes c.requires.findings c.requires.routine c.requires.from next
     (ap (λ x. c.args.from + x) (ap (λ r. r.length) c.routine_at.ensures)) c.in-Ok.ensures.ok
-    (record { contexts = c.note.ensures.contexts; tops = c.note.ensures.tops; depths = c.in-Ok-note.ensures.depths; weights = c.in-Ok-note.ensures.weights; empties = c.in-Ok-note.ensures.empties })
+    (record { contexts = c.note.ensures.contexts; tops = c.note.ensures.tops; depths = c.note.ensures.depths; weights = c.note.ensures.weights; empties = c.note.ensures.empties })
 
 pub returns-in-Err-clause-fails : goal.returns-in-Err-clause-fails
 returns-in-Err-clause-fails c =

@@ -3,17 +3,15 @@ use Rattle.std.proofs.lemmas.Bool.{cases_lt}
 use Rattle.td_ir.specs.declared.tables.Parts.{Parts}
 use Rattle.td_ir.specs.Tables.{lengths_of, begin}
 use Rattle.td_verify.specs.Brackets.{opened}
-use Rattle.td_verify.specs.Verify.{IsIn, Keeps, KeepsAll, IsRightError}
-use Rattle.td_verify.specs.Findings.{AreFindings, HasPassed, FailsIn}
+use Rattle.td_verify.specs.Verify.{IsIn, Keeps, KeepsAll, IsFirst}
+use Rattle.td_verify.specs.Findings.{AreFindings, HasPassed, IsFirstIn}
 use Rattle.td_ir.proofs.Begins.{begin_up}
-use Rattle.td_verify.specs.declared.rule.VerifyError.{VerifyError}
-use Rattle.td_verify.specs.declared.rule.VerifyError.TheVariants as error
+use Rattle.td_verify.specs.declared.rule.Breach.{Breach}
 use Rattle.td_verify.proofs.verify.pass_all.Goals as goal
 
 -- what breaks first in a routine breaks first of all, where those before it break nothing
-error_here : (c : Parts) (n : ℕ) (r : VerifyError) → ((m p : ℕ) → m < n → IsIn c m p → KeepsAll (Keeps c m p)) → FailsIn c n r → IsRightError c r
-error_here c n error.NoMemory before f = tt
-error_here c n (error.Breaks e) before f = record {
+first_here : (c : Parts) (n : ℕ) (e : Breach) → ((m p : ℕ) → m < n → IsIn c m p → KeepsAll (Keeps c m p)) → IsFirstIn c n e → IsFirst c e.rule e.at
+first_here c n e before f = record {
   routine = n;
   is_in = f.is_in;
   breaks = f.breaks;
@@ -32,8 +30,8 @@ sound_more c n before here m p l i = ⊎_elim
     (λ (le : n ≤ m). let same : m ≡ n = omega arith in subst (λ x. KeepsAll (Keeps c x p)) (sym same) (here p (subst (λ x. IsIn c x p) same i)))
     (cases_lt m n)
 
-pub returns-in-Err-clause-error : goal.returns-in-Err-clause-error
-returns-in-Err-clause-error c = error_here c.args.parts.now c.loop-n.n c.in-Err.error c.loop-n.invariant.sound c.in-Err.ensures.fails
+pub returns-in-Err-clause-breach : goal.returns-in-Err-clause-breach
+returns-in-Err-clause-breach c = first_here c.args.parts.now c.loop-n.n c.in-Err.breach c.loop-n.invariant.sound c.in-Err.ensures.fails
 
 pub loop-n-preserved : goal.loop-n-preserved
 loop-n-preserved c =
@@ -44,6 +42,7 @@ loop-n-preserved c =
       from_is = h.to_is ∙ ap (begin (lengths_of c.args.parts.now)) next;
       opens = subst (λ s. opened s c.in-Ok.to ≡ Some []) (sym c.requires.shapes) h.opens;
       findings = subst (λ x. AreFindings c.args.parts.now x c.pass.new.findings) next h.findings;
+      space = c.in-Ok.ensures.space;
       sound = sound_more c.args.parts.now c.loop-n.n c.loop-n.invariant.sound h.sound;
     }
 

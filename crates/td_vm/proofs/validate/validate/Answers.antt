@@ -1,4 +1,5 @@
 use Rattle.std.proofs.Common.{◌≡◌, ℕ, ◌+◌, ◌≤◌, List, ◌++◌, length, sym, ap, ◌∙◌, subst, arith, take, drop}
+use Rattle.std.proofs.lemmas.List.{length-take-le}
 use Rattle.td_core.specs.declared.outcome.Outcome.{Outcome}
 use Rattle.td_ir.specs.declared.tables.Parts.{Parts}
 use Rattle.td_ir.specs.declared.tables.EntryPoint.{EntryPoint}
@@ -48,3 +49,18 @@ returns-clause-run g c = λ b h.
     let last : List ℕ → Outcome = λ (l : List ℕ). record { verdict = c.run_front.result; trace = frames_of c.run_front.new.trace; cells = l } in
     subst (λ (x : Exit). IsRun loads x (last (take k (take c.frame.inside.cells.len (c.run_front.new.all ++ kept)))) a.steps.now c.run_front.new.steps) first
     (subst (λ l. IsRun loads (run_routine c.runnable-parts.result.now n a.args.now (take k all) b) (last l) a.steps.now c.run_front.new.steps) (sym front) (c.run_front.ensures.run b h))
+
+pub returns-clause-cell_count : goal.returns-clause-cell_count
+returns-clause-cell_count g c =
+    let V = c.frame.view_is in
+    let k = c.frame.inside.count in
+    let all = c.as_mut_slice-3.result.now in
+    let items = c.as_mut_slice-3.ensures.value in
+    let count : k ≤ length c.frame.inside.cells.items = c.frame.invariant.0 in
+    let long = ap length items in
+    let cells : c.args.frame.now.cells ≡ take k all = sym (ap (λ (x : FrameView). x.cells) V) ∙ ap (take k) (sym items) in
+    let kept : List ℕ = drop (length c.run_front.new.all) c.frame.inside.cells.items in
+    let front = front_kept k c.frame.inside.cells.len c.run_front.new.all kept (omega (arith, count, long, c.as_mut_slice-3.ensures.len)) (omega (arith, count, long, c.run_front.auto.all)) in
+    ap length front
+    ∙ length-take-le k c.run_front.new.all (omega (arith, count, long, c.run_front.auto.all))
+    ∙ sym (ap length cells ∙ length-take-le k all (omega (arith, count, long)))

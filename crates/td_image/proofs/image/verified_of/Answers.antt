@@ -1,0 +1,13 @@
+use Rattle.std.proofs.Common.{sym, subst}
+use Rattle.td_image.specs.declared.error.ImageError.{ImageError}
+use Rattle.td_image.specs.Answer as answer
+use Rattle.td_image.proofs.Answering.{verifier_told}
+use Rattle.td_image.proofs.image.verified_of.Goals as goal
+
+pub returns-clause-refused : goal.returns-clause-refused
+returns-clause-refused c =
+    subst (λ (e : ImageError). answer.IsRefused c.args.bytes.now e) (sym c.told.ensures)
+    (verifier_told c.args.bytes.now c.in_ok-code.code c.in-Err.error c.in_ok-code.ensures.found c.in-Err.ensures.refused.1)
+
+pub returns-clause-memory : goal.returns-clause-memory
+returns-clause-memory c = λ h. c.in_ok-code.ensures.header

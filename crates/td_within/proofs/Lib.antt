@@ -1,0 +1,16 @@
+mod Lists
+mod Blocks
+mod Values
+mod Fields
+mod Sizes
+mod Operands
+mod Sets
+mod Tables
+mod Words
+mod Tokens
+mod Sorts
+mod Steps
+mod Knowns
+mod Names
+mod Texts
+mod Codes

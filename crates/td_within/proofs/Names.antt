@@ -1,0 +1,143 @@
+-- The names of a module are no more than the nodes of its text, and no longer than the text.
+use Rattle.std.proofs.Common.{◌≡◌, ℕ, zero, suc, ◌+◌, ◌≤◌, Bool, true, false, if◌then◌else◌, cond, nat_lt, List, [], ◌∷◌, ◌++◌, length, Contains, Option, Some, None, refl, subst, arith, length-append}
+use Rattle.std.proofs.lemmas.Bool.{ltb-false}
+use Rattle.td_ast.specs.declared.token.Span.{Span}
+use Rattle.td_ast.specs.declared.token.Token.{Token}
+use Rattle.td_ast.specs.declared.fields.FieldTree.{FieldTree}
+use Rattle.td_ast.specs.declared.parameters.ParamTree.{ParamTree}
+use Rattle.td_ast.specs.declared.definitions.SlotTree.{SlotTree}
+use Rattle.td_ast.specs.declared.definitions.CaseTree.{CaseTree}
+use Rattle.td_ast.specs.declared.definitions.Def.{Def}
+use Rattle.td_ast.specs.declared.definitions.Def.TheVariants.{Define, Enum, Alias, Struct, Casetype, Output}
+use Rattle.td_ast.specs.declared.definitions.ModuleTree.{ModuleTree}
+use Rattle.td_lexer.specs.Splits.{Splits}
+use Rattle.td_grammar.specs.Definitions.{module_text}
+use Rattle.td_limits.specs.declared.limits.Limit.{Limit}
+use Rattle.td_limits.specs.declared.limits.Limit.TheVariants as limit
+use Rattle.td_limits.specs.declared.limits.Excess.{Excess}
+use Rattle.td_limits.specs.Excesses.{above, first_excess, definition_name}
+use Rattle.td_limits.specs.Nodes.{inner_nodes, fields_nodes, default_nodes, cases_nodes, definition_nodes}
+use Rattle.td_limits.specs.Counts.{most_fields, count_cases, count_params, definition_counts, count_excesses, counts_passed}
+use Rattle.td_core.specs.declared.module.Module.{Module}
+use Rattle.td_core.specs.WellFormed.{Each}
+use Rattle.td_names.specs.Names.{is_seen, with_name}
+use Rattle.td_rules.specs.Records.{with_slots}
+use Rattle.td_rules.specs.Modules.{StandsFor, param_name, see_params, see_fields, see_cases, see_default, see_definition, all_names, names_of}
+use Rattle.td_rules.specs.Written.{names_written}
+use Rattle.td_rules.specs.Laws.{NamesAreWritten}
+use Rattle.td_admitted.proofs.Fields.{sum_total}
+use Rattle.td_admitted.proofs.Names.{spelled_names}
+use Rattle.td_within.proofs.Tokens.{IsShort, splitting_short}
+use Rattle.td_within.proofs.Knowns.{all_nodes}
+
+-- ---- how many nodes
+
+none_both : (xs ys : List Excess) → first_excess (xs ++ ys) ≡ None → (first_excess xs ≡ None) × (first_excess ys ≡ None)
+none_both [] ys h = (refl, h)
+none_both (x ∷ xs) ys h = absurd cc
+
+not_above : (n m : ℕ) (l : Limit) (s : Span) → first_excess (above n m l s) ≡ None → m ≤ n
+not_above n m l s h = by (nat_lt n m) refl h
+  where
+    by : (b : Bool) → nat_lt n m ≡ b → first_excess (cond b (record { limit = l; span = s } ∷ []) []) ≡ None → m ≤ n
+    by true e k = absurd cc
+    by false e k = ltb-false n m e
+
+last_few : (n nodes : ℕ) (d : Def) → first_excess (definition_counts n nodes d) ≡ None → nodes ≤ 20000
+last_few n nodes d h =
+    let s = (definition_name d).span in
+    let a = none_both (above 1000 n limit.Definitions s) _ h in
+    let b = none_both (above 256 (most_fields d) limit.Fields s) _ a.1 in
+    let c = none_both (above 256 (count_cases d) limit.Cases s) _ b.1 in
+    let e = none_both (above 16 (count_params d) limit.Parameters s) _ c.1 in
+    not_above 20000 nodes limit.Nodes s e.1
+
+nodes_few : (n nodes : ℕ) (ds : List Def) → nodes ≤ 20000 → first_excess (count_excesses n nodes ds) ≡ None → nodes + all_nodes ds ≤ 20000
+nodes_few n nodes [] few h = omega (arith, few)
+nodes_few n nodes (d ∷ ds) few h =
+    let both = none_both (definition_counts (n + 1) (nodes + definition_nodes d) d) (count_excesses (n + 1) (nodes + definition_nodes d) ds) h in
+    let x = nodes_few (n + 1) (nodes + definition_nodes d) ds (last_few (n + 1) (nodes + definition_nodes d) d both.0) both.1 in
+    omega (arith, x)
+
+pub tree_few : (t : ModuleTree) → counts_passed t ≡ None → all_nodes t.definitions ≤ 20000
+tree_few t h = (let x = nodes_few 0 0 t.definitions (omega arith) h in omega (arith, x))
+
+-- ---- how many names
+
+with_count : (names : List (List ℕ)) (x : List ℕ) → length (with_name names x) ≤ 1 + length names
+with_count names x = by (is_seen names x)
+  where
+    by : (b : Bool) → length (if b then names else names ++ x ∷ []) ≤ 1 + length names
+    by true = omega arith
+    by false = (let a = length-append names (x ∷ []) in omega (arith, a))
+
+params_count : (names : List (List ℕ)) (ps : List ParamTree) → length (see_params names ps) ≤ length ps + length names
+params_count names [] = omega arith
+params_count names (p ∷ ps) = (let x = with_count names (param_name p).text in let y = params_count (with_name names (param_name p).text) ps in omega (arith, x, y))
+
+fields_count : (names : List (List ℕ)) (fs : List FieldTree) → length (see_fields names fs) ≤ fields_nodes fs + length names
+fields_count names [] = omega arith
+fields_count names (f ∷ fs) =
+    let x = with_count names f.name.text in
+    let y = fields_count (with_name names f.name.text) fs in
+    let a = sum_total (λ f. 1 + inner_nodes f) (f ∷ fs) in
+    let b = sum_total (λ f. 1 + inner_nodes f) fs in
+    omega (arith, x, y, a, b)
+
+cases_count : (names : List (List ℕ)) (cs : List CaseTree) → length (see_cases names cs) ≤ cases_nodes cs + length names
+cases_count names [] = omega arith
+cases_count names (c ∷ cs) =
+    let x = fields_count names c.fields in
+    let y = cases_count (see_fields names c.fields) cs in
+    let a = sum_total (λ c. 1 + fields_nodes c.fields) (c ∷ cs) in
+    let b = sum_total (λ c. 1 + fields_nodes c.fields) cs in
+    omega (arith, x, y, a, b)
+
+default_count : (names : List (List ℕ)) (o : Option (List FieldTree)) → length (see_default names o) ≤ default_nodes o + length names
+default_count names None = omega arith
+default_count names (Some fs) = fields_count names fs
+
+slots_count : (names : List (List ℕ)) (xs : List SlotTree) → length (with_slots names xs) ≤ length xs + length names
+slots_count names [] = omega arith
+slots_count names (x ∷ xs) = (let a = with_count names x.name.text in let b = slots_count (with_name names x.name.text) xs in omega (arith, a, b))
+
+definition_count : (names : List (List ℕ)) (d : Def) → length (see_definition names d) ≤ definition_nodes d + length names
+definition_count names (Define d) = omega arith
+definition_count names (Enum d) = omega arith
+definition_count names (Alias d) = omega arith
+definition_count names (Struct d) =
+    let a = params_count names d.head.params in
+    let b = fields_count (see_params names d.head.params) d.fields in
+    let c = with_count (see_fields (see_params names d.head.params) d.fields) d.name.text in
+    omega (arith, a, b, c)
+definition_count names (Casetype d) =
+    let seen = see_params names d.head.params in
+    let a = params_count names d.head.params in
+    let b = cases_count seen d.cases in
+    let c = default_count (see_cases seen d.cases) d.default in
+    let e = with_count (see_default (see_cases seen d.cases) d.default) d.name.text in
+    omega (arith, a, b, c, e)
+definition_count names (Output d) = (let a = slots_count names d.slots in omega (arith, a))
+
+all_count : (names : List (List ℕ)) (ds : List Def) → length (all_names names ds) ≤ all_nodes ds + length names
+all_count names [] = omega arith
+all_count names (d ∷ ds) = (let x = definition_count names d in let y = all_count (see_definition names d) ds in omega (arith, x, y))
+
+pub names_few : (t : ModuleTree) → length (names_of t) ≤ all_nodes t.definitions
+names_few t = (let x = all_count [] t.definitions in omega (arith, x))
+
+-- ---- how long they are
+
+module _ (P : List ℕ → Type 0) where
+  among : (xs : List (List ℕ)) (x : List ℕ) → Each P xs → Contains xs x → P x
+  among [] x h (k, lt, e) = absurd (omega (arith, lt))
+  among (y ∷ ys) x h (zero, lt, e) = subst P e h.0
+  among (y ∷ ys) x h (suc k, lt, e) = among ys x h.1 (k, omega (arith, lt), e)
+
+  all_among : (xs ys : List (List ℕ)) → Each P xs → Each (Contains xs) ys → Each P ys
+  all_among xs [] h c = tt
+  all_among xs (y ∷ ys) h c = (among xs y h c.0, all_among xs ys h c.1)
+
+pub names_short : NamesAreWritten → (text : List ℕ) (tokens : List Token) (t : ModuleTree) (m : Module) → Splits text tokens → module_text.Spells t tokens → StandsFor t m → Each (λ name. length name ≤ length text) m.names
+names_short written text tokens t m split spelled stands =
+    all_among (IsShort (length text)) (names_written t) m.names (spelled_names (IsShort (length text)) t tokens spelled (splitting_short text tokens split)) (written t m stands)

@@ -1,0 +1,38 @@
+-- The module of a text is small.
+use Rattle.std.proofs.Common.{◌≡◌, ◌^◌, ◌<◌, ◌≤◌, [], length, refl, sym, subst, arith}
+use Rattle.td_ast.specs.declared.definitions.ModuleTree.{ModuleTree}
+use Rattle.td_core.specs.WellFormed.{Each}
+use Rattle.td_rules.specs.Modules.{breaches, module_of}
+use Rattle.td_rules.specs.Laws.{NamesAreWritten}
+use Rattle.td_admitted.specs.Laws.{HasLimits}
+use Rattle.td_admitted.proofs.Within.{modules_are_within}
+use Rattle.td_within.specs.Small.{IsSmall}
+use Rattle.td_within.specs.Laws.{ModulesAreSmall}
+use Rattle.td_within.proofs.Lists.{each_map}
+use Rattle.td_within.proofs.Knowns.{tree_small}
+use Rattle.td_within.proofs.Names.{tree_few, names_few, names_short}
+
+small_tree : (t : ModuleTree) → HasLimits t → breaches t ≡ [] → Each (λ name. length name < 2 ^ 32) (module_of t).names → IsSmall (module_of t)
+small_tree t limits none short =
+    let few = tree_few t limits.counts in
+    let names = names_few t in
+    let own = tree_small t none in
+    let written = (modules_are_within t (module_of t) limits (none, refl)).written in
+    record {
+      names = omega (arith, names, few);
+      short = short;
+      enums = let x = own.enums in omega (arith, x, written);
+      values = let x = own.values in omega (arith, x, few);
+      entries = let x = own.entry_points in omega (arith, x, written);
+      numbers = own.numbers;
+      cases = own.cases;
+      steps = own.steps;
+    }
+
+pub modules_are_small : NamesAreWritten → ModulesAreSmall
+modules_are_small law text m short h =
+    let none = h.admitted.0.0.0.1 in
+    let limits : HasLimits h.tree = record { counts = h.admitted.0.0.0.0; sizes = h.admitted.1 } in
+    let names = names_short law text h.spells.tokens h.tree m h.spells.split h.spells.spelled (none, h.module_is) in
+    let few : Each (λ name. length name < 2 ^ 32) m.names = each_map (λ name. length name ≤ length text) (λ name. length name < 2 ^ 32) m.names (λ name l. omega (arith, l, short)) names in
+    subst IsSmall (sym h.module_is) (small_tree h.tree limits none (subst (λ x. Each (λ name. length name < 2 ^ 32) x.names) h.module_is few))
