@@ -1,1 +1,2 @@
 pub mod FillerLists
+pub mod Made

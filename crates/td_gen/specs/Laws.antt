@@ -6,3 +6,7 @@ use Rattle.td_gen.specs.Message.{IsMessage}
 -- one job is message n
 abbrev pub OneMessageEach : Type 0
 OneMessageEach = (n : ℕ) (a b : NamedJob) → IsMessage n a → IsMessage n b → a ≡ b
+
+-- some job is message n
+abbrev pub SomeMessageEach : Type 0
+SomeMessageEach = (n : ℕ) → (job : NamedJob) × IsMessage n job

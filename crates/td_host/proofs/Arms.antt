@@ -1,13 +1,12 @@
 -- How a host is armed.
 use Rattle.std.proofs.Common.{◌≡◌, ℕ, zero, suc, ◌+◌, ◌<◌, ◌≤◌, ◌^◌, true, false, List, [], ◌∷◌, ◌++◌, length, drop, refl, sym, ap, ◌∙◌, subst, arith, append_assoc, length-append}
-use Rattle.std.specs.Prelude.{slice_index_or}
+use Rattle.std.specs.Prelude.{slice_index_or, vec_capacity}
 use Rattle.std.specs.List.{All}
 use Rattle.std.proofs.lemmas.List.{drop_more, drop_all}
 use Rattle.std.proofs.lemmas.List.Elements.{All-contains, Contains-append_left, Contains-append_right, Contains-get_or}
 use Rattle.td_words.specs.Views.{new_seat, one_more}
 use Rattle.td_words.specs.Seats.{BufferState, HostState, with_view, seat_state}
 use Rattle.td_ring.specs.declared.post.Post.{Post}
-use Rattle.atomic_table.specs.Seated.{TableId}
 use Rattle.td_ring.specs.Ring.{PassState, RingState, pass_with, one_more_put, new_put, one_more_take, new_take}
 use Rattle.td_ring.specs.Tickets.{DrawerState, drawer_with, one_more as one_more_draw, new_seat as new_drawer}
 use Rattle.td_posts.specs.declared.job.Step.{Step}
@@ -20,6 +19,8 @@ use Rattle.td_host.specs.declared.actor.Actor.{Actor}
 use Rattle.td_host.specs.declared.actor.Actor.TheVariants as kind
 use Rattle.td_host.specs.declared.actor.Worker.{Worker}
 use Rattle.td_host.specs.declared.actor.Guest.{Guest}
+use Rattle.td_vm.specs.Frames.{IsArmed}
+use Rattle.td_host.specs.Actors.{Service}
 use Rattle.td_host.specs.Acting.{RoomsFor, StoresInside, post_of}
 use Rattle.td_host.specs.Gathered.{FreshWorker, FreshWorkers, FreshGuest, FreshGuests, WorkersSeated, GuestsSeated, Armed, host_at, posts_at, takes_at, draws_at}
 
@@ -124,37 +125,39 @@ module _ (names : Post → Type 0) (P : Mail → Type 0) (guest : ℕ) (whole : 
 
 -- ---- workers and guests
 module _ {G : Type 0} where
-  fresh-push : (shared : BufferState) (ring : RingState) (tickets : TableId) (opened : List ℕ) (ws : List (Actor G)) (w : Worker G) → FreshWorkers shared ring tickets opened ws → FreshWorker shared ring tickets opened w → FreshWorkers shared ring tickets opened (ws ++ kind.Worker w ∷ [])
+  fresh-push : (shared : BufferState) (ring : RingState) (service : Service) (opened : List ℕ) (ws : List (Actor G)) (w : Worker G) → FreshWorkers shared ring service opened ws → FreshWorker shared ring service opened w → FreshWorkers shared ring service opened (ws ++ kind.Worker w ∷ [])
   unfolding FreshWorkers
-  fresh-push shared ring tickets opened [] w f x = (x, tt)
-  fresh-push shared ring tickets opened (kind.Worker v ∷ ws) w f x = (f.0, fresh-push shared ring tickets opened ws w f.1 x)
-  fresh-push shared ring tickets opened (kind.Guest g ∷ ws) w f x = absurd f
+  fresh-push shared ring service opened [] w f x = (x, tt)
+  fresh-push shared ring service opened (kind.Worker v ∷ ws) w f x = (f.0, fresh-push shared ring service opened ws w f.1 x)
+  fresh-push shared ring service opened (kind.Guest g ∷ ws) w f x = absurd f
 
-  module _ (shared : BufferState) (ring : RingState) (tickets : TableId) (opened : List ℕ) where
-    pub no_worker : (seat : HostState) (takes : PassState) (drawer : DrawerState) (ws : List (Actor G)) → ws ≡ [] → seat ≡ host_at shared.table opened 0 → takes ≡ takes_at ring.queue 1 → drawer ≡ draws_at tickets 1
-        → WorkersSeated shared ring tickets opened 0 seat takes drawer ws
+  module _ (shared : BufferState) (ring : RingState) (service : Service) (opened : List ℕ) where
+    pub no_worker : (seat : HostState) (takes : PassState) (drawer : DrawerState) (ws : List (Actor G)) → ws ≡ [] → seat ≡ host_at shared.table opened 0 → takes ≡ takes_at ring.queue 1 → drawer ≡ draws_at service.tickets 1
+        → WorkersSeated shared ring service opened 0 seat takes drawer ws
     unfolding FreshWorkers
-    no_worker seat takes drawer ws e a b c = record { as_many = ap length e; fresh = subst (FreshWorkers shared ring tickets opened) (sym e) tt; is_seat = a; is_takes = b; is_drawer = c }
+    no_worker seat takes drawer ws e a b c = record { as_many = ap length e; fresh = subst (FreshWorkers shared ring service opened) (sym e) tt; is_seat = a; is_takes = b; is_drawer = c }
 
-    pub one_worker : (n : ℕ) (seat seat' : HostState) (takes takes' : PassState) (drawer drawer' : DrawerState) (ws ws' : List (Actor G)) (w : Worker G) → WorkersSeated shared ring tickets opened n seat takes drawer ws
+    pub one_worker : (n : ℕ) (seat seat' : HostState) (takes takes' : PassState) (drawer drawer' : DrawerState) (ws ws' : List (Actor G)) (w : Worker G) → WorkersSeated shared ring service opened n seat takes drawer ws
         → seat' ≡ with_view seat (one_more seat.view) → w.seat ≡ seat_state seat.table (new_seat seat.view false)
         → takes' ≡ pass_with takes (one_more_take takes.view) → w.pass ≡ pass_with takes (new_take takes.view)
         → drawer' ≡ drawer_with drawer (one_more_draw drawer.view) → w.drawer ≡ drawer_with drawer (new_drawer drawer.view)
-        → w.replies.items ≡ [] → ws' ≡ ws ++ kind.Worker w ∷ [] → WorkersSeated shared ring tickets opened (n + 1) seat' takes' drawer' ws'
-    one_worker n seat seat' takes takes' drawer drawer' ws ws' w p es ew et ep ed eq none e = record {
+        → IsArmed service.code w.frame → w.replies.items ≡ [] → service.posts ≤ vec_capacity w.replies → ws' ≡ ws ++ kind.Worker w ∷ [] → WorkersSeated shared ring service opened (n + 1) seat' takes' drawer' ws'
+    one_worker n seat seat' takes takes' drawer drawer' ws ws' w p es ew et ep ed eq armed none room e = record {
       as_many = ap length e ∙ (length-append ws (kind.Worker w ∷ []) ∙ ap (λ k. k + 1) p.as_many);
-      fresh = subst (FreshWorkers shared ring tickets opened) (sym e) (fresh-push shared ring tickets opened ws w p.fresh record {
+      fresh = subst (FreshWorkers shared ring service opened) (sym e) (fresh-push shared ring service opened ws w p.fresh record {
         seat_number = n;
         pass_number = 1 + n;
         drawer_number = 1 + n;
         is_seat = ew ∙ ap (λ (k : HostState). seat_state k.table (new_seat k.view false)) p.is_seat;
         is_pass = ep ∙ ap (λ (h : PassState). pass_with h (new_take h.view)) p.is_takes;
         is_drawer = eq ∙ ap (λ (d : DrawerState). drawer_with d (new_drawer d.view)) p.is_drawer;
+        armed = armed;
         no_reply = none;
+        room = room;
       });
       is_seat = es ∙ ap (λ (k : HostState). with_view k (one_more k.view)) p.is_seat;
       is_takes = et ∙ (ap (λ (h : PassState). pass_with h (one_more_take h.view)) p.is_takes ∙ ap (takes_at ring.queue) (let z : 1 + n + 1 ≡ 1 + (n + 1) = omega arith in z));
-      is_drawer = ed ∙ (ap (λ (d : DrawerState). drawer_with d (one_more_draw d.view)) p.is_drawer ∙ ap (draws_at tickets) (let z : 1 + n + 1 ≡ 1 + (n + 1) = omega arith in z));
+      is_drawer = ed ∙ (ap (λ (d : DrawerState). drawer_with d (one_more_draw d.view)) p.is_drawer ∙ ap (draws_at service.tickets) (let z : 1 + n + 1 ≡ 1 + (n + 1) = omega arith in z));
     }
 
   module _ (names : Post → Type 0) (shared : BufferState) (ring : RingState) (job : HostJob) (workers : List (Actor G)) where
@@ -232,20 +235,21 @@ module _ {G : Type 0} where
       is_posts = p.is_posts ∙ ap (λ k. posts_at ring.queue (1 + k)) (sym p.as_many);
     }
 
-  pub arms : (names : Post → Type 0) (shared : BufferState) (ring : RingState) (tickets : TableId) (job : HostJob) (opened : List ℕ) (count : ℕ) (seat seat' : HostState) (posts' takes takes' : PassState) (drawer drawer' : DrawerState) (workers actors : List (Actor G))
-      → WorkersSeated shared ring tickets opened count seat takes drawer workers → opened ≡ job.words → 0 < count → GuestsSeated names shared ring job workers seat' posts' actors → takes' ≡ takes → drawer' ≡ drawer
-      → Armed names shared ring tickets job seat' posts' takes' drawer' actors
-  arms names shared ring tickets job opened count seat seat' posts' takes takes' drawer drawer' workers actors w is_opened some g t d =
+  pub arms : (names : Post → Type 0) (shared : BufferState) (ring : RingState) (service : Service) (job : HostJob) (opened : List ℕ) (count : ℕ) (seat seat' : HostState) (posts' takes takes' : PassState) (drawer drawer' : DrawerState) (workers actors : List (Actor G))
+      → WorkersSeated shared ring service opened count seat takes drawer workers → opened ≡ job.words → 0 < count → count ≡ job.workers → GuestsSeated names shared ring job workers seat' posts' actors → takes' ≡ takes → drawer' ≡ drawer
+      → Armed names shared ring service job seat' posts' takes' drawer' actors
+  arms names shared ring service job opened count seat seat' posts' takes takes' drawer drawer' workers actors w is_opened some all g t d =
       let many : 1 + count ≡ length workers + 1 = (let z = w.as_many in omega arith) in
       record {
         workers = workers;
         guests = g.guests;
         are = g.are;
+        as_many = w.as_many ∙ all;
         some_worker = (let z = w.as_many in omega arith);
-        fresh_workers = subst (λ o. FreshWorkers shared ring tickets o workers) is_opened w.fresh;
+        fresh_workers = subst (λ o. FreshWorkers shared ring service o workers) is_opened w.fresh;
         fresh_guests = g.fresh;
         host = g.is_seat;
         post_head = g.is_posts ∙ ap (posts_at ring.queue) (let z : 1 + length g.guests ≡ length g.guests + 1 = omega arith in z);
         take_head = t ∙ (w.is_takes ∙ ap (takes_at ring.queue) many);
-        ticket_head = d ∙ (w.is_drawer ∙ ap (draws_at tickets) many);
+        ticket_head = d ∙ (w.is_drawer ∙ ap (draws_at service.tickets) many);
       }

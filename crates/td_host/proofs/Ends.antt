@@ -1,10 +1,11 @@
 -- What all actors did, from what each did.
-use Rattle.std.proofs.Common.{◌≡◌, ℕ, suc, ◌+◌, ◌<◌, ◌≤◌, true, false, cond, List, [], ◌∷◌, ◌++◌, map, length, Option, Some, None, refl, sym, ap, ◌∙◌, subst, ⊎_elim, arith, append_assoc, length-append}
+use Rattle.std.proofs.Common.{◌≡◌, ◌⊎◌, ℕ, suc, ◌+◌, ◌*◌, ◌<◌, ◌≤◌, true, false, cond, List, [], ◌∷◌, ◌++◌, map, length, Option, Some, None, refl, sym, ap, ◌∙◌, subst, inl, inr, ⊎_elim, arith, append_assoc, length-append}
 use Rattle.std.specs.Prelude.{slice_index_or}
 use Rattle.std.specs.List.{All, Contains, sum_by}
+use Rattle.std.proofs.Math.Nat.{suc-mul}
 use Rattle.std.proofs.lemmas.Bool.{lt-ltb, le-ltb}
 use Rattle.std.proofs.lemmas.List.{map-append}
-use Rattle.std.proofs.lemmas.List.Elements.{All-nil, All-cons, All-head, All-tail, All-append, Contains-append_left, Contains-push}
+use Rattle.std.proofs.lemmas.List.Elements.{All-nil, All-cons, All-head, All-tail, All-append, Contains-append_left, Contains-append_right, Contains-get_or}
 use Rattle.std.proofs.lemmas.List.Sums.{sum_by-append, sum_by-cons}
 use Rattle.td_words.specs.declared.view.SeatView.{SeatView}
 use Rattle.td_words.specs.declared.view.HostView.{HostView}
@@ -15,7 +16,6 @@ use Rattle.td_roll.specs.declared.parts.Part.{Part}
 use Rattle.td_roll.specs.declared.parts.Head.{Head}
 use Rattle.td_roll.specs.Roll.{part_of, head_of, owned}
 use Rattle.td_ring.specs.declared.post.Post.{Post}
-use Rattle.atomic_table.specs.Seated.{TableId}
 use Rattle.td_roll.specs.Heads.{with_ended as part_ended}
 use Rattle.td_ring.specs.Ring.{PassState, RingState, ring_view}
 use Rattle.td_ring.specs.Tickets.{DrawerState, ticket_view}
@@ -29,8 +29,8 @@ use Rattle.td_host.specs.declared.actor.Actor.{Actor}
 use Rattle.td_host.specs.declared.actor.Actor.TheVariants as kind
 use Rattle.td_host.specs.Served.{In, pieces, ArePieces, joined, AreStored, ArePosted}
 use Rattle.td_host.specs.Acting.{acts_of, guest_seat, read_seat, post_pass, take_pass, ticket_seat, RanScript, RanWorker, Answered}
-use Rattle.td_host.specs.Actors.{Did}
-use Rattle.td_host.specs.Gathered.{view_of, IsComplete, put_one, take_one, draw_one, seats_all, puts_all, takes_all, draws_all, all_replies, FreshWorkers, FreshGuests}
+use Rattle.td_host.specs.Actors.{Service, Did}
+use Rattle.td_host.specs.Gathered.{view_of, put_one, take_one, draw_one, seats_all, puts_all, takes_all, draws_all, all_replies, FreshWorkers, FreshGuests}
 use Rattle.td_host.proofs.Shares.{one_below}
 
 pub append_nil : {A : Type 0} (xs : List A) → xs ++ [] ≡ xs
@@ -53,17 +53,25 @@ unfoldable pub cons_opt : {A : Type 0} → Option A → List A → List A
 cons_opt None xs = xs
 cons_opt (Some x) xs = x ∷ xs
 
-all_counted : (n last : ℕ) (below : List ℕ) → All (λ (k : ℕ). k < n) below → n ≤ last → sum_by (one_below n) (below ++ last ∷ []) ≡ length below
-all_counted n last [] all ge =
-    let c = sum_by-cons (one_below n) last [] in
-    let z : one_below n last ≡ 0 = ap (λ b. cond b 1 0) (le-ltb last n ge) in
-    c ∙ ap (λ k. k + 0) z
-all_counted n last (k ∷ below) all ge =
-    let c = sum_by-cons (one_below n) k (below ++ last ∷ []) in
+none_counted : (n : ℕ) (above : List ℕ) → All (λ (k : ℕ). n ≤ k) above → sum_by (one_below n) above ≡ 0
+none_counted n [] more = refl
+none_counted n (k ∷ above) more =
+    let c = sum_by-cons (one_below n) k above in
+    let z : one_below n k ≡ 0 = ap (λ b. cond b 1 0) (le-ltb k n (All-head (λ (x : ℕ). n ≤ x) k above more)) in
+    let r = none_counted n above (All-tail (λ (x : ℕ). n ≤ x) k above more) in
+    omega arith
+
+all_counted : (n : ℕ) (below above : List ℕ) → All (λ (k : ℕ). k < n) below → All (λ (k : ℕ). n ≤ k) above → sum_by (one_below n) (below ++ above) ≡ length below
+all_counted n [] above all more = none_counted n above more
+all_counted n (k ∷ below) above all more =
+    let c = sum_by-cons (one_below n) k (below ++ above) in
     let lt : k < n = All-head (λ (x : ℕ). x < n) k below all in
     let o : one_below n k ≡ 1 = ap (λ b. cond b 1 0) (lt-ltb k n lt) in
-    let r = all_counted n last below (All-tail (λ (x : ℕ). x < n) k below all) ge in
+    let r = all_counted n below above (All-tail (λ (x : ℕ). x < n) k below all) more in
     omega arith
+
+one_more_few : (a b c n m : ℕ) → a ≡ b + c → b ≤ n → c ≤ m → a ≤ m + n
+one_more_few a b c n m e h k = omega arith
 
 module _ {G : Type 0} where
   -- the part that an actor hands back, of each kind
@@ -203,58 +211,56 @@ module _ {G : Type 0} where
           }
 
     -- ---- workers
-    unfoldable pub AllWhole : List (Actor G) → Type 0
-    AllWhole [] = Unit {0}
-    AllWhole (a ∷ ds) = IsComplete a × AllWhole ds
-
     pub record WorkersDone (ds : List (Actor G)) : Type 0 where
       pub shares : List (List Reply)
       pub are_pieces : ArePieces (all_mails 1 job.guests) (map view_of ds) shares
       pub divided : joined shares ≡ all_replies ds
       pub answered : All (Answered job) (all_replies ds)
       pub names : map reply_name (all_replies ds) ≡ map (λ (p : Post). p.name) (owned (take_parts ds))
-      pub reading : All (λ (v : SeatView). v.guest ≡ false) (map view_of ds)
+      pub reading : All (λ (v : SeatView). (v.guest ≡ false) × (stores v.steps ≡ [])) (map view_of ds)
       pub quiet : (u : SeatView) → In u (map view_of ds) → stores u.steps ≡ []
       pub counts : sum_by (one_below (length mails)) (owned (draw_parts ds)) ≡ length (owned (take_parts ds))
-      pub some : 0 < length ds → (last : ℕ) × Contains (owned (draw_parts ds)) last × (length mails ≤ last)
+      pub some : 0 < length ds → (length mails ≤ length (owned (take_parts ds))) ⊎ ((last : ℕ) × Contains (owned (draw_parts ds)) last × (length mails ≤ last))
+      pub few : length (all_replies ds) ≤ length ds * length mails
       pub as_many_takes : length (take_parts ds) ≡ length ds
       pub as_many_draws : length (draw_parts ds) ≡ length ds
       pub no_puts : put_parts ds ≡ []
 
-    module _ (shared : BufferState) (ring : RingState) (tickets : TableId) (opened : List ℕ) where
-      pub workers_done : (ds bs : List (Actor G)) → FreshWorkers shared ring tickets opened ds → DidAll ds bs → AllWhole bs → WorkersDone bs
-      unfolding DidAll FreshWorkers AllWhole cons_opt In ArePieces joined all_replies put_parts take_parts draw_parts owned
-      workers_done [] [] f d whole = record {
+    module _ (shared : BufferState) (ring : RingState) (service : Service) (opened : List ℕ) where
+      pub workers_done : (ds bs : List (Actor G)) → FreshWorkers shared ring service opened ds → DidAll ds bs → WorkersDone bs
+      unfolding DidAll FreshWorkers cons_opt In ArePieces joined all_replies put_parts take_parts draw_parts owned
+      workers_done [] [] f d = record {
         shares = [];
         are_pieces = tt;
         divided = refl;
         answered = All-nil (Answered job);
         names = refl;
-        reading = All-nil (λ (v : SeatView). v.guest ≡ false);
+        reading = All-nil (λ (v : SeatView). (v.guest ≡ false) × (stores v.steps ≡ []));
         quiet = λ u e. absurd e;
         counts = refl;
         some = λ lt. absurd (omega arith);
+        few = omega arith;
         as_many_takes = refl;
         as_many_draws = refl;
         no_puts = refl;
       }
-      workers_done [] (b ∷ bs) f d whole = absurd d
-      workers_done (kind.Guest g ∷ ds) bs f d whole = absurd f
-      workers_done (kind.Worker w ∷ ds) [] f d whole = absurd d
-      workers_done (kind.Worker w ∷ ds) (kind.Guest h ∷ bs) f d whole = absurd d.0
-      workers_done (kind.Worker w ∷ ds) (kind.Worker v ∷ bs) f d whole =
+      workers_done [] (b ∷ bs) f d = absurd d
+      workers_done (kind.Guest g ∷ ds) bs f d = absurd f
+      workers_done (kind.Worker w ∷ ds) [] f d = absurd d
+      workers_done (kind.Worker w ∷ ds) (kind.Guest h ∷ bs) f d = absurd d.0
+      workers_done (kind.Worker w ∷ ds) (kind.Worker v ∷ bs) f d =
           let x = f.0 in
-          let p : RanWorker job (length mails) w.seat v.seat w.pass v.pass w.drawer v.drawer v.replies.items = d.0 whole.0 in
-          let r = workers_done ds bs f.1 d.1 whole.1 in
+          let p : RanWorker job (length mails) w.seat v.seat w.pass v.pass w.drawer v.drawer v.replies.items = d.0 in
+          let r = workers_done ds bs f.1 d.1 in
           let n = length mails in
           let table : w.seat.table ≡ shared.table = ap (λ (z : SeatState). z.table) x.is_seat in
           let queue : w.pass.queue ≡ ring.queue = ap (λ (z : PassState). z.queue) x.is_pass in
-          let desk : w.drawer.table ≡ tickets = ap (λ (z : DrawerState). z.table) x.is_drawer in
+          let desk : w.drawer.table ≡ service.tickets = ap (λ (z : DrawerState). z.table) x.is_drawer in
           let seat = p.is_seat opened x.seat_number (x.is_seat ∙ ap (λ t. read_seat t opened x.seat_number []) (sym table)) in
           let pass = p.is_pass x.pass_number (x.is_pass ∙ ap (λ q. take_pass q x.pass_number []) (sym queue)) in
           let drawer = p.is_drawer x.drawer_number (x.is_drawer ∙ ap (λ q. ticket_seat q x.drawer_number []) (sym desk)) in
           let view : v.seat.view ≡ seat_view opened x.seat_number false p.steps = ap (λ (z : SeatState). z.view) seat in
-          let draws = p.below ++ p.last ∷ [] in
+          let draws = p.below ++ p.above in
           let took : cons_opt v.pass.view.take (take_parts bs) ≡ part_of x.pass_number p.posts ∷ take_parts bs = ap (λ (z : PassState). cons_opt z.view.take (take_parts bs)) pass in
           let drew : cons_opt v.drawer.view.draws (draw_parts bs) ≡ part_of x.drawer_number draws ∷ draw_parts bs = ap (λ (z : DrawerState). cons_opt z.view.draws (draw_parts bs)) drawer in
           let rs = v.replies.items in
@@ -264,18 +270,27 @@ module _ {G : Type 0} where
             divided = ap (λ l. rs ++ l) r.divided;
             answered = All-append (Answered job) rs (all_replies bs) p.answered r.answered;
             names = map-append reply_name rs (all_replies bs) ∙ ((λ i. p.names i ++ r.names i) ∙ (sym (map-append (λ (y : Post). y.name) p.posts (owned (take_parts bs))) ∙ ap (λ l. map (λ (y : Post). y.name) (owned l)) (sym took)));
-            reading = All-cons (λ (y : SeatView). y.guest ≡ false) v.seat.view (map view_of bs) (ap (λ (y : SeatView). y.guest) view) r.reading;
+            reading = All-cons (λ (y : SeatView). (y.guest ≡ false) × (stores y.steps ≡ [])) v.seat.view (map view_of bs) (ap (λ (y : SeatView). y.guest) view, ap (λ (y : SeatView). stores y.steps) view ∙ p.stored) r.reading;
             quiet = λ u e. ⊎_elim (λ (q : v.seat.view ≡ u). ap (λ (y : SeatView). stores y.steps) (sym q ∙ view) ∙ p.stored) (λ (q : In u (map view_of bs)). r.quiet u q) e;
             counts =
                 let a = ap (λ l. sum_by (one_below n) (owned l)) drew in
                 let b = sum_by-append (one_below n) draws (owned (draw_parts bs)) in
-                let c = all_counted n p.last p.below p.all_below p.enough in
+                let c = all_counted n p.below p.above p.all_below p.all_above in
                 let e = ap (λ l. length (owned l)) took in
                 let g = length-append p.posts (owned (take_parts bs)) in
                 let h = r.counts in
                 let k = p.as_many in
                 omega arith;
-            some = λ lt. (p.last, subst (λ l. Contains (owned l) p.last) (sym drew) (Contains-append_left draws (owned (draw_parts bs)) p.last (Contains-push p.below p.last)), p.enough);
+            some = λ lt. ⊎_elim
+                (λ (q : 0 < length p.above).
+                let last : ℕ = slice_index_or p.above 0 0 in
+                inr (last, subst (λ l. Contains (owned l) last) (sym drew) (Contains-append_left draws (owned (draw_parts bs)) last (Contains-append_right p.below p.above last (Contains-get_or p.above 0 0 q))), p.all_above 0 0 q))
+                (λ (q : n ≤ length p.posts).
+                let e = ap (λ l. length (owned l)) took in
+                let g = length-append p.posts (owned (take_parts bs)) in
+                inl (omega arith))
+                p.enough;
+            few = subst (λ k. length (rs ++ all_replies bs) ≤ k) (sym (suc-mul (length bs) n)) (one_more_few (length (rs ++ all_replies bs)) (length rs) (length (all_replies bs)) n (length bs * n) (length-append rs (all_replies bs)) p.few r.few);
             as_many_takes = ap length took ∙ ap suc r.as_many_takes;
             as_many_draws = ap length drew ∙ ap suc r.as_many_draws;
             no_puts = r.no_puts;

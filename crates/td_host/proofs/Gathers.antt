@@ -1,5 +1,5 @@
 -- The host in the middle of its gathering.
-use Rattle.std.proofs.Common.{◌≡◌, ℕ, List, [], ◌∷◌, ◌++◌, length, Option, Some, None, refl, sym, ap, ◌∙◌, subst, arith, append_assoc}
+use Rattle.std.proofs.Common.{◌≡◌, ℕ, ◌+◌, ◌≤◌, List, [], ◌∷◌, ◌++◌, length, Option, Some, None, refl, sym, ap, ◌∙◌, subst, arith, append_assoc, length-append}
 use Rattle.std.specs.List.{All}
 use Rattle.std.proofs.lemmas.List.Elements.{All-head, All-tail}
 use Rattle.td_words.specs.Views.{with_ended}
@@ -36,6 +36,24 @@ module _ {G : Type 0} where
   no_actor : (xs : List (Actor G)) → length xs ≡ 0 → xs ≡ []
   no_actor [] e = refl
   no_actor (x ∷ xs) e = absurd (omega arith)
+
+  -- where there is room for all replies there is some for the first actor's, and then for the others'
+  pub first_room : (room : ℕ) (found : List Reply) (rest : List (Actor G)) (a : Actor G) (rest' : List (Actor G)) → rest ≡ a ∷ rest'
+      → length found + length (all_replies rest) ≤ room → length found + length (replies_of a) ≤ room
+  unfolding all_replies
+  first_room room found rest a rest' e fits =
+      let l : length (all_replies rest) ≡ length (replies_of a ++ all_replies rest') = ap (λ xs. length (all_replies xs)) e in
+      let m = length-append (replies_of a) (all_replies rest') in
+      omega (arith, fits, l, m)
+
+  pub rest_room : (room room' : ℕ) (found found' : List Reply) (rest : List (Actor G)) (a : Actor G) (rest' : List (Actor G)) → rest ≡ a ∷ rest' → found' ≡ found ++ replies_of a → room ≤ room'
+      → length found + length (all_replies rest) ≤ room → length found' + length (all_replies rest') ≤ room'
+  unfolding all_replies
+  rest_room room room' found found' rest a rest' e f more fits =
+      let l : length (all_replies rest) ≡ length (replies_of a ++ all_replies rest') = ap (λ xs. length (all_replies xs)) e in
+      let m = length-append (replies_of a) (all_replies rest') in
+      let n : length found' ≡ length found + length (replies_of a) = ap length f ∙ length-append found (replies_of a) in
+      omega (arith, fits, more, l, m, n)
 
   put_head : (v : RingView) (a : Actor G) → HasHead v.put_head → HasHead (put_one v a).put_head
   put_head v (kind.Worker w) e = e

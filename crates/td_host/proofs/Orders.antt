@@ -4,7 +4,7 @@ use Rattle.std.specs.Prelude.{slice_index_or}
 use Rattle.std.specs.List as holes
 use Rattle.std.specs.List.{All, sum_by}
 use Rattle.std.specs.List.Sorted.{IsPermutation}
-use Rattle.std.proofs.lemmas.List.{map-append, take_more, drop_more, drop_all, take_all}
+use Rattle.std.proofs.lemmas.List.{map-append, length-map, length-take-le, take_more, drop_more, drop_all, take_all}
 use Rattle.std.proofs.lemmas.List.Elements.{All-head, All-tail}
 use Rattle.std.proofs.lemmas.List.Sums.{sum_by-cons}
 use Rattle.std.proofs.lemmas.List.Sorted.{IsPermutation-refl, IsPermutation-map, IsPermutation-swap_remove, IsPermutation-pop_more, sum_by-IsPermutation}
@@ -67,6 +67,11 @@ orders mails found i replies left d place x replies' left' o lt below is name le
           let n = ap f name in
           omega arith;
     }
+
+-- as many replies are in order as posts were gone through
+pub counted : (mails : List Mail) (found : List Reply) (i : ℕ) (replies left : List Reply) → Ordering mails found i replies left → i ≤ length mails → length replies ≡ i
+counted mails found i replies left o le =
+    sym (length-map replies r_name) ∙ (ap length o.named ∙ (length-map (take i mails) m_name ∙ length-take-le i mails le))
 
 no_more : (xs : List Reply) → sum_by (λ (n : PostName). 1) (map r_name xs) ≡ 0 → xs ≡ []
 no_more [] e = refl

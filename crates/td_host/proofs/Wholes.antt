@@ -1,7 +1,7 @@
 -- All posts are served, from what each actor did and what the ring, the tickets and the buffer tell.
-use Rattle.std.proofs.Common.{◌≡◌, ℕ, suc, ◌+◌, ◌<◌, ◌^◌, List, [], ◌∷◌, ◌++◌, map, length, Option, Some, None, refl, sym, ap, ◌∙◌, subst, arith, append_assoc, length-append}
+use Rattle.std.proofs.Common.{◌≡◌, ℕ, suc, ◌+◌, ◌*◌, ◌<◌, ◌≤◌, ◌^◌, List, [], ◌∷◌, ◌++◌, map, length, Option, Some, None, refl, sym, ap, ◌∙◌, subst, ⊎_elim, arith, append_assoc, length-append}
 use Rattle.std.specs.Prelude.{slice_index_or}
-use Rattle.std.specs.List.{sum_by}
+use Rattle.std.specs.List.{Contains, sum_by}
 use Rattle.std.specs.List.Sorted.{IsPermutation}
 use Rattle.std.proofs.lemmas.List.{map-append, length-map}
 use Rattle.std.proofs.lemmas.List.Sorted.{IsPermutation-map, All-permutation, sum_by-IsPermutation}
@@ -16,7 +16,6 @@ use Rattle.td_roll.specs.declared.parts.Head.{Head}
 use Rattle.td_roll.specs.Roll.{Entry, part_of, head_of, owned}
 use Rattle.td_ring.specs.declared.post.Post.{Post}
 use Rattle.td_ring.specs.declared.view.RingView.{RingView}
-use Rattle.atomic_table.specs.Seated.{TableId}
 use Rattle.td_ring.specs.declared.view.TicketView.{TicketView}
 use Rattle.td_ring.specs.Ring.{PassState, RingState, ring_view, with_takes, Settled}
 use Rattle.td_ring.specs.Tickets.{DrawerState, ticket_view, Told as Drawn}
@@ -28,10 +27,10 @@ use Rattle.td_posts.specs.Posts.{mails_of, all_mails, reply_name}
 use Rattle.td_host.specs.declared.actor.Actor.{Actor}
 use Rattle.td_host.specs.Served.{ArePosted, label, mail_label, Served}
 use Rattle.td_host.specs.Acting.{Answered}
-use Rattle.td_host.specs.Actors.{Did}
+use Rattle.td_host.specs.Actors.{Service, Did}
 use Rattle.td_host.specs.Gathered.{view_of, seats_all, puts_all, takes_all, draws_all, all_replies, replies_of, Armed}
 use Rattle.td_host.proofs.Shares.{all_taken, drawn_all, drawn_below}
-use Rattle.td_host.proofs.Ends.{put_of, take_of, draw_of, put_parts, take_parts, draw_parts, seats_are, puts_are, takes_are, draws_are, DidAll, did_all, did_both, GuestsDone, guests_done, AllWhole, WorkersDone, workers_done, cons_opt, append_nil}
+use Rattle.td_host.proofs.Ends.{put_of, take_of, draw_of, put_parts, take_parts, draw_parts, seats_are, puts_are, takes_are, draws_are, DidAll, did_all, did_both, GuestsDone, guests_done, WorkersDone, workers_done, cons_opt, append_nil}
 use Rattle.td_host.proofs.Unique.{replies_to}
 use Rattle.td_host.proofs.Fetching.{fetches}
 
@@ -86,12 +85,7 @@ module _ {G : Type 0} where
     did_length (x ∷ xs) [] d = absurd d
     did_length (x ∷ xs) (y ∷ ys) d = ap suc (did_length xs ys d.1)
 
-    whole_left : (xs ys : List (Actor G)) → AllWhole job mails (xs ++ ys) → AllWhole job mails xs
-    unfolding AllWhole
-    whole_left [] ys w = tt
-    whole_left (x ∷ xs) ys w = (w.0, whole_left xs ys w.1)
-
-  module _ (names : Post → Type 0) (shared : BufferState) (ring : RingState) (tickets : TableId) (job : HostJob) (mails : List Mail)
+  module _ (names : Post → Type 0) (shared : BufferState) (ring : RingState) (service : Service) (job : HostJob) (mails : List Mail)
       (seat : HostState) (posts takes : PassState) (drawer : DrawerState) (olds news : List (Actor G)) where
     pub record Halves : Type 0 where
       pub workers : List (Actor G)
@@ -99,15 +93,16 @@ module _ {G : Type 0} where
       pub are : news ≡ workers ++ guests
       pub worked : WorkersDone job mails workers
       pub stored_by : GuestsDone job mails 1 0 0 job.guests guests
+      pub as_many : length workers ≡ job.workers
       pub some_worker : 0 < length workers
       pub host : seat.view ≡ host_view job.words (length workers + length guests) []
       pub post_head : posts.view ≡ ring_view (Some (head_of (length guests + 1) [])) (Some (part_of 0 [])) None None
       pub take_head : takes.view ≡ ring_view None None (Some (head_of (length workers + 1) [])) (Some (part_of 0 []))
       pub ticket_head : drawer.view ≡ ticket_view (Some (head_of (length workers + 1) [])) (Some (part_of 0 []))
 
-    pub halves : Armed names shared ring tickets job seat posts takes drawer olds → length news ≡ length olds
-        → ((i : ℕ) (d : Actor G) → i < length olds → Did job mails (slice_index_or olds i d) (slice_index_or news i d)) → AllWhole job mails news → Halves
-    halves a len did whole =
+    pub halves : Armed names shared ring service job seat posts takes drawer olds → length news ≡ length olds
+        → ((i : ℕ) (d : Actor G) → i < length olds → Did job mails (slice_index_or olds i d) (slice_index_or news i d)) → Halves
+    halves a len did =
         let b = did_both job mails a.workers a.guests news (subst (λ l. DidAll job mails l news) a.are (did_all job mails olds news len did)) in
         let ls = b.0 in
         let rs = b.1 in
@@ -118,8 +113,9 @@ module _ {G : Type 0} where
           workers = ls;
           guests = rs;
           are = b.2;
-          worked = workers_done job mails shared ring tickets job.words a.workers ls a.fresh_workers b.3 (whole_left job mails ls rs (subst (AllWhole job mails) b.2 whole));
+          worked = workers_done job mails shared ring service job.words a.workers ls a.fresh_workers b.3;
           stored_by = guests_done job mails names shared ring job.words 1 0 0 job.guests a.guests rs a.fresh_guests b.4;
+          as_many = w ∙ a.as_many;
           some_worker = omega arith;
           host = ap (λ (k : HostState). k.view) a.host ∙ (λ i. host_view job.words (sym w i + sym g i) []);
           post_head = ap (λ (h : PassState). h.view) a.post_head ∙ (λ i. ring_view (Some (head_of (sym g i + 1) [])) (Some (part_of 0 [])) None None);
@@ -139,6 +135,12 @@ module _ {G : Type 0} where
 
       replies_left : all_replies news ≡ all_replies h.workers
       replies_left = ap all_replies h.are ∙ (replies-append h.workers h.guests ∙ (ap (λ l. all_replies h.workers ++ l) h.stored_by.no_replies ∙ append_nil (all_replies h.workers)))
+
+      -- the workers made no more replies than each of them one to each post
+      pub found_few : length (all_replies news) ≤ job.workers * length mails
+      found_few =
+          subst (λ k. length (all_replies news) ≤ k) (ap (λ k. k * length mails) h.as_many)
+          (subst (λ k. k ≤ length h.workers * length mails) (sym (ap length replies_left)) h.worked.few)
 
       -- the ring's view at the end
       pub ring_is : with_takes (puts_all posts.view news) (takes_all takes.view news)
@@ -174,9 +176,13 @@ module _ {G : Type 0} where
           let b = h.worked.as_many_takes in
           let c = h.worked.as_many_draws in
           let perm = drawn_all w log hd q drawn (ap (λ (x : TicketView). x.head) t) (ap (λ (x : TicketView). x.draws) t) refl (ap (λ k. k + 1) c) in
-          let last = h.worked.some h.some_worker in
-          let many = drawn_below n (length log) last.0 (owned (draw_parts h.workers)) few perm last.1 last.2 in
+          let draws = owned (draw_parts h.workers) in
           let counts = h.worked.counts in
+          let many : n ≤ length (owned (take_parts h.workers)) =
+          ⊎_elim
+          (λ (q : n ≤ length (owned (take_parts h.workers))). q)
+          (λ (q : (last : ℕ) × Contains draws last × (n ≤ last)). let z = drawn_below n (length log) q.0 draws few perm q.1 q.2 in omega arith)
+          (h.worked.some h.some_worker) in
           let l : length (owned (put_parts h.guests)) ≡ n =
           sym (length-map (owned (put_parts h.guests)) label) ∙ (ap length labels ∙ (length-map (all_mails 1 job.guests) mail_label ∙ ap length (sym is))) in
           all_taken v items hp ht p p settled (ap (λ (x : RingView). x.put_head) r) (ap (λ (x : RingView). x.put) r) (ap (λ (x : RingView). x.take_head) r) (ap (λ (x : RingView). x.take) r)
@@ -232,6 +238,8 @@ module _ {G : Type 0} where
               takes = head_of (length h.workers + 1) (take_parts h.workers);
               post_head = ap (λ (x : RingView). x.put_head) r;
               take_head = ap (λ (x : RingView). x.take_head) r;
+              no_post = ap (λ (x : RingView). x.put) r;
+              no_take = ap (λ (x : RingView). x.take) r;
               all_posts = ap (λ n. n + 1) h.stored_by.as_many;
               all_takes = ap (λ n. n + 1) h.worked.as_many_takes;
               posted = h.stored_by.posted;

@@ -1,8 +1,8 @@
 -- A worker in the middle of its work.
-use Rattle.std.proofs.Common.{◌≡◌, ℕ, zero, suc, take, drop, ◌+◌, ◌<◌, ◌≤◌, List, [], ◌∷◌, ◌++◌, length, map, Some, refl, sym, ap, ◌∙◌, subst, arith, append_assoc, length-append}
-use Rattle.std.proofs.lemmas.List.{map-append}
+use Rattle.std.proofs.Common.{◌≡◌, ℕ, zero, suc, take, drop, ◌+◌, ◌<◌, ◌≤◌, List, [], ◌∷◌, ◌++◌, length, map, Some, refl, sym, ap, ◌∙◌, subst, inl, inr, arith, append_assoc, length-append}
+use Rattle.std.proofs.lemmas.List.{map-append, length-map}
 use Rattle.std.specs.List.{All}
-use Rattle.std.proofs.lemmas.List.Elements.{All-nil, All-push}
+use Rattle.std.proofs.lemmas.List.Elements.{All-nil, All-cons, All-push}
 use Rattle.td_stream.specs.declared.load.Load.{Load}
 use Rattle.td_posts.specs.declared.name.PostName.{PostName}
 use Rattle.td_words.specs.declared.view.Access.{Access}
@@ -76,6 +76,7 @@ pub record RunningWorker (job : HostJob) (count : ℕ) (seat0 seat : SeatState) 
   pub answered : All (Answered job) replies
   pub all_below : All (λ (k : ℕ). k < count) below
   pub as_many : length below ≡ length posts
+  pub few : length replies ≤ count
 
 module _ (job : HostJob) (count : ℕ) where
   pub begins : (seat : SeatState) (pass : PassState) (drawer : DrawerState) (replies : List Reply) → replies ≡ [] → RunningWorker job count seat seat pass pass drawer drawer replies
@@ -93,15 +94,16 @@ module _ (job : HostJob) (count : ℕ) where
     answered = All-nil (Answered job);
     all_below = All-nil (λ (k : ℕ). k < count);
     as_many = refl;
+    few = omega arith;
   }
 
   module _ (seat0 seat : SeatState) (pass0 pass : PassState) (drawer0 drawer : DrawerState) (replies : List Reply) (w : RunningWorker job count seat0 seat pass0 pass drawer0 drawer replies) where
     pub answers : (seat' : SeatState) (pass' : PassState) (drawer' : DrawerState) (k : ℕ) (p : Post) (r : Reply) (replies' : List Reply)
         → drawer' ≡ drawer_with drawer (did_draw drawer.view k) → k < count
         → pass' ≡ pass_with pass (did_take pass.view p) → reply_name r ≡ p.name → Answered job r
-        → HasLoaded (base_in (all_mails 1 job.guests) r) seat seat' r.loads.list → replies' ≡ replies ++ r ∷ []
+        → HasLoaded (base_in (all_mails 1 job.guests) r) seat seat' r.loads.list → length replies < count → replies' ≡ replies ++ r ∷ []
         → RunningWorker job count seat0 seat' pass0 pass' drawer0 drawer' replies'
-    answers seat' pass' drawer' k p r replies' drew less took name answered read is =
+    answers seat' pass' drawer' k p r replies' drew less took name answered read free is =
         let mails = all_mails 1 job.guests in
         let base = base_in mails r in
         let more : List Access = steps_for base r.loads.list in
@@ -118,14 +120,16 @@ module _ (job : HostJob) (count : ℕ) where
           answered = All-push (Answered job) replies r w.answered answered;
           all_below = All-push (λ (x : ℕ). x < count) w.below k w.all_below less;
           as_many = length-append w.below (k ∷ []) ∙ (ap (λ n. n + 1) w.as_many ∙ sym (length-append w.posts (p ∷ [])));
+          few = let n = length-append replies (r ∷ []) in omega (arith, n, free);
         }
 
-    pub ends : (drawer' : DrawerState) (k : ℕ) → drawer' ≡ drawer_with drawer (did_draw drawer.view k) → count ≤ k → RanWorker job count seat0 seat pass0 pass drawer0 drawer' replies
-    ends drawer' k drew enough = record {
+    -- it drew a ticket that isn't below the count
+    pub ends_drawn : (drawer' : DrawerState) (k : ℕ) → drawer' ≡ drawer_with drawer (did_draw drawer.view k) → count ≤ k → RanWorker job count seat0 seat pass0 pass drawer0 drawer' replies
+    ends_drawn drawer' k drew enough = record {
       steps = w.steps;
       posts = w.posts;
       below = w.below;
-      last = k;
+      above = k ∷ [];
       is_seat = w.is_seat;
       is_pass = w.is_pass;
       is_drawer = λ n e. drew ∙ ap (λ (d : DrawerState). drawer_with d (did_draw d.view k)) (w.is_drawer n e);
@@ -134,6 +138,31 @@ module _ (job : HostJob) (count : ℕ) where
       names = w.names;
       answered = w.answered;
       all_below = w.all_below;
-      enough = enough;
+      all_above = All-cons (λ (x : ℕ). count ≤ x) k [] enough (All-nil (λ (x : ℕ). count ≤ x));
       as_many = w.as_many;
+      few = w.few;
+      enough = inl (omega arith);
     }
+
+    -- it answered as many posts as there are
+    pub ends_full : count ≤ length replies → RanWorker job count seat0 seat pass0 pass drawer0 drawer replies
+    ends_full full =
+        let same : length replies ≡ length w.posts = sym (length-map replies reply_name) ∙ (ap length w.names ∙ length-map w.posts (λ (x : Post). x.name)) in
+        record {
+          steps = w.steps;
+          posts = w.posts;
+          below = w.below;
+          above = [];
+          is_seat = w.is_seat;
+          is_pass = w.is_pass;
+          is_drawer = λ n e. w.is_drawer n e ∙ ap (ticket_seat drawer0.table n) (sym (append_nil w.below));
+          loaded = w.loaded;
+          stored = w.stored;
+          names = w.names;
+          answered = w.answered;
+          all_below = w.all_below;
+          all_above = All-nil (λ (x : ℕ). count ≤ x);
+          as_many = w.as_many;
+          few = w.few;
+          enough = inr (omega (arith, full, same));
+        }

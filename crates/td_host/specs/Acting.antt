@@ -1,5 +1,5 @@
 -- What guests and workers are before they run, and what they did.
-use Rattle.std.specs.Prelude.{◌≡◌, ℕ, ◌<◌, ◌≤◌, true, false, List, [], ◌∷◌, ◌++◌, map, length, Some, None}
+use Rattle.std.specs.Prelude.{◌≡◌, ◌⊎◌, ℕ, ◌<◌, ◌≤◌, true, false, List, [], ◌∷◌, ◌++◌, map, length, vec_capacity, Some, None}
 use Rattle.std.specs.List.{All}
 use Rattle.atomic_table.specs.Seated.{TableId}
 use Rattle.td_words.specs.declared.view.Access.{Access}
@@ -18,11 +18,17 @@ use Rattle.td_posts.specs.declared.reply.Reply.{Reply}
 use Rattle.td_posts.specs.declared.job.HostJob.{HostJob}
 use Rattle.td_posts.specs.Posts.{mails_of, all_mails, mail_named, zeros, reply_name}
 use Rattle.td_posts.specs.Posts.{words_in}
+use Rattle.td_ir.specs.declared.tables.Parts.{Parts}
+use Rattle.td_vm.specs.Need.{most_need, level}
 use Rattle.td_host.specs.Served.{IsReplyTo, pieces, label, mail_label}
 
 -- ---- what a post promises
--- the post is one of the job's, by its first of that name, and its room is empty and large enough
-pub record Fits (job : HostJob) (p : Post) : Type 0 where
+-- how many frames a failure of this code has at most
+abbrev pub most_frames : Parts → ℕ
+most_frames c = most_need level c
+
+-- the post is one of the job's, by its first of that name, and its room is empty and large enough, for so many frames
+pub record Fits (frames : ℕ) (job : HostJob) (p : Post) : Type 0 where
   pub mail : Mail
   pub is : mail_named p.name (all_mails 1 job.guests) ≡ Some mail
   pub made : p.made ≡ mail.made
@@ -30,6 +36,8 @@ pub record Fits (job : HostJob) (p : Post) : Type 0 where
   pub empty : p.room.loads.list ≡ []
   pub room : words_in mail.length ≤ p.room.loads.room
   pub cells : p.room.cells.items ≡ zeros job.cells
+  pub untold : p.room.trace.items ≡ []
+  pub trace_room : frames ≤ vec_capacity p.room.trace
 
 abbrev pub post_of : Mail → Reply → Post
 post_of m r = record { name = m.name; made = m.made; room = r }
@@ -83,20 +91,22 @@ pub record Answered (job : HostJob) (r : Reply) : Type 0 where
   pub is : mail_named (reply_name r) (all_mails 1 job.guests) ≡ Some mail
   pub reply : IsReplyTo job mail r
 
--- the worker drew tickets below the count of posts and then one that isn't, and for each of those took one post and
--- answered it, with loads of its own seat
+-- the worker drew tickets below the count of posts, and for each of those took one post and answered it, with loads of its own
+-- seat; it ended when it drew one that isn't below the count, or had answered as many posts as there are
 pub record RanWorker (job : HostJob) (count : ℕ) (seat seat' : SeatState) (pass pass' : PassState) (drawer drawer' : DrawerState) (replies : List Reply) : Type 0 where
   pub steps : List Access
   pub posts : List Post
   pub below : List ℕ
-  pub last : ℕ
+  pub above : List ℕ
   pub is_seat : (opened : List ℕ) (n : ℕ) → seat ≡ read_seat seat.table opened n [] → seat' ≡ read_seat seat.table opened n steps
   pub is_pass : (n : ℕ) → pass ≡ take_pass pass.queue n [] → pass' ≡ take_pass pass.queue n posts
-  pub is_drawer : (n : ℕ) → drawer ≡ ticket_seat drawer.table n [] → drawer' ≡ ticket_seat drawer.table n (below ++ last ∷ [])
+  pub is_drawer : (n : ℕ) → drawer ≡ ticket_seat drawer.table n [] → drawer' ≡ ticket_seat drawer.table n (below ++ above)
   pub loaded : loads steps ≡ pieces (all_mails 1 job.guests) replies
   pub stored : stores steps ≡ []
   pub names : map reply_name replies ≡ map (λ p. p.name) posts
   pub answered : All (Answered job) replies
   pub all_below : All (λ k. k < count) below
-  pub enough : count ≤ last
+  pub all_above : All (λ k. count ≤ k) above
   pub as_many : length below ≡ length posts
+  pub few : length replies ≤ count
+  pub enough : (0 < length above) ⊎ (count ≤ length posts)

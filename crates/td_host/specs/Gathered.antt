@@ -1,5 +1,5 @@
 -- What the host has once it gathered all actors, and what it has before they run.
-use Rattle.std.specs.Prelude.{◌≡◌, ℕ, ◌+◌, ◌-◌, ◌<◌, ◌≤◌, ◌^◌, true, List, [], ◌∷◌, ◌++◌, length, Some, None}
+use Rattle.std.specs.Prelude.{◌≡◌, ℕ, ◌+◌, ◌-◌, ◌<◌, ◌≤◌, ◌^◌, List, [], ◌∷◌, ◌++◌, length, vec_capacity, Some, None}
 use Rattle.std.specs.List.{All}
 use Rattle.atomic_table.specs.Seated.{TableId}
 use Rattle.td_words.specs.declared.view.SeatView.{SeatView}
@@ -23,6 +23,8 @@ use Rattle.td_host.specs.declared.actor.Actor.{Actor}
 use Rattle.td_host.specs.declared.actor.Guest.{Guest}
 use Rattle.td_host.specs.declared.actor.Worker.{Worker}
 use Rattle.td_host.specs.declared.actor.Actor.TheVariants as kind
+use Rattle.td_vm.specs.Frames.{IsArmed}
+use Rattle.td_host.specs.Actors.{Service}
 use Rattle.td_host.specs.Acting.{RoomsFor, StoresInside, guest_seat, read_seat, post_pass, take_pass, ticket_seat}
 
 -- the host's seat and the first passes, which made so many others and gathered none
@@ -53,11 +55,6 @@ module _ {G : Type 0} where
   abbrev pub view_of : Actor G → SeatView
   view_of (kind.Worker w) = w.seat.view
   view_of (kind.Guest g) = g.seat.view
-
-  -- there was memory for all that the actor did
-  abbrev pub IsComplete : Actor G → Type 0
-  IsComplete (kind.Worker w) = w.complete ≡ true
-  IsComplete (kind.Guest g) = Unit {0}
 
   -- what the actor acts with is of this buffer, this ring and these tickets
   abbrev pub IsAt : BufferState → RingState → TableId → Actor G → Type 0
@@ -104,21 +101,23 @@ module _ {G : Type 0} where
   all_replies (a ∷ ds) = replies_of a ++ all_replies ds
 
   -- ---- before they run
-  -- a worker that did nothing yet
-  pub record FreshWorker (shared : BufferState) (ring : RingState) (tickets : TableId) (opened : List ℕ) (w : Worker G) : Type 0 where
+  -- a worker that did nothing yet, with room for validations by the code and for a reply to each post
+  pub record FreshWorker (shared : BufferState) (ring : RingState) (s : Service) (opened : List ℕ) (w : Worker G) : Type 0 where
     pub seat_number : ℕ
     pub pass_number : ℕ
     pub drawer_number : ℕ
     pub is_seat : w.seat ≡ read_seat shared.table opened seat_number []
     pub is_pass : w.pass ≡ take_pass ring.queue pass_number []
-    pub is_drawer : w.drawer ≡ ticket_seat tickets drawer_number []
+    pub is_drawer : w.drawer ≡ ticket_seat s.tickets drawer_number []
+    pub armed : IsArmed s.code w.frame
     pub no_reply : w.replies.items ≡ []
+    pub room : s.posts ≤ vec_capacity w.replies
 
   -- these are workers, and none did anything yet
-  unfoldable pub FreshWorkers : BufferState → RingState → TableId → List ℕ → List (Actor G) → Type 0
-  FreshWorkers shared ring tickets opened [] = Unit {0}
-  FreshWorkers shared ring tickets opened (kind.Worker w ∷ ds) = FreshWorker shared ring tickets opened w × FreshWorkers shared ring tickets opened ds
-  FreshWorkers shared ring tickets opened (kind.Guest g ∷ ds) = ⊥
+  unfoldable pub FreshWorkers : BufferState → RingState → Service → List ℕ → List (Actor G) → Type 0
+  FreshWorkers shared ring s opened [] = Unit {0}
+  FreshWorkers shared ring s opened (kind.Worker w ∷ ds) = FreshWorker shared ring s opened w × FreshWorkers shared ring s opened ds
+  FreshWorkers shared ring s opened (kind.Guest g ∷ ds) = ⊥
 
   -- the guest of this number and script, whose seat and pass have numbers from n and m on
   pub record FreshGuest (names : Post → Type 0) (shared : BufferState) (ring : RingState) (opened : List ℕ) (number n m : ℕ) (script : List Step) (g : Guest G) : Type 0 where
@@ -143,27 +142,28 @@ module _ {G : Type 0} where
   FreshGuests names shared ring opened number n m (s ∷ ss) (kind.Guest g ∷ ds) =
       (x : FreshGuest names shared ring opened number n m s g) × FreshGuests names shared ring opened (number + 1) (x.seat_number + 1) (x.pass_number + 1) ss ds
 
-  -- workers first, and then a guest for each script
-  pub record Armed (names : Post → Type 0) (shared : BufferState) (ring : RingState) (tickets : TableId) (job : HostJob) (seat : HostState) (posts takes : PassState) (drawer : DrawerState) (actors : List (Actor G)) : Type 0 where
+  -- as many workers as the job has, and then a guest for each script
+  pub record Armed (names : Post → Type 0) (shared : BufferState) (ring : RingState) (s : Service) (job : HostJob) (seat : HostState) (posts takes : PassState) (drawer : DrawerState) (actors : List (Actor G)) : Type 0 where
     pub workers : List (Actor G)
     pub guests : List (Actor G)
     pub are : actors ≡ workers ++ guests
+    pub as_many : length workers ≡ job.workers
     pub some_worker : 0 < length workers
-    pub fresh_workers : FreshWorkers shared ring tickets job.words workers
+    pub fresh_workers : FreshWorkers shared ring s job.words workers
     pub fresh_guests : FreshGuests names shared ring job.words 1 0 0 job.guests guests
     pub host : seat ≡ record { table = shared.table; view = host_view job.words (length workers + length guests) [] }
     pub post_head : posts ≡ pass_state ring.queue (ring_view (Some (head_of (length guests + 1) [])) (Some (part_of 0 [])) None None)
     pub take_head : takes ≡ pass_state ring.queue (ring_view None None (Some (head_of (length workers + 1) [])) (Some (part_of 0 [])))
-    pub ticket_head : drawer ≡ drawer_state tickets (ticket_view (Some (head_of (length workers + 1) [])) (Some (part_of 0 [])))
+    pub ticket_head : drawer ≡ drawer_state s.tickets (ticket_view (Some (head_of (length workers + 1) [])) (Some (part_of 0 [])))
 
   -- ---- how they are made
   -- as many workers as there are gates, and nothing else changed
-  pub record WorkersSeated (shared : BufferState) (ring : RingState) (tickets : TableId) (opened : List ℕ) (count : ℕ) (seat : HostState) (takes : PassState) (drawer : DrawerState) (workers : List (Actor G)) : Type 0 where
+  pub record WorkersSeated (shared : BufferState) (ring : RingState) (s : Service) (opened : List ℕ) (count : ℕ) (seat : HostState) (takes : PassState) (drawer : DrawerState) (workers : List (Actor G)) : Type 0 where
     pub as_many : length workers ≡ count
-    pub fresh : FreshWorkers shared ring tickets opened workers
+    pub fresh : FreshWorkers shared ring s opened workers
     pub is_seat : seat ≡ host_at shared.table opened count
     pub is_takes : takes ≡ takes_at ring.queue (1 + count)
-    pub is_drawer : drawer ≡ draws_at tickets (1 + count)
+    pub is_drawer : drawer ≡ draws_at s.tickets (1 + count)
 
   -- a guest for each script, behind the workers
   pub record GuestsSeated (names : Post → Type 0) (shared : BufferState) (ring : RingState) (job : HostJob) (workers : List (Actor G)) (seat : HostState) (posts : PassState) (actors : List (Actor G)) : Type 0 where

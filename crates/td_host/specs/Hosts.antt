@@ -1,5 +1,5 @@
 -- What a host is before it serves, and afterwards.
-use Rattle.std.specs.Prelude.{◌≡◌, ◌+◌, ◌≤◌, List, [], Option, Some, None}
+use Rattle.std.specs.Prelude.{◌≡◌, ◌+◌, ◌*◌, ◌≤◌, List, [], length, vec_capacity, Option, Some, None}
 use Rattle.std.specs.List.{All}
 use Rattle.td_ring.specs.declared.post.Post.{Post}
 use Rattle.td_words.specs.declared.view.HostView.{HostView}
@@ -9,25 +9,46 @@ use Rattle.td_posts.specs.declared.mail.Mail.{Mail}
 use Rattle.td_posts.specs.declared.reply.Reply.{Reply}
 use Rattle.td_posts.specs.Posts.{all_mails}
 use Rattle.td_posts.specs.Posts.{words_in}
+use Rattle.td_host.specs.declared.actor.Desk.{Desk}
+use Rattle.td_host.specs.declared.gather.Heads.{Heads}
+use Rattle.td_host.specs.declared.serve.Crew.{Crew}
 use Rattle.td_host.specs.declared.serve.Finished.{Finished}
 use Rattle.td_host.specs.declared.host.Host.{Host}
-use Rattle.td_host.specs.Acting.{Fits}
-use Rattle.td_host.specs.Gathered.{Armed}
-use Rattle.td_host.specs.Served.{IsSoundJob, Served}
+use Rattle.td_host.specs.Acting.{Fits, most_frames}
+use Rattle.td_host.specs.Actors.{service_at}
+use Rattle.td_host.specs.Gathered.{Armed, host_at, posts_at, takes_at, draws_at}
+use Rattle.td_host.specs.Served.{IsJobCode, Served}
 
 -- there is such a thing, and this holds of it
 abbrev pub IfThere : {A : Type 0} → Option A → (A → Type 0) → Type 0
 IfThere None P = ⊥
 IfThere (Some x) P = P x
 
--- the host is ready to serve its job
+-- the desk of a job, and what the host acts with, none of which made another yet
+pub record IsOpened {J : Type 0} (d : Desk J) (k : Heads) : Type 0 where
+  pub mails : d.mails.items ≡ all_mails 1 d.job.guests
+  pub count : d.shared.count ≡ length d.job.words
+  pub seat : k.seat ≡ host_at d.shared.table d.job.words 0
+  pub posts : k.posts ≡ posts_at d.ring.queue 1
+  pub takes : k.takes ≡ takes_at d.ring.queue 1
+  pub drawer : k.drawer ≡ draws_at d.tickets 1
+
+-- what is to act at the desk, with room for as many replies as all workers may make, and for one to each post in order
+pub record IsCrew {J G : Type 0} (names : Post → Type 0) (d : Desk J) (k : Crew G) : Type 0 where
+  pub armed : Armed names d.shared d.ring (service_at d) d.job k.heads.seat k.heads.posts k.heads.takes k.heads.drawer k.actors.items
+  pub none_found : k.found.items ≡ []
+  pub found_room : d.job.workers * length d.mails.items ≤ vec_capacity k.found
+  pub no_reply : k.replies.items ≡ []
+  pub reply_room : length d.mails.items ≤ vec_capacity k.replies
+
+-- the host is ready to serve its job, and all room for that is taken
 pub record IsArmed {J G : Type 0} (names : Post → Type 0) (h : Host J G) : Type 0 where
   pub mails : h.desk.mails.items ≡ all_mails 1 h.desk.job.guests
   pub inside : All (λ (m : Mail). m.base + words_in m.length ≤ h.desk.shared.count) h.desk.mails.items
-  pub says : (p : Post) → names p → Fits h.desk.job p
-  pub sound : IsSoundJob h.desk.job
+  pub says : (p : Post) → names p → Fits (most_frames h.desk.code) h.desk.job p
+  pub code : IsJobCode h.desk.code h.desk.job
   pub unserved : h.finished ≡ None
-  pub armed : IfThere h.heads (λ k. Armed names h.desk.shared h.desk.ring h.desk.tickets h.desk.job k.seat k.posts k.takes k.drawer h.actors.items)
+  pub armed : IfThere h.crew (IsCrew names h.desk)
 
 -- all posts of the host's job are served, by its own seats and passes
 abbrev pub IsServed : {J G : Type 0} → Host J G → Type 0

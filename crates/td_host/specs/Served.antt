@@ -9,13 +9,16 @@ use Rattle.td_expr.specs.Sound.{Sound}
 use Rattle.td_meaning.specs.Meaning.{meaning}
 use Rattle.td_meaning.specs.Throughout.{Throughout}
 use Rattle.td_leaves.specs.Outcomes.{IsBehaviorOf}
+use Rattle.td_ir.specs.declared.tables.Parts.{Parts}
+use Rattle.td_ir.specs.Entries.{Fits as FitsEntry}
+use Rattle.td_lowered.specs.CodeRun.{IsCodeOf}
 use Rattle.td_words.specs.declared.view.SeatView.{SeatView}
 use Rattle.td_words.specs.declared.view.HostView.{HostView}
 use Rattle.td_words.specs.History.{Entry, loads, stores}
 use Rattle.td_words.specs.Gathered.{Told}
 use Rattle.td_roll.specs.declared.parts.Part.{Part}
 use Rattle.td_roll.specs.declared.parts.Head.{Head}
-use Rattle.td_roll.specs.Roll.{owned}
+use Rattle.td_roll.specs.Roll.{part_of, owned}
 use Rattle.td_ring.specs.declared.post.Post.{Post}
 use Rattle.td_ring.specs.declared.view.RingView.{RingView}
 use Rattle.td_posts.specs.declared.job.Step.{Step}
@@ -30,6 +33,15 @@ AreBytes message = (i : ℕ) → slice_index message i < 256
 -- whatever bytes a message of the job has, each expression that the meaning evaluates lies in its type's range
 abbrev pub IsSoundJob : HostJob → Type 0
 IsSoundJob job = (b : List ℕ) → AreBytes b → length b < 2 ^ 32 → Throughout Sound job.format job.entry job.args (zeros job.cells) b
+
+-- the job can be done by this code: it is that of the job's module, and the job's arguments and cells of zeros fit its entry point
+pub record JobCode (c : Parts) (job : HostJob) : Type 0 where
+  pub code : IsCodeOf c job.format
+  pub fits : FitsEntry c job.entry job.args (zeros job.cells)
+  pub sound : IsSoundJob job
+
+unfoldable pub IsJobCode : Parts → HostJob → Type 0
+IsJobCode c job = JobCode c job
 
 -- the reply to a post: its words rise and lie in the message, and its outcome is the module's meaning, from cells of zeros,
 -- on every list of bytes that carries its loads, which are of exactly the words that the meaning reads
@@ -100,9 +112,9 @@ In x (y ∷ ys) = (y ≡ x) ⊎ In x ys
 abbrev pub Comes : HostJob → ℕ × ℕ → Type 0
 Comes job l = (l.1 ≡ slice_index job.words l.0) ⊎ ((s : List Step) × In s job.guests × In (l.0, l.1) (stores_of s))
 
--- what the host's seat knows of all that was done to the buffer: it gathered each seat that it made, first the readers and
--- then a guest for each script; all their loads and stores stand in one history, and so each load is the opening word, or
--- some guest's script stores it to that word
+-- what the host's seat knows of all that was done to the buffer: it gathered each seat that it made, first the readers, which
+-- stored nothing, and then a guest for each script; all their loads and stores stand in one history, and so each load is the
+-- opening word, or some guest's script stores it to that word
 pub record SeatsServed (job : HostJob) (replies : List Reply) (host : HostView) : Type 0 where
   pub readers : List SeatView
   pub guests : List SeatView
@@ -111,7 +123,7 @@ pub record SeatsServed (job : HostJob) (replies : List Reply) (host : HostView) 
   pub opened : host.opened ≡ job.words
   pub history : List Entry
   pub told : Told host history
-  pub reading : All (λ v. v.guest ≡ false) readers
+  pub reading : All (λ (v : SeatView). (v.guest ≡ false) × (stores v.steps ≡ [])) readers
   pub divided : Divided (all_mails 1 job.guests) readers replies
   pub stored_by : AreStored 0 job.guests guests
   pub fetched : (v : SeatView) (l : ℕ × ℕ) → In v readers → In l (loads v.steps) → Comes job l
@@ -132,12 +144,15 @@ ArePosted g n [] (p ∷ ps) = ⊥
 ArePosted g n (s ∷ ss) [] = ⊥
 ArePosted g n (s ∷ ss) (p ∷ ps) = (n ≤ p.number) × (map label p.own ≡ map mail_label (mails_of g s)) × ArePosted (g + 1) (p.number + 1) ss ps
 
--- what the ring's first pass knows: it gathered each pass that was made, and what was taken is what was posted, each once
+-- what the ring's two first passes know, the one that posts and the one that takes: they posted and took nothing themselves,
+-- they gathered each pass that was made, and what was taken is what was posted, each once
 pub record PassesServed (job : HostJob) (passes : RingView) : Type 0 where
   pub posts : Head Post
   pub takes : Head Post
   pub post_head : passes.put_head ≡ Some posts
   pub take_head : passes.take_head ≡ Some takes
+  pub no_post : passes.put ≡ Some (part_of 0 [])
+  pub no_take : passes.take ≡ Some (part_of 0 [])
   pub all_posts : length posts.ended + 1 ≡ posts.made
   pub all_takes : length takes.ended + 1 ≡ takes.made
   pub posted : ArePosted 1 0 job.guests posts.ended

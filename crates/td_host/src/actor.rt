@@ -1,16 +1,15 @@
 //! What runs in a thread.
 
-ghost use Rattle.std.specs.Prelude.{◌≡◌, ◌+◌, ◌≤◌, true};
+ghost use Rattle.std.specs.Prelude.{◌≡◌, ◌+◌, ◌≤◌};
 ghost use Rattle.std.specs.List.{All};
 ghost use Rattle.td_ring.specs.declared.post.Post.{Post};
 ghost use Rattle.td_posts.specs.Posts.{all_mails, words_in};
-ghost use Rattle.td_host.specs.Served.{IsSoundJob};
-ghost use Rattle.td_host.specs.Acting.{Fits};
-ghost use Rattle.td_host.specs.Actors.{IsReady, Did};
+ghost use Rattle.td_host.specs.Served.{IsJobCode};
+ghost use Rattle.td_host.specs.Acting.{Fits, most_frames};
+ghost use Rattle.td_host.specs.Actors.{IsReady, Did, service_at};
 
 use crate::guest::run_script;
 use crate::worker::run_worker;
-use std::alloc::Global;
 use std::collections::VecDeque;
 use std::sync::Wait;
 use td_live::gate::Gate;
@@ -23,15 +22,18 @@ use td_ring::passes::{PostPass, TakePass};
 use td_ring::ring::Ring;
 use td_ring::ticket_seat::TicketSeat;
 use td_ring::tickets::Tickets;
+use td_verify::verify::Verified;
+use td_vm::validate::Frame;
 use td_words::seats::{GuestSeat, ReadSeat};
 use td_words::shared::Shared;
 
-/// What all actors look at: the buffer, the ring, the tickets, and the job.
+/// What all actors look at: the buffer, the ring, the tickets, the code of the job's module, and the job.
 #[derive(Drop)]
 pub struct Desk<J: Naming> {
     pub shared: Shared,
     pub ring: Ring<J>,
     pub tickets: Tickets,
+    pub code: Verified,
     pub job: HostJob,
     /// The job's posts, by guest and number.
     pub mails: Vec<Mail>,
@@ -48,15 +50,14 @@ pub struct Guest<G> {
     pub gate: G,
 }
 
-/// A worker: what it acts with, and the replies that it made.
+/// A worker: what it acts with, the room for its validations, and the replies that it made, with room for one to each post.
 #[derive(Drop)]
 pub struct Worker<G> {
     pub seat: ReadSeat,
     pub pass: TakePass,
     pub drawer: TicketSeat,
+    pub frame: Frame,
     pub replies: Vec<Reply>,
-    /// Whether there was memory for each answer.
-    pub complete: bool,
     pub gate: G,
 }
 
@@ -68,32 +69,31 @@ pub enum Actor<G> {
 }
 
 impl<G: Gate> Actor<G> {
-    /// Does all that the actor has to do: a worker answers posts, a guest runs its script.
-    pub fn run<J: Naming, R: Wait>(&mut self, rt: &R, alloc: Global, desk: &Desk<J>)
-        requires ready { IsReady J.names desk.now.shared desk.now.ring desk.now.tickets self.old }
+    /// Does all that the actor has to do: a worker answers posts, a guest runs its script. It takes no memory.
+    pub fn run<J: Naming, R: Wait>(&mut self, rt: &R, desk: &Desk<J>)
+        requires ready { IsReady J.names desk.now.shared desk.now.ring (service_at desk.now) self.old }
         requires mails { desk.now.mails.items ≡ all_mails 1 desk.now.job.guests }
         requires inside { All (λ m. m.base + words_in m.length ≤ desk.now.shared.count) desk.now.mails.items }
-        requires says { (p : Post) → J.names p → Fits desk.now.job p }
-        requires sound { IsSoundJob desk.now.job }
+        requires says { (p : Post) → J.names p → Fits (most_frames desk.now.code) desk.now.job p }
+        requires code { IsJobCode desk.now.code desk.now.job }
         ensures { Did desk.now.job desk.now.mails.items self.old self.new }
     {
         match self {
-            Actor::Worker(worker) => {
-                worker.complete = run_worker(
-                    rt,
-                    alloc,
-                    &desk.shared,
-                    &desk.ring,
-                    &desk.tickets,
-                    &desk.job,
-                    desk.mails.as_slice(),
-                    &mut worker.seat,
-                    &mut worker.pass,
-                    &mut worker.drawer,
-                    &mut worker.replies,
-                    &mut worker.gate,
-                );
-            }
+            Actor::Worker(worker) => run_worker(
+                rt,
+                &desk.shared,
+                &desk.ring,
+                &desk.tickets,
+                &desk.code,
+                &desk.job,
+                desk.mails.as_slice(),
+                &mut worker.seat,
+                &mut worker.pass,
+                &mut worker.drawer,
+                &mut worker.frame,
+                &mut worker.replies,
+                &mut worker.gate,
+            ),
             Actor::Guest(guest) => run_script(
                 rt,
                 &desk.shared,

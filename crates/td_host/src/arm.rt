@@ -1,14 +1,19 @@
 //! Takes all room for a job, and makes what acts in it.
 
-ghost use Rattle.std.specs.Prelude.{◌≡◌, ◌-◌, ◌<◌, ◌≤◌, ◌^◌, [], ◌++◌, length, IfOk, OnOk, Some};
+ghost use Rattle.std.specs.Prelude.{◌≡◌, ◌+◌, ◌-◌, ◌*◌, ◌<◌, ◌≤◌, ◌^◌, [], ◌++◌, length, vec_capacity, IfOk, OnOk, Some};
 ghost use Rattle.std.specs.List.{All};
 ghost use Rattle.td_ring.specs.declared.post.Post.{Post};
 ghost use Rattle.td_posts.specs.Posts.{mails_of, all_mails, mail_named, words_in, zeros, reply_name};
-ghost use Rattle.td_host.specs.Acting.{Fits, RoomsFor};
+ghost use Rattle.td_posts.specs.Servable.{IsServable};
+ghost use Rattle.td_posts.specs.declared.limits.TheConstants.{MOST_WORKERS, MOST_POSTS};
+ghost use Rattle.td_host.specs.Acting.{Fits, most_frames, RoomsFor};
+ghost use Rattle.td_host.specs.Hosts.{IsOpened, IsCrew};
+ghost use Rattle.td_host.specs.Actors.{service_at};
 ghost use Rattle.td_host.specs.Gathered.{IsBounded, host_at, posts_at, takes_at, draws_at, WorkersSeated, GuestsSeated};
 
 use crate::actor::{Actor, Desk, Guest, Worker};
 use crate::gather::Heads;
+use crate::serve::Crew;
 use std::alloc::{AllocError, Global};
 use std::collections::VecDeque;
 use td_core::outcome::Verdict;
@@ -22,6 +27,8 @@ use td_ring::naming::Naming;
 use td_ring::ring::Ring;
 use td_ring::tickets::Tickets;
 use td_stream::loads::Loads;
+use td_verify::verify::Verified;
+use td_vm::validate::Frame;
 use td_words::shared::Shared;
 
 /// The posts of a guest's script.
@@ -49,7 +56,7 @@ fn add_mails(guest: u32, script: &[Step], mails: &mut Vec<Mail>) -> Result<(), A
 }
 
 /// The posts of all guests, by guest and number.
-pub(crate) fn mails_of_all(alloc: Global, guests: &[Items<Step>]) -> Result<Vec<Mail>, AllocError>
+fn mails_of_all(alloc: Global, guests: &[Items<Step>]) -> Result<Vec<Mail>, AllocError>
     requires few { length guests.now < 2 ^ 32 - 1 }
     requires short { All (λ s. length s < 2 ^ 32) guests.now }
     ensures { IfOk result (λ v. v.items ≡ all_mails 1 guests.now) }
@@ -61,18 +68,26 @@ pub(crate) fn mails_of_all(alloc: Global, guests: &[Items<Step>]) -> Result<Vec<
     Ok(mails)
 }
 
-/// Room for the reply to a post.
-fn room_for(alloc: Global, job: &HostJob, name: PostName, length: u32) -> Result<Reply, AllocError>
+/// Room for the reply to a post of a message of `length` bytes, whose failure has so many frames at most.
+fn room_for(
+    alloc: Global,
+    job: &HostJob,
+    frames: usize,
+    name: PostName,
+    length: u32,
+) -> Result<Reply, AllocError>
     ensures name { IfOk result (λ r. reply_name r ≡ name) }
     ensures empty { IfOk result (λ r. r.loads.list ≡ []) }
     ensures room { IfOk result (λ r. words_in length ≤ r.loads.room) }
     ensures cells { IfOk result (λ r. r.cells.items ≡ zeros job.now.cells) }
+    ensures untold { IfOk result (λ r. r.trace.items ≡ []) }
+    ensures trace_room { IfOk result (λ r. frames ≤ vec_capacity r.trace) }
 {
     Ok(Reply {
         guest: name.guest,
         number: name.number,
         verdict: Verdict::Accept { pos: 0 },
-        trace: Items::new(alloc),
+        trace: Vec::with_capacity(alloc, frames)?,
         cells: vec![in alloc; 0; job.cells as usize]?,
         loads: Loads::with_room(alloc, word_count(length))?,
     })
@@ -82,12 +97,13 @@ fn room_for(alloc: Global, job: &HostJob, name: PostName, length: u32) -> Result
 fn rooms_for<J: Naming>(
     alloc: Global,
     job: &HostJob,
+    frames: usize,
     guest: u32,
     script: &[Step],
 ) -> Result<VecDeque<Reply>, AllocError>
     requires few { length script.now < 2 ^ 32 }
     requires first { All (λ m. mail_named m.name (all_mails 1 job.now.guests) ≡ Some m) (mails_of guest script.now) }
-    requires said { (p : Post) → Fits job.now p → J.names p }
+    requires said { (p : Post) → Fits frames job.now p → J.names p }
     ensures { IfOk result (λ rooms. RoomsFor J.names (mails_of guest script.now) rooms.items) }
 {
     let mut rooms = VecDeque::new(alloc);
@@ -98,37 +114,35 @@ fn rooms_for<J: Naming>(
             Step::Post { base: _, length } => {
                 number += 1;
                 let name = PostName { guest, number };
-                rooms.push_back(room_for(alloc, job, name, length)?)?;
+                rooms.push_back(room_for(alloc, job, frames, name, length)?)?;
             }
         }
     }
     Ok(rooms)
 }
 
-/// Makes a worker for each gate.
-pub(crate) fn seat_workers<J: Naming, G: Drop>(
+/// Makes a worker for each gate, with room for validations and for a reply to each post.
+fn seat_workers<J: Naming, G: Drop>(
     alloc: Global,
-    shared: &Shared,
-    ring: &Ring<J>,
-    tickets: &Tickets,
+    desk: &Desk<J>,
     heads: &mut Heads,
     gates: Vec<G>,
     actors: &mut Vec<Actor<G>>,
 ) -> Result<(), AllocError>
-    requires seat { heads.old.seat ≡ host_at shared.now.table heads.old.seat.view.opened 0 }
-    requires takes { heads.old.takes ≡ takes_at ring.now.queue 1 }
-    requires drawer { heads.old.drawer ≡ draws_at tickets.now 1 }
+    requires seat { heads.old.seat ≡ host_at desk.now.shared.table heads.old.seat.view.opened 0 }
+    requires takes { heads.old.takes ≡ takes_at desk.now.ring.queue 1 }
+    requires drawer { heads.old.drawer ≡ draws_at desk.now.tickets 1 }
     requires empty { actors.old.items ≡ [] }
-    ensures seated { OnOk result (WorkersSeated shared.now ring.now tickets.now heads.old.seat.view.opened (length gates.items) heads.new.seat heads.new.takes heads.new.drawer actors.new.items) }
+    ensures seated { OnOk result (WorkersSeated desk.now.shared desk.now.ring (service_at desk.now) heads.old.seat.view.opened (length gates.items) heads.new.seat heads.new.takes heads.new.drawer actors.new.items) }
     ensures posts { OnOk result (heads.new.posts ≡ heads.old.posts) }
 {
     for gate in gates {
         let worker = Worker {
-            seat: shared.split_reader(&mut heads.seat),
-            pass: ring.split_take(&mut heads.takes),
-            drawer: tickets.split(&mut heads.drawer),
-            replies: Vec::new(alloc),
-            complete: true,
+            seat: desk.shared.split_reader(&mut heads.seat),
+            pass: desk.ring.split_take(&mut heads.takes),
+            drawer: desk.tickets.split(&mut heads.drawer),
+            frame: Frame::arm(alloc, &desk.code)?,
+            replies: Vec::with_capacity(alloc, desk.mails.len())?,
             gate,
         };
         actors.push(Actor::Worker(worker))?;
@@ -136,39 +150,125 @@ pub(crate) fn seat_workers<J: Naming, G: Drop>(
     Ok(())
 }
 
-/// Makes a guest for each script.
-pub(crate) fn seat_guests<J: Naming, G: Drop>(
+/// Makes a guest for each script, with rooms for failures of so many frames.
+fn seat_guests<J: Naming, G: Drop>(
     alloc: Global,
-    shared: &Shared,
-    ring: &Ring<J>,
-    job: &HostJob,
+    desk: &Desk<J>,
+    frames: usize,
     heads: &mut Heads,
     gates: Vec<G>,
     actors: &mut Vec<Actor<G>>,
 ) -> Result<(), AllocError>
-    requires seat { heads.old.seat ≡ host_at shared.now.table job.now.words (length actors.old.items) }
-    requires posts { heads.old.posts ≡ posts_at ring.now.queue 1 }
-    requires bounded { IsBounded job.now }
-    requires count { shared.now.count ≡ length job.now.words }
-    requires gates { length gates.items ≡ length job.now.guests }
-    requires said { (p : Post) → Fits job.now p → J.names p }
-    ensures seated { OnOk result (GuestsSeated J.names shared.now ring.now job.now actors.old.items heads.new.seat heads.new.posts actors.new.items) }
+    requires seat { heads.old.seat ≡ host_at desk.now.shared.table desk.now.job.words (length actors.old.items) }
+    requires posts { heads.old.posts ≡ posts_at desk.now.ring.queue 1 }
+    requires bounded { IsBounded desk.now.job }
+    requires count { desk.now.shared.count ≡ length desk.now.job.words }
+    requires gates { length gates.items ≡ length desk.now.job.guests }
+    requires said { (p : Post) → Fits frames desk.now.job p → J.names p }
+    ensures seated { OnOk result (GuestsSeated J.names desk.now.shared desk.now.ring desk.now.job actors.old.items heads.new.seat heads.new.posts actors.new.items) }
     ensures takes { OnOk result (heads.new.takes ≡ heads.old.takes) }
     ensures drawer { OnOk result (heads.new.drawer ≡ heads.old.drawer) }
 {
     let mut n = 0;
     for gate in gates {
-        let script = job.guests.as_slice()[n].as_slice();
+        let script = desk.job.guests.as_slice()[n].as_slice();
         n += 1;
         let guest = Guest {
             number: n as u32,
             script: Items::copy_of(alloc, script)?,
-            seat: shared.split_guest(&mut heads.seat),
-            pass: ring.split_post(&mut heads.posts),
-            rooms: rooms_for::<J>(alloc, job, n as u32, script)?,
+            seat: desk.shared.split_guest(&mut heads.seat),
+            pass: desk.ring.split_post(&mut heads.posts),
+            rooms: rooms_for::<J>(alloc, &desk.job, frames, n as u32, script)?,
             gate,
         };
         actors.push(Actor::Guest(guest))?;
     }
     Ok(())
+}
+
+/// The desk of a job, with a new buffer, ring and tickets, and what the host acts with.
+pub(crate) fn open_desk<J: Naming>(
+    alloc: Global,
+    code: Verified,
+    job: HostJob,
+) -> Result<(Desk<J>, Heads), AllocError>
+    requires { IsServable job }
+    ensures code { IfOk result (λ r. r.0.code ≡ code) }
+    ensures job { IfOk result (λ r. r.0.job ≡ job) }
+    ensures opened { IfOk result (λ r. IsOpened r.0 r.1) }
+{
+    let mails = mails_of_all(alloc, job.guests.as_slice())?;
+    let (shared, seat) = Shared::open(alloc, job.words.as_slice())?;
+    let (ring, posts, takes) = Ring::new(alloc, (mails.len() as u32).max(1))?;
+    let (tickets, drawer) = Tickets::new(alloc)?;
+    let desk = Desk {
+        shared,
+        ring,
+        tickets,
+        code,
+        job,
+        mails,
+    };
+    let heads = Heads {
+        seat,
+        posts,
+        takes,
+        drawer,
+    };
+    Ok((desk, heads))
+}
+
+/// How many frames a failure of this code has at most. `AllocError`: there was no memory to find it.
+fn frames_of(alloc: Global, code: &Verified) -> Result<usize, AllocError>
+    ensures { IfOk result (λ frames. frames ≡ most_frames code.now) }
+{
+    let frame = Frame::arm(alloc, code)?;
+    Ok(frame.trace_room())
+}
+
+/// Room for as many replies as all workers may make, and for one to each post.
+fn reply_rooms(
+    alloc: Global,
+    workers: usize,
+    posts: usize,
+) -> Result<(Vec<Reply>, Vec<Reply>), AllocError>
+    requires workers { workers ≤ MOST_WORKERS }
+    requires posts { posts ≤ MOST_POSTS }
+    ensures found { IfOk result (λ r. (r.0.items ≡ []) × (workers * posts ≤ vec_capacity r.0)) }
+    ensures replies { IfOk result (λ r. (r.1.items ≡ []) × (posts ≤ vec_capacity r.1)) }
+{
+    let most = workers * posts;
+    let found = Vec::with_capacity(alloc, most)?;
+    let replies = Vec::with_capacity(alloc, posts)?;
+    Ok((found, replies))
+}
+
+/// What acts at a desk, with a gate for each worker and then one for each guest, and the room for what it does.
+pub(crate) fn make_crew<J: Naming, G: Drop>(
+    alloc: Global,
+    desk: &Desk<J>,
+    heads: Heads,
+    gates: Vec<G>,
+) -> Result<Crew<G>, AllocError>
+    requires servable { IsServable desk.now.job }
+    requires opened { IsOpened desk.now heads }
+    requires gates { length gates.items ≡ desk.now.job.workers + length desk.now.job.guests }
+    requires said { (p : Post) → Fits (most_frames desk.now.code) desk.now.job p → J.names p }
+    ensures { IfOk result (λ crew. IsCrew J.names desk.now crew) }
+{
+    let workers = desk.job.workers as usize;
+    let (found, replies) = reply_rooms(alloc, workers, desk.mails.len())?;
+    let frames = frames_of(alloc, &desk.code)?;
+    let mut heads = heads;
+    let mut gates = gates;
+    let guest_gates = gates.split_off(workers)?;
+    let mut actors = Vec::new(alloc);
+    seat_workers(alloc, desk, &mut heads, gates, &mut actors)?;
+    seat_guests(alloc, desk, frames, &mut heads, guest_gates, &mut actors)?;
+    Ok(Crew {
+        heads,
+        actors,
+        found,
+        replies,
+    })
 }

@@ -1,16 +1,15 @@
 //! The host takes back what all actors had.
 
-ghost use Rattle.std.specs.Prelude.{◌≡◌, ◌++◌, true, OnOk};
+ghost use Rattle.std.specs.Prelude.{◌≡◌, ◌+◌, ◌≤◌, ◌++◌, length, vec_capacity};
 ghost use Rattle.std.specs.List.{All};
 ghost use Rattle.td_words.specs.Seats.{with_view};
 ghost use Rattle.td_words.specs.Views.{with_ended};
 ghost use Rattle.td_roll.specs.Heads.{HasHead};
 ghost use Rattle.td_ring.specs.Ring.{pass_with, with_put, with_take};
 ghost use Rattle.td_ring.specs.Tickets.{drawer_with, with_seat};
-ghost use Rattle.td_host.specs.Gathered.{IsComplete, IsAt, view_of, put_one, take_one, draw_one, replies_of, seats_all, puts_all, takes_all, draws_all, all_replies};
+ghost use Rattle.td_host.specs.Gathered.{IsAt, view_of, put_one, take_one, draw_one, replies_of, seats_all, puts_all, takes_all, draws_all, all_replies};
 
 use crate::actor::{Actor, Desk, Guest, Worker};
-use std::alloc::AllocError;
 use td_posts::reply::Reply;
 use td_ring::naming::Naming;
 use td_ring::passes::{PostPass, TakePass};
@@ -26,60 +25,41 @@ pub struct Heads {
     pub drawer: TicketSeat,
 }
 
-/// Whether there was memory for all that the actor did.
-fn is_complete<G>(actor: &Actor<G>) -> bool
-    ensures { result ≡ true → IsComplete actor.now }
-{
-    match actor {
-        Actor::Worker(worker) => worker.complete,
-        Actor::Guest(_) => true,
-    }
-}
-
-/// Whether there was memory for all that the actors did.
-pub fn all_complete<G>(actors: &[Actor<G>]) -> bool
-    ensures { result ≡ true → All IsComplete actors.now }
-{
-    for actor in actors {
-        if !is_complete(actor) {
-            return false;
-        }
-    }
-    true
-}
-
 /// Takes back what a worker had.
 fn gather_worker<J: Naming, G: Drop>(
     desk: &Desk<J>,
     heads: &mut Heads,
     found: &mut Vec<Reply>,
     worker: Worker<G>,
-) -> Result<(), AllocError>
+)
     requires seat { heads.old.seat.table ≡ desk.now.shared.table }
     requires passes { (heads.old.posts.queue ≡ desk.now.ring.queue) × (heads.old.takes.queue ≡ desk.now.ring.queue) }
     requires drawer { heads.old.drawer.table ≡ desk.now.tickets }
     requires first { HasHead heads.old.posts.view.put_head × HasHead heads.old.takes.view.take_head × HasHead heads.old.drawer.view.head }
     requires at { (worker.seat.table ≡ desk.now.shared.table) × (worker.pass.queue ≡ desk.now.ring.queue) × (worker.drawer.table ≡ desk.now.tickets) }
-    ensures seat { OnOk result (heads.new.seat ≡ with_view heads.old.seat (with_ended heads.old.seat.view worker.seat.view)) }
-    ensures posts { OnOk result (heads.new.posts ≡ heads.old.posts) }
-    ensures takes { OnOk result (heads.new.takes ≡ pass_with heads.old.takes (with_take heads.old.takes.view worker.pass.view)) }
-    ensures drawer { OnOk result (heads.new.drawer ≡ drawer_with heads.old.drawer (with_seat heads.old.drawer.view worker.drawer.view)) }
-    ensures found { OnOk result (found.new.items ≡ found.old.items ++ worker.replies.items) }
+    requires room { length found.old.items + length worker.replies.items ≤ vec_capacity found.old }
+    ensures seat { heads.new.seat ≡ with_view heads.old.seat (with_ended heads.old.seat.view worker.seat.view) }
+    ensures posts { heads.new.posts ≡ heads.old.posts }
+    ensures takes { heads.new.takes ≡ pass_with heads.old.takes (with_take heads.old.takes.view worker.pass.view) }
+    ensures drawer { heads.new.drawer ≡ drawer_with heads.old.drawer (with_seat heads.old.drawer.view worker.drawer.view) }
+    ensures found { found.new.items ≡ found.old.items ++ worker.replies.items }
+    ensures capacity { vec_capacity found.old ≤ vec_capacity found.new }
 {
     let Worker {
         seat,
         pass,
         drawer,
         replies,
-        complete: _,
+        frame: _,
         gate: _,
     } = worker;
     let mut replies = replies;
-    found.append(&mut replies)?;
+    let Ok(()) = found.append(&mut replies) else {
+        unreachable!()
+    };
     desk.shared.gather_reader(&mut heads.seat, seat);
     desk.ring.gather_take(&mut heads.takes, pass);
     desk.tickets.gather(&mut heads.drawer, drawer);
-    Ok(())
 }
 
 /// Takes back what a guest had.
@@ -112,48 +92,47 @@ fn gather_one<J: Naming, G: Drop>(
     heads: &mut Heads,
     found: &mut Vec<Reply>,
     actor: Actor<G>,
-) -> Result<(), AllocError>
+)
     requires seat { heads.old.seat.table ≡ desk.now.shared.table }
     requires passes { (heads.old.posts.queue ≡ desk.now.ring.queue) × (heads.old.takes.queue ≡ desk.now.ring.queue) }
     requires drawer { heads.old.drawer.table ≡ desk.now.tickets }
     requires first { HasHead heads.old.posts.view.put_head × HasHead heads.old.takes.view.take_head × HasHead heads.old.drawer.view.head }
     requires at { IsAt desk.now.shared desk.now.ring desk.now.tickets actor }
-    ensures seat { OnOk result (heads.new.seat ≡ with_view heads.old.seat (with_ended heads.old.seat.view (view_of actor))) }
-    ensures posts { OnOk result (heads.new.posts ≡ pass_with heads.old.posts (put_one heads.old.posts.view actor)) }
-    ensures takes { OnOk result (heads.new.takes ≡ pass_with heads.old.takes (take_one heads.old.takes.view actor)) }
-    ensures drawer { OnOk result (heads.new.drawer ≡ drawer_with heads.old.drawer (draw_one heads.old.drawer.view actor)) }
-    ensures found { OnOk result (found.new.items ≡ found.old.items ++ replies_of actor) }
+    requires room { length found.old.items + length (replies_of actor) ≤ vec_capacity found.old }
+    ensures seat { heads.new.seat ≡ with_view heads.old.seat (with_ended heads.old.seat.view (view_of actor)) }
+    ensures posts { heads.new.posts ≡ pass_with heads.old.posts (put_one heads.old.posts.view actor) }
+    ensures takes { heads.new.takes ≡ pass_with heads.old.takes (take_one heads.old.takes.view actor) }
+    ensures drawer { heads.new.drawer ≡ drawer_with heads.old.drawer (draw_one heads.old.drawer.view actor) }
+    ensures found { found.new.items ≡ found.old.items ++ replies_of actor }
+    ensures capacity { vec_capacity found.old ≤ vec_capacity found.new }
 {
     match actor {
-        Actor::Worker(worker) => Ok(gather_worker(desk, heads, found, worker)?),
-        Actor::Guest(guest) => {
-            gather_guest(desk, heads, guest);
-            Ok(())
-        }
+        Actor::Worker(worker) => gather_worker(desk, heads, found, worker),
+        Actor::Guest(guest) => gather_guest(desk, heads, guest),
     }
 }
 
-/// Takes back what all actors had, in order. `AllocError`: there was no memory for the list of replies.
+/// Takes back what all actors had, in order. The list has room for their replies, so this takes no memory.
 pub fn gather_all<J: Naming, G: Drop>(
     desk: &Desk<J>,
     heads: &mut Heads,
     found: &mut Vec<Reply>,
     actors: Vec<Actor<G>>,
-) -> Result<(), AllocError>
+)
     requires seat { heads.old.seat.table ≡ desk.now.shared.table }
     requires passes { (heads.old.posts.queue ≡ desk.now.ring.queue) × (heads.old.takes.queue ≡ desk.now.ring.queue) }
     requires drawer { heads.old.drawer.table ≡ desk.now.tickets }
     requires first { HasHead heads.old.posts.view.put_head × HasHead heads.old.takes.view.take_head × HasHead heads.old.drawer.view.head }
     requires at { All (IsAt desk.now.shared desk.now.ring desk.now.tickets) actors.items }
-    ensures seat { OnOk result (heads.new.seat ≡ with_view heads.old.seat (seats_all heads.old.seat.view actors.items)) }
-    ensures posts { OnOk result (heads.new.posts ≡ pass_with heads.old.posts (puts_all heads.old.posts.view actors.items)) }
-    ensures takes { OnOk result (heads.new.takes ≡ pass_with heads.old.takes (takes_all heads.old.takes.view actors.items)) }
-    ensures drawer { OnOk result (heads.new.drawer ≡ drawer_with heads.old.drawer (draws_all heads.old.drawer.view actors.items)) }
-    ensures first { OnOk result (HasHead heads.new.posts.view.put_head × HasHead heads.new.takes.view.take_head) }
-    ensures found { OnOk result (found.new.items ≡ found.old.items ++ all_replies actors.items) }
+    requires room { length found.old.items + length (all_replies actors.items) ≤ vec_capacity found.old }
+    ensures seat { heads.new.seat ≡ with_view heads.old.seat (seats_all heads.old.seat.view actors.items) }
+    ensures posts { heads.new.posts ≡ pass_with heads.old.posts (puts_all heads.old.posts.view actors.items) }
+    ensures takes { heads.new.takes ≡ pass_with heads.old.takes (takes_all heads.old.takes.view actors.items) }
+    ensures drawer { heads.new.drawer ≡ drawer_with heads.old.drawer (draws_all heads.old.drawer.view actors.items) }
+    ensures first { HasHead heads.new.posts.view.put_head × HasHead heads.new.takes.view.take_head }
+    ensures found { found.new.items ≡ found.old.items ++ all_replies actors.items }
 {
     for actor in actors {
-        gather_one(desk, heads, found, actor)?;
+        gather_one(desk, heads, found, actor);
     }
-    Ok(())
 }

@@ -1,6 +1,6 @@
 //! Replies in the order of the posts.
 
-ghost use Rattle.std.specs.Prelude.{◌≡◌, ℕ, ◌<◌, false, map, length, slice_index_or, IfOk, MatchOption};
+ghost use Rattle.std.specs.Prelude.{◌≡◌, ℕ, ◌<◌, ◌≤◌, [], false, map, length, slice_index_or, vec_capacity, MatchOption};
 ghost use Rattle.std.specs.List.{All, sum_by};
 ghost use Rattle.std.specs.List.Sorted.{IsPermutation};
 ghost use Rattle.td_posts.specs.declared.name.PostName.{PostName};
@@ -8,7 +8,6 @@ ghost use Rattle.td_posts.specs.declared.mail.Mail.{Mail};
 ghost use Rattle.td_posts.specs.declared.reply.Reply.{Reply};
 ghost use Rattle.td_posts.specs.Posts.{same_name, reply_name};
 
-use std::alloc::{AllocError, Global};
 use td_posts::mail::Mail;
 use td_posts::name::PostName;
 use td_posts::reply::Reply;
@@ -34,20 +33,19 @@ fn place_of(replies: &[Reply], name: PostName) -> Option<usize>
     None
 }
 
-/// The replies in the order of the posts, of which each has one of its name. `AllocError`: there was no memory for the
-/// list.
-pub fn in_order(alloc: Global, mails: &[Mail], found: Vec<Reply>) -> Result<Vec<Reply>, AllocError>
-    requires { (f : PostName → ℕ) → sum_by f (map reply_name found.items) ≡ sum_by f (map (λ m. m.name) mails.now) }
-    ensures names { IfOk result (λ v. map reply_name v.items ≡ map (λ m. m.name) mails.now) }
-    ensures order { IfOk result (λ v. IsPermutation found.items v.items) }
+/// Puts the replies into a list in the order of the posts, of which each has one of its name. The list has room for them.
+pub fn put_in_order(mails: &[Mail], found: Vec<Reply>, replies: &mut Vec<Reply>)
+    requires each { (f : PostName → ℕ) → sum_by f (map reply_name found.items) ≡ sum_by f (map (λ m. m.name) mails.now) }
+    requires empty { replies.old.items ≡ [] }
+    requires room { length mails.now ≤ vec_capacity replies.old }
+    ensures names { map reply_name replies.new.items ≡ map (λ m. m.name) mails.now }
+    ensures order { IsPermutation found.items replies.new.items }
 {
     let mut left = found;
-    let mut replies = Vec::with_capacity(alloc, mails.len())?;
     for mail in mails {
         let Some(place) = place_of(left.as_slice(), mail.name) else {
             unreachable!()
         };
-        replies.push(left.swap_remove(place))?;
+        replies.push_reserved(left.swap_remove(place));
     }
-    Ok(replies)
 }

@@ -1,18 +1,17 @@
 //! All actors at once, and what they then did.
 
-ghost use Rattle.std.specs.Prelude.{◌≡◌, ℕ, ◌+◌, ◌<◌, ◌≤◌, length, slice_index_or, IfOk};
+ghost use Rattle.std.specs.Prelude.{◌≡◌, ℕ, ◌+◌, ◌<◌, ◌≤◌, length, slice_index_or};
 ghost use Rattle.std.specs.List.{All};
 ghost use Rattle.td_ring.specs.declared.post.Post.{Post};
 ghost use Rattle.td_posts.specs.Posts.{all_mails, words_in};
-ghost use Rattle.td_host.specs.Acting.{Fits};
-ghost use Rattle.td_host.specs.Actors.{IsReady, Did};
-ghost use Rattle.td_host.specs.Gathered.{Armed};
-ghost use Rattle.td_host.specs.Served.{IsSoundJob, Served};
+ghost use Rattle.td_host.specs.Acting.{Fits, most_frames};
+ghost use Rattle.td_host.specs.Actors.{IsReady, Did, service_at};
+ghost use Rattle.td_host.specs.Hosts.{IsCrew};
+ghost use Rattle.td_host.specs.Served.{IsJobCode, Served};
 
 use crate::actor::{Actor, Desk};
-use crate::gather::{Heads, all_complete, gather_all};
-use crate::order::in_order;
-use std::alloc::{AllocError, Global};
+use crate::gather::{Heads, gather_all};
+use crate::order::put_in_order;
 use std::sync::Wait;
 use std::thread;
 use std::thread::Threads;
@@ -27,22 +26,32 @@ use td_words::seats::HostSeat;
 /// that wait for nobody's help must stand there: the guests.
 pub fn run_all<J: Naming + Send + Sync, R: Threads + Wait + Sync, G: Gate + Send>(
     rt: &R,
-    alloc: Global,
     desk: &Desk<J>,
     actors: &mut [Actor<G>],
 )
-    requires ready { All (IsReady J.names desk.now.shared desk.now.ring desk.now.tickets) actors.old }
+    requires ready { All (IsReady J.names desk.now.shared desk.now.ring (service_at desk.now)) actors.old }
     requires mails { desk.now.mails.items ≡ all_mails 1 desk.now.job.guests }
     requires inside { All (λ m. m.base + words_in m.length ≤ desk.now.shared.count) desk.now.mails.items }
-    requires says { (p : Post) → J.names p → Fits desk.now.job p }
-    requires sound { IsSoundJob desk.now.job }
+    requires says { (p : Post) → J.names p → Fits (most_frames desk.now.code) desk.now.job p }
+    requires code { IsJobCode desk.now.code desk.now.job }
     ensures { (i : ℕ) (d : _) → i < length actors.old
         → Did desk.now.job desk.now.mails.items (slice_index_or actors.old i d) (slice_index_or actors.new i d) }
 {
     let count = actors.len();
     if count > 0 {
-        thread::for_each_mut(rt, actors, count, &|_, actor| actor.run(rt, alloc, desk));
+        thread::for_each_mut(rt, actors, count, &|_, actor| actor.run(rt, desk));
     }
+}
+
+/// What acts in a host until it served, and room for the replies.
+#[derive(Drop)]
+pub struct Crew<G> {
+    pub heads: Heads,
+    pub actors: Vec<Actor<G>>,
+    /// Room for all replies that the workers may make.
+    pub found: Vec<Reply>,
+    /// Room for a reply to each post.
+    pub replies: Vec<Reply>,
 }
 
 /// What is left once all posts are served: the host's seat and the ring's first pass, which know what the others did, and the
@@ -54,30 +63,28 @@ pub struct Finished {
     pub replies: Items<Reply>,
 }
 
-/// Serves all posts of the desk's job. `AllocError`: there was no memory for an answer.
+/// Serves all posts of the desk's job. It takes no memory.
 pub fn serve_all<J: Naming + Send + Sync, R: Threads + Wait + Sync, G: Gate + Send + Drop>(
     rt: &R,
-    alloc: Global,
     desk: &Desk<J>,
-    heads: Heads,
-    actors: Vec<Actor<G>>,
-) -> Result<Finished, AllocError>
-    requires armed { Armed J.names desk.now.shared desk.now.ring desk.now.tickets desk.now.job heads.seat heads.posts heads.takes heads.drawer actors.items }
+    crew: Crew<G>,
+) -> Finished
+    requires crew { IsCrew J.names desk.now crew }
     requires mails { desk.now.mails.items ≡ all_mails 1 desk.now.job.guests }
     requires inside { All (λ m. m.base + words_in m.length ≤ desk.now.shared.count) desk.now.mails.items }
-    requires says { (p : Post) → J.names p → Fits desk.now.job p }
-    requires sound { IsSoundJob desk.now.job }
-    ensures own { IfOk result (λ e. (e.seat.table ≡ desk.now.shared.table) × (e.posts.queue ≡ desk.now.ring.queue)) }
-    ensures served { IfOk result (λ e. Served desk.now.job e.replies e.seat.view e.posts.view) }
+    requires says { (p : Post) → J.names p → Fits (most_frames desk.now.code) desk.now.job p }
+    requires code { IsJobCode desk.now.code desk.now.job }
+    ensures own { (result.seat.table ≡ desk.now.shared.table) × (result.posts.queue ≡ desk.now.ring.queue) }
+    ensures served { Served desk.now.job result.replies result.seat.view result.posts.view }
 {
-    let mut actors = actors;
-    run_all(rt, alloc, desk, actors.as_mut_slice());
-    if !all_complete(actors.as_slice()) {
-        return Err(AllocError);
-    }
-    let mut heads = heads;
-    let mut found = Vec::new(alloc);
-    gather_all(desk, &mut heads, &mut found, actors)?;
+    let Crew {
+        mut heads,
+        mut actors,
+        mut found,
+        mut replies,
+    } = crew;
+    run_all(rt, desk, actors.as_mut_slice());
+    gather_all(desk, &mut heads, &mut found, actors);
     let Heads {
         mut seat,
         mut posts,
@@ -87,10 +94,10 @@ pub fn serve_all<J: Naming + Send + Sync, R: Threads + Wait + Sync, G: Gate + Se
     desk.ring.settle(&mut posts, takes);
     desk.tickets.tell(&mut drawer);
     desk.shared.learn(&mut seat);
-    let replies = in_order(alloc, desk.mails.as_slice(), found)?;
-    Ok(Finished {
+    put_in_order(desk.mails.as_slice(), found, &mut replies);
+    Finished {
         seat,
         posts,
         replies: Items::of(replies),
-    })
+    }
 }

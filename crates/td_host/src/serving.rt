@@ -2,9 +2,9 @@
 
 ghost use Rattle.std.specs.Prelude.{◌≡◌, ◌+◌, length, IfOk};
 ghost use Rattle.td_ring.specs.declared.post.Post.{Post};
-ghost use Rattle.td_host.specs.Acting.{Fits};
+ghost use Rattle.td_host.specs.Acting.{Fits, most_frames};
 ghost use Rattle.td_posts.specs.Servable.{IsServable};
-ghost use Rattle.td_host.specs.Served.{IsSoundJob};
+ghost use Rattle.td_host.specs.Served.{IsJobCode};
 ghost use Rattle.td_host.specs.Hosts.{IsServedJob};
 
 use crate::host::Host;
@@ -17,38 +17,41 @@ use td_num::items::Items;
 use td_posts::job::HostJob;
 use td_posts::reply::Reply;
 use td_ring::naming::Naming;
+use td_verify::verify::Verified;
 
 /// As `serve_job`, with a name for what the job's posts promise.
 fn serve_under<J: Naming + Send + Sync, R: Threads + Wait + Sync, G: Gate + Send + Drop>(
     rt: &R,
     alloc: Global,
+    code: Verified,
     job: HostJob,
     gates: Vec<G>,
 ) -> Result<Items<Reply>, AllocError>
     requires servable { IsServable job }
-    requires sound { IsSoundJob job }
+    requires code { IsJobCode code job }
     requires gates { length gates.items ≡ job.workers + length job.guests }
-    requires said { (p : Post) → Fits job p → J.names p }
-    requires says { (p : Post) → J.names p → Fits job p }
+    requires said { (p : Post) → Fits (most_frames code) job p → J.names p }
+    requires says { (p : Post) → J.names p → Fits (most_frames code) job p }
     ensures { IfOk result (λ replies. IsServedJob job replies) }
 {
-    let mut host = Host::<J, G>::arm(alloc, job, gates)?;
-    host.serve(rt, alloc)?;
+    let mut host = Host::<J, G>::arm(alloc, code, job, gates)?;
+    host.serve(rt);
     Ok(host.into_replies(alloc))
 }
 
-/// Serves the posts of a job, with a gate for each worker and then one for each guest, and gives the replies, by guest and
-/// number. `AllocError`: there was no memory for it.
+/// Serves the posts of a job that is done by this code, with a gate for each worker and then one for each guest, and gives the
+/// replies, by guest and number. `AllocError`: there was no memory for the room; then no thread was started and no word loaded.
 pub fn serve_job<R: Threads + Wait + Sync, G: Gate + Send + Drop>(
     rt: &R,
     alloc: Global,
+    code: Verified,
     job: HostJob,
     gates: Vec<G>,
 ) -> Result<Items<Reply>, AllocError>
     requires servable { IsServable job }
-    requires sound { IsSoundJob job }
+    requires code { IsJobCode code job }
     requires gates { length gates.items ≡ job.workers + length job.guests }
     ensures { IfOk result (λ replies. IsServedJob job replies) }
 {
-    serve_under::<Brand, R, G>(rt, alloc, job, gates)
+    serve_under::<Brand, R, G>(rt, alloc, code, job, gates)
 }

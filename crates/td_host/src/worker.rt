@@ -1,20 +1,20 @@
 //! Workers, which take posts and answer them.
 
-ghost use Rattle.std.specs.Prelude.{◌≡◌, ◌+◌, ◌<◌, ◌≤◌, ◌^◌, [], length, IfOk, true};
+ghost use Rattle.std.specs.Prelude.{◌≡◌, ◌+◌, ◌<◌, ◌≤◌, ◌^◌, [], length, vec_capacity};
 ghost use Rattle.std.specs.List.{All};
 ghost use Rattle.td_ring.specs.declared.post.Post.{Post};
 ghost use Rattle.td_ring.specs.Ring.{pass_with, did_take};
 ghost use Rattle.td_posts.specs.Posts.{all_mails, reply_name, words_in};
 ghost use Rattle.td_live.specs.Live.{HasLoaded};
-ghost use Rattle.td_host.specs.Served.{IsSoundJob, base_in};
-ghost use Rattle.td_host.specs.Acting.{Fits, Answered, RanWorker};
+ghost use Rattle.td_vm.specs.Frames.{IsArmed};
+ghost use Rattle.td_host.specs.Served.{IsJobCode, base_in};
+ghost use Rattle.td_host.specs.Acting.{Fits, most_frames, Answered, RanWorker};
 
-use std::alloc::{AllocError, Global};
 use std::sync::Wait;
 use std::thread;
-use td_live::direct::validate_slot_direct;
+use td_core::outcome::TraceFrame;
 use td_live::gate::Gate;
-use td_live::slot::Slot;
+use td_live::slot::{Slot, validate_slot};
 use td_posts::job::HostJob;
 use td_posts::mail::{Mail, mail_named};
 use td_posts::reply::Reply;
@@ -24,6 +24,9 @@ use td_ring::post::Post;
 use td_ring::ring::Ring;
 use td_ring::ticket_seat::TicketSeat;
 use td_ring::tickets::Tickets;
+use td_verify::verify::Verified;
+use td_vm::laws::fitting_cells_have_room;
+use td_vm::validate::Frame;
 use td_words::seats::ReadSeat;
 use td_words::shared::Shared;
 
@@ -49,27 +52,44 @@ fn below_the_limit(bytes: u32)
     let _bytes = bytes;
 }
 
-/// Answers a post by a validation from the worker's own seat, in the post's room. `AllocError`: there was no memory for the
-/// validation.
+/// Puts what the last validation left in a frame into room that was taken for it.
+fn keep(frame: &Frame, trace: &mut Vec<TraceFrame>, cells: &mut [u64])
+    requires empty { trace.old.items ≡ [] }
+    requires room { frame.now.trace_room ≤ vec_capacity trace.old }
+    requires cells { length cells.old ≡ length frame.now.cells }
+    ensures trace { trace.new.items ≡ frame.now.trace }
+    ensures cells { cells.new ≡ frame.now.cells }
+{
+    cells.copy_from_slice(frame.cells());
+    let Ok(()) = trace.extend_from_slice(frame.trace()) else {
+        unreachable!()
+    };
+}
+
+/// Answers a post by a validation from the worker's own seat, in the worker's frame and the post's room. It takes no memory.
 fn answer<G: Gate>(
-    alloc: Global,
+    code: &Verified,
     job: &HostJob,
     mails: &[Mail],
     shared: &Shared,
     seat: &mut ReadSeat,
+    frame: &mut Frame,
     post: Post,
     gate: &mut G,
-) -> Result<Reply, AllocError>
+) -> Reply
     requires own { seat.old.table ≡ shared.now.table }
     requires mails { mails.now ≡ all_mails 1 job.now.guests }
     requires inside { All (λ m. m.base + words_in m.length ≤ shared.now.count) mails.now }
-    requires fits { Fits job.now post }
-    requires sound { IsSoundJob job.now }
+    requires code { IsJobCode code.now job.now }
+    requires armed { IsArmed code.now frame.old }
+    requires fits { Fits (most_frames code.now) job.now post }
     ensures table { seat.new.table ≡ seat.old.table }
-    ensures name { IfOk result (λ r. reply_name r ≡ post.name) }
-    ensures answered { IfOk result (λ r. Answered job.now r) }
-    ensures read { IfOk result (λ r. HasLoaded (base_in mails.now r) seat.old seat.new r.loads.list) }
+    ensures armed { IsArmed code.now frame.new }
+    ensures name { reply_name result ≡ post.name }
+    ensures answered { Answered job.now result }
+    ensures read { HasLoaded (base_in mails.now result) seat.old seat.new result.loads.list }
 {
+    fitting_cells_have_room();
     let Post {
         name,
         made: _,
@@ -91,69 +111,59 @@ fn answer<G: Gate>(
         base: mail.base,
         length: mail.length,
     };
-    let verdict = validate_slot_direct(
-        alloc,
-        &job.format,
-        job.entry,
-        job.args.as_slice(),
-        shared,
-        seat,
-        slot,
-        name,
-        cells.as_mut_slice(),
-        &mut trace,
-        &mut loads,
-        gate,
-    )?;
-    Ok(Reply {
+    frame.set_cells(cells.as_slice());
+    let args = job.args.as_slice();
+    let verdict = validate_slot(
+        code, job.entry, args, shared, seat, slot, name, frame, &mut loads, gate,
+    );
+    keep(frame, &mut trace, cells.as_mut_slice());
+    Reply {
         guest: name.guest,
         number: name.number,
         verdict,
         trace,
         cells,
         loads,
-    })
+    }
 }
 
-/// Draws tickets, and for each that is below the count of posts takes a post and answers it; the first that isn't ends it.
-/// False: there was no memory for an answer.
+/// Draws tickets, and for each that is below the count of posts takes a post and answers it; the first that isn't ends it, and
+/// so does a reply to as many posts as there are. It takes no memory: the frame was armed for the code, and there is room for
+/// a reply to each post.
 pub fn run_worker<J: Naming, R: Wait, G: Gate>(
     rt: &R,
-    alloc: Global,
     shared: &Shared,
     ring: &Ring<J>,
     tickets: &Tickets,
+    code: &Verified,
     job: &HostJob,
     mails: &[Mail],
     seat: &mut ReadSeat,
     pass: &mut TakePass,
     drawer: &mut TicketSeat,
+    frame: &mut Frame,
     replies: &mut Vec<Reply>,
     gate: &mut G,
-) -> bool
+)
     requires own { (seat.old.table ≡ shared.now.table) × (pass.old.queue ≡ ring.now.queue) × (drawer.old.table ≡ tickets.now) }
     requires mails { mails.now ≡ all_mails 1 job.now.guests }
     requires inside { All (λ m. m.base + words_in m.length ≤ shared.now.count) mails.now }
-    requires says { (p : Post) → J.names p → Fits job.now p }
-    requires sound { IsSoundJob job.now }
+    requires says { (p : Post) → J.names p → Fits (most_frames code.now) job.now p }
+    requires code { IsJobCode code.now job.now }
+    requires armed { IsArmed code.now frame.old }
     requires empty { replies.old.items ≡ [] }
-    ensures { result ≡ true → RanWorker job.now (length mails.now) seat.old seat.new pass.old pass.new drawer.old drawer.new replies.new.items }
+    requires room { length mails.now ≤ vec_capacity replies.old }
+    ensures { RanWorker job.now (length mails.now) seat.old seat.new pass.old pass.new drawer.old drawer.new replies.new.items }
 {
     let count = mails.len() as u64;
-    let mut complete = true;
-    for _ in rt.forever() {
+    while replies.len() < mails.len() {
         if tickets.draw(drawer) >= count {
-            return complete;
+            return;
         }
         let post = take(rt, ring, pass);
         let name = post.name;
-        match answer(alloc, job, mails, shared, seat, post, gate) {
-            Ok(reply) => match replies.push(reply) {
-                Ok(()) => gate.after_reply(name),
-                Err(_) => complete = false,
-            },
-            Err(_) => complete = false,
-        }
+        let reply = answer(code, job, mails, shared, seat, frame, post, gate);
+        replies.push_reserved(reply);
+        gate.after_reply(name);
     }
-    unreachable!()
 }

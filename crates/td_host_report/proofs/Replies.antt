@@ -145,12 +145,12 @@ same_reply m e f r q words none hr hq first rest =
     let parts = reports_determine_outcomes m (outcome_in r) (outcome_in q) e f r.loads.list q.loads.list words none hr.named hq.named hr.frames hq.frames hr.cells hq.cells hr.loads hq.loads reports in
     let make : ℕ → ℕ → Verdict → List TraceFrame → List ℕ → List Load → ReportedReply =
     λ guest number verdict trace cells loads. record { guest = guest; number = number; outcome = record { verdict = verdict; trace = trace; cells = cells }; loads = loads } in
-    ap (λ x. make x r.number r.verdict r.trace r.cells.items r.loads.list) numbers.0
-    ∙ ap (λ x. make q.guest x r.verdict r.trace r.cells.items r.loads.list) numbers.1
-    ∙ ap (λ x. make q.guest q.number x r.trace r.cells.items r.loads.list) parts.0
+    ap (λ x. make x r.number r.verdict r.trace.items r.cells.items r.loads.list) numbers.0
+    ∙ ap (λ x. make q.guest x r.verdict r.trace.items r.cells.items r.loads.list) numbers.1
+    ∙ ap (λ x. make q.guest q.number x r.trace.items r.cells.items r.loads.list) parts.0
     ∙ ap (λ x. make q.guest q.number q.verdict x r.cells.items r.loads.list) parts.1
-    ∙ ap (λ x. make q.guest q.number q.verdict q.trace x r.loads.list) parts.2
-    ∙ ap (λ x. make q.guest q.number q.verdict q.trace q.cells.items x) parts.3
+    ∙ ap (λ x. make q.guest q.number q.verdict q.trace.items x r.loads.list) parts.2
+    ∙ ap (λ x. make q.guest q.number q.verdict q.trace.items q.cells.items x) parts.3
 
 same_replies : (m : Module) (e f : Entry) (rs qs : List Reply) → HasWords m → HasNoSpotWord m → All (IsReportable m e) rs → All (IsReportable m f) qs
     → all_words m e rs ≡ all_words m f qs → map reported_reply rs ≡ map reported_reply qs

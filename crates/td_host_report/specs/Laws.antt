@@ -25,7 +25,7 @@ pub record IsReportable (m : Module) (entry : Entry) (r : Reply) : Type 0 where
   pub guest : r.guest < 2 ^ 64
   pub number : r.number < 2 ^ 64
   pub named : IsNamedOutcome m (outcome_in r)
-  pub frames : HasFrames r.verdict r.trace
+  pub frames : HasFrames r.verdict r.trace.items
   pub cells : HasCells m entry (outcome_in r)
   pub loads : All IsOf64Bits r.loads.list
 

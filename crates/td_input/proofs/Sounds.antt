@@ -16,7 +16,7 @@ use Rattle.td_meaning.specs.Throughout.{Throughout}
 use Rattle.td_posts.specs.declared.job.HostJob.{HostJob}
 use Rattle.td_posts.specs.Posts.{zeros}
 use Rattle.td_host_job.specs.HostJobs.{HasHostValues}
-use Rattle.td_input.specs.Inputs.{IsSoundJob, IsSoundHost}
+use Rattle.td_input.specs.Inputs.{IsSoundJob, IsSoundHost, FitsEntry}
 
 -- a list has an element at each place below its length
 got : {A : Type 0} (xs : List A) (n : ℕ) → n < length xs → (x : A) × (slice_get xs n ≡ Some x)
@@ -71,3 +71,13 @@ sound_host m job law checked by values = λ b bytes short.
     let cells : AllFit bounds (zeros job.cells) = subst (λ n. AllFit bounds (zeros n)) (sym values.cells) (zeros_fit bounds) in
     let sound = sound_values m job.entry job.args (zeros job.cells) law checked values.entry values.args cells b bytes short in
     subst (λ f. Throughout Sound f job.entry job.args (zeros job.cells) b) (sym by) sound
+
+pub fits_entry : (m : Module) (job : HostJob) → HasHostValues m job → FitsEntry m job
+fits_entry m job values =
+    let o = entry_definition m job.entry.number in
+    let cells : AllFit (cells_bounds o) (zeros job.cells) = subst (λ n. AllFit (cells_bounds o) (zeros n)) (sym values.cells) (zeros_fit (cells_bounds o)) in
+    record {
+      entry = values.entry;
+      args = subst (λ (b : List Bound). AllFit b job.args) (same_args o) values.args;
+      cells = subst (λ (b : List Bound). AllFit b (zeros job.cells)) (same_cells o) cells;
+    }

@@ -1,5 +1,7 @@
 -- Inputs: a module text, a marker and a job; and what refuses one that isn't too long (own rule).
 use Rattle.std.specs.Prelude.{◌≡◌, ℕ, ◌<◌, ◌^◌, List, length}
+use Rattle.td_core.specs.Entries.{entry_definition}
+use Rattle.td_core.specs.Formed.{AllFit, params_at, cells_at}
 use Rattle.td_core.specs.declared.module.Module.{Module}
 use Rattle.td_arith.specs.Laws.{AreBytes}
 use Rattle.td_expr.specs.Sound.{Sound}
@@ -52,3 +54,9 @@ RefusesHost = RefusesInput RefusedHostJob
 -- whatever bytes a message has, each expression that the meaning evaluates from cells of zeros lies in its type's range
 abbrev pub IsSoundHost : HostJob → Type 0
 IsSoundHost job = (b : List ℕ) → AreBytes b → length b < 2 ^ 32 → Throughout Sound job.format job.entry job.args (zeros job.cells) b
+
+-- the entry point is the module's, each of its parameters has its value, and its cells are zeros, each in its range
+pub record FitsEntry (m : Module) (job : HostJob) : Type 0 where
+  pub entry : job.entry.number < length m.entries
+  pub args : AllFit (params_at (entry_definition m job.entry.number)) job.args
+  pub cells : AllFit (cells_at (entry_definition m job.entry.number)) (zeros job.cells)

@@ -7,7 +7,8 @@ ghost use Rattle.td_posts.specs.Servable.{IsServable};
 ghost use Rattle.td_input.specs.declared.refusal.Refusal.{Refusal};
 ghost use Rattle.td_input.specs.Causes.{HasCause};
 ghost use Rattle.td_input.specs.Marker.{IsMarker};
-ghost use Rattle.td_input.specs.Inputs.{IsHostInput, RefusesHost, IsSoundHost};
+ghost use Rattle.td_front.specs.Checked.{IsChecked};
+ghost use Rattle.td_input.specs.Inputs.{IsHostInput, RefusesHost, IsSoundHost, FitsEntry};
 
 use crate::refusal::{InputError, Refusal, of_job, of_module};
 use crate::split::{find_marker, job_part, module_part};
@@ -19,7 +20,7 @@ use td_host_job::host_job::read_host_job;
 use td_posts::job::HostJob;
 
 /// The module and the job of an input; the job has a copy of the module.
-#[derive(Debug, Drop)]
+#[derive(Drop)]
 pub struct HostInput {
     pub module: Module,
     pub job: HostJob,
@@ -28,13 +29,16 @@ pub struct HostInput {
 /// Parses an input: a module text, the first line that is exactly `%%`, and a host job.
 ///
 /// `Refused`: there is no such line, the text is no module, or the job is none for it; the first of these. `NoMemory`:
-/// there was no memory. The line is looked for without any, so where it is missing that is told in any case. The job is one
-/// that a host can serve, and whatever bytes a message has, each expression that the module's meaning evaluates lies in its
+/// there was no memory. The line is looked for without any, so where it is missing that is told in any case. The module
+/// is a checked one, the job is for it and fits its entry point, a host can serve it, and whatever bytes a message has, each expression that the module's meaning evaluates lies in its
 /// type's range.
 pub fn parse_host_input(alloc: Global, input: &[u8]) -> Result<HostInput, InputError>
     requires { length input.now < 2 ^ 32 - 1 }
     ensures input { IfOk result (λ given. IsHostInput input.now given.module given.job) }
     ensures servable { IfOk result (λ given. IsServable given.job) }
+    ensures checked { IfOk result (λ given. IsChecked given.module) }
+    ensures by { IfOk result (λ given. given.job.format ≡ given.module) }
+    ensures fits { IfOk result (λ given. FitsEntry given.module given.job) }
     ensures sound { IfOk result (λ given. IsSoundHost given.job) }
     ensures cause { IfErr result (HasCause (RefusesHost input.now)) }
     ensures complete { (m : Module) (job : HostJob) → IsHostInput input.now m job → IfErr result (λ e. e ≡ InputError.NoMemory) }

@@ -17,7 +17,7 @@ use td_front::check_module;
 use td_job::run_job::{RunJob, read_run_job};
 
 /// The module and the job of an input.
-#[derive(Debug, Drop)]
+#[derive(Drop)]
 pub struct RunInput {
     pub module: Module,
     pub job: RunJob,

@@ -88,7 +88,7 @@ searched m name (suc k) =
           ]
     ]
 
-entry_or_fault : (m : Module) (name : Option (List ℕ)) → ((entry : Entry) × IsEntry m name entry) ⊎ ((e : JobError) × EntryFault m name e)
+pub entry_or_fault : (m : Module) (name : Option (List ℕ)) → ((entry : Entry) × IsEntry m name entry) ⊎ ((e : JobError) × EntryFault m name e)
 entry_or_fault m None = inr (Fault rule.Form (path.Whole key.Entry), refl)
 entry_or_fault m (Some name) =
     elim (searched m name (length m.entries)) [

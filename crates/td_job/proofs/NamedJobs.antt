@@ -1,5 +1,5 @@
 -- Jobs that name their entry point by text: their numbers and stores, and that each is one run job or has one first fault.
-use Rattle.std.proofs.Common.{◌≡◌, ℕ, zero, suc, ◌+◌, ◌/◌, ◌<◌, ◌≤◌, List, [], ◌∷◌, ◌++◌, length, drop, Bool, true, false, not, nat_eq, nat_lt, nat_le, option_map, slice_get, get_or, Some, None, inl, inr, refl, sym, ap, subst, ◌∙◌, arith}
+use Rattle.std.proofs.Common.{◌≡◌, ℕ, zero, suc, ◌+◌, ◌/◌, ◌<◌, ◌≤◌, List, [], ◌∷◌, ◌++◌, length, drop, Bool, true, false, not, nat_eq, nat_lt, nat_le, option_map, slice_get, get_or, Some, None, ◌⊎◌, inl, inr, refl, sym, ap, subst, ◌∙◌, arith}
 use Rattle.std.specs.List.{All}
 use Rattle.std.proofs.lemmas.Bool.Decides.{nat_tests}
 use Rattle.std.proofs.lemmas.List.{at_drop_more}
@@ -24,6 +24,7 @@ use Rattle.td_job.specs.Values.{value_faults, args_bounds, cells_bounds}
 use Rattle.td_job.specs.Jobs.{IsEntry, HasRoom, HasValues}
 use Rattle.td_job.specs.Named.{each_number_faults, number_faults, each_word_faults, named_faults, FirstNamedFault, IsNamedJob}
 use Rattle.td_job.proofs.Numbers.{both_empty, not_over, drop_get, drop_next}
+use Rattle.td_job.proofs.Existing.{entry_or_fault as entry_or_fault_of}
 use Rattle.td_job.proofs.Unique.{one_entry, one_entry_fault, entry_or_fault, one_first, named_within}
 
 -- ---- lists of faults
@@ -208,3 +209,16 @@ named_or_fault m job j e h (inr wrong) =
     let none = h.faultless in
     let some = first.is in
     absurd (cc)
+
+-- each is a run job or has a first fault
+by_named_faults : (m : Module) (job : NamedJob) (entry : Entry) → IsEntry m (Some job.entry) entry → (faults : List JobError) → named_faults m entry job ≡ faults
+    → ((j : RunJob) × IsNamedJob m job j) ⊎ ((e : JobError) × FirstNamedFault m job e)
+by_named_faults m job entry named [] h =
+    inl (record { entry = entry; args = job.args; cells = job.cells; words = job.words; length = job.length; stores = job.stores }, record { named = named; faultless = h; args = refl; cells = refl; words = refl; as_long = refl; stored = refl })
+by_named_faults m job entry named (e ∷ others) h = inr (e, inr (entry, named, record { others = others; is = h }))
+
+pub always_one_named : (m : Module) (job : NamedJob) → ((j : RunJob) × IsNamedJob m job j) ⊎ ((e : JobError) × FirstNamedFault m job e)
+always_one_named m job = elim (entry_or_fault_of m (Some job.entry)) [
+  | inl found ↦ by_named_faults m job found.0 found.1 (named_faults m found.0 job) refl
+  | inr wrong ↦ inr (wrong.0, inl wrong.1)
+]

@@ -34,3 +34,7 @@ OneNamedFaultEach = (m : Module) (job : NamedJob) (e f : JobError) → FirstName
 -- and where it is a run job, none
 abbrev pub NeverBothNamed : Type 0
 NeverBothNamed = (m : Module) (job : NamedJob) (j : RunJob) (e : JobError) → IsNamedJob m job j → FirstNamedFault m job e → ⊥
+
+-- it is a run job or has a first fault
+abbrev pub AlwaysOneNamed : Type 0
+AlwaysOneNamed = (m : Module) (job : NamedJob) → ((j : RunJob) × IsNamedJob m job j) ⊎ ((e : JobError) × FirstNamedFault m job e)

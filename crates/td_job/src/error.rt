@@ -127,7 +127,7 @@ pub enum Path {
 }
 
 /// An element of a list: the list's name, and the place in it, from 0.
-#[derive(Clone, Copy, Debug)]
+#[derive(Clone, Copy)]
 pub struct ListElement<'a> {
     pub list: &'a [u8],
     pub place: usize,
@@ -135,7 +135,7 @@ pub struct ListElement<'a> {
 
 /// The path of an error line, in the parts that it is written of: the element that it goes on from, before a dot, where
 /// there is one; a name; and the place in a list, from 0, which stands after it in brackets.
-#[derive(Clone, Copy, Debug)]
+#[derive(Clone, Copy)]
 pub struct PathParts<'a> {
     pub within: Option<ListElement<'a>>,
     pub name: &'a [u8],

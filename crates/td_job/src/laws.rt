@@ -1,6 +1,6 @@
 //! Laws of jobs and their faults. They do nothing when they are called.
 
-ghost use Rattle.td_job.specs.Laws.{OneJobEach, OneFaultEach, NeverBoth, AlwaysOne, OneNamedJobEach, OneNamedFaultEach, NeverBothNamed};
+ghost use Rattle.td_job.specs.Laws.{OneJobEach, OneFaultEach, NeverBoth, AlwaysOne, OneNamedJobEach, OneNamedFaultEach, NeverBothNamed, AlwaysOneNamed};
 
 /// The bytes of a job stand for at most one run job, or have at most one fault, and never both.
 pub fn one_answer_each()
@@ -19,4 +19,9 @@ pub fn one_named_answer_each()
     ensures one_job { OneNamedJobEach }
     ensures one_fault { OneNamedFaultEach }
     ensures never_both { NeverBothNamed }
+{}
+
+/// A job that names its entry point is a run job of a module, or it has a first fault.
+pub fn named_job_or_fault()
+    ensures { AlwaysOneNamed }
 {}

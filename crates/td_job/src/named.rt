@@ -21,7 +21,7 @@ use td_num::text::Text;
 use td_sched::store::PlannedStore;
 
 /// A message to validate, and from which entry point, by its name. The parts are those of a [`RunJob`].
-#[derive(Debug, Drop)]
+#[derive(Drop)]
 pub struct NamedJob {
     /// The name of the entry point.
     pub entry: Text,

@@ -17,7 +17,7 @@ use td_num::items::Items;
 use td_sched::store::PlannedStore;
 
 /// A message to validate, and from where.
-#[derive(Debug, Drop)]
+#[derive(Drop)]
 pub struct RunJob {
     /// The entry point at which validation begins.
     pub entry: Entry,

@@ -7,14 +7,14 @@ use td_core::outcome::Verdict;
 use td_num::number::NumberType;
 
 /// A field's bytes: how they end, and the number in them, or 0 where it isn't needed.
-#[derive(Clone, Copy, PartialEq, Eq, Debug)]
+#[derive(Clone, Copy, PartialEq, Eq)]
 pub struct Content {
     pub verdict: Verdict,
     pub value: u64,
 }
 
 /// What number a field brings into scope.
-#[derive(Clone, Copy, PartialEq, Eq, Debug)]
+#[derive(Clone, Copy, PartialEq, Eq)]
 pub enum Counted {
     /// A number of this type.
     Number(NumberType),

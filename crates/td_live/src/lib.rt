@@ -3,7 +3,6 @@
 //! made, and those are what the seat's list of steps grew by.
 #![tactic(auto)]
 
-pub mod direct;
 pub mod gate;
 pub mod live;
 pub mod made;

@@ -1,6 +1,6 @@
 //! The validation of a message in a shared buffer, by the code of its module.
 
-ghost use Rattle.std.specs.Prelude.{◌≡◌, ℕ, ◌+◌, ◌*◌, ◌≤◌, List, []};
+ghost use Rattle.std.specs.Prelude.{◌≡◌, ℕ, ◌+◌, ◌*◌, ◌≤◌, List, [], length as size_of};
 ghost use Rattle.td_core.specs.declared.module.Module.{Module};
 ghost use Rattle.td_expr.specs.Sound.{Sound};
 ghost use Rattle.td_meaning.specs.Meaning.{meaning};
@@ -27,7 +27,7 @@ use td_words::seats::ReadSeat;
 use td_words::shared::Shared;
 
 /// Where a message lies in a shared buffer: the buffer's word with the message's first byte, and how many bytes it has.
-#[derive(Clone, Copy, PartialEq, Eq, Debug)]
+#[derive(Clone, Copy, PartialEq, Eq)]
 pub struct Slot {
     pub base: u32,
     pub length: u32,
@@ -44,7 +44,7 @@ pub fn word_count(length: u32) -> u32
 /// Validates the message in a slot by a reader's seat, from an entry point of verified code on. The frame was armed for this
 /// code, and the arguments and the frame's cells fit the entry point. Afterwards `loads` has the loads that the seat made,
 /// their words counted from the slot's first: each is one step of the seat, and the seat made no other. The frame is left
-/// with the cells and the trace. It takes no memory and no lock, and nothing waits but what the gate does.
+/// with the cells and the trace, and has as many cells as before. It takes no memory and no lock, and nothing waits but what the gate does.
 pub fn validate_slot<G: Gate>(
     code: &Verified,
     entry: Entry,
@@ -78,6 +78,7 @@ pub fn validate_slot<G: Gate>(
         → Throughout Sound m entry args.now frame.old.cells b
         → IsBehaviorOf loads.new.list (meaning m entry args.now frame.old.cells b)
         (record { verdict = result; trace = frame.new.trace; cells = frame.new.cells }) }
+    ensures cell_count { size_of frame.new.cells ≡ size_of frame.old.cells }
     ensures armed { IsArmed code.now frame.new }
 {
     let count = word_count(slot.length);

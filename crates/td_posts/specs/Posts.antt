@@ -61,4 +61,4 @@ reply_name r = post_name r.guest r.number
 
 -- how a reply says that the validation ended
 abbrev pub outcome_in : Reply → Outcome
-outcome_in r = record { verdict = r.verdict; trace = r.trace; cells = r.cells.items }
+outcome_in r = record { verdict = r.verdict; trace = r.trace.items; cells = r.cells.items }

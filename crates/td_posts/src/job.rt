@@ -4,7 +4,7 @@ use td_core::module::{Entry, Module};
 use td_num::items::Items;
 
 /// A step of a guest's script.
-#[derive(Clone, Copy, PartialEq, Eq, Debug)]
+#[derive(Clone, Copy, PartialEq, Eq)]
 pub enum Step {
     /// Stores a value to a word of the buffer; words are counted from 0.
     Store { word: u32, value: u64 },
@@ -13,7 +13,7 @@ pub enum Step {
 }
 
 /// A job for a host: guests store to one buffer and post messages that lie in it, and workers validate them meanwhile.
-#[derive(Debug, Drop)]
+#[derive(Drop)]
 pub struct HostJob {
     /// The module by which messages are validated.
     pub format: Module,

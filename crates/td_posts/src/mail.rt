@@ -6,7 +6,7 @@ ghost use Rattle.td_posts.specs.Posts.{mail_named, same_name};
 use crate::name::PostName;
 
 /// A post as a script has it: its name, how many stores stand before it there, and where its message lies.
-#[derive(Clone, Copy, PartialEq, Eq, Debug)]
+#[derive(Clone, Copy, PartialEq, Eq)]
 pub struct Mail {
     pub name: PostName,
     pub made: u32,

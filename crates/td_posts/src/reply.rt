@@ -1,18 +1,18 @@
 //! Replies to posts.
 
-use td_core::outcome::{Trace, Verdict};
+use td_core::outcome::{TraceFrame, Verdict};
 use td_stream::loads::Loads;
 
 /// The reply to a post: how the validation of its message ended, and what was loaded of it. Before the validation it is
 /// room for that.
-#[derive(Debug, Drop)]
+#[derive(Drop)]
 pub struct Reply {
     /// The guest that posted the message, and which of its posts it is, both counted from 1.
     pub guest: u32,
     pub number: u32,
     pub verdict: Verdict,
     /// The frames of its failure; none where it accepts.
-    pub trace: Trace,
+    pub trace: Vec<TraceFrame>,
     /// The cells as they then are.
     pub cells: Vec<u64>,
     /// The loads, the message's words counted from 0.

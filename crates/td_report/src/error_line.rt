@@ -9,7 +9,7 @@ use itoa::Buffer;
 use td_io::{Sink, WriteFault};
 
 /// A place in a text: its line, and its byte in the line, both from 1.
-#[derive(Clone, Copy, PartialEq, Eq, Debug)]
+#[derive(Clone, Copy, PartialEq, Eq)]
 struct Position {
     line: u64,
     column: u64,

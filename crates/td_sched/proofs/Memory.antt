@@ -9,7 +9,6 @@ use Rattle.td_sched.specs.declared.store.PlannedStore.{PlannedStore}
 use Rattle.td_sched.specs.Plan.{numbered, up_to, to_word, last_value, at, ArePlanned}
 use Rattle.td_sched.specs.Events.{events, Event, Happens}
 use Rattle.td_sched.specs.Events.Event.{Loaded, Stored}
-use Rattle.td_sched.specs.Invariant.{stored}
 use Rattle.td_sched.specs.View.{PlannedView, PlannedReaches}
 
 pub keeps : (p : PlannedStore → Bool) (x : PlannedStore) (xs : List PlannedStore) → p x ≡ true → filter p (x ∷ xs) ≡ x ∷ filter p xs
@@ -21,10 +20,10 @@ drops p x xs e = ap (λ b. cond b (x ∷ filter p xs) (filter p xs)) e
 pub eq_true : (a b : ℕ) → a ≡ b → nat_eq a b ≡ true
 eq_true a b h = grind arith
 
--- one store more
-pub stored_push : (o : List ℕ) (xs : List PlannedStore) (x : PlannedStore) → stored o (xs ++ x ∷ []) ≡ slice_set (stored o xs) x.word x.value
-stored_push o [] x = refl
-stored_push o (y ∷ xs) x = stored_push (slice_set o y.word y.value) xs x
+-- the words after these stores, one by one
+abbrev pub stored : List ℕ → List PlannedStore → List ℕ
+stored words [] = words
+stored words (s ∷ stores) = stored (slice_set words s.word s.value) stores
 
 stored_both : (o : List ℕ) (xs ys : List PlannedStore) → stored o (xs ++ ys) ≡ stored (stored o xs) ys
 stored_both o [] ys = refl

@@ -1,31 +1,35 @@
 -- What planned memory keeps true of its fields.
-use Rattle.std.specs.Prelude.{◌≡◌, ℕ, ◌^◌, ◌<◌, ◌≤◌, List, [], ◌∷◌, length, take, slice_set}
-use Rattle.std.specs.List.{All}
-use Rattle.std.specs.List.Sorted.{IsNonDecreasingBy}
+use Rattle.std.specs.Prelude.{◌≡◌, ℕ, leb, ◌^◌, ◌<◌, ◌≤◌, List, [], ◌∷◌, length, take}
+use Rattle.std.specs.List.{All, filter}
 use Rattle.td_stream.specs.declared.load.Load.{Load}
+use Rattle.td_stream.specs.Loads.{IsNext}
 use Rattle.td_sched.specs.declared.store.PlannedStore.{PlannedStore}
-use Rattle.td_sched.specs.Plan.{numbered}
+use Rattle.td_sched.specs.Plan.{up_to, to_word}
 
--- the words after these stores, one by one
-abbrev pub stored : List ℕ → List PlannedStore → List ℕ
-stored words [] = words
-stored words (s ∷ stores) = stored (slice_set words s.word s.value) stores
+-- the stores with a number of at most k, as they stand
+abbrev pub due : ℕ → List PlannedStore → List PlannedStore
+due k stores = filter (λ s. leb s.before k) stores
 
--- the stores by rising number, those of one number in their order
-pub record IsInTurn (given sorted : List PlannedStore) : Type 0 where
-  pub rise : IsNonDecreasingBy (λ (s : PlannedStore). s.before) sorted
-  pub each : (n : ℕ) → numbered n sorted ≡ numbered n given
+-- this number of a store never falls
+abbrev pub NeverFalls : (PlannedStore → ℕ) → List PlannedStore → Type 0
+NeverFalls number [] = Unit {0}
+NeverFalls number (s ∷ stores) = All (λ (t : PlannedStore). number s ≤ number t) stores × NeverFalls number stores
 
--- the first stores were made, and their numbers are below that of the next load
-pub record AreMade (opening : List ℕ) (sorted : List PlannedStore) (words : List ℕ) (next made : ℕ) : Type 0 where
-  pub reached : made ≤ length sorted
-  pub words_are : words ≡ stored opening (take made sorted)
-  pub past : All (λ (s : PlannedStore). s.before < next) (take made sorted)
+-- the stores by rising word, those to one word by rising number
+pub record IsByWord (stores : List PlannedStore) : Type 0 where
+  pub rise : NeverFalls (λ (s : PlannedStore). s.word) stores
+  pub turns : (i : ℕ) → NeverFalls (λ (s : PlannedStore). s.before) (to_word i stores)
 
--- memory that follows its plan, with room for a load of each word
-pub record PlannedInvariant (opening : List ℕ) (given : List PlannedStore) (words : List ℕ) (sorted : List PlannedStore) (made : ℕ) (loads : List Load) (room : ℕ) : Type 0 where
-  pub turns : IsInTurn given sorted
-  pub stores_made : AreMade opening sorted words (length loads) made
-  pub same_size : length words ≡ length opening
+-- sorted stores are those of the plan: to each word those that are due at each load, in the plan's order
+abbrev pub AreOfPlan : List PlannedStore → List PlannedStore → Type 0
+AreOfPlan given sorted = (k i : ℕ) → to_word i (up_to k given) ≡ due k (to_word i sorted)
+
+-- memory that follows its plan: the stores before the next one are to words that are never loaded again, and there is room for a
+-- load of each word
+pub record PlannedInvariant (words : List ℕ) (given sorted : List PlannedStore) (next : ℕ) (loads : List Load) (room : ℕ) : Type 0 where
+  pub order : IsByWord sorted
+  pub of_plan : AreOfPlan given sorted
+  pub reached : next ≤ length sorted
+  pub past : (i : ℕ) → IsNext i loads → All (λ (s : PlannedStore). s.word < i) (take next sorted)
   pub small : length words < 2 ^ 32
   pub space : length words ≤ room

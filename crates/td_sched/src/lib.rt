@@ -2,9 +2,7 @@
 //! word gives the value of the last store to it that the plan has before load k, and without one the opening word.
 #![tactic(auto)]
 
-mod due;
+mod held;
 pub mod laws;
 pub mod planned;
 pub mod store;
-#[cfg(test)]
-mod tests;

@@ -32,7 +32,7 @@ loop-step-preserved g c =
             rules,
             w,
             rooms_post g.J.Naming.names (λ (m : Mail). mail_named m.name (all_mails 1 a.job.now.guests) ≡ Some m) a.guest script l.rooms.items (drop n script) (drop (n + 1) script) l.number l.invariant w.in-Post.base w.in-Post.length r w.push_back.new.self.items e w.in_ok-push_back-in-Post.ensures.items
-                (λ m first name len. c.requires.said (post_of m r) (record { mail = m; is = first; made = refl; name = h.name ∙ sym name; empty = h.empty; room = subst (λ x. words_in x ≤ r.loads.room) (sym len) h.room; cells = h.cells })),
+                (λ m first name len. c.requires.said (post_of m r) (record { mail = m; is = first; made = refl; name = h.name ∙ sym name; empty = h.empty; room = subst (λ x. words_in x ≤ r.loads.room) (sym len) h.room; cells = h.cells; untold = h.untold; trace_room = h.trace_room })),
           ))
     ]
 

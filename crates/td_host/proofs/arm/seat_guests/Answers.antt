@@ -16,7 +16,7 @@ loop-gate-init g c =
     let r = c.requires in
     let same : c.into_iter-gate-iterator.result.rest.items ≡ a.gates.items = search rules in
     record {
-      seating = no_guest g.J.Naming.names a.shared.now a.ring.now a.job.now a.actors.now.items k.seat k.posts a.actors.now.items refl r.seat r.posts;
+      seating = no_guest g.J.Naming.names a.desk.now.shared a.desk.now.ring a.desk.now.job a.actors.now.items k.seat k.posts a.actors.now.items refl r.seat r.posts;
       counted = let e = ap length same ∙ r.gates in omega arith;
       takes = refl;
       drawer = refl;
@@ -27,7 +27,7 @@ rooms_for-requires-clause-first g c =
     let a = c.args in
     let l = c.loop-gate in
     let n = l.n in
-    let guests : List (List Step) = a.job.now.guests in
+    let guests : List (List Step) = a.desk.now.job.guests in
     let P : Mail → Type 0 = λ (m : Mail). mail_named m.name (all_mails 1 guests) ≡ Some m in
     let d : List Step = c.index-as_slice-n.result in
     let e = ap length c.in-Some.ensures.steps.0 in
@@ -44,14 +44,14 @@ loop-gate-preserved g c =
     let n = l.n in
     let i = l.invariant in
     let names = g.J.Naming.names in
-    let guests : List (List Step) = a.job.now.guests in
+    let guests : List (List Step) = a.desk.now.job.guests in
     let d : List Step = c.index-as_slice-n.result in
     let e = ap length c.in-Some.ensures.steps.0 in
     let f = i.counted in
     let lt : n < length guests = omega arith in
     let is : slice_index_or guests n d ≡ c.as_slice-script.result.now = search rules in
     record {
-      seating = one_guest names a.shared.now a.ring.now a.job.now a.actors.now.items n d l.heads.seat c.split_guest.new.host l.heads.posts c.split_post.new.pass l.actors.items c.push.new.self.items
+      seating = one_guest names a.desk.now.shared a.desk.now.ring a.desk.now.job a.actors.now.items n d l.heads.seat c.split_guest.new.host l.heads.posts c.split_post.new.pass l.actors.items c.push.new.self.items
           (record { number = n + 1; script = c.in_ok-copy_of.field-0; seat = c.split_guest.result; pass = c.split_post.result; rooms = c.in_ok-rooms_for.field-0; gate = c.in-Some.gate })
           i.seating lt refl (c.in_ok-copy_of.ensures.ok ∙ sym is) c.split_guest.ensures.host c.split_guest.ensures.seat c.split_post.ensures.kept c.split_post.ensures.given
           (subst (λ k. StoresInside k (slice_index_or guests n d)) (sym c.requires.count) (c.requires.bounded.stays n d lt)) (c.requires.bounded.short n d lt)
@@ -67,4 +67,4 @@ returns-clause-seated g c =
     let l = c.loop-gate in
     let e : length l.gate-iterator.rest.items ≡ 0 = sym l.gate-iterator.rest.ok.0 ∙ c.in-None.ensures.steps.0 in
     let f = l.invariant.counted in
-    all_guests g.J.Naming.names a.shared.now a.ring.now a.job.now a.actors.now.items l.n l.heads.seat l.heads.posts l.actors.items l.invariant.seating (let z : length a.job.now.guests ≡ l.n = omega arith in z)
+    all_guests g.J.Naming.names a.desk.now.shared a.desk.now.ring a.desk.now.job a.actors.now.items l.n l.heads.seat l.heads.posts l.actors.items l.invariant.seating (let z : length a.desk.now.job.guests ≡ l.n = omega arith in z)

@@ -1,4 +1,5 @@
-use Rattle.std.proofs.Common.{rules, ◌≡◌, ◌+◌, true, length, refl, ap, arith}
+use Rattle.std.proofs.Common.{rules, ◌≡◌, ◌+◌, ◌≤◌, length, vec_capacity, refl, ap, arith}
+use Rattle.td_host.specs.Actors.{service_at}
 use Rattle.td_host.proofs.Arms.{no_worker, one_worker}
 use Rattle.td_host.proofs.arm.seat_workers.Goals as goal
 
@@ -10,7 +11,7 @@ loop-gate-init g c =
     let same : c.into_iter-gate-iterator.result.rest.items ≡ a.gates.items = search rules in
     record {
       n = 0;
-      seated = no_worker a.shared.now a.ring.now a.tickets.now k.seat.view.opened k.seat k.takes k.drawer a.actors.now.items r.empty r.seat r.takes r.drawer;
+      seated = no_worker a.desk.now.shared a.desk.now.ring (service_at a.desk.now) k.seat.view.opened k.seat k.takes k.drawer a.actors.now.items r.empty r.seat r.takes r.drawer;
       counted = let e = ap length same in omega arith;
       posts = refl;
     }
@@ -20,11 +21,12 @@ loop-gate-preserved g c =
     let a = c.args in
     let l = c.loop-gate in
     let i = l.invariant in
+    let room : length a.desk.now.mails.items ≤ vec_capacity c.in_ok-with_capacity.field-0 = omega (arith, a.desk.now.mails.ok.0, c.in_ok-with_capacity.ensures.capacity) in
     record {
       n = i.n + 1;
-      seated = one_worker a.shared.now a.ring.now a.tickets.now a.heads.now.seat.view.opened i.n l.heads.seat c.split_reader.new.host l.heads.takes c.split_take.new.pass l.heads.drawer c.split.new.seat l.actors.items c.push.new.self.items
-          (record { seat = c.split_reader.result; pass = c.split_take.result; drawer = c.split.result; replies = c.new.result; complete = true; gate = c.in-Some.gate }) i.seated
-          c.split_reader.ensures.host c.split_reader.ensures.seat c.split_take.ensures.kept c.split_take.ensures.given c.split.ensures.kept c.split.ensures.given c.new.ensures.items c.in_ok-push.ensures.items;
+      seated = one_worker a.desk.now.shared a.desk.now.ring (service_at a.desk.now) a.heads.now.seat.view.opened i.n l.heads.seat c.split_reader.new.host l.heads.takes c.split_take.new.pass l.heads.drawer c.split.new.seat l.actors.items c.push.new.self.items
+          (record { seat = c.split_reader.result; pass = c.split_take.result; drawer = c.split.result; frame = c.in_ok-arm.field-0; replies = c.in_ok-with_capacity.field-0; gate = c.in-Some.gate }) i.seated
+          c.split_reader.ensures.host c.split_reader.ensures.seat c.split_take.ensures.kept c.split_take.ensures.given c.split.ensures.kept c.split.ensures.given c.in_ok-arm.ensures.armed c.in_ok-with_capacity.ensures.items room c.in_ok-push.ensures.items;
       counted = let e = ap length c.in-Some.ensures.steps.0 in let f = i.counted in omega arith;
       posts = i.posts;
     }

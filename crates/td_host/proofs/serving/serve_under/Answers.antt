@@ -6,4 +6,4 @@ use Rattle.td_host.proofs.Hosting.{served_job}
 use Rattle.td_host.proofs.serving.serve_under.Goals as goal
 
 pub returns : goal.returns
-returns g c = subst (λ (x : HostJob × List Reply). IsServedJob x.0 x.1) (λ i. ((c.in_ok-serve.ensures.job ∙ c.in_ok-host.ensures.job) i, sym c.into_replies.ensures i)) (served_job c.serve.new.self c.in_ok-serve.ensures.served)
+returns g c = subst (λ (x : HostJob × List Reply). IsServedJob x.0 x.1) (λ i. ((c.serve.ensures.job ∙ c.in_ok-host.ensures.job) i, sym c.into_replies.ensures i)) (served_job c.serve.new.self c.serve.ensures.served)

@@ -21,7 +21,7 @@ returns g c =
     let m = c.args.m.now in
     let e = c.args.entry in
     let outcome : List TraceFrame → List ℕ → Outcome = λ trace cells. record { verdict = r.verdict; trace = trace; cells = cells } in
-    let trace : c.as_slice.result.now ≡ r.trace = c.as_slice.ensures in
+    let trace : c.as_slice.result.now ≡ r.trace.items = c.as_slice.ensures.value in
     let cells : c.deref.result.now ≡ r.cells.items = c.deref.ensures.value in
     let loads : c.as_slice-2.result.now ≡ r.loads.list = c.as_slice-2.ensures in
     let same : report (outcome_in r) m e r.loads.list ≡ report (outcome c.as_slice.result.now c.deref.result.now) m e c.as_slice-2.result.now =

@@ -11,7 +11,7 @@ use Rattle.td_input.specs.Causes.{HasCause}
 use Rattle.td_input.specs.Marker.{text_part, job_part}
 use Rattle.td_input.specs.Inputs.{RefusesHost}
 use Rattle.td_input.proofs.Inputs.{text_errors, job_errors, nothing_refuses, module_cause, job_cause, no_error}
-use Rattle.td_input.proofs.Sounds.{sound_host}
+use Rattle.td_input.proofs.Sounds.{sound_host, fits_entry}
 use Rattle.td_input.proofs.host.parse_host_input.Goals as goal
 
 pub returns-in-Err-clause-cause : goal.returns-in-Err-clause-cause
@@ -52,3 +52,9 @@ returns-in-Ok-read_host_job-clause-refused c =
 pub returns-in-Ok-read_host_job-clause-sound : goal.returns-in-Ok-read_host_job-clause-sound
 returns-in-Ok-read_host_job-clause-sound c =
     sound_host c.in-Ok.«module» c.in-Ok-read_host_job.job c.evaluated_is_sound.ensures c.in-Ok.ensures.checked c.in-Ok-read_host_job.ensures.job.2.by c.in-Ok-read_host_job.ensures.values
+
+pub returns-in-Ok-read_host_job-clause-by : goal.returns-in-Ok-read_host_job-clause-by
+returns-in-Ok-read_host_job-clause-by c = c.in-Ok-read_host_job.ensures.job.2.by
+
+pub returns-in-Ok-read_host_job-clause-fits : goal.returns-in-Ok-read_host_job-clause-fits
+returns-in-Ok-read_host_job-clause-fits c = fits_entry c.in-Ok.«module» c.in-Ok-read_host_job.job c.in-Ok-read_host_job.ensures.values

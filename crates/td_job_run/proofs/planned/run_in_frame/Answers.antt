@@ -1,40 +1,13 @@
-use Rattle.std.proofs.Common.{◌≡◌, ℕ, List, [], subst, sym, ◌∙◌}
-use Rattle.td_stream.specs.declared.load.Load.{Load}
-use Rattle.td_sched.specs.declared.store.PlannedStore.{PlannedStore}
-use Rattle.td_sched.specs.Plan.{ArePlanned}
-use Rattle.td_sched.specs.View.{PlannedView, PlannedReaches}
-use Rattle.td_core.specs.declared.module.Module.{Module}
-use Rattle.td_core.specs.declared.module.Entry.{Entry}
+use Rattle.std.proofs.Common.{List, subst}
 use Rattle.td_core.specs.declared.outcome.Outcome.{Outcome}
-use Rattle.td_meaning.specs.Meaning.{meaning}
-use Rattle.td_expr.specs.Sound.{Sound}
-use Rattle.td_meaning.specs.Throughout.{Throughout}
-use Rattle.td_leaves.specs.Outcomes.{IsBehaviorOf}
+use Rattle.td_sched.specs.declared.store.PlannedStore.{PlannedStore}
+use Rattle.td_job_run.specs.Runs.{IsRunBy}
 use Rattle.td_job_run.proofs.planned.run_in_frame.Goals as goal
-
--- memory that was opened on a plan gave loads of that plan
-held : (v w : PlannedView) (opening : List ℕ) (stores : List PlannedStore) (loads : List Load)
-    → PlannedReaches v w → v.opening ≡ opening → v.stores ≡ stores → v.loads ≡ [] → w.loads ≡ loads → ArePlanned opening stores 0 loads
-held v w opening stores loads plays same given fresh recorded =
-    let start : ArePlanned v.opening v.stores 0 v.loads = rw fresh tt in
-    let end = plays.planned start in
-    let P : List ℕ → Type 0 = λ o. ArePlanned o stores 0 loads in
-    let Q : List PlannedStore → Type 0 = λ s. ArePlanned w.opening s 0 loads in
-    let R : List Load → Type 0 = λ l. ArePlanned w.opening w.stores 0 l in
-    subst P (plays.opening ∙ same) (subst Q (plays.stores ∙ given) (subst R recorded end))
-
--- the same meant from cells that were set
-meant_from : (m : Module) (entry : Entry) (args b : List ℕ) (loads : List Load) (outcome : Outcome) (cells cells' : List ℕ) → cells' ≡ cells
-    → (Throughout Sound m entry args cells' b → IsBehaviorOf loads (meaning m entry args cells' b) outcome) → Throughout Sound m entry args cells b → IsBehaviorOf loads (meaning m entry args cells b) outcome
-meant_from m entry args b loads outcome cells cells' e h = subst (λ x. Throughout Sound m entry args x b → IsBehaviorOf loads (meaning m entry args x b) outcome) e h
 
 pub returns-clause-run : goal.returns-clause-run
 returns-clause-run c =
-    let done = c.validate_recorded-verdict.ensures in
-    let opened = c.in_ok-planned.ensures in
-    record {
-      rising = done.rising;
-      inside = done.inside;
-      held = held c.in_ok-planned.planned c.validate_recorded-verdict.new.words c.args.words.now c.args.stores.now c.validate_recorded-verdict.new.loads.list done.reaches opened.opening opened.stores opened.loads done.loads;
-      meant = λ m b of carries sound. meant_from m c.args.entry c.args.args.now b c.validate_recorded-verdict.new.loads.list (record { verdict = c.validate_recorded-verdict.result; trace = c.validate_recorded-verdict.new.frame.trace; cells = c.validate_recorded-verdict.new.frame.cells }) c.args.cells.now c.set_cells.new.self.cells c.set_cells.ensures.cells (done.behavior m b of carries) sound;
-    }
+    let done = c.run_prepared.ensures.run in
+    let outcome : Outcome = record { verdict = c.run_prepared.result.verdict; trace = c.run_prepared.new.frame.trace; cells = c.run_prepared.new.frame.cells } in
+    let loads = c.run_prepared.result.loads.list in
+    subst (λ ws. IsRunBy c.args.code.now (record { entry = c.args.entry; args = c.args.args.now; cells = c.args.cells.now; length = c.args.length; words = ws; stores = c.args.stores.now }) outcome loads) c.in_ok-prepared.ensures.opening
+    (subst (λ (z : List PlannedStore). IsRunBy c.args.code.now (record { entry = c.args.entry; args = c.args.args.now; cells = c.args.cells.now; length = c.args.length; words = c.in_ok-prepared.prepared.words.opening; stores = z }) outcome loads) c.in_ok-prepared.ensures.stores done)

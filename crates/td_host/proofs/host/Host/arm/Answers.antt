@@ -1,29 +1,40 @@
-use Rattle.std.proofs.Common.{ℕ, ◌+◌, ◌<◌, ◌≤◌, ◌^◌, List, length, refl, sym, ap, ◌∙◌, subst, arith}
+use Rattle.std.proofs.Common.{◌≡◌, ℕ, ◌+◌, ◌≤◌, List, length, refl, sym, subst}
 use Rattle.std.specs.List.{All}
-use Rattle.td_words.specs.declared.view.HostView.{HostView}
-use Rattle.td_posts.specs.declared.job.Step.{Step}
+use Rattle.td_ir.specs.declared.tables.Parts.{Parts}
+use Rattle.td_posts.specs.declared.job.HostJob.{HostJob}
 use Rattle.td_posts.specs.declared.mail.Mail.{Mail}
-use Rattle.td_posts.specs.Posts.{all_mails, words_in}
-use Rattle.td_host.proofs.Arms.{arms}
-use Rattle.td_host.proofs.Bounds.{bounded}
+use Rattle.td_posts.specs.Posts.{words_in}
+use Rattle.td_posts.specs.Servable.{IsServable}
+use Rattle.td_host.specs.Acting.{Fits, most_frames}
+use Rattle.td_host.specs.Served.{IsJobCode}
 use Rattle.td_host.proofs.host.Host.arm.Goals as goal
 
-pub mails_of_all-requires-clause-short : goal.mails_of_all-requires-clause-short
-mails_of_all-requires-clause-short g c = subst (All (λ (s : List Step). length s < 2 ^ 32)) (sym c.as_slice.ensures) (bounded c.args.job c.requires.servable).short
+pub make_crew-requires-clause-servable : goal.make_crew-requires-clause-servable
+make_crew-requires-clause-servable g c = subst IsServable (sym c.in_ok-desk.ensures.job) c.requires.servable
 
-pub seat_guests-requires-clause-bounded : goal.seat_guests-requires-clause-bounded
-seat_guests-requires-clause-bounded g c = bounded c.args.job c.requires.servable
+pub make_crew-requires-clause-opened : goal.make_crew-requires-clause-opened
+make_crew-requires-clause-opened g c = c.in_ok-desk.ensures.opened
+
+pub make_crew-requires-clause-gates : goal.make_crew-requires-clause-gates
+make_crew-requires-clause-gates g c = subst (λ (j : HostJob). length c.args.gates.items ≡ j.workers + length j.guests) (sym c.in_ok-desk.ensures.job) c.requires.gates
+
+pub make_crew-requires-clause-said : goal.make_crew-requires-clause-said
+make_crew-requires-clause-said g c =
+    let e = c.in_ok-desk.ensures in
+    λ p fits. c.requires.said p (subst (λ (x : Parts × HostJob). Fits (most_frames x.0) x.1 p) (λ i. (e.code i, e.job i)) fits)
 
 pub returns-clause-armed : goal.returns-clause-armed
 returns-clause-armed g c =
-    let mails = c.in_ok-mails.ensures ∙ ap (all_mails 1) c.as_slice.ensures in
-    let count = c.in_ok-shared.ensures.count ∙ ap length c.as_slice-2.ensures in
-    let opened = ap (λ (v : HostView). v.opened) c.in_ok-shared.ensures.view ∙ c.as_slice-2.ensures in
+    let e = c.in_ok-desk.ensures in
+    let served = subst IsServable (sym e.job) c.requires.servable in
     record {
-      mails = mails;
-      inside = subst (λ (x : List Mail × ℕ). All (λ (m : Mail). m.base + words_in m.length ≤ x.1) x.0) (λ i. (sym mails i, sym count i)) c.requires.servable.messages_inside;
-      says = c.requires.says;
-      sound = c.requires.sound;
+      mails = e.opened.mails;
+      inside = subst (λ (x : List Mail × ℕ). All (λ (m : Mail). m.base + words_in m.length ≤ x.1) x.0) (λ i. (sym e.opened.mails i, sym e.opened.count i)) served.messages_inside;
+      says = λ p n. subst (λ (x : Parts × HostJob). Fits (most_frames x.0) x.1 p) (λ i. (sym e.code i, sym e.job i)) (c.requires.says p n);
+      code = subst (λ (x : Parts × HostJob). IsJobCode x.0 x.1) (λ i. (sym e.code i, sym e.job i)) c.requires.code;
       unserved = refl;
-      armed = arms _ _ _ _ _ _ _ _ _ _ _ _ _ _ _ _ c.in_ok-seat_workers.ensures.seated opened (let some = c.requires.servable.some_worker in let len = c.in_ok-guest_gates.ensures.len in omega arith) c.in_ok-seat_guests.ensures.seated c.in_ok-seat_guests.ensures.takes c.in_ok-seat_guests.ensures.drawer;
+      armed = c.in_ok-crew.ensures;
     }
+
+pub returns-clause-job : goal.returns-clause-job
+returns-clause-job g c = c.in_ok-desk.ensures.job
