@@ -26,8 +26,8 @@ use Rattle.td_job.specs.Laws.{OneJobEach, NeverBoth as NeverBothJobs, OneNamedJo
 use Rattle.td_gen.specs.Laws.{OneMessageEach}
 use Rattle.td_report.specs.Report.{report}
 use Rattle.td_report.specs.Summary.{summary}
-use Rattle.td_cli.specs.declared.command.Command.{Command}
-use Rattle.td_cli.specs.declared.command.Command.TheVariants.{Check, Tidy, Run, Host, Code, Pack, Bench}
+use Rattle.td_command.specs.declared.command.Command.{Command}
+use Rattle.td_command.specs.declared.command.Command.TheVariants.{Check, Tidy, Run, Host, Code, Pack, Bench}
 use Rattle.td_input.specs.declared.refusal.Refusal.{Refusal}
 use Rattle.td_input.specs.declared.refusal.Refusal.TheVariants.{TooLong, NoJob, BadModule, BadJob}
 use Rattle.td_cli.specs.declared.tool.TheConstants.{INPUT_LIMIT}

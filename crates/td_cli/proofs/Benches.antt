@@ -1,5 +1,7 @@
 -- How `bench` is answered, from the totals over its runs; and that they are one.
 use Rattle.std.proofs.Common.{◌≡◌, ◌≢◌, ◌⊎◌, inl, inr, ℕ, zero, suc, ◌*◌, ◌+◌, ◌<◌, ◌≤◌, List, [], ◌∷◌, ◌++◌, length, Result, Ok, Err, IfOk, IfErr, MatchResult, refl, sym, ap, subst, ◌∙◌, length-append, arith}
+use Rattle.std.specs.Prelude.{Box}
+use Rattle.std.proofs.Common.{Global}
 use Rattle.std.proofs.lemmas.Bool.{cases_order}
 use Rattle.std.specs.List.{All, sum_by}
 use Rattle.std.proofs.lemmas.List.Sums.{sum_by-append}
@@ -26,7 +28,7 @@ use Rattle.td_gen.specs.Message.{format_of, IsMessage}
 use Rattle.td_gen.specs.Laws.{OneMessageEach}
 use Rattle.td_cli.specs.declared.totals.Totals.{Totals}
 use Rattle.td_cli.specs.Totals.{totals_text}
-use Rattle.td_cli.specs.declared.command.Command.TheVariants.{Bench}
+use Rattle.td_command.specs.declared.command.Command.TheVariants.{Bench}
 use Rattle.td_input.specs.declared.refusal.Refusal.{Refusal}
 use Rattle.td_input.specs.declared.refusal.Refusal.TheVariants.{TooLong, NoJob, BadModule, BadJob}
 use Rattle.td_input.specs.declared.refusal.InputError.{InputError}
@@ -55,15 +57,15 @@ has_module format m h = (m, h.stands)
 
 pub have_modules : (ms : Modules) → AreModules ms → HaveModules
 have_modules ms h =
-    ((ms.ethernet.checked, (h Ethernet).text.stands), (ms.ipv4.checked, (h Ipv4).text.stands), (ms.tcp.checked, (h Tcp).text.stands), (ms.rndis.checked, (h Rndis).text.stands))
+    ((ms.ethernet.value.checked, (h Ethernet).text.stands), (ms.ipv4.value.checked, (h Ipv4).text.stands), (ms.tcp.value.checked, (h Tcp).text.stands), (ms.rndis.value.checked, (h Rndis).text.stands))
 
-text_module : HaveModules → (format : Format) → HasModule format
+pub text_module : HaveModules → (format : Format) → HasModule format
 text_module h Ethernet = h.0
 text_module h Ipv4 = h.1
 text_module h Tcp = h.2
 text_module h Rndis = h.3
 
-pub are_modules : (a b c d : Prepared) → IsPrepared Ethernet a → IsPrepared Ipv4 b → IsPrepared Tcp c → IsPrepared Rndis d → AreModules (record { ethernet = a; ipv4 = b; tcp = c; rndis = d })
+pub are_modules : (a b c d : Box Prepared Global) → IsPrepared Ethernet a.value → IsPrepared Ipv4 b.value → IsPrepared Tcp c.value → IsPrepared Rndis d.value → AreModules (record { ethernet = a; ipv4 = b; tcp = c; rndis = d })
 are_modules a b c d h i j k Ethernet = h
 are_modules a b c d h i j k Ipv4 = i
 are_modules a b c d h i j k Tcp = j

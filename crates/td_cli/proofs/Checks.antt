@@ -4,7 +4,7 @@ use Rattle.td_io.specs.States.{SinkState}
 use Rattle.td_core.specs.declared.module.Module.{Module}
 use Rattle.td_front.specs.ModuleText.{IsModuleText}
 use Rattle.td_report.specs.Summary.{summary}
-use Rattle.td_cli.specs.declared.command.Command.TheVariants.{Check}
+use Rattle.td_command.specs.declared.command.Command.TheVariants.{Check}
 use Rattle.td_input.specs.declared.refusal.Refusal.{Refusal}
 use Rattle.td_input.specs.declared.refusal.Refusal.TheVariants.{TooLong, NoJob, BadModule, BadJob}
 use Rattle.td_input.specs.declared.refusal.InputError.{InputError}

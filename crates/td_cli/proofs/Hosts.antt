@@ -12,7 +12,7 @@ use Rattle.td_input.specs.Causes.{HasCause}
 use Rattle.td_input.specs.Inputs.{IsHostInput, RefusesHost}
 use Rattle.td_serving.specs.declared.serving.ServedInput.{ServedInput}
 use Rattle.td_serving.specs.Serving.{IsServedInput}
-use Rattle.td_cli.specs.declared.command.Command.TheVariants.{Host}
+use Rattle.td_command.specs.declared.command.Command.TheVariants.{Host}
 use Rattle.td_cli.specs.declared.status.Status.{Status}
 use Rattle.td_cli.specs.declared.status.Status.TheVariants as ends
 use Rattle.td_cli.specs.declared.tool.TheConstants.{INPUT_LIMIT}

@@ -1,7 +1,5 @@
 pub mod Inputs
 pub mod Calls
-pub mod Words
-pub mod Matches
 pub mod Runs
 pub mod Hosts
 pub mod Checks

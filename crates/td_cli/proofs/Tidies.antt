@@ -3,7 +3,7 @@ use Rattle.std.proofs.Common.{◌≡◌, ◌≢◌, inl, inr, ℕ, ◌≤◌, Li
 use Rattle.td_io.specs.States.{SinkState}
 use Rattle.td_core.specs.declared.module.Module.{Module}
 use Rattle.td_front.specs.ModuleText.{IsModuleText}
-use Rattle.td_cli.specs.declared.command.Command.TheVariants.{Tidy}
+use Rattle.td_command.specs.declared.command.Command.TheVariants.{Tidy}
 use Rattle.td_input.specs.declared.refusal.Refusal.{Refusal}
 use Rattle.td_input.specs.declared.refusal.Refusal.TheVariants.{TooLong, NoJob, BadModule, BadJob}
 use Rattle.td_input.specs.declared.refusal.InputError.{InputError}

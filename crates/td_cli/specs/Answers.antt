@@ -10,8 +10,8 @@ use Rattle.td_report.specs.Report.{report}
 use Rattle.td_report.specs.Summary.{summary}
 use Rattle.td_layout.specs.Definitions.{canonical_text}
 use Rattle.td_coding.specs.Coding.{IsListing, IsPacked}
-use Rattle.td_cli.specs.declared.command.Command.{Command}
-use Rattle.td_cli.specs.declared.command.Command.TheVariants.{Check as CheckCommand, Tidy as TidyCommand, Code as CodeCommand, Pack as PackCommand, Run as RunCommand, Host as HostCommand, Bench as BenchCommand}
+use Rattle.td_command.specs.declared.command.Command.{Command}
+use Rattle.td_command.specs.declared.command.Command.TheVariants.{Check as CheckCommand, Tidy as TidyCommand, Code as CodeCommand, Pack as PackCommand, Run as RunCommand, Host as HostCommand, Bench as BenchCommand}
 use Rattle.td_input.specs.declared.refusal.Refusal.{Refusal}
 use Rattle.td_input.specs.declared.refusal.Refusal.TheVariants.{TooLong, NoJob, BadModule, BadJob}
 use Rattle.td_cli.specs.declared.tool.TheConstants.{INPUT_LIMIT}
@@ -58,7 +58,7 @@ IsTidy input text = (m : Module) × (stands : IsModuleText input m) × (text ≡
 abbrev pub IsListingOf : List ℕ → List ℕ → Type 0
 IsListingOf input text = (m : Module) × IsModuleText input m × IsListing m text
 
--- the bytes are what the format of images gives such code
+-- the bytes are the image of such code, and are read as it again
 abbrev pub IsImageOf : List ℕ → List ℕ → Type 0
 IsImageOf input bytes = (m : Module) × IsModuleText input m × IsPacked m bytes
 

@@ -22,10 +22,10 @@ use Rattle.td_cli.specs.Bench.{IsTextRefused, IsMessageOf, MessageRun, IsMessage
 
 -- what is prepared for a format
 abbrev pub prepared_of : Modules → Format → Prepared
-prepared_of ms Ethernet = ms.ethernet
-prepared_of ms Ipv4 = ms.ipv4
-prepared_of ms Tcp = ms.tcp
-prepared_of ms Rndis = ms.rndis
+prepared_of ms Ethernet = ms.ethernet.value
+prepared_of ms Ipv4 = ms.ipv4.value
+prepared_of ms Tcp = ms.tcp.value
+prepared_of ms Rndis = ms.rndis.value
 
 -- it is the one for which the format's text stands
 pub record IsTextModule (format : Format) (m : Module) : Type 0 where

@@ -3,7 +3,7 @@ use Rattle.std.specs.Prelude.{◌≡◌, ◌⊎◌, ℕ, List}
 use Rattle.td_io.specs.States.{SinkState}
 use Rattle.td_cli.specs.declared.status.Status.{Status}
 use Rattle.td_cli.specs.declared.status.Status.TheVariants as ends
-use Rattle.td_cli.specs.declared.command.Command.{Command}
+use Rattle.td_command.specs.declared.command.Command.{Command}
 use Rattle.td_input.specs.declared.refusal.Refusal.{Refusal}
 use Rattle.td_cli.specs.Answers.{Answers, Refuses}
 use Rattle.td_cli.specs.Lines.{memory_line, refusal_line}

@@ -1,10 +1,9 @@
 -- What holds of answers and refusals.
 use Rattle.std.specs.Prelude.{◌≡◌, ◌⊎◌, ℕ, List}
-use Rattle.td_cli.specs.declared.command.Command.{Command}
-use Rattle.td_cli.specs.declared.command.Command.TheVariants.{Host, Code, Pack}
+use Rattle.td_command.specs.declared.command.Command.{Command}
+use Rattle.td_command.specs.declared.command.Command.TheVariants.{Host, Code, Pack}
 use Rattle.td_input.specs.declared.refusal.Refusal.{Refusal}
 use Rattle.td_cli.specs.Answers.{Answers, Admits, Refuses, IsReport}
-use Rattle.td_cli.specs.Ends.{Reads}
 
 -- the command answers without others that run at the same time: each but `host`
 abbrev pub IsAlone : Command → Type 0
@@ -31,9 +30,9 @@ AnsweredIsAdmitted = (command : Command) (input output : List ℕ) → Answers c
 abbrev pub NeverBoth : Type 0
 NeverBoth = (command : Command) (input : List ℕ) (refusal : Refusal) → Admits command input → Refuses command input refusal → ⊥
 
--- each input of a command that reads its source is one that the command admits, or it is refused
+-- each input of a command is one that the command admits, or it is refused; of `bench`, which has none, this is said of its number
 abbrev pub AlwaysOne : Type 0
-AlwaysOne = (command : Command) (input : List ℕ) → Reads command → Admits command input ⊎ ((refusal : Refusal) × Refuses command input refusal)
+AlwaysOne = (command : Command) (input : List ℕ) → Admits command input ⊎ ((refusal : Refusal) × Refuses command input refusal)
 
 -- runs of one module (as those of inputs with one module text are) whose reports are equal have equal verdicts, traces,
 -- cells and loads

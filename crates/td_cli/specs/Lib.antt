@@ -1,4 +1,3 @@
-pub mod Command
 pub mod Status
 pub mod Run
 pub mod Totals

@@ -4,7 +4,7 @@
 ghost use Rattle.std.specs.Prelude.{◌≡◌, ◌≢◌, ◌<◌, ◌≤◌, ℕ, ◌+◌, ◌*◌, ◌^◌, List, [], length, IfOk, IfErr};
 ghost use Rattle.td_core.specs.declared.outcome.TraceFrame.{TraceFrame};
 ghost use Rattle.td_gen.specs.Message.{format_of};
-ghost use Rattle.td_cli.specs.declared.command.Command.TheVariants as commands;
+ghost use Rattle.td_command.specs.declared.command.Command.TheVariants as commands;
 ghost use Rattle.td_input.specs.declared.refusal.Refusal.{Refusal};
 ghost use Rattle.td_cli.specs.Answers.{Admits, Refuses};
 ghost use Rattle.td_cli.specs.Bench.{AreTotals, HaveBefore, RefusesBench};
@@ -13,12 +13,12 @@ ghost use Rattle.td_cli.specs.Ends.{passage};
 ghost use Rattle.td_cli.specs.Endings.{InputEnds};
 ghost use Rattle.td_input.specs.Causes.{HasCause};
 
-use crate::command::MOST_MESSAGES;
 use crate::finish::finish_bench;
 use crate::status::Status;
 use crate::totals::Totals;
 use std::alloc::Global;
 use td_arith::laws::evaluated_is_sound;
+use td_command::command::MOST_MESSAGES;
 use td_core::module::Module;
 use td_core::outcome::Verdict;
 use td_formats::Format;
@@ -42,13 +42,13 @@ struct Prepared {
     frame: Frame,
 }
 
-/// What is prepared for the four formats.
+/// What is prepared for the four formats, each behind a pointer: they are large, and let go on each way out.
 #[derive(Drop)]
 struct Modules {
-    ethernet: Prepared,
-    ipv4: Prepared,
-    tcp: Prepared,
-    rndis: Prepared,
+    ethernet: Box<Prepared>,
+    ipv4: Box<Prepared>,
+    tcp: Box<Prepared>,
+    rndis: Box<Prepared>,
 }
 
 /// The module of a format's text, once the texts before it were found to be modules.
@@ -65,9 +65,9 @@ fn checked_module(alloc: Global, format: Format) -> Result<Module, InputError>
 
 /// A format's module, its code and a frame, once the texts before it were found to be modules. Each text is checked once, and
 /// its module lowered once.
-fn prepare(alloc: Global, format: Format) -> Result<Prepared, InputError>
+fn prepare(alloc: Global, format: Format) -> Result<Box<Prepared>, InputError>
     requires { HaveBefore format }
-    ensures prepared { IfOk result (IsPrepared format) }
+    ensures prepared { IfOk result (λ p. IsPrepared format p.value) }
     ensures cause { IfErr result (HasCause (RefusesText format)) }
 {
     let checked = checked_module(alloc, format)?;
@@ -77,11 +77,17 @@ fn prepare(alloc: Global, format: Format) -> Result<Prepared, InputError>
     let Ok(frame) = Frame::arm(alloc, &code) else {
         return Err(InputError::NoMemory);
     };
-    Ok(Prepared {
-        checked,
-        code,
-        frame,
-    })
+    let Ok(prepared) = Box::new(
+        alloc,
+        Prepared {
+            checked,
+            code,
+            frame,
+        },
+    ) else {
+        return Err(InputError::NoMemory);
+    };
+    Ok(prepared)
 }
 
 /// What is prepared for the four formats.
@@ -148,10 +154,10 @@ fn run_one(alloc: Global, modules: &mut Modules, k: u32) -> Result<Ran, InputErr
     ensures cause { IfErr result (HasCause (RefusesMessage k)) }
 {
     match format_of(k) {
-        Format::Ethernet => run_message(alloc, &mut modules.ethernet, k),
-        Format::Ipv4 => run_message(alloc, &mut modules.ipv4, k),
-        Format::Tcp => run_message(alloc, &mut modules.tcp, k),
-        Format::Rndis => run_message(alloc, &mut modules.rndis, k),
+        Format::Ethernet => run_message(alloc, &mut *modules.ethernet, k),
+        Format::Ipv4 => run_message(alloc, &mut *modules.ipv4, k),
+        Format::Tcp => run_message(alloc, &mut *modules.tcp, k),
+        Format::Rndis => run_message(alloc, &mut *modules.rndis, k),
     }
 }
 

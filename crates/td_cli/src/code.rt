@@ -5,7 +5,7 @@ ghost use Rattle.td_core.specs.declared.module.Module.{Module};
 ghost use Rattle.td_front.specs.ModuleText.{IsModuleText};
 ghost use Rattle.td_input.specs.declared.refusal.Refusal.{Refusal};
 ghost use Rattle.td_input.specs.Causes.{HasCause};
-ghost use Rattle.td_cli.specs.declared.command.Command.TheVariants as commands;
+ghost use Rattle.td_command.specs.declared.command.Command.TheVariants as commands;
 ghost use Rattle.td_cli.specs.Answers.{Admits, IsListingOf, Refuses, RefusesCheck};
 ghost use Rattle.td_cli.specs.Ends.{passage};
 ghost use Rattle.td_cli.specs.Endings.{InputEnds};

@@ -2,7 +2,7 @@
 
 ghost use Rattle.std.specs.Prelude.{◌≡◌, ◌≢◌, ◌≤◌, ◌*◌, length};
 ghost use Rattle.td_input.specs.declared.refusal.Refusal.{Refusal};
-ghost use Rattle.td_cli.specs.declared.command.Command.TheVariants as commands;
+ghost use Rattle.td_command.specs.declared.command.Command.TheVariants as commands;
 ghost use Rattle.td_cli.specs.Answers.{Admits, Refuses};
 ghost use Rattle.td_cli.specs.Ends.{passage};
 ghost use Rattle.td_cli.specs.Endings.{InputEnds};

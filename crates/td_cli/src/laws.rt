@@ -3,7 +3,7 @@
 ghost use Rattle.td_cli.specs.Laws.{AlwaysOne, AnsweredIsAdmitted, NeverBoth, OneAnswer, ReportsDetermineRuns};
 
 use td_front::laws as front;
-use td_gen::laws::one_message_each;
+use td_gen::laws::{one_message_each, some_message_each};
 use td_grammar::laws::one_tree;
 use td_host_job::laws as host_jobs;
 use td_job::laws as jobs;
@@ -39,13 +39,15 @@ pub fn never_both()
     one_message_each();
 }
 
-/// Each input of a command that reads its source is one that the command admits, or it is refused.
+/// Each input of a command is one that the command admits, or it is refused; `bench` with a number too.
 pub fn admitted_or_refused()
     ensures { AlwaysOne }
 {
     front::module_or_refusal();
     jobs::job_or_fault();
     host_jobs::job_or_fault();
+    some_message_each();
+    jobs::named_job_or_fault();
 }
 
 /// Two runs of one module whose reports are equal have equal verdicts, traces, cells and loads: what is said of a run can

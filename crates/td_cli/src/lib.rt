@@ -6,7 +6,6 @@
 mod bench;
 mod check;
 mod code;
-mod command;
 mod finish;
 mod host;
 pub mod laws;
@@ -18,9 +17,9 @@ mod tidy;
 mod tool;
 mod totals;
 
-pub use command::{Command, MOST_MESSAGES};
 pub use finish::finish_out_of_memory;
 pub use status::Status;
+pub use td_command::command::{Command, MOST_MESSAGES};
 pub use td_input::refusal::Refusal;
 pub use tool::{INPUT_LIMIT, run_alone, run_tool};
 pub use totals::Totals;

@@ -7,7 +7,7 @@ ghost use Rattle.td_front.specs.Checked.{IsChecked};
 ghost use Rattle.td_job.specs.declared.run_job.RunJob.{RunJob};
 ghost use Rattle.td_job.specs.Jobs.{HasValues};
 ghost use Rattle.td_input.specs.declared.refusal.Refusal.{Refusal};
-ghost use Rattle.td_cli.specs.declared.command.Command.TheVariants as commands;
+ghost use Rattle.td_command.specs.declared.command.Command.TheVariants as commands;
 ghost use Rattle.td_cli.specs.Answers.{Admits, Refuses};
 ghost use Rattle.td_input.specs.Inputs.{IsRunInput, RefusesRun};
 ghost use Rattle.td_cli.specs.Ends.{passage};
@@ -34,7 +34,7 @@ use td_stream::loads::Loads;
 use td_told::laws::jobs_are_sized;
 
 /// The input of a run, how the run came out, and the loads that it made.
-#[derive(Debug, Drop)]
+#[derive(Drop)]
 pub(crate) struct FinishedRun {
     pub(crate) input: RunInput,
     pub(crate) outcome: Outcome,

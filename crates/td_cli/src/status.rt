@@ -4,7 +4,7 @@ ghost use Rattle.std.specs.Prelude.{◌≡◌};
 ghost use Rattle.td_cli.specs.Status.{number_of};
 
 /// How a call of the tool ends, with the exit status of the process. What isn't said to fail didn't.
-#[derive(Clone, Copy, PartialEq, Eq, Debug)]
+#[derive(Clone, Copy, PartialEq, Eq)]
 pub enum Status {
     /// 0: the command's output went to `out`, nothing to `err`.
     Done,

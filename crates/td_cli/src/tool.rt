@@ -3,7 +3,7 @@
 ghost use Rattle.std.specs.Prelude.{◌≡◌, ◌≢◌, ◌≤◌, ◌⊎◌, ◌*◌, ℕ, List, None, Some, IfSome, MatchOption, length, map, string_bytes};
 ghost use Rattle.td_input.specs.declared.refusal.Refusal.{Refusal};
 ghost use Rattle.td_cli.specs.Answers.{Admits, Refuses};
-ghost use Rattle.td_cli.specs.Command.{IsInRange, Means};
+ghost use Rattle.td_command.specs.Command.{IsInRange, Means};
 ghost use Rattle.td_cli.specs.Ends.{CallEnds, EndsAs, IsHandedOn, Reads, StopsReading, passage};
 ghost use Rattle.td_cli.specs.Laws.{IsAlone};
 ghost use Rattle.td_cli.specs.Endings.{InputEnds};
@@ -11,7 +11,6 @@ ghost use Rattle.td_cli.specs.Endings.{InputEnds};
 use crate::bench::answer_bench;
 use crate::check::answer_check;
 use crate::code::answer_code;
-use crate::command::{Command, command_of};
 use crate::finish::{finish_out_of_memory, finish_unread, finish_with_line};
 use crate::host::answer_host;
 use crate::lines::USAGE;
@@ -22,6 +21,7 @@ use crate::tidy::answer_tidy;
 use std::alloc::{AllocGlobal, Global};
 use std::sync::Wait;
 use std::thread::Threads;
+use td_command::command::{Command, command_of};
 use td_io::{Sink, Source, read_whole};
 use td_live::gate::Gate;
 use td_serving::gates::GATES_OF_EACH;
@@ -158,10 +158,11 @@ pub fn run_alone<S: Source, O: Sink, E: Sink>(
 
 /// Runs the tool: the call that the program makes. It hands its words and streams to [`run_alone`] and says the same of
 /// them; and it answers `host`, with the first gates of each half, sixteen for workers and then sixteen for guests. It may
-/// wait there, and what it says then holds if it returns. At `Done` of `check` the input stands for a module, of which the counts were written. At `Done` of `tidy` it stands for
-/// one too, and the canonical text of its tree was written. At `Done` of `code` and `pack` it stands for one too, and the
-/// listing, or the image, of code was written that does what the module means. At `Done` of `run` the input was answered by the report of a run in
-/// which each word of the message was loaded at most once, and whose outcome is the meaning's on every list of bytes that carries
+/// wait there, and what it says then holds if it returns. At `Done` of `check` the input stands for a module, of which the counts
+/// were written. At `Done` of `tidy` it stands for one too, and the canonical text of its tree was written. At `Done` of `code` and
+/// `pack` it stands for one too, and the listing, or the image, of code was written that does what the module means. At `Done` of
+/// `run` the input was answered by the report of a run in which each word of the message was loaded at most once, and whose
+/// outcome is the meaning's on every list of bytes that carries
 /// the loads. At `Done` of `host` the input was answered by the report of a list of replies by which all posts of its job are
 /// served. At `Done` of `bench` the counts and sums over one such run of each message were written.
 pub fn run_tool<

@@ -8,7 +8,7 @@ use itoa::Buffer;
 use td_io::{Sink, WriteFault, write_all};
 
 /// Counts and sums over the runs of some messages.
-#[derive(Clone, Copy, PartialEq, Eq, Debug)]
+#[derive(Clone, Copy, PartialEq, Eq)]
 pub struct Totals {
     /// How many messages were run.
     pub messages: u64,

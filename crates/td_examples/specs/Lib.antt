@@ -10,3 +10,12 @@ pub mod Formats
 pub mod WorkedTrees
 pub mod WorkedModules
 pub mod Worked
+pub mod Makers
+pub mod Findings
+pub mod Messages
+pub mod Readings
+pub mod Safety
+pub mod Kinds
+pub mod Limits
+pub mod Measured
+pub mod Told

@@ -1,5 +1,6 @@
-//! Texts, and the first breach of each by the definitions of td_rules. The functions do nothing when they are called: that
-//! their clauses are proved shows, by computation, what the definitions say of these texts.
+//! Texts, and what the definitions say of each: the first breach, operator or kind that is refused, the limits, and the meaning on
+//! messages. The functions do nothing when they are called: that their clauses are proved shows, by computation, what the
+//! definitions say of these texts.
 #![tactic(auto)]
 
 ghost use Rattle.td_examples.specs.Rows.{AreRight};
@@ -12,6 +13,14 @@ ghost use Rattle.td_examples.specs.Names.{names};
 ghost use Rattle.td_examples.specs.Expressions.{expressions};
 ghost use Rattle.td_examples.specs.Formats.{formats};
 ghost use Rattle.td_examples.specs.Worked.{AreWorked};
+ghost use Rattle.td_examples.specs.Findings.{SafetyHolds, KindsHold, LimitsHold, SizesHold};
+ghost use Rattle.td_examples.specs.Messages.{MessagesHold};
+ghost use Rattle.td_examples.specs.Readings.{readings};
+ghost use Rattle.td_examples.specs.Safety.{safety};
+ghost use Rattle.td_examples.specs.Kinds.{kinds};
+ghost use Rattle.td_examples.specs.Limits.{limits};
+ghost use Rattle.td_examples.specs.Measured.{measured};
+ghost use Rattle.td_examples.specs.Told.{told_rows};
 
 /// Rows on enums.
 pub fn enums_are_right()
@@ -56,4 +65,34 @@ pub fn formats_are_right()
 /// Worked texts: the module that each stands for, and what that means on messages.
 pub fn worked_texts_are_right()
     ensures { AreWorked }
+{}
+
+/// Rows where a rule might be read in two ways.
+pub fn readings_are_right()
+    ensures { AreRight readings }
+{}
+
+/// Rows on the safety rule: the first operator that isn't safe.
+pub fn safety_holds()
+    ensures { SafetyHolds safety }
+{}
+
+/// Rows on kinds: the first refusal.
+pub fn kinds_hold()
+    ensures { KindsHold kinds }
+{}
+
+/// Rows on limits: the first that is passed.
+pub fn limits_hold()
+    ensures { LimitsHold limits }
+{}
+
+/// Rows on nodes, depth and weight.
+pub fn sizes_hold()
+    ensures { SizesHold measured }
+{}
+
+/// Rows on messages.
+pub fn messages_hold()
+    ensures { MessagesHold told_rows }
 {}

@@ -5,12 +5,10 @@
 #[cfg(test)]
 mod buffer;
 #[cfg(test)]
-mod counters;
-#[cfg(test)]
-mod modules;
-#[cfg(test)]
-mod one_word;
-#[cfg(test)]
 mod readers;
 #[cfg(test)]
 mod slots;
+#[cfg(test)]
+mod validated;
+#[cfg(test)]
+mod words;

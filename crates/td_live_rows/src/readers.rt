@@ -1,28 +1,24 @@
 //! Readers that validate messages to which guests keep storing.
 
-ghost use Rattle.std.specs.Prelude.{◌≡◌, ◌+◌, ◌<◌, ◌≤◌};
+ghost use Rattle.std.specs.Prelude.{◌≡◌, ◌+◌, ◌≤◌};
 
-use crate::modules::hopping_module;
+use crate::validated::{ENTRY, Ran, compile, validated};
 use std::alloc::{AllocError, Global};
-use std::process::Abort;
 use std::sync::atomic::{AtomicU64, Ordering};
 use std::test::Fail;
 use std::thread;
-use td_core::module::{Entry, Module};
-use td_core::outcome::{Outcome, Trace};
-use td_live::direct::validate_slot_direct;
+use td_core::module::Module;
 use td_live::gate::{OpenGate, PostName};
 use td_live::slot::Slot;
-use td_num::items::Items;
 use td_plain::meaning::meaning;
 use td_stream::load::Load;
-use td_stream::loads::Loads;
-use td_words::seats::{GuestSeat, ReadSeat};
+use td_verify::verify::Verified;
+use td_words::seats::{GuestSeat, HostSeat, ReadSeat};
 use td_words::shared::Shared;
 
-const ENTRY: Entry = Entry { number: 0 };
-
-const WORDS: u32 = 4096;
+/// Which words of a message are loaded depends on what others held.
+const HOPPING: &[u8] =
+    b"typedef struct _I(mutable UINT8 *last) { UINT8 k {:act *last = k;}; UINT8 d[k]; } I; entrypoint typedef struct _Y(mutable UINT8 *last) { I(last) i[:byte-size 2000]; UINT8 z { z <= 15 }; } Y;";
 
 const READERS: u32 = 16;
 
@@ -32,18 +28,9 @@ const SLOT_WORDS: u32 = 256;
 
 const LENGTH: u32 = 2001;
 
-const LOADED_WORDS: u32 = 251;
-
 const MESSAGES: u32 = 10;
 // A guest stores until all readers are done, but no more often than this.
 const MOST_STORES: u32 = 1_000_000;
-
-// One validation.
-#[derive(Drop)]
-struct Ran {
-    outcome: Outcome,
-    loads: Loads,
-}
 
 #[derive(Drop)]
 struct Reader<'a> {
@@ -56,44 +43,36 @@ struct Reader<'a> {
 }
 
 impl<'a> Reader<'a> {
-    fn validate(&mut self, alloc: Global, m: &Module, number: u32) -> Result<Ran, AllocError> {
+    fn validate(&mut self, alloc: Global, code: &Verified, number: u32) -> Option<Ran> {
         let slot = Slot {
             base: self.base,
             length: LENGTH,
         };
-        let mut trace = Trace::new(alloc);
-        let mut loads = Loads::with_room(alloc, LOADED_WORDS)?;
-        let mut cells = Vec::from_slice(alloc, &[0])?;
-        let verdict = validate_slot_direct(
+        let name = PostName { guest: 1, number };
+        validated(
             alloc,
-            m,
-            ENTRY,
-            &[],
+            code,
             self.shared,
             &mut self.seat,
             slot,
-            PostName { guest: 1, number },
-            cells.as_mut_slice(),
-            &mut trace,
-            &mut loads,
+            name,
+            &[0],
             &mut OpenGate,
-        )?;
-        let outcome = Outcome {
-            verdict,
-            trace,
-            cells: Items::of(cells),
-        };
-        Ok(Ran { outcome, loads })
+        )
     }
 
-    // A thread has a module of its own.
-    fn run(&mut self, alloc: Global) -> Result<(), AllocError> {
-        let m = hopping_module(alloc)?;
+    fn validate_all(&mut self, alloc: Global, code: &Verified) -> Option<()> {
         for number in 0..MESSAGES {
-            let ran = self.validate(alloc, &m, number)?;
-            self.ran.push(ran)?;
+            let ran = self.validate(alloc, code, number)?;
+            self.ran.push(ran).ok()?;
         }
-        Ok(())
+        Some(())
+    }
+
+    // A thread has code of its own.
+    fn run(&mut self, alloc: Global) -> Option<()> {
+        let compiled = compile(alloc, HOPPING)?;
+        self.validate_all(alloc, &compiled.code)
     }
 }
 
@@ -139,7 +118,7 @@ impl<'a> Actor<'a> {
     fn run(&mut self, alloc: Global, done: &AtomicU64) {
         match self {
             Actor::Reader(reader) => {
-                let _memory = reader.run(alloc);
+                let _done = reader.run(alloc);
                 done.fetch_add(1, Ordering::SeqCst);
             }
             Actor::Guest(guest) => guest.run(done),
@@ -147,9 +126,8 @@ impl<'a> Actor<'a> {
     }
 }
 
-// A message that carries these loads; the words that weren't loaded are 0.
-fn carrying(alloc: Global, loads: &[Load]) -> Result<Vec<u8>, AllocError> {
-    let mut bytes = vec![in alloc; 0; LENGTH as usize]?;
+// Writes the bytes of the loaded words over those of a message.
+fn put_loads(bytes: &mut [u8], loads: &[Load]) {
     for load in loads {
         let from = (load.word as usize).saturating_mul(8);
         for (at, byte) in load.value.to_le_bytes().into_iter().enumerate() {
@@ -158,41 +136,71 @@ fn carrying(alloc: Global, loads: &[Load]) -> Result<Vec<u8>, AllocError> {
             }
         }
     }
-    Ok(bytes)
 }
 
-fn check_ran(rt: &(impl AllocGlobal + Abort), m: &Module, ran: &Ran) -> Result<(), Fail> {
-    let alloc = rt.alloc();
-    let bytes = carrying(alloc, ran.loads.as_slice())?;
-    assert!(rt; bytes.len() < 4000);
-    let plain = meaning(alloc, m, ENTRY, &[], &[0], bytes.as_slice())?;
-    assert_eq!(rt; ran.outcome.verdict, plain.verdict);
-    assert_eq!(rt; ran.outcome.trace.as_slice(), plain.trace.as_slice());
-    assert_eq!(rt; ran.outcome.cells.as_slice(), plain.cells.as_slice());
-    Ok(())
+// Whether the outcome of a validation is what the module means on a message that carries its loads, and is 0 elsewhere.
+fn is_meant(alloc: Global, m: &Module, ran: &Ran) -> Option<bool> {
+    let mut bytes = vec![in alloc; 0; LENGTH as usize].ok()?;
+    put_loads(bytes.as_mut_slice(), ran.loads.as_slice());
+    let plain = meaning(alloc, m, ENTRY, &[], &[0], bytes.as_slice()).ok()?;
+    let outcome = &ran.outcome;
+    Some(
+        outcome.verdict == plain.verdict
+            && outcome.trace.as_slice() == plain.trace.as_slice()
+            && outcome.cells.as_slice() == plain.cells.as_slice(),
+    )
 }
 
-#[test]
-fn each_outcome_is_the_meaning_of_what_was_loaded(rt: HostRuntime) -> Result<(), Fail> {
-    let alloc = rt.alloc();
-    let opened = vec![in alloc; 0; WORDS as usize]?;
-    let (shared, mut host) = Shared::open(alloc, opened.as_slice())?;
+// How many validations have the outcome that the module means; None where there is no memory.
+fn count_meant(alloc: Global, m: &Module, actors: &[Actor<'_>]) -> Option<u32> {
+    let mut count = 0u32;
+    for actor in actors {
+        if let Actor::Reader(reader) = actor {
+            for ran in &reader.ran {
+                count = count.saturating_add(u32::from(is_meant(alloc, m, ran)?));
+            }
+        }
+    }
+    Some(count)
+}
+
+fn count_right(alloc: Global, actors: &[Actor<'_>]) -> Option<u32> {
+    let compiled = compile(alloc, HOPPING)?;
+    count_meant(alloc, &compiled.checked, actors)
+}
+
+fn make_actors<'a>(
+    alloc: Global,
+    shared: &'a Shared,
+    host: &mut HostSeat,
+) -> Result<Vec<Actor<'a>>, AllocError>
+    requires own { host.old.table ≡ shared.now.table }
+    requires all { shared.now.count ≡ 4096 }
+{
     let mut actors = Vec::new(alloc);
     for number in 0..READERS {
         actors.push(Actor::Reader(Reader {
-            shared: &shared,
-            seat: shared.split_reader(&mut host),
+            shared,
+            seat: shared.split_reader(host),
             base: number * SLOT_WORDS,
             ran: Vec::new(alloc),
         }))?;
     }
     for number in 0..GUESTS {
         actors.push(Actor::Guest(Guest {
-            shared: &shared,
-            seat: shared.split_guest(&mut host),
+            shared,
+            seat: shared.split_guest(host),
             state: u64::from(number),
         }))?;
     }
+    Ok(actors)
+}
+
+#[test]
+fn each_outcome_is_the_meaning_of_what_was_loaded(rt: HostRuntime) -> Result<(), Fail> {
+    let alloc = rt.alloc();
+    let (shared, mut host) = Shared::open(alloc, &[0; 4096])?;
+    let mut actors = make_actors(alloc, &shared, &mut host)?;
     let done = &AtomicU64::new(0);
     thread::for_each_mut(
         &rt,
@@ -200,17 +208,7 @@ fn each_outcome_is_the_meaning_of_what_was_loaded(rt: HostRuntime) -> Result<(),
         32,
         &|_, actor| actor.run(alloc, done),
     );
-    let m = hopping_module(alloc)?;
-    let mut messages = 0u32;
-    for actor in &actors {
-        if let Actor::Reader(reader) = actor {
-            for ran in &reader.ran {
-                check_ran(&rt, &m, ran)?;
-                messages = messages.saturating_add(1);
-            }
-        }
-    }
-    assert_eq!(rt; messages, READERS * MESSAGES);
-    println!(rt; "{} messages", messages)?;
+    let right = count_right(alloc, actors.as_slice());
+    assert_eq!(rt; right, Some(READERS * MESSAGES));
     Ok(())
 }

@@ -2,22 +2,35 @@
 
 ghost use Rattle.std.specs.Prelude.{◌≡◌, ◌<◌};
 
-use crate::modules::gap_module;
-use std::alloc::{AllocError, Global};
+use crate::validated::{ENTRY, Ran, compile, validated};
+use std::alloc::Global;
 use std::test::Fail;
-use td_core::module::{Entry, Module};
-use td_core::outcome::{Outcome, Trace};
+use td_core::module::Module;
 use td_io::MemorySink;
-use td_live::direct::validate_slot_direct;
 use td_live::gate::{Gate, PostName};
 use td_live::slot::Slot;
-use td_num::items::Items;
 use td_report::report::run_report;
-use td_stream::loads::Loads;
+use td_verify::verify::Verified;
 use td_words::seats::GuestSeat;
 use td_words::shared::Shared;
 
-const ENTRY: Entry = Entry { number: 0 };
+/// A message of nine bytes, of which the first and the last are tested: both its words are loaded, and none twice.
+const GAP: &[u8] =
+    b"entrypoint typedef struct _V(mutable UINT8 *got) { UINT8 x { x <= 10 } {:act *got = x;}; UINT8 gap[7]; UINT8 z { z == 0 }; } V;";
+
+// The word to which a guest stores before load 1, what it stores, and the report.
+const ROWS: &[(u32, u64, &str)] = &[
+    (
+        1,
+        u64::MAX,
+        "accept 9\nout got 5\nload 0 0000000000000005\nload 1 0000000000000000\n",
+    ),
+    (
+        2,
+        1,
+        "reject constraint 8\nframe V.z 8\nout got 5\nload 0 0000000000000005\nload 1 0000000000000001\n",
+    ),
+];
 
 // Stores a value to a word before load 1, counted from 0, by a guest's seat of its own.
 #[derive(Drop)]
@@ -42,16 +55,13 @@ impl<'a> Gate for StoresMeanwhile<'a> {
     fn before_step(&mut self, _guest: u32, _step: u32) {}
 }
 
-// The outcome and the loads of the message in the words 1 and 2 of three, to one of which a value is stored before load 1.
-fn validated(
-    alloc: Global,
-    m: &Module,
-    word: u32,
-    value: u64,
-) -> Result<(Outcome, Loads), AllocError>
+// Validates the message in the words 1 and 2 of three, to one of which a value is stored before load 1.
+fn raced(alloc: Global, code: &Verified, word: u32, value: u64) -> Option<Ran>
     requires { word < 3 }
 {
-    let (shared, mut host) = Shared::open(alloc, &[9, 5, 0])?;
+    let Ok((shared, mut host)) = Shared::open(alloc, &[9, 5, 0]) else {
+        return None;
+    };
     let mut gate = StoresMeanwhile {
         shared: &shared,
         seat: shared.split_guest(&mut host),
@@ -64,53 +74,36 @@ fn validated(
         guest: 1,
         number: 1,
     };
-    let mut trace = Trace::new(alloc);
-    let mut loads = Loads::with_room(alloc, 2)?;
-    let mut cells = Vec::from_slice(alloc, &[0])?;
-    let verdict = validate_slot_direct(
-        alloc,
-        m,
-        ENTRY,
-        &[],
-        &shared,
-        &mut seat,
-        slot,
-        name,
-        cells.as_mut_slice(),
-        &mut trace,
-        &mut loads,
-        &mut gate,
-    )?;
-    let outcome = Outcome {
-        verdict,
-        trace,
-        cells: Items::of(cells),
+    validated(alloc, code, &shared, &mut seat, slot, name, &[0], &mut gate)
+}
+
+// The report of a validation.
+fn report(alloc: Global, m: &Module, ran: &Ran) -> Option<MemorySink> {
+    let Ok(mut out) = MemorySink::with_room(alloc, 4096, Vec::new(alloc)) else {
+        return None;
     };
-    Ok((outcome, loads))
+    match run_report(&ran.outcome, m, ENTRY, &ran.loads, &mut out) {
+        Ok(()) => Some(out),
+        Err(_) => None,
+    }
+}
+
+fn raced_report(alloc: Global, word: u32, value: u64) -> Option<MemorySink>
+    requires { word < 3 }
+{
+    let compiled = compile(alloc, GAP)?;
+    let ran = raced(alloc, &compiled.code, word, value)?;
+    report(alloc, &compiled.checked, &ran)
 }
 
 #[test]
 fn a_store_counts_where_its_word_is_still_to_be_loaded(rt: HostRuntime) -> Result<(), Fail> {
-    let alloc = rt.alloc();
-    let m = gap_module(alloc)?;
-    let rows = [
-        (
-            1,
-            u64::MAX,
-            "accept 9\nout got 5\nload 0 0000000000000005\nload 1 0000000000000000\n",
-        ),
-        (
-            2,
-            1,
-            "reject constraint 8\nframe V.z 8\nout got 5\nload 0 0000000000000005\nload 1 0000000000000001\n",
-        ),
-    ];
-    for (word, value, report) in rows {
-        assert!(rt; word < 3);
-        let (outcome, loads) = validated(alloc, &m, word, value)?;
-        let mut out = MemorySink::with_room(alloc, 4096, Vec::new(alloc))?;
-        run_report(&outcome, &m, ENTRY, &loads, &mut out)?;
-        assert_eq!(rt; out.written(), report.as_bytes());
+    for (word, value, wanted) in ROWS {
+        assert!(rt; *word < 3);
+        match raced_report(rt.alloc(), *word, *value) {
+            Some(out) => assert_eq!(rt; out.written(), wanted.as_bytes()),
+            None => return Err(Fail::new("no report")),
+        }
     }
     Ok(())
 }

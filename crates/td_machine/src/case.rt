@@ -4,8 +4,8 @@ ghost use Rattle.std.specs.Prelude.{◌≡◌, ◌<◌, ◌≤◌, ◌*◌, ◌^
 ghost use Rattle.td_ir.specs.Entries.{Fits};
 ghost use Rattle.td_vm.specs.Frames.{IsArmed};
 
-use crate::code::parts;
 use crate::fault::Fault;
+use crate::head::{Head, read_head};
 use crate::reader::{Reader, short};
 use itoa::Buffer;
 use std::alloc::{AllocError, Global};
@@ -13,14 +13,12 @@ use std::marker::Brand;
 use std::sync::ledger::{Blank, Ledger};
 use td_core::module::Entry;
 use td_core::outcome::{Reason, Spot, TraceFrame, Verdict};
-use td_ir::code::Code;
 use td_ir::entries::fits;
 use td_sched::planned::Planned;
 use td_sched::store::PlannedStore;
 use td_stream::loads::Loads;
 use td_stream::recorder::Recorder;
-use td_verify::rule::VerifyError;
-use td_verify::verify::{Verified, verify};
+use td_verify::verify::Verified;
 use td_vm::laws::fitting_cells_have_room;
 use td_vm::steps::Steps;
 use td_vm::validate::{Frame, validate};
@@ -206,33 +204,19 @@ fn answer_runs(
     Ok(())
 }
 
-// The rule that code breaks, and where.
-fn put_refusal(out: &mut String, error: VerifyError) -> Result<(), Fault> {
-    match error {
-        VerifyError::NoMemory => Err(Fault::Memory),
-        VerifyError::Breaks(breach) => {
-            out.push_str(breach.rule.code())?;
-            put(out, " ", breach.at as u64)?;
-            out.push_str("\n")?;
-            Ok(())
-        }
-    }
-}
-
 // One code and its runs: a line that it is refused, or one for each run.
 fn answer_case(alloc: Global, reader: &mut Reader<'_>, out: &mut String) -> Result<(), Fault> {
-    let parts = parts(alloc, reader)?;
+    let head = read_head(alloc, reader)?;
     let mut runs = Vec::new(alloc);
     for _k in 0..reader.next()? {
         runs.push(read_run(alloc, reader)?)?;
     }
-    let Ok(code) = Code::new(parts) else {
-        out.push_str("badtable\n")?;
-        return Ok(());
-    };
-    match verify(alloc, code) {
-        Ok(code) => answer_runs(alloc, &code, runs.as_slice(), out)?,
-        Err((_code, error)) => put_refusal(out, error)?,
+    match head {
+        Head::Code(code) => answer_runs(alloc, &code, runs.as_slice(), out)?,
+        Head::Refused(line) => {
+            out.push_str(line.as_str())?;
+            out.push_str("\n")?;
+        }
     }
     Ok(())
 }

@@ -1,11 +1,12 @@
-//! Runs code that is spelled in numbers, over memory to which others store by a plan, and writes a line for each run. It
-//! stands beside the product: checks/machine compares its lines with a plain program, and bench/machine takes its time.
-//! How code and runs are spelled stands in checks/code_run.py.
+//! Runs code that is spelled in numbers, by its tables or as an image, over memory to which others store by a plan, and writes a
+//! line for each run. It stands beside the product: checks/machine and checks/strangers compare its lines with a plain program,
+//! and bench/machine takes its time. How code and runs are spelled stands in checks/code_run.py.
 #![tactic(auto)]
 
 mod case;
 mod code;
 mod fault;
+mod head;
 mod reader;
 
 use case::answer_all;

@@ -88,11 +88,16 @@ impl<'a> Reader<'a> {
     }
 
     /// A count, and so many bytes.
-    pub fn text(&mut self, alloc: Global) -> Result<Text, Fault> {
+    pub fn bytes(&mut self, alloc: Global) -> Result<Vec<u8>, Fault> {
         let mut bytes = Vec::new(alloc);
         for _k in 0..self.next()? {
             bytes.push(byte(self.next()?))?;
         }
-        Ok(Text::of(bytes))
+        Ok(bytes)
+    }
+
+    /// The same, as a text.
+    pub fn text(&mut self, alloc: Global) -> Result<Text, Fault> {
+        Ok(Text::of(self.bytes(alloc)?))
     }
 }

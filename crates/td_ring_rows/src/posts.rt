@@ -3,7 +3,7 @@
 ghost use Rattle.std.specs.Prelude.{◌≡◌, IfOk};
 
 use std::alloc::{AllocError, Global};
-use td_core::outcome::{Trace, Verdict};
+use td_core::outcome::Verdict;
 use td_posts::name::PostName;
 use td_posts::reply::Reply;
 use td_ring::naming::Naming;
@@ -27,7 +27,7 @@ pub fn post(alloc: Global, guest: u32, number: u32) -> Result<Post, AllocError>
             guest,
             number,
             verdict: Verdict::Accept { pos: 0 },
-            trace: Trace::new(alloc),
+            trace: Vec::new(alloc),
             cells: Vec::new(alloc),
             loads: Loads::with_room(alloc, 0)?,
         },

@@ -1,11 +1,12 @@
-use Rattle.std.proofs.Common.{sym, subst, ap, ◌∙◌}
+use Rattle.std.proofs.Common.{sym, subst, ap, ◌∙◌, arith}
 use Rattle.td_cli.specs.Answers.{RefusesCheck}
 use Rattle.td_input.specs.Causes.{HasCause, of_module}
 use Rattle.td_cli.proofs.Inputs.{check_cause, checked_not_refused}
 use Rattle.td_cli.proofs.pack.pack_input.Goals as goal
 
 pub returns-in-Ok-packed_image-clause-pack : goal.returns-in-Ok-packed_image-clause-pack
-returns-in-Ok-packed_image-clause-pack c = (c.in-Ok.«module», c.in-Ok.ensures.stands, c.in-Ok-packed_image.ensures)
+returns-in-Ok-packed_image-clause-pack c =
+    (c.in-Ok.«module», c.in-Ok.ensures.stands, c.in-Ok-packed_image.ensures.packed c.args.input.now (let r = c.requires in omega (arith, r)) c.in-Ok.ensures.stands)
 
 pub returns-in-Ok-packed_image-clause-refused : goal.returns-in-Ok-packed_image-clause-refused
 returns-in-Ok-packed_image-clause-refused c = λ refusal h. absurd (checked_not_refused c.args.input.now c.in-Ok.ensures.exact refusal h)

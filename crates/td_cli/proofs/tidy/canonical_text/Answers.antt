@@ -7,4 +7,4 @@ pub returns : goal.returns
 returns c =
     λ tree h.
     let P : ModuleTree → Type 0 = λ t. IfOk c.print.result (λ text. text ≡ canonical_text t) in
-    subst P (c.in_ok-tree.ensures tree h) c.print.ensures
+    subst P (c.in_ok-tree.ensures tree h) c.print.ensures.text

@@ -1,0 +1,3 @@
+pub mod OneCommand
+pub mod Words
+pub mod Matches

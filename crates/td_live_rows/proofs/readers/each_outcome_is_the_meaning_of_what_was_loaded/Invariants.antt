@@ -1,9 +1,0 @@
-use Rattle.std.proofs.Common.{◌≡◌}
-use Rattle.td_live_rows.proofs.readers.each_outcome_is_the_meaning_of_what_was_loaded.Given as goal
-
--- the host's seat stays at its table
-abbrev pub invariant-loop-number : goal.invariant-loop-number
-invariant-loop-number g l = l.host.table ≡ l.initial.host.table
-
-abbrev pub invariant-loop-number-2 : goal.invariant-loop-number-2
-invariant-loop-number-2 g l = l.host.table ≡ l.initial.host.table

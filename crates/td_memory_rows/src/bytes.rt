@@ -1,0 +1,145 @@
+//! Sources and sinks of bytes.
+
+use std::io;
+use std::test::Fail;
+use td_io::{
+    Failed, MemorySink, MemorySource, QuietSink, QuietSource, ReadError, ReaderSource, Sink,
+    Source, WriteFault, WriterSink, read_whole, write_all,
+};
+
+/// Gives one byte at a read, so many times, and fails at a read past that where it is `broken`.
+#[derive(Drop)]
+struct Dripping {
+    left: u64,
+    broken: bool,
+}
+
+impl io::Read for Dripping {
+    fn read(&mut self, buf: &mut [u8]) -> io::Result<usize> {
+        if self.left == 0 && self.broken {
+            return Err(io::Error::from(io::ErrorKind::BrokenPipe));
+        }
+        if self.left == 0 || buf.is_empty() {
+            return Ok(0);
+        }
+        self.left -= 1;
+        buf[0] = b'x';
+        Ok(1)
+    }
+}
+
+/// Takes one byte at a write, so many times, and then nothing.
+#[derive(Drop)]
+struct Clogging {
+    room: u64,
+}
+
+impl io::Write for Clogging {
+    fn write(&mut self, buf: &[u8]) -> io::Result<usize> {
+        if self.room == 0 || buf.is_empty() {
+            return Ok(0);
+        }
+        self.room -= 1;
+        Ok(1)
+    }
+
+    fn flush(&mut self) -> io::Result<()> {
+        Ok(())
+    }
+}
+
+#[test]
+fn reads_fail_at_listed_calls(rt: HostRuntime) -> Result<(), Fail> {
+    let bytes = b"abcde".to_vec(rt.alloc())?;
+    let fails = [2, 4].to_vec(rt.alloc())?;
+    let mut source = MemorySource::over(bytes, fails);
+    let mut buf = [0u8; 2];
+    for want in [Ok(2), Err(Failed), Ok(2), Err(Failed), Ok(1), Ok(0)] {
+        assert_eq!(rt; source.read(&mut buf), want);
+    }
+    assert_eq!(rt; buf[0], b'e');
+    assert!(rt; source.left().is_empty());
+    Ok(())
+}
+
+#[test]
+fn writes_fail_at_listed_calls_and_without_room(rt: HostRuntime) -> Result<(), Fail> {
+    let mut sink = MemorySink::with_room(rt.alloc(), 4, [2].to_vec(rt.alloc())?)?;
+    for (piece, want) in [
+        (b"ab".as_slice(), Ok(2)),
+        (b"cd".as_slice(), Err(Failed)),
+        (b"cde".as_slice(), Ok(2)),
+        (b"e".as_slice(), Err(Failed)),
+        (b"".as_slice(), Ok(0)),
+    ] {
+        assert_eq!(rt; sink.write(piece), want);
+    }
+    assert_eq!(rt; sink.written(), b"abcd".as_slice());
+    Ok(())
+}
+
+#[test]
+fn whole_sources_are_read_up_to_the_limit(rt: HostRuntime) -> Result<(), Fail> {
+    for (fail, limit, want) in [
+        (0, 3, Ok(b"abc".as_slice())),
+        (0, 2, Err(ReadError::TooLong)),
+        (1, 3, Err(ReadError::Fault)),
+        (2, 3, Err(ReadError::Fault)),
+        (2, 2, Err(ReadError::TooLong)),
+        (3, 3, Ok(b"abc".as_slice())),
+    ] {
+        let bytes = b"abc".to_vec(rt.alloc())?;
+        let mut source = MemorySource::over(bytes, [fail].to_vec(rt.alloc())?);
+        let read = read_whole(rt.alloc(), &mut source, limit);
+        assert_eq!(rt;
+            read.as_ref().map(|v| v.as_slice()).map_err(|e| *e),
+            want,
+            "fail {fail}, limit {limit}"
+        );
+    }
+    let mut quiet = QuietSource::over(b"abc".to_vec(rt.alloc())?);
+    assert_eq!(rt;
+        read_whole(rt.alloc(), &mut quiet, 3)?.as_slice(),
+        b"abc".as_slice()
+    );
+    Ok(())
+}
+
+#[test]
+fn streams_are_read_byte_by_byte(rt: HostRuntime) -> Result<(), Fail> {
+    for (left, broken, limit, want) in [
+        (0, false, 0, Ok(0)),
+        (5000, false, 5000, Ok(5000)),
+        (5001, false, 5000, Err(ReadError::TooLong)),
+        (u64::MAX, false, 9, Err(ReadError::TooLong)),
+        (7, true, 9, Err(ReadError::Fault)),
+    ] {
+        let mut source = ReaderSource::over(Dripping { left, broken });
+        let read = read_whole(rt.alloc(), &mut source, limit);
+        assert_eq!(rt; read.map(|v| v.len()), want, "{left} bytes, limit {limit}");
+    }
+    Ok(())
+}
+
+#[test]
+fn texts_are_written_until_a_write_fails(rt: HostRuntime) -> Result<(), Fail> {
+    for (room, fail, want, written) in [
+        (3, 0, Ok(()), b"abc".as_slice()),
+        (2, 0, Err(WriteFault), b"ab".as_slice()),
+        (3, 1, Err(WriteFault), b"".as_slice()),
+    ] {
+        let mut sink = MemorySink::with_room(rt.alloc(), room, [fail].to_vec(rt.alloc())?)?;
+        assert_eq!(rt;
+            write_all(&mut sink, b"abc"),
+            want,
+            "room {room}, fail {fail}"
+        );
+        assert_eq!(rt; sink.written(), written, "room {room}, fail {fail}");
+    }
+    for (room, want) in [(3, Ok(())), (2, Err(WriteFault))] {
+        let mut sink = WriterSink::over(Clogging { room });
+        assert_eq!(rt; write_all(&mut sink, b"abc"), want, "room {room}");
+    }
+    assert_eq!(rt; write_all(&mut QuietSink, b"abc"), Ok(()));
+    Ok(())
+}
