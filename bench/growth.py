@@ -1,5 +1,5 @@
-"""Inputs that grow: for a size, the command's words, its input, and what is written (for `bench`, whose sums nobody has worked
-out, a pattern of it)."""
+"""Inputs that grow: for a size, the command's words, its input, and what is written (where nobody has worked that out, as the sums
+of `bench` or the code of a long text, a function that tells whether it looks right)."""
 
 import re
 
@@ -185,7 +185,27 @@ def tidied_nodes(count):
 
 def benched(count):
     wanted = r"messages %d\naccepted \d+\nrejected \d+\nbytes \d+\nloads \d+\n" % count
-    return "bench %d" % count, "", re.compile(wanted)
+    return "bench %d" % count, "", re.compile(wanted).fullmatch
+
+
+def is_listing(out):
+    """Whether an output has lines that begin with their numbers."""
+    lines = out.splitlines()
+    return out.endswith("\n") and all(line.startswith("%d " % number) for number, line in enumerate(lines))
+
+
+def is_image(out):
+    return out.startswith("TD3I")
+
+
+def coded(make):
+    """The listing of the code of a text that `check` accepts."""
+    return lambda size: ("code", make(size)[1], is_listing)
+
+
+def packed(make):
+    """The image of the code of such a text."""
+    return lambda size: ("pack", make(size)[1], is_image)
 
 
 def checked(definitions, count, entries):
@@ -326,6 +346,14 @@ LATER = [
     ("tidy, long names", "bytes", INPUT_LIMIT, tidied_names),
     ("tidy, nodes", "nodes", 20_000, tidied_nodes),
     ("bench", "messages", 10_000, benched),
+    ("code, nodes", "nodes", 20_000, coded(many_nodes)),
+    ("code, definitions in chains", "definitions", 1000, coded(chained_definitions)),
+    ("code, definitions that name others", "definitions", 1000, coded(wide_definitions)),
+    ("code, cases", "cases", 256, coded(many_cases)),
+    ("pack, nodes", "nodes", 20_000, packed(many_nodes)),
+    ("pack, definitions in chains", "definitions", 1000, packed(chained_definitions)),
+    ("pack, definitions that name others", "definitions", 1000, packed(wide_definitions)),
+    ("pack, cases", "cases", 256, packed(many_cases)),
     ("host, posts", "posts", POSTS_LIMIT, hosted_posts),
     ("host, stores", "stores", STORES_LIMIT, hosted_stores),
     ("host, words of messages", "words", WORDS_LIMIT, hosted_words),

@@ -1,9 +1,12 @@
 """Code in Python: a plain reading of docs/language/code.md, and how code and its runs are spelled for crates/td_machine.
 
 An instruction is a tuple of its name and its operands, in the order of the page's table. What is spelled is numbers in
-decimal, parted by blanks: for each code its tables in the order names, sites, cell maps, sets, routines, entry points,
-instructions, a count before each list, and then its runs. The parameters and cells of an entry point have 8 bytes each.
+decimal, parted by blanks: for each code either 0 and its tables in the order names, sites, cell maps, sets, routines, entry
+points, instructions, a count before each list, or 1 and the bytes of its image, their count before them; and then its runs, their
+count before them. Where tables are spelled, the parameters and cells of an entry point have 8 bytes each.
 """
+
+import subprocess
 
 KINDS = (
     "Const Member Op Bits Pos Jump JumpIf JumpUnless Call Return Fetch SkipK Skip Rest Zeros Zeroterm "
@@ -26,6 +29,7 @@ class Code:
     def __init__(self, routines, sets=(), maps=(), entries=(0,), names=("t", "f"), sites=((0, 1),)):
         self.routines, self.sets, self.maps, self.names, self.sites = routines, sets, maps, names, sites
         self.entries = entries
+        self.weights = {}
         self.begins = []
         at = 0
         for routine in routines:
@@ -34,7 +38,7 @@ class Code:
 
     def numbers(self):
         """The code in numbers."""
-        out = [len(self.names)]
+        out = [0, len(self.names)]
         for name in self.names:
             out += [len(name), *name.encode()]
         out.append(len(self.sites))
@@ -266,6 +270,12 @@ class State:
 
 def weight(code, number):
     """The weight of a routine: each instruction's own, twice in a loop, and that of what it calls."""
+    if number not in code.weights:
+        code.weights[number] = summed_weight(code, number)
+    return code.weights[number]
+
+
+def summed_weight(code, number):
     total, depth = 0, 0
     for name, *operands in code.routines[number].instructions:
         if name == "Again":
@@ -276,3 +286,69 @@ def weight(code, number):
         if name == "While":
             depth += 1
     return total
+
+
+def code_of_image(tables):
+    """The code of an image's tables (as td-image reads them): here a target counts from its own routine's first instruction."""
+    routines, begin = [], 0
+    for _, params, cells, registers, length in tables.routines:
+        own = []
+        for kind, *operands in tables.instructions[begin : begin + length]:
+            if kind in TARGETS:
+                operands[TARGETS[kind] - 1] -= begin
+            own.append((kind, *operands))
+        routines.append(Routine(own, params, cells, registers))
+        begin += length
+    names = [name.decode() for name in tables.names]
+    return Code(routines, tables.sets, tables.maps, [entry[0] for entry in tables.entries], names, tables.sites)
+
+
+def image_numbers(image):
+    """The head of a case: an image in numbers."""
+    return [1, len(image), *image]
+
+
+def machine_lines(program, cases):
+    """The lines of td_machine for cases, each the numbers of a code and those of its runs."""
+    text = []
+    for numbers, runs in cases:
+        text += [*numbers, len(runs)]
+        for run in runs:
+            text += run
+    done = subprocess.run([program], input=" ".join(map(str, text)).encode(), stdout=subprocess.PIPE, check=True, timeout=600)
+    return done.stdout.decode().splitlines()
+
+
+def words_of(message):
+    padded = message + bytes(-len(message) % 8)
+    return [int.from_bytes(padded[k : k + 8], "little") for k in range(0, len(padded), 8)]
+
+
+def split_loads(line):
+    """An answer without its loads, and the loads."""
+    head, *loads = line.split(" l ")
+    return head, [tuple(map(int, load.split())) for load in loads]
+
+
+def carried(length, loads):
+    """The message that carries loads, 0 where none was made."""
+    words = bytearray(-(-length // 8) * 8)
+    for word, value in loads:
+        words[8 * word : 8 * word + 8] = value.to_bytes(8, "little")
+    return bytes(words[:length])
+
+
+def judged(code, entry, args, cells, message, line):
+    """What is wrong with the machine's line of a run, or None; and the steps of the plain run on this message, with their bound."""
+    head, loads = split_loads(line)
+    run = Run(code, message)
+    wanted = run.outcome(entry, args, cells)
+    bound = weight(code, code.entries[entry]) * (len(message) + 1)
+    wrong = None
+    if head != wanted:
+        wrong = f"{head!r} in place of {wanted!r}"
+    elif [word for word, _ in loads] != sorted({place // 8 for place in run.touched}):
+        wrong = f"loads {loads}, looked at {run.touched}"
+    elif run.steps > bound:
+        wrong = f"{run.steps} steps of {bound}"
+    return wrong, run.steps, bound

@@ -60,6 +60,18 @@ def image_of(code):
     return b"".join(image + [instruction_bytes(instruction) for instruction in code.instructions])
 
 
+def large_image(names, instructions):
+    """The image of code with so many names and sites, and so many instructions (a number that four divides) in one routine."""
+    code = Tables()
+    code.names = [b"name%05d" % k for k in range(names)]
+    code.sites = [(k, (7 * k) % names) for k in range(names)]
+    code.routines = [[0, 0, 0, 9, instructions]]
+    code.entries = [(0, [], [])]
+    steps = [("Fetch", 1, 1, 4, 5), ("Const", 2, 77), ("Op", 3, 12, 1, 2), ("SkipK", 4, names - 1)]
+    code.instructions = steps * (instructions // 4 - 1) + steps[:3] + [("Return",)]
+    return image_of(code)
+
+
 def entry_of_words(words):
     """An entry point of words: its routine, then `param NAME BITS` and `cell NAME FIELD BITS` in turn, `-` for no field."""
     routine, params, cells = int(words[0]), [], []

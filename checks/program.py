@@ -1,6 +1,7 @@
 """The built program, for the checks that are written in Python."""
 
 import os
+import resource
 import subprocess
 import sys
 
@@ -29,9 +30,11 @@ def answers(program, lines):
     return found
 
 
-def run(program, words, text):
-    """The status of a run with these words and this input, and what it wrote to its two outputs."""
-    ended = subprocess.run([program, *words], input=text, capture_output=True, check=False, timeout=SECONDS)
+def run(program, words, text, limit=None):
+    """The status of a run with these words and this input, and what it wrote to its two outputs. A limit is a resource of the
+    system (as `resource.RLIMIT_STACK`) and how much of it the program has."""
+    set_limit = None if limit is None else lambda: resource.setrlimit(limit[0], (limit[1], limit[1]))
+    ended = subprocess.run([program, *words], input=text, capture_output=True, check=False, timeout=SECONDS, preexec_fn=set_limit)
     return ended.returncode, ended.stdout, ended.stderr
 
 

@@ -1,10 +1,10 @@
 // Makes chosen calls of the C library fail. checks/faults builds this file into a library and has the loader put it before
 // the C library in the built program (LD_PRELOAD), so that the program itself is the one that is shipped.
 //
-// REFUSE names the calls that are counted: `allocation`, `read` (of standard input) or `write` (to standard output or
-// standard error). Those with a number from REFUSE_FIRST to REFUSE_LAST fail, counted from 1: an allocation gives NULL,
-// a read or a write gives -1 with the error REFUSE_ERROR (`EIO` or `EINTR`), or 0 bytes with `NOTHING`. With
-// REFUSE_SHORT the reads and writes that don't fail pass one byte at a time. When the program ends, two numbers go to
+// REFUSE names the calls that are counted: `allocation`, `thread` (the start of one), `read` (of standard input) or `write` (to
+// standard output or standard error). Those with a number from REFUSE_FIRST to REFUSE_LAST fail, counted from 1: an allocation
+// gives NULL, a thread isn't started (EAGAIN), a read or a write gives -1 with the error REFUSE_ERROR (`EIO` or `EINTR`), or 0
+// bytes with `NOTHING`. With REFUSE_SHORT the reads and writes that don't fail pass one byte at a time. When the program ends, two numbers go to
 // the file REFUSE_COUNTS: how many calls there were, and how many of them failed.
 //
 // Counting begins in a constructor, which runs when the loader has set up the libraries and just before main is called.
@@ -13,8 +13,10 @@
 // The program asks for memory by malloc and realloc alone (`nm -D` lists what it calls); the other three are here so
 // that a later one that calls them isn't overlooked.
 #define _GNU_SOURCE
+#include <dlfcn.h>
 #include <errno.h>
 #include <fcntl.h>
+#include <pthread.h>
 #include <stdatomic.h>
 #include <stdio.h>
 #include <stdlib.h>
@@ -27,6 +29,10 @@ void *__libc_malloc(size_t size);
 void *__libc_calloc(size_t count, size_t size);
 void *__libc_realloc(void *block, size_t size);
 void *__libc_memalign(size_t alignment, size_t size);
+
+// The C library's own start of a thread, which has no other name.
+typedef int start_of_thread(pthread_t *, const pthread_attr_t *, void *(*)(void *), void *);
+static start_of_thread *start_thread = NULL;
 
 static const char *counted = "";
 static const char *counts = NULL;
@@ -50,6 +56,7 @@ __attribute__((constructor)) static void begin(void) {
     last = atol(setting("REFUSE_LAST"));
     is_short = *setting("REFUSE_SHORT") != 0;
     counts = getenv("REFUSE_COUNTS");
+    start_thread = (start_of_thread *)dlsym(RTLD_NEXT, "pthread_create");
     counted = setting("REFUSE");
 }
 
@@ -127,6 +134,10 @@ int posix_memalign(void **block, size_t alignment, size_t size) {
     }
     *block = taken;
     return 0;
+}
+
+int pthread_create(pthread_t *thread, const pthread_attr_t *settings, void *(*start)(void *), void *argument) {
+    return start_thread == NULL || refuses("thread") ? EAGAIN : start_thread(thread, settings, start, argument);
 }
 
 ssize_t read(int file, void *bytes, size_t size) {

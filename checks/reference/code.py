@@ -28,21 +28,25 @@ class Routine:
         self.end = start + length
         self.depth = self.weight = 0
         self.may_take_none = False
+        self.open_before = [[]]
+        for place in range(self.start, self.end):
+            self.open_before.append(self.opened_after(self.open_before[-1], place))
 
     def at(self, place):
         return self.code.instructions[place]
 
     def opened(self, place):
         """The places of what is open before an instruction, the innermost last. None behind a closing of something else."""
-        found = []
-        for p in range(self.start, place):
-            kind = self.at(p)[0]
-            if kind in OPENS or kind == "While":
-                found.append(p)
-            elif kind in ("Widen", "Again"):
-                if not found or (self.at(found[-1])[0] == "While") != (kind == "Again"):
-                    return None
-                found.pop()
+        return self.open_before[place - self.start]
+
+    def opened_after(self, found, place):
+        """The same behind an instruction, of what is open before it."""
+        kind = self.at(place)[0]
+        if found is not None and (kind in OPENS or kind == "While"):
+            return found + [place]
+        if found is not None and kind in ("Widen", "Again"):
+            is_loop = bool(found) and self.at(found[-1])[0] == "While"
+            return found[:-1] if found and is_loop == (kind == "Again") else None
         return found
 
     def is_open(self, place, kinds):
