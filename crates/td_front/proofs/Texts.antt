@@ -55,7 +55,7 @@ deep_within : (tokens : List Token) (place : ℕ) → IsFirstDeep module_text.Pa
 deep_within tokens place deep within = within place deep.within deep.here
 
 parsed_tree : (below : Below) (text : List ℕ) (tokens : List Token) (tree : ModuleTree) → module_text.Spells tree tokens → IsWithinLimits module_text.Passes tokens → (a : Answer module_text tokens) → parsed below text tokens a ≡ judged below.some_first tree
-parsed_tree below text tokens tree spelled within (Tree other also w) = ap (judged below.some_first) (below.one_tree tokens other tree also spelled w)
+parsed_tree below text tokens tree spelled within (Tree other also w) = ap (judged below.some_first) (below.one_tree tokens other tree also spelled)
 parsed_tree below text tokens tree spelled within (Refused place first w) = absurd (below.never_both tokens tree place spelled first)
 parsed_tree below text tokens tree spelled within (TooDeep place first) = absurd (deep_within tokens place first within)
 

@@ -4,11 +4,12 @@ use Rattle.std.proofs.lemmas.List.{append-nil, append_cancel_right, length-appen
 use Rattle.td_ast.specs.declared.token.Token.{Token}
 use Rattle.td_ast.specs.Kinds.{number_of_kind}
 use Rattle.td_grammar.specs.Spelling.{Begins}
-use Rattle.td_grammar.specs.Sets.{comes, member}
+use Rattle.td_grammar.specs.Sets.{comes}
 use Rattle.td_grammar.specs.Reading.{Outcome, Got, Bad, Deep, ◌and_then◌, with_first, read_all}
 use Rattle.td_grammar.specs.Grammar.{Grammar, one, all_of}
-use Rattle.td_grammar.proofs.Tools.{Stops, join, got_value, got_rest, apart_at, comes_same, stops_left, stops_right, nothing_left}
+use Rattle.td_grammar.proofs.Tools.{Stops, join, got_value, got_rest, apart_at, comes_same, stops_left, nothing_left}
 use Rattle.td_grammar.proofs.Exact.{IsRead, IsDeep, IsExact, IsApart, keeps_first, passed_begins}
+use Rattle.td_grammar.proofs.Led.{led_of, spelled_comes, all_begun, all_seam}
 
 module _ {A : Type 0} (g : Grammar A) (G : IsExact g) (solid : g.reader.may_be_empty ≡ false) where
   pub shorter : (tokens : List Token) (a : A) (rest : List Token) → g.reader.read tokens ≡ Got a rest → length rest < length tokens
@@ -134,30 +135,14 @@ module _ {A : Type 0} (g : Grammar A) (G : IsExact g) (solid : g.reader.may_be_e
       (t.0, t.1, (t.2.0 ∷ [], t.2.1, (t.0 ++ t.2.1, [], sym (append-nil (t.0 ++ t.2.1)), t.2.2, refl)))
   all_ends n tokens (at_over mid b f) le rest e = absurd (cc (all_over tokens mid b f))
 
-  all_begun : (xs : List A) (t : Token) (others : List Token) → (all_of g).Spells xs (t ∷ others) → member g.reader.begins (number_of_kind t.kind) ≡ true
-  all_begun [] t others s = absurd cc
-  all_begun (x ∷ xs) t others s = by_first s.0 s.1 s.2 s.3
-    where
-      by_first : (u v : List Token) → t ∷ others ≡ u ++ v → g.Spells x u → member g.reader.begins (number_of_kind t.kind) ≡ true
-      by_first [] v e p = absurd (cc (G.full x p, solid))
-      by_first (y ∷ u) v e p = let same : t ≡ y = cc in rw same (G.begun x y u p)
-
   module _ (apart : IsApart g g) where
-    all_seam : (xs : List A) (v rest : List Token) → (all_of g).Spells xs v → Stops (all_of g).reader.goes_on rest → Stops g.reader.goes_on (v ++ rest)
-    all_seam xs [] rest s stops = stops_right g.reader.begins g.reader.goes_on rest stops
-    all_seam xs (t ∷ v) rest s stops = apart_at g.reader.begins g.reader.goes_on (number_of_kind t.kind) apart (all_begun xs t v s)
-
     all_again : (xs : List A) (front rest : List Token) → (all_of g).Spells xs front → Stops (all_of g).reader.goes_on rest → IsRead xs rest ((all_of g).reader.read (front ++ rest))
     all_again [] front rest s stops = inl (rw s (all_done rest (stops_left g.reader.begins g.reader.goes_on rest stops)))
     all_again (x ∷ xs) front rest s stops =
         let regrouped : front ++ rest ≡ s.0 ++ (s.1 ++ rest) = rw (s.2) (append_assoc s.0 s.1 rest) in
         subst (λ (l : List Token). IsRead (x ∷ xs) rest ((all_of g).reader.read l)) (sym regrouped)
-        (by_first (begun_by s.0 (s.1 ++ rest) s.3) (G.again x s.0 (s.1 ++ rest) s.3 (all_seam xs s.1 rest s.4 stops)) (all_again xs s.1 rest s.4 stops))
+        (by_first (spelled_comes g (led_of G) solid x s.0 (s.1 ++ rest) s.3) (G.again x s.0 (s.1 ++ rest) s.3 (all_seam g (led_of G) solid apart xs s.1 rest s.4 stops)) (all_again xs s.1 rest s.4 stops))
       where
-        begun_by : (u v : List Token) → g.Spells x u → comes g.reader.begins (u ++ v) ≡ true
-        begun_by [] v p = absurd (cc (G.full x p, solid))
-        begun_by (t ∷ u) v p = G.begun x t u p
-
         by_first : comes g.reader.begins (s.0 ++ (s.1 ++ rest)) ≡ true → IsRead x (s.1 ++ rest) (g.reader.read (s.0 ++ (s.1 ++ rest))) → IsRead xs rest ((all_of g).reader.read (s.1 ++ rest)) → IsRead (x ∷ xs) rest ((all_of g).reader.read (s.0 ++ (s.1 ++ rest)))
         by_first b (inl one) (inl others) = inl (all_more (s.0 ++ (s.1 ++ rest)) x (s.1 ++ rest) b one ∙ ap (with_first x) others)
         by_first b (inl one) (inr over) = inr (over.0, all_more (s.0 ++ (s.1 ++ rest)) x (s.1 ++ rest) b one ∙ ap (with_first x) over.1, over.2)
@@ -194,11 +179,7 @@ module _ {A : Type 0} (g : Grammar A) (G : IsExact g) (solid : g.reader.may_be_e
     behind_stops : (xs : List A) (u v rest : List Token) → (all_of g).Spells xs u → g.Passes v → Stops g.reader.goes_on (u ++ (v ++ rest))
     behind_stops xs [] [] rest s p = absurd (G.not_nothing p)
     behind_stops xs [] (t ∷ v) rest s p = apart_at g.reader.begins g.reader.goes_on (number_of_kind t.kind) apart (passed_begins g G t v p)
-    behind_stops xs (t ∷ u) v rest s p = apart_at g.reader.begins g.reader.goes_on (number_of_kind t.kind) apart (all_begun xs t u s)
-
-    spelled_comes : (x : A) (u rest : List Token) → g.Spells x u → comes g.reader.begins (u ++ rest) ≡ true
-    spelled_comes x [] rest s = absurd (cc (G.full x s, solid))
-    spelled_comes x (t ∷ u) rest s = G.begun x t u s
+    behind_stops xs (t ∷ u) v rest s p = apart_at g.reader.begins g.reader.goes_on (number_of_kind t.kind) apart (all_begun g (led_of G) solid xs t u s)
 
     all_passes_by : (xs : List A) (u v rest : List Token) → (all_of g).Spells xs u → g.Passes v → IsDeep rest ((all_of g).reader.read (u ++ (v ++ rest)))
     all_passes_by [] u v rest s p =
@@ -207,7 +188,7 @@ module _ {A : Type 0} (g : Grammar A) (G : IsExact g) (solid : g.reader.may_be_e
     all_passes_by (x ∷ xs) u v rest s p =
         let regrouped : u ++ (v ++ rest) ≡ s.0 ++ (s.1 ++ (v ++ rest)) = rw (s.2) (append_assoc s.0 s.1 (v ++ rest)) in
         subst (λ (l : List Token). IsDeep rest ((all_of g).reader.read l)) (sym regrouped)
-        (by_first (spelled_comes x s.0 (s.1 ++ (v ++ rest)) s.3) (G.again x s.0 (s.1 ++ (v ++ rest)) s.3 (behind_stops xs s.1 v rest s.4 p)) (all_passes_by xs s.1 v rest s.4 p))
+        (by_first (spelled_comes g (led_of G) solid x s.0 (s.1 ++ (v ++ rest)) s.3) (G.again x s.0 (s.1 ++ (v ++ rest)) s.3 (behind_stops xs s.1 v rest s.4 p)) (all_passes_by xs s.1 v rest s.4 p))
       where
         by_first : comes g.reader.begins (s.0 ++ (s.1 ++ (v ++ rest))) ≡ true → IsRead x (s.1 ++ (v ++ rest)) (g.reader.read (s.0 ++ (s.1 ++ (v ++ rest)))) → IsDeep rest ((all_of g).reader.read (s.1 ++ (v ++ rest))) → IsDeep rest ((all_of g).reader.read (s.0 ++ (s.1 ++ (v ++ rest))))
         by_first b (inl one) over = (over.0, all_more (s.0 ++ (s.1 ++ (v ++ rest))) x (s.1 ++ (v ++ rest)) b one ∙ ap (with_first x) over.1, over.2)
@@ -275,7 +256,7 @@ module _ {A : Type 0} (g : Grammar A) (G : IsExact g) (solid : g.reader.may_be_e
     passes = all_passes apart;
     passed = all_passed;
     not_nothing = all_not_nothing;
-    begun = all_begun;
+    begun = all_begun g (led_of G) solid;
     full = λ xs s. refl;
     ends = λ tokens rest e. all_ends (length tokens) tokens (steps tokens) (omega arith) rest e;
     keeps_got = λ front t r s xs e. all_keeps_got (length (front ++ t ∷ r)) front t r s (steps (front ++ t ∷ r)) (omega arith) xs e;

@@ -9,7 +9,6 @@ use Rattle.td_grammar.specs.Limits.{IsFirstDeep, IsWithinLimits}
 use Rattle.td_grammar.specs.Reading.{Outcome, Got, Bad, Deep, read_whole}
 use Rattle.td_grammar.specs.Grammar.{Grammar}
 use Rattle.td_grammar.specs.Laws.{Answer, Tree, Refused, TooDeep}
-use Rattle.td_grammar.proofs.Tools.{got_value}
 use Rattle.td_grammar.proofs.Exact.{IsExact}
 use Rattle.td_grammar.proofs.Whole.{whole_found, whole_only, whole_refused, whole_deep, whole_passes, first_refused}
 
@@ -81,10 +80,6 @@ module _ {A : Type 0} (g : Grammar A) (G : IsExact g) where
         | inl got ↦ got
         | inr over ↦ let D = deep_at tokens over.0 over.1 in absurd (within (length tokens - length over.0) D.within D.here)
       ]
-
-  -- at most one tree within the limits
-  pub one_tree : (tokens : List Token) (a b : A) → g.Spells a tokens → g.Spells b tokens → IsWithinLimits g.Passes tokens → a ≡ b
-  one_tree tokens a b s t within = got_value a b [] [] (sym (within_read tokens a s within) ∙ within_read tokens b t within)
 
   -- the first that passes a limit is the one that is named
   pub deep_once : (tokens : List Token) (p q : ℕ) → IsFirstDeep g.Passes tokens p → IsFirstDeep g.Passes tokens q → p ≡ q

@@ -4,8 +4,9 @@ use Rattle.td_ast.specs.declared.token.Token.{Token}
 use Rattle.td_ast.specs.Kinds.{number_of_kind}
 use Rattle.td_grammar.specs.Spelling.{Begins}
 use Rattle.td_grammar.specs.Reading.{Outcome, Got, Bad, Deep}
-use Rattle.td_grammar.specs.Sets.{member, disjoint}
+use Rattle.td_grammar.specs.Sets.{member}
 use Rattle.td_grammar.specs.Grammar.{Grammar}
+use Rattle.td_grammar.proofs.Sets.{disjoint}
 use Rattle.td_grammar.proofs.Tools.{Stops, split}
 
 -- a limit was passed before the rest

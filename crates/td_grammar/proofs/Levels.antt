@@ -8,12 +8,13 @@ use Rattle.td_ast.specs.declared.expressions.BinaryOperator.{BinaryOperator}
 use Rattle.td_ast.specs.declared.expressions.BinaryOperator.TheVariants as operators
 use Rattle.td_ast.specs.Trees.{Tree}
 use Rattle.td_ast.specs.Kinds.{number_of_kind}
-use Rattle.td_grammar.specs.Sets.{member, disjoint, covered}
+use Rattle.td_grammar.specs.Sets.{member}
 use Rattle.td_grammar.specs.Grammar.{Grammar, ◌then◌}
 use Rattle.td_grammar.specs.Tokens.{word}
 use Rattle.td_grammar.specs.Expressions.{level, leaning, comparing, sizeof_operand, opened, branched, prim_from, un_from, expr_from, products, sums, shifts, orders, equalities, bit_ands, bit_xors, bit_ors, ands, ors}
 use Rattle.td_grammar.specs.Operators.{unary_operator_of, product_operator_of, sum_operator_of, shift_operator_of, order_operator_of, equality_operator_of, bit_and_operator_of, bit_xor_operator_of, bit_or_operator_of, and_operator_of, or_operator_of, truth_of, unary_operator, and_kinds, bit_and_kinds, bit_or_kinds, bit_xor_kinds, equality_kinds, or_kinds, order_kinds, product_kinds, shift_kinds, sum_kinds, truth_kinds, unary_kinds}
 use Rattle.td_grammar.specs.Ahead.{begins, products_go_on, sums_go_on, shifts_go_on, orders_go_on, equalities_go_on, bit_ands_go_on, bit_xors_go_on, bit_ors_go_on, ands_go_on, ors_go_on}
+use Rattle.td_grammar.proofs.Sets.{disjoint, covered}
 use Rattle.td_grammar.proofs.Exact.{IsExact}
 use Rattle.td_grammar.proofs.Making.{making_exact}
 use Rattle.td_grammar.proofs.Maybe.{maybe_exact}

@@ -4,10 +4,11 @@ use Rattle.std.proofs.lemmas.List.{append-nil, length-append}
 use Rattle.td_ast.specs.declared.token.Token.{Token}
 use Rattle.td_ast.specs.Kinds.{number_of_kind}
 use Rattle.td_grammar.specs.Spelling.{Begins}
-use Rattle.td_grammar.specs.Sets.{comes, member, disjoint}
+use Rattle.td_grammar.specs.Sets.{comes, member}
 use Rattle.td_grammar.specs.Reading.{Outcome, Got, Bad, Deep, ◌and_then◌, with_first}
 use Rattle.td_grammar.specs.Grammar.{Grammar}
 use Rattle.td_grammar.specs.Listed.{SpellsFirst, read_part, read_listed, listed}
+use Rattle.td_grammar.proofs.Sets.{disjoint}
 use Rattle.td_grammar.proofs.Tools.{Stops, got_value, got_rest, apart_at, comes_same, stops_left, stops_right, nothing_left}
 use Rattle.td_grammar.proofs.Exact.{IsRead, IsDeep, IsExact, keeps_first, passed_begins}
 

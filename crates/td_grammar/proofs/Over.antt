@@ -7,13 +7,14 @@ use Rattle.td_ast.specs.declared.token.TokenKind.{TokenKind}
 use Rattle.td_ast.specs.declared.expressions.BinaryOperator.{BinaryOperator}
 use Rattle.td_ast.specs.Trees.{Tree}
 use Rattle.td_ast.specs.Kinds.{number_of_kind}
-use Rattle.td_grammar.specs.Sets.{member, covered, only}
+use Rattle.td_grammar.specs.Sets.{member, only}
 use Rattle.td_grammar.specs.Limits.{count, PassesNever, PassesBoth, PassesAll, PassesEither, PassesFirst}
 use Rattle.td_grammar.specs.Scan.{counted}
 use Rattle.td_grammar.specs.Grammar.{Grammar, spelled_by, too_deep}
 use Rattle.td_grammar.specs.Tokens.{terminal}
 use Rattle.td_grammar.specs.Expressions.{products, sums, shifts, orders, equalities, bit_ands, bit_xors, bit_ors, ands, group_of, triple_of, branches_of, SpellsExpr, leaning, comparing, prim_from, un_from, expr_from, expr_within, nested_expr}
 use Rattle.td_grammar.specs.Operators.{product_operator, sum_operator, shift_operator, order_operator, equality_operator, bit_and_operator, bit_xor_operator, bit_or_operator, and_operator, or_operator}
+use Rattle.td_grammar.proofs.Sets.{covered}
 use Rattle.td_grammar.proofs.Seen.{covers}
 use Rattle.td_grammar.proofs.Words.{terminal_known}
 

@@ -8,7 +8,7 @@ use Rattle.td_ast.specs.declared.token.TokenKind.TheVariants as kinds
 use Rattle.td_ast.specs.declared.expressions.BinaryOperator.{BinaryOperator}
 use Rattle.td_ast.specs.Trees.{Tree}
 use Rattle.td_ast.specs.Kinds.{number_of_kind}
-use Rattle.td_grammar.specs.Sets.{member, disjoint, covered, any_name, any_number, any_number_type, only, set_of}
+use Rattle.td_grammar.specs.Sets.{member, any_name, any_number, any_number_type, only, set_of}
 use Rattle.td_grammar.specs.Spelling.{Begins, SpellsOne, SpellsBoth, SpellsMade, SpellsMaybe, SpellsAll, SpellsEither, NestedBelow}
 use Rattle.td_grammar.specs.Limits.{count}
 use Rattle.td_grammar.specs.declared.limits.TheConstants.{OPERATORS}
@@ -17,6 +17,7 @@ use Rattle.td_grammar.specs.Grammar.{Grammar, spelled_by, one}
 use Rattle.td_grammar.specs.Tokens.{terminal, name, literal, number_type, word}
 use Rattle.td_grammar.specs.Expressions.{sizeof_operand, leaning, comparing, products, sums, shifts, orders, equalities, bit_ands, bit_xors, bit_ors, ands, prim_from, un_from, group_of, triple_of, branches_of, expr_body, SpellsExpr, expr, nested_expr}
 use Rattle.td_grammar.specs.Operators.{truth_of, unary_operator, product_operator, sum_operator, shift_operator, order_operator, equality_operator, bit_and_operator, bit_xor_operator, bit_or_operator, and_operator, or_operator, truth_kinds, unary_kinds}
+use Rattle.td_grammar.proofs.Sets.{disjoint, covered}
 use Rattle.td_grammar.proofs.Tools.{apart_at}
 use Rattle.td_grammar.proofs.Exact.{IsExact}
 use Rattle.td_grammar.proofs.Steady.{Relation}

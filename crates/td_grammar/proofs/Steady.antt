@@ -113,7 +113,7 @@ module _ {A : Type 0} (F : Relation A → Relation A) (f : IsSteady F) where
   deeper zero a tokens s = absurd s
   deeper (suc n) a tokens s = f.mono (NestedBelow F n) (NestedBelow F (suc n)) (deeper n) a tokens s
 
-  rising : IsRising (NestedBelow F)
+  pub rising : IsRising (NestedBelow F)
   rising n zero a tokens s = let same : n + 0 ≡ n = omega arith in rw same s
   rising n (suc k) a tokens s = let same : n + suc k ≡ suc (n + k) = omega arith in rw same (deeper (n + k) a tokens (rising n k a tokens s))
 

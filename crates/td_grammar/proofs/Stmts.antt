@@ -31,7 +31,7 @@ assigned_exact = or_exact _ _ (making_exact _ _ expr_exact) (making_exact _ _ (t
 steady_braced : IsSteady (λ P. (braced_of (spelled_by P)).Spells)
 steady_braced = steady_made _ (steady_both (steady_other _) (steady_both (steady_all steady_self) (steady_other _)))
 
-steady_statement : IsSteady statement_body
+pub steady_statement : IsSteady statement_body
 steady_statement =
     steady_either (steady_other _) (steady_either (steady_other _) (steady_either (steady_other _)
     (steady_either

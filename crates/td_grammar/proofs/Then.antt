@@ -1,14 +1,14 @@
 -- One production and after it another.
-use Rattle.std.proofs.Common.{◌≡◌, Bool, true, false, cond, List, [], ◌∷◌, ◌++◌, refl, sym, ap, subst, ◌∙◌, append_assoc, ◌⊎◌, inl, inr, arith}
+use Rattle.std.proofs.Common.{◌≡◌, List, [], ◌∷◌, ◌++◌, refl, sym, ap, subst, ◌∙◌, append_assoc, ◌⊎◌, inl, inr, arith}
 use Rattle.std.proofs.lemmas.List.{length-append}
 use Rattle.td_ast.specs.declared.token.Token.{Token}
 use Rattle.td_ast.specs.Kinds.{number_of_kind}
 use Rattle.td_grammar.specs.Spelling.{Begins}
-use Rattle.td_grammar.specs.Sets.{member}
 use Rattle.td_grammar.specs.Reading.{Got, Bad, Deep, ◌and_then◌}
 use Rattle.td_grammar.specs.Grammar.{Grammar, ◌then◌}
-use Rattle.td_grammar.proofs.Tools.{Stops, bind_got, bind_bad, bind_deep, join, nothing_left, got_value, got_rest, member_left, member_right, apart_at, stops_left, stops_right}
+use Rattle.td_grammar.proofs.Tools.{Stops, bind_got, bind_bad, bind_deep, join, nothing_left, got_value, got_rest, apart_at}
 use Rattle.td_grammar.proofs.Exact.{IsRead, IsDeep, IsExact, IsApart, keeps_first, passed_begins}
+use Rattle.td_grammar.proofs.Led.{IsLed, led_of, last_stops, seam_stops, then_led}
 
 module _ {A B : Type 0} (g : Grammar A) (h : Grammar B) (G : IsExact g) (H : IsExact h) (apart : IsApart g h) where
   then_got : (tokens : List Token) (x : A × B) (rest : List Token) → (g then h).reader.read tokens ≡ Got x rest → (mid : List Token) × (g.reader.read tokens ≡ Got x.0 mid) × (h.reader.read mid ≡ Got x.1 rest)
@@ -39,45 +39,20 @@ module _ {A B : Type 0} (g : Grammar A) (h : Grammar B) (G : IsExact g) (H : IsE
       let u = H.takes p.0 x.1 rest p.2 in
       (t.0 ++ u.0, join tokens t.0 p.0 u.0 rest t.1 u.1, (t.0, u.0, refl, t.2, u.2))
 
-  seam_stops : (b : B) (v rest : List Token) → h.Spells b v → Stops (g then h).reader.goes_on rest → Stops g.reader.goes_on (v ++ rest)
-  seam_stops b [] rest q stops = stops_right h.reader.goes_on g.reader.goes_on rest (subst (λ c. Stops (cond c (h.reader.goes_on ++ g.reader.goes_on) h.reader.goes_on) rest) (H.full b q) stops)
-  seam_stops b (t ∷ v) rest q stops = apart_at h.reader.begins g.reader.goes_on (number_of_kind t.kind) apart (H.begun b t v q)
-
-  last_by : (c : Bool) (rest : List Token) → Stops (cond c (h.reader.goes_on ++ g.reader.goes_on) h.reader.goes_on) rest → Stops h.reader.goes_on rest
-  last_by true rest s = stops_left h.reader.goes_on g.reader.goes_on rest s
-  last_by false rest s = s
-
   then_again : (x : A × B) (front rest : List Token) → (g then h).Spells x front → Stops (g then h).reader.goes_on rest → IsRead x rest ((g then h).reader.read (front ++ rest))
   then_again x front rest s stops =
       let u = s.0 in
       let v = s.1 in
       let regrouped : front ++ rest ≡ u ++ (v ++ rest) = rw (s.2) (append_assoc u v rest) in
-      elim (G.again x.0 u (v ++ rest) s.3 (seam_stops x.1 v rest s.4 stops)) [
+      elim (G.again x.0 u (v ++ rest) s.3 (seam_stops g h (led_of H) apart x.1 v rest s.4 stops)) [
         | inl got ↦
             let first : g.reader.read (front ++ rest) ≡ Got x.0 (v ++ rest) = rw regrouped got in
-            elim (H.again x.1 v rest s.4 (last_by h.reader.may_be_empty rest stops)) [
+            elim (H.again x.1 v rest s.4 (last_stops g h rest stops)) [
               | inl second ↦ inl (rw (first, second) refl)
               | inr over ↦ let second = over.1 in inr (over.0, rw (first, second) refl, over.2)
             ]
         | inr over ↦ let first : g.reader.read (front ++ rest) ≡ Deep over.0 = rw regrouped over.1 in inr (over.0, rw first refl, omega (arith, over.2, length-append v rest))
       ]
-
-  begins_by : (c : Bool) (t : Token) → member g.reader.begins (number_of_kind t.kind) ≡ true → member (cond c (g.reader.begins ++ h.reader.begins) g.reader.begins) (number_of_kind t.kind) ≡ true
-  begins_by true t e = member_left g.reader.begins h.reader.begins (number_of_kind t.kind) e
-  begins_by false t e = e
-
-  begins_at : (x : A × B) (t : Token) (more u v : List Token) → t ∷ more ≡ u ++ v → g.Spells x.0 u → h.Spells x.1 v → member (g then h).reader.begins (number_of_kind t.kind) ≡ true
-  begins_at x t more [] v e p q =
-      let empty : g.reader.may_be_empty ≡ true = G.full x.0 p in
-      rw empty (member_right g.reader.begins h.reader.begins (number_of_kind t.kind) (H.begun x.1 t more (subst (λ (l : List Token). h.Spells x.1 l) (sym e) q)))
-  begins_at x t more (y ∷ u) v e p q = let same : t ≡ y = cc in begins_by g.reader.may_be_empty t (rw same (G.begun x.0 y u p))
-
-  then_full : (x : A × B) → (g then h).Spells x [] → (g then h).reader.may_be_empty ≡ true
-  then_full x s =
-      let none = nothing_left s.0 s.1 s.2 in
-      let left : g.reader.may_be_empty ≡ true = G.full x.0 (subst (λ (l : List Token). g.Spells x.0 l) none.0 s.3) in
-      let right : h.reader.may_be_empty ≡ true = H.full x.1 (subst (λ (l : List Token). h.Spells x.1 l) none.1 s.4) in
-      rw (left, right) refl
 
   then_ends : (tokens rest : List Token) → (g then h).reader.read tokens ≡ Bad rest → (front : List Token) × (tokens ≡ front ++ rest) × Begins (g then h).Spells front
   then_ends tokens rest e =
@@ -159,6 +134,9 @@ module _ {A B : Type 0} (g : Grammar A) (h : Grammar B) (G : IsExact g) (H : IsE
   then_not_nothing (inl p) = G.not_nothing p
   then_not_nothing (inr s) = H.not_nothing (subst (λ (l : List Token). h.Passes l) (nothing_left s.1 s.2 s.3).1 s.5)
 
+  led : IsLed (g then h)
+  led = then_led g h (led_of G) (led_of H)
+
   pub then_exact : IsExact (g then h)
   then_exact = record {
     takes = then_takes;
@@ -167,8 +145,8 @@ module _ {A B : Type 0} (g : Grammar A) (h : Grammar B) (G : IsExact g) (H : IsE
     passes = then_passes;
     passed = then_passed;
     not_nothing = then_not_nothing;
-    begun = λ x t more s. begins_at x t more s.0 s.1 s.2 s.3 s.4;
-    full = then_full;
+    begun = led.begun;
+    full = led.full;
     ends = then_ends;
     keeps_got = then_keeps_got;
     keeps_bad = then_keeps_bad;

@@ -5,7 +5,8 @@ use Rattle.std.proofs.lemmas.List.{append_cancel_right}
 use Rattle.td_ast.specs.declared.token.Token.{Token}
 use Rattle.td_ast.specs.Kinds.{number_of_kind}
 use Rattle.td_grammar.specs.Reading.{Outcome, Got, Bad, Deep, ◌and_then◌}
-use Rattle.td_grammar.specs.Sets.{comes, member, disjoint}
+use Rattle.td_grammar.specs.Sets.{comes, member}
+use Rattle.td_grammar.proofs.Sets.{disjoint}
 
 -- no token of these kinds comes first
 abbrev pub Stops : List ℕ → List Token → Type 0

@@ -18,9 +18,9 @@ pub data Answer {A : Type 0} (g : Grammar A) (tokens : List Token) : Type 0 wher
 abbrev pub EachAnswered : Type 0
 EachAnswered = (tokens : List Token) → Answer module_text tokens
 
--- at most one tree is spelled within the limits, spans included
+-- tokens spell at most one tree, spans included
 abbrev pub OneTree : Type 0
-OneTree = (tokens : List Token) (a b : ModuleTree) → module_text.Spells a tokens → module_text.Spells b tokens → IsWithinLimits module_text.Passes tokens → a ≡ b
+OneTree = (tokens : List Token) (a b : ModuleTree) → module_text.Spells a tokens → module_text.Spells b tokens → a ≡ b
 
 -- at most one place is that of the first refused token
 abbrev pub OneRefused : Type 0

@@ -33,16 +33,6 @@ abbrev pub member : List ℕ → ℕ → Bool
 member [] n = false
 member (x ∷ xs) n = if x == n then true else member xs n
 
--- no kind is in both
-abbrev pub disjoint : List ℕ → List ℕ → Bool
-disjoint [] ys = true
-disjoint (x ∷ xs) ys = if member ys x then false else disjoint xs ys
-
--- each kind of the one is in the other
-abbrev pub covered : List ℕ → List ℕ → Bool
-covered [] ys = true
-covered (x ∷ xs) ys = if member ys x then covered xs ys else false
-
 -- a token of one of these kinds comes first
 abbrev pub comes : List ℕ → List Token → Bool
 comes kinds [] = false

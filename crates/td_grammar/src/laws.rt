@@ -8,7 +8,7 @@ pub fn each_answered()
     ensures { EachAnswered }
 {}
 
-/// Tokens within the limits spell at most one tree, spans included.
+/// Tokens spell at most one tree, spans included.
 pub fn one_tree()
     ensures { OneTree }
 {}

@@ -5,8 +5,9 @@ use Rattle.td_ast.specs.declared.token.Token.{Token}
 use Rattle.td_ast.specs.declared.token.TokenKind.{TokenKind}
 use Rattle.td_ast.specs.Kinds.{number_of_kind}
 use Rattle.td_grammar.specs.Reading.{Got, read_all}
-use Rattle.td_grammar.specs.Sets.{comes, member, disjoint, covered}
+use Rattle.td_grammar.specs.Sets.{comes, member}
 use Rattle.td_grammar.specs.Grammar.{Grammar, ◌then◌, ◌making◌, maybe, all_of}
+use Rattle.td_grammar.proofs.Sets.{disjoint, covered}
 use Rattle.td_grammar.proofs.Tools.{Stops, member_left, member_right, apart_at, stops_left, stops_right}
 use Rattle.td_grammar.proofs.Exact.{IsApart}
 use Rattle.td_grammar.proofs.Seen.{stops_less}

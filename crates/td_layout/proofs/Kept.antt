@@ -6,9 +6,10 @@ use Rattle.std.proofs.lemmas.List.{append-nil}
 use Rattle.td_ast.specs.declared.token.Token.{Token}
 use Rattle.td_ast.specs.declared.token.TokenKind.{TokenKind}
 use Rattle.td_ast.specs.Kinds.{number_of_kind}
-use Rattle.td_grammar.specs.Sets.{member, disjoint, covered}
+use Rattle.td_grammar.specs.Sets.{member}
 use Rattle.td_grammar.specs.Grammar.{Grammar, ◌then◌, ◌making◌, maybe, all_of, ◌or◌, seen_as}
 use Rattle.td_grammar.specs.Reading.{Got}
+use Rattle.td_grammar.proofs.Sets.{disjoint, covered}
 use Rattle.td_grammar.proofs.Tools.{member_left, stops_left}
 use Rattle.td_grammar.proofs.Exact.{IsApart}
 use Rattle.td_grammar.proofs.Seen.{covers, stops_less}

@@ -11,7 +11,6 @@ use Rattle.td_ast.specs.declared.definitions.CasetypeTree.{CasetypeTree}
 use Rattle.td_ast.specs.declared.definitions.Def.{Def}
 use Rattle.td_ast.specs.declared.definitions.Def.TheVariants as defs
 use Rattle.td_ast.specs.Trees.{Tree}
-use Rattle.td_grammar.specs.Sets.{disjoint}
 use Rattle.td_grammar.specs.Grammar.{Grammar, ◌then◌, ◌making◌, ◌or◌, maybe, all_of}
 use Rattle.td_grammar.specs.Tokens.{terminal, name}
 use Rattle.td_grammar.specs.Expressions.{expr}
@@ -19,6 +18,7 @@ use Rattle.td_grammar.specs.Sequences.{some_of}
 use Rattle.td_grammar.specs.Parameters.{head, param}
 use Rattle.td_grammar.specs.Fields.{field, type_tree}
 use Rattle.td_grammar.specs.Definitions.{closing, case_tree, item, slot, subject, default_case, cases, define, enumeration, alias_rest, struct_rest, casetype, typedef, entrypoint, output, def}
+use Rattle.td_grammar.proofs.Sets.{disjoint}
 use Rattle.td_grammar.proofs.Exact.{IsExact, IsApart}
 use Rattle.td_grammar.proofs.Making.{making_exact}
 use Rattle.td_grammar.proofs.Words.{terminal_exact, name_exact, sequel}

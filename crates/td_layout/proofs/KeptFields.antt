@@ -14,7 +14,6 @@ use Rattle.td_ast.specs.declared.fields.ExtentTree.{ExtentTree}
 use Rattle.td_ast.specs.declared.fields.ExtentTree.TheVariants as extents
 use Rattle.td_ast.specs.declared.fields.FieldTree.{FieldTree}
 use Rattle.td_ast.specs.Trees.{Tree}
-use Rattle.td_grammar.specs.Sets.{disjoint}
 use Rattle.td_ast.specs.declared.actions.ActionTree.{ActionTree}
 use Rattle.td_grammar.specs.Grammar.{Grammar, ◌then◌, ◌making◌, all_of}
 use Rattle.td_grammar.specs.Tokens.{terminal}
@@ -23,6 +22,7 @@ use Rattle.td_grammar.specs.Actions.{action}
 use Rattle.td_grammar.specs.Sequences.{in_parentheses, list_of, parted}
 use Rattle.td_grammar.specs.Parameters.{param, head}
 use Rattle.td_grammar.specs.Fields.{type_tree, extent, refinement, field}
+use Rattle.td_grammar.proofs.Sets.{disjoint}
 use Rattle.td_grammar.proofs.Exact.{IsApart}
 use Rattle.td_grammar.proofs.Defs.{param_exact}
 use Rattle.td_joined.specs.Pieces.{Piece}

@@ -7,12 +7,13 @@ use Rattle.td_ast.specs.declared.token.TokenKind.TheVariants as kinds
 use Rattle.td_ast.specs.declared.expressions.BinaryOperator.{BinaryOperator}
 use Rattle.td_ast.specs.declared.expressions.BinaryOperator.TheVariants as operators
 use Rattle.td_ast.specs.Kinds.{number_of_kind}
-use Rattle.td_grammar.specs.Sets.{member, covered}
+use Rattle.td_grammar.specs.Sets.{member}
 use Rattle.td_grammar.specs.Limits.{count}
 use Rattle.td_grammar.specs.Scan.{counted}
 use Rattle.td_grammar.specs.Grammar.{Grammar}
 use Rattle.td_grammar.specs.Tokens.{word, beside}
 use Rattle.td_grammar.specs.Operators.{product_kinds, product_operator, product_operator_of, sum_kinds, sum_operator, sum_operator_of, shift_kinds, shift_operator, shift_operator_of, order_kinds, order_operator, order_operator_of, equality_kinds, equality_operator, equality_operator_of, bit_and_kinds, bit_and_operator, bit_and_operator_of, bit_xor_kinds, bit_xor_operator, bit_xor_operator_of, bit_or_kinds, bit_or_operator, bit_or_operator_of, and_kinds, and_operator, and_operator_of, or_kinds, or_operator, or_operator_of, unary_kinds, unary_operator, unary_operator_of}
+use Rattle.td_grammar.proofs.Sets.{covered}
 use Rattle.td_grammar.proofs.Exact.{IsExact}
 use Rattle.td_grammar.proofs.Seen.{covers}
 use Rattle.td_grammar.proofs.Levels.{product_word, sum_word, shift_word, order_word, equality_word, bit_and_word, bit_xor_word, bit_or_word, and_word, or_word, unary_word}

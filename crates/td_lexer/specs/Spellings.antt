@@ -93,7 +93,3 @@ single_kind bytes = or_else (kind_in operators bytes) (kind_in delimiters bytes)
 -- the punctuation that bytes spell
 abbrev pub punctuation_kind : List ℕ → Option TokenKind
 punctuation_kind bytes = or_else (kind_in punctuation_of_two bytes) (single_kind bytes)
-
--- the token that bytes spell by one of the tables
-abbrev pub fixed_kind : List ℕ → Option TokenKind
-fixed_kind bytes = or_else (keyword_kind bytes) (or_else (kind_in marked_words bytes) (punctuation_kind bytes))

@@ -1,6 +1,6 @@
 //! The limits by size.
 
-ghost use Rattle.std.specs.Prelude.{◌≡◌, ◌+◌, IfOk, OnOk, length};
+ghost use Rattle.std.specs.Prelude.{◌≡◌, ◌+◌, ◌<◌, IfOk, OnOk, OnErr, length};
 ghost use Rattle.td_limits.specs.Excesses.{capped, definition_name, first_excess};
 ghost use Rattle.td_limits.specs.Depths.{uses_depth};
 ghost use Rattle.td_limits.specs.Weights.{definition_weight};
@@ -133,9 +133,10 @@ fn declare(
 }
 
 /// The first limit by size that a text passes which breaks no rule: how many cells a definition has, how deep it is, and
-/// how heavy. `AllocError`: out of memory.
+/// how heavy. `AllocError`: there is a definition, and there was no memory for its name.
 pub fn sizes_passed(alloc: Global, tree: &ModuleTree) -> Result<Option<Excess>, AllocError>
-    ensures { IfOk result (λ passed. passed ≡ sizes_passed tree.now) }
+    ensures ok { IfOk result (λ passed. passed ≡ sizes_passed tree.now) }
+    ensures memory { OnErr result (0 < length tree.now.definitions) }
 {
     let definitions = tree.definitions.as_slice();
     let mut known = Table::new(alloc);

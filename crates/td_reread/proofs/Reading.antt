@@ -101,7 +101,7 @@ one_list split text a b h g = same (tokens_of text) ((split text a).1 h) ((split
 pub one_tree_each : TokensAreOne → OneTree → (text : List ℕ) (a b : ModuleTree) → IsTextOf text a → IsTextOf text b → a ≡ b
 one_tree_each split one text a b h g =
     let S : List Token → Type 0 = λ t. module_text.Spells a t in
-    one g.0 a b (subst S (one_list split text h.0 g.0 h.1 g.1) h.2) g.2 g.3
+    one g.0 a b (subst S (one_list split text h.0 g.0 h.1 g.1) h.2) g.2
 
 pub stay_tidy : TokensAreOne → OneTree → IsReadBack → SameText → StaysTidy
 stay_tidy split one back forget text tree read h again =

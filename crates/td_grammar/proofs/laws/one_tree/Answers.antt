@@ -1,7 +1,6 @@
-use Rattle.td_grammar.specs.Definitions.{module_text}
-use Rattle.td_grammar.proofs.Defs.{module_text_exact}
-use Rattle.td_grammar.proofs.Answers.{one_tree}
+use Rattle.std.proofs.Common.{[], refl}
+use Rattle.td_grammar.proofs.Defs.{module_text_proper}
 use Rattle.td_grammar.proofs.laws.one_tree.Goals as goal
 
 pub returns : goal.returns
-returns c = λ tokens a b s t w. one_tree module_text module_text_exact tokens a b s t w
+returns c = λ tokens a b s t. (module_text_proper.one.only a b tokens tokens [] [] s t refl refl refl).0

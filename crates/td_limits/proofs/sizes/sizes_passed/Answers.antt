@@ -27,8 +27,8 @@ loop-definition-preserved c =
     ∙ sym (ap (λ (rest : List Def). first_excess (size_excesses l.known rest)) (split ds l.definition-index d (omega arith) c.definition-item.is))
     ∙ l.invariant
 
-pub returns-then-is_some : goal.returns-then-is_some
-returns-then-is_some c =
+pub returns-then-is_some-clause-ok : goal.returns-then-is_some-clause-ok
+returns-then-is_some-clause-ok c =
     let l = c.loop-definition in
     let d = c.definition-item.result in
     let ds = c.as_slice-definitions.result.now in
