@@ -1,6 +1,7 @@
 //! Equal copies of modules.
 
-ghost use Rattle.std.specs.Prelude.{◌≡◌, IfOk};
+ghost use Rattle.std.specs.Prelude.{◌≡◌, ◌+◌, ◌<◌, length, IfOk, OnErr};
+ghost use Rattle.td_core.specs.Copying.{HasOperands, HasParts};
 
 use crate::actions::{Action, Step};
 use crate::expressions::{CoreExpr, Node};
@@ -10,9 +11,12 @@ use td_num::items::Items;
 use td_num::text::Text;
 
 impl Module {
-    /// An equal module. `AllocError`: there was no memory for it.
+    /// An equal module. `AllocError`: there was no memory for it; never where it has no name, enum, definition or entry
+    /// point.
     pub fn copy(&self, alloc: Global) -> Result<Module, AllocError>
-        ensures { IfOk result (λ copied. copied ≡ self.now) }
+        ensures ok { IfOk result (λ copied. copied ≡ self.now) }
+        ensures memory { OnErr result (0 < length self.now.names + length self.now.listed
+            + length self.now.definitions + length self.now.entries) }
     {
         Ok(Module {
             written: self.written,
@@ -25,10 +29,11 @@ impl Module {
 }
 
 impl CoreExpr {
-    /// An equal expression. `AllocError`: there was no memory for it.
+    /// An equal expression. `AllocError`: it has operands, and there was no memory for them.
     #[cycle(copy_expression)]
     pub fn copy(&self, alloc: Global) -> Result<CoreExpr, AllocError>
-        ensures { IfOk result (λ copied. copied ≡ self.now) }
+        ensures ok { IfOk result (λ copied. copied ≡ self.now) }
+        ensures memory { OnErr result (HasOperands self.now) }
     {
         let node = match &self.node {
             Node::Number { value, scalar } => Node::Number {
@@ -70,10 +75,12 @@ impl CoreExpr {
 }
 
 impl Action {
-    /// An equal action. `AllocError`: there was no memory for it.
+    /// An equal action. `AllocError`: it has a statement that others may follow, or returns an expression with operands,
+    /// and there was no memory for them.
     #[cycle(copy_action)]
     pub fn copy(&self, alloc: Global) -> Result<Action, AllocError>
-        ensures { IfOk result (λ copied. copied ≡ self.now) }
+        ensures ok { IfOk result (λ copied. copied ≡ self.now) }
+        ensures memory { OnErr result (HasParts self.now) }
     {
         let step = match &self.step {
             Step::Done => Step::Done,
@@ -288,7 +295,8 @@ fn copy_definition(d: &TypeDef, alloc: Global) -> Result<TypeDef, AllocError>
 
 /// Equal definitions.
 fn copy_definitions(definitions: &[TypeDef], alloc: Global) -> Result<Items<TypeDef>, AllocError>
-    ensures { IfOk result (λ copied. copied ≡ definitions.now) }
+    ensures ok { IfOk result (λ copied. copied ≡ definitions.now) }
+    ensures memory { OnErr result (0 < length definitions.now) }
 {
     let mut copied = Items::new(alloc);
     for definition in definitions {
@@ -299,7 +307,8 @@ fn copy_definitions(definitions: &[TypeDef], alloc: Global) -> Result<Items<Type
 
 /// Equal names.
 fn copy_names(names: &[Text], alloc: Global) -> Result<Items<Text>, AllocError>
-    ensures { IfOk result (λ copied. copied ≡ names.now) }
+    ensures ok { IfOk result (λ copied. copied ≡ names.now) }
+    ensures memory { OnErr result (0 < length names.now) }
 {
     let mut copied = Items::new(alloc);
     for name in names {
@@ -310,7 +319,8 @@ fn copy_names(names: &[Text], alloc: Global) -> Result<Items<Text>, AllocError>
 
 /// Equal lists of values.
 fn copy_listed(listed: &[Items<u64>], alloc: Global) -> Result<Items<Items<u64>>, AllocError>
-    ensures { IfOk result (λ copied. copied ≡ listed.now) }
+    ensures ok { IfOk result (λ copied. copied ≡ listed.now) }
+    ensures memory { OnErr result (0 < length listed.now) }
 {
     let mut copied = Items::new(alloc);
     for values in listed {

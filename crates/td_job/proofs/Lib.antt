@@ -1,8 +1,10 @@
 pub mod Bytes
+pub mod Digits
 pub mod Elements
 pub mod Existing
 pub mod Members
 pub mod Numbers
+pub mod Tested
 pub mod Texts
 pub mod Unique
 pub mod NamedJobs

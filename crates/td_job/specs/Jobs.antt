@@ -4,7 +4,7 @@
 -- in that order, each field looked at for all that can be wrong with it (a list first for its length, and then element
 -- by element), and then the fields of other names; at one place the lower code stands first. The answer is the first
 -- fault. A job that is no object has no field.
-use Rattle.std.specs.Prelude.{◌≡◌, ℕ, ◌+◌, ◌*◌, ◌/◌, ◌%◌, ◌<◌, ◌≤◌, ◌^◌, List, [], ◌∷◌, ◌++◌, length, Bool, false, ◌||◌, nat_lt, nat_le, if◌then◌else◌, bytes_eq, Option, Some, None, option_and_then, IsSomeAnd, Result, Ok, Err, ◌⊎◌}
+use Rattle.std.specs.Prelude.{◌≡◌, ℕ, ◌+◌, ◌*◌, ◌/◌, ◌<◌, ◌≤◌, ◌^◌, List, [], ◌∷◌, ◌++◌, length, Bool, false, ◌||◌, nat_lt, nat_le, if◌then◌else◌, bytes_eq, Option, Some, None, option_and_then, Result, Ok, Err, ◌⊎◌}
 use Rattle.std.specs.List.{All}
 use Rattle.serde_json.specs.Data.{Data, Items, no_items, item, Members, no_members, member}
 use Rattle.serde_json.specs.Events.{items_len}
@@ -185,6 +185,15 @@ later_faults d job =
     ++ stores_faults (message_words job) (field_of key.Stores job)
     ++ unknown_faults path.Unknown (first_unknown run_keys (as_object job))
 
+-- none of the fields of a run job has a fault, and this is its entry point
+pub record HasGoodFields (m : Module) (job : Data) (entry : Entry) : Type 0 where
+  pub named : IsEntry m (text_of key.Entry job) entry
+  pub args : args_faults (args_bounds (entry_definition m entry.number)) (field_of key.Args job) ≡ []
+  pub cells : cells_faults (cells_bounds (entry_definition m entry.number)) (field_of key.Cells job) ≡ []
+  pub bytes : bytes_faults key.Bytes (text_of key.Bytes job) ≡ []
+  pub within : length_faults (length (given_bytes job)) (number_of key.Length job) ≡ []
+  pub stores : stores_faults (message_words job) (field_of key.Stores job) ≡ []
+
 -- the first fault of a job whose faults after those of `entry` are these
 abbrev pub FirstFaultOf : (Option TypeDef → Data → List JobError) → Module → Data → JobError → Type 0
 FirstFaultOf later m job e =
@@ -194,14 +203,10 @@ FirstFaultOf later m job e =
 abbrev pub FirstFault : Module → Data → JobError → Type 0
 FirstFault = FirstFaultOf later_faults
 
--- memory may be lacking for a job: what is looked at before memory is taken has no fault, which is the entry point, the
--- two lists, and the number of digits
+-- memory may be lacking for a job: it has no fault, fields of other names apart
 pub record MayLackMemory (m : Module) (job : Data) : Type 0 where
   pub entry : Entry
-  pub named : IsEntry m (text_of key.Entry job) entry
-  pub args : args_faults (args_bounds (entry_definition m entry.number)) (field_of key.Args job) ≡ []
-  pub cells : cells_faults (cells_bounds (entry_definition m entry.number)) (field_of key.Cells job) ≡ []
-  pub even : IsSomeAnd (text_of key.Bytes job) (λ text. length text % 2 ≡ 0)
+  pub good : HasGoodFields m job entry
 
 -- the run job that a job without a fault is
 pub record IsJob (m : Module) (job : Data) (j : RunJob) : Type 0 where

@@ -1,10 +1,12 @@
 //! The fields of a job, each looked at for all that can be wrong with it.
 
-ghost use Rattle.std.specs.Prelude.{◌≡◌, ◌≢◌, ◌%◌, [], ◌⊎◌, length, IsOk, IfOk, IfErr, OnOk, IsSomeAnd, Some, option_map};
+ghost use Rattle.std.specs.Prelude.{◌≡◌, ◌≢◌, ◌≤◌, ◌%◌, ◌&&◌, [], ◌⊎◌, length, nat_eq, IsOk, IfOk, IfErr, OnOk, IsSomeAnd, Some, option_map};
+ghost use Rattle.std.specs.List.{list_all};
+ghost use Rattle.hex.specs.Hex.{decode_of, is_hex_digit};
 ghost use Rattle.serde_json.specs.Find.{as_object};
 ghost use Rattle.serde_json.specs.View.{view};
 ghost use Rattle.td_job.specs.Fields.{text_of, number_of, IsFirst};
-ghost use Rattle.td_job.specs.Jobs.{EntryFault, IsEntry, bytes_faults, spelled_bytes, length_faults, is_known, first_unknown, unknown_faults};
+ghost use Rattle.td_job.specs.Jobs.{EntryFault, IsEntry, bytes_faults, bytes_or_none, digit_faults, spelled_bytes, length_faults, is_known, first_unknown, unknown_faults};
 
 use crate::error::{JobError, JobRule, Key, Path};
 use crate::json::{number_of, text_of};
@@ -18,10 +20,11 @@ use td_num::text::Text;
 /// The most bytes that a message has.
 pub const MOST_BYTES: u64 = 1_048_576;
 
-/// The entry point that a job names. J2: `entry` is missing or no text. J3: no entry point has the name.
+/// The entry point that a job names. J2: `entry` is missing or no text. J3: no entry point has the name. Takes no memory.
 pub fn entry_of(job: &Value, m: &Module) -> Result<Entry, JobError>
     ensures ok { IfOk result (λ entry. IsEntry m.now (text_of Key.Entry (view job.now)) entry) }
     ensures err { IfErr result (λ e. EntryFault m.now (text_of Key.Entry (view job.now)) e) }
+    ensures broken { IfErr result (λ e. e ≢ JobError.NoMemory) }
 {
     match text_of(job, Key::Entry) {
         None => Err(JobRule::Form.at(Path::Whole(Key::Entry))),
@@ -60,11 +63,59 @@ pub fn bytes_of(alloc: Global, job: &Value, key: Key) -> Result<Vec<u8>, JobErro
     }
 }
 
+/// Whether a byte is a hexadecimal digit, of either case.
+fn is_digit(byte: u8) -> bool
+    ensures { result ≡ is_hex_digit byte }
+{
+    matches!(byte, b'A'..=b'F' | b'a'..=b'f' | b'0'..=b'9')
+}
+
+/// Whether each byte is a hexadecimal digit, of either case.
+fn are_digits(bytes: &[u8]) -> bool
+    ensures { result ≡ list_all is_hex_digit bytes.now }
+{
+    bytes.iter().all(|byte| is_digit(*byte))
+}
+
+/// Whether a text is an even number of hexadecimal digits, two for each byte.
+fn spells_bytes(text: &str) -> bool
+    ensures { result ≡ (nat_eq (length text.now % 2) 0 && list_all is_hex_digit text.now) }
+{
+    text.len() % 2 == 0 && are_digits(text.as_bytes())
+}
+
+/// How many bytes the text of a field spells. J5: it is not an even number of hexadecimal digits.
+fn count_spelled(text: &str, key: Key) -> Result<usize, JobError>
+    ensures ok { IfOk result (λ count. (digit_faults key (decode_of text.now) ≡ []) × (length (bytes_or_none (decode_of text.now)) ≡ count)) }
+    ensures err { IfErr result (λ e. IsFirst (digit_faults key (decode_of text.now)) e) }
+    ensures broken { IfErr result (λ e. e ≢ JobError.NoMemory) }
+{
+    if !spells_bytes(text) {
+        return Err(JobRule::Digits.at(Path::Whole(key)));
+    }
+    Ok(text.len() / 2)
+}
+
+/// How many bytes a field of a job gives. J2: it is missing or no text. J5: it is not an even number of hexadecimal
+/// digits. Takes no memory.
+pub(crate) fn count_of(job: &Value, key: Key) -> Result<usize, JobError>
+    ensures ok { IfOk result (λ count. (bytes_faults key (text_of key (view job.now)) ≡ []) × (length (spelled_bytes (text_of key (view job.now))) ≡ count)) }
+    ensures err { IfErr result (λ e. IsFirst (bytes_faults key (text_of key (view job.now))) e) }
+    ensures broken { IfErr result (λ e. e ≢ JobError.NoMemory) }
+{
+    match text_of(job, key) {
+        None => Err(JobRule::Form.at(Path::Whole(key))),
+        Some(text) => count_spelled(text, key),
+    }
+}
+
 /// The length of the message, in bytes, of those given. J2: `length` is missing or no whole number. J7: it passes the
-/// bytes given. J8: it passes 1,048,576.
+/// bytes given. J8: it passes 1,048,576. Takes no memory.
 pub(crate) fn length_of(job: &Value, given: usize) -> Result<u32, JobError>
     ensures ok { IfOk result (λ n. (length_faults given (number_of Key.Length (view job.now)) ≡ []) × (number_of Key.Length (view job.now) ≡ Some n)) }
+    ensures within { IfOk result (λ n. (n ≤ given) × (n ≤ MOST_BYTES)) }
     ensures err { IfErr result (λ e. IsFirst (length_faults given (number_of Key.Length (view job.now))) e) }
+    ensures broken { IfErr result (λ e. e ≢ JobError.NoMemory) }
 {
     let Some(bytes) = number_of(job, Key::Length) else {
         return Err(JobRule::Form.at(Path::Whole(Key::Length)));

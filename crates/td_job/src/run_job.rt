@@ -1,13 +1,15 @@
 //! Run jobs.
 
-ghost use Rattle.std.specs.Prelude.{◌≡◌, ◌⊎◌, ◌<◌, length, IfOk, IfErr, MatchResult};
+ghost use Rattle.std.specs.Prelude.{◌≡◌, ◌≢◌, ◌⊎◌, ◌≤◌, ◌<◌, length, Some, IfOk, IfErr, MatchResult};
 ghost use Rattle.serde_json.specs.View.{view};
-ghost use Rattle.td_job.specs.Jobs.{IsJob, IsRunJob, HasRoom, HasValues, MayLackMemory, FirstFault, RefusedJob};
+ghost use Rattle.td_job.specs.declared.checks.TheConstants.{MOST_BYTES};
+ghost use Rattle.td_job.specs.Fields.{number_of};
+ghost use Rattle.td_job.specs.Jobs.{given_bytes, IsJob, IsRunJob, HasGoodFields, HasRoom, HasValues, MayLackMemory, FirstFault, RefusedJob};
 
-use crate::checks::{bytes_of, check_names, entry_of, length_of};
+use crate::checks::{bytes_of, check_names, count_of, entry_of, length_of};
 use crate::error::{JobError, Key};
 use crate::json::read_json;
-use crate::stores::stores_of;
+use crate::stores::{check_stores, stores_of};
 use crate::values::{cells_of, check_args, check_cells, definition_of, params_of, values_of};
 use crate::words::fill_words;
 use serde_json::Value;
@@ -43,22 +45,38 @@ const FIELDS: &[Key] = &[
     Key::Stores,
 ];
 
-/// The run job of a parsed text, or its first fault.
+/// Tests the fields of a job, those of other names apart, and gives its entry point and the length of its message. J2 to J8:
+/// the first fault of these. Takes no memory.
+fn check_fields(job: &Value, m: &Module) -> Result<(Entry, u32), JobError>
+    ensures good { IfOk result (λ x. HasGoodFields m.now (view job.now) x.0) }
+    ensures as_long { IfOk result (λ x. number_of Key.Length (view job.now) ≡ Some x.1) }
+    ensures within { IfOk result (λ x. (x.1 ≤ length (given_bytes (view job.now))) × (x.1 ≤ MOST_BYTES)) }
+    ensures err { IfErr result (λ e. FirstFault m.now (view job.now) e) }
+    ensures broken { IfErr result (λ e. e ≢ JobError.NoMemory) }
+{
+    let entry = entry_of(job, m)?;
+    let definition = definition_of(m, entry);
+    check_args(job, params_of(definition))?;
+    check_cells(job, cells_of(definition))?;
+    let given = count_of(job, Key::Bytes)?;
+    let length = length_of(job, given)?;
+    check_stores(job, length.div_ceil(8))?;
+    Ok((entry, length))
+}
+
+/// The run job of a parsed text, or its first fault. All that is decided without memory is decided before any is taken.
 fn job_of(alloc: Global, job: &Value, m: &Module) -> Result<RunJob, JobError>
     ensures ok { IfOk result (λ j. IsJob m.now (view job.now) j) }
     ensures room { IfOk result HasRoom }
     ensures err { IfErr result (λ e. (e ≡ JobError.NoMemory) ⊎ FirstFault m.now (view job.now) e) }
     ensures memory { result ≡ Err JobError.NoMemory → MayLackMemory m.now (view job.now) }
 {
-    let entry = entry_of(job, m)?;
+    let (entry, length) = check_fields(job, m)?;
+    check_names(alloc, job, FIELDS)?;
     let definition = definition_of(m, entry);
     let (params, cells) = (params_of(definition), cells_of(definition));
-    check_args(job, params)?;
-    check_cells(job, cells)?;
     let bytes = bytes_of(alloc, job, Key::Bytes)?;
-    let length = length_of(job, bytes.len())?;
     let stores = stores_of(alloc, job, length.div_ceil(8))?;
-    check_names(alloc, job, FIELDS)?;
     let words = fill_words(alloc, bytes.as_slice(), length.div_ceil(8))?;
     Ok(RunJob {
         entry,

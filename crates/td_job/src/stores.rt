@@ -1,6 +1,6 @@
 //! The stores of a job.
 
-ghost use Rattle.std.specs.Prelude.{◌≡◌, ℕ, ◌<◌, [], ◌∷◌, ◌⊎◌, IfOk, IfErr, option_map};
+ghost use Rattle.std.specs.Prelude.{◌≡◌, ◌≢◌, ℕ, ◌<◌, [], ◌∷◌, ◌⊎◌, IfOk, IfErr, OnOk, option_map};
 ghost use Rattle.std.specs.List.{All};
 ghost use Rattle.serde_json.specs.View.{view, items_view};
 ghost use Rattle.td_job.specs.Fields.{field_of, IsFirst};
@@ -50,11 +50,12 @@ pub fn word_of(text: &str) -> Option<u64>
 }
 
 /// The store of an element of the list, at a message of so many words. J2: the element has another form. J5: its text
-/// is not 16 hexadecimal digits. J6: its word is none of the message's.
+/// is not 16 hexadecimal digits. J6: its word is none of the message's. Takes no memory.
 fn store_of(value: &Value, index: usize, words: u32) -> Result<PlannedStore, JobError>
     ensures ok { IfOk result (λ s. (store_faults words (Path.Element Key.Stores index) (spelled_store (view value.now)) ≡ []) × (store_of (spelled_store (view value.now)) ≡ s ∷ [])) }
     ensures inside { IfOk result (λ s. s.word < words) }
     ensures err { IfErr result (λ e. IsFirst (store_faults words (Path.Element Key.Stores index) (spelled_store (view value.now))) e) }
+    ensures broken { IfErr result (λ e. e ≢ JobError.NoMemory) }
 {
     let place = Path::Element {
         key: Key::Stores,
@@ -74,6 +75,18 @@ fn store_of(value: &Value, index: usize, words: u32) -> Result<PlannedStore, Job
         word: spelled.word as u32,
         value,
     })
+}
+
+/// Tests the elements of a list one by one, as stores to a message of so many words.
+fn check_each_store(values: &[Value], words: u32) -> Result<(), JobError>
+    ensures ok { OnOk result (each_store_faults words 0 (items_view values.now) ≡ []) }
+    ensures err { IfErr result (λ e. IsFirst (each_store_faults words 0 (items_view values.now)) e) }
+    ensures broken { IfErr result (λ e. e ≢ JobError.NoMemory) }
+{
+    for (index, value) in values.iter().enumerate() {
+        store_of(value, index, words)?;
+    }
+    Ok(())
 }
 
 /// The stores of a list's elements, at a message of so many words, or the first fault of these.
@@ -96,6 +109,7 @@ fn listed_stores(job: &Value) -> Result<&[Value], JobError>
     ensures ok { IfOk result (λ values. (words : ℕ) → stores_faults words (field_of Key.Stores (view job.now)) ≡ each_store_faults words 0 (items_view values.now)) }
     ensures given { IfOk result (λ values. given_stores (view job.now) ≡ each_store (items_view values.now)) }
     ensures err { IfErr result (λ e. (words : ℕ) → IsFirst (stores_faults words (field_of Key.Stores (view job.now))) e) }
+    ensures broken { IfErr result (λ e. e ≢ JobError.NoMemory) }
 {
     let Some(value) = field_of(job, Key::Stores) else {
         return Ok(&[]);
@@ -110,9 +124,19 @@ fn listed_stores(job: &Value) -> Result<&[Value], JobError>
     }
 }
 
-/// The stores that a job makes to a message of so many words, in the order given. J2: `stores` is no list, or an element
-/// has another form. J5: an element's text is not 16 hexadecimal digits. J6: its word is none of the message's. J8: the
-/// list has more than 65,536 elements.
+/// Tests the stores that a job makes to a message of so many words. J2: `stores` is no list, or an element has another
+/// form. J5: an element's text is not 16 hexadecimal digits. J6: its word is none of the message's. J8: the list has more
+/// than 65,536 elements. Takes no memory.
+pub(crate) fn check_stores(job: &Value, words: u32) -> Result<(), JobError>
+    ensures ok { OnOk result (stores_faults words (field_of Key.Stores (view job.now)) ≡ []) }
+    ensures err { IfErr result (λ e. IsFirst (stores_faults words (field_of Key.Stores (view job.now))) e) }
+    ensures broken { IfErr result (λ e. e ≢ JobError.NoMemory) }
+{
+    let values = listed_stores(job)?;
+    check_each_store(values, words)
+}
+
+/// The stores that a job makes to a message of so many words, in the order given. J2 to J8: as `check_stores`.
 pub(crate) fn stores_of(
     alloc: Global,
     job: &Value,

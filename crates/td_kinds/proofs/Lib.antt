@@ -1,3 +1,4 @@
 pub mod Faults
 pub mod Joining
 pub mod Listing
+pub mod Answering

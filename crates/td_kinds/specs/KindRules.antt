@@ -77,6 +77,11 @@ abbrev pub first_fault : List KindFault → Option KindFault
 first_fault [] = None
 first_fault (f ∷ fs) = Some f
 
+-- the error that names a fault
+abbrev pub error_of : KindFault → KindError
+error_of (ZeroElement span) = ZeroElementAt span
+error_of (RestNotLast span) = RestNotLastAt span
+
 -- the error names the first fault, or is want of memory
 abbrev pub IsCause : List KindFault → KindError → Type 0
 IsCause faults (ZeroElementAt span) = first_fault faults ≡ Some (ZeroElement span)

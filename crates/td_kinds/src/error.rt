@@ -27,6 +27,20 @@ pub enum KindError {
     NoMemory,
 }
 
+impl From<KindFault> for KindError {
+    ghost use Rattle.std.specs.Prelude.{◌≡◌};
+    ghost use Rattle.td_kinds.specs.KindRules.{error_of};
+
+    ghost from_gives = { λ fault e. e ≡ error_of fault };
+
+    fn from(fault: KindFault) -> KindError {
+        match fault {
+            KindFault::ZeroElement { span } => KindError::ZeroElement { span },
+            KindFault::RestNotLast { span } => KindError::RestNotLast { span },
+        }
+    }
+}
+
 impl From<AllocError> for KindError {
     ghost use Rattle.std.specs.Prelude.{◌≡◌};
     ghost use Rattle.td_kinds.specs.declared.error.KindError.TheVariants.{NoMemory};

@@ -1,8 +1,8 @@
 //! The kinds of a module.
 
-ghost use Rattle.std.specs.Prelude.{◌≡◌, ◌<◌, [], length, IfOk, IfErr, Err};
+ghost use Rattle.std.specs.Prelude.{◌≡◌, ◌<◌, [], length, IfOk, IfErr, Ok, Err, MatchOption};
 ghost use Rattle.td_kinds.specs.Kinds.{kind_at};
-ghost use Rattle.td_kinds.specs.KindRules.{kind_list, kinds_to, kind_faults, definitions_faults, first_fault, IsCause};
+ghost use Rattle.td_kinds.specs.KindRules.{kind_list, kinds_to, kind_faults, definitions_faults, first_fault, error_of, IsCause};
 
 use crate::casetypes::{body_fault, body_kind};
 use crate::error::{KindError, KindFault};
@@ -20,10 +20,17 @@ pub fn kinds(alloc: Global, m: &Module) -> Result<Vec<Kind>, KindError>
 {
     let definitions = m.definitions.as_slice();
     let kinds = all_kinds(alloc, definitions)?;
-    match definitions_fault(&kinds, definitions) {
-        Some(KindFault::ZeroElement { span }) => Err(KindError::ZeroElement { span }),
-        Some(KindFault::RestNotLast { span }) => Err(KindError::RestNotLast { span }),
+    let first = definitions_fault(&kinds, definitions);
+    answer(kinds, first)
+}
+
+/// The kinds, or the error that names the first refused field. Takes no memory.
+fn answer(kinds: Vec<Kind>, first: Option<KindFault>) -> Result<Vec<Kind>, KindError>
+    ensures { MatchOption first (result ≡ Ok kinds) (λ fault. result ≡ Err (error_of fault)) }
+{
+    match first {
         None => Ok(kinds),
+        Some(fault) => Err(KindError::from(fault)),
     }
 }
 

@@ -8,7 +8,6 @@ use Rattle.td_core.specs.declared.outcome.Reason.{Reason}
 use Rattle.td_core.specs.declared.outcome.Reason.TheVariants.{Constraint, NotEnough, Padding}
 use Rattle.td_core.specs.Outcome.{Behavior, accepted, rejected, after_reading}
 use Rattle.td_meaning.specs.Meaning.{numbers_at, run_of, one_more, first_where, looked_at, is_nonzero, byte_type, zeros_end, zeros_meaning, zero_end, up_to_zero}
-use Rattle.td_meaning.specs.Zeros.{zero_turns}
 
 -- `all_zeros`
 
@@ -53,6 +52,13 @@ zeros_stop b end p m cells e z =
     ∙ (λ i. after_reading (p ∷ []) (rejected Padding (at i) cells))
 
 -- Numbers up to a zero
+
+-- numbers from q on up to and with the first 0, n of them at most, of a field that began at start
+unfoldable pub zero_turns : NumberType → List ℕ → Reason → ℕ → ℕ → ℕ → List ℕ → Behavior
+zero_turns type message reason start zero q cells = rejected reason start cells
+zero_turns type message reason start (suc n) q cells =
+    after_reading (places_from q (bytes_in type.width))
+    (cond (nat_eq (number_at type message q) 0) (accepted (q + bytes_in type.width) cells) (zero_turns type message reason start n (q + bytes_in type.width) cells))
 
 places_append : (p m n : ℕ) → places_from p (m + n) ≡ places_from p m ++ places_from (p + m) n
 places_append p zero n = let e : 0 + n ≡ n = omega arith in let at : p ≡ p + 0 = omega arith in λ i. places_from (at i) (e i)

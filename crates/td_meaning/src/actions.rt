@@ -1,8 +1,8 @@
 //! What actions do.
 
-ghost use Rattle.std.specs.Prelude.{◌≡◌, IfOk, slice_set, slice_index};
+ghost use Rattle.std.specs.Prelude.{◌≡◌, IfOk, OnErr, slice_set, slice_index};
 ghost use Rattle.td_meaning.specs.Machine.{doing};
-ghost use Rattle.td_meaning.specs.Verdicts.{effect_of};
+ghost use Rattle.td_meaning.specs.Verdicts.{effect_of, HasRead};
 
 use crate::expressions::{is_truth, value_of};
 use crate::parameters::place_at;
@@ -34,7 +34,7 @@ pub fn cell_at(cells: &[u64], place: usize) -> u64
 }
 
 /// Does what an action says, for the values in scope and the places of its definition's cells among all cells.
-/// `AllocError`: there was no memory for a value.
+/// `AllocError`: it reads a cell, and there was no memory for the value.
 pub fn doing(
     action: &Action,
     env: &mut Vec<u64>,
@@ -43,6 +43,7 @@ pub fn doing(
 ) -> Result<Ended, AllocError>
     ensures effect { IfOk result (λ e. doing action.now env.old.items places.now cells.old ≡ effect_of e cells.new) }
     ensures scope { IfOk result (λ e. env.new.items ≡ env.old.items) }
+    ensures memory { OnErr result (HasRead action.now) }
 {
     match &action.step {
         Step::Done => Ok(Ended::On),

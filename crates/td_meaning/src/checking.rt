@@ -1,10 +1,10 @@
 //! The tests of a field's parts, and the frames of failures.
 
-ghost use Rattle.std.specs.Prelude.{◌≡◌, ℕ, ◌++◌, ◌∷◌, List, [], IfOk};
+ghost use Rattle.std.specs.Prelude.{◌≡◌, ◌<◌, ℕ, ◌++◌, ◌∷◌, List, [], length, IfOk, OnErr};
 ghost use Rattle.td_core.specs.Outcome.{plain, within, ending_within, Rejected};
 ghost use Rattle.td_meaning.specs.Meaning.{demanded, ended, extended, field_place};
 ghost use Rattle.td_meaning.specs.Machine.{checked, parts_meaning, with_part};
-ghost use Rattle.td_meaning.specs.Verdicts.{ending_of, effect_of, IsAt, frame_place};
+ghost use Rattle.td_meaning.specs.Verdicts.{ending_of, effect_of, IsAt, IsRejection, frame_place};
 
 use crate::actions::{Ended, doing};
 use crate::bit_fields::bits_of;
@@ -13,7 +13,8 @@ use std::alloc::AllocError;
 use td_core::module::{NameId, Part};
 use td_core::outcome::{Reason, Spot, Trace, TraceFrame, Verdict};
 
-/// A verdict within a type: a failure has one frame more. `AllocError`: there was no memory for it.
+/// A verdict within a type: a failure has one frame more. `AllocError`: it is a failure, and there was no memory for the
+/// frame.
 pub fn framed(
     verdict: Verdict,
     ty: NameId,
@@ -24,6 +25,7 @@ pub fn framed(
     ensures ending { IfOk result (λ v. (cells : List ℕ)
         → ending_of v trace.new cells ≡ ending_within (frame_place ty spot start) (ending_of verdict trace.old cells)) }
     ensures at { IfOk result (λ v. (p : ℕ) → IsAt verdict p trace.old → IsAt v p trace.new) }
+    ensures memory { OnErr result (IsRejection verdict) }
 {
     match verdict {
         Verdict::Accept { pos } => Ok(Verdict::Accept { pos }),
@@ -122,7 +124,7 @@ fn check_part(
 
 /// Tests the parts of a field whose number is `value`, one after the other: each comes into scope, its refinement is
 /// tested, and its action is done. `ty` is the type's name, `start` the byte at which the field began, and `pos` the one
-/// at which it ended. `AllocError`: there was no memory for a value or a frame.
+/// at which it ended. `AllocError`: there is a part, and there was no memory for a value or a frame.
 pub fn check_parts(
     ty: NameId,
     parts: &[Part],
@@ -140,6 +142,7 @@ pub fn check_parts(
     ensures at { IfOk result (λ v. IsAt v pos trace.new) }
     ensures scope { IfOk result (λ v. (q : ℕ) → v ≡ Verdict.Accept q
         → env.new.items ≡ extended env.old.items value parts.now) }
+    ensures memory { OnErr result (0 < length parts.now) }
 {
     for part in parts {
         match check_part(ty, part, value, env, places, cells, start, pos, trace)? {

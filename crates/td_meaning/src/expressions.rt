@@ -1,7 +1,7 @@
 //! Values of expressions in 64 bits. They are the expressions' values where each part that is evaluated has its value in
 //! its type's range, and elsewhere some number: nothing here can overflow.
 
-ghost use Rattle.std.specs.Prelude.{◌≡◌, ◌*◌, ◌/◌, ◌%◌, ◌^◌, IfOk, Option};
+ghost use Rattle.std.specs.Prelude.{◌≡◌, ◌*◌, ◌/◌, ◌%◌, ◌^◌, ◌<◌, length, IfOk, OnErr, Option};
 ghost use Rattle.td_core.specs.Term.{Term};
 ghost use Rattle.td_core.specs.Types.{limit};
 ghost use Rattle.td_meaning.specs.Machine.{truth_number, is_truth, applied, value_of, values, is_met};
@@ -98,9 +98,10 @@ pub fn value_of(e: &CoreExpr, env: &[u64]) -> u64
     }
 }
 
-/// The values of expressions. `AllocError`: there was no memory for them.
+/// The values of expressions. `AllocError`: there are some, and there was no memory for their values.
 pub fn values_of(alloc: Global, exprs: &[CoreExpr], env: &[u64]) -> Result<Vec<u64>, AllocError>
-    ensures { IfOk result (λ numbers. numbers.items ≡ values exprs.now env.now) }
+    ensures ok { IfOk result (λ numbers. numbers.items ≡ values exprs.now env.now) }
+    ensures memory { OnErr result (0 < length exprs.now) }
 {
     let mut numbers = Vec::new(alloc);
     for expr in exprs {

@@ -80,8 +80,8 @@ fn check_size(
     }
 }
 
-/// An expression: its sort and its core expression, and its breaches noted. `AllocError`: it has an operator, and there
-/// was no memory for its operands.
+/// An expression: its sort and its core expression, and its breaches noted. `AllocError`: it has an operator or is
+/// `is_range_okay`, and there was no memory for its operands.
 #[cycle(expression)]
 pub fn expression(
     alloc: Global,
@@ -297,7 +297,7 @@ fn choice(
     })
 }
 
-/// An expression at a place that takes a number.
+/// An expression at a place that takes a number. `AllocError` as of `expression`.
 #[tactic(auto, using(crate::proofs::Steps::first_append))]
 pub fn number(
     alloc: Global,
@@ -315,7 +315,7 @@ pub fn number(
     Ok(typing)
 }
 
-/// An expression at a place that takes a number no wider than a type.
+/// An expression at a place that takes a number no wider than a type. `AllocError` as of `expression`.
 #[tactic(auto, using(crate::proofs::Steps::first_append))]
 pub fn fitting(
     alloc: Global,
@@ -338,7 +338,7 @@ pub fn fitting(
     Ok(typing)
 }
 
-/// An expression at a place that takes a truth value.
+/// An expression at a place that takes a truth value. `AllocError` as of `expression`.
 #[tactic(auto, using(crate::proofs::Steps::first_append))]
 pub fn truth_value(
     alloc: Global,
@@ -355,7 +355,7 @@ pub fn truth_value(
     Ok(typing.core)
 }
 
-/// A refinement or `where`, where there is one.
+/// A refinement or `where`, where there is one. `AllocError` as of `expression`.
 pub fn test(
     alloc: Global,
     known: &Known,

@@ -343,8 +343,8 @@ elements::validate_element-returns-in_err-validate_named-in-Named-clause-only g 
     let n = c.validate_named.new.stream in
     let own = c.in-Named.own in
     let given = values c.in-Named.args a.env.now in
-    let args : given ≡ c.as_slice-in-Named-3.result.now = (λ k. values (sym c.as_slice-in-Named.ensures k) a.env.now) ∙ sym c.in_ok-args-in-Named.ensures ∙ sym c.as_slice-in-Named-3.ensures.value in
-    let cells : map (slice_index a.places.now) own ≡ c.as_slice-in-Named-4.result.now = (λ k. map (slice_index a.places.now) (sym c.as_slice-in-Named-2.ensures k)) ∙ sym c.in_ok-own-in-Named.ensures ∙ sym c.as_slice-in-Named-4.ensures.value in
+    let args : given ≡ c.as_slice-in-Named-3.result.now = (λ k. values (sym c.as_slice-in-Named.ensures k) a.env.now) ∙ sym c.in_ok-args-in-Named.ensures.ok ∙ sym c.as_slice-in-Named-3.ensures.value in
+    let cells : map (slice_index a.places.now) own ≡ c.as_slice-in-Named-4.result.now = (λ k. map (slice_index a.places.now) (sym c.as_slice-in-Named-2.ensures k)) ∙ sym c.in_ok-own-in-Named.ensures.ok ∙ sym c.as_slice-in-Named-4.ensures.value in
     only_from g.W.Words.loads s n _ _ (ap (λ (x : Element). element_meaning a.types.now.module.now.listed (below a.types.now.module.now.listed a.types.now.module.now.definitions a.bound) x a.env.now a.places.now b a.start s.end s.pos a.cells.now) c.in-Named.is ∙ (λ k. below a.types.now.module.now.listed a.types.now.module.now.definitions a.bound c.in-Named.definition (args k) (cells k) a.cells.now b s.pos s.end)) (c.in_err-validate_named-in-Named.ensures.only b h))
 
 pub elements::validate_element-returns-in_ok-validate_named-in-Named-clause-step : goal.elements::validate_element-returns-in_ok-validate_named-in-Named-clause-step
@@ -354,8 +354,8 @@ elements::validate_element-returns-in_ok-validate_named-in-Named-clause-step g t
     let n = c.validate_named.new.stream in
     let own = c.in-Named.own in
     let given = values c.in-Named.args a.env.now in
-    let args : given ≡ c.as_slice-in-Named-3.result.now = (λ k. values (sym c.as_slice-in-Named.ensures k) a.env.now) ∙ sym c.in_ok-args-in-Named.ensures ∙ sym c.as_slice-in-Named-3.ensures.value in
-    let cells : map (slice_index a.places.now) own ≡ c.as_slice-in-Named-4.result.now = (λ k. map (slice_index a.places.now) (sym c.as_slice-in-Named-2.ensures k)) ∙ sym c.in_ok-own-in-Named.ensures ∙ sym c.as_slice-in-Named-4.ensures.value in
+    let args : given ≡ c.as_slice-in-Named-3.result.now = (λ k. values (sym c.as_slice-in-Named.ensures k) a.env.now) ∙ sym c.in_ok-args-in-Named.ensures.ok ∙ sym c.as_slice-in-Named-3.ensures.value in
+    let cells : map (slice_index a.places.now) own ≡ c.as_slice-in-Named-4.result.now = (λ k. map (slice_index a.places.now) (sym c.as_slice-in-Named-2.ensures k)) ∙ sym c.in_ok-own-in-Named.ensures.ok ∙ sym c.as_slice-in-Named-4.ensures.value in
     step_from s n _ _ _ (ap (λ (x : Element). element_meaning a.types.now.module.now.listed (below a.types.now.module.now.listed a.types.now.module.now.definitions a.bound) x a.env.now a.places.now b a.start s.end s.pos a.cells.now) c.in-Named.is ∙ (λ k. below a.types.now.module.now.listed a.types.now.module.now.definitions a.bound c.in-Named.definition (args k) (cells k) a.cells.now b s.pos s.end)) (c.in_ok-validate_named-in-Named.ensures.step b h)
 
 pub arrays::validate_elements-returns-clause-step : goal.arrays::validate_elements-returns-clause-step

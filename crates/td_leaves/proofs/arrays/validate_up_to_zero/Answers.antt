@@ -4,10 +4,9 @@ use Rattle.td_num.specs.Numbers.{bytes_in, number_at, places_from}
 use Rattle.td_core.specs.declared.outcome.Reason.TheVariants.{Constraint, NotEnough}
 use Rattle.td_core.specs.Outcome.{rejected, accepted}
 use Rattle.td_meaning.specs.Meaning.{up_to_zero}
-use Rattle.td_meaning.specs.Zeros.{zero_turns}
 use Rattle.td_leaves.specs.Step.{Step}
 use Rattle.td_leaves.proofs.Stepping.{later_trans, carried, step_trans, step_to, step_from, step_still}
-use Rattle.td_meaning.proofs.Zeros.{turns_none, turns_on, turns_of}
+use Rattle.td_meaning.proofs.Zeros.{zero_turns, turns_none, turns_on, turns_of}
 use Rattle.td_leaves.proofs.FieldLemmas.{room_for, one_fewer}
 use Rattle.td_leaves.proofs.arrays.validate_up_to_zero.Goals as goal
 

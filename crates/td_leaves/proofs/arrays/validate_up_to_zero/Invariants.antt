@@ -2,7 +2,7 @@ use Rattle.std.proofs.Common.{◌≡◌, ℕ, ◌+◌, ◌-◌, ◌*◌, ◌≤�
 use Rattle.td_num.specs.Numbers.{bytes_in}
 use Rattle.td_stream.specs.Loads.{Carries}
 use Rattle.td_stream.specs.StreamInvariant.{IsStream, Later, loads_of, length_of, position, end_of}
-use Rattle.td_meaning.specs.Zeros.{zero_turns}
+use Rattle.td_meaning.proofs.Zeros.{zero_turns}
 use Rattle.td_leaves.specs.Step.{Step}
 use Rattle.td_leaves.proofs.arrays.validate_up_to_zero.Given as goal
 

@@ -4,8 +4,7 @@ use Rattle.td_num.specs.Numbers.{bytes_in, number_at}
 use Rattle.td_core.specs.declared.outcome.Reason.TheVariants.{Constraint, NotEnough}
 use Rattle.td_core.specs.Outcome.{Behavior, Ending, Accepted}
 use Rattle.td_meaning.specs.Meaning.{up_to_zero}
-use Rattle.td_meaning.specs.Zeros.{zero_turns}
-use Rattle.td_meaning.proofs.Zeros.{turns_of, turns_none, turns_on}
+use Rattle.td_meaning.proofs.Zeros.{zero_turns, turns_of, turns_none, turns_on}
 use Rattle.td_plain.proofs.Endings.{room_for, one_fewer}
 use Rattle.td_plain.proofs.arrays.numbers_up_to_zero.Goals as goal
 

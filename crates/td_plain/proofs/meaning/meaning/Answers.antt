@@ -26,7 +26,7 @@ returns c = λ sound.
     let len : c.in_ok-left.left.len ≡ length c.named.new.cells = omega (arith, c.named.auto.cells, c.as_mut_slice.ensures.len) in
     let left : c.of-2.result ≡ c.named.new.cells = c.of-2.ensures ∙ ap (λ n. take n (c.named.new.cells ++ drop (length c.named.new.cells) c.in_ok-left.left.items)) len ∙ take-append_seam c.named.new.cells (drop (length c.named.new.cells) c.in_ok-left.left.items) in
     let whole = (λ k. below a.m.now.listed a.m.now.definitions c.len.result c.in-Some.place a.args.now c.as_slice.result.now (given k) a.bytes.now 0 (length a.bytes.now))
-    ∙ entry_is a.m.now a.entry a.args.now a.cells.now a.bytes.now c.in-Some.place c.len.result c.as_slice.result.now (length a.bytes.now) c.in-Some.ensures c.len.ensures (c.as_slice.ensures.value ∙ c.in_ok-places.ensures) refl
+    ∙ entry_is a.m.now a.entry a.args.now a.cells.now a.bytes.now c.in-Some.place c.len.result c.as_slice.result.now (length a.bytes.now) c.in-Some.ensures c.len.ensures (c.as_slice.ensures.value ∙ c.in_ok-places.ensures.ok) refl
     ∙ meaning_is a.m.now a.entry a.args.now a.cells.now a.bytes.now sound in
     (λ k. record { verdict = c.in_ok-verdict.verdict; trace = c.named.new.trace; cells = left k })
     ∙ outcome_is c.in_ok-verdict.verdict c.named.new.trace c.named.new.cells e.empty_trace
