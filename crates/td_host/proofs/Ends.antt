@@ -43,6 +43,12 @@ stores_acts [] = refl
 stores_acts (step.Store w v ∷ steps) = ap (λ l. (w, v) ∷ l) (stores_acts steps)
 stores_acts (step.Post b l ∷ steps) = stores_acts steps
 
+loads_acts : (script : List Step) → loads (acts_of script) ≡ []
+unfolding acts_of
+loads_acts [] = refl
+loads_acts (step.Store w v ∷ steps) = loads_acts steps
+loads_acts (step.Post b l ∷ steps) = loads_acts steps
+
 pub owned-append : {A : Type 0} (ps qs : List (Part A)) → owned (ps ++ qs) ≡ owned ps ++ owned qs
 unfolding owned
 owned-append [] qs = refl
@@ -202,7 +208,7 @@ module _ {G : Type 0} where
           let put : h.pass.view.put ≡ Some (part_of x.pass_number p.posts) = ap (λ (z : PassState). z.view.put) pass in
           let parts : cons_opt h.pass.view.put (put_parts bs) ≡ part_of x.pass_number p.posts ∷ put_parts bs = ap (λ o. cons_opt o (put_parts bs)) put in
           record {
-            stored_by = subst (λ v. AreStored n (s ∷ ss) (v ∷ map view_of bs)) (sym view) (refl, x.seat_rises, stores_acts s, r.stored_by);
+            stored_by = subst (λ v. AreStored n (s ∷ ss) (v ∷ map view_of bs)) (sym view) (refl, x.seat_rises, stores_acts s, loads_acts s, r.stored_by);
             posted = subst (ArePosted number m (s ∷ ss)) (sym parts) (x.pass_rises, p.labels, r.posted);
             as_many = ap length parts ∙ ap suc r.as_many;
             no_takes = r.no_takes;

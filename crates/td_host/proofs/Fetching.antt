@@ -64,7 +64,7 @@ played_in n ss [] u p q = absurd q
 played_in n [] (v ∷ vs) u p q = absurd p
 played_in n (s ∷ ss) (v ∷ vs) u p q = ⊎_elim
     (λ (e : v ≡ u). (s, inl refl, ap (λ (x : SeatView). stores x.steps) (sym e) ∙ p.2))
-    (λ (r : In u vs). let x = played_in (v.number + 1) ss vs u p.3 r in (x.0, inr x.1, x.2)) q
+    (λ (r : In u vs). let x = played_in (v.number + 1) ss vs u p.4 r in (x.0, inr x.1, x.2)) q
 
 pub fetches : (job : HostJob) (h : HostView) (readers guests : List SeatView) → h.ended ≡ readers ++ guests → h.opened ≡ job.words → Fetched h → ((u : SeatView) → In u readers → stores u.steps ≡ []) → AreStored 0 job.guests guests
     → (v : SeatView) (l : ℕ × ℕ) → In v readers → In l (loads v.steps) → Comes job l

@@ -24,10 +24,12 @@ abbrev pub IfThere : {A : Type 0} → Option A → (A → Type 0) → Type 0
 IfThere None P = ⊥
 IfThere (Some x) P = P x
 
--- the desk of a job, and what the host acts with, none of which made another yet
+-- the desk of a job, whose ring has room for all posts, so that no guest waits for a worker; and what the host acts with, none
+-- of which made another yet
 pub record IsOpened {J : Type 0} (d : Desk J) (k : Heads) : Type 0 where
   pub mails : d.mails.items ≡ all_mails 1 d.job.guests
   pub count : d.shared.count ≡ length d.job.words
+  pub ring_room : length d.mails.items ≤ d.ring.capacity
   pub seat : k.seat ≡ host_at d.shared.table d.job.words 0
   pub posts : k.posts ≡ posts_at d.ring.queue 1
   pub takes : k.takes ≡ takes_at d.ring.queue 1
@@ -41,10 +43,12 @@ pub record IsCrew {J G : Type 0} (names : Post → Type 0) (d : Desk J) (k : Cre
   pub no_reply : k.replies.items ≡ []
   pub reply_room : length d.mails.items ≤ vec_capacity k.replies
 
--- the host is ready to serve its job, and all room for that is taken
+-- the host is ready to serve its job, and all room for that is taken; its ring has room for all posts, so that no guest waits
+-- for a worker
 pub record IsArmed {J G : Type 0} (names : Post → Type 0) (h : Host J G) : Type 0 where
   pub mails : h.desk.mails.items ≡ all_mails 1 h.desk.job.guests
   pub inside : All (λ (m : Mail). m.base + words_in m.length ≤ h.desk.shared.count) h.desk.mails.items
+  pub ring_room : length h.desk.mails.items ≤ h.desk.ring.capacity
   pub says : (p : Post) → names p → Fits (most_frames h.desk.code) h.desk.job p
   pub code : IsJobCode h.desk.code h.desk.job
   pub unserved : h.finished ≡ None

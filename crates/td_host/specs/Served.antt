@@ -96,12 +96,12 @@ pub record Divided (mails : List Mail) (seats : List SeatView) (replies : List R
   pub each_once : IsPermutation (joined shares) replies
 
 -- ---- the seats
--- a seat for each script, in order by rising numbers from n on; its stores are the script's
+-- a seat for each script, in order by rising numbers from n on; its stores are the script's, and it loaded nothing
 unfoldable pub AreStored : ℕ → List (List Step) → List SeatView → Type 0
 AreStored n [] [] = Unit {0}
 AreStored n [] (v ∷ vs) = ⊥
 AreStored n (s ∷ ss) [] = ⊥
-AreStored n (s ∷ ss) (v ∷ vs) = (v.guest ≡ true) × (n ≤ v.number) × (stores v.steps ≡ stores_of s) × AreStored (v.number + 1) ss vs
+AreStored n (s ∷ ss) (v ∷ vs) = (v.guest ≡ true) × (n ≤ v.number) × (stores v.steps ≡ stores_of s) × (loads v.steps ≡ []) × AreStored (v.number + 1) ss vs
 
 -- x stands in the list
 unfoldable pub In : {A : Type 0} → A → List A → Type 0
@@ -113,8 +113,8 @@ abbrev pub Comes : HostJob → ℕ × ℕ → Type 0
 Comes job l = (l.1 ≡ slice_index job.words l.0) ⊎ ((s : List Step) × In s job.guests × In (l.0, l.1) (stores_of s))
 
 -- what the host's seat knows of all that was done to the buffer: it gathered each seat that it made, first the readers, which
--- stored nothing, and then a guest for each script; all their loads and stores stand in one history, and so each load is the
--- opening word, or some guest's script stores it to that word
+-- stored nothing, and then a guest for each script, which loaded nothing; all their loads and stores stand in one history, and
+-- so each load is the opening word, or some guest's script stores it to that word
 pub record SeatsServed (job : HostJob) (replies : List Reply) (host : HostView) : Type 0 where
   pub readers : List SeatView
   pub guests : List SeatView

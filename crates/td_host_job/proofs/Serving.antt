@@ -32,6 +32,8 @@ use Rattle.td_host_job.specs.Steps.{SpelledStep, SpelledStore, SpelledPost, spel
 use Rattle.td_host_job.specs.Guests.{listed_in, workers_faults, script_faults, object_faults, guest_faults, each_guest_faults, guests_faults, listed_steps, given_script, each_script, listed_scripts, given_guests}
 use Rattle.td_host_job.specs.Totals.{weight, most_of, key_of, total, total_fault}
 use Rattle.td_host_job.specs.HostJobs.{buffer_words, IsHost, IsHostJob, HasShortMessages}
+use Rattle.td_host_job.specs.Laws.{HostJobsKeepLimits}
+use Rattle.td_host_job.proofs.Jobs.{all_fit}
 
 -- ---- steps within the buffer
 
@@ -291,3 +293,13 @@ are_short bytes m (Ok j) h =
     let n = length j.words in
     all_of (MailInside n) (λ (mail : Mail). mail.length ≤ MOST_BYTES) (λ mail both. both.1) (job_mails j) (all_mails_inside n 1 j.guests (parts_of m h.0 j h.2).guests.inside)
 are_short bytes m (Err e) h = tt
+
+pub keep_limits : HostJobsKeepLimits
+keep_limits bytes m j h =
+    let parts = parts_of m h.0 j h.2 in
+    record {
+      values = all_fit bytes m (Ok j) h;
+      short = are_short bytes m (Ok j) h;
+      few_guests = parts.guests.few;
+      few_posts = subst (λ k. k ≤ MOST_POSTS) (sym (all_posts_counted 1 j.guests)) parts.posts;
+    }

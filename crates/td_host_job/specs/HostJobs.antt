@@ -24,6 +24,7 @@ use Rattle.td_job.specs.Words.{IsFilled}
 use Rattle.td_job.specs.Jobs.{IsEntry, bytes_faults, spelled_bytes, first_unknown, unknown_faults, RefusedJobOf}
 use Rattle.td_posts.specs.declared.job.HostJob.{HostJob}
 use Rattle.td_posts.specs.declared.mail.Mail.{Mail}
+use Rattle.td_posts.specs.declared.limits.TheConstants.{MOST_GUESTS, MOST_POSTS}
 use Rattle.td_posts.specs.Posts.{words_in}
 use Rattle.td_posts.specs.Servable.{job_mails}
 use Rattle.td_host_job.specs.Guests.{listed_in, workers_faults, guests_faults, given_guests}
@@ -78,3 +79,10 @@ pub record HasHostValues (m : Module) (j : HostJob) : Type 0 where
 -- no message has more than a MiB
 abbrev pub HasShortMessages : HostJob → Type 0
 HasShortMessages j = All (λ (mail : Mail). mail.length ≤ MOST_BYTES) (job_mails j)
+
+-- its entry point is the module's, with a value for each parameter; its messages are short, and its guests and posts few
+pub record KeepsLimits (m : Module) (j : HostJob) : Type 0 where
+  pub values : HasHostValues m j
+  pub short : HasShortMessages j
+  pub few_guests : length j.guests ≤ MOST_GUESTS
+  pub few_posts : length (job_mails j) ≤ MOST_POSTS

@@ -3,7 +3,7 @@ use Rattle.std.specs.Prelude.{◌≡◌, ℕ, List, ◌⊎◌}
 use Rattle.td_core.specs.declared.module.Module.{Module}
 use Rattle.td_job.specs.declared.error.JobError.{JobError}
 use Rattle.td_posts.specs.declared.job.HostJob.{HostJob}
-use Rattle.td_host_job.specs.HostJobs.{IsHostJob, RefusedHostJob}
+use Rattle.td_host_job.specs.HostJobs.{IsHostJob, RefusedHostJob, KeepsLimits}
 
 -- bytes stand for at most one host job
 abbrev pub OneHostJobEach : Type 0
@@ -20,3 +20,7 @@ NeverBothHost = (bytes : List ℕ) (m : Module) (j : HostJob) (e : JobError) →
 -- bytes stand for a host job or have a fault
 abbrev pub AlwaysOneHost : Type 0
 AlwaysOneHost = (bytes : List ℕ) (m : Module) → ((j : HostJob) × IsHostJob bytes m j) ⊎ ((e : JobError) × RefusedHostJob bytes m e)
+
+-- each host job keeps the limits
+abbrev pub HostJobsKeepLimits : Type 0
+HostJobsKeepLimits = (bytes : List ℕ) (m : Module) (j : HostJob) → IsHostJob bytes m j → KeepsLimits m j

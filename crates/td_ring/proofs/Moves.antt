@@ -13,10 +13,11 @@ use Rattle.td_roll.proofs.Gathers.{gathers}
 use Rattle.td_roll.proofs.Moves.{moves, hands}
 use Rattle.td_roll.proofs.Begins.{begins_own}
 use Rattle.td_roll.proofs.Heads.{is_none, are_in_log}
+use Rattle.td_core.specs.WellFormed.{Each}
 use Rattle.td_ring.specs.declared.post.Post.{Post}
 use Rattle.td_ring.specs.declared.view.RingView.{RingView}
 use Rattle.td_roll.specs.Heads.{maybe_of, one_more, new_part, with_ended, with_more}
-use Rattle.td_ring.specs.Ring.{ring_view, head_put, part_put, head_take, part_take, Each, KeepsPosts, CanPost, CanTake, did_post, did_take, both_heads, only_put, only_take, no_view, one_more_put, new_put, one_more_take, new_take, with_put, with_take, with_takes, Settled}
+use Rattle.td_ring.specs.Ring.{ring_view, head_put, part_put, head_take, part_take, KeepsPosts, CanPost, CanTake, did_post, did_take, both_heads, only_put, only_take, no_view, one_more_put, new_put, one_more_take, new_take, with_put, with_take, with_takes, Settled, Stood}
 
 Each-push : {A : Type 0} (P : A → Type 0) (xs : List A) (x : A) → Each P xs → P x → Each P (xs ++ x ∷ [])
 Each-push P [] x t p = (p, tt)
@@ -68,6 +69,9 @@ module _ (names : Post → Type 0) where
     puts = λ g p e f. are_in_log head_put part_put views h.posted h.puts port v at g p (ap maybe_of e) (ap maybe_of f);
     takes = λ g p e f. are_in_log head_take part_take views h.taken h.takes port v at g p (ap maybe_of e) (ap maybe_of f);
   }
+
+  pub stands : (port : ℕ) (v : RingView) → Learns (KeepsPosts names) port v (Stood names v)
+  stands port v items views h at = record { views = views; number = port; among = at; rule = h; settled = learns port v items views h at }
 
   -- the first pass is cut in two
   pub parts_ends : (port : ℕ) (v : RingView) → v ≡ both_heads → Forks (KeepsPosts names) port v (only_put v) (only_take v)

@@ -1,11 +1,14 @@
 -- The rule of a ring of posts, and what its passes know and tell (own rule).
-use Rattle.std.specs.Prelude.{◌≡◌, ℕ, List, [], ◌∷◌, ◌++◌, Option, None, Some}
+use Rattle.std.specs.Prelude.{◌≡◌, ℕ, List, [], ◌++◌, Option, None, Some}
 use mathlib.Core.Option as maybe
+use mathlib.Core.Option.{some}
+use lib.ListN.{get_elem?}
 use Rattle.atomic_table.specs.Seated.{TableId}
 use Rattle.td_roll.specs.declared.parts.Part.{Part}
 use Rattle.td_roll.specs.declared.parts.Head.{Head}
 use Rattle.td_roll.specs.Roll.{Entry, all_entries, part_of, head_of, Roll}
 use Rattle.td_roll.specs.Heads.{maybe_of, one_more, new_part, with_ended, with_more, AreInLog}
+use Rattle.td_core.specs.WellFormed.{Each}
 use Rattle.td_ring.specs.declared.post.Post.{Post}
 use Rattle.td_ring.specs.declared.view.RingView.{RingView}
 
@@ -99,10 +102,6 @@ head_take v = maybe_of v.take_head
 abbrev pub part_take : RingView → maybe.Option (Part Post)
 part_take v = maybe_of v.take
 
-abbrev pub Each : {A : Type 0} → (A → Type 0) → List A → Type 0
-Each P [] = Unit {0}
-Each P (x ∷ xs) = P x × Each P xs
-
 -- between any two steps: what was taken is a prefix of what was posted, the ring holds the rest, and the named fact holds of
 -- each post in it
 pub record KeepsPosts (names : Post → Type 0) (items : List Post) (views : List RingView) : Type 0 where
@@ -113,6 +112,17 @@ pub record KeepsPosts (names : Post → Type 0) (items : List Post) (views : Lis
   pub queue : all_entries posted ≡ all_entries taken ++ items
   pub named : Each names items
 
+-- ---- what a full or an empty ring tells
+-- at one moment the ring held these items, and its rule held of them and of what all passes then knew; this pass's view was
+-- among those
+pub record Stood (names : Post → Type 0) (v : RingView) (items : List Post) : Type 0 where
+  pub views : List RingView
+  pub number : ℕ
+  pub among : get_elem? views number ≡ some v
+  pub rule : KeepsPosts names items views
+  pub settled : Settled v items
+
+-- ---- the two kinds of pass
 -- a pass that posts; only the head of those may have taken the takes in
 abbrev pub CanPost : RingView → Type 0
 CanPost v = ((p : Part Post) × (v.put ≡ Some p)) × (v.take_head ≡ None → v.take ≡ None) × (v.put_head ≡ None → v.take_head ≡ None)

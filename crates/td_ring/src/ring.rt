@@ -5,13 +5,13 @@ ghost use Rattle.crossbeam_queue.specs.Fifo.{Held};
 ghost use Rattle.td_words.specs.History.{stores};
 ghost use Rattle.td_ring.specs.declared.post.Post.{Post};
 ghost use Rattle.td_roll.specs.Heads.{HasHead};
-ghost use Rattle.td_ring.specs.Ring.{both_heads, only_put, only_take, did_post, did_take, pass_with, pass_state, one_more_put, new_put, one_more_take, new_take, with_put, with_take, with_takes, Settled};
+ghost use Rattle.td_ring.specs.Ring.{both_heads, only_put, only_take, did_post, did_take, pass_with, pass_state, one_more_put, new_put, one_more_take, new_take, with_put, with_take, with_takes, Settled, Stood};
 
 use crate::naming::Naming;
 use crate::passes::{PostPass, TakePass};
 use crate::post::{Full, Post};
 use crate::rule::{
-    AllTakes, EndedPuts, EndedTakes, Ends, KeepsPosts, MorePuts, MoreTakes, Posts, Takes,
+    AllTakes, EndedPuts, EndedTakes, Ends, KeepsPosts, MorePuts, MoreTakes, Posts, Settles, Takes,
 };
 use crate::view::RingView;
 use crossbeam_queue::RuledArrayQueue;
@@ -110,11 +110,12 @@ impl<J: Naming> Ring<J> {
     {
         let TakePass { pass: takes } = takes;
         self.queue.absorb::<AllTakes>(&mut pass.pass, takes);
-        self.queue.learn_as::<Posts>(&mut pass.pass);
+        self.queue.learn_as::<Settles>(&mut pass.pass);
     }
 
     /// Posts by a pass and the seat of the guest whose post it is: the pass has just that post more. J's fact holds of the
-    /// post, and `made` is how many stores the seat made. `Full` has the post as it was; the ring was full at a moment of the call.
+    /// post, and `made` is how many stores the seat made. `Full` has the post as it was; at a moment of the call the ring held
+    /// as many posts as it has room for, and its rule held of them and of what all passes then knew (`Stood`).
     pub fn post<R: Wait>(
         &self,
         rt: &R,
@@ -128,7 +129,7 @@ impl<J: Naming> Ring<J> {
         ensures posted { OnOk result (pass.new ≡ pass_with pass.old (did_post pass.old.view post)) }
         ensures back { IfErr result (λ e. e.post ≡ post) }
         ensures same { OnErr result (pass.new ≡ pass.old) }
-        ensures full { OnErr result (Held self.now.capacity (Settled pass.old.view)) }
+        ensures full { OnErr result (Held self.now.capacity (Stood J.names pass.old.view)) }
     {
         match self.push(rt, pass, post) {
             Ok(()) => Ok(()),
@@ -143,18 +144,19 @@ impl<J: Naming> Ring<J> {
         ensures posted { OnOk result (pass.new ≡ pass_with pass.old (did_post pass.old.view post)) }
         ensures back { IfErr result (λ x. x ≡ post) }
         ensures same { OnErr result (pass.new ≡ pass.old) }
-        ensures full { OnErr result (Held self.now.capacity (Settled pass.old.view)) }
+        ensures full { OnErr result (Held self.now.capacity (Stood J.names pass.old.view)) }
     {
-        self.queue.push_as::<Posts, R>(rt, &mut pass.pass, post)
+        self.queue.push_as::<Posts<J>, R>(rt, &mut pass.pass, post)
     }
 
-    /// Takes the oldest post by a pass, which has just that take more. None: the ring was empty at a moment of the call.
+    /// Takes the oldest post by a pass, which has just that take more. None: at a moment of the call the ring held no post, and
+    /// its rule held of what all passes then knew (`Stood`).
     pub fn take<R: Wait>(&self, rt: &R, pass: &mut TakePass) -> Option<Post>
         requires own { pass.old.queue ≡ self.now.queue }
         ensures taken { IfSome result (λ x. pass.new ≡ pass_with pass.old (did_take pass.old.view x)) }
         ensures named { IfSome result (λ x. J.names x) }
         ensures same { result ≡ None → pass.new ≡ pass.old }
-        ensures empty { result ≡ None → Held 0 (Settled pass.old.view) }
+        ensures empty { result ≡ None → Held 0 (Stood J.names pass.old.view) }
     {
         self.queue.pop_as::<Takes<J>, R>(rt, &mut pass.pass)
     }

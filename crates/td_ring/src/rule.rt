@@ -19,23 +19,25 @@ impl<J: Naming> Protocol<Post, RingView> for KeepsPosts<J> {
     ghost first = { both_heads };
 }
 
-/// A post.
-pub(crate) struct Posts;
+/// A post, or what a full ring tells.
+pub(crate) struct Posts<J> {
+    naming: PhantomData<J>,
+}
 
-impl Outcome<Post, RingView> for Posts {
+impl<J: Naming> Outcome<Post, RingView> for Posts<J> {
     ghost use Rattle.std.specs.Prelude.{◌≡◌};
     ghost use Rattle.td_ring.specs.Ring.{did_post};
 
     ghost then = { λ v x w. w ≡ did_post v x };
 }
 
-impl Lesson<Post, RingView> for Posts {
-    ghost use Rattle.td_ring.specs.Ring.{Settled};
+impl<J: Naming> Lesson<Post, RingView> for Posts<J> {
+    ghost use Rattle.td_ring.specs.Ring.{Stood};
 
-    ghost fact = { Settled };
+    ghost fact = { Stood J.names };
 }
 
-/// A take, of a post of which J's fact holds.
+/// A take, of a post of which J's fact holds, or what an empty ring tells.
 pub(crate) struct Takes<J> {
     naming: PhantomData<J>,
 }
@@ -48,6 +50,15 @@ impl<J: Naming> Outcome<Post, RingView> for Takes<J> {
 }
 
 impl<J: Naming> Lesson<Post, RingView> for Takes<J> {
+    ghost use Rattle.td_ring.specs.Ring.{Stood};
+
+    ghost fact = { Stood J.names };
+}
+
+/// What the ring tells the pass that gathered the others.
+pub(crate) struct Settles;
+
+impl Lesson<Post, RingView> for Settles {
     ghost use Rattle.td_ring.specs.Ring.{Settled};
 
     ghost fact = { Settled };

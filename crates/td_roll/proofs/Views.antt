@@ -7,7 +7,7 @@ use lib.ListN.{get_elem?}
 use Rattle.atomic_table.proofs.Lists.{set_else, at_longer}
 use Rattle.td_roll.specs.declared.parts.Part.{Part}
 use Rattle.td_roll.specs.declared.parts.Head.{Head}
-use Rattle.td_roll.specs.Roll.{Entry, entries_of, all_entries, placed, count_of, parts_out, IsHeld}
+use Rattle.td_roll.specs.Roll.{Entry, entries_of, all_entries, count_of, parts_out, IsHeld}
 
 -- ---- lists
 pub set_at : {A : Type 0} (l : List A) (i : ℕ) (a b : A) → get_elem? l i ≡ some a → get_elem? (set l i b) i ≡ some b
@@ -40,6 +40,10 @@ module _ {A : Type 0} where
   all_entries-push (x ∷ h) e = ap (λ l. x.1 ∷ l) (all_entries-push h e)
 
 -- ---- numbers
+-- the same map, but for one number
+abbrev pub placed : (ℕ → Option ℕ) → ℕ → Option ℕ → ℕ → Option ℕ
+placed place_of n x k = cond (eqb k n) x (place_of k)
+
 pub put_same : (place_of : ℕ → Option ℕ) (n : ℕ) (x : Option ℕ) → placed place_of n x n ≡ x
 put_same place_of n x = ap (λ b. cond b x (place_of n)) (eq-eqb n n refl)
 

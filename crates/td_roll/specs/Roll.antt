@@ -48,10 +48,6 @@ module _ {A : Type 0} where
   abbrev pub IsInLog : ℕ → List (Entry A) → Part A → Type 0
   IsInLog made log p = (p.number < made) × (entries_of p.number log ≡ p.own)
 
--- the same map, but for one number
-abbrev pub placed : (ℕ → Option ℕ) → ℕ → Option ℕ → ℕ → Option ℕ
-placed place_of n x k = cond (eqb k n) x (place_of k)
-
 abbrev pub count_of : {A : Type 0} → Option (Part A) → ℕ
 count_of none = 0
 count_of (some p) = 1

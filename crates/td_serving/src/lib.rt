@@ -4,4 +4,5 @@
 #![tactic(auto)]
 
 pub mod gates;
+pub mod laws;
 pub mod serving;

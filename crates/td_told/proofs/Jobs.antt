@@ -34,7 +34,7 @@ decoded_small text n bytes e = by (length text % 2 == 1) (length text / 2 == n) 
     by false true h = (decode_pairs-ok 0 text bytes h).2
     by false false h = absurd cc
 
-word_small : (text : List ℕ) (v : ℕ) → spelled_word text ≡ Some v → v < 2 ^ 64
+pub word_small : (text : List ℕ) (v : ℕ) → spelled_word text ≡ Some v → v < 2 ^ 64
 word_small text v e = by (decode_sized text 8) refl e
   where
     by : (r : Result (List ℕ) FromHexError) → decode_sized text 8 ≡ r → word_in r ≡ Some v → v < 2 ^ 64

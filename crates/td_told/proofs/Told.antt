@@ -43,7 +43,7 @@ last_small : (v : ℕ) (stores : List PlannedStore) → v < 2 ^ 64 → All Small
 last_small v [] lt h = lt
 last_small v (s ∷ stores) lt h = last_small s.value stores (All-head Small s stores h) (All-tail Small s stores h)
 
-index_small : (words : List ℕ) (i : ℕ) → All (λ w. w < 2 ^ 64) words → slice_index words i < 2 ^ 64
+pub index_small : (words : List ℕ) (i : ℕ) → All (λ w. w < 2 ^ 64) words → slice_index words i < 2 ^ 64
 index_small words i h = elim (cases_order i (length words)) [
   | inl same ↦ past (omega (arith, same))
   | inr other ↦ elim other [ inl inside ↦ h i 0 inside | inr outside ↦ past (omega (arith, outside)) ]

@@ -1,5 +1,5 @@
 -- What holds of all that the report of a run prints.
-use Rattle.std.specs.Prelude.{◌≡◌, ℕ, ◌^◌, ◌<◌, ◌≤◌, List, length}
+use Rattle.std.specs.Prelude.{◌≡◌, ℕ, ◌^◌, ◌<◌, ◌≤◌, List, length, slice_index}
 use Rattle.std.specs.List.{All}
 use Rattle.td_core.specs.declared.module.Module.{Module}
 use Rattle.td_core.specs.declared.module.Entry.{Entry}
@@ -15,6 +15,10 @@ use Rattle.td_front.specs.Checked.{IsChecked}
 use Rattle.td_job.specs.declared.checks.TheConstants.{MOST_BYTES}
 use Rattle.td_job.specs.declared.run_job.RunJob.{RunJob}
 use Rattle.td_job.specs.Jobs.{IsRunJob, HasValues}
+use Rattle.td_posts.specs.declared.job.HostJob.{HostJob}
+use Rattle.td_posts.specs.declared.job.Step.{Step}
+use Rattle.td_posts.specs.Posts.{stores_of, zeros}
+use Rattle.td_host_job.specs.HostJobs.{IsHostJob, KeepsLimits}
 use Rattle.td_report.specs.Laws.{HasWords, HasNoSpotWord, IsNamedOutcome, HasFrames, HasCells, IsOf64Bits}
 
 -- of a run job the entry point is one of the module's, each parameter and cell has a value that fits, the message isn't
@@ -28,6 +32,19 @@ pub record IsSized (m : Module) (j : RunJob) : Type 0 where
 
 abbrev pub JobsAreSized : Type 0
 JobsAreSized = (bytes : List ℕ) (m : Module) (j : RunJob) → IsRunJob bytes m j → IsSized m j
+
+-- a script stores numbers of 64 bits alone
+abbrev pub StoresSmall : List Step → Type 0
+StoresSmall script = All (λ (s : ℕ × ℕ). s.1 < 2 ^ 64) (stores_of script)
+
+-- a host job keeps its limits, and its words and stores are of 64 bits
+pub record IsHostSized (m : Module) (j : HostJob) : Type 0 where
+  pub kept : KeepsLimits m j
+  pub words : (i : ℕ) → slice_index j.words i < 2 ^ 64
+  pub stores : All StoresSmall j.guests
+
+abbrev pub HostJobsAreSized : Type 0
+HostJobsAreSized = (bytes : List ℕ) (m : Module) (j : HostJob) → IsHostJob bytes m j → IsHostSized m j
 
 -- a checked module's names are words, no two alike, and none is `where` or `switch`
 abbrev pub ModulesHaveWords : Type 0
@@ -45,6 +62,12 @@ RunsAreTold =
     (m : Module) (j : RunJob) (message : List ℕ) → IsChecked m → IsSized m j → AreBytes message → length message ≡ j.length →
     IsTold m j.entry (outcome_of (meaning m j.entry j.args j.cells message).ending)
 
--- and so are the loads of the job's words
+-- and the outcome that it has, from cells of zeros, on any message that a host job may have
+abbrev pub RepliesAreTold : Type 0
+RepliesAreTold =
+    (m : Module) (j : HostJob) (message : List ℕ) → IsChecked m → IsHostSized m j → AreBytes message → length message ≤ MOST_BYTES →
+    IsTold m j.entry (outcome_of (meaning m j.entry j.args (zeros j.cells) message).ending)
+
+-- so are the loads of a run job's words
 abbrev pub LoadsAreTold : Type 0
 LoadsAreTold = (m : Module) (j : RunJob) (loads : List Load) → IsSized m j → Inside j.length loads → ArePlanned j.words j.stores 0 loads → All IsOf64Bits loads

@@ -1,9 +1,10 @@
 //! Laws of what reports tell. They do nothing when they are called.
 
-ghost use Rattle.td_told.specs.Laws.{JobsAreSized, LoadsAreTold, ModulesHaveWords, RunsAreTold};
+ghost use Rattle.td_told.specs.Laws.{HostJobsAreSized, JobsAreSized, LoadsAreTold, ModulesHaveWords, RepliesAreTold, RunsAreTold};
 
 use td_arith::laws::evaluated_is_sound;
 use td_endings::laws::endings_are_within;
+use td_host_job::laws::jobs_keep_limits;
 use td_meaning::laws::{frames_are_named, rejections_are_framed};
 
 /// Of each run job the entry point is one of the module's, values fit their parameters and cells, the message isn't too
@@ -11,6 +12,14 @@ use td_meaning::laws::{frames_are_named, rejections_are_framed};
 pub fn jobs_are_sized()
     ensures { JobsAreSized }
 {}
+
+/// Each host job keeps its limits (the entry point is one of the module's, values fit, messages, guests and posts are no more
+/// than a job may have), and its words and stores are of 64 bits.
+pub fn host_jobs_are_sized()
+    ensures { HostJobsAreSized }
+{
+    jobs_keep_limits();
+}
 
 /// The names of a checked module are words, no two are alike, and none is a word that a report has for what is no field.
 pub fn modules_have_words()
@@ -25,6 +34,13 @@ pub fn runs_are_told()
     endings_are_within();
     frames_are_named();
     rejections_are_framed();
+}
+
+/// The outcome of a message of a good host job has named frames, numbers of 64 bits, and a value for each cell.
+pub fn replies_are_told()
+    ensures { RepliesAreTold }
+{
+    runs_are_told();
 }
 
 /// The loads of a good job are of words and values of 64 bits.

@@ -1,5 +1,5 @@
 -- How the host makes seats, gathers them, and learns of the history.
-use Rattle.std.proofs.Common.{◌≡◌, ◌≢◌, ◌⊎◌, ℕ, zero, suc, ◌+◌, ◌<◌, Bool, cond, eq-eqb, ne_eqb, List, [], ◌∷◌, ◌++◌, length, set, drop, refl, sym, ap, ◌∙◌, subst, inl, inr, ⊎_elim, arith, length-append}
+use Rattle.std.proofs.Common.{◌≡◌, ◌≢◌, ◌⊎◌, ℕ, zero, suc, ◌+◌, ◌<◌, Bool, eqb, cond, eq-eqb, ne_eqb, List, [], ◌∷◌, ◌++◌, length, set, drop, refl, sym, ap, ◌∙◌, subst, inl, inr, ⊎_elim, arith, length-append}
 use mathlib.Core.Option.{Option, none, some, some-injective, some-ne-none}
 use mathlib.Core.Logic.{dite}
 use native.Mathlib.Decide.{ℕ_discrete, dec_lt}
@@ -11,7 +11,7 @@ use Rattle.td_words.specs.declared.view.HostView.{HostView}
 use Rattle.td_words.specs.declared.view.View.{View}
 use Rattle.td_words.specs.declared.view.View.TheVariants.{Host, Seat, Spent}
 use Rattle.td_words.specs.Views.{seat_view, host_view, one_more, new_seat, with_ended}
-use Rattle.td_words.specs.Rule.{placed, seat_count, seats_out, IsInHistory, IsPlaced, IsHeld, KeepsHistory, seat_in, host_in, IsSeat, IsHost, Holding, Learned}
+use Rattle.td_words.specs.Rule.{seat_count, seats_out, IsInHistory, IsPlaced, IsHeld, KeepsHistory, seat_in, host_in, IsSeat, IsHost, Holding, Learned}
 use Rattle.td_words.specs.Gathered.{Ended, Apart, Told}
 use Rattle.td_words.proofs.Steps.{set_at, set_same, seats_out_set, seats_out-push, seat_not_host, seat_is, two_numbers, some_apart}
 
@@ -20,6 +20,10 @@ snoc_at [] a b zero e = inr (refl, some-injective a b e)
 snoc_at [] a b (suc j) e = absurd (some-ne-none b (sym e))
 snoc_at (x ∷ xs) a b zero e = inl e
 snoc_at (x ∷ xs) a b (suc j) e = ⊎_elim (λ t. inl t) (λ (t : (j ≡ length xs) × (a ≡ b)). inr (ap suc t.0, t.1)) (snoc_at xs a b j e)
+
+-- the same map, but for one number
+abbrev pub placed : (ℕ → Option ℕ) → ℕ → Option ℕ → ℕ → Option ℕ
+placed place_of n x k = cond (eqb k n) x (place_of k)
 
 put_same : (place_of : ℕ → Option ℕ) (n : ℕ) (x : Option ℕ) → placed place_of n x n ≡ x
 put_same place_of n x = ap (λ b. cond b x (place_of n)) (eq-eqb n n refl)

@@ -1,5 +1,5 @@
 -- The rule of the table: between any two steps all loads and stores that were made stand in one history.
-use Rattle.std.specs.Prelude.{◌≡◌, ℕ, ◌+◌, ◌<◌, ◌≤◌, false, eqb, cond, List, [], ◌∷◌, length}
+use Rattle.std.specs.Prelude.{◌≡◌, ℕ, ◌+◌, ◌<◌, ◌≤◌, false, List, [], ◌∷◌, length}
 use mathlib.Core.Option.{Option, none, some}
 use lib.ListN.{get_elem?}
 use Rattle.atomic_table.specs.Table.{State, Me, Step}
@@ -11,10 +11,6 @@ use Rattle.td_words.specs.declared.view.View.TheVariants.{Host, Seat, Spent}
 use Rattle.td_words.specs.History.{Entry, memory_after, IsHistory, steps_of}
 use Rattle.td_words.specs.Views.{seat_view, host_view, did}
 use Rattle.td_words.specs.Gathered.{Ended, Apart, Told}
-
--- the same map, but for one number
-abbrev pub placed : (ℕ → Option ℕ) → ℕ → Option ℕ → ℕ → Option ℕ
-placed place_of n x k = cond (eqb k n) x (place_of k)
 
 abbrev pub seat_count : View → ℕ
 seat_count (Host h) = 0

@@ -1,4 +1,4 @@
-use Rattle.std.proofs.Common.{◌≡◌, ◌<◌, ◌^◌, List, [], length, sym, ap, ◌∙◌, subst}
+use Rattle.std.proofs.Common.{◌≡◌, ◌<◌, ◌^◌, List, [], length, sym, ap, ◌∙◌, subst, arith}
 use Rattle.std.specs.List.{All}
 use Rattle.td_words.specs.Views.{host_view}
 use Rattle.td_posts.specs.declared.job.Step.{Step}
@@ -15,6 +15,7 @@ returns-clause-opened g c =
     record {
       mails = c.in_ok-mails.ensures ∙ ap (all_mails 1) c.as_slice.ensures;
       count = c.in_ok-shared.ensures.count ∙ ap length c.as_slice-2.ensures;
+      ring_room = omega (arith, c.in_ok-ring.ensures.capacity, c.max.ensures, c.len.ensures);
       seat = λ i. record { table = c.in_ok-shared.ensures.table i; view = view i };
       posts = c.in_ok-ring.ensures.posts;
       takes = c.in_ok-ring.ensures.takes;

@@ -48,7 +48,7 @@ returns-clause-ok c =
     record {
       named = c.in_ok-entry.ensures.ok;
       faultless = all_none args c.in_ok-bytes.ensures.ok.0 c.in_ok-workers.ensures.ok.0 guests c.in_ok-check_names.ensures.ok totals;
-      by = c.in_ok-copy.ensures;
+      by = c.in_ok-copy.ensures.ok;
       args = c.in_ok-values_of.ensures ∙ ap (λ b. given_values b (field_of key.Args job)) params;
       cells = c.in_ok-count_of.ensures.ok ∙ c.len-2.ensures ∙ ap length slots;
       filled = subst (λ n. IsFilled (given_buffer job) n c.in_ok-fill_words.field-0) (sym words) of_bytes;

@@ -30,6 +30,7 @@ returns-clause-armed g c =
     record {
       mails = e.opened.mails;
       inside = subst (λ (x : List Mail × ℕ). All (λ (m : Mail). m.base + words_in m.length ≤ x.1) x.0) (λ i. (sym e.opened.mails i, sym e.opened.count i)) served.messages_inside;
+      ring_room = e.opened.ring_room;
       says = λ p n. subst (λ (x : Parts × HostJob). Fits (most_frames x.0) x.1 p) (λ i. (sym e.code i, sym e.job i)) (c.requires.says p n);
       code = subst (λ (x : Parts × HostJob). IsJobCode x.0 x.1) (λ i. (sym e.code i, sym e.job i)) c.requires.code;
       unserved = refl;

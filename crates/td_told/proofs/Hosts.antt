@@ -1,0 +1,98 @@
+-- Words and stores of a host job are of 64 bits, and what its messages' outcomes tell.
+use Rattle.std.proofs.Common.{◌≡◌, ℕ, ◌<◌, ◌≤◌, ◌^◌, List, [], ◌∷◌, length, Option, Some, None, refl, sym, subst, arith}
+use Rattle.std.specs.List.{All}
+use Rattle.std.proofs.lemmas.List.Elements.{All-nil, All-cons, All-head, All-tail, All-append, All-from_get_or}
+use Rattle.serde_json.specs.Data.{Items, no_items, item}
+use Rattle.td_core.specs.declared.module.Module.{Module}
+use Rattle.td_core.specs.Formed.{Bound, AllFit}
+use Rattle.td_core.specs.Entries.{entry_definition}
+use Rattle.td_sched.specs.declared.store.PlannedStore.{PlannedStore}
+use Rattle.td_job.specs.declared.error.Key.TheVariants as key
+use Rattle.td_job.specs.declared.run_job.RunJob.{RunJob}
+use Rattle.td_job.specs.Values.{cells_bounds}
+use Rattle.td_job.specs.Jobs.{spelled_word}
+use Rattle.td_posts.specs.declared.job.HostJob.{HostJob}
+use Rattle.td_posts.specs.declared.job.Step.{Step}
+use Rattle.td_posts.specs.declared.job.Step.TheVariants.{Store, Post}
+use Rattle.td_posts.specs.Posts.{stores_of, zeros}
+use Rattle.td_host_job.specs.Steps.{SpelledStep, SpelledStore, SpelledPost, spelled_step, store_with, step_in, each_step}
+use Rattle.td_host_job.specs.Guests.{listed_in, listed_steps, given_script, each_script, listed_scripts}
+use Rattle.td_host_job.specs.HostJobs.{IsHost}
+use Rattle.td_host_job.specs.Laws.{HostJobsKeepLimits}
+use Rattle.td_told.specs.Laws.{IsSized, StoresSmall, IsHostSized, HostJobsAreSized, RunsAreTold, RepliesAreTold}
+use Rattle.td_told.proofs.Jobs.{word_small}
+use Rattle.td_told.proofs.Told.{index_small}
+
+-- ---- stores
+
+abbrev SmallStep : Step → Type 0
+SmallStep (Store word value) = value < 2 ^ 64
+SmallStep (Post base size) = Unit {0}
+
+abbrev SmallScript : List Step → Type 0
+SmallScript steps = All SmallStep steps
+
+step_small : (step : Option SpelledStep) → SmallScript (step_in step)
+step_small None = All-nil SmallStep
+step_small (Some (SpelledStore word text)) = by (spelled_word text) refl
+  where
+    by : (o : Option ℕ) → spelled_word text ≡ o → SmallScript (store_with word o)
+    by None e = All-nil SmallStep
+    by (Some v) e = All-cons SmallStep (Store word v) [] (word_small text v e) (All-nil SmallStep)
+step_small (Some (SpelledPost base size)) = All-cons SmallStep (Post base size) [] tt (All-nil SmallStep)
+
+steps_small : (values : Items) → SmallScript (each_step values)
+steps_small no_items = All-nil SmallStep
+steps_small (item value values) = All-append SmallStep (step_in (spelled_step value)) (each_step values) (step_small (spelled_step value)) (steps_small values)
+
+listed_small : (values : Option Items) → SmallScript (listed_steps values)
+listed_small None = All-nil SmallStep
+listed_small (Some values) = steps_small values
+
+stores_small : (steps : List Step) → SmallScript steps → StoresSmall steps
+unfolding stores_of
+stores_small [] h = All-nil (λ (s : ℕ × ℕ). s.1 < 2 ^ 64)
+stores_small (Store word value ∷ steps) h =
+    All-cons (λ (s : ℕ × ℕ). s.1 < 2 ^ 64) (word, value) (stores_of steps) (All-head SmallStep (Store word value) steps h) (stores_small steps (All-tail SmallStep (Store word value) steps h))
+stores_small (Post base size ∷ steps) h = stores_small steps (All-tail SmallStep (Post base size) steps h)
+
+scripts_small : (values : Items) → All StoresSmall (each_script values)
+scripts_small no_items = All-nil StoresSmall
+scripts_small (item value values) =
+    All-cons StoresSmall (given_script value) (each_script values) (stores_small (given_script value) (listed_small (listed_in key.Script value))) (scripts_small values)
+
+guests_small : (values : Option Items) → All StoresSmall (listed_scripts values)
+guests_small None = All-nil StoresSmall
+guests_small (Some values) = scripts_small values
+
+-- ---- jobs
+
+pub host_jobs_are_sized : HostJobsKeepLimits → HostJobsAreSized
+host_jobs_are_sized keep bytes m j h =
+    let host : IsHost m h.0 j = h.2 in
+    record {
+      kept = keep bytes m j h;
+      words = λ i. index_small j.words i (All-from_get_or (λ (word : ℕ). word < 2 ^ 64) j.words 0 host.filled.fits);
+      stores = subst (All StoresSmall) (sym host.scripted) (guests_small (listed_in key.Guests h.0));
+    }
+
+-- ---- outcomes
+
+zeros_fit : (bounds : List Bound) → AllFit bounds (zeros (length bounds))
+zeros_fit [] = tt
+zeros_fit (bound ∷ bounds) = (omega arith, zeros_fit bounds)
+
+-- a message of a host job is that of a run job to which nobody stores
+pub replies_are_told : RunsAreTold → RepliesAreTold
+replies_are_told runs m j message checked s bytes short =
+    let bounds = cells_bounds (entry_definition m j.entry.number) in
+    let cells : AllFit bounds (zeros j.cells) = subst (λ n. AllFit bounds (zeros n)) (sym s.kept.values.cells) (zeros_fit bounds) in
+    let run : RunJob = record { entry = j.entry; args = j.args; cells = zeros j.cells; words = []; length = length message; stores = [] } in
+    let sized : IsSized m run = record {
+      entry = s.kept.values.entry;
+      values = record { args = s.kept.values.args; cells = cells };
+      limit = short;
+      words = All-nil (λ (word : ℕ). word < 2 ^ 64);
+      stores = All-nil (λ (p : PlannedStore). p.value < 2 ^ 64);
+    } in
+    runs m run message checked sized bytes refl

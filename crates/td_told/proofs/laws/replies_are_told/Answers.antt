@@ -1,0 +1,5 @@
+use Rattle.td_told.proofs.Hosts.{replies_are_told}
+use Rattle.td_told.proofs.laws.replies_are_told.Goals as goal
+
+pub returns : goal.returns
+returns c = replies_are_told c.runs_are_told.ensures
