@@ -17,7 +17,8 @@ use Rattle.td_verify.specs.Ways.{Leads, IsIdle, IsClosed, MayBeEmpty}
 use Rattle.td_verify.specs.Brackets.{window_bytes}
 use Rattle.td_ir.specs.Tables.{begin}
 use Rattle.td_blocks.specs.Block.{Block, Done, Then, Stop, Leave, Guard, Scope, Window, Loop, size, guard, Stands}
-use Rattle.td_acceptance.specs.Nesting.{Level, Outside, InWindow, InLoop, IsLevel, IsPlain, IsOpen, Takes, Nests, IsCalm, opens_bytes, Busy}
+use Rattle.td_acceptance.specs.Nesting.{Level, Outside, InWindow, InLoop, IsPlain, IsOpen, Takes, Nests, IsCalm, opens_bytes, Busy}
+use Rattle.td_acceptance.proofs.Levels.{IsLevel}
 use Rattle.td_acceptance.proofs.Through.{through, shape_is, opened_after, opened_plain, opened_guard, opened_window, in_window_level, in_loop_level}
 use Rattle.td_acceptance.proofs.Fine.{split, single, not_idle}
 

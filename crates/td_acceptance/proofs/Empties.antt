@@ -13,7 +13,8 @@ use Rattle.td_verify.specs.Verify.{IsSound}
 use Rattle.td_ir.proofs.Begins.{begin_next}
 use Rattle.td_blocks.specs.Block.{Block, Done, Then, Stop, Leave, Guard, Scope, Window, Loop, size}
 use Rattle.td_acceptance.specs.Nesting.{Takes, BeginsBusy, Nests, Busy, Level, Outside, InWindow, InLoop}
-use Rattle.td_acceptance.specs.Laws.{IsBlocked, AreBlocks, NotBusy}
+use Rattle.td_acceptance.specs.Laws.{AreBlocks, NotBusy}
+use Rattle.td_acceptance.proofs.Blocked.{IsBlocked}
 use Rattle.td_acceptance.proofs.Through.{through}
 use Rattle.td_acceptance.proofs.Busy.{busy_routine}
 use Rattle.td_acceptance.proofs.Sound.{blocks_sound}

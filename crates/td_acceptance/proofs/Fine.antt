@@ -18,8 +18,9 @@ use Rattle.td_verify.specs.Ways.{IsIdle, IdleWay}
 use Rattle.td_verify.specs.Rules.{IsAgain, LeadsWell, MayBeLast, StandsWell, IsOutside, TurnsBusy}
 use Rattle.td_verify.specs.Brackets.{in_window, in_loop}
 use Rattle.td_blocks.specs.Block.{Block, Done, Then, Stop, Leave, Guard, Scope, Window, Loop, size, guard, Stands}
-use Rattle.td_acceptance.specs.Nesting.{Level, Outside, InWindow, InLoop, IsLevel, IsPlain, IsStop, IsOpen, Takes, BeginsBusy, Nests, Ends, IsFit, Fits}
-use Rattle.td_acceptance.specs.Laws.{IsFine, IsFollowed, IsExit}
+use Rattle.td_acceptance.specs.Nesting.{Level, Outside, InWindow, InLoop, IsPlain, IsStop, IsOpen, Takes, BeginsBusy, Nests, Ends, IsFit, Fits}
+use Rattle.td_acceptance.proofs.Levels.{IsLevel}
+use Rattle.td_acceptance.proofs.Blocked.{IsFine, IsFollowed, IsExit}
 use Rattle.td_acceptance.proofs.Through.{through, shape_is, opened_after, opened_plain, opened_stop, opened_guard, opened_window, outside_is, in_window_level, in_loop_level}
 
 -- places one after the other

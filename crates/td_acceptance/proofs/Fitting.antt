@@ -32,7 +32,7 @@ use Rattle.td_verify.specs.Operands.{AreBelow}
 use Rattle.td_blocks.specs.Lowered.{parts_in}
 use Rattle.td_blocks.specs.Tabled.{Mapped, FieldsSited, DefaultSited, CasesSited, BodySited}
 use Rattle.td_blocks.specs.Tops.{deed_cells, option_cells, parts_cells}
-use Rattle.td_acceptance.specs.Fit.{BitsFit, ElementFits, ArrayFits, FieldsFit, DefaultFits, CasesFit, BodyFits}
+use Rattle.td_acceptance.proofs.Fit.{BitsFit, ElementFits, ArrayFits, FieldsFit, DefaultFits, CasesFit, BodyFits}
 
 -- cells that are named are there
 taken : (cells : List Bound) (k : ℕ) (w : Scalar) → Takes (slice_get cells k) w → k < length cells

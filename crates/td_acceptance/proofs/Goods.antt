@@ -31,7 +31,7 @@ use Rattle.td_blocks.specs.Lowered.{expr_of, exprs_of, action_of, order_code, pa
 use Rattle.td_blocks.specs.Placed.{Reaches, IsExpr, DeedPlaced, OptionExpr, OptionDeed, PartsPlaced, ArgsPlaced, ElementPlaced, SizePlaced, ElementsPlaced, OnePlaced, IsNumber, ShapePlaced, FieldsPlaced, DefaultPlaced, CasesPlaced, BodyPlaced}
 use Rattle.td_blocks.specs.Tops.{deed_cells, option_cells, parts_cells}
 use Rattle.td_acceptance.specs.Good.{AllReach, Does, IsCallable, IsRead, GoodInner, Good, GoodCases, GoodBody}
-use Rattle.td_acceptance.specs.Fit.{BitsFit, ElementFits, ArrayFits, FieldsFit, DefaultFits, CasesFit, BodyFits}
+use Rattle.td_acceptance.proofs.Fit.{BitsFit, ElementFits, ArrayFits, FieldsFit, DefaultFits, CasesFit, BodyFits}
 
 reach_some : (R t : ℕ) (e : Expr) → Reaches R t e → t < R
 reach_some R t (Lit n) h = h

@@ -1,3 +1,6 @@
+mod Levels
+mod Blocked
+mod Fit
 mod Verifier
 mod Through
 mod Fine

@@ -26,7 +26,7 @@ use Rattle.td_blocks.specs.Tabled.{DefinitionSited, IsTabled}
 use Rattle.td_blocks.specs.Placed.{IsPlaced, HasPlaced, ArePlaced, params_of}
 use Rattle.td_acceptance.specs.Weights.{body_weight, body_least}
 use Rattle.td_acceptance.specs.Good.{GoodBody}
-use Rattle.td_acceptance.specs.Fit.{BodyFits}
+use Rattle.td_acceptance.proofs.Fit.{BodyFits}
 use Rattle.td_acceptance.specs.Laws.{IsLowered}
 use Rattle.td_acceptance.specs.Modules.{IsSupplied, IsAdmissible}
 use Rattle.td_acceptance.proofs.Goods.{good_definition}

@@ -12,7 +12,7 @@ use Rattle.td_core.specs.declared.module.Module.{Module}
 use Rattle.td_core.specs.Formed.{Bound, cell_bound, cell_bounds, param_bounds, parts_scope, AreFieldsFormed, AreCasesFormed, IsDefaultFormed, IsBodyFormed}
 use Rattle.td_core.specs.WellFormed.{Each, OfSome, EachField, IsFieldWhole}
 use Rattle.td_blocks.specs.Tops.{fields_cells, default_cells, cases_cells, body_cells, bits_end, parts_bits, fields_bits, default_bits, cases_bits, body_bits}
-use Rattle.td_acceptance.specs.Fit.{BitsFit}
+use Rattle.td_acceptance.proofs.Fit.{BitsFit}
 use Rattle.td_acceptance.specs.Modules.{IsAdmissible}
 use Rattle.td_acceptance.proofs.Fitting.{parts_within, parts_fit}
 use Rattle.td_acceptance.proofs.Modules.{each_at, mapped}

@@ -19,7 +19,7 @@ use Rattle.td_acceptance.proofs.Verifier.{weigh_up}
 use Rattle.td_acceptance.proofs.Verifier.{shape_there}
 use Rattle.td_blocks.specs.Block.{Block, size}
 use Rattle.td_acceptance.specs.Nesting.{Outside, CallsBelow}
-use Rattle.td_acceptance.specs.Laws.{IsFine, IsBlocked}
+use Rattle.td_acceptance.proofs.Blocked.{IsFine, IsBlocked}
 use Rattle.td_acceptance.proofs.Through.{through}
 use Rattle.td_acceptance.proofs.Fine.{fine}
 use Rattle.td_acceptance.proofs.Weighing.{weighs, w_at, deepest_less, pushed_depth}

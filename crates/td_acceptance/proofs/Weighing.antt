@@ -15,7 +15,8 @@ use Rattle.td_verify.specs.Rules.{own_weight, counts_twice, cost, weigh, deepest
 use Rattle.td_verify.specs.Brackets.{in_loop}
 use Rattle.td_acceptance.proofs.Verifier.{weigh_next}
 use Rattle.td_blocks.specs.Block.{Block, Done, Then, Stop, Leave, Guard, Scope, Window, Loop, size, guard, Stands}
-use Rattle.td_acceptance.specs.Nesting.{Level, Outside, InWindow, InLoop, IsLevel, IsPlain, IsStop, Nests, twice, weight, is_looping, CallsBelow}
+use Rattle.td_acceptance.specs.Nesting.{Level, Outside, InWindow, InLoop, IsPlain, IsStop, Nests, twice, weight, CallsBelow}
+use Rattle.td_acceptance.proofs.Levels.{IsLevel, is_looping}
 use Rattle.td_acceptance.proofs.Through.{through, shape_is, opened_after, opened_plain, opened_guard, opened_window, in_window_level, in_loop_level}
 
 loop_is : (l : Level) (bs : List Bracket) → IsLevel l bs → in_loop (Some bs) ≡ is_looping l

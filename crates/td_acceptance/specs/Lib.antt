@@ -2,5 +2,4 @@ pub mod Nesting
 pub mod Weights
 pub mod Good
 pub mod Laws
-pub mod Fit
 pub mod Modules

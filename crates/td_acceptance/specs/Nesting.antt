@@ -1,14 +1,12 @@
 -- Blocks as the rules of the verifier want them (own rule): how they nest, how they end, which instructions stand in them,
 -- what they weigh, and which of them take a byte.
-use Rattle.std.specs.Prelude.{◌≡◌, ℕ, ◌+◌, ◌*◌, ◌<◌, ◌≤◌, ◌⊎◌, List, [], ◌∷◌, Bool, true, false, cond, length}
+use Rattle.std.specs.Prelude.{◌≡◌, ℕ, ◌+◌, ◌*◌, ◌<◌, ◌≤◌, ◌⊎◌, List, Bool, true, false, cond, length}
 use Rattle.td_ir.specs.declared.tables.Parts.{Parts}
 use Rattle.td_ir.specs.declared.instructions.Instr.{Instr}
 use Rattle.td_verify.specs.declared.shape.Shape.{Shape}
 use Rattle.td_verify.specs.declared.shape.Shape.TheVariants as s
 use Rattle.td_verify.specs.Shape.{shape}
 use Rattle.td_ir.specs.Tables.{routine_of}
-use Rattle.td_verify.specs.declared.bracket.Bracket.{Bracket}
-use Rattle.td_verify.specs.declared.bracket.Bracket.TheVariants.{Window as Opened, Loop as Looping}
 use Rattle.td_verify.specs.Rules.{own_weight}
 use Rattle.td_verify.specs.Operands.{HasRegisters, HasTables, HasOperands, callee_params}
 use Rattle.td_blocks.specs.Block.{Block, Done, Then, Stop, Leave, Guard, Scope, Window, Loop}
@@ -19,20 +17,6 @@ pub data Level : Type 0 where
   Outside : Level
   InWindow : Level
   InLoop : Level
-
-abbrev pub IsLevel : Level → List Bracket → Type 0
-IsLevel Outside [] = Unit {0}
-IsLevel Outside (b ∷ bs) = ⊥
-IsLevel InWindow [] = ⊥
-IsLevel InWindow (Opened o k ∷ []) = Unit {0}
-IsLevel InWindow (Opened o k ∷ b ∷ bs) = ⊥
-IsLevel InWindow (Looping l ∷ bs) = ⊥
-IsLevel InLoop [] = ⊥
-IsLevel InLoop (Opened o k ∷ bs) = ⊥
-IsLevel InLoop (Looping l ∷ []) = ⊥
-IsLevel InLoop (Looping l ∷ Opened o k ∷ []) = Unit {0}
-IsLevel InLoop (Looping l ∷ Opened o k ∷ b ∷ bs) = ⊥
-IsLevel InLoop (Looping l ∷ Looping o ∷ bs) = ⊥
 
 -- it goes on to the next instruction, and opens and closes nothing
 abbrev pub IsPlain : Shape → Type 0
@@ -162,11 +146,6 @@ weight ws looping (Guard g r one rest) = twice looping 1 + (weight ws looping on
 weight ws looping (Scope body rest) = weight ws looping body + weight ws looping rest
 weight ws looping (Window j site body rest) = twice looping 1 + (weight ws looping body + (twice looping 1 + weight ws looping rest))
 weight ws looping (Loop body rest) = 3 + (weight ws true body + (3 + weight ws looping rest))
-
-abbrev pub is_looping : Level → Bool
-is_looping Outside = false
-is_looping InWindow = false
-is_looping InLoop = true
 
 -- Blocks that take a byte
 

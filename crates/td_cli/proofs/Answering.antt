@@ -24,6 +24,8 @@ use Rattle.td_host_job.specs.Laws.{NeverBothHost}
 use Rattle.td_input.specs.Inputs.{IsInputOf, RefusesInput}
 use Rattle.td_job.specs.Laws.{OneJobEach, NeverBoth as NeverBothJobs, OneNamedJobEach, NeverBothNamed}
 use Rattle.td_gen.specs.Laws.{OneMessageEach}
+use Rattle.td_coding.specs.Coding.{IsListing, IsPacked}
+use Rattle.td_coding.specs.Laws.{OneListing, OnePacked}
 use Rattle.td_report.specs.Report.{report}
 use Rattle.td_report.specs.Summary.{summary}
 use Rattle.td_command.specs.declared.command.Command.{Command}
@@ -80,21 +82,30 @@ one_list split text a b h g = same (tokens_of text) ((split text a).1 h) ((split
 tree_of_text : TokensAreOne → OneTree → (text : List ℕ) (a b : ModuleTree) → SpellsTree text a → SpellsTree text b → a ≡ b
 tree_of_text split one text a b h g =
     let S : List Token → Type 0 = λ t. module_text.Spells a t in
-    one g.tokens a b (subst S (one_list split text h.tokens g.tokens h.split g.split) h.spelled) g.spelled g.within
+    one g.tokens a b (subst S (one_list split text h.tokens g.tokens h.split g.split) h.spelled) g.spelled
 
 one_tidy : TokensAreOne → OneTree → (input a b : List ℕ) → IsTidy input a → IsTidy input b → a ≡ b
 one_tidy split one input a b h g = h.2 ∙ ap canonical_text (tree_of_text split one input h.1.tree g.1.tree h.1.spells g.1.spells) ∙ sym g.2
 
+-- ---- code
+
+-- where a module has one, an input has one
+of_module : (Is : Module → List ℕ → Type 0) → OneModuleEach → ((m : Module) (a b : List ℕ) → Is m a → Is m b → a ≡ b) → (input a b : List ℕ)
+    → ((m : Module) × IsModuleText input m × Is m a) → ((m : Module) × IsModuleText input m × Is m b) → a ≡ b
+of_module Is modules one input a b h g =
+    let P : Module → Type 0 = λ x. Is x a in
+    one g.0 a b (subst P (modules input h.0 g.0 h.1 g.1) h.2) g.2
+
 -- ---- each command
 
-pub one_answer : TokensAreOne → OneTree → OneModuleEach → OneJobEach → OneMessageEach → OneNamedJobEach → RunsAreOne → SomeCarry → OneAnswer
-one_answer split tree modules jobs messages named one some Check input a b alone h g = one_summary modules input a b h.1 g.1
-one_answer split tree modules jobs messages named one some Tidy input a b alone h g = one_tidy split tree input a b h.1 g.1
-one_answer split tree modules jobs messages named one some Run input a b alone h g = one_report modules jobs one some input a b h.1 g.1
-one_answer split tree modules jobs messages named one some Host input a b alone h g = absurd alone
-one_answer split tree modules jobs messages named one some Code input a b alone h g = absurd alone
-one_answer split tree modules jobs messages named one some Pack input a b alone h g = absurd alone
-one_answer split tree modules jobs messages named one some (Bench n) input a b alone h g = one_bench modules messages named one some n a b h g
+pub one_answer : TokensAreOne → OneTree → OneModuleEach → OneJobEach → OneMessageEach → OneNamedJobEach → RunsAreOne → SomeCarry → OneListing → OnePacked → OneAnswer
+one_answer split tree modules jobs messages named one some listings images Check input a b alone h g = one_summary modules input a b h.1 g.1
+one_answer split tree modules jobs messages named one some listings images Tidy input a b alone h g = one_tidy split tree input a b h.1 g.1
+one_answer split tree modules jobs messages named one some listings images Run input a b alone h g = one_report modules jobs one some input a b h.1 g.1
+one_answer split tree modules jobs messages named one some listings images Host input a b alone h g = absurd alone
+one_answer split tree modules jobs messages named one some listings images Code input a b alone h g = of_module IsListing modules listings input a b h.1 g.1
+one_answer split tree modules jobs messages named one some listings images Pack input a b alone h g = of_module IsPacked modules images input a b h.1 g.1
+one_answer split tree modules jobs messages named one some listings images (Bench n) input a b alone h g = one_bench modules messages named one some n a b h g
 
 -- ---- never both
 

@@ -8,15 +8,12 @@ use Rattle.td_core.specs.Entries.{entry_definition}
 use Rattle.td_core.specs.Formed.{AllFit, params_at, cells_at}
 use Rattle.td_stream.specs.declared.load.Load.{Load}
 use Rattle.td_sched.specs.declared.store.PlannedStore.{PlannedStore}
-use Rattle.td_front.specs.Checked.{IsChecked}
 use Rattle.td_job.specs.declared.run_job.RunJob.{RunJob}
 use Rattle.td_job.specs.Jobs.{HasValues}
 use Rattle.td_job.specs.Values.{args_bounds, cells_bounds}
 use Rattle.td_input.specs.Inputs.{IsSoundJob}
 use Rattle.td_ir.specs.declared.tables.Parts.{Parts}
 use Rattle.td_ir.specs.Entries.{Fits}
-use Rattle.td_placed.specs.Ready.{IsReady}
-use Rattle.td_lower.specs.Code.{IsLowerable}
 use Rattle.td_lowered.specs.CodeRun.{IsCodeOf, ArgumentsFit}
 use Rattle.td_job_run.specs.Runs.{Input, IsRunBy}
 use Rattle.td_core.specs.declared.outcome.Verdict.{Verdict}
@@ -29,19 +26,6 @@ use Rattle.td_gen.specs.Message.{format_of, IsMessage}
 use Rattle.td_cli.specs.Benching.{HasRun}
 use Rattle.td_cli.proofs.Benches.{message_run}
 use Rattle.td_cli.specs.Run.{IsRunOf}
-
--- what lowering asks of a module holds of a checked one
-pub lowerable : (m : Module) → IsChecked m → IsLowerable m
-lowerable m h = record {
-  ready = record { formed = h.formed; sorted = h.sorted; fields = h.fields; steps = h.steps; kinds = h.kinds };
-  whole = h.whole;
-  named = h.named;
-  words = h.words;
-  within = h.within;
-  nodes = h.nodes;
-  depth = h.depth;
-  weight = h.weight;
-}
 
 same_args : (o : Option TypeDef) → args_bounds o ≡ params_at o
 same_args None = refl

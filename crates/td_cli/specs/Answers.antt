@@ -54,11 +54,11 @@ IsTidy input text = (m : Module) × (stands : IsModuleText input m) × (text ≡
 
 -- ---- code and pack
 
--- the text is the listing of code that does what the module means for which the input stands
+-- the text is the listing of the code of the module for which the input stands
 abbrev pub IsListingOf : List ℕ → List ℕ → Type 0
 IsListingOf input text = (m : Module) × IsModuleText input m × IsListing m text
 
--- the bytes are the image of such code, and are read as it again
+-- the bytes are that code's image, and are read as it again
 abbrev pub IsImageOf : List ℕ → List ℕ → Type 0
 IsImageOf input bytes = (m : Module) × IsModuleText input m × IsPacked m bytes
 

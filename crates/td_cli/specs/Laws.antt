@@ -1,7 +1,7 @@
 -- What holds of answers and refusals.
 use Rattle.std.specs.Prelude.{◌≡◌, ◌⊎◌, ℕ, List}
 use Rattle.td_command.specs.declared.command.Command.{Command}
-use Rattle.td_command.specs.declared.command.Command.TheVariants.{Host, Code, Pack}
+use Rattle.td_command.specs.declared.command.Command.TheVariants.{Host}
 use Rattle.td_input.specs.declared.refusal.Refusal.{Refusal}
 use Rattle.td_cli.specs.Answers.{Answers, Admits, Refuses, IsReport}
 
@@ -10,12 +10,9 @@ abbrev pub IsAlone : Command → Type 0
 IsAlone Host = ⊥
 IsAlone command = Unit {0}
 
--- the command has one answer to an input: each but `host`, and `code` and `pack`, which answer by one code of those that do what
--- the module means
+-- the command has one answer to an input: each but `host`, whose report tells a schedule
 abbrev pub HasOneAnswer : Command → Type 0
 HasOneAnswer Host = ⊥
-HasOneAnswer Code = ⊥
-HasOneAnswer Pack = ⊥
 HasOneAnswer command = Unit {0}
 
 -- such a command answers an input with at most one output; so the report of a run is one function of its input

@@ -18,6 +18,7 @@ use crate::status::Status;
 use crate::totals::Totals;
 use std::alloc::Global;
 use td_arith::laws::evaluated_is_sound;
+use td_coding::code_of;
 use td_command::command::MOST_MESSAGES;
 use td_core::module::Module;
 use td_core::outcome::Verdict;
@@ -29,7 +30,6 @@ use td_input::refusal::{InputError, of_job, of_module};
 use td_io::Sink;
 use td_job::laws as jobs;
 use td_job_run::planned::{Ran, run_in_frame};
-use td_lower::lower::lower;
 use td_lowered::laws::arguments_fit;
 use td_verify::verify::Verified;
 use td_vm::validate::Frame;
@@ -71,7 +71,7 @@ fn prepare(alloc: Global, format: Format) -> Result<Box<Prepared>, InputError>
     ensures cause { IfErr result (HasCause (RefusesText format)) }
 {
     let checked = checked_module(alloc, format)?;
-    let Ok(code) = lower(alloc, &checked) else {
+    let Ok(code) = code_of(alloc, &checked) else {
         return Err(InputError::NoMemory);
     };
     let Ok(frame) = Frame::arm(alloc, &code) else {

@@ -2,6 +2,7 @@
 
 ghost use Rattle.td_cli.specs.Laws.{AlwaysOne, AnsweredIsAdmitted, NeverBoth, OneAnswer, ReportsDetermineRuns};
 
+use td_coding::laws::code_is_one;
 use td_front::laws as front;
 use td_gen::laws::{one_message_each, some_message_each};
 use td_grammar::laws::one_tree;
@@ -13,7 +14,7 @@ use td_runs::laws::runs_are_one;
 use td_stream::laws::some_message_carries;
 use td_told::laws::{jobs_are_sized, loads_are_told, modules_have_words, runs_are_told};
 
-/// A command but `host`, `code` and `pack` answers an input with at most one output: so the report of a run is one function of its input.
+/// A command but `host` answers an input with at most one output: so the report of a run is one function of its input.
 pub fn one_answer()
     ensures { OneAnswer }
 {
@@ -25,6 +26,7 @@ pub fn one_answer()
     one_message_each();
     runs_are_one();
     some_message_carries();
+    code_is_one();
 }
 
 /// What a command answers it admits, and what it admits it doesn't refuse.

@@ -1,6 +1,6 @@
 //! The whole tool over a source and two sinks: words, reading, module, job, validation, report. The layer above rests
 //! on one promise: what `run_tool` writes is what the command answers the input: for `check` whether its text is a module,
-//! for `tidy` the canonical text of that module's tree, for `code` and `pack` the listing and the image of code that does what the module means, for `run` the report of the meaning on every list that carries the loads made.
+//! for `tidy` the canonical text of that module's tree, for `code` and `pack` the listing and the image of its code, which does what the module means, for `run` the report of the meaning on every list that carries the loads made.
 #![tactic(auto)]
 
 mod bench;

@@ -20,6 +20,7 @@ use crate::finish::finish_run;
 use crate::status::Status;
 use crate::tool::INPUT_LIMIT;
 use std::alloc::{AllocError, Global};
+use td_coding::code_of;
 use td_core::module::Module;
 use td_core::outcome::Outcome;
 use td_front::laws as front;
@@ -28,7 +29,6 @@ use td_input::run::{RunInput, parse_run_input};
 use td_io::Sink;
 use td_job::run_job::RunJob;
 use td_job_run::planned::{Run, run_planned};
-use td_lower::lower::lower;
 use td_lowered::laws::arguments_fit;
 use td_stream::loads::Loads;
 use td_told::laws::jobs_are_sized;
@@ -53,7 +53,7 @@ fn run_job(alloc: Global, m: &Module, job: &RunJob) -> Result<Run, AllocError>
     ensures { IfOk result (λ run. IsRunOf m.now job.now run.outcome run.loads.list) }
 {
     arguments_fit();
-    let code = lower(alloc, m)?;
+    let code = code_of(alloc, m)?;
     let args = job.args.as_slice();
     let cells = job.cells.as_slice();
     let words = job.words.as_slice();

@@ -6,7 +6,6 @@ use Rattle.td_front.specs.ModuleText.{IsModuleText}
 use Rattle.td_ir.specs.declared.tables.Parts.{Parts}
 use Rattle.td_ir.specs.WellFormed.{IsCode}
 use Rattle.td_verify.specs.Verify.{IsSound}
-use Rattle.td_lower.specs.Code.{IsWritten}
 use Rattle.td_image.specs.declared.error.ImageError.{ImageError}
 use Rattle.td_image.specs.declared.error.ImageError.TheVariants as errors
 use Rattle.td_image.specs.Answer.{IsImage, IsAnswerFor}
@@ -27,10 +26,10 @@ read_as c (Err (errors.Rest at)) sound h = h
 read_as c (Err (errors.Refused breach)) sound h = h.breaks.here (sound h.routine breach.at h.is_in breach.rule)
 
 module _ (has : WithinHasImage) (within : CodeIsWithin) (c : Parts) (m : Module) (bytes : List ℕ)
-    (checked : IsChecked m) (of : IsCodeFor c m) (written : IsWritten c m) (code : IsCode c) (are : bytes ≡ image.bytes c) where
+    (checked : IsChecked m) (of : IsCodeFor c m) (code : IsCode c) (are : bytes ≡ image.bytes c) where
   packed : IsSmall m → IsPacked m bytes
   packed small =
-      let own : IsImage c bytes = (has c code (within c m checked small written code of.sound), are) in
+      let own : IsImage c bytes = (has c code (within c m checked small of.written code of.sound), are) in
       record { code = c; of = of; image_is = own; read_again = λ answer only. read_as c answer of.sound (only c own) }
 
   pub spelled : IsSpelled m bytes

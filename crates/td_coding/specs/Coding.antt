@@ -11,6 +11,7 @@ use Rattle.td_ir.specs.Listing.{listing}
 use Rattle.td_ir.specs.Run.{run}
 use Rattle.td_lowered.specs.CodeRun.{IsMeaning}
 use Rattle.td_verify.specs.Verify.{IsSound}
+use Rattle.td_lower.specs.Code.{IsWritten}
 use Rattle.td_image.specs.declared.error.ImageError.{ImageError}
 use Rattle.td_image.specs.declared.error.ImageError.TheVariants.{NoMemory}
 use Rattle.td_image.specs.Answer.{IsImage, IsAnswerFor}
@@ -27,8 +28,9 @@ DoesWhatItMeans c m =
     AreBytes message → length message < 2 ^ 32 →
     IsMeaning (run c entry args cells message) (meaning m entry args cells message)
 
--- code that the verifier accepts, which does so
+-- the code that is written of the module, down to its names; the verifier accepts it, and it does so
 pub record IsCodeFor (c : Parts) (m : Module) : Type 0 where
+  pub written : IsWritten c m
   pub sound : IsSound c
   pub means : DoesWhatItMeans c m
 

@@ -3,5 +3,6 @@
 #![tactic(auto)]
 
 mod coding;
+pub mod laws;
 
 pub use coding::{code_listing, code_of, packed_image};

@@ -19,9 +19,9 @@ use Rattle.clap.specs.declared.parser.matches.ArgMatches.TheViews.{out-ArgMatche
 use Rattle.td_command.specs.declared.command.Command.{Command as ToolCommand}
 use Rattle.td_command.specs.declared.command.Command.TheVariants.{Check, Tidy, Run, Host, Code, Pack, Bench}
 use Rattle.td_command.specs.declared.command.TheConstants.{MOST_MESSAGES}
-use Rattle.td_command.specs.Command.{Found, Is, IsFound, Fits, IsNamed, bench}
+use Rattle.td_command.specs.Command.{Found, Is, Fits, IsNamed, bench}
 use Rattle.td_command.proofs.OneCommand.{same_some, one_decimal}
-use Rattle.td_command.proofs.Words.{name_entered}
+use Rattle.td_command.proofs.Words.{IsFound, name_entered}
 
 -- no command was entered
 pub not_entered : {Z : Type 0} (o : Option (Box SubCommand Z)) → (let none : Option (List ℕ) = None in none ≡ option_map (λ b. (out-SubCommand (box_value b)).name.now) o) → subcommand_rows o ≡ None

@@ -9,7 +9,12 @@ use Rattle.std.specs.Box.{box_value}
 use Rattle.clap.specs.declared.error.kind.ErrorKind.TheVariants as kinds
 use Rattle.clap.proofs.OnLiterals.{clap_on_literals}
 use Rattle.td_command.specs.declared.command.Command.{Command}
-use Rattle.td_command.specs.Command.{tool, bench, Found, Is, Means, MeansNone, IsFound}
+use Rattle.td_command.specs.Command.{tool, bench, Found, Is, Means, MeansNone}
+
+-- the command that so many words mean in which `clap` found this, where they mean one
+abbrev pub IsFound : ℕ → Found → Option Command → Type 0
+IsFound count found None = (command : Command) → ¬ Is count found command
+IsFound count found (Some command) = Is count found command
 
 -- the command line is one of those of which `clap` says all
 pub is_simple_tool : is_simple tool ≡ true

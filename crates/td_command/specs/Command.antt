@@ -36,11 +36,6 @@ HasNumber count found command = Unit {0}
 abbrev pub Is : ℕ → Found → Command → Type 0
 Is count found command = (option_map (λ f. f.0) found ≡ Some (name_of command)) × HasNumber count found command
 
--- the command that they mean, where they mean one
-abbrev pub IsFound : ℕ → Found → Option Command → Type 0
-IsFound count found None = (command : Command) → ¬ Is count found command
-IsFound count found (Some command) = Is count found command
-
 -- the command of this name with this number, where there is one
 abbrev pub Fits : Option (List ℕ) → Option ℕ → Command → Type 0
 Fits name number (Bench n) = (name ≡ Some (codes "bench")) × (number ≡ Some n)

@@ -9,8 +9,7 @@ use Rattle.td_ir.specs.State.{Exit}
 use Rattle.td_leaves.specs.Outcomes.{IsBehaviorOf}
 use Rattle.td_vm.specs.Outcomes.{IsRun}
 use Rattle.td_vm.specs.Outcomes as run
-use Rattle.td_lowered.specs.BlockRun.{way_of}
-use Rattle.td_lowered.specs.CodeRun.{IsMeaning}
+use Rattle.td_lowered.specs.CodeRun.{way_of, IsMeaning}
 
 same_outcome : (e : Ending) → run.outcome_of (way_of e) ≡ Some (outcome_of e)
 same_outcome (Accepted position cells) = refl

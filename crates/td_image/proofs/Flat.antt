@@ -84,7 +84,7 @@ entry_flat x =
     let r = x.routine in
     rw (params_same 0 ((format.routine_of [] r).params) x.params, cells_same 0 ((format.routine_of [] r).cells) x.cells) refl
 
-pub fields_flat : (f : Fields) → rows.fields f ≡ to_le_bytes w8 f.number ++ (to_le_bytes w8 f.x ++ (to_le_bytes w16 f.a ++ (to_le_bytes w16 f.b ++ (to_le_bytes w16 f.c
+pub fields_flat : (f : Fields) → format.fields.bytes f ≡ to_le_bytes w8 f.number ++ (to_le_bytes w8 f.x ++ (to_le_bytes w16 f.a ++ (to_le_bytes w16 f.b ++ (to_le_bytes w16 f.c
     ++ (to_le_bytes w32 f.t ++ (to_le_bytes w32 f.site ++ to_le_bytes w64 f.k))))))
 unfolding format.fields
 fields_flat f = refl

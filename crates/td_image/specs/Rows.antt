@@ -9,7 +9,6 @@ use Rattle.td_ir.specs.declared.tables.Routine.{Routine}
 use Rattle.td_core.specs.declared.module.Param.{Param}
 use Rattle.td_core.specs.declared.module.Cell.{Cell}
 use Rattle.td_ir.specs.declared.tables.EntryPoint.{EntryPoint}
-use Rattle.td_image.specs.declared.operands.Fields.{Fields}
 use Rattle.td_image.specs.Format as f
 use Rattle.td_image.specs.Image as format
 
@@ -42,9 +41,6 @@ cell = (format.cell 0).bytes
 
 abbrev pub entry : EntryPoint → List ℕ
 entry = (format.entry 0 []).bytes
-
-abbrev pub fields : Fields → List ℕ
-fields = format.fields.bytes
 
 abbrev pub instruction : Instr → List ℕ
 instruction = format.instruction.bytes

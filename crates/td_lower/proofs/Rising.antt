@@ -9,7 +9,12 @@ use Rattle.std.proofs.lemmas.List.Sorted.{sum_by-IsPermutation}
 use Rattle.std.proofs.lemmas.List.Sums.{sum_by-cons}
 use Rattle.td_ir.specs.WellFormed.{Rises}
 use Rattle.td_ir.specs.Values.{is_among}
-use Rattle.td_lower.specs.Sets.{IsSetOf, AreSetsOf, AreSetsTo, once}
+use Rattle.td_lower.specs.Sets.{IsSetOf, AreSetsOf, once}
+
+-- the sets of the first n enums
+pub record AreSetsTo (all sets : List (List ℕ)) (n : ℕ) : Type 0 where
+  pub count : length sets ≡ n
+  pub each : (k : ℕ) → k < n → IsSetOf (slice_index_or all k []) (slice_index_or sets k [])
 
 -- each is at most the next
 abbrev pub Climbs : List ℕ → Type 0

@@ -1,5 +1,5 @@
 -- Sets of the values of enums.
-use Rattle.std.specs.Prelude.{◌≡◌, ℕ, ◌<◌, List, [], ◌∷◌, cond, nat_eq, length, slice_index_or}
+use Rattle.std.specs.Prelude.{◌≡◌, ℕ, List, [], ◌∷◌, cond, nat_eq, length, slice_index_or}
 use Rattle.td_ir.specs.WellFormed.{Rises}
 use Rattle.td_ir.specs.Values.{is_among}
 
@@ -8,11 +8,7 @@ pub record IsSetOf (values set : List ℕ) : Type 0 where
   pub rises : Rises set
   pub same : (n : ℕ) → is_among set n ≡ is_among values n
 
--- of the first n enums
-pub record AreSetsTo (all sets : List (List ℕ)) (n : ℕ) : Type 0 where
-  pub count : length sets ≡ n
-  pub each : (k : ℕ) → k < n → IsSetOf (slice_index_or all k []) (slice_index_or sets k [])
-
+-- the sets of the enums, one each
 pub record AreSetsOf (all sets : List (List ℕ)) : Type 0 where
   pub count : length sets ≡ length all
   pub each : (k : ℕ) → IsSetOf (slice_index_or all k []) (slice_index_or sets k [])

@@ -20,7 +20,7 @@ use Rattle.td_blocks.specs.Constructs.{Expr, value, acts}
 use Rattle.td_blocks.specs.Placed.{IsExpr, DeedPlaced}
 use Rattle.td_ir.specs.declared.tables.Parts.{Parts}
 use Rattle.td_ir.specs.State.{State, reg}
-use Rattle.td_lowered.specs.BlockRun.{Passage, failed, Calling, ran}
+use Rattle.td_lowered.proofs.BlockRun.{Passage, failed, Calling, ran}
 use Rattle.td_blocks.specs.Lowered.{expr_of, action_of, computed_of, compared_of}
 use Rattle.td_lowered.proofs.Puts.{Low, Puts, puts}
 use Rattle.td_lowered.proofs.Valued.{value_is, or_left, or_right, nonzero, number_of_sound}

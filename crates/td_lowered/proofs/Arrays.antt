@@ -33,7 +33,7 @@ use Rattle.td_blocks.specs.Constructs.{Steps, steps, value, values, inner, Inner
 use Rattle.td_blocks.specs.Placed.{IsExpr, ArgsPlaced, ElementsPlaced, OnePlaced, SizePlaced, ShapePlaced}
 use Rattle.td_ir.specs.declared.tables.Parts.{Parts}
 use Rattle.td_ir.specs.State.{State, Turned, registers_from}
-use Rattle.td_lowered.specs.BlockRun.{Passage, touching, plainly, onwards, if_so, turns, again, back, failed, Calling, ran, passage_of, onto}
+use Rattle.td_lowered.proofs.BlockRun.{Passage, touching, plainly, onwards, if_so, turns, again, back, failed, Calling, ran, passage_of, onto}
 use Rattle.td_ir.specs.Values.{bit, operated}
 use Rattle.td_ir.specs.Flow.{where_so, zeros_flow, zeroterm_flow}
 use Rattle.td_ir.specs.Values as in_set

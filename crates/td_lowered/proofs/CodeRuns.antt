@@ -21,7 +21,7 @@ use Rattle.td_blocks.specs.Lowered.{definition_block, block_of, first_site}
 use Rattle.td_blocks.specs.Placed.{OptionExpr, BodyPlaced, HasPlaced, ArePlaced, params_of, count_of}
 use Rattle.td_blocks.specs.Tabled.{IsTabled, DefinitionSited}
 use Rattle.td_blocks.specs.Laid.{IsLaid}
-use Rattle.td_lowered.specs.BlockRun.{Passage, passage, Calling, ran, nowhere, passage_of}
+use Rattle.td_lowered.proofs.BlockRun.{Passage, passage, Calling, ran, nowhere, passage_of}
 use Rattle.td_lowered.specs.CodeRun.{CodeMeans}
 use Rattle.td_lowered.proofs.Definitions.{guard_runs}
 use Rattle.td_lowered.proofs.Laid.{stands_run}

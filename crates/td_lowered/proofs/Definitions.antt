@@ -19,7 +19,7 @@ use Rattle.td_blocks.specs.Block.{Block, Stop, Guard}
 use Rattle.td_blocks.specs.Constructs.{steps, cases, body}
 use Rattle.td_ir.specs.declared.tables.Parts.{Parts}
 use Rattle.td_ir.specs.State.{State, registers_from}
-use Rattle.td_lowered.specs.BlockRun.{Passage, failed, Calling, ran, passage_of}
+use Rattle.td_lowered.proofs.BlockRun.{Passage, failed, Calling, ran, passage_of}
 use Rattle.td_ir.specs.Values.{operated, bit}
 use Rattle.td_blocks.specs.Lowered.{fields_steps, cases_of, last_case, body_of, guarded_body, parts_in}
 use Rattle.td_blocks.specs.Placed.{OptionExpr, CasesPlaced, DefaultPlaced, BodyPlaced, FieldsPlaced}

@@ -19,7 +19,7 @@ use Rattle.td_blocks.specs.Constructs.{steps}
 use Rattle.td_blocks.specs.Placed.{PartsPlaced, FieldsPlaced}
 use Rattle.td_ir.specs.declared.tables.Parts.{Parts}
 use Rattle.td_ir.specs.State.{State, registers_from}
-use Rattle.td_lowered.specs.BlockRun.{Passage, touching, Calling, ran, passage_of, onto}
+use Rattle.td_lowered.proofs.BlockRun.{Passage, touching, Calling, ran, passage_of, onto}
 use Rattle.td_blocks.specs.Lowered.{part_slot, number_slot, is_read, parts_steps, fields_steps}
 use Rattle.td_blocks.specs.Tabled.{FieldsSited}
 use Rattle.td_ir.specs.Values as in_set

@@ -10,7 +10,7 @@ use Rattle.td_ir.specs.State.{State, reg, left, Way, Returned, Turned, Failed, S
 use Rattle.td_ir.specs.Flow.{Goes, Fails, Effect, effect, where_so, zeros_flow, zeroterm_flow}
 use Rattle.td_ir.specs.Run as run
 use Rattle.td_blocks.specs.Block.{Block, Done, Then, Stop, Leave, Guard, Scope, Window, Loop, size, guard, Stands}
-use Rattle.td_lowered.specs.BlockRun.{Passage, passage, plainly, touching, onwards, back, backward, turned, again, turns, Calling, nowhere, passes, guarded, ran}
+use Rattle.td_lowered.proofs.BlockRun.{Passage, passage, plainly, touching, onwards, back, backward, turned, again, turns, Calling, nowhere, passes, guarded, ran}
 use Rattle.td_lowered.proofs.Unfolding.{jump, jump_to, opened}
 
 -- it leads to the next instruction alone

@@ -1,3 +1,4 @@
+pub mod BlockRun
 pub mod Puts
 pub mod Ontos
 pub mod Valued

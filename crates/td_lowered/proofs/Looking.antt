@@ -10,7 +10,7 @@ use Rattle.td_ir.specs.declared.tables.Parts.{Parts}
 use Rattle.td_ir.specs.State.{State, reg, left}
 use Rattle.td_ir.specs.Values as values
 use Rattle.td_ir.specs.Flow.{zeros_flow, zeroterm_flow}
-use Rattle.td_lowered.specs.BlockRun.{Passage, touching, onwards, Calling, passes}
+use Rattle.td_lowered.proofs.BlockRun.{Passage, touching, onwards, Calling, passes}
 use Rattle.td_lowered.proofs.Valued.{nonzero}
 
 numbers_same : (w : Width) (message : List ℕ) (n p : ℕ) → values.numbers_from message p (bytes_in w) n ≡ numbers_at (record { width = w; order = LittleEndian }) message p n

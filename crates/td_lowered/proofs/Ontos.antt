@@ -5,7 +5,8 @@ use Rattle.td_core.specs.Outcome.{Behavior, Ending, Accepted, Rejected, FramePla
 use Rattle.td_meaning.specs.Throughout.{OnEnding}
 use Rattle.td_ir.specs.declared.tables.Parts.{Parts}
 use Rattle.td_ir.specs.State.{State, Turned}
-use Rattle.td_lowered.specs.BlockRun.{Passage, touching, plainly, back, backward, again, passage_of, way_of, onto, onto_ending}
+use Rattle.td_lowered.proofs.BlockRun.{Passage, touching, plainly, back, backward, again, passage_of, onto, onto_ending}
+use Rattle.td_lowered.specs.CodeRun.{way_of}
 use Rattle.td_ir.specs.Run.{place_of_site}
 
 pub onto_after : (places : List ℕ) (a : Behavior) (go : ℕ → List ℕ → Passage) → onto (after_reading places a) go ≡ touching places (onto a go)

@@ -22,7 +22,7 @@ use Rattle.td_blocks.specs.Constructs.{Steps, steps, value}
 use Rattle.td_blocks.specs.Placed.{DeedPlaced, OptionExpr, OptionDeed, PartsPlaced, HasBits, AllBits, AloneFrom, Alone}
 use Rattle.td_ir.specs.declared.tables.Parts.{Parts}
 use Rattle.td_ir.specs.State.{State, reg}
-use Rattle.td_lowered.specs.BlockRun.{Passage, failed, Calling, ran, onto}
+use Rattle.td_lowered.proofs.BlockRun.{Passage, failed, Calling, ran, onto}
 use Rattle.td_blocks.specs.Lowered.{expr_of, part_slot, bits_step, test_step, action_step, when, parts_steps}
 use Rattle.td_blocks.specs.Tabled.{PartsSited}
 use Rattle.td_lowered.proofs.Valued.{or_left, or_right}

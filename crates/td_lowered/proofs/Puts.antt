@@ -8,7 +8,7 @@ use Rattle.td_blocks.specs.Constructs.{Expr, Lit, Slot, Binary, Not, Complement,
 use Rattle.td_blocks.specs.Placed.{Reaches}
 use Rattle.td_ir.specs.declared.tables.Parts.{Parts}
 use Rattle.td_ir.specs.State.{State, reg}
-use Rattle.td_lowered.specs.BlockRun.{Passage, Calling, ran}
+use Rattle.td_lowered.proofs.BlockRun.{Passage, Calling, ran}
 use Rattle.td_ir.specs.Values.{operated}
 
 -- slots are below t

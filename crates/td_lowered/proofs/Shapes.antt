@@ -25,7 +25,8 @@ use Rattle.td_blocks.specs.Constructs.{Steps, steps, values, listed}
 use Rattle.td_blocks.specs.Placed.{ArgsPlaced, ElementPlaced}
 use Rattle.td_ir.specs.declared.tables.Parts.{Parts}
 use Rattle.td_ir.specs.State.{State, registers_from}
-use Rattle.td_lowered.specs.BlockRun.{Passage, touching, failed, onwards, if_so, back, backward, Calling, ran, passage_of, way_of, onto}
+use Rattle.td_lowered.proofs.BlockRun.{Passage, touching, failed, onwards, if_so, back, backward, Calling, ran, passage_of, onto}
+use Rattle.td_lowered.specs.CodeRun.{way_of}
 use Rattle.td_ir.specs.Flow.{Effect, Goes, Fails, zeros_flow}
 use Rattle.td_ir.specs.Values.{bit, order_of}
 use Rattle.td_ir.specs.Values as in_set

@@ -4,19 +4,23 @@ use Rattle.td_core.specs.declared.module.Module.{Module}
 use Rattle.td_core.specs.declared.module.Entry.{Entry}
 use Rattle.td_core.specs.Entries.{entry_definition}
 use Rattle.td_core.specs.Formed.{AllFit, params_at, cells_at}
-use Rattle.td_core.specs.Outcome.{Behavior}
+use Rattle.td_core.specs.Outcome.{Behavior, Ending, Accepted, Rejected}
 use Rattle.td_meaning.specs.Meaning.{meaning}
 use Rattle.td_meaning.specs.Throughout.{Throughout}
 use Rattle.td_expr.specs.Sound.{Sound}
 use Rattle.td_ir.specs.declared.tables.Parts.{Parts}
 use Rattle.td_ir.specs.WellFormed.{IsCode}
-use Rattle.td_ir.specs.State.{Exit}
+use Rattle.td_ir.specs.State.{Way, Returned, Failed, Exit}
 use Rattle.td_ir.specs.Entries.{Fits}
 use Rattle.td_ir.specs.Run.{run}
 use Rattle.td_blocks.specs.Placed.{ArePlaced}
 use Rattle.td_blocks.specs.Tabled.{IsTabled}
 use Rattle.td_blocks.specs.Laid.{IsLaid}
-use Rattle.td_lowered.specs.BlockRun.{way_of}
+
+-- the way in which code is left where a behavior ends so
+abbrev pub way_of : Ending → Way
+way_of (Accepted position cells) = Returned position cells
+way_of (Rejected reason position trace cells) = Failed reason position trace cells
 
 -- code is left as the module's meaning ends (with its verdict, its frames and the cells), and looks at what is read, in the
 -- same order

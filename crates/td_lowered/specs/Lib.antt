@@ -1,2 +1,1 @@
-pub mod BlockRun
 pub mod CodeRun

@@ -1,11 +1,8 @@
 use Rattle.std.proofs.lemmas.Result.{IfOk-weaker}
 use Rattle.td_job_run.specs.Runs.{IsRunBy}
 use Rattle.td_cli.specs.Run.{IsRunOf}
-use Rattle.td_cli.proofs.Compiled.{lowerable, job_fits, fits_with, run_with, run_of}
+use Rattle.td_cli.proofs.Compiled.{job_fits, fits_with, run_with, run_of}
 use Rattle.td_cli.proofs.run.run_job.Goals as goal
-
-pub lower-requires : goal.lower-requires
-lower-requires c = lowerable c.args.m.now c.requires.checked
 
 pub run_planned-requires-clause-fits : goal.run_planned-requires-clause-fits
 run_planned-requires-clause-fits c =

@@ -5,6 +5,6 @@ use Rattle.td_coding.proofs.coding.code_listing.Goals as goal
 pub returns : goal.returns
 returns c = (
   c.in_ok-verified.verified,
-  record { sound = c.code.ensures.sound; means = c.in_ok-verified.ensures.means },
+  record { written = c.in_ok-verified.ensures.written; sound = c.code.ensures.sound; means = c.in_ok-verified.ensures.means },
   c.of.ensures ∙ rw c.into_bytes.ensures.value (c.in_ok-text.ensures ∙ ap listing c.code.ensures.same),
 )

@@ -6,8 +6,8 @@ use Rattle.clap.specs.Faults.{is_simple_and_free, fault_of}
 use Rattle.clap.specs.Simple.{is_simple, subcommand_of}
 use Rattle.clap.specs.Kinds.{Kinds, IsAmong}
 use Rattle.clap.specs.declared.error.kind.ErrorKind.TheVariants.{OutOfMemory}
-use Rattle.td_command.specs.Command.{tool, IsFound}
-use Rattle.td_command.proofs.Words.{is_simple_tool, is_free_tool, name_entered, found_means, none_meant}
+use Rattle.td_command.specs.Command.{tool}
+use Rattle.td_command.proofs.Words.{IsFound, is_simple_tool, is_free_tool, name_entered, found_means, none_meant}
 use Rattle.td_command.proofs.Matches.{fits_is}
 use Rattle.td_command.proofs.command.command_of.Goals as goal
 

@@ -10,6 +10,9 @@ use Rattle.td_meaning.specs.Meaning.{meaning}
 use Rattle.td_expr.specs.Sound.{Sound}
 use Rattle.td_meaning.specs.Throughout.{Throughout}
 use Rattle.td_leaves.specs.Outcomes.{IsBehaviorOf}
+use Rattle.td_ir.specs.declared.tables.Parts.{Parts}
+use Rattle.td_ir.specs.Run.{run}
+use Rattle.td_vm.specs.Outcomes.{IsRun}
 use Rattle.td_job_run.proofs.planned.run_prepared.Goals as goal
 
 -- memory that was opened on a plan gave loads of that plan
@@ -28,6 +31,11 @@ meant_from : (m : Module) (entry : Entry) (args b : List ℕ) (loads : List Load
     → (Throughout Sound m entry args cells' b → IsBehaviorOf loads (meaning m entry args cells' b) outcome) → Throughout Sound m entry args cells b → IsBehaviorOf loads (meaning m entry args cells b) outcome
 meant_from m entry args b loads outcome cells cells' e h = subst (λ x. Throughout Sound m entry args x b → IsBehaviorOf loads (meaning m entry args x b) outcome) e h
 
+-- the same run from cells that were set
+ran_from : (p : Parts) (entry : Entry) (args b : List ℕ) (loads : List Load) (outcome : Outcome) (cells cells' : List ℕ) → cells' ≡ cells
+    → IsRun loads (run p entry args cells' b) outcome 0 (run p entry args cells' b).steps → IsRun loads (run p entry args cells b) outcome 0 (run p entry args cells b).steps
+ran_from p entry args b loads outcome cells cells' e h = subst (λ x. IsRun loads (run p entry args x b) outcome 0 (run p entry args x b).steps) e h
+
 pub returns-clause-run : goal.returns-clause-run
 returns-clause-run c =
     let done = c.validate_recorded-verdict.ensures in
@@ -36,5 +44,6 @@ returns-clause-run c =
       rising = done.rising;
       inside = done.inside;
       held = held p.words c.validate_recorded-verdict.new.words p.words.opening p.words.stores c.validate_recorded-verdict.new.loads.list done.reaches refl refl p.fresh done.loads;
+      ran = λ b carries. ran_from c.args.code.now c.args.entry c.args.args.now b c.validate_recorded-verdict.new.loads.list (record { verdict = c.validate_recorded-verdict.result; trace = c.validate_recorded-verdict.new.frame.trace; cells = c.validate_recorded-verdict.new.frame.cells }) c.args.cells.now c.set_cells.new.self.cells c.set_cells.ensures.cells (done.run b carries);
       meant = λ m b of carries sound. meant_from m c.args.entry c.args.args.now b c.validate_recorded-verdict.new.loads.list (record { verdict = c.validate_recorded-verdict.result; trace = c.validate_recorded-verdict.new.frame.trace; cells = c.validate_recorded-verdict.new.frame.cells }) c.args.cells.now c.set_cells.new.self.cells c.set_cells.ensures.cells (done.behavior m b of carries) sound;
     }

@@ -1,8 +1,8 @@
 use Rattle.std.proofs.Common.{◌≡◌, ◌+◌, ◌<◌, [], length, slice_index_or, sym, subst, ◌∙◌, arith}
-use Rattle.td_lower.specs.Sets.{IsSetOf, AreSetsTo}
+use Rattle.td_lower.specs.Sets.{IsSetOf}
 use Rattle.td_lower.proofs.Places.{found}
 use Rattle.td_lower.proofs.Codes.{index_of}
-use Rattle.td_lower.proofs.Rising.{sets_more, sets_end}
+use Rattle.td_lower.proofs.Rising.{AreSetsTo, sets_more, sets_end}
 use Rattle.td_lower.proofs.sets.sets_of.Goals as goal
 
 pub loop-values-preserved : goal.loop-values-preserved

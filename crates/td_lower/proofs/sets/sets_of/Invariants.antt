@@ -1,4 +1,4 @@
-use Rattle.td_lower.specs.Sets.{AreSetsTo}
+use Rattle.td_lower.proofs.Rising.{AreSetsTo}
 use Rattle.td_lower.proofs.sets.sets_of.Given as goal
 
 -- the sets of the enums so far

@@ -9,6 +9,7 @@ use Rattle.td_ir.specs.State.{State, reg, left, Way, Returned, Turned, Failed, S
 use Rattle.td_ir.specs.Flow.{Flow, Goes, Fails, Calls, Returns, Loops, Turns, effect}
 use Rattle.td_ir.specs.Run.{frame}
 use Rattle.td_blocks.specs.Block.{Block, Done, Then, Stop, Leave, Guard, Scope, Window, Loop}
+use Rattle.td_lowered.specs.CodeRun.{way_of}
 
 -- how code is passed: how it is left, and what it looks at
 pub record Passage : Type 0 where
@@ -24,11 +25,6 @@ plainly way = record { way = way; touched = [] }
 -- the same after these places were looked at
 abbrev pub touching : List ℕ → Passage → Passage
 touching places e = record { way = e.way; touched = places ++ e.touched }
-
--- as a behavior ends
-abbrev pub way_of : Ending → Way
-way_of (Accepted position cells) = Returned position cells
-way_of (Rejected reason position trace cells) = Failed reason position trace cells
 
 abbrev pub passage_of : Behavior → Passage
 passage_of behavior = record { way = way_of behavior.ending; touched = behavior.reads }
