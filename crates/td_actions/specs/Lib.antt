@@ -1,3 +1,4 @@
 pub mod Scopes
 pub mod Pieces
 pub mod Rows
+pub mod Memory

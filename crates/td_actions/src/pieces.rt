@@ -1,11 +1,13 @@
 //! Statements, each elaborated to what it does.
 
-ghost use Rattle.std.specs.Prelude.{◌≡◌, ◌++◌, IfOk, OnOk};
+ghost use Rattle.std.specs.Prelude.{◌≡◌, ◌++◌, IfOk, OnErr, OnOk};
 ghost use Rattle.td_ast.specs.Statements.{Var};
 ghost use Rattle.td_rules.specs.Breach.{first_of};
 ghost use Rattle.td_rules.specs.Known.{nothing_known, with_outer};
 ghost use Rattle.td_rules.specs.Actions.{stored_cell, stored_slot, target_breaches, stored_breaches, read_breaches, with_read, var_breaches, statement_breaches, scope_after};
+ghost use Rattle.td_typing.specs.Memory.{HasOperator};
 ghost use Rattle.td_actions.specs.Pieces.{set_piece, read_piece};
+ghost use Rattle.td_actions.specs.Memory.{StoresOperator};
 
 use crate::cells::{cell_of, check_read, check_target, row_cell};
 use crate::scopes::{add_local, add_value, scalar_of, take_name};
@@ -42,7 +44,7 @@ pub enum Piece {
     Abort,
 }
 
-/// `*p = e;`, where p is this target.
+/// `*p = e;`, where p is this target. `AllocError`: e has an operator or is `is_range_okay`, and out of memory.
 #[tactic(auto, using(td_typing::proofs::Steps::first_append))]
 fn store_value(
     alloc: Global,
@@ -52,6 +54,7 @@ fn store_value(
     e: &Expr,
     findings: &mut Findings,
 ) -> Result<Piece, AllocError>
+    ensures memory { OnErr result (HasOperator e.now) }
     ensures core { IfOk result (λ p. p ≡ set_piece known.now scope.now target (Assigned.Value e.now)) }
     ensures first { OnOk result (findings.new.first ≡ first_of findings.old.first (stored_breaches known.now scope.now target (Assigned.Value e.now))) }
 {
@@ -92,7 +95,8 @@ fn store_pointer(scope: &Scope, target: Target, at: Span, findings: &mut Finding
     }
 }
 
-/// What is stored in a target, and its breaches noted. `AllocError`: out of memory.
+/// What is stored in a target, and its breaches noted. `AllocError`: it has an operator or is `is_range_okay`, and out
+/// of memory; never for `field_ptr`.
 pub fn store(
     alloc: Global,
     known: &Known,
@@ -101,6 +105,7 @@ pub fn store(
     assigned: &Assigned,
     findings: &mut Findings,
 ) -> Result<Piece, AllocError>
+    ensures memory { OnErr result (StoresOperator assigned.now) }
     ensures core { IfOk result (λ p. p ≡ set_piece known.now scope.now target assigned.now) }
     ensures first { OnOk result (findings.new.first ≡ first_of findings.old.first (stored_breaches known.now scope.now target assigned.now)) }
 {
@@ -110,7 +115,7 @@ pub fn store(
     }
 }
 
-/// `*p = rhs;`
+/// `*p = rhs;`. `AllocError` as of `store`.
 #[tactic(auto, using(td_typing::proofs::Steps::first_append))]
 pub fn store_cell(
     alloc: Global,
@@ -120,6 +125,7 @@ pub fn store_cell(
     assigned: &Assigned,
     findings: &mut Findings,
 ) -> Result<Piece, AllocError>
+    ensures memory { OnErr result (StoresOperator assigned.now) }
     ensures core { IfOk result (λ x. x ≡ set_piece known.now scope.now (stored_cell known.now scope.now p.now) assigned.now) }
     ensures first { OnOk result (findings.new.first ≡ first_of findings.old.first (target_breaches (stored_cell known.now scope.now p.now) p.now.span ++ stored_breaches known.now scope.now (stored_cell known.now scope.now p.now) assigned.now)) }
 {

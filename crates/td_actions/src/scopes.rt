@@ -1,7 +1,8 @@
 //! Scopes and names that are given, as they grow.
 
-ghost use Rattle.std.specs.Prelude.{◌≡◌, ◌-◌, ◌^◌, OnErr, OnOk};
+ghost use Rattle.std.specs.Prelude.{◌≡◌, ◌-◌, ◌^◌, ◌⊎◌, false, is_some, OnErr, OnOk};
 ghost use Rattle.td_core.specs.Formed.{scalar_of};
+ghost use Rattle.td_names.specs.Names.{looked_up, is_seen};
 ghost use Rattle.td_rules.specs.Known.{with_local, with_level, with_value, with_outer, with_field_name};
 ghost use Rattle.td_actions.specs.Scopes.{cut_back};
 
@@ -22,14 +23,15 @@ pub fn scalar_of(width: Width) -> Scalar
     }
 }
 
-/// One more local name. `AllocError`: out of memory.
+/// One more local name. `AllocError`: it isn't a local's yet, and out of memory.
 pub fn add_local(
     alloc: Global,
     scope: &mut Scope,
     name: &[u8],
     local: Local,
 ) -> Result<(), AllocError>
-    ensures { OnOk result (scope.new ≡ with_local scope.old name.now local) }
+    ensures scope { OnOk result (scope.new ≡ with_local scope.old name.now local) }
+    ensures unseen { OnErr result (is_some (looked_up scope.old.locals name.now) ≡ false) }
 {
     scope.locals.declare(alloc, name, local)
 }
@@ -43,7 +45,8 @@ pub fn add_level(scope: &mut Scope) -> Result<(), AllocError>
     Ok(())
 }
 
-/// One more value in scope, by its name. `AllocError`: out of memory, or there are 2^32 - 1 values.
+/// One more value in scope, by its name. `AllocError`: the name isn't a local's yet, and out of memory, or there are
+/// 2^32 - 1 values.
 pub fn add_value(
     alloc: Global,
     scope: &mut Scope,
@@ -51,7 +54,8 @@ pub fn add_value(
     scalar: Scalar,
     most: u64,
 ) -> Result<(), AllocError>
-    ensures { OnOk result (scope.new ≡ with_value scope.old name.now scalar most) }
+    ensures scope { OnOk result (scope.new ≡ with_value scope.old name.now scalar most) }
+    ensures cause { OnErr result ((is_some (looked_up scope.old.locals name.now) ≡ false) ⊎ (scope.old.levels ≡ 2 ^ 32 - 1)) }
 {
     let level = scope.levels;
     add_local(
@@ -67,17 +71,19 @@ pub fn add_value(
     add_level(scope)
 }
 
-/// The name of a parameter or a `var` is given. `AllocError`: out of memory.
+/// The name of a parameter or a `var` is given. `AllocError`: it wasn't, and out of memory.
 pub fn take_name(alloc: Global, taken: &mut Taken, name: &[u8]) -> Result<(), AllocError>
-    ensures { OnOk result (taken.new ≡ with_outer taken.old name.now) }
+    ensures taken { OnOk result (taken.new ≡ with_outer taken.old name.now) }
+    ensures unseen { OnErr result ((is_seen taken.old.outer name.now ≡ false) ⊎ (is_seen taken.old.all name.now ≡ false)) }
 {
     taken.outer.see(alloc, name)?;
     taken.all.see(alloc, name)
 }
 
-/// The name of a field is given. `AllocError`: out of memory.
+/// The name of a field is given. `AllocError`: it wasn't, and out of memory.
 pub fn take_field_name(alloc: Global, taken: &mut Taken, name: &[u8]) -> Result<(), AllocError>
-    ensures { OnOk result (taken.new ≡ with_field_name taken.old name.now) }
+    ensures taken { OnOk result (taken.new ≡ with_field_name taken.old name.now) }
+    ensures unseen { OnErr result ((is_seen taken.old.fields name.now ≡ false) ⊎ (is_seen taken.old.all name.now ≡ false)) }
 {
     taken.fields.see(alloc, name)?;
     taken.all.see(alloc, name)

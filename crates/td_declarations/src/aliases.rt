@@ -1,6 +1,7 @@
 //! Other names for types.
 
-ghost use Rattle.std.specs.Prelude.{◌≡◌, OnOk};
+ghost use Rattle.std.specs.Prelude.{◌≡◌, ◌+◌, ◌-◌, ◌^◌, ◌≤◌, ◌⊎◌, false, is_some, OnErr, OnOk};
+ghost use Rattle.td_names.specs.Names.{looked_up};
 ghost use Rattle.td_rules.specs.Breach.{first_of};
 ghost use Rattle.td_rules.specs.Known.{no_scope, signature_at};
 ghost use Rattle.td_rules.specs.Aliases.{plain_type, alias_found, alias_meaning, target_name_breaches, target_breaches, meaning_or_none, alias_breaches, after_alias};
@@ -81,7 +82,8 @@ fn meaning_or_none(meaning: Option<Meaning>) -> Meaning
     }
 }
 
-/// What is known after another name for a type. `AllocError`: out of memory.
+/// What is known after another name for a type. `AllocError`: the name isn't known yet, and out of memory, or with it
+/// there are 2^32 - 1 definitions or more.
 #[tactic(auto, using(td_typing::proofs::Steps::first_append))]
 pub fn alias(
     alloc: Global,
@@ -90,6 +92,7 @@ pub fn alias(
     findings: &mut Findings,
 ) -> Result<(), AllocError>
     ensures known { OnOk result (known.new ≡ after_alias known.old tree.now) }
+    ensures cause { OnErr result ((is_some (looked_up known.old.globals tree.now.name.text) ≡ false) ⊎ (2 ^ 32 - 1 ≤ known.old.count + 1)) }
     ensures first { OnOk result (findings.new.first ≡ first_of findings.old.first (alias_breaches known.old tree.now)) }
 {
     let count = next_place(known.count as usize + 1)?;

@@ -1,10 +1,10 @@
 //! What stands at a constant's place, and distinct names.
 
-ghost use Rattle.std.specs.Prelude.{◌≡◌};
+ghost use Rattle.std.specs.Prelude.{◌≡◌, ◌+◌, ◌-◌, ◌^◌, ◌≤◌, ◌⊎◌, false, is_some, OnErr, OnOk};
+ghost use Rattle.td_names.specs.Names.{looked_up};
 ghost use Rattle.td_rules.specs.Breach.{first_of};
 ghost use Rattle.td_rules.specs.Constants.{global_breaches, literal_breaches, with_global, found_number, constant_value, constant_span, number_name_breaches, constant_breaches, number_or_zero, is_past};
 ghost use Rattle.td_rules.specs.Definitions.{after_define};
-ghost use Rattle.std.specs.Prelude.{OnOk};
 
 use crate::numbers::next_place;
 use std::alloc::{AllocError, Global};
@@ -35,14 +35,15 @@ pub fn check_literal(known: &Known, name: &Name, findings: &mut Findings)
     findings.note_if(is_given, Rule::Twice, name.span);
 }
 
-/// One more name of a definition, constant or member. `AllocError`: out of memory.
+/// One more name of a definition, constant or member. `AllocError`: it isn't known yet, and out of memory.
 pub fn declare(
     alloc: Global,
     known: &mut Known,
     name: &[u8],
     meaning: Meaning,
 ) -> Result<(), AllocError>
-    ensures { OnOk result (known.new ≡ with_global known.old name.now meaning) }
+    ensures known { OnOk result (known.new ≡ with_global known.old name.now meaning) }
+    ensures unseen { OnErr result (is_some (looked_up known.old.globals name.now) ≡ false) }
 {
     known.globals.declare(alloc, name, meaning)
 }
@@ -118,9 +119,11 @@ pub fn number_or_zero(value: Option<u64>) -> u64
     }
 }
 
-/// What is known after a constant. `AllocError`: out of memory.
+/// What is known after a constant. `AllocError`: its name isn't known yet, and out of memory, or with it there are
+/// 2^32 - 1 definitions or more.
 pub fn define(alloc: Global, known: &mut Known, tree: &DefineTree) -> Result<(), AllocError>
-    ensures { OnOk result (known.new ≡ after_define known.old tree.now) }
+    ensures known { OnOk result (known.new ≡ after_define known.old tree.now) }
+    ensures cause { OnErr result ((is_some (looked_up known.old.globals tree.now.name.text) ≡ false) ⊎ (2 ^ 32 - 1 ≤ known.old.count + 1)) }
 {
     let count = next_place(known.count as usize + 1)?;
     let meaning = Meaning::Constant(tree.value.value);

@@ -1,6 +1,7 @@
 //! Values that were given before, and places in lists.
 
-ghost use Rattle.std.specs.Prelude.{◌≡◌, ◌≤◌, ◌-◌, ◌^◌, OnOk, OnErr, IfOk};
+ghost use Rattle.std.specs.Prelude.{◌≡◌, ◌≤◌, ◌-◌, ◌^◌, false, IsSomeAnd, OnOk, OnErr, IfOk};
+ghost use Rattle.td_names.specs.Numbers.{is_among};
 ghost use Rattle.td_rules.specs.Constants.{is_value_among, with_value_number};
 
 use std::alloc::AllocError;
@@ -27,9 +28,10 @@ pub fn is_value_among(before: &Numbers, value: Option<u64>) -> bool
     }
 }
 
-/// One more value. `AllocError`: out of memory.
+/// One more value, where there is one. `AllocError`: there is one, it wasn't given before, and out of memory.
 pub fn add_value(before: &mut Numbers, value: Option<u64>) -> Result<(), AllocError>
-    ensures { OnOk result (before.new ≡ with_value_number before.old value) }
+    ensures values { OnOk result (before.new ≡ with_value_number before.old value) }
+    ensures unseen { OnErr result (IsSomeAnd value (λ n. is_among before.old n ≡ false)) }
 {
     if let Some(n) = value {
         before.add(n)?;

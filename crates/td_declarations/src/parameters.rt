@@ -1,6 +1,6 @@
 //! Parameters.
 
-ghost use Rattle.std.specs.Prelude.{◌≡◌, IfOk, OnOk, is_some, map};
+ghost use Rattle.std.specs.Prelude.{◌≡◌, ◌<◌, IfOk, OnErr, OnOk, is_some, length, map};
 ghost use Rattle.td_rules.specs.Breach.{first_of};
 ghost use Rattle.td_rules.specs.Known.{slots_at};
 ghost use Rattle.td_declarations.specs.Heads.{with_cell, with_all_cells};
@@ -292,7 +292,7 @@ fn add_param(
     }
 }
 
-/// The parameters; their breaches are noted. `AllocError`: out of memory.
+/// The parameters; their breaches are noted. `AllocError`: there is a parameter, and out of memory.
 pub fn head(
     alloc: Global,
     names: &Names,
@@ -300,6 +300,7 @@ pub fn head(
     trees: &[ParamTree],
     findings: &mut Findings,
 ) -> Result<Head, AllocError>
+    ensures memory { OnErr result (0 < length trees.now) }
     ensures core { IfOk result (λ h. h ≡ head_of names.now known.now no_head trees.now) }
     ensures first { OnOk result (findings.new.first ≡ first_of findings.old.first (params_breaches names.now known.now no_head trees.now)) }
 {

@@ -1,6 +1,6 @@
 //! Output records.
 
-ghost use Rattle.std.specs.Prelude.{◌≡◌, [], OnOk, IfOk, map};
+ghost use Rattle.std.specs.Prelude.{◌≡◌, ◌<◌, [], OnErr, OnOk, IfOk, length, map};
 ghost use Rattle.td_rules.specs.Breach.{first_of};
 ghost use Rattle.td_rules.specs.Records.{slot_number, slot_of, slots_breaches, with_slots, record_breaches, after_record};
 
@@ -67,9 +67,10 @@ fn check_slots(
     Ok(())
 }
 
-/// The names of slots, beside others. `AllocError`: out of memory.
+/// The names of slots, beside others. `AllocError`: there is a slot, and out of memory.
 pub fn see_slots(alloc: Global, trees: &[SlotTree], names: &mut Names) -> Result<(), AllocError>
-    ensures { OnOk result (names.new ≡ with_slots names.old trees.now) }
+    ensures names { OnOk result (names.new ≡ with_slots names.old trees.now) }
+    ensures memory { OnErr result (0 < length trees.now) }
 {
     for tree in trees {
         names.see(alloc, tree.name.text.as_slice())?;

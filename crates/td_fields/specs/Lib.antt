@@ -1,2 +1,3 @@
 pub mod Narrow
 pub mod Scopes
+pub mod Memory

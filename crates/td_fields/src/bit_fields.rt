@@ -1,6 +1,6 @@
 //! Units of bit fields.
 
-ghost use Rattle.std.specs.Prelude.{◌≡◌, ◌+◌, ◌*◌, ◌≤◌, [], ◌∷◌, ◌++◌, None, Some, IfOk, OnOk, List};
+ghost use Rattle.std.specs.Prelude.{◌≡◌, ◌+◌, ◌*◌, ◌≤◌, [], ◌∷◌, ◌++◌, None, Some, IfOk, IsOk, OnOk, List};
 ghost use Rattle.td_num.specs.Numbers.{bytes_in};
 ghost use Rattle.td_rules.specs.declared.fields.FlatField.{FlatField};
 ghost use Rattle.td_fields.specs.Narrow.{IsNarrow};
@@ -110,10 +110,11 @@ impl Gathering {
         }
     }
 
-    /// The open unit becomes a field. `AllocError`: out of memory.
+    /// The open unit becomes a field. `AllocError`: a unit is open, and out of memory.
     pub fn close(&mut self) -> Result<(), AllocError>
         ensures fields { OnOk result (self.new.fields ≡ self.old.fields ++ closed self.old.unit) }
         ensures unit { OnOk result (self.new.unit ≡ None) }
+        ensures memory { self.old.unit ≡ None → IsOk result }
     {
         if let Some(unit) = self.unit.take() {
             self.fields.push(unit_field(unit))?;

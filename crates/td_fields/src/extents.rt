@@ -1,8 +1,9 @@
 //! What stands after a field's name: an array's size, or a width of bits.
 
-ghost use Rattle.std.specs.Prelude.{◌≡◌, ◌≤◌, IfOk, OnOk, IfSome};
+ghost use Rattle.std.specs.Prelude.{◌≡◌, ◌≤◌, IfOk, OnErr, OnOk, IfSome};
 ghost use Rattle.td_rules.specs.Breach.{first_of};
 ghost use Rattle.td_rules.specs.Extents.{zero_ended, bits_in, is_width, extent_breaches, extent_core, allowed, bit_width};
+ghost use Rattle.td_fields.specs.Memory.{HasSizeOperator};
 
 use std::alloc::{AllocError, Global};
 use td_ast::fields::{ExtentTree, TypeTree};
@@ -43,7 +44,8 @@ fn zero_ended(element: &Element, size: CoreExpr) -> Extent
     }
 }
 
-/// How often an element of a type stands there; the breaches are noted. `AllocError`: out of memory.
+/// How often an element of a type stands there; the breaches are noted. `AllocError`: it is an array whose size has an
+/// operator or is `is_range_okay`, and out of memory.
 #[tactic(auto, using(crate::proofs::Steps::first_append))]
 pub fn extent(
     alloc: Global,
@@ -54,6 +56,7 @@ pub fn extent(
     extent: &Option<ExtentTree>,
     findings: &mut Findings,
 ) -> Result<Extent, AllocError>
+    ensures memory { OnErr result (HasSizeOperator extent.now) }
     ensures core { IfOk result (λ x. x ≡ extent_core known.now scope.now element.now extent.now) }
     ensures first { OnOk result (findings.new.first ≡ first_of findings.old.first (extent_breaches known.now scope.now tree.now extent.now)) }
 {

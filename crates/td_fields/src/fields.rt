@@ -1,6 +1,6 @@
 //! The fields of a struct, a case or `default`.
 
-ghost use Rattle.std.specs.Prelude.{◌≡◌, IfOk, OnOk};
+ghost use Rattle.std.specs.Prelude.{◌≡◌, ◌<◌, IfOk, OnErr, OnOk, length};
 ghost use Rattle.td_rules.specs.Breach.{first_of};
 ghost use Rattle.td_rules.specs.Fields.{with_field, field_breaches, field_taken, flat_of, fields_breaches, fields_taken, fields_core};
 ghost use Rattle.td_fields.specs.Narrow.{IsNarrow};
@@ -69,7 +69,7 @@ fn field(
     })
 }
 
-/// The fields, which are then in scope.
+/// The fields, which are then in scope. `AllocError`: there is a field, and out of memory.
 fn gathered(
     alloc: Global,
     names: &Names,
@@ -83,6 +83,7 @@ fn gathered(
     ensures first { OnOk result (findings.new.first ≡ first_of findings.old.first (fields_breaches known.now taken.old scope.old trees.now)) }
     ensures taken { OnOk result (taken.new ≡ fields_taken taken.old trees.now) }
     ensures scope { OnOk result (scope.new ≡ fields_scope known.now scope.old trees.now) }
+    ensures memory { OnErr result (0 < length trees.now) }
 {
     let mut gathering = Gathering::new(alloc);
     for tree in trees {
@@ -94,7 +95,7 @@ fn gathered(
 }
 
 /// The fields of a struct, a case or `default`; their breaches are noted, and their names are given. The scope is then
-/// as before. `AllocError`: out of memory.
+/// as before. `AllocError`: there is a field, and out of memory.
 pub fn fields(
     alloc: Global,
     names: &Names,
@@ -108,6 +109,7 @@ pub fn fields(
     ensures first { OnOk result (findings.new.first ≡ first_of findings.old.first (fields_breaches known.now taken.old scope.old trees.now)) }
     ensures taken { OnOk result (taken.new ≡ fields_taken taken.old trees.now) }
     ensures scope { OnOk result (scope.new ≡ scope.old) }
+    ensures memory { OnErr result (0 < length trees.now) }
 {
     let (locals, levels) = (scope.locals.len(), scope.levels);
     let fields = gathered(alloc, names, known, scope, taken, trees, findings)?;

@@ -1,11 +1,12 @@
 //! The size of the leading fields of a struct, for `sizeof(this)`.
 
-ghost use Rattle.std.specs.Prelude.{◌≡◌, None, Some, IfOk, OnOk};
+ghost use Rattle.std.specs.Prelude.{◌≡◌, ◌<◌, ◌≤◌, ◌+◌, ◌^◌, None, Some, IfOk, OnErr, OnOk, length};
 ghost use Rattle.td_rules.specs.Sorts.{size_found};
 ghost use Rattle.td_rules.specs.Types.{number_type, is_byte};
 ghost use Rattle.td_rules.specs.Leading.{holds_this, array_size, kind_size, names_type, sized, unit_size, bits_size, leading_field, leading_size};
 ghost use Rattle.td_kinds.specs.declared.sizes.TheConstants.{SIZE_CAP};
 ghost use Rattle.td_kinds.specs.Kinds.{up_to};
+ghost use Rattle.td_typing.specs.Memory.{HasOperator};
 ghost use Rattle.td_fields.specs.Scopes.{Grows};
 
 use crate::bit_fields::fits_room;
@@ -52,14 +53,16 @@ fn up_to_cap(size: Option<u64>) -> Option<u64>
     }
 }
 
-/// The size of an array, where it is constant and breaks no rule. `AllocError`: out of memory.
+/// The size of an array, where it is constant and breaks no rule. `AllocError`: e has an operator or is
+/// `is_range_okay`, and out of memory.
 fn array_size(
     alloc: Global,
     known: &Known,
     scope: &Scope,
     e: &Expr,
 ) -> Result<Option<u64>, AllocError>
-    ensures { IfOk result (λ n. n ≡ array_size known.now scope.now e.now) }
+    ensures memory { OnErr result (HasOperator e.now) }
+    ensures size { IfOk result (λ n. n ≡ array_size known.now scope.now e.now) }
 {
     let mut unheard = Findings::new();
     let typing = number(alloc, known, scope, e, &mut unheard)?;
@@ -174,7 +177,16 @@ fn leading_field(
     }
 }
 
-/// The size of the leading fields, which are then in scope.
+/// The size with a field more. `AllocError`: it is 2^64 or more.
+fn size_with(total: u64, size: u64) -> Result<u64, AllocError>
+    ensures size { IfOk result (λ n. n ≡ total + size) }
+    ensures full { OnErr result (2 ^ 64 ≤ total + size) }
+{
+    total.checked_add(size).ok_or(AllocError)
+}
+
+/// The size of the leading fields, which are then in scope. `AllocError`: there is a field, and out of memory, or the
+/// size is 2^64 or more.
 fn sum(
     alloc: Global,
     known: &Known,
@@ -183,13 +195,14 @@ fn sum(
 ) -> Result<u64, AllocError>
     ensures size { IfOk result (λ n. n ≡ leading_size known.now scope.old None trees.now) }
     ensures scope { OnOk result (Grows scope.old scope.new) }
+    ensures memory { OnErr result (0 < length trees.now) }
 {
     let mut total = 0u64;
     let mut room = None;
     for tree in trees {
         match leading_field(alloc, known, scope, room, tree)? {
             Some((size, after)) => {
-                total = total.checked_add(size).ok_or(AllocError)?;
+                total = size_with(total, size)?;
                 add_field(alloc, known, scope, tree)?;
                 room = after;
             }
@@ -200,7 +213,7 @@ fn sum(
 }
 
 /// The size of the leading fields of a struct, with which `sizeof(this)` stands. The scope is then as before.
-/// `AllocError`: out of memory.
+/// `AllocError`: there is a field, and out of memory, or the size is 2^64 or more.
 pub fn leading_size(
     alloc: Global,
     known: &Known,
@@ -209,6 +222,7 @@ pub fn leading_size(
 ) -> Result<u64, AllocError>
     ensures size { IfOk result (λ n. n ≡ leading_size known.now scope.old None trees.now) }
     ensures scope { OnOk result (scope.new ≡ scope.old) }
+    ensures memory { OnErr result (0 < length trees.now) }
 {
     let (locals, levels) = (scope.locals.len(), scope.levels);
     let size = sum(alloc, known, scope, trees)?;

@@ -14,7 +14,7 @@ use Rattle.td_grammar.specs.Definitions.{def, define, enumeration, typedef, case
 use Rattle.td_grammar.proofs.Defs.{def_exact}
 use Rattle.td_parser_expr.specs.declared.failure.Failure.{Failure}
 use Rattle.td_parser_expr.specs.declared.failure.Failure.TheVariants as failures
-use Rattle.td_parser.specs.Memory.{OnMemory}
+use Rattle.td_parser_expr.specs.Memory.{OnMemory}
 use Rattle.td_parser.specs.Pieces.{def_begins}
 
 -- what holds anyway holds where memory ran out

@@ -17,7 +17,7 @@ use Rattle.td_parser_expr.specs.Giving.{Fails}
 use Rattle.td_parser.specs.declared.error.ParseError.{ParseError}
 use Rattle.td_parser.specs.declared.error.ParseError.TheVariants as errors
 use Rattle.td_parser.specs.Errors.{IsFailureWithin, IsErrorOf}
-use Rattle.td_parser.specs.Memory.{OnMemory}
+use Rattle.td_parser_expr.specs.Memory.{OnMemory}
 
 module _ (tokens : List Token) where
   -- no more tokens are left than there were

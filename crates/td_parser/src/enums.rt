@@ -6,7 +6,7 @@ ghost use Rattle.td_grammar.specs.Sets.{comes};
 ghost use Rattle.td_grammar.specs.Grammar as grammar;
 ghost use Rattle.td_grammar.specs.Tokens as words;
 ghost use Rattle.td_grammar.specs.Definitions as definitions;
-ghost use Rattle.td_parser_expr.specs.Giving.{Gives};
+ghost use Rattle.td_parser_expr.specs.Giving.{Gives, Reads};
 ghost use Rattle.td_parser.specs.Pieces as pieces;
 
 use std::alloc::Global;
@@ -88,9 +88,9 @@ fn enum_head(alloc: Global, tokens: &[Token]) -> Result<(NumberTree, Name, &[Tok
     Ok((base, name, rest))
 }
 
-// [";"]
+// [";"]. Takes no memory.
 fn maybe_semicolon(tokens: &[Token]) -> Result<(Option<Span>, &[Token]), Failure<'_>>
-    ensures { Gives (λ x. Got x.0 x.1.now) result ((grammar.maybe (words.terminal TokenKind.Semicolon)).reader.read tokens.now) }
+    ensures { Reads (λ x. Got x.0 x.1.now) result ((grammar.maybe (words.terminal TokenKind.Semicolon)).reader.read tokens.now) }
 {
     if !peek_is(tokens, &TokenKind::Semicolon) {
         return Ok((None, tokens));

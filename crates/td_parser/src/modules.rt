@@ -6,7 +6,7 @@ ghost use Rattle.td_grammar.specs.Sets.{comes};
 ghost use Rattle.td_grammar.specs.Grammar as grammar;
 ghost use Rattle.td_grammar.specs.Definitions as definitions;
 ghost use Rattle.td_parser_expr.specs.Giving.{Gives};
-ghost use Rattle.td_parser.specs.Memory.{OnMemory};
+ghost use Rattle.td_parser_expr.specs.Memory.{OnMemory};
 ghost use Rattle.td_parser.specs.Pieces as pieces;
 
 use crate::casetypes::casetype;

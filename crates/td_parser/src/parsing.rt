@@ -8,7 +8,7 @@ ghost use Rattle.td_grammar.specs.Reading.{Got, ended, read_whole};
 ghost use Rattle.td_grammar.specs.Sets.{comes};
 ghost use Rattle.td_grammar.specs.Spelling.{Begins, IsFirstRefused};
 ghost use Rattle.td_parser.specs.Errors.{IsFailureWithin, IsErrorOf};
-ghost use Rattle.td_parser.specs.Memory.{OnMemory};
+ghost use Rattle.td_parser_expr.specs.Memory.{OnMemory};
 ghost use Rattle.td_parser.specs.Pieces as pieces;
 ghost use Rattle.td_parser_expr.specs.Giving.{Gives};
 

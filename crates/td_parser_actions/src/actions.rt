@@ -1,12 +1,13 @@
 //! Actions and their statements.
 
-ghost use Rattle.std.specs.Prelude.{◌≡◌};
+ghost use Rattle.std.specs.Prelude.{◌≡◌, true, IfErr};
 ghost use Rattle.td_grammar.specs.Reading.{Got};
 ghost use Rattle.td_grammar.specs.Sets.{comes};
 ghost use Rattle.td_grammar.specs.Ahead as ahead;
 ghost use Rattle.td_grammar.specs.Grammar as grammar;
 ghost use Rattle.td_grammar.specs.Actions as productions;
-ghost use Rattle.td_parser_expr.specs.Giving.{Gives};
+ghost use Rattle.td_parser_expr.specs.Giving.{Gives, Reads};
+ghost use Rattle.td_parser_expr.specs.Memory.{OnMemory};
 ghost use Rattle.td_parser_actions.specs.Actions as pieces;
 
 use std::alloc::Global;
@@ -39,10 +40,11 @@ fn peek_is_expression(tokens: &[Token]) -> bool
     }
 }
 
-/// `expr | "field_ptr"`
+/// `expr | "field_ptr"`. `Failure::OutOfMemory`: an expression begins, and there was no memory for it.
 #[tactic(auto, unfolding(td_grammar::specs::Actions::assigned, td_grammar::specs::Expressions::expr))]
 fn assigned(alloc: Global, tokens: &[Token]) -> Result<(Assigned, &[Token]), Failure<'_>>
-    ensures { Gives (λ x. Got x.0 x.1.now) result (productions.assigned.reader.read tokens.now) }
+    ensures reading { Gives (λ x. Got x.0 x.1.now) result (productions.assigned.reader.read tokens.now) }
+    ensures memory { IfErr result (OnMemory (comes ahead.begins tokens.now ≡ true)) }
 {
     if peek_is_expression(tokens) {
         let (value, rest) = expression(alloc, tokens)?;
@@ -125,9 +127,9 @@ fn returning(alloc: Global, tokens: &[Token]) -> Result<(Stmt, &[Token]), Failur
     Ok((statement, rest))
 }
 
-// "abort" ";"
+// "abort" ";". Takes no memory.
 fn aborting(tokens: &[Token]) -> Result<(Stmt, &[Token]), Failure<'_>>
-    ensures { Gives (λ x. Got x.0 x.1.now) result (pieces.aborting.reader.read tokens.now) }
+    ensures { Reads (λ x. Got x.0 x.1.now) result (pieces.aborting.reader.read tokens.now) }
 {
     let (at, rest) = expect(tokens, &TokenKind::Abort)?;
     let (end, rest) = expect(rest, &TokenKind::Semicolon)?;
@@ -299,8 +301,9 @@ fn action_of(kind: &TokenKind) -> Option<ActionKind>
     }
 }
 
+// Takes no memory.
 fn action_word(tokens: &[Token]) -> Result<(ActionKind, Span, &[Token]), Failure<'_>>
-    ensures { Gives (λ x. Got (x.0, x.1) x.2.now) result (pieces.action_word.reader.read tokens.now) }
+    ensures { Reads (λ x. Got (x.0, x.1) x.2.now) result (pieces.action_word.reader.read tokens.now) }
 {
     let [first, rest @ ..] = tokens else {
         return Err(Failure::Unexpected(tokens));

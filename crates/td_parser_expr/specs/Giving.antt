@@ -15,3 +15,14 @@ Fails (failures.TooDeep rest) read = read ≡ Deep rest.now
 abbrev pub Gives : {X A : Type 0} → (X → Outcome A) → Result X Failure → Outcome A → Type 0
 Gives view (Ok x) read = read ≡ view x
 Gives view (Err failure) read = Fails failure read
+
+-- it stopped where reading stops: it takes no memory
+abbrev pub Stops : {A : Type 0} → Failure → Outcome A → Type 0
+Stops failures.OutOfMemory read = ⊥
+Stops (failures.Unexpected rest) read = read ≡ Bad rest.now
+Stops (failures.TooDeep rest) read = read ≡ Deep rest.now
+
+-- the same of a function that takes no memory
+abbrev pub Reads : {X A : Type 0} → (X → Outcome A) → Result X Failure → Outcome A → Type 0
+Reads view (Ok x) read = read ≡ view x
+Reads view (Err failure) read = Stops failure read

@@ -1,8 +1,12 @@
 //! Expressions: one function for each way in which they nest, and one loop for all levels of operators of two operands.
 
+ghost use Rattle.std.specs.Prelude.{◌≡◌, true, [], ◌∷◌, IfErr};
+ghost use Rattle.td_ast.specs.declared.token.TokenKind.TheVariants as kinds;
 ghost use Rattle.td_grammar.specs.Reading.{Got};
 ghost use Rattle.td_grammar.specs.Expressions as productions;
+ghost use Rattle.td_grammar.specs.Sets.{any_name, comes, set_of};
 ghost use Rattle.td_parser_expr.specs.Giving.{Gives};
+ghost use Rattle.td_parser_expr.specs.Memory.{OnMemory};
 ghost use Rattle.td_parser_expr.specs.Tiers as tiers;
 
 use crate::failure::Failure;
@@ -121,10 +125,11 @@ fn range_okay(alloc: Global, depth: u32, tokens: &[Token]) -> Result<(Expr, &[To
     Ok((expr, rest))
 }
 
-/// `prim`
+/// `prim`. `Failure::OutOfMemory`: a name, `sizeof`, a parenthesis or `is_range_okay` comes first, and there was no memory.
 #[cycle(expression)]
 fn prim(alloc: Global, depth: u32, tokens: &[Token]) -> Result<(Expr, &[Token]), Failure<'_>>
-    ensures { Gives (λ x. Got x.0 x.1.now) result ((tiers.prim_at depth).reader.read tokens.now) }
+    ensures reading { Gives (λ x. Got x.0 x.1.now) result ((tiers.prim_at depth).reader.read tokens.now) }
+    ensures memory { IfErr result (OnMemory (comes (set_of (any_name ∷ kinds.Sizeof ∷ kinds.OpenParen ∷ kinds.IsRangeOkay ∷ [])) tokens.now ≡ true)) }
 {
     let [first, rest @ ..] = tokens else {
         return Err(Failure::Unexpected(tokens));

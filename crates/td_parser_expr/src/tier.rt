@@ -4,7 +4,7 @@ ghost use Rattle.std.specs.Prelude.{◌≡◌, false, IfNone, is_none};
 ghost use Rattle.td_ast.specs.Kinds.{number_of_kind};
 ghost use Rattle.td_grammar.specs.Reading.{Got};
 ghost use Rattle.td_grammar.specs.Sets.{comes};
-ghost use Rattle.td_parser_expr.specs.Giving.{Gives};
+ghost use Rattle.td_parser_expr.specs.Giving.{Reads};
 ghost use Rattle.td_parser_expr.specs.Tiers as tiers;
 
 use crate::failure::Failure;
@@ -92,12 +92,12 @@ pub fn peek_is_operator(tier: Tier, tokens: &[Token]) -> bool
     }
 }
 
-/// An operator of the level.
+/// An operator of the level. Takes no memory.
 pub fn operator(
     tier: Tier,
     tokens: &[Token],
 ) -> Result<(BinaryOperator, Span, &[Token]), Failure<'_>>
-    ensures { Gives (λ x. Got (x.0, x.1) x.2.now) result ((tiers.operator_at tier).reader.read tokens.now) }
+    ensures { Reads (λ x. Got (x.0, x.1) x.2.now) result ((tiers.operator_at tier).reader.read tokens.now) }
 {
     let [first, rest @ ..] = tokens else {
         return Err(Failure::Unexpected(tokens));

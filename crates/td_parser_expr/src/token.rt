@@ -1,11 +1,12 @@
 //! Productions of one token.
 
-ghost use Rattle.std.specs.Prelude.{◌≡◌};
+ghost use Rattle.std.specs.Prelude.{◌≡◌, true, IfErr};
 ghost use Rattle.td_ast.specs.Trees.{over};
 ghost use Rattle.td_grammar.specs.Tokens as productions;
 ghost use Rattle.td_grammar.specs.Reading.{Got};
-ghost use Rattle.td_grammar.specs.Sets.{comes};
-ghost use Rattle.td_parser_expr.specs.Giving.{Gives};
+ghost use Rattle.td_grammar.specs.Sets.{any_name, comes, only};
+ghost use Rattle.td_parser_expr.specs.Giving.{Gives, Reads};
+ghost use Rattle.td_parser_expr.specs.Memory.{OnMemory};
 
 use crate::failure::Failure;
 use std::alloc::Global;
@@ -13,12 +14,12 @@ use td_ast::names::{Literal, Name, NumberTree};
 use td_ast::token::{Span, Token, TokenKind};
 use td_num::text::Text;
 
-/// A token of the kind that is wanted.
+/// A token of the kind that is wanted. Takes no memory.
 pub fn expect<'a>(
     tokens: &'a [Token],
     wanted: &TokenKind,
 ) -> Result<(Span, &'a [Token]), Failure<'a>>
-    ensures { Gives (λ x. Got x.0 x.1.now) result ((productions.terminal wanted.now).reader.read tokens.now) }
+    ensures { Reads (λ x. Got x.0 x.1.now) result ((productions.terminal wanted.now).reader.read tokens.now) }
 {
     match tokens {
         [first, rest @ ..] if first.kind.is_kind(wanted) => Ok((first.span, rest)),
@@ -36,9 +37,10 @@ pub fn peek_is(tokens: &[Token], wanted: &TokenKind) -> bool
     }
 }
 
-/// `NAME`. `Failure::OutOfMemory`: there was no memory for its text.
+/// `NAME`. `Failure::OutOfMemory`: a name comes first, and there was no memory for its text.
 pub fn name(alloc: Global, tokens: &[Token]) -> Result<(Name, &[Token]), Failure<'_>>
-    ensures { Gives (λ x. Got x.0 x.1.now) result (productions.name.reader.read tokens.now) }
+    ensures reading { Gives (λ x. Got x.0 x.1.now) result (productions.name.reader.read tokens.now) }
+    ensures memory { IfErr result (OnMemory (comes (only any_name) tokens.now ≡ true)) }
 {
     match tokens {
         [
@@ -55,9 +57,9 @@ pub fn name(alloc: Global, tokens: &[Token]) -> Result<(Name, &[Token]), Failure
     }
 }
 
-/// `NUM`
+/// `NUM`. Takes no memory.
 pub fn literal(tokens: &[Token]) -> Result<(Literal, &[Token]), Failure<'_>>
-    ensures { Gives (λ x. Got x.0 x.1.now) result (productions.literal.reader.read tokens.now) }
+    ensures { Reads (λ x. Got x.0 x.1.now) result (productions.literal.reader.read tokens.now) }
 {
     match tokens {
         [
@@ -78,9 +80,9 @@ pub fn literal(tokens: &[Token]) -> Result<(Literal, &[Token]), Failure<'_>>
     }
 }
 
-/// `INT`
+/// `INT`. Takes no memory.
 pub fn number_type(tokens: &[Token]) -> Result<(NumberTree, &[Token]), Failure<'_>>
-    ensures { Gives (λ x. Got x.0 x.1.now) result (productions.number_type.reader.read tokens.now) }
+    ensures { Reads (λ x. Got x.0 x.1.now) result (productions.number_type.reader.read tokens.now) }
 {
     match tokens {
         [

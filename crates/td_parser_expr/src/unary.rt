@@ -7,7 +7,7 @@ ghost use Rattle.td_grammar.specs.Sets.{comes};
 ghost use Rattle.td_grammar.specs.Grammar as grammar;
 ghost use Rattle.td_grammar.specs.Operators as operators;
 ghost use Rattle.td_grammar.specs.Expressions as productions;
-ghost use Rattle.td_parser_expr.specs.Giving.{Gives};
+ghost use Rattle.td_parser_expr.specs.Giving.{Gives, Reads};
 
 use crate::failure::Failure;
 use crate::token::{over, peek_is};
@@ -25,8 +25,9 @@ fn unary_operator_of(kind: &TokenKind) -> Option<UnaryOperator>
     }
 }
 
+// Takes no memory.
 fn unary_operator(tokens: &[Token]) -> Result<(UnaryOperator, Span, &[Token]), Failure<'_>>
-    ensures { Gives (λ x. Got (x.0, x.1) x.2.now) result (operators.unary_operator.reader.read tokens.now) }
+    ensures { Reads (λ x. Got (x.0, x.1) x.2.now) result (operators.unary_operator.reader.read tokens.now) }
 {
     let [first, rest @ ..] = tokens else {
         return Err(Failure::Unexpected(tokens));

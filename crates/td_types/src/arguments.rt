@@ -1,6 +1,6 @@
 //! Arguments of types.
 
-ghost use Rattle.std.specs.Prelude.{◌≡◌, ◌≤◌, ◌+◌, ◌^◌, ◌++◌, not, IfOk, OnErr, OnOk, slice_get};
+ghost use Rattle.std.specs.Prelude.{◌≡◌, ◌<◌, ◌≤◌, ◌+◌, ◌^◌, ◌++◌, length, not, IfOk, OnErr, OnOk, slice_get};
 ghost use Rattle.td_rules.specs.Breach.{first_of, when};
 ghost use Rattle.td_rules.specs.declared.breach.Rule.TheVariants.{WrongArgs};
 ghost use Rattle.td_num.specs.Numbers.{places_from};
@@ -8,6 +8,7 @@ ghost use Rattle.td_rules.specs.declared.known.Meaning.TheVariants as meaning;
 ghost use Rattle.td_rules.specs.declared.known.Found.TheVariants.{Global as GlobalFound};
 ghost use Rattle.td_rules.specs.Types.{same_cell, cells_found, cells_named, are_applied, args_breaches, args_core, cells_or_none, args_cells, fits_params, same_kind, is_kind, fits_cells, applied, found_breaches, found_element};
 ghost use Rattle.td_types.specs.Runs.{run_cells, is_taken, term_of, arg_breaches, cells_of};
+ghost use Rattle.td_types.specs.Memory.{IsValue};
 
 use crate::types::same_number;
 use std::alloc::{AllocError, Global};
@@ -133,7 +134,8 @@ fn parameter_at(parameters: &[Parameter], i: usize) -> Option<Parameter>
     parameters.get(i).copied()
 }
 
-/// An argument for a value, added to those before; its breaches are noted. `AllocError`: out of memory.
+/// An argument for a value, added to those before; its breaches are noted. `AllocError`: the parameter is a value, and
+/// out of memory.
 fn add_term(
     alloc: Global,
     known: &Known,
@@ -143,6 +145,7 @@ fn add_term(
     terms: &mut Items<CoreExpr>,
     findings: &mut Findings,
 ) -> Result<(), AllocError>
+    ensures memory { OnErr result (IsValue parameter) }
     ensures core { OnOk result (terms.new ≡ terms.old ++ term_of known.now scope.now parameter arg.now) }
     ensures first { OnOk result (findings.new.first ≡ first_of findings.old.first (arg_breaches known.now scope.now parameter arg.now)) }
 {
@@ -153,7 +156,8 @@ fn add_term(
     Ok(())
 }
 
-/// The arguments for values, added to those before; their breaches are noted. `AllocError`: out of memory.
+/// The arguments for values, added to those before; their breaches are noted. `AllocError`: there is an argument, and
+/// out of memory.
 #[tactic(auto, using(td_typing::proofs::Steps::first_append))]
 fn add_terms(
     alloc: Global,
@@ -164,6 +168,7 @@ fn add_terms(
     terms: &mut Items<CoreExpr>,
     findings: &mut Findings,
 ) -> Result<(), AllocError>
+    ensures memory { OnErr result (0 < length args.now) }
     ensures core { OnOk result (terms.new ≡ terms.old ++ args_core known.now scope.now parameters.now args.now) }
     ensures first { OnOk result (findings.new.first ≡ first_of findings.old.first (args_breaches known.now scope.now parameters.now args.now)) }
 {
@@ -217,7 +222,7 @@ fn cells_of(known: &Known, scope: &Scope, parameter: Parameter, arg: &Expr) -> O
     }
 }
 
-/// The cells that are handed on, after those before. `AllocError`: out of memory.
+/// The cells that are handed on, after those before. `AllocError`: there is an argument, and out of memory.
 fn add_cells(
     known: &Known,
     scope: &Scope,
@@ -225,7 +230,8 @@ fn add_cells(
     args: &[Expr],
     cells: &mut Items<u32>,
 ) -> Result<(), AllocError>
-    ensures { OnOk result (cells.new ≡ cells.old ++ args_cells known.now scope.now parameters.now args.now) }
+    ensures memory { OnErr result (0 < length args.now) }
+    ensures cells { OnOk result (cells.new ≡ cells.old ++ args_cells known.now scope.now parameters.now args.now) }
 {
     for (i, arg) in args.iter().enumerate() {
         match parameter_at(parameters, i) {
@@ -318,7 +324,8 @@ fn applied(
     }
 }
 
-/// The struct or casetype at a place with its arguments; their breaches are noted. `AllocError`: out of memory.
+/// The struct or casetype at a place with its arguments; their breaches are noted. `AllocError`: there is an argument,
+/// and out of memory.
 #[tactic(auto, using(td_typing::proofs::Steps::first_append))]
 pub fn apply(
     alloc: Global,
@@ -329,6 +336,7 @@ pub fn apply(
     args: &[Expr],
     findings: &mut Findings,
 ) -> Result<Element, AllocError>
+    ensures memory { OnErr result (0 < length args.now) }
     ensures core { IfOk result (λ e. e ≡ found_element known.now scope.now (GlobalFound (meaning.Type place)) args.now) }
     ensures first { OnOk result (findings.new.first ≡ first_of findings.old.first (found_breaches known.now scope.now (GlobalFound (meaning.Type place)) at args.now)) }
 {

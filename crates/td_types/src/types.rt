@@ -1,8 +1,9 @@
 //! Types of fields.
 
-ghost use Rattle.std.specs.Prelude.{◌≡◌, IfOk, OnOk};
+ghost use Rattle.std.specs.Prelude.{◌≡◌, ◌<◌, length, IfOk, OnErr, OnOk};
 ghost use Rattle.td_rules.specs.Breach.{first_of};
 ghost use Rattle.td_rules.specs.Types.{same_order, same_number, number_found, number_type, is_byte, found_breaches, type_breaches, found_element, element_of};
+ghost use Rattle.td_types.specs.Memory.{HasArguments};
 
 use crate::arguments::{apply, check_applied};
 use std::alloc::{AllocError, Global};
@@ -74,7 +75,8 @@ pub fn is_byte(number: Option<NumberType>) -> bool
     }
 }
 
-/// The element of what a type's name stands for, with its arguments; its breaches are noted. `AllocError`: out of memory.
+/// The element of what a type's name stands for, with its arguments; its breaches are noted. `AllocError`: there is an
+/// argument, and out of memory.
 fn named(
     alloc: Global,
     known: &Known,
@@ -84,6 +86,7 @@ fn named(
     args: &[Expr],
     findings: &mut Findings,
 ) -> Result<Element, AllocError>
+    ensures memory { OnErr result (0 < length args.now) }
     ensures core { IfOk result (λ e. e ≡ found_element known.now scope.now found args.now) }
     ensures first { OnOk result (findings.new.first ≡ first_of findings.old.first (found_breaches known.now scope.now found at args.now)) }
 {
@@ -110,7 +113,7 @@ fn named(
     }
 }
 
-/// The element of a type; its breaches are noted. `AllocError`: out of memory.
+/// The element of a type; its breaches are noted. `AllocError`: the type has arguments, and out of memory.
 pub fn element(
     alloc: Global,
     known: &Known,
@@ -118,6 +121,7 @@ pub fn element(
     tree: &TypeTree,
     findings: &mut Findings,
 ) -> Result<Element, AllocError>
+    ensures memory { OnErr result (HasArguments tree.now.kind) }
     ensures core { IfOk result (λ e. e ≡ element_of known.now scope.now tree.now) }
     ensures first { OnOk result (findings.new.first ≡ first_of findings.old.first (type_breaches known.now scope.now tree.now)) }
 {

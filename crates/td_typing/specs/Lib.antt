@@ -1,1 +1,1 @@
--- no definitions of its own: those of td_rules
+pub mod Memory

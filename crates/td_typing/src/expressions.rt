@@ -1,6 +1,6 @@
 //! Expressions: their sorts, the core expressions that they stand for, and what they break, all in one walk.
 
-ghost use Rattle.std.specs.Prelude.{◌≡◌, IfOk, OnOk, is_none};
+ghost use Rattle.std.specs.Prelude.{◌≡◌, IfOk, OnErr, OnOk, IsSomeAnd, is_none};
 ghost use Rattle.td_ast.specs.Trees as tree;
 ghost use Rattle.td_ast.specs.Trees.{span_of};
 ghost use Rattle.td_core.specs.Term.{choice};
@@ -8,6 +8,7 @@ ghost use Rattle.td_rules.specs.Breach.{first_of, when};
 ghost use Rattle.td_rules.specs.declared.breach.Rule.TheVariants.{BadAction};
 ghost use Rattle.td_rules.specs.Sorts.{sort_of, core_of, option_core, literal_alone, found_core, start_core, size_core, unary_core, operation_core, range_core, start_sort};
 ghost use Rattle.td_rules.specs.ExprRules.{name_breaches, size_breaches, expr_breaches, number_breaches, truth_breaches, fitting_breaches, test_breaches};
+ghost use Rattle.td_typing.specs.Memory.{HasOperator};
 
 use crate::cores::{
     choice_core, found_core, literal_alone, operation_core, range_core, size_core, start_core,
@@ -90,6 +91,7 @@ pub fn expression(
     e: &Expr,
     findings: &mut Findings,
 ) -> Result<Typing, AllocError>
+    ensures memory { OnErr result (HasOperator e.now) }
     ensures sort { IfOk result (λ t. t.sort ≡ sort_of known.now scope.now e.now) }
     ensures core { IfOk result (λ t. t.core ≡ core_of known.now scope.now e.now) }
     ensures first { OnOk result (findings.new.first ≡ first_of findings.old.first (expr_breaches known.now scope.now e.now)) }
@@ -306,6 +308,7 @@ pub fn number(
     e: &Expr,
     findings: &mut Findings,
 ) -> Result<Typing, AllocError>
+    ensures memory { OnErr result (HasOperator e.now) }
     ensures sort { IfOk result (λ t. t.sort ≡ sort_of known.now scope.now e.now) }
     ensures core { IfOk result (λ t. t.core ≡ core_of known.now scope.now e.now) }
     ensures first { OnOk result (findings.new.first ≡ first_of findings.old.first (number_breaches known.now scope.now e.now)) }
@@ -325,6 +328,7 @@ pub fn fitting(
     e: &Expr,
     findings: &mut Findings,
 ) -> Result<Typing, AllocError>
+    ensures memory { OnErr result (HasOperator e.now) }
     ensures sort { IfOk result (λ t. t.sort ≡ sort_of known.now scope.now e.now) }
     ensures core { IfOk result (λ t. t.core ≡ core_of known.now scope.now e.now) }
     ensures first { OnOk result (findings.new.first ≡ first_of findings.old.first (fitting_breaches known.now scope.now w e.now)) }
@@ -347,6 +351,7 @@ pub fn truth_value(
     e: &Expr,
     findings: &mut Findings,
 ) -> Result<CoreExpr, AllocError>
+    ensures memory { OnErr result (HasOperator e.now) }
     ensures core { IfOk result (λ c. c ≡ core_of known.now scope.now e.now) }
     ensures first { OnOk result (findings.new.first ≡ first_of findings.old.first (truth_breaches known.now scope.now e.now)) }
 {
@@ -355,7 +360,7 @@ pub fn truth_value(
     Ok(typing.core)
 }
 
-/// A refinement or `where`, where there is one. `AllocError` as of `expression`.
+/// A refinement or `where`, where there is one. `AllocError` as of `expression`, of the one that is there.
 pub fn test(
     alloc: Global,
     known: &Known,
@@ -363,6 +368,7 @@ pub fn test(
     e: &Option<Expr>,
     findings: &mut Findings,
 ) -> Result<Option<CoreExpr>, AllocError>
+    ensures memory { OnErr result (IsSomeAnd e.now HasOperator) }
     ensures core { IfOk result (λ c. c ≡ option_core known.now scope.now e.now) }
     ensures first { OnOk result (findings.new.first ≡ first_of findings.old.first (test_breaches known.now scope.now e.now)) }
 {

@@ -11,7 +11,7 @@ returns-clause-known c =
     let d = c.args.tree.now in
     let place = c.in_ok-place.ensures.place ∙ c.len.ensures in
     let named : c.declare.new.known ≡ with_enum_name k d =
-    c.in_ok-declare.ensures
+    c.in_ok-declare.ensures.known
     ∙ ap (λ t. with_global k t (Enum d.base.number c.in_ok-place.place)) c.as_slice.ensures
     ∙ ap (λ p. with_global k d.name.text (Enum d.base.number p)) place in
     enum_known k d c.items.new.known c.in_ok-count.count c.in_ok-values.values c.push.new.self

@@ -17,10 +17,10 @@ loop-tree-preserved c =
     let v = item_value l.known l.next x in
     let number : c.number_or_zero-number.result ≡ number_or_zero v = c.number_or_zero-number.ensures ∙ ap number_or_zero c.item_value-value.ensures in
     let known : c.declare.new.known ≡ with_item l.known l.next x =
-    c.in_ok-declare.ensures
+    c.in_ok-declare.ensures.known
     ∙ ap (λ t. with_global l.known t (Member c.number_or_zero-number.result)) c.as_slice.ensures
     ∙ ap (λ n. with_global l.known x.name.text (Member n)) number in
-    let before : c.add_value.new.before ≡ with_value_number l.before v = c.in_ok-add_value.ensures ∙ ap (λ u. with_value_number l.before u) c.item_value-value.ensures in
+    let before : c.add_value.new.before ≡ with_value_number l.before v = c.in_ok-add_value.ensures.values ∙ ap (λ u. with_value_number l.before u) c.item_value-value.ensures in
     let next : c.next_value-next.result ≡ next_value v = c.next_value-next.ensures ∙ ap next_value c.item_value-value.ensures in
     let k = with_item l.known l.next x in
     record {

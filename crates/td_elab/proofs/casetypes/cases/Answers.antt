@@ -29,7 +29,7 @@ loop-tree-preserved c =
     ∙ ap (λ fs. fields_core names known l.scope fs) inner
     ∙ ap (λ u. fields_core names known u x.fields) l.invariant.scope in
     let taken : c.case_fields.new.taken ≡ case_taken l.taken x.fields = e.taken ∙ ap (λ fs. case_taken l.taken fs) inner in
-    let before : c.add_value.new.before ≡ with_value_number l.before v = c.in_ok-add_value.ensures ∙ ap (λ u. with_value_number l.before u) value in
+    let before : c.add_value.new.before ≡ with_value_number l.before v = c.in_ok-add_value.ensures.values ∙ ap (λ u. with_value_number l.before u) value in
     let own = case_breaches known scope switch l.before x.constant in
     let under = fields_breaches known (next_case l.taken) scope x.fields in
     let more = cases_breaches known (case_taken l.taken x.fields) scope switch (with_value_number l.before v) rest in

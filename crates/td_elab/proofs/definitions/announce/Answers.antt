@@ -12,7 +12,7 @@ returns c =
     let own = length k.definitions in
     let place : c.in_ok-place.place ≡ own = c.in_ok-place.ensures.place ∙ c.len.ensures in
     let count : c.in_ok-count.count ≡ k.count + 1 = c.in_ok-count.ensures.place in
-    let known : c.declare.new.known ≡ with_global k name (meaning.Type own) = c.in_ok-declare.ensures ∙ ap (λ p. with_global k name (meaning.Type p)) place in
+    let known : c.declare.new.known ≡ with_global k name (meaning.Type own) = c.in_ok-declare.ensures.known ∙ ap (λ p. with_global k name (meaning.Type p)) place in
     let used : c.see_names.new.names ≡ with_names k.used c.args.given.now = c.in_ok-see_names.ensures ∙ ap (λ x. with_names x.used c.args.given.now) known in
     let entries : c.add_entry.new.entries ≡ entry_more is_entry own k.entries =
     c.in_ok-add_entry.ensures

@@ -39,4 +39,5 @@ loop-tree-preserved c =
           ap (λ u. fields_scope known u rest) e.scope
           ∙ ap (λ r. fields_scope known l.scope r) s
           ∙ l.invariant.scope;
+      shut = λ none. absurd (omega (arith, none));
     }

@@ -23,16 +23,16 @@ loop-i-preserved c =
     ∙ ap (λ q. l.cells ++ args_cells k s (drop l.i c.args.parameters.now) q) (sym (split c.args.args.now l.i x (omega arith) c.index-args-i.is))
     ∙ l.invariant
 
-pub returns-in-None : goal.returns-in-None
-returns-in-None c =
+pub returns-in-None-clause-cells : goal.returns-in-None-clause-cells
+returns-in-None-clause-cells c =
     let l = c.loop-i in
     let es = drop l.i c.args.args.now in
     sym (append-nil l.cells)
     ∙ ap (λ q. l.cells ++ args_cells c.args.known.now c.args.scope.now q es) (sym (none_at c.args.parameters.now l.i c.in-None.ensures))
     ∙ l.invariant
 
-pub returns : goal.returns
-returns c =
+pub returns-clause-cells : goal.returns-clause-cells
+returns-clause-cells c =
     let l = c.loop-i in
     let k = c.args.known.now in
     let s = c.args.scope.now in
