@@ -3,3 +3,4 @@ pub mod Sizes
 pub mod Laws
 pub mod Ends
 pub mod Known
+pub mod Memory

@@ -1,6 +1,7 @@
 //! The first operator of an action that isn't safe.
 
-ghost use Rattle.std.specs.Prelude.{◌≡◌, ◌++◌, IfOk, OnOk};
+ghost use Rattle.std.specs.Prelude.{◌≡◌, ◌++◌, IfOk, OnOk, OnErr, IsSomeAnd};
+ghost use Rattle.td_core.specs.Copying.{HasParts};
 ghost use Rattle.td_expr.specs.Facts.{facts_of};
 ghost use Rattle.td_arith.specs.Known.{facts_in};
 ghost use Rattle.td_arith.specs.SafeModule.{deed_unsafe, action_unsafe};
@@ -14,7 +15,8 @@ use td_core::expressions::CoreExpr;
 use td_expr::safety::Unsafe;
 
 /// The first operator of a field's action that isn't safe where conditions are known to hold. On `Ok` the list of them is
-/// as before. `AllocError`: there was no memory to look.
+/// as before. `AllocError`: it has a statement that others may follow, or returns an expression with operands, and there
+/// was no memory to look at it.
 pub fn action_unsafe<'a>(
     alloc: Global,
     action: &'a Option<Action>,
@@ -22,6 +24,7 @@ pub fn action_unsafe<'a>(
 ) -> Result<Option<Unsafe>, AllocError>
     ensures first { IfOk result (λ u. u ≡ action_unsafe (facts_in known.old.items) action.now) }
     ensures same { OnOk result (known.new.items ≡ known.old.items) }
+    ensures memory { OnErr result (IsSomeAnd action.now (λ a. HasParts a)) }
 {
     match action {
         Some(action) => steps_unsafe(alloc, action, known),
@@ -57,6 +60,7 @@ fn steps_unsafe<'a>(
 ) -> Result<Option<Unsafe>, AllocError>
     ensures first { IfOk result (λ u. u ≡ deed_unsafe (facts_in known.old.items) action.now) }
     ensures same { OnOk result (known.new.items ≡ known.old.items) }
+    ensures memory { OnErr result (HasParts action.now) }
 {
     match &action.step {
         Step::Done | Step::Abort => Ok(None),

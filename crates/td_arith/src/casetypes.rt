@@ -1,7 +1,9 @@
 //! The first operator of a definition that isn't safe.
 
-ghost use Rattle.std.specs.Prelude.{◌≡◌, [], IfOk};
+ghost use Rattle.std.specs.Prelude.{◌≡◌, ◌≢◌, ◌<◌, ◌⊎◌, [], None, length, IfOk, OnErr};
+ghost use Rattle.td_core.specs.Copying.{HasOperands};
 ghost use Rattle.td_expr.specs.Safe.{first, first_unsafe};
+ghost use Rattle.td_arith.specs.Memory.{HasInside};
 ghost use Rattle.td_arith.specs.SafeModule.{known_after, fields_unsafe, cases_unsafe, default_unsafe, body_unsafe, definition_unsafe};
 
 use crate::expressions::first_of;
@@ -14,9 +16,11 @@ use td_core::module::{Body, Case, Field, TypeDef};
 use td_expr::safety::Unsafe;
 use td_num::items::Items;
 
-/// The first operator of a struct or a casetype that isn't safe. `AllocError`: there was no memory to look.
+/// The first operator of a struct or a casetype that isn't safe. `AllocError`: it has a `where`, a field, a switch with
+/// operands, a case or a `default`, and there was no memory to look at it.
 pub fn definition_unsafe(alloc: Global, definition: &TypeDef) -> Result<Option<Unsafe>, AllocError>
-    ensures { IfOk result (λ u. u ≡ definition_unsafe definition.now) }
+    ensures first { IfOk result (λ u. u ≡ definition_unsafe definition.now) }
+    ensures memory { OnErr result ((definition.now.guard ≢ None) ⊎ HasInside definition.now.body) }
 {
     let mut known: Vec<Known> = Vec::new(alloc);
     let guard = test_unsafe(alloc, &definition.guard, &mut known)?;
@@ -30,7 +34,8 @@ fn fields_under(
     guard: &Option<CoreExpr>,
     fields: &[Field],
 ) -> Result<Option<Unsafe>, AllocError>
-    ensures { IfOk result (λ u. u ≡ fields_unsafe (known_after [] guard.now) fields.now) }
+    ensures first { IfOk result (λ u. u ≡ fields_unsafe (known_after [] guard.now) fields.now) }
+    ensures memory { OnErr result ((guard.now ≢ None) ⊎ (0 < length fields.now)) }
 {
     let mut known: Vec<Known> = Vec::new(alloc);
     learn(guard, &mut known)?;
@@ -42,7 +47,8 @@ fn switch_unsafe(
     guard: &Option<CoreExpr>,
     switch: &CoreExpr,
 ) -> Result<Option<Unsafe>, AllocError>
-    ensures { IfOk result (λ u. u ≡ first_unsafe (known_after [] guard.now) switch.now) }
+    ensures first { IfOk result (λ u. u ≡ first_unsafe (known_after [] guard.now) switch.now) }
+    ensures memory { OnErr result ((guard.now ≢ None) ⊎ HasOperands switch.now) }
 {
     let mut known: Vec<Known> = Vec::new(alloc);
     learn(guard, &mut known)?;
@@ -54,7 +60,8 @@ fn cases_unsafe(
     guard: &Option<CoreExpr>,
     cases: &[Case],
 ) -> Result<Option<Unsafe>, AllocError>
-    ensures { IfOk result (λ u. u ≡ cases_unsafe (known_after [] guard.now) cases.now) }
+    ensures first { IfOk result (λ u. u ≡ cases_unsafe (known_after [] guard.now) cases.now) }
+    ensures memory { OnErr result (0 < length cases.now) }
 {
     let mut found = None;
     for case in cases {
@@ -69,7 +76,8 @@ fn default_unsafe(
     guard: &Option<CoreExpr>,
     default: &Option<Items<Field>>,
 ) -> Result<Option<Unsafe>, AllocError>
-    ensures { IfOk result (λ u. u ≡ default_unsafe (known_after [] guard.now) default.now) }
+    ensures first { IfOk result (λ u. u ≡ default_unsafe (known_after [] guard.now) default.now) }
+    ensures memory { OnErr result (default.now ≢ None) }
 {
     match default {
         Some(fields) => fields_under(alloc, guard, fields.as_slice()),
@@ -85,9 +93,11 @@ fn casetype_unsafe(
     cases: &[Case],
     default: &Option<Items<Field>>,
 ) -> Result<Option<Unsafe>, AllocError>
-    ensures { IfOk result (λ u. u ≡ first (first_unsafe (known_after [] guard.now) switch.now)
+    ensures first { IfOk result (λ u. u ≡ first (first_unsafe (known_after [] guard.now) switch.now)
         (first (cases_unsafe (known_after [] guard.now) cases.now) (default_unsafe
         (known_after [] guard.now) default.now))) }
+    ensures memory { OnErr result ((guard.now ≢ None)
+        ⊎ (HasOperands switch.now ⊎ ((0 < length cases.now) ⊎ (default.now ≢ None)))) }
 {
     let own = switch_unsafe(alloc, guard, switch)?;
     let inside = cases_unsafe(alloc, guard, cases)?;
@@ -100,7 +110,8 @@ fn body_unsafe(
     guard: &Option<CoreExpr>,
     body: &Body,
 ) -> Result<Option<Unsafe>, AllocError>
-    ensures { IfOk result (λ u. u ≡ body_unsafe (known_after [] guard.now) body.now) }
+    ensures first { IfOk result (λ u. u ≡ body_unsafe (known_after [] guard.now) body.now) }
+    ensures memory { OnErr result ((guard.now ≢ None) ⊎ HasInside body.now) }
 {
     match body {
         Body::Struct(fields) => fields_under(alloc, guard, fields.as_slice()),

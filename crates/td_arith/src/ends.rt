@@ -1,6 +1,6 @@
 //! Between which numbers an expression lies. Ends are whole numbers of any size.
 
-ghost use Rattle.std.specs.Prelude.{◌≡◌, pos, ◌+ℤ◌, ◌-ℤ◌, ◌*ℤ◌, IfOk};
+ghost use Rattle.std.specs.Prelude.{◌≡◌, ◌≢◌, pos, ◌+ℤ◌, ◌-ℤ◌, ◌*ℤ◌, IfOk, OnErr};
 ghost use Rattle.td_expr.specs.Range.{cut, cut_where, whole, computed_range, constant_or, from_to, least, greatest};
 ghost use Rattle.td_arith.specs.Ends.{range_in, spanned};
 
@@ -46,9 +46,11 @@ pub fn constant_or(constant: Option<u64>, ends: Ends) -> Ends
     }
 }
 
-/// What a comparison with a constant leaves. `AllocError`: there was no memory to compare.
+/// What a comparison with a constant leaves. `AllocError`: it isn't `!=`, which leaves all, and there was no memory to
+/// compare.
 pub fn cut(alloc: Global, relation: Relation, c: u64, ends: Ends) -> Result<Ends, AllocError>
-    ensures { IfOk result (λ e. range_in e ≡ cut relation c (range_in ends)) }
+    ensures range { IfOk result (λ e. range_in e ≡ cut relation c (range_in ends)) }
+    ensures memory { OnErr result (relation ≢ Relation.NotEqual) }
 {
     let bound = i128::from(c);
     match relation {
@@ -71,7 +73,8 @@ pub fn span(alloc: Global, one: Ends, other: Ends) -> Result<Ends, AllocError>
     })
 }
 
-/// The range of what an operator computes, of this type. `AllocError`: there was no memory for it.
+/// The range of what an operator computes, of this type. `AllocError`: it isn't `|`, `^` or `<<`, of which only the
+/// type is known, and there was no memory for the range.
 pub fn computed(
     alloc: Global,
     op: Binary,
@@ -79,8 +82,9 @@ pub fn computed(
     a: &Ends,
     b: &Ends,
 ) -> Result<Ends, AllocError>
-    ensures { IfOk result (λ e. range_in e ≡
+    ensures range { IfOk result (λ e. range_in e ≡
         computed_range op scalar (range_in a.now) (range_in b.now)) }
+    ensures memory { OnErr result ((op ≢ Binary.BitOr) × ((op ≢ Binary.BitXor) × (op ≢ Binary.ShiftLeft))) }
 {
     match op {
         Binary::Plus => sum(alloc, a, b),

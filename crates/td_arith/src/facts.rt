@@ -1,6 +1,6 @@
 //! What is known where an expression stands.
 
-ghost use Rattle.std.specs.Prelude.{◌≡◌, ◌&&◌, IfOk};
+ghost use Rattle.std.specs.Prelude.{◌≡◌, ◌&&◌, ◌<◌, length, IfOk, OnErr};
 ghost use Rattle.td_core.specs.declared.expressions.Binary.TheVariants.{Minus};
 ghost use Rattle.td_core.specs.declared.expressions.Relation.TheVariants.{LessEqual};
 ghost use Rattle.td_core.specs.Term.{compute};
@@ -35,15 +35,16 @@ pub enum Question<'a> {
     Sum(Scalar, &'a CoreExpr, &'a CoreExpr),
 }
 
-/// The range of an expression, by its value where it is constant and by what is known. `AllocError`: there was no memory
-/// to compare.
+/// The range of an expression, by its value where it is constant and by what is known. `AllocError`: something is known,
+/// and there was no memory to compare.
 pub fn narrowed(
     alloc: Global,
     known: &[Known],
     e: &CoreExpr,
     ends: Ends,
 ) -> Result<Ends, AllocError>
-    ensures { IfOk result (λ r. range_in r ≡ narrowed (facts_in known.now) e.now (range_in ends)) }
+    ensures range { IfOk result (λ r. range_in r ≡ narrowed (facts_in known.now) e.now (range_in ends)) }
+    ensures memory { OnErr result (0 < length known.now) }
 {
     cut_by_known(alloc, known, e, constant_or(constant_of(e), ends))
 }
@@ -191,13 +192,15 @@ fn cut_by_condition(
     }
 }
 
+/// Cuts a range of an expression by all that is known.
 fn cut_by_known(
     alloc: Global,
     known: &[Known],
     e: &CoreExpr,
     ends: Ends,
 ) -> Result<Ends, AllocError>
-    ensures { IfOk result (λ r. range_in r ≡ cut_by_all (facts_in known.now) e.now (range_in ends)) }
+    ensures range { IfOk result (λ r. range_in r ≡ cut_by_all (facts_in known.now) e.now (range_in ends)) }
+    ensures memory { OnErr result (0 < length known.now) }
 {
     let mut left = ends;
     for k in known {

@@ -1,6 +1,7 @@
 //! The first operator of fields that isn't safe.
 
-ghost use Rattle.std.specs.Prelude.{◌≡◌, IfOk, OnOk};
+ghost use Rattle.std.specs.Prelude.{◌≡◌, ◌≢◌, ◌<◌, None, length, IfOk, OnOk, OnErr, IsSomeAnd};
+ghost use Rattle.td_core.specs.Copying.{HasOperands};
 ghost use Rattle.td_arith.specs.Known.{facts_in};
 ghost use Rattle.td_arith.specs.SafeModule.{option_unsafe, known_after, list_unsafe, element_unsafe, extent_unsafe, part_unsafe, parts_unsafe, known_after_parts, field_unsafe, fields_unsafe};
 
@@ -13,7 +14,8 @@ use td_core::expressions::CoreExpr;
 use td_core::module::{Element, Extent, Field, Part};
 use td_expr::safety::Unsafe;
 
-/// The first operator of a test that isn't safe, where there is a test. On `Ok` what is known is as before.
+/// The first operator of a test that isn't safe, where there is a test. On `Ok` what is known is as before. `AllocError`:
+/// there is a test with operands, and there was no memory to look at them.
 pub fn test_unsafe<'a>(
     alloc: Global,
     test: &'a Option<CoreExpr>,
@@ -21,6 +23,7 @@ pub fn test_unsafe<'a>(
 ) -> Result<Option<Unsafe>, AllocError>
     ensures first { IfOk result (λ u. u ≡ option_unsafe (facts_in known.old.items) test.now) }
     ensures same { OnOk result (known.new.items ≡ known.old.items) }
+    ensures memory { OnErr result (IsSomeAnd test.now (λ e. HasOperands e)) }
 {
     match test {
         Some(e) => expression_unsafe(alloc, e, known),
@@ -28,9 +31,10 @@ pub fn test_unsafe<'a>(
     }
 }
 
-/// Adds what is known once a test passed.
+/// Adds what is known once a test passed. `AllocError`: there is a test, and there was no memory for it.
 pub fn learn<'a>(test: &'a Option<CoreExpr>, known: &mut Vec<Known<'a>>) -> Result<(), AllocError>
-    ensures { OnOk result (facts_in known.new.items ≡ known_after (facts_in known.old.items) test.now) }
+    ensures known { OnOk result (facts_in known.new.items ≡ known_after (facts_in known.old.items) test.now) }
+    ensures memory { OnErr result (test.now ≢ None) }
 {
     if let Some(condition) = test {
         known.push(Known {
@@ -42,13 +46,14 @@ pub fn learn<'a>(test: &'a Option<CoreExpr>, known: &mut Vec<Known<'a>>) -> Resu
 }
 
 /// The first operator of fields that isn't safe where conditions are known to hold. What is known afterwards is of no further
-/// use. `AllocError`: there was no memory to look.
+/// use. `AllocError`: there is a field, and there was no memory to look.
 pub fn fields_unsafe<'a>(
     alloc: Global,
     fields: &'a [Field],
     known: &mut Vec<Known<'a>>,
 ) -> Result<Option<Unsafe>, AllocError>
-    ensures { IfOk result (λ u. u ≡ fields_unsafe (facts_in known.old.items) fields.now) }
+    ensures first { IfOk result (λ u. u ≡ fields_unsafe (facts_in known.old.items) fields.now) }
+    ensures memory { OnErr result (0 < length fields.now) }
 {
     let mut found = None;
     for field in fields {

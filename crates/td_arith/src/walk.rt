@@ -1,7 +1,8 @@
 //! The first operator of an expression that isn't safe. Ranges are worked out of the operands of operators that compute, and of
 //! what these are made of, alone: for each of them all that is known is gone through.
 
-ghost use Rattle.std.specs.Prelude.{◌≡◌, ◌++◌, IfOk, OnOk, true, false};
+ghost use Rattle.std.specs.Prelude.{◌≡◌, ◌++◌, IfOk, OnOk, OnErr, true, false};
+ghost use Rattle.td_core.specs.Copying.{HasOperands};
 ghost use Rattle.td_core.specs.Types.{type_of};
 ghost use Rattle.td_expr.specs.Facts.{facts_of};
 ghost use Rattle.td_expr.specs.Range.{narrowed, computed_range, range_of};
@@ -34,7 +35,7 @@ struct Operands {
 }
 
 /// The first operator of an expression that isn't safe where conditions are known to hold. On `Ok` the list of them is as
-/// before. `AllocError`: there was no memory to look.
+/// before. `AllocError`: it has operands, and there was no memory to look at them.
 #[cycle(walk)]
 pub fn expression_unsafe<'a>(
     alloc: Global,
@@ -43,6 +44,7 @@ pub fn expression_unsafe<'a>(
 ) -> Result<Option<Unsafe>, AllocError>
     ensures first { IfOk result (λ u. u ≡ first_unsafe (facts_in known.old.items) e.now) }
     ensures same { OnOk result (known.new.items ≡ known.old.items) }
+    ensures memory { OnErr result (HasOperands e.now) }
 {
     match &e.node {
         Node::Number { .. } | Node::Name { .. } => Ok(None),

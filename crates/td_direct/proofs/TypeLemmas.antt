@@ -5,11 +5,15 @@ use Rattle.std.proofs.lemmas.Bool.{eq-eqb, ne_eqb, eqb-true}
 use Rattle.std.proofs.lemmas.List.{get_or-drop, drop-drop}
 use Rattle.std.specs.List.{Contains}
 use Rattle.td_num.specs.Numbers.{places_from}
+use Rattle.td_num.specs.declared.number.NumberType.{NumberType}
 use Rattle.td_stream.specs.declared.load.Load.{Load}
 use Rattle.td_stream.specs.Loads.{IsLoaded, IsTouched, OnlyTouched}
 use Rattle.td_leaves.specs.Outcomes.{IsBehaviorOf}
 use Rattle.td_core.specs.declared.module.NameId.{NameId}
 use Rattle.td_core.specs.declared.module.Element.{Element}
+use Rattle.td_core.specs.declared.module.Element.TheVariants as element
+use Rattle.td_core.specs.declared.module.Extent.{Extent}
+use Rattle.td_core.specs.declared.module.Extent.TheVariants as extent
 use Rattle.td_core.specs.declared.module.Field.{Field}
 use Rattle.td_core.specs.declared.module.Part.{Part}
 use Rattle.td_meaning.specs.Naming.{is_needed}
@@ -27,9 +31,26 @@ use Rattle.td_meaning.specs.Meaning.{Sense, extended, bits_of, taken, demanded, 
 use Rattle.td_meaning.specs.Machine.{is_met, body_fields, chosen_meaning, definition_meaning, below, fields_meaning, meaning}
 use Rattle.td_meaning.specs.Verdicts.{ending_of, IsAt, frame_place}
 use Rattle.td_meaning.proofs.Below.{below_self, below_at, below_past}
+use Rattle.td_leaves.specs.Counting.{IsPlain}
 use Rattle.td_leaves.proofs.FieldLemmas.{taken_long, taken_short}
 use Rattle.td_direct.specs.Arrays.{once_rest}
 use Rattle.td_direct.specs.Passing.{passes_all}
+
+-- an element is of one kind
+pub number_is : (e : Element) (t u : NumberType) → e ≡ element.Number t → e ≡ element.Number u → t ≡ u
+number_is e t u h k = cc
+
+pub number_not_listed : (e : Element) (t base : NumberType) (values : ℕ) → e ≡ element.Number t → e ≡ element.Listed base values → ⊥
+number_not_listed e t base values h k = cc
+
+pub listed_is : (e : Element) (t u : NumberType) (v w : ℕ) → e ≡ element.Listed t v → e ≡ element.Listed u w → (t ≡ u) × (v ≡ w)
+listed_is e t u v w h k = (cc, cc)
+
+pub plain_not_number : (x : Extent) (e : Element) (t : NumberType) → IsPlain x e → e ≡ element.Number t → x ≡ extent.Once → ⊥
+plain_not_number x e t h is once = subst (λ (y : Extent). IsPlain y (element.Number t)) once (subst (λ (y : Element). IsPlain x y) is h)
+
+pub plain_not_listed : (x : Extent) (e : Element) (t : NumberType) (v : ℕ) → IsPlain x e → e ≡ element.Listed t v → x ≡ extent.Once → ⊥
+plain_not_listed x e t v h is once = subst (λ (y : Extent). IsPlain y (element.Listed t v)) once (subst (λ (y : Element). IsPlain x y) is h)
 
 -- Definitions
 

@@ -1,7 +1,7 @@
 //! Which definitions are passed over without a look: structs without a `where`, of fields of constant size that aren't
 //! tested, read or named.
 
-ghost use Rattle.std.specs.Prelude.{◌≡◌, ℕ, ◌+◌, ◌<◌, ◌≤◌, List, IfOk, IfSome, true, false, Some};
+ghost use Rattle.std.specs.Prelude.{◌≡◌, ℕ, ◌+◌, ◌<◌, ◌≤◌, List, length, IfOk, OnErr, IfSome, true, false, Some};
 ghost use Rattle.td_core.specs.Outcome.{accepted};
 ghost use Rattle.td_core.specs.Term.{number};
 ghost use Rattle.td_core.specs.declared.expressions.Scalar.{Scalar};
@@ -113,9 +113,11 @@ fn passed_definition(types: &Types, bound: usize, definition: &TypeDef) -> Optio
 }
 
 /// For each definition of a module the size of what may be passed over without a look, where it is such a one.
-/// `AllocError`: there was no memory for them.
+/// `AllocError`: there is a definition, and there was no memory for their sizes.
 pub fn sizes_of(alloc: Global, m: &Module) -> Result<Vec<Option<u64>>, AllocError>
-    ensures { IfOk result (λ sizes. AreSizes m.now sizes.items) }
+    ensures sizes { IfOk result (λ sizes. AreSizes m.now sizes.items) }
+    ensures many { IfOk result (λ sizes. length sizes.items ≡ length m.now.definitions) }
+    ensures memory { OnErr result (0 < length m.now.definitions) }
 {
     let definitions = m.definitions.as_slice();
     let mut sizes = Vec::new(alloc);

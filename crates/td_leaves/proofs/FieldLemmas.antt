@@ -1,6 +1,7 @@
 -- A field, and what is left after it.
-use Rattle.std.proofs.Common.{subst, arith, ◌-◌, ◌*◌, ◌/◌, ◌≡◌, ℕ, zero, suc, ◌+◌, ◌<◌, ◌≤◌, min, Bool, true, false, cond, Option, Some, None, List, [], ◌∷◌, ◌++◌, length, refl, sym, ap, ◌∙◌}
-use Rattle.std.proofs.lemmas.Bool.{le-leb, lt-leb}
+use Rattle.std.proofs.Common.{⊎_elim, inl, inr, subst, arith, ◌-◌, ◌*◌, ◌/◌, ◌≡◌, ℕ, zero, suc, ◌+◌, ◌<◌, ◌≤◌, min, Bool, true, false, cond, Option, Some, None, List, [], ◌∷◌, ◌++◌, length, refl, sym, ap, ◌∙◌}
+use Rattle.std.specs.Prelude.{◌⊎◌, nat_le}
+use Rattle.std.proofs.lemmas.Bool.{le-leb, lt-leb, leb-false}
 use Rattle.std.proofs.Math.Nat.{div-mul-le_self, min-le_right, mul-le-mul_right, le_trans}
 use Rattle.td_num.specs.Numbers.{bytes_in, number_at, places_from}
 use Rattle.td_num.specs.declared.number.NumberType.{NumberType}
@@ -10,11 +11,14 @@ use Rattle.td_core.specs.declared.module.Element.TheVariants.{Number, Listed, Na
 use Rattle.td_core.specs.declared.module.Extent.{Extent}
 use Rattle.td_core.specs.declared.module.Extent.TheVariants.{Once, Filling, OnceFilling, UpToZero}
 use Rattle.td_core.specs.declared.module.Field.{Field}
-use Rattle.td_core.specs.declared.outcome.Reason.TheVariants.{NotEnough}
+use Rattle.td_core.specs.declared.outcome.Reason.TheVariants.{NotEnough, Constraint}
+use Rattle.td_core.specs.declared.outcome.Verdict.{Verdict}
+use Rattle.td_core.specs.declared.outcome.Verdict.TheVariants.{Accept, Reject}
 use Rattle.td_core.specs.Outcome.{Ending, Accepted, Rejected, Behavior, plain, after_reading, and_then, ending_within, within, accepted, rejected}
 use Rattle.td_meaning.specs.Naming.{is_needed}
-use Rattle.td_meaning.specs.Meaning.{Sense, taken, demanded, values_of, field_number, number_places, places_if, field_place, first_name}
+use Rattle.td_meaning.specs.Meaning.{Sense, taken, demanded, is_among, values_of, field_number, number_places, places_if, field_place, first_name}
 use Rattle.td_meaning.specs.Machine.{listed_meaning, shape_meaning, fields_meaning}
+use Rattle.td_meaning.specs.Verdicts.{ending_of, IsRejection}
 use Rattle.td_meaning.proofs.MachineAgreeing.{onward_alike, unneeded}
 use Rattle.td_leaves.specs.Step.{rest_meaning}
 use Rattle.td_leaves.specs.Counting.{IsPlain}
@@ -24,6 +28,27 @@ taken_long n start end p cells h = ap (λ v. demanded NotEnough v start (p + n) 
 
 pub taken_short : (n start end p : ℕ) (cells : List ℕ) → end < p + n → taken n start end p cells ≡ rejected NotEnough start cells
 taken_short n start end p cells h = ap (λ v. demanded NotEnough v start (p + n) cells) (lt-leb (p + n) end h)
+
+-- a test of two that fails
+failed_by : (v : Verdict) (long among : Bool) (places : List ℕ) (start q : ℕ) (cells seen : List ℕ) → IsRejection v
+    → and_then (demanded NotEnough long start q cells) (λ q cells. after_reading places (demanded Constraint among start q cells)) ≡ after_reading seen (plain (ending_of v [] cells))
+    → (long ≡ false) ⊎ (among ≡ false)
+failed_by (Accept pos) long among places start q cells seen bad h = absurd bad
+failed_by (Reject reason pos) false among places start q cells seen bad h = inl refl
+failed_by (Reject reason pos) true false places start q cells seen bad h = inr refl
+failed_by (Reject reason pos) true true places start q cells seen bad h =
+    let e : Accepted q cells ≡ Rejected reason pos [] cells = ap (λ (x : Behavior). x.ending) h in absurd (cc)
+
+-- a number of an enum fails where there are too few bytes, or they say another number
+pub listed_failed : (base : NumberType) (values b : List ℕ) (start end p : ℕ) (cells seen : List ℕ) (v : Verdict) → p ≤ end → IsRejection v
+    → listed_meaning base values b start end p cells ≡ after_reading seen (plain (ending_of v [] cells))
+    → (end - p < bytes_in base.width) ⊎ (is_among values (number_at base b p) ≡ false)
+listed_failed base values b start end p cells seen v within bad h =
+    let w = bytes_in base.width in
+    ⊎_elim
+    (λ few. let short : end < p + w = leb-false (p + w) end few in inl (omega (arith, short, within)))
+    (λ other. inr other)
+    (failed_by v (nat_le (p + w) end) (is_among values (number_at base b p)) (places_from p w) start (p + w) cells seen bad h)
 
 pub fields_none : (sets : List (List ℕ)) (senses : ℕ → Sense) (ty : NameId) (env places b : List ℕ) (end p : ℕ) (cells : List ℕ) → fields_meaning sets senses ty [] env places b end p cells ≡ accepted p cells
 unfolding fields_meaning

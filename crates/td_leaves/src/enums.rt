@@ -1,12 +1,12 @@
 //! Numbers that must be among the values of an enum.
 
-ghost use Rattle.std.specs.Prelude.{◌≡◌, ℕ, ◌∷◌, List, [], IfOk, OnErr};
+ghost use Rattle.std.specs.Prelude.{◌≡◌, ◌<◌, ◌-◌, ◌⊎◌, ℕ, ◌∷◌, List, [], IfOk, OnErr, false};
 ghost use Rattle.td_num.specs.Numbers.{bytes_in, number_at};
 ghost use Rattle.td_core.specs.declared.module.Element.TheVariants as element;
 ghost use Rattle.td_core.specs.declared.module.Extent.TheVariants as extent;
 ghost use Rattle.td_core.specs.Outcome.{plain, and_then};
 ghost use Rattle.td_meaning.specs.Machine.{fields_meaning, listed_meaning};
-ghost use Rattle.td_meaning.specs.Meaning.{Sense, values_of};
+ghost use Rattle.td_meaning.specs.Meaning.{Sense, is_among, values_of};
 ghost use Rattle.td_meaning.specs.Verdicts.{ending_of, IsAt};
 ghost use Rattle.td_stream.specs.StreamInvariant.{IsStream, Later, loads_of, length_of, position, end_of};
 ghost use Rattle.td_stream.specs.Loads.{Carries};
@@ -65,7 +65,8 @@ pub fn validate_listed<W: Words>(
     }
 }
 
-/// A number of an enum in a field of its own. `AllocError`: there was no memory for the frame of a failure.
+/// A number of an enum in a field of its own. `AllocError`: its bytes don't stand before the end, or it isn't among the
+/// values, and there was no memory for the frame.
 pub fn validate_listed_field<W: Words>(
     ty: NameId,
     base: NumberType,
@@ -93,6 +94,10 @@ pub fn validate_listed_field<W: Words>(
         → Carries (length_of stream.old) b (loads_of W.loads stream.new)
         → OnlyRead W.loads stream.old stream.new
         (fields_meaning listed.now senses ty (field.now ∷ later) env places b (end_of stream.old) (position stream.old) cells)) }
+    // and there are too few bytes, or they say another number
+    ensures memory { OnErr result ((b : List ℕ) → Carries (length_of stream.old) b (loads_of W.loads stream.new)
+        → (end_of stream.old - position stream.old < bytes_in base.width)
+        ⊎ (is_among (values_of listed.now values) (number_at base b (position stream.old)) ≡ false)) }
 {
     let start = stream.pos();
     let content = validate_listed(base, values_at(listed, values), start, stream);

@@ -1,6 +1,7 @@
 //! Numbers in fields of their own, and bytes that are passed over.
 
-ghost use Rattle.std.specs.Prelude.{◌≡◌, ℕ, ◌∷◌, List, [], IfOk, OnErr, length};
+ghost use Rattle.std.specs.Prelude.{◌≡◌, ◌<◌, ◌-◌, ℕ, ◌∷◌, List, [], IfOk, OnErr, length};
+ghost use Rattle.td_num.specs.Numbers.{bytes_in};
 ghost use Rattle.td_core.specs.declared.module.Element.TheVariants as element;
 ghost use Rattle.td_core.specs.declared.module.Extent.TheVariants as extent;
 ghost use Rattle.td_core.specs.Outcome.{plain, and_then};
@@ -43,7 +44,7 @@ pub fn pass<W: Words>(count: u32, start: u32, stream: &mut Stream<W>) -> Verdict
 }
 
 /// A number in a field of its own. It is read where it is needed: where it is refined, or named later with the values in
-/// scope. `AllocError`: there was no memory for the frame of a failure.
+/// scope. `AllocError`: its bytes don't stand before the end, and there was no memory for the frame.
 pub fn validate_number<W: Words>(
     ty: NameId,
     number_type: NumberType,
@@ -72,6 +73,8 @@ pub fn validate_number<W: Words>(
         (rest_meaning sets senses ty field.now.parts later.now env.now c.value places b (end_of stream.old) (position stream.old)))) }
     // where there was no memory, no word was loaded
     ensures only { OnErr result (stream.new.words.now ≡ stream.old.words.now) }
+    // and there are too few bytes
+    ensures short { OnErr result (end_of stream.old - position stream.old < bytes_in number_type.width) }
 {
     let start = stream.pos();
     let width = byte_count(number_type.width);

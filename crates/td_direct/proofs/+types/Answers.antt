@@ -1,10 +1,13 @@
 use Rattle.std.proofs.Common.{rules, ◌≡◌, ℕ, suc, ◌+◌, ◌-◌, ◌<◌, ◌≤◌, List, [], ◌∷◌, ◌++◌, drop, length, true, false, None, Some, refl, sym, ap, ◌∙◌, subst, arith}
-use Rattle.std.specs.Prelude.{slice_get, slice_index, map, nat_eq, Option, IfSome}
+use Rattle.std.specs.Prelude.{◌⊎◌, slice_get, slice_index, map, nat_eq, Option, IfSome}
 use Rattle.std.proofs.lemmas.Option.{gets}
 use Rattle.std.proofs.lemmas.Grind.{common_steps}
 use Rattle.std.proofs.lemmas.Result.{err_from_is_err_and}
 use Rattle.std.proofs.lemmas.List.{drop_more, drop_all}
+use Rattle.td_num.specs.Numbers.{bytes_in, number_at}
+use Rattle.td_num.specs.declared.number.NumberType.{NumberType}
 use Rattle.td_core.specs.declared.module.Element.{Element}
+use Rattle.td_core.specs.declared.module.Element.TheVariants as element
 use Rattle.td_core.specs.declared.module.Extent.{Extent}
 use Rattle.td_core.specs.declared.module.Field.{Field as FieldDef}
 use Rattle.td_core.specs.declared.outcome.Spot.TheVariants.{Field}
@@ -12,11 +15,13 @@ use Rattle.td_core.specs.declared.outcome.Reason.TheVariants.{NotEnough, Impossi
 use Rattle.td_core.specs.declared.outcome.Verdict.{Verdict}
 use Rattle.td_core.specs.declared.outcome.Verdict.TheVariants.{Accept}
 use Rattle.td_core.specs.Outcome.{Ending, Behavior, Rejected, plain, and_then, within, ending_within, accepted, rejected}
-use Rattle.td_meaning.specs.Meaning.{Sense, elements, filled, filled_once, demanded, values_of as values_in, field_place, first_name, divides, equals, zeros_meaning}
+use Rattle.td_meaning.specs.Meaning.{Sense, is_among, elements, filled, filled_once, demanded, values_of as values_in, field_place, first_name, divides, equals, zeros_meaning}
 use Rattle.td_meaning.specs.Machine.{values, below, listed_meaning, definition_meaning, fields_meaning, shape_meaning, element_meaning, chosen_meaning, body_fields}
 use Rattle.td_meaning.specs.Verdicts.{ending_of, IsAt, frame_place}
 use Rattle.td_meaning.proofs.Below.{below_past}
 use Rattle.td_stream.proofs.Places.{look_nowhere}
+use Rattle.td_leaves.specs.declared.fields.Counted.{Counted}
+use Rattle.td_leaves.specs.Counting.{IsCounted, IsPlain}
 use Rattle.td_leaves.specs.Step.{Step, OnlyRead, rest_meaning}
 use Rattle.td_leaves.proofs.Stepping.{later_trans, carried, step_trans, step_still, step_from, step_to, step_then, step_within, step_only, only_after, only_from, only_still, only_then}
 use Rattle.td_leaves.proofs.FieldLemmas.{fields_none, plain_by}
@@ -24,7 +29,7 @@ use Rattle.td_meaning.specs.Naming.{is_needed}
 use Rattle.td_needed.specs.Needed.{needed_list}
 use Rattle.td_direct.specs.Arrays.{once_rest}
 use Rattle.td_direct.specs.Passing.{IsPassed, passes_all}
-use Rattle.td_direct.proofs.TypeLemmas.{named_by, definition_by, definition_on, where_by, accepted_at, filled_short, filled_unfit, filled_fit, once_short, once_unfit, once_fit, elements_over, elements_done, elements_on, window_pass, flag_here, flags_next, extended_long}
+use Rattle.td_direct.proofs.TypeLemmas.{named_by, definition_by, definition_on, where_by, accepted_at, filled_short, filled_unfit, filled_fit, once_short, once_unfit, once_fit, elements_over, elements_done, elements_on, window_pass, flag_here, flags_next, extended_long, number_is, number_not_listed, listed_is, plain_not_number, plain_not_listed}
 use Rattle.td_direct.proofs.+types.Goals as goal
 
 pub types::validate_named-returns-then-place-bound-clause-step : goal.types::validate_named-returns-then-place-bound-clause-step
@@ -534,6 +539,50 @@ fields::validate_content-returns-in_err-validate_listed_field-in-Listed-clause-o
     let s = a.stream.now in
     let n = c.validate_listed_field.new.stream in
     subst (λ (sets : List (List ℕ)). OnlyRead g.W.Words.loads s n (fields_meaning sets (below a.types.now.module.now.listed a.types.now.module.now.definitions a.bound) a.ty (a.field.now ∷ a.later.now) a.env.now a.places.now b s.end s.pos a.cells.now)) c.as_slice.ensures (c.in_err-validate_listed_field-in-Listed.ensures.only (below a.types.now.module.now.listed a.types.now.module.now.definitions a.bound) a.later.now a.env.now a.places.now b a.cells.now h))
+
+pub fields::validate_content-returns-in_err-validate_number-in-Number-clause-number : goal.fields::validate_content-returns-in_err-validate_number-in-Number-clause-number
+fields::validate_content-returns-in_err-validate_number-in-Number-clause-number g t c = let p = err_from_is_err_and c.from_residual.result c.from_residual.ensures.1 in rw p.1 (λ u is once.
+    let s = c.args.stream.now in
+    let f : FieldDef = c.args.field.now in
+    let here : f.element ≡ element.Number c.in-Number.number_type = (subst (λ (k : Counted). IsCounted k f.extent f.element) c.in-Number.is c.number_in.ensures).0 in
+    subst (λ (v : NumberType). s.end - s.pos < bytes_in v.width) (number_is f.element c.in-Number.number_type u here is) c.in_err-validate_number-in-Number.ensures.short)
+
+pub fields::validate_content-returns-in_err-validate_number-in-Number-clause-listed : goal.fields::validate_content-returns-in_err-validate_number-in-Number-clause-listed
+fields::validate_content-returns-in_err-validate_number-in-Number-clause-listed g t c = let p = err_from_is_err_and c.from_residual.result c.from_residual.ensures.1 in rw p.1 (λ base values is once b h.
+    let f : FieldDef = c.args.field.now in
+    let here : f.element ≡ element.Number c.in-Number.number_type = (subst (λ (k : Counted). IsCounted k f.extent f.element) c.in-Number.is c.number_in.ensures).0 in
+    absurd (number_not_listed f.element c.in-Number.number_type base values here is))
+
+pub fields::validate_content-returns-in_err-validate_listed_field-in-Listed-clause-number : goal.fields::validate_content-returns-in_err-validate_listed_field-in-Listed-clause-number
+fields::validate_content-returns-in_err-validate_listed_field-in-Listed-clause-number g t c = let p = err_from_is_err_and c.from_residual-in_err-validate_listed_field-in-Listed.result c.from_residual-in_err-validate_listed_field-in-Listed.ensures.1 in rw p.1 (λ u is once.
+    let f : FieldDef = c.args.field.now in
+    let here : f.element ≡ element.Listed c.in-Listed.base c.in-Listed.values = (subst (λ (k : Counted). IsCounted k f.extent f.element) c.in-Listed.is c.number_in.ensures).0 in
+    absurd (number_not_listed f.element u c.in-Listed.base c.in-Listed.values is here))
+
+pub fields::validate_content-returns-in_err-validate_listed_field-in-Listed-clause-listed : goal.fields::validate_content-returns-in_err-validate_listed_field-in-Listed-clause-listed
+fields::validate_content-returns-in_err-validate_listed_field-in-Listed-clause-listed g t c = let p = err_from_is_err_and c.from_residual-in_err-validate_listed_field-in-Listed.result c.from_residual-in_err-validate_listed_field-in-Listed.ensures.1 in rw p.1 (λ base values is once b h.
+    let a = c.args in
+    let s = a.stream.now in
+    let f : FieldDef = a.field.now in
+    let sets : List (List ℕ) = a.types.now.module.now.listed in
+    let here : f.element ≡ element.Listed c.in-Listed.base c.in-Listed.values = (subst (λ (k : Counted). IsCounted k f.extent f.element) c.in-Listed.is c.number_in.ensures).0 in
+    let one = listed_is f.element c.in-Listed.base base c.in-Listed.values values here is in
+    subst (λ (v : ℕ). (s.end - s.pos < bytes_in base.width) ⊎ (is_among (values_in sets v) (number_at base b s.pos) ≡ false)) one.1
+    (subst (λ (v : NumberType). (s.end - s.pos < bytes_in v.width) ⊎ (is_among (values_in sets c.in-Listed.values) (number_at v b s.pos) ≡ false)) one.0
+    (subst (λ (vs : List (List ℕ)). (s.end - s.pos < bytes_in c.in-Listed.base.width) ⊎ (is_among (values_in vs c.in-Listed.values) (number_at c.in-Listed.base b s.pos) ≡ false)) c.as_slice.ensures
+    (c.in_err-validate_listed_field-in-Listed.ensures.memory b h))))
+
+pub fields::validate_content-returns-in_err-validate_plain-in-Plain-clause-number : goal.fields::validate_content-returns-in_err-validate_plain-in-Plain-clause-number
+fields::validate_content-returns-in_err-validate_plain-in-Plain-clause-number g t c = let p = err_from_is_err_and c.from_residual-in_err-validate_plain-in-Plain.result c.from_residual-in_err-validate_plain-in-Plain.ensures.1 in rw p.1 (λ u is once.
+    let f : FieldDef = c.args.field.now in
+    let here : IsPlain f.extent f.element = subst (λ (k : Counted). IsCounted k f.extent f.element) c.in-Plain.is c.number_in.ensures in
+    absurd (plain_not_number f.extent f.element u here is once))
+
+pub fields::validate_content-returns-in_err-validate_plain-in-Plain-clause-listed : goal.fields::validate_content-returns-in_err-validate_plain-in-Plain-clause-listed
+fields::validate_content-returns-in_err-validate_plain-in-Plain-clause-listed g t c = let p = err_from_is_err_and c.from_residual-in_err-validate_plain-in-Plain.result c.from_residual-in_err-validate_plain-in-Plain.ensures.1 in rw p.1 (λ base values is once b h.
+    let f : FieldDef = c.args.field.now in
+    let here : IsPlain f.extent f.element = subst (λ (k : Counted). IsCounted k f.extent f.element) c.in-Plain.is c.number_in.ensures in
+    absurd (plain_not_listed f.extent f.element base values here is once))
 
 pub fields::validate_fields-fields-init : goal.fields::validate_fields-fields-init
 fields::validate_fields-fields-init g t c =

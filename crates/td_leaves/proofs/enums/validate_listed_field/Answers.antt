@@ -1,15 +1,16 @@
-use Rattle.std.proofs.Common.{rules, ◌≡◌, ℕ, ◌+◌, List, [], ◌∷◌, ◌++◌, refl, sym, ap, ◌∙◌, length}
+use Rattle.std.proofs.Common.{rules, ◌≡◌, ℕ, ◌+◌, ◌-◌, ◌<◌, List, [], ◌∷◌, ◌++◌, false, refl, sym, ap, ◌∙◌, subst, length}
+use Rattle.std.specs.Prelude.{◌⊎◌}
 use Rattle.std.proofs.lemmas.Result.{err_from_is_err_and}
 use Rattle.td_num.specs.Numbers.{bytes_in, number_at, places_from}
 use Rattle.td_core.specs.declared.module.Field.{Field}
 use Rattle.td_core.specs.declared.outcome.Spot.TheVariants.{Field as FieldSpot}
 use Rattle.td_core.specs.Outcome.{Ending, Behavior, ending_within, plain, and_then, within}
-use Rattle.td_meaning.specs.Meaning.{field_place, first_name, values_of}
+use Rattle.td_meaning.specs.Meaning.{field_place, first_name, is_among, values_of}
 use Rattle.td_meaning.specs.Machine.{listed_meaning}
 use Rattle.td_meaning.specs.Verdicts.{ending_of, frame_place}
 use Rattle.td_leaves.specs.Step.{Step, rest_meaning}
 use Rattle.td_leaves.proofs.Stepping.{step_from, step_to, step_then, step_within, step_only, only_from, only_then, then_verdict}
-use Rattle.td_leaves.proofs.FieldLemmas.{listed_by}
+use Rattle.td_leaves.proofs.FieldLemmas.{listed_by, listed_failed}
 use Rattle.td_leaves.proofs.enums.validate_listed_field.Goals as goal
 
 pub returns-clause-step : goal.returns-clause-step
@@ -46,3 +47,12 @@ returns-in_err-framed-clause-only g c = let p = err_from_is_err_and c.from_resid
     let took : Step g.W.Words.loads s t x (plain e) = step_from s t _ _ _ (λ i. listed_meaning a.base (sym c.values_at.ensures i) b (sym c.pos-start.ensures i) s.end s.pos cells) (k.ensures.step b cells h) in
     only_from g.W.Words.loads s t _ _ (listed_by sets senses a.ty f later env places b s.end s.pos cells a.base a.values c.requires.number c.requires.once)
     (only_then g.W.Words.loads s t (within place x) (rest_meaning sets senses a.ty f.parts later env (number_at a.base b s.pos) places b s.end s.pos) (step_only s t x (plain e) took)))
+
+pub returns-in_err-framed-clause-memory : goal.returns-in_err-framed-clause-memory
+returns-in_err-framed-clause-memory g c = let p = err_from_is_err_and c.from_residual.result c.from_residual.ensures.1 in rw p.1 (λ b h.
+    let a = c.args in
+    let s = a.stream.now in
+    let k = c.validate_listed-content in
+    let took = k.ensures.step b [] h in
+    subst (λ (vs : List ℕ). (s.end - s.pos < bytes_in a.base.width) ⊎ (is_among vs (number_at a.base b s.pos) ≡ false)) c.values_at.ensures
+    (listed_failed a.base c.values_at.result.now b c.pos-start.result s.end s.pos [] took.seen k.result.verdict c.requires.whole.within c.in_err-framed.ensures.memory took.is))
