@@ -1,5 +1,5 @@
 -- Bytes stand for one host job alone, or are refused for one cause alone; and they always do one of the two.
-use Rattle.std.proofs.Common.{length, ◌≡◌, ℕ, List, [], ◌++◌, Option, Some, None, Result, Ok, Err, ◌⊎◌, inl, inr, refl, sym, ap, ◌∙◌, subst}
+use Rattle.std.proofs.Common.{length, ◌≡◌, ℕ, List, [], Option, Some, None, Result, Ok, Err, ◌⊎◌, inl, inr, refl, sym, ap, ◌∙◌, subst}
 use Rattle.std.specs.Prelude.{IfOk}
 use Rattle.serde_json.specs.Data.{Data}
 use Rattle.td_core.specs.declared.module.Module.{Module}
@@ -19,10 +19,6 @@ use Rattle.td_posts.specs.declared.job.HostJob.{HostJob}
 use Rattle.td_posts.specs.declared.job.Step.{Step}
 use Rattle.td_host_job.specs.Guests.{workers_faults, given_guests}
 use Rattle.td_host_job.specs.HostJobs.{given_buffer, buffer_words, host_faults, IsHost, IsHostJob, RefusedHostJob, HasHostValues}
-
--- lists of faults, none of which has one
-pub all_none : {a b c d e f : List JobError} → a ≡ [] → b ≡ [] → c ≡ [] → d ≡ [] → e ≡ [] → f ≡ [] → a ++ b ++ c ++ d ++ e ++ f ≡ []
-all_none ha hb hc hd he hf = rw (ha, hb, hc, hd, he, hf) refl
 
 one_host : (m : Module) (job : Data) (a b : HostJob) → IsHost m job a → IsHost m job b → a ≡ b
 one_host m job a b ha hb =

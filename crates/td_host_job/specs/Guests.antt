@@ -2,7 +2,7 @@
 --
 -- `workers` is a whole number (J2) of 1 to 16 (J8). `guests` is a list (J2) of 1 to 16 guests (J8). A guest is an object
 -- (J2) with the field `script`, a list of steps (J2), and no other (J2).
-use Rattle.std.specs.Prelude.{ℕ, ◌+◌, ◌||◌, List, [], ◌∷◌, ◌++◌, nat_eq, nat_lt, Option, Some, None, option_and_then}
+use Rattle.std.specs.Prelude.{◌≡◌, ℕ, ◌+◌, ◌<◌, ◌||◌, ◌⊎◌, List, [], ◌∷◌, ◌++◌, length, nat_eq, nat_lt, Option, Some, None, option_and_then}
 use Rattle.serde_json.specs.Data.{Data, Items, no_items, item, Members}
 use Rattle.serde_json.specs.Events.{items_len}
 use Rattle.serde_json.specs.Find.{as_array, as_object}
@@ -11,8 +11,9 @@ use Rattle.td_job.specs.declared.error.Key.TheVariants as key
 use Rattle.td_job.specs.declared.error.JobError.{JobError}
 use Rattle.td_job.specs.declared.error.JobError.TheVariants.{Fault}
 use Rattle.td_job.specs.declared.error.JobRule.TheVariants as rule
+use Rattle.td_job.specs.declared.error.Path.{Path}
 use Rattle.td_job.specs.declared.error.Path.TheVariants as path
-use Rattle.td_job.specs.Fields.{field_of, fault_if}
+use Rattle.td_job.specs.Fields.{field_of, fault_if, IsFirst}
 use Rattle.td_job.specs.Jobs.{first_unknown, unknown_faults}
 use Rattle.td_posts.specs.declared.job.Step.{Step}
 use Rattle.td_posts.specs.declared.limits.TheConstants.{MOST_GUESTS, MOST_WORKERS}
@@ -66,3 +67,12 @@ listed_scripts (Some values) = each_script values
 
 abbrev pub given_guests : Data → List (List Step)
 given_guests job = listed_scripts (listed_in key.Guests job)
+
+-- the first of these faults is a field of another name, of the job or of a guest: its line names it, so the name's bytes
+-- are copied
+pub record BeginsWithName (faults : List JobError) : Type 0 where
+  pub name : List ℕ
+  pub some : 0 < length name
+  pub place : Path
+  pub names : (place ≡ path.Unknown name) ⊎ ((guest : ℕ) × (place ≡ path.UnknownOf guest name))
+  pub first : IsFirst faults (Fault rule.Form place)

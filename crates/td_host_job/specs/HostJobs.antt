@@ -5,11 +5,12 @@
 -- then the fields of other names, and at last the totals `posts`, `stores` and `words` over all scripts; at one place the
 -- lower code stands first. The answer is the first fault. `entry` and `args` are those of a run job, and `buffer` is as its
 -- `bytes`.
-use Rattle.std.specs.Prelude.{◌≡◌, ℕ, ◌<◌, ◌≤◌, List, [], ◌∷◌, ◌++◌, length, Option, Some}
+use Rattle.std.specs.Prelude.{◌≡◌, ℕ, ◌<◌, ◌≤◌, ◌^◌, ◌⊎◌, List, [], ◌∷◌, ◌++◌, length, Option, Some}
 use Rattle.std.specs.List.{All}
 use Rattle.serde_json.specs.Data.{Data}
 use Rattle.serde_json.specs.Find.{as_object}
 use Rattle.td_core.specs.declared.module.Module.{Module}
+use Rattle.td_core.specs.declared.module.Entry.{Entry}
 use Rattle.td_core.specs.declared.module.TypeDef.{TypeDef}
 use Rattle.td_core.specs.Entries.{entry_definition}
 use Rattle.td_core.specs.Formed.{AllFit}
@@ -27,7 +28,7 @@ use Rattle.td_posts.specs.declared.mail.Mail.{Mail}
 use Rattle.td_posts.specs.declared.limits.TheConstants.{MOST_GUESTS, MOST_POSTS}
 use Rattle.td_posts.specs.Posts.{words_in}
 use Rattle.td_posts.specs.Servable.{job_mails}
-use Rattle.td_host_job.specs.Guests.{listed_in, workers_faults, guests_faults, given_guests}
+use Rattle.td_host_job.specs.Guests.{listed_in, workers_faults, guests_faults, given_guests, BeginsWithName}
 use Rattle.td_host_job.specs.Totals.{totals_faults}
 
 -- the bytes of the buffer, and how many words they fill
@@ -50,6 +51,27 @@ host_faults d job =
     ++ guests_faults (buffer_words job) (listed_in key.Guests job)
     ++ unknown_faults path.Unknown (first_unknown host_keys (as_object job))
     ++ totals_faults (given_guests job)
+
+-- the first fields of a host job, up to `workers`, have no fault, and this is its entry point
+pub record HasGoodFields (m : Module) (job : Data) (entry : Entry) : Type 0 where
+  pub named : IsEntry m (text_of key.Entry job) entry
+  pub args : args_faults (args_bounds (entry_definition m entry.number)) (field_of key.Args job) ≡ []
+  pub buffer : bytes_faults key.Buffer (text_of key.Buffer job) ≡ []
+  pub workers : workers_faults (number_of key.Workers job) ≡ []
+
+-- the faults after those fields, with a buffer of so many words
+abbrev pub rest_faults : ℕ → Data → List JobError
+rest_faults words job =
+    guests_faults words (listed_in key.Guests job)
+    ++ unknown_faults path.Unknown (first_unknown host_keys (as_object job))
+    ++ totals_faults (given_guests job)
+
+-- memory may be lacking for a job: its first fields have no fault, and then it has none, or the first one is a field of
+-- another name, which is copied, or its buffer has too many words for any memory
+pub record MayLackMemory (m : Module) (job : Data) : Type 0 where
+  pub entry : Entry
+  pub good : HasGoodFields m job entry
+  pub rest : (rest_faults (buffer_words job) job ≡ []) ⊎ (BeginsWithName (rest_faults (buffer_words job) job) ⊎ (2 ^ 32 ≤ buffer_words job))
 
 -- the host job that a job without a fault is
 pub record IsHost (m : Module) (job : Data) (j : HostJob) : Type 0 where

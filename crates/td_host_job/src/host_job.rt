@@ -1,36 +1,29 @@
 //! Host jobs.
 
-ghost use Rattle.std.specs.Prelude.{◌≡◌, ◌⊎◌, ◌<◌, ◌^◌, Err, length, IfOk, IfErr, MatchResult};
+ghost use Rattle.std.specs.Prelude.{◌≡◌, [], ◌⊎◌, ◌<◌, ◌≤◌, ◌^◌, Err, Some, length, IfOk, IfErr, OnErr, MatchResult};
 ghost use Rattle.serde_json.specs.View.{view};
 ghost use Rattle.td_posts.specs.Servable.{IsServable};
+ghost use Rattle.td_job.specs.Fields.{number_of};
 ghost use Rattle.td_job.specs.Jobs.{FirstFaultOf};
-ghost use Rattle.td_host_job.specs.HostJobs.{host_faults, host_keys, IsHost, IsHostJob, RefusedHostJob, HasHostValues, HasShortMessages};
+ghost use Rattle.td_host_job.specs.HostJobs.{buffer_words, host_faults, rest_faults, HasGoodFields, MayLackMemory, IsHost, IsHostJob, RefusedHostJob, HasHostValues, HasShortMessages};
 
-use crate::guests::{guests_of, workers_of};
-use crate::totals::check_totals;
+use crate::fields::{check_first, check_rest};
+use crate::guests::guests_of;
 use serde_json::Value;
 use std::alloc::Global;
-use td_core::module::Module;
-use td_job::checks::{bytes_of, check_names, entry_of};
+use td_core::module::{Entry, Module};
+use td_job::checks::bytes_of;
 use td_job::error::{JobError, Key};
 use td_job::json::read_json;
-use td_job::values::{cells_of, check_args, definition_of, params_of, values_of};
+use td_job::values::{cells_of, definition_of, params_of, values_of};
 use td_job::words::fill_words;
 use td_posts::job::HostJob;
-
-/// The fields of a host job.
-const FIELDS: &[Key] = &[
-    Key::Entry,
-    Key::Args,
-    Key::Buffer,
-    Key::Workers,
-    Key::Guests,
-];
 
 /// A count in 32 bits. `NoMemory`: it has more, so that what is counted finds no memory.
 fn count_of(count: usize) -> Result<u32, JobError>
     ensures ok { IfOk result (λ n. n ≡ count) }
     ensures err { IfErr result (λ e. e ≡ JobError.NoMemory) }
+    ensures full { OnErr result (2 ^ 32 ≤ count) }
 {
     if count > u32::MAX as usize {
         return Err(JobError::NoMemory);
@@ -38,22 +31,35 @@ fn count_of(count: usize) -> Result<u32, JobError>
     Ok(count as u32)
 }
 
-/// The host job of a parsed text, or its first fault.
+/// Tests all fields of a job, and its totals, and gives its entry point, how many words its buffer has, and how many workers
+/// it has. J2 to J8: its first fault. `NoMemory`: that is a field of another name, and there was no memory for the name; or
+/// the buffer has 2^32 words or more. Takes no other memory.
+fn check_fields(alloc: Global, job: &Value, m: &Module) -> Result<(Entry, u32, u32), JobError>
+    ensures good { IfOk result (λ x. HasGoodFields m.now (view job.now) x.0) }
+    ensures rest { IfOk result (λ x. rest_faults (buffer_words (view job.now)) (view job.now) ≡ []) }
+    ensures words { IfOk result (λ x. buffer_words (view job.now) ≡ x.1) }
+    ensures workers { IfOk result (λ x. number_of Key.Workers (view job.now) ≡ Some x.2) }
+    ensures err { IfErr result (λ e. (e ≡ JobError.NoMemory) ⊎ FirstFaultOf host_faults m.now (view job.now) e) }
+    ensures memory { result ≡ Err JobError.NoMemory → MayLackMemory m.now (view job.now) }
+{
+    let (entry, words, workers) = check_first(job, m)?;
+    let count = count_of(words)?;
+    check_rest(alloc, job, count)?;
+    Ok((entry, count, workers))
+}
+
+/// The host job of a parsed text, or its first fault. All that is decided without memory is decided before any is taken.
 fn host_job_of(alloc: Global, job: &Value, m: &Module) -> Result<HostJob, JobError>
     ensures ok { IfOk result (λ j. IsHost m.now (view job.now) j) }
     ensures words { IfOk result (λ j. length j.words < 2 ^ 32) }
     ensures err { IfErr result (λ e. (e ≡ JobError.NoMemory) ⊎ FirstFaultOf host_faults m.now (view job.now) e) }
+    ensures memory { result ≡ Err JobError.NoMemory → MayLackMemory m.now (view job.now) }
 {
-    let entry = entry_of(job, m)?;
+    let (entry, count, workers) = check_fields(alloc, job, m)?;
     let definition = definition_of(m, entry);
     let params = params_of(definition);
-    check_args(job, params)?;
     let bytes = bytes_of(alloc, job, Key::Buffer)?;
-    let count = count_of(bytes.len().div_ceil(8))?;
-    let workers = workers_of(job)?;
     let guests = guests_of(alloc, job, count)?;
-    check_names(alloc, job, FIELDS)?;
-    check_totals(guests.as_slice())?;
     Ok(HostJob {
         format: m.copy(alloc)?,
         entry,

@@ -1,6 +1,6 @@
 //! The steps of a guest's script.
 
-ghost use Rattle.std.specs.Prelude.{◌≡◌, [], ◌∷◌, ◌⊎◌, IfOk, IfErr, option_map};
+ghost use Rattle.std.specs.Prelude.{◌≡◌, ◌≢◌, [], ◌∷◌, ◌⊎◌, Err, OnOk, IfOk, IfErr, option_map};
 ghost use Rattle.serde_json.specs.View.{view, items_view};
 ghost use Rattle.td_job.specs.Fields.{IsFirst, whole};
 ghost use Rattle.serde_json.specs.Find.{as_str};
@@ -42,7 +42,7 @@ fn spelled_post<'a>(base: &Value, length: &Value) -> Option<Spelled<'a>>
 }
 
 /// A step. None: the value is no list of exactly a verb and its two parts.
-fn spelled_step(value: &Value) -> Option<Spelled<'_>>
+pub(crate) fn spelled_step(value: &Value) -> Option<Spelled<'_>>
     ensures { option_map spelled_as result ≡ spelled_step (view value.now) }
 {
     let [verb, first, second] = value.as_array()?.as_slice() else {
@@ -63,6 +63,7 @@ fn spelled_step(value: &Value) -> Option<Spelled<'_>>
 fn store_of(word: u64, text: &str, place: Path, words: u32) -> Result<Step, JobError>
     ensures ok { IfOk result (λ s. (store_faults words place word text.now ≡ []) × (store_in word text.now ≡ s ∷ [])) }
     ensures err { IfErr result (IsFirst (store_faults words place word text.now)) }
+    ensures broken { IfErr result (λ e. e ≢ JobError.NoMemory) }
 {
     let Some(value) = word_of(text) else {
         return Err(JobRule::Digits.at(place));
@@ -81,6 +82,7 @@ fn store_of(word: u64, text: &str, place: Path, words: u32) -> Result<Step, JobE
 fn post_of(base: u64, length: u64, place: Path, words: u32) -> Result<Step, JobError>
     ensures ok { IfOk result (λ s. (post_faults words place base length ≡ []) × (post_in base length ≡ s ∷ [])) }
     ensures err { IfErr result (IsFirst (post_faults words place base length)) }
+    ensures broken { IfErr result (λ e. e ≢ JobError.NoMemory) }
 {
     let words = u64::from(words);
     if base > words || length.div_ceil(8) > words - base {
@@ -101,6 +103,7 @@ fn post_of(base: u64, length: u64, place: Path, words: u32) -> Result<Step, JobE
 fn step_of(value: &Value, guest: usize, index: usize, words: u32) -> Result<Step, JobError>
     ensures ok { IfOk result (λ s. (step_faults words (Path.Step guest index) (spelled_step (view value.now)) ≡ []) × (step_in (spelled_step (view value.now)) ≡ s ∷ [])) }
     ensures err { IfErr result (IsFirst (step_faults words (Path.Step guest index) (spelled_step (view value.now)))) }
+    ensures broken { IfErr result (λ e. e ≢ JobError.NoMemory) }
 {
     let place = Path::Step { guest, index };
     match spelled_step(value) {
@@ -110,7 +113,20 @@ fn step_of(value: &Value, guest: usize, index: usize, words: u32) -> Result<Step
     }
 }
 
-/// The steps of a guest's script, for a buffer of so many words, or the first fault of these.
+/// Tests the steps of a guest's script one by one, for a buffer of so many words. The first fault of these. Takes no memory.
+pub(crate) fn check_each_step(values: &[Value], guest: usize, words: u32) -> Result<(), JobError>
+    ensures ok { OnOk result (each_step_faults words guest 0 (items_view values.now) ≡ []) }
+    ensures err { IfErr result (IsFirst (each_step_faults words guest 0 (items_view values.now))) }
+    ensures broken { IfErr result (λ e. e ≢ JobError.NoMemory) }
+{
+    for (index, value) in values.iter().enumerate() {
+        step_of(value, guest, index, words)?;
+    }
+    Ok(())
+}
+
+/// The steps of a guest's script, for a buffer of so many words, or the first fault of these. `NoMemory`: none is at fault, and
+/// there was no memory for them.
 pub(crate) fn steps_of(
     alloc: Global,
     values: &[Value],
@@ -119,7 +135,9 @@ pub(crate) fn steps_of(
 ) -> Result<Items<Step>, JobError>
     ensures ok { IfOk result (λ steps. (each_step_faults words guest 0 (items_view values.now) ≡ []) × (steps ≡ each_step (items_view values.now))) }
     ensures err { IfErr result (λ e. (e ≡ JobError.NoMemory) ⊎ IsFirst (each_step_faults words guest 0 (items_view values.now)) e) }
+    ensures memory { result ≡ Err JobError.NoMemory → each_step_faults words guest 0 (items_view values.now) ≡ [] }
 {
+    check_each_step(values, guest, words)?;
     let mut steps = Items::new(alloc);
     for (index, value) in values.iter().enumerate() {
         let step = step_of(value, guest, index, words)?;

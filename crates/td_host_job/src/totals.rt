@@ -1,14 +1,19 @@
 //! The totals over a host job: its posts, its stores, and the words of its messages.
 
-ghost use Rattle.std.specs.Prelude.{◌≡◌, ◌+◌, ◌-◌, ◌^◌, [], ℕ, List, min, OnOk, IfErr};
+ghost use Rattle.std.specs.Prelude.{◌≡◌, ◌≢◌, ◌+◌, ◌-◌, ◌^◌, [], ℕ, min, OnOk, IfErr};
 ghost use Rattle.std.specs.List.{sum_by};
-ghost use Rattle.td_job.specs.Fields.{IsFirst, fault_if};
-ghost use Rattle.td_posts.specs.declared.job.Step.{Step};
+ghost use Rattle.serde_json.specs.View.{view, items_view};
+ghost use Rattle.td_job.specs.Fields.{IsFirst};
+ghost use Rattle.td_posts.specs.declared.job.Step.TheVariants as step;
+ghost use Rattle.td_host_job.specs.Steps.{spelled_step, step_in, store_in, each_step};
+ghost use Rattle.td_host_job.specs.Guests.{given_script, each_script};
 ghost use Rattle.td_host_job.specs.Totals.{weight, most_of, key_of, total, total_fault, totals_faults};
 
+use crate::guests::listed;
+use crate::steps::{Spelled, spelled_step};
+use serde_json::Value;
 use td_job::error::{JobError, JobRule, Key, Path};
-use td_num::items::Items;
-use td_posts::job::Step;
+use td_job::stores::word_of;
 use td_posts::limits::{MOST_MESSAGE_WORDS, MOST_POSTS, MOST_STORES};
 
 /// What is counted over a host job.
@@ -20,14 +25,45 @@ pub(crate) enum Total {
 }
 
 impl Total {
-    /// By how much a step counts.
-    fn weight(self, step: Step) -> u64
-        ensures { result ≡ weight self step }
+    /// By how much a store counts.
+    fn of_store(self) -> u64
+        ensures { (word value : ℕ) → result ≡ weight self (step.Store word value) }
     {
-        match (self, step) {
-            (Total::Posts, Step::Post { .. }) | (Total::Stores, Step::Store { .. }) => 1,
-            (Total::Words, Step::Post { length, .. }) => u64::from(length.div_ceil(8)),
-            _ => 0,
+        match self {
+            Total::Stores => 1,
+            Total::Posts | Total::Words => 0,
+        }
+    }
+
+    /// By how much a post of a message of so many bytes counts.
+    fn of_post(self, length: u64) -> u64
+        ensures { (base : ℕ) → result ≡ weight self (step.Post base length) }
+    {
+        match self {
+            Total::Posts => 1,
+            Total::Stores => 0,
+            Total::Words => length.div_ceil(8),
+        }
+    }
+
+    /// By how much a store of this text counts; a text that is no word is no store.
+    fn of_text(self, text: &str) -> u64
+        ensures { (word : ℕ) → result ≡ sum_by (weight self) (store_in word text.now) }
+    {
+        match word_of(text) {
+            None => 0,
+            Some(_) => self.of_store(),
+        }
+    }
+
+    /// By how much the step that a value spells counts; one that spells none counts nothing.
+    fn of_step(self, value: &Value) -> u64
+        ensures { result ≡ sum_by (weight self) (step_in (spelled_step (view value.now))) }
+    {
+        match spelled_step(value) {
+            None => 0,
+            Some(Spelled::Store { text, .. }) => self.of_text(text),
+            Some(Spelled::Post { length, .. }) => self.of_post(length),
         }
     }
 
@@ -53,32 +89,43 @@ impl Total {
         }
     }
 
-    /// What was counted before, and a script more; at most 2^64 - 1.
-    fn with_script(self, counted: u64, script: &[Step]) -> u64
-        ensures { result ≡ min (counted + sum_by (weight self) script.now) (2 ^ 64 - 1) }
+    /// What was counted before, and these steps more; at most 2^64 - 1.
+    fn with_steps(self, counted: u64, values: &[Value]) -> u64
+        ensures { result ≡ min (counted + sum_by (weight self) (each_step (items_view values.now))) (2 ^ 64 - 1) }
     {
         let mut sum = counted;
-        for step in script {
-            sum = sum.saturating_add(self.weight(*step));
+        for value in values {
+            sum = sum.saturating_add(self.of_step(value));
         }
         sum
     }
 
-    /// What is counted over all scripts; at most 2^64 - 1.
-    fn over(self, guests: &[Items<Step>]) -> u64
-        ensures { result ≡ min (total self guests.now) (2 ^ 64 - 1) }
+    /// What was counted before, and the script of a guest more; at most 2^64 - 1.
+    fn with_script(self, counted: u64, guest: &Value) -> u64
+        ensures { result ≡ min (counted + sum_by (weight self) (given_script (view guest.now))) (2 ^ 64 - 1) }
+    {
+        match listed(guest, Key::Script) {
+            None => counted,
+            Some(values) => self.with_steps(counted, values),
+        }
+    }
+
+    /// What is counted over the scripts of all guests; at most 2^64 - 1.
+    fn over(self, guests: &[Value]) -> u64
+        ensures { result ≡ min (total self (each_script (items_view guests.now))) (2 ^ 64 - 1) }
     {
         let mut sum = 0;
-        for script in guests {
-            sum = self.with_script(sum, script.as_slice());
+        for guest in guests {
+            sum = self.with_script(sum, guest);
         }
         sum
     }
 
     /// Tests a total. J8: it is too much.
-    fn check(self, guests: &[Items<Step>]) -> Result<(), JobError>
-        ensures ok { OnOk result (total_fault self guests.now ≡ []) }
-        ensures err { IfErr result (IsFirst (total_fault self guests.now)) }
+    fn check(self, guests: &[Value]) -> Result<(), JobError>
+        ensures ok { OnOk result (total_fault self (each_script (items_view guests.now)) ≡ []) }
+        ensures err { IfErr result (IsFirst (total_fault self (each_script (items_view guests.now)))) }
+        ensures broken { IfErr result (λ e. e ≢ JobError.NoMemory) }
     {
         if self.over(guests) > self.most() {
             Err(JobRule::Limit.at(Path::Whole(self.key())))
@@ -88,11 +135,12 @@ impl Total {
     }
 }
 
-/// Tests the totals over the scripts of a job. J8: there are more than 4,096 posts, more than 65,536 stores, or messages of
-/// more than 1,048,576 words in all; the first of these. Takes no memory.
-pub(crate) fn check_totals(guests: &[Items<Step>]) -> Result<(), JobError>
-    ensures ok { OnOk result (totals_faults guests.now ≡ []) }
-    ensures err { IfErr result (IsFirst (totals_faults guests.now)) }
+/// Tests the totals over the scripts of these guests, as the job spells them. J8: there are more than 4,096 posts, more than
+/// 65,536 stores, or messages of more than 1,048,576 words in all; the first of these. Takes no memory.
+pub(crate) fn check_totals(guests: &[Value]) -> Result<(), JobError>
+    ensures ok { OnOk result (totals_faults (each_script (items_view guests.now)) ≡ []) }
+    ensures err { IfErr result (IsFirst (totals_faults (each_script (items_view guests.now)))) }
+    ensures broken { IfErr result (λ e. e ≢ JobError.NoMemory) }
 {
     Total::Posts.check(guests)?;
     Total::Stores.check(guests)?;

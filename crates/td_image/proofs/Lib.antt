@@ -7,3 +7,5 @@ pub mod Chain
 pub mod Answering
 pub mod Fitting
 pub mod Within
+pub mod Kept
+pub mod Counted

@@ -1,5 +1,5 @@
 -- Images, and what is answered to bytes.
-use Rattle.std.specs.Prelude.{◌≡◌, ℕ, ◌+◌, ◌-◌, ◌<◌, List, ◌++◌, length, Result, Ok, Err}
+use Rattle.std.specs.Prelude.{◌≡◌, ℕ, ◌+◌, ◌-◌, ◌<◌, ◌⊎◌, List, ◌++◌, length, Result, Ok, Err}
 use Rattle.td_ir.specs.declared.tables.Parts.{Parts}
 use Rattle.td_verify.specs.declared.rule.Breach.{Breach}
 use Rattle.td_verify.specs.declared.rule.VerifyError.{VerifyError}
@@ -34,6 +34,10 @@ told (verifying.Breaks breach) = errors.Refused breach
 -- each field of the header is whole, and has a value that is allowed
 abbrev pub HasHeader : List ℕ → Type 0
 HasHeader bytes = (counts : Counts) × (rest : List ℕ) × (format.header.read bytes ≡ Ok (counts, rest))
+
+-- memory may run out: a row to be kept stands at its table's front, or the bytes are an image
+abbrev pub MayRunOut : List ℕ → Type 0
+MayRunOut bytes = format.image.RunsOut bytes ⊎ ((p : Parts) × IsImage p bytes)
 
 -- there was no memory
 abbrev pub RanOut : ImageError → Type 0

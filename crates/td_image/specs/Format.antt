@@ -1,5 +1,5 @@
--- Formats: which values have a spelling, their bytes, which field of other bytes is the first that is wrong, and how a
--- value is read from the front. One made of others says all four from theirs.
+-- Formats: which values have a spelling, their bytes, which field of other bytes is the first that is wrong, how a value is
+-- read from the front, and where memory may run out as it is read. One made of others says all five from theirs.
 use Rattle.std.specs.Prelude.{◌≡◌, ℕ, zero, suc, ◌*◌, ◌^◌, ◌<◌, ◌⊎◌, Bool, true, false, List, [], ◌∷◌, ◌++◌, length, take, drop, get_or, Result, Ok, Err, nat_lt, if◌then◌else◌}
 use Rattle.std.specs.Int.{Width, byte_len, from_le_bytes, to_le_bytes}
 use Rattle.td_image.specs.declared.fault.Cause.{Cause}
@@ -20,6 +20,12 @@ pub record Format (A : Type 0) : Type 1 where
   pub Fails : List ℕ → Fault → Type 0
   -- the value at the front, and the bytes behind it; or the first field that is wrong
   pub read : List ℕ → Result (A × List ℕ) Fault
+  -- a row to be kept stands at its table's front, so memory may run out; nothing is taken for a count alone
+  pub RunsOut : List ℕ → Type 0
+
+-- a value is at the front
+abbrev pub HasFront : {A : Type 0} → Format A → List ℕ → Type 0
+HasFront {A} g bytes = (a : A) × (rest : List ℕ) × (g.read bytes ≡ Ok (a, rest))
 
 abbrev pub AreBytes : List ℕ → Type 0
 AreBytes bytes = (i : ℕ) → get_or bytes i 0 < 256
@@ -35,6 +41,7 @@ number w = record {
   bytes = to_le_bytes w;
   Fails = λ bytes fault. (length bytes < byte_len w) × (fault ≡ Short);
   read = number_at w;
+  RunsOut = λ bytes. ⊥;
 }
 
 -- ---- so many bytes
@@ -48,6 +55,7 @@ text n = record {
   bytes = λ t. t;
   Fails = λ bytes fault. (length bytes < n) × (fault ≡ Short);
   read = bytes_at n;
+  RunsOut = λ bytes. ⊥;
 }
 
 -- ---- a field with its allowed values
@@ -61,6 +69,7 @@ allowed {A} cause ok g = record {
   bytes = g.bytes;
   Fails = λ bytes fault. g.Fails bytes fault ⊎ ((a : A) × (rest : List ℕ) × g.Fits a × (ok a ≡ false) × (bytes ≡ g.bytes a ++ rest) × (fault ≡ Wrong cause (length bytes)));
   read = λ bytes. g.read bytes >>= chosen cause ok bytes;
+  RunsOut = g.RunsOut;
 }
 
 -- ---- the one and behind it the other, which may depend on the one's value
@@ -72,6 +81,7 @@ abbrev pub ◌then◌ : {A B : Type 0} → Format A → (A → Format B) → For
   bytes = λ x. g.bytes x.0 ++ (h x.0).bytes x.1;
   Fails = λ bytes fault. g.Fails bytes fault ⊎ ((a : A) × (rest : List ℕ) × g.Fits a × (bytes ≡ g.bytes a ++ rest) × (h a).Fails rest fault);
   read = λ bytes. g.read bytes >>= λ x. (h x.0).read x.1 >>= λ y. Ok ((x.0, y.0), y.1);
+  RunsOut = λ bytes. g.RunsOut bytes ⊎ ((a : A) × (rest : List ℕ) × (g.read bytes ≡ Ok (a, rest)) × (h a).RunsOut rest);
 }
 
 -- ---- a value that is made of another, and the other of it
@@ -82,6 +92,7 @@ made to from g = record {
   bytes = λ b. g.bytes (from b);
   Fails = g.Fails;
   read = λ bytes. g.read bytes >>= λ x. Ok (to x.0, x.1);
+  RunsOut = g.RunsOut;
 }
 
 -- ---- the same, where not every value is made of another: those that are made of none have no spelling
@@ -92,6 +103,7 @@ within to from g = record {
   bytes = λ b. g.bytes (from b);
   Fails = g.Fails;
   read = λ bytes. g.read bytes >>= λ x. Ok (to x.0, x.1);
+  RunsOut = g.RunsOut;
 }
 
 -- ---- so many, one behind the other; each may depend on a state that those before it made
@@ -120,6 +132,7 @@ each f next n s = record {
   bytes = all_bytes f next s;
   Fails = any_fails f next n s;
   read = read_all f next n s;
+  RunsOut = λ bytes. (0 < n) × ((f s).RunsOut bytes ⊎ HasFront (f s) bytes);
 }
 
 -- each by itself

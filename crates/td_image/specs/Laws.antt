@@ -1,11 +1,13 @@
 -- What holds of images.
-use Rattle.std.specs.Prelude.{◌≡◌, ℕ, ◌<◌, List, ◌++◌, length, take}
+use Rattle.std.specs.Prelude.{◌≡◌, ℕ, ◌<◌, List, [], ◌++◌, length, take, Ok}
 use Rattle.td_ir.specs.declared.tables.Parts.{Parts}
 use Rattle.td_ir.specs.WellFormed.{IsCode}
 use Rattle.td_image.specs.declared.fault.Fault.{Fault}
 use Rattle.td_image.specs.declared.fault.Fault.TheVariants.{Short}
+use Rattle.td_image.specs.declared.counts.Counts.{Counts}
+use Rattle.td_image.specs.Format.{HasFront}
 use Rattle.td_image.specs.Image as format
-use Rattle.td_image.specs.Answer.{IsImage}
+use Rattle.td_image.specs.Answer.{IsImage, MayRunOut}
 use Rattle.td_image.specs.Within.{IsWithinFormat}
 
 -- bytes are the image of one code at most
@@ -39,3 +41,7 @@ TablesFit = (p : Parts) → format.image.Fits p → IsCode p
 -- and those within the limits that do, have an image
 abbrev pub WithinHasImage : Type 0
 WithinHasImage = (p : Parts) → IsCode p → IsWithinFormat p → format.image.Fits p
+
+-- where memory may run out, no field of the header is wrong, and the first name, if there is one, stands behind it
+abbrev pub NoneForCounts : Type 0
+NoneForCounts = (bytes : List ℕ) → MayRunOut bytes → (counts : Counts) × (rest : List ℕ) × (format.header.read bytes ≡ Ok (counts, rest)) × (0 < counts.names → HasFront (format.name []) rest)

@@ -1,5 +1,5 @@
 -- What a function that reads returned: what the format reads, unless memory ran out.
-use Rattle.std.specs.Prelude.{◌≡◌, Result, Ok, Err}
+use Rattle.std.specs.Prelude.{◌≡◌, Result, Ok, Err, IfErr}
 use Rattle.td_image.specs.declared.fault.Fault.{Fault}
 use Rattle.td_image.specs.declared.fault.ReadError.{ReadError}
 use Rattle.td_image.specs.declared.fault.ReadError.TheVariants as errors
@@ -16,6 +16,10 @@ Reads view (Err e) read = Ends e read
 abbrev pub RanOut : ReadError → Type 0
 RanOut errors.NoMemory = Unit {0}
 RanOut (errors.Fault fault) = ⊥
+
+-- memory ran out only where this holds
+abbrev pub RanOutOnlyIf : {X : Type 0} → Result X ReadError → Type 0 → Type 0
+RanOutOnlyIf result P = IfErr result (λ e. RanOut e → P)
 
 -- what takes no memory is never out of it
 abbrev pub IsDecided : {X : Type 0} → Result X ReadError → Type 0

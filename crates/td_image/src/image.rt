@@ -3,7 +3,7 @@
 ghost use Rattle.std.specs.Prelude.{◌≡◌, Ok, IfOk, IfErr, OnOk};
 ghost use Rattle.td_ir.specs.declared.tables.Parts.{Parts};
 ghost use Rattle.td_image.specs.Image as format;
-ghost use Rattle.td_image.specs.Answer.{IsImage, IsRefused, IsAnswerFor, HasHeader, RanOut};
+ghost use Rattle.td_image.specs.Answer.{IsImage, IsRefused, IsAnswerFor, HasHeader, MayRunOut, RanOut};
 
 use crate::error::{ImageError, error_of, told};
 use crate::reading::parts_at;
@@ -35,6 +35,7 @@ fn parts_of(alloc: Global, bytes: &[u8]) -> Result<Parts, ImageError>
     ensures refused { IfErr result (λ e. IsRefused bytes.now e) }
     ensures header { OnOk result (HasHeader bytes.now) }
     ensures memory { IfErr result (λ e. RanOut e → HasHeader bytes.now) }
+    ensures rows { IfErr result (λ e. RanOut e → format.image.RunsOut bytes.now) }
 {
     match parts_at(alloc, bytes) {
         Ok((parts, rest)) => alone(parts, rest, bytes),
@@ -48,6 +49,7 @@ fn code_of(alloc: Global, bytes: &[u8]) -> Result<Code, ImageError>
     ensures refused { IfErr result (λ e. IsRefused bytes.now e) }
     ensures header { OnOk result (HasHeader bytes.now) }
     ensures memory { IfErr result (λ e. RanOut e → HasHeader bytes.now) }
+    ensures rows { IfErr result (λ e. RanOut e → format.image.RunsOut bytes.now) }
 {
     let parts = parts_of(alloc, bytes)?;
     match Code::new(parts) {
@@ -60,6 +62,7 @@ fn verified_of(alloc: Global, bytes: &[u8]) -> Result<Verified, ImageError>
     ensures found { IfOk result (λ p. IsImage p bytes.now) }
     ensures refused { IfErr result (λ e. IsRefused bytes.now e) }
     ensures memory { IfErr result (λ e. RanOut e → HasHeader bytes.now) }
+    ensures rows { IfErr result (λ e. RanOut e → MayRunOut bytes.now) }
 {
     let code = code_of(alloc, bytes)?;
     match verify(alloc, code) {
@@ -71,7 +74,8 @@ fn verified_of(alloc: Global, bytes: &[u8]) -> Result<Verified, ImageError>
 /// The verified code of which the bytes are the image (own rule: docs/language/images.md). Takes time in proportion to
 /// the bytes, and memory in proportion to those that are read before the first wrong field. The errors are those of
 /// `ImageError`, each exactly where the first wrong field is of that kind; where no field is wrong and no bytes follow,
-/// the verifier's answer. `NoMemory`: there was no memory for the code; never where a field of the header is wrong.
+/// the verifier's answer. `NoMemory`: there was no memory for the code; never where a field of the header is wrong,
+/// nor before a first row of a table was read, whatever the header claims.
 pub fn read_image(alloc: Global, bytes: &[u8]) -> Result<Verified, ImageError>
     // What is read has these bytes as its image.
     ensures found { IfOk result (λ code. IsImage code bytes.now) }
@@ -81,6 +85,8 @@ pub fn read_image(alloc: Global, bytes: &[u8]) -> Result<Verified, ImageError>
     ensures refused { IfErr result (λ e. IsRefused bytes.now e) }
     // No field of the header is wrong where memory runs out.
     ensures memory { IfErr result (λ e. RanOut e → HasHeader bytes.now) }
+    // And a first row of a table was read, or the bytes are an image: no memory is taken for a count alone.
+    ensures rows { IfErr result (λ e. RanOut e → MayRunOut bytes.now) }
 {
     verified_of(alloc, bytes)
 }

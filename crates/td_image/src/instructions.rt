@@ -1,10 +1,10 @@
-//! The table of instructions.
+//! The table of instructions. Memory runs out only once a first one was read: none is taken for their count alone.
 
 ghost use Rattle.std.specs.Prelude.{◌≡◌};
 ghost use Rattle.std.specs.Int.{w8, w16, w32, w64};
 ghost use Rattle.td_image.specs.Format.{times};
 ghost use Rattle.td_image.specs.Image as format;
-ghost use Rattle.td_image.specs.Reading.{Reads, IsDecided};
+ghost use Rattle.td_image.specs.Reading.{Reads, IsDecided, RanOutOnlyIf};
 
 use crate::fault::{Cause, ReadError};
 use crate::fields::{u8_at, u16_at, u32_at, u64_at, wrong};
@@ -115,7 +115,8 @@ pub(crate) fn instructions_of(
     count: u32,
     bytes: &[u8],
 ) -> Result<(Items<Instr>, &[u8]), ReadError>
-    ensures { Reads (λ x. (x.0, x.1.now)) result ((times count format.instruction).read bytes.now) }
+    ensures read { Reads (λ x. (x.0, x.1.now)) result ((times count format.instruction).read bytes.now) }
+    ensures memory { RanOutOnlyIf result ((times count format.instruction).RunsOut bytes.now) }
 {
     let mut rows = Items::new(alloc);
     let mut rest = bytes;

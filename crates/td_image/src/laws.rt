@@ -1,6 +1,6 @@
 //! Laws of images. They do nothing when they are called.
 
-ghost use Rattle.td_image.specs.Laws.{OfOneCode, OneSpelling, OneFault, NoFault, NoLonger, CutIsShort, TablesFit, WithinHasImage};
+ghost use Rattle.td_image.specs.Laws.{OfOneCode, OneSpelling, OneFault, NoFault, NoLonger, CutIsShort, TablesFit, WithinHasImage, NoneForCounts};
 
 /// Bytes are the image of one code at most, and a code has one image at most.
 pub fn one_spelling()
@@ -28,4 +28,10 @@ pub fn tables_fit()
 /// Parts that fit together and are within the limits have an image.
 pub fn code_within_the_limits_has_an_image()
     ensures { WithinHasImage }
+{}
+
+/// Memory may run out only where no field of the header is wrong and, if there are names, the first one was read: none is
+/// taken for counts alone.
+pub fn memory_is_for_rows()
+    ensures { NoneForCounts }
 {}

@@ -3,7 +3,7 @@
 ghost use Rattle.std.specs.Prelude.{◌≡◌, OnOk, IfErr};
 ghost use Rattle.std.specs.Int.{w16, w32};
 ghost use Rattle.td_image.specs.Image as format;
-ghost use Rattle.td_image.specs.Reading.{Reads, IsDecided, RanOut};
+ghost use Rattle.td_image.specs.Reading.{Reads, IsDecided, RanOut, RanOutOnlyIf};
 ghost use Rattle.td_image.specs.Answer.{HasHeader};
 ghost use Rattle.td_image.specs.declared.limits.TheConstants.{MAGIC, VERSION};
 ghost use Rattle.td_image.specs.declared.fault.Cause.TheVariants.{Magic, Version, Field};
@@ -93,12 +93,14 @@ fn header_at(bytes: &[u8]) -> Result<(Counts, &[u8]), ReadError>
     Ok((counts, rest))
 }
 
-/// The parts at the front, and the bytes behind them.
+/// The parts at the front, and the bytes behind them. Memory runs out only where no field of the header is wrong, and a first
+/// row of a table was read.
 #[tactic(auto, unfolding(crate::specs::Image::image))]
 pub(crate) fn parts_at(alloc: Global, bytes: &[u8]) -> Result<(Parts, &[u8]), ReadError>
     ensures read { Reads (λ x. (x.0, x.1.now)) result (format.image.read bytes.now) }
     ensures header { OnOk result (HasHeader bytes.now) }
     ensures memory { IfErr result (λ e. RanOut e → HasHeader bytes.now) }
+    ensures rows { RanOutOnlyIf result (format.image.RunsOut bytes.now) }
 {
     let (counts, rest) = header_at(bytes)?;
     let (names, rest) = names_of(alloc, counts.names, rest)?;

@@ -1,9 +1,9 @@
-//! The tables of routines and entry points.
+//! The tables of routines and entry points. Memory runs out only once a first row was read: none is taken for a count alone.
 
 ghost use Rattle.std.specs.Prelude.{◌≡◌, ◌<◌, length};
 ghost use Rattle.td_image.specs.Format.{times};
 ghost use Rattle.td_image.specs.Image as format;
-ghost use Rattle.td_image.specs.Reading.{Reads, IsDecided};
+ghost use Rattle.td_image.specs.Reading.{Reads, IsDecided, RanOutOnlyIf};
 
 use crate::fault::{Cause, ReadError};
 use crate::fields::{name_place, place, u16_between, u16_up_to, u32_at, wrong};
@@ -76,7 +76,8 @@ pub(crate) fn routines_of(
     instructions: u32,
     bytes: &[u8],
 ) -> Result<(Items<Routine>, &[u8]), ReadError>
-    ensures { Reads (λ x. (x.0, x.1.now)) result ((format.routines names count instructions).read bytes.now) }
+    ensures read { Reads (λ x. (x.0, x.1.now)) result ((format.routines names count instructions).read bytes.now) }
+    ensures memory { RanOutOnlyIf result ((format.routines names count instructions).RunsOut bytes.now) }
 {
     let mut rows = Items::new(alloc);
     let mut room = Room {
@@ -142,7 +143,8 @@ fn params_of(
     names: usize,
     bytes: &[u8],
 ) -> Result<(Items<Param>, &[u8]), ReadError>
-    ensures { Reads (λ x. (x.0, x.1.now)) result ((times count (format.param names)).read bytes.now) }
+    ensures read { Reads (λ x. (x.0, x.1.now)) result ((times count (format.param names)).read bytes.now) }
+    ensures memory { RanOutOnlyIf result ((times count (format.param names)).RunsOut bytes.now) }
 {
     let mut rows = Items::new(alloc);
     let mut rest = bytes;
@@ -216,7 +218,8 @@ fn cells_of(
     names: usize,
     bytes: &[u8],
 ) -> Result<(Items<Cell>, &[u8]), ReadError>
-    ensures { Reads (λ x. (x.0, x.1.now)) result ((times count (format.cell names)).read bytes.now) }
+    ensures read { Reads (λ x. (x.0, x.1.now)) result ((times count (format.cell names)).read bytes.now) }
+    ensures memory { RanOutOnlyIf result ((times count (format.cell names)).RunsOut bytes.now) }
 {
     let mut rows = Items::new(alloc);
     let mut rest = bytes;
@@ -243,7 +246,8 @@ fn entry_of<'a>(
     routines: &[Routine],
     bytes: &'a [u8],
 ) -> Result<(EntryPoint, &'a [u8]), ReadError>
-    ensures { Reads (λ x. (x.0, x.1.now)) result ((format.entry names routines.now).read bytes.now) }
+    ensures read { Reads (λ x. (x.0, x.1.now)) result ((format.entry names routines.now).read bytes.now) }
+    ensures memory { RanOutOnlyIf result ((format.entry names routines.now).RunsOut bytes.now) }
 {
     let (routine, rest) = place(bytes, routines.len())?;
     let called = routine_at(routines, routine as usize);
@@ -264,7 +268,8 @@ pub(crate) fn entries_of<'a>(
     routines: &[Routine],
     bytes: &'a [u8],
 ) -> Result<(Items<EntryPoint>, &'a [u8]), ReadError>
-    ensures { Reads (λ x. (x.0, x.1.now)) result ((times count (format.entry names routines.now)).read bytes.now) }
+    ensures read { Reads (λ x. (x.0, x.1.now)) result ((times count (format.entry names routines.now)).read bytes.now) }
+    ensures memory { RanOutOnlyIf result ((times count (format.entry names routines.now)).RunsOut bytes.now) }
 {
     let mut rows = Items::new(alloc);
     let mut rest = bytes;

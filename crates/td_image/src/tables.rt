@@ -1,10 +1,11 @@
-//! The tables that instructions name, but those of routines and entry points.
+//! The tables that instructions name, but those of routines and entry points. Memory runs out only once a first row was
+//! read: none is taken for a count alone.
 
 ghost use Rattle.std.specs.Prelude.{◌≡◌};
 ghost use Rattle.std.specs.Int.{w32};
-ghost use Rattle.td_image.specs.Format.{number, times};
+ghost use Rattle.td_image.specs.Format.{number, times, HasFront};
 ghost use Rattle.td_image.specs.Image as format;
-ghost use Rattle.td_image.specs.Reading.{Reads, IsDecided};
+ghost use Rattle.td_image.specs.Reading.{Reads, IsDecided, RanOutOnlyIf};
 
 use crate::fault::{Cause, ReadError};
 use crate::fields::{name_place, text_at, u32_at, u64_at, up_to, wrong};
@@ -34,9 +35,10 @@ fn name_at<'a>(seen: &Names, bytes: &'a [u8]) -> Result<(&'a [u8], &'a [u8]), Re
     }
 }
 
-// A name that wasn't seen before.
+// A name that wasn't seen before. Memory is taken for it once it was read.
 fn name_of<'a>(alloc: Global, seen: &Names, bytes: &'a [u8]) -> Result<(Text, &'a [u8]), ReadError>
-    ensures { Reads (λ x. (x.0, x.1.now)) result ((format.name seen.now).read bytes.now) }
+    ensures read { Reads (λ x. (x.0, x.1.now)) result ((format.name seen.now).read bytes.now) }
+    ensures memory { RanOutOnlyIf result (HasFront (format.name seen.now) bytes.now) }
 {
     let (text, rest) = name_at(seen, bytes)?;
     let name = Text::copy_of(alloc, text)?;
@@ -48,7 +50,8 @@ pub(crate) fn names_of(
     count: u32,
     bytes: &[u8],
 ) -> Result<(Items<Text>, &[u8]), ReadError>
-    ensures { Reads (λ x. (x.0, x.1.now)) result ((format.names count).read bytes.now) }
+    ensures read { Reads (λ x. (x.0, x.1.now)) result ((format.names count).read bytes.now) }
+    ensures memory { RanOutOnlyIf result ((format.names count).RunsOut bytes.now) }
 {
     let mut rows = Items::new(alloc);
     let mut seen = Names::new(alloc);
@@ -79,7 +82,8 @@ pub(crate) fn sites_of(
     names: usize,
     bytes: &[u8],
 ) -> Result<(Items<Site>, &[u8]), ReadError>
-    ensures { Reads (λ x. (x.0, x.1.now)) result ((times count (format.site names)).read bytes.now) }
+    ensures read { Reads (λ x. (x.0, x.1.now)) result ((times count (format.site names)).read bytes.now) }
+    ensures memory { RanOutOnlyIf result ((times count (format.site names)).RunsOut bytes.now) }
 {
     let mut rows = Items::new(alloc);
     let mut rest = bytes;
@@ -92,7 +96,8 @@ pub(crate) fn sites_of(
 }
 
 fn numbers_of(alloc: Global, count: u32, bytes: &[u8]) -> Result<(Items<u32>, &[u8]), ReadError>
-    ensures { Reads (λ x. (x.0, x.1.now)) result ((times count (number w32)).read bytes.now) }
+    ensures read { Reads (λ x. (x.0, x.1.now)) result ((times count (number w32)).read bytes.now) }
+    ensures memory { RanOutOnlyIf result ((times count (number w32)).RunsOut bytes.now) }
 {
     let mut rows = Items::new(alloc);
     let mut rest = bytes;
@@ -106,7 +111,8 @@ fn numbers_of(alloc: Global, count: u32, bytes: &[u8]) -> Result<(Items<u32>, &[
 
 #[tactic(auto, unfolding(crate::specs::Image::map_format))]
 fn map_of(alloc: Global, bytes: &[u8]) -> Result<(Items<u32>, &[u8]), ReadError>
-    ensures { Reads (λ x. (x.0, x.1.now)) result (format.map_format.read bytes.now) }
+    ensures read { Reads (λ x. (x.0, x.1.now)) result (format.map_format.read bytes.now) }
+    ensures memory { RanOutOnlyIf result (format.map_format.RunsOut bytes.now) }
 {
     let (n, rest) = up_to(bytes, MOST_CELLS as usize)?;
     numbers_of(alloc, n, rest)
@@ -117,7 +123,8 @@ pub(crate) fn maps_of(
     count: u32,
     bytes: &[u8],
 ) -> Result<(Items<Items<u32>>, &[u8]), ReadError>
-    ensures { Reads (λ x. (x.0, x.1.now)) result ((times count format.map_format).read bytes.now) }
+    ensures read { Reads (λ x. (x.0, x.1.now)) result ((times count format.map_format).read bytes.now) }
+    ensures memory { RanOutOnlyIf result ((times count format.map_format).RunsOut bytes.now) }
 {
     let mut rows = Items::new(alloc);
     let mut rest = bytes;
@@ -152,7 +159,8 @@ fn element_of(last: Option<u64>, bytes: &[u8]) -> Result<(u64, &[u8]), ReadError
 }
 
 fn elements_of(alloc: Global, count: u32, bytes: &[u8]) -> Result<(Items<u64>, &[u8]), ReadError>
-    ensures { Reads (λ x. (x.0, x.1.now)) result ((format.elements count).read bytes.now) }
+    ensures read { Reads (λ x. (x.0, x.1.now)) result ((format.elements count).read bytes.now) }
+    ensures memory { RanOutOnlyIf result ((format.elements count).RunsOut bytes.now) }
 {
     let mut rows = Items::new(alloc);
     let mut last = None;
@@ -169,7 +177,8 @@ fn elements_of(alloc: Global, count: u32, bytes: &[u8]) -> Result<(Items<u64>, &
 /// A set of so many numbers at most.
 #[tactic(auto, unfolding(crate::specs::Image::set))]
 fn set_of(alloc: Global, left: usize, bytes: &[u8]) -> Result<(Items<u64>, &[u8]), ReadError>
-    ensures { Reads (λ x. (x.0, x.1.now)) result ((format.set left).read bytes.now) }
+    ensures read { Reads (λ x. (x.0, x.1.now)) result ((format.set left).read bytes.now) }
+    ensures memory { RanOutOnlyIf result ((format.set left).RunsOut bytes.now) }
 {
     let (n, rest) = up_to(bytes, left)?;
     elements_of(alloc, n, rest)
@@ -180,7 +189,8 @@ pub(crate) fn sets_of(
     count: u32,
     bytes: &[u8],
 ) -> Result<(Items<Items<u64>>, &[u8]), ReadError>
-    ensures { Reads (λ x. (x.0, x.1.now)) result ((format.sets count).read bytes.now) }
+    ensures read { Reads (λ x. (x.0, x.1.now)) result ((format.sets count).read bytes.now) }
+    ensures memory { RanOutOnlyIf result ((format.sets count).RunsOut bytes.now) }
 {
     let mut rows = Items::new(alloc);
     let mut left = MOST_NUMBERS;

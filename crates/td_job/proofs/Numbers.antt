@@ -1,6 +1,7 @@
 -- Lists of arguments and cells, element by element.
-use Rattle.std.proofs.Common.{◌≡◌, ℕ, zero, suc, ◌+◌, ◌<◌, ◌≤◌, List, [], ◌∷◌, ◌++◌, length, drop, Bool, true, false, not, nat_eq, nat_lt, option_map, slice_get, get_or, Option, Some, None, refl, ap, ◌∙◌, arith}
-use Rattle.std.specs.Prelude.{replicate}
+use Rattle.std.proofs.Common.{◌≡◌, ℕ, zero, suc, ◌+◌, ◌<◌, ◌≤◌, List, [], ◌∷◌, ◌++◌, length, drop, Bool, true, false, not, nat_eq, nat_lt, option_map, slice_get, get_or, Option, Some, None, Result, Ok, Err, refl, ap, ◌∙◌, arith}
+use Rattle.std.specs.Prelude.{replicate, OnErr}
+use Rattle.std.proofs.lemmas.List.{length-replicate}
 use Rattle.std.proofs.lemmas.Bool.Decides.{nat_tests}
 use Rattle.std.proofs.lemmas.List.{at_drop_more, drop-drop}
 use Rattle.serde_json.specs.Data.{Data, Items, no_items, item}
@@ -76,6 +77,33 @@ numbers_fit k i (bound ∷ bounds) (item value values) same h =
     let fits = value_fits (path.Element k i) bound.most (whole value) both.0 in
     let number : or_zero (whole value) ≡ fits.0 = ap or_zero fits.1 in
     (rw number fits.2, numbers_fit k (i + 1) bounds values (omega (arith, same)) both.1)
+
+-- as many numbers as elements
+pub as_many_numbers : (values : List Value) → length (each_number (items_view values)) ≡ length values
+as_many_numbers [] = refl
+as_many_numbers (value ∷ values) = ap suc (as_many_numbers values)
+
+-- there are values where there are slots for zeros
+pub zeros_counted : (bounds : List Bound) (value : Option Data) (n : ℕ) → None ≡ value → n ≡ length bounds → 0 < n → 0 < length (given_values bounds value)
+zeros_counted bounds None n none same h =
+    let many : length (replicate {A = ℕ} (length bounds) 0) ≡ length bounds = length-replicate {A = ℕ} (length bounds) 0 in
+    omega (arith, many, same, h)
+zeros_counted bounds (Some value) n none same h = absurd (cc)
+
+-- and where the list has elements
+pub numbers_counted : (bounds : List Bound) (value : Option Data) (given : Data) (values : List Value) → Some given ≡ value → Some (items_view values) ≡ as_array given
+    → 0 < length values → 0 < length (given_values bounds value)
+numbers_counted bounds None given values some listed h = absurd (cc)
+numbers_counted bounds (Some value) given values some listed h =
+    let is : given ≡ value = cc in
+    let numbers : each_number (items_view values) ≡ listed_numbers (as_array value) = ap listed_numbers (listed ∙ ap as_array is) in
+    let many = as_many_numbers values in
+    rw (← numbers) (omega (arith, many, h))
+
+-- what an error says says more
+pub on_err : {T E : Type 0} (r : Result T E) (P Q : Type 0) → (P → Q) → OnErr r P → OnErr r Q
+on_err (Ok t) P Q f h = tt
+on_err (Err e) P Q f h = f h
 
 zeros_fit : (bounds : List Bound) → AllFit bounds (replicate (length bounds) 0)
 zeros_fit [] = tt

@@ -1,6 +1,6 @@
 //! The fields of a job, each looked at for all that can be wrong with it.
 
-ghost use Rattle.std.specs.Prelude.{◌≡◌, ◌≢◌, ◌≤◌, ◌%◌, ◌&&◌, [], ◌⊎◌, length, nat_eq, IsOk, IfOk, IfErr, OnOk, IsSomeAnd, Some, option_map};
+ghost use Rattle.std.specs.Prelude.{◌≡◌, ◌≢◌, ◌<◌, ◌≤◌, ◌%◌, ◌&&◌, [], ◌⊎◌, length, nat_eq, IsOk, IfOk, IfErr, OnOk, IsSomeAnd, Some, option_map};
 ghost use Rattle.std.specs.List.{list_all};
 ghost use Rattle.hex.specs.Hex.{decode_of, is_hex_digit};
 ghost use Rattle.serde_json.specs.Find.{as_object};
@@ -48,15 +48,20 @@ fn fault_of(error: FromHexError, key: Key) -> JobError
 }
 
 /// The bytes that a field of a job gives. J2: it is missing or no text. J5: it is not an even number of hexadecimal
-/// digits. `NoMemory`: there was no memory for the bytes; never where the number of digits is odd.
+/// digits. `NoMemory`: there was no memory for the bytes; never where the field is at fault, which is found without any, nor
+/// where it gives no bytes.
 pub fn bytes_of(alloc: Global, job: &Value, key: Key) -> Result<Vec<u8>, JobError>
     ensures ok { IfOk result (λ bytes. (bytes_faults key (text_of key (view job.now)) ≡ []) × (spelled_bytes (text_of key (view job.now)) ≡ bytes.items)) }
     ensures err { IfErr result (λ e. (e ≡ JobError.NoMemory) ⊎ IsFirst (bytes_faults key (text_of key (view job.now))) e) }
-    ensures memory { result ≡ Err JobError.NoMemory → IsSomeAnd (text_of key (view job.now)) (λ text. length text % 2 ≡ 0) }
+    ensures memory { result ≡ Err JobError.NoMemory → (bytes_faults key (text_of key (view job.now)) ≡ []) × (0 < length (spelled_bytes (text_of key (view job.now)))) }
 {
+    let count = count_of(job, key)?;
     let Some(text) = text_of(job, key) else {
         return Err(JobRule::Form.at(Path::Whole(key)));
     };
+    if count == 0 {
+        return Ok(Vec::new(alloc));
+    }
     match hex::decode(alloc, text) {
         Ok(bytes) => Ok(bytes),
         Err(error) => Err(fault_of(error, key)),
@@ -98,7 +103,7 @@ fn count_spelled(text: &str, key: Key) -> Result<usize, JobError>
 
 /// How many bytes a field of a job gives. J2: it is missing or no text. J5: it is not an even number of hexadecimal
 /// digits. Takes no memory.
-pub(crate) fn count_of(job: &Value, key: Key) -> Result<usize, JobError>
+pub fn count_of(job: &Value, key: Key) -> Result<usize, JobError>
     ensures ok { IfOk result (λ count. (bytes_faults key (text_of key (view job.now)) ≡ []) × (length (spelled_bytes (text_of key (view job.now))) ≡ count)) }
     ensures err { IfErr result (λ e. IsFirst (bytes_faults key (text_of key (view job.now))) e) }
     ensures broken { IfErr result (λ e. e ≢ JobError.NoMemory) }
@@ -156,11 +161,12 @@ pub fn unknown_name<'a>(job: &'a Value, keys: &[Key]) -> Option<&'a str>
 }
 
 /// Tests that each field of a job is one of these. J2, at the first other name in byte order. `NoMemory`: there was no
-/// memory for that name; never where each name is known.
+/// memory for that name; never where each name is known, nor where the first that is not has no bytes.
 pub fn check_names(alloc: Global, job: &Value, keys: &[Key]) -> Result<(), JobError>
     ensures ok { OnOk result (unknown_faults Path.Unknown (first_unknown keys.now (as_object (view job.now))) ≡ []) }
     ensures err { IfErr result (λ e. (e ≡ JobError.NoMemory) ⊎ IsFirst (unknown_faults Path.Unknown (first_unknown keys.now (as_object (view job.now)))) e) }
     ensures known { unknown_faults Path.Unknown (first_unknown keys.now (as_object (view job.now))) ≡ [] → IsOk result }
+    ensures memory { result ≡ Err JobError.NoMemory → IsSomeAnd (first_unknown keys.now (as_object (view job.now))) (λ name. 0 < length name) }
 {
     let Some(name) = unknown_name(job, keys) else {
         return Ok(());

@@ -1,6 +1,6 @@
 //! The arguments and cells of a job.
 
-ghost use Rattle.std.specs.Prelude.{◌≡◌, ◌≢◌, [], length, replicate, IfOk, IfErr, OnOk, slice_get, option_map};
+ghost use Rattle.std.specs.Prelude.{◌≡◌, ◌≢◌, ◌<◌, [], length, replicate, IfOk, IfErr, OnOk, OnErr, slice_get, option_map};
 ghost use Rattle.serde_json.specs.Find.{as_array};
 ghost use Rattle.serde_json.specs.View.{view, items_view};
 ghost use Rattle.td_core.specs.Entries.{entry_definition};
@@ -167,9 +167,11 @@ pub(crate) fn check_cells(job: &Value, slots: Slots) -> Result<(), JobError>
     }
 }
 
-/// The numbers of a list's elements; what is no whole number counts as 0. `AllocError`: there was no memory for them.
+/// The numbers of a list's elements; what is no whole number counts as 0. `AllocError`: there was no memory for them; never
+/// where the list is empty.
 fn numbers_of(alloc: Global, values: &[Value]) -> Result<Items<u64>, AllocError>
-    ensures { IfOk result (λ numbers. numbers ≡ each_number (items_view values.now)) }
+    ensures ok { IfOk result (λ numbers. numbers ≡ each_number (items_view values.now)) }
+    ensures memory { OnErr result (0 < length values.now) }
 {
     let mut numbers = Items::new(alloc);
     for value in values {
@@ -178,22 +180,27 @@ fn numbers_of(alloc: Global, values: &[Value]) -> Result<Items<u64>, AllocError>
     Ok(numbers)
 }
 
-/// So many zeros. `AllocError`: there was no memory for them.
+/// So many zeros. `AllocError`: there was no memory for them; never for none.
 fn zeros(alloc: Global, count: usize) -> Result<Items<u64>, AllocError>
-    ensures { IfOk result (λ numbers. numbers ≡ replicate count 0) }
+    ensures ok { IfOk result (λ numbers. numbers ≡ replicate count 0) }
+    ensures memory { OnErr result (0 < count) }
 {
+    if count == 0 {
+        return Ok(Items::new(alloc));
+    }
     Ok(Items::of(vec![in alloc; 0u64; count]?))
 }
 
 /// The values that a job gives for parameters or cells: those of its list, or zeros where that is left out. `AllocError`:
-/// there was no memory for them.
+/// there was no memory for them; never where there are none.
 pub fn values_of(
     alloc: Global,
     job: &Value,
     key: Key,
     slots: Slots,
 ) -> Result<Items<u64>, AllocError>
-    ensures { IfOk result (λ numbers. numbers ≡ given_values (slot_bounds slots.entry) (field_of key (view job.now))) }
+    ensures ok { IfOk result (λ numbers. numbers ≡ given_values (slot_bounds slots.entry) (field_of key (view job.now))) }
+    ensures memory { OnErr result (0 < length (given_values (slot_bounds slots.entry) (field_of key (view job.now)))) }
 {
     let Some(value) = field_of(job, key) else {
         return zeros(alloc, slots.len());

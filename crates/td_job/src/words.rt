@@ -1,6 +1,6 @@
 //! The words that bytes fill.
 
-ghost use Rattle.std.specs.Prelude.{◌≡◌, ◌+◌, ◌*◌, ◌<◌, length, slice_index, IfOk};
+ghost use Rattle.std.specs.Prelude.{◌≡◌, ◌+◌, ◌*◌, ◌<◌, length, slice_index, IfOk, OnErr};
 ghost use Rattle.td_num.specs.Numbers.{rising_at};
 ghost use Rattle.td_job.specs.Words.{IsFilled};
 
@@ -27,10 +27,11 @@ fn word_at(bytes: &[u8], start: usize) -> u64
 }
 
 /// The first words that bytes fill, this many, the byte of least weight first; zero bytes stand past the end of the bytes.
-/// `AllocError`: there was no memory for them.
+/// `AllocError`: there was no memory for them; never where there are none.
 pub fn fill_words(alloc: Global, bytes: &[u8], count: u32) -> Result<Items<u64>, AllocError>
     requires { 8 * count < length bytes.now + 8 }
-    ensures { IfOk result (λ words. IsFilled bytes.now count words) }
+    ensures ok { IfOk result (λ words. IsFilled bytes.now count words) }
+    ensures memory { OnErr result (0 < count) }
 {
     let mut words = Items::new(alloc);
     for place in 0..count as usize {

@@ -1,6 +1,6 @@
 //! A run by code on words to which others store by a plan.
 
-ghost use Rattle.std.specs.Prelude.{◌≡◌, ◌*◌, ◌<◌, ◌≤◌, ◌^◌, [], length as size_of, IfOk, IsErr};
+ghost use Rattle.std.specs.Prelude.{◌≡◌, ◌*◌, ◌<◌, ◌≤◌, ◌^◌, [], length as size_of, IfOk, IsErr, IsOk};
 ghost use Rattle.td_ir.specs.Entries.{Fits};
 ghost use Rattle.td_vm.specs.Frames.{IsArmed};
 ghost use Rattle.td_job_run.specs.Runs.{IsRunBy};
@@ -40,7 +40,8 @@ pub struct Prepared<'a> {
     pub ghost room: { size_of words.opening ≤ loads.room },
 }
 
-/// Takes all memory that a run takes, and loads no word. The words are lent, not copied. `AllocError`: there was no memory.
+/// Takes all memory that a run takes, and loads no word. The words are lent, not copied. `AllocError`: there was no memory;
+/// never where there are neither words nor stores.
 pub fn prepare<'a>(
     alloc: Global,
     words: &'a [u64],
@@ -49,6 +50,7 @@ pub fn prepare<'a>(
     requires { size_of words.now < 2 ^ 32 }
     ensures opening { IfOk result (λ p. p.words.opening ≡ words.now) }
     ensures stores { IfOk result (λ p. p.words.stores ≡ stores.now) }
+    ensures memory { words.now ≡ [] → stores.now ≡ [] → IsOk result }
 {
     let loads = Loads::with_room(alloc, words.len() as u32)?;
     let words = Planned::open(alloc, words, stores)?;
@@ -87,8 +89,8 @@ pub fn run_prepared(
 
 /// Runs code once, in a frame that was armed for it, from an entry point that these arguments and cells fit, on a message of
 /// `length` bytes, while others store to its words by a plan. The frame is left with the trace and the cells. `AllocError`: there
-/// was no memory. That comes of `prepare`, which loads no word; `run_prepared`, which follows, takes none, so want of memory
-/// never hides an outcome.
+/// was no memory; never where there are neither words nor stores. That comes of `prepare`, which loads no word; `run_prepared`,
+/// which follows, takes none, so want of memory never hides an outcome.
 pub fn run_in_frame(
     alloc: Global,
     code: &Verified,
@@ -109,6 +111,7 @@ pub fn run_in_frame(
         (record { verdict = ran.verdict; trace = frame.new.trace; cells = frame.new.cells }) ran.loads.list) }
     ensures armed { IsArmed code.now frame.new }
     ensures untouched { IsErr result → frame.new ≡ frame.old }
+    ensures memory { words.now ≡ [] → stores.now ≡ [] → IsOk result }
 {
     let prepared = prepare(alloc, words, stores)?;
     Ok(run_prepared(code, frame, entry, args, cells, length, prepared))

@@ -11,3 +11,6 @@ returns-in-Err-clause-refused c =
 
 pub returns-in-Err-clause-memory : goal.returns-in-Err-clause-memory
 returns-in-Err-clause-memory c = λ h. c.in-Err.ensures.memory (ran_out c.in-Err.error (length c.args.bytes.now) (subst (λ (e : ImageError). answer.RanOut e) c.error_of.ensures h))
+
+pub returns-in-Err-clause-rows : goal.returns-in-Err-clause-rows
+returns-in-Err-clause-rows c = λ h. c.in-Err.ensures.rows (ran_out c.in-Err.error (length c.args.bytes.now) (subst (λ (e : ImageError). answer.RanOut e) c.error_of.ensures h))

@@ -1,4 +1,4 @@
-use Rattle.std.proofs.Common.{sym, subst}
+use Rattle.std.proofs.Common.{inr, sym, subst}
 use Rattle.td_image.specs.declared.error.ImageError.{ImageError}
 use Rattle.td_image.specs.Answer as answer
 use Rattle.td_image.proofs.Answering.{verifier_told}
@@ -11,3 +11,6 @@ returns-clause-refused c =
 
 pub returns-clause-memory : goal.returns-clause-memory
 returns-clause-memory c = λ h. c.in_ok-code.ensures.header
+
+pub returns-clause-rows : goal.returns-clause-rows
+returns-clause-rows c = λ h. inr (c.in_ok-code.code, c.in_ok-code.ensures.found)

@@ -1,8 +1,11 @@
-use Rattle.std.proofs.Common.{◌≡◌, ◌-◌, ◌^◌, take}
+use Rattle.std.proofs.Common.{◌≡◌, ◌≤◌, ◌+◌, ◌-◌, ◌^◌}
 use Rattle.std.specs.Prelude.{min}
-use Rattle.td_host_job.specs.Totals.{total}
+use Rattle.td_host_job.proofs.Counting.{guests_from}
 use Rattle.td_host_job.proofs.totals.Total.over.Given as goal
 
--- the scripts so far
-abbrev pub invariant-loop-script : goal.invariant-loop-script
-invariant-loop-script l = l.sum ≡ min (total l.self (take l.script-index l.guests)) (2 ^ 64 - 1)
+-- what was counted so far, and the guests from here
+abbrev pub invariant-loop-guest : goal.invariant-loop-guest
+invariant-loop-guest l = record {
+  same : min (l.sum + guests_from l.self l.guests l.guest-index) (2 ^ 64 - 1) ≡ min (guests_from l.self l.guests 0) (2 ^ 64 - 1);
+  most : l.sum ≤ 2 ^ 64 - 1;
+}
