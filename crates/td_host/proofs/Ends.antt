@@ -27,7 +27,7 @@ use Rattle.td_posts.specs.declared.job.HostJob.{HostJob}
 use Rattle.td_posts.specs.Posts.{all_mails, stores_of, reply_name}
 use Rattle.td_host.specs.declared.actor.Actor.{Actor}
 use Rattle.td_host.specs.declared.actor.Actor.TheVariants as kind
-use Rattle.td_host.specs.Served.{In, pieces, ArePieces, joined, AreStored, ArePosted}
+use Rattle.td_host.specs.Served.{In, pieces, ArePieces, joined, AreStored, ArePosted, AnswerTakes}
 use Rattle.td_host.specs.Acting.{acts_of, guest_seat, read_seat, post_pass, take_pass, ticket_seat, RanScript, RanWorker, Answered}
 use Rattle.td_host.specs.Actors.{Service, Did}
 use Rattle.td_host.specs.Gathered.{view_of, put_one, take_one, draw_one, seats_all, puts_all, takes_all, draws_all, all_replies, FreshWorkers, FreshGuests}
@@ -223,6 +223,7 @@ module _ {G : Type 0} where
       pub divided : joined shares ≡ all_replies ds
       pub answered : All (Answered job) (all_replies ds)
       pub names : map reply_name (all_replies ds) ≡ map (λ (p : Post). p.name) (owned (take_parts ds))
+      pub of_takes : AnswerTakes (take_parts ds) shares
       pub reading : All (λ (v : SeatView). (v.guest ≡ false) × (stores v.steps ≡ [])) (map view_of ds)
       pub quiet : (u : SeatView) → In u (map view_of ds) → stores u.steps ≡ []
       pub counts : sum_by (one_below (length mails)) (owned (draw_parts ds)) ≡ length (owned (take_parts ds))
@@ -234,13 +235,14 @@ module _ {G : Type 0} where
 
     module _ (shared : BufferState) (ring : RingState) (service : Service) (opened : List ℕ) where
       pub workers_done : (ds bs : List (Actor G)) → FreshWorkers shared ring service opened ds → DidAll ds bs → WorkersDone bs
-      unfolding DidAll FreshWorkers cons_opt In ArePieces joined all_replies put_parts take_parts draw_parts owned
+      unfolding DidAll FreshWorkers cons_opt In ArePieces AnswerTakes joined all_replies put_parts take_parts draw_parts owned
       workers_done [] [] f d = record {
         shares = [];
         are_pieces = tt;
         divided = refl;
         answered = All-nil (Answered job);
         names = refl;
+        of_takes = tt;
         reading = All-nil (λ (v : SeatView). (v.guest ≡ false) × (stores v.steps ≡ []));
         quiet = λ u e. absurd e;
         counts = refl;
@@ -276,6 +278,7 @@ module _ {G : Type 0} where
             divided = ap (λ l. rs ++ l) r.divided;
             answered = All-append (Answered job) rs (all_replies bs) p.answered r.answered;
             names = map-append reply_name rs (all_replies bs) ∙ ((λ i. p.names i ++ r.names i) ∙ (sym (map-append (λ (y : Post). y.name) p.posts (owned (take_parts bs))) ∙ ap (λ l. map (λ (y : Post). y.name) (owned l)) (sym took)));
+            of_takes = subst (λ (l : List (Part Post)). AnswerTakes l (rs ∷ r.shares)) (sym took) (p.names, r.of_takes);
             reading = All-cons (λ (y : SeatView). (y.guest ≡ false) × (stores y.steps ≡ [])) v.seat.view (map view_of bs) (ap (λ (y : SeatView). y.guest) view, ap (λ (y : SeatView). stores y.steps) view ∙ p.stored) r.reading;
             quiet = λ u e. ⊎_elim (λ (q : v.seat.view ≡ u). ap (λ (y : SeatView). stores y.steps) (sym q ∙ view) ∙ p.stored) (λ (q : In u (map view_of bs)). r.quiet u q) e;
             counts =

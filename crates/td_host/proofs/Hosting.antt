@@ -3,9 +3,13 @@ use Rattle.std.proofs.Common.{◌≡◌, Option, None, Some}
 use Rattle.atomic_table.specs.Seated.{TableId}
 use Rattle.td_posts.specs.declared.job.HostJob.{HostJob}
 use Rattle.td_host.specs.declared.serve.Finished.{Finished}
+use Rattle.td_host.specs.declared.actor.Desk.{Desk}
 use Rattle.td_host.specs.declared.host.Host.{Host}
 use Rattle.td_host.specs.Served.{Served}
 use Rattle.td_host.specs.Hosts.{IfThere, IsServed, IsServedJob, replies_in}
+
+pub same_job : {J : Type 0} {d e : Desk J} → d ≡ e → d.job ≡ e.job
+same_job p = λ i. (p i).job
 
 found : (job : HostJob) (table queue : TableId) (o : Option Finished)
     → IfThere o (λ e. (e.seat.table ≡ table) × (e.posts.queue ≡ queue) × Served job e.replies e.seat.view e.posts.view) → IsServedJob job (replies_in o)

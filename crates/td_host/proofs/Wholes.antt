@@ -228,6 +228,7 @@ module _ {G : Type 0} where
               opened = opened;
               history = log;
               told = told;
+              as_many = length-map h.workers view_of ∙ h.as_many;
               reading = h.worked.reading;
               divided = record { shares = h.worked.shares; are_pieces = h.worked.are_pieces; each_once = subst (λ l. IsPermutation l replies) (sym h.worked.divided) order' };
               stored_by = h.stored_by.stored_by;
@@ -243,6 +244,8 @@ module _ {G : Type 0} where
               all_posts = ap (λ n. n + 1) h.stored_by.as_many;
               all_takes = ap (λ n. n + 1) h.worked.as_many_takes;
               posted = h.stored_by.posted;
+              as_many = h.worked.as_many_takes ∙ h.as_many;
               taken = perm;
             };
+            answered = h.worked.of_takes;
           }

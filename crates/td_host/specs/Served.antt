@@ -112,9 +112,9 @@ In x (y ∷ ys) = (y ≡ x) ⊎ In x ys
 abbrev pub Comes : HostJob → ℕ × ℕ → Type 0
 Comes job l = (l.1 ≡ slice_index job.words l.0) ⊎ ((s : List Step) × In s job.guests × In (l.0, l.1) (stores_of s))
 
--- what the host's seat knows of all that was done to the buffer: it gathered each seat that it made, first the readers, which
--- stored nothing, and then a guest for each script, which loaded nothing; all their loads and stores stand in one history, and
--- so each load is the opening word, or some guest's script stores it to that word
+-- what the host's seat knows of all that was done to the buffer: it gathered each seat that it made, first the readers, one
+-- for each worker, which stored nothing, and then a guest for each script, which loaded nothing; all their loads and stores
+-- stand in one history, and so each load is the opening word, or some guest's script stores it to that word
 pub record SeatsServed (job : HostJob) (replies : List Reply) (host : HostView) : Type 0 where
   pub readers : List SeatView
   pub guests : List SeatView
@@ -123,6 +123,7 @@ pub record SeatsServed (job : HostJob) (replies : List Reply) (host : HostView) 
   pub opened : host.opened ≡ job.words
   pub history : List Entry
   pub told : Told host history
+  pub as_many : length readers ≡ job.workers
   pub reading : All (λ (v : SeatView). (v.guest ≡ false) × (stores v.steps ≡ [])) readers
   pub divided : Divided (all_mails 1 job.guests) readers replies
   pub stored_by : AreStored 0 job.guests guests
@@ -145,7 +146,8 @@ ArePosted g n (s ∷ ss) [] = ⊥
 ArePosted g n (s ∷ ss) (p ∷ ps) = (n ≤ p.number) × (map label p.own ≡ map mail_label (mails_of g s)) × ArePosted (g + 1) (p.number + 1) ss ps
 
 -- what the ring's two first passes know, the one that posts and the one that takes: they posted and took nothing themselves,
--- they gathered each pass that was made, and what was taken is what was posted, each once
+-- they gathered each pass that was made, one that posts for each script and one that takes for each worker, and what was
+-- taken is what was posted, each once
 pub record PassesServed (job : HostJob) (passes : RingView) : Type 0 where
   pub posts : Head Post
   pub takes : Head Post
@@ -156,11 +158,20 @@ pub record PassesServed (job : HostJob) (passes : RingView) : Type 0 where
   pub all_posts : length posts.ended + 1 ≡ posts.made
   pub all_takes : length takes.ended + 1 ≡ takes.made
   pub posted : ArePosted 1 0 job.guests posts.ended
+  pub as_many : length takes.ended ≡ job.workers
   pub taken : IsPermutation (owned takes.ended) (owned posts.ended)
 
--- All posts of the job are served: there is one reply for each post, by guest and number, and no other; and this is what the
--- seats of the buffer and the passes of the ring did.
+-- the replies of each share are to the posts that one of these passes took, in turn
+unfoldable pub AnswerTakes : List (Part Post) → List (List Reply) → Type 0
+AnswerTakes [] [] = Unit {0}
+AnswerTakes [] (share ∷ shares) = ⊥
+AnswerTakes (p ∷ ps) [] = ⊥
+AnswerTakes (p ∷ ps) (share ∷ shares) = (map reply_name share ≡ map (λ (post : Post). post.name) p.own) × AnswerTakes ps shares
+
+-- All posts of the job are served: there is one reply for each post, by guest and number, and no other; this is what the
+-- seats of the buffer and the passes of the ring did; and each worker answered the posts that it took itself.
 pub record Served (job : HostJob) (replies : List Reply) (host : HostView) (passes : RingView) : Type 0 where
   pub replies_are : RepliesTo job (all_mails 1 job.guests) replies
   pub seats : SeatsServed job replies host
   pub passes_are : PassesServed job passes
+  pub answered : AnswerTakes passes_are.takes.ended seats.divided.shares

@@ -46,6 +46,7 @@ impl<J: Naming + Send + Sync, G: Gate + Send + Drop> Host<J, G> {
         requires said { (p : Post) → Fits (most_frames code) job p → J.names p }
         requires says { (p : Post) → J.names p → Fits (most_frames code) job p }
         ensures armed { IfOk result (λ h. IsArmed J.names h) }
+        ensures code { IfOk result (λ h. h.desk.code ≡ code) }
         ensures job { IfOk result (λ h. h.desk.job ≡ job) }
     {
         let (desk, heads) = open_desk::<J>(alloc, code, job)?;
@@ -61,7 +62,7 @@ impl<J: Naming + Send + Sync, G: Gate + Send + Drop> Host<J, G> {
     /// in turn. To be called once. It takes no memory: `arm` took all room.
     pub fn serve<R: Threads + Wait + Sync>(&mut self, rt: &R)
         requires { IsArmed J.names self.old }
-        ensures job { self.new.desk.job ≡ self.old.desk.job }
+        ensures desk { self.new.desk ≡ self.old.desk }
         ensures served { IsServed self.new }
     {
         let Some(crew) = self.crew.take() else {

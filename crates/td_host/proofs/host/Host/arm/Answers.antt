@@ -39,3 +39,6 @@ returns-clause-armed g c =
 
 pub returns-clause-job : goal.returns-clause-job
 returns-clause-job g c = c.in_ok-desk.ensures.job
+
+pub returns-clause-code : goal.returns-clause-code
+returns-clause-code g c = c.in_ok-desk.ensures.code
