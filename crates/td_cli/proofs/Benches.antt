@@ -227,7 +227,7 @@ pub bench_ends : (n : ℕ) (totals : Result Totals InputError) (out err : Passag
     → IfOk totals (AreTotals n) → IfErr totals (HasCause (RefusesBench n)) → BenchEnds totals out err result → InputEnds (Bench n) [] out err result
 bench_ends n (Ok t) out err result is cause h = inl (totals_text t, (t, is, refl), h)
 bench_ends n (Err (Refused refusal)) out err result is cause h = inr (inl (refusal, cause, h))
-bench_ends n (Err NoMemory) out err result is cause h = inr (inr h)
+bench_ends n (Err NoMemory) out err result is cause h = inr (inr (tt, h))
 
 pub bench_good : (n : ℕ) (totals : Result Totals InputError) (out err : Passage SinkState) (result : Status)
     → ((refusal : Refusal) → AdmitsBench n → RefusesBench n refusal → ⊥)

@@ -106,14 +106,14 @@ input_ends words command source input out err result means taken (inl h) =
 input_ends words command source input out err result means taken (inr (inl h)) =
     line_ends at.Refused words source (refusal_line input h.0) out err result (record { command = command; means = means; input = input; saw = taken.saw; refusal = h.0; refuses = h.1; line_is = refl }) h.2
 input_ends words command source input out err result means taken (inr (inr h)) =
-    line_ends at.NoMemory words source memory_line out err result (taken.lack, refl) h
+    line_ends at.NoMemory words source memory_line out err result (taken.lack, refl) h.1
 
 -- an input that was read ends a call in one of four ways
 pub input_never : (command : Command) (input : List ℕ) (out err : Passage SinkState) (result other : Status)
     → at.Done ≢ other → at.Refused ≢ other → at.NoMemory ≢ other → at.WriteFault ≢ other → InputEnds command input out err result → result ≢ other
 input_never command input out err result other done refused memory fault (inl h) = ends_or_fails at.Done h.0 out result other h.2.0 done fault
 input_never command input out err result other done refused memory fault (inr (inl h)) = ends_or_fails at.Refused (refusal_line input h.0) err result other h.2.0 refused fault
-input_never command input out err result other done refused memory fault (inr (inr h)) = ends_or_fails at.NoMemory memory_line err result other h.0 memory fault
+input_never command input out err result other done refused memory fault (inr (inr h)) = ends_or_fails at.NoMemory memory_line err result other h.1.0 memory fault
 
 -- ---- a source that wasn't read to its end
 

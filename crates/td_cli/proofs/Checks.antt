@@ -43,7 +43,7 @@ pub check_ends : (input : List ℕ) (checked : Result Module InputError) (out er
     → CheckEnds input checked out err result → InputEnds Check input out err result
 check_ends input (Ok m) out err result short stands cause h = inl (summary m, (short, (m, stands, refl)), h)
 check_ends input (Err (Refused refusal)) out err result short stands cause h = inr (inl (refusal, refuses_short input refusal short cause, h))
-check_ends input (Err NoMemory) out err result short stands cause h = inr (inr h)
+check_ends input (Err NoMemory) out err result short stands cause h = inr (inr (tt, h))
 
 pub check_good : (input : List ℕ) (checked : Result Module InputError) (out err : Passage SinkState) (result : Status)
     → ((m : Module) → IsModuleText input m → IfErr checked (λ e. e ≡ NoMemory))

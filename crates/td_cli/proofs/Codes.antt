@@ -42,7 +42,7 @@ pub code_ends : (input : List ℕ) (found : Result (List ℕ) InputError) (out e
     → CodeEnds input found out err result → InputEnds Code input out err result
 code_ends input (Ok text) out err result short stands cause h = inl (text, (short, stands), h)
 code_ends input (Err (Refused refusal)) out err result short stands cause h = inr (inl (refusal, refuses_short input refusal short cause, h))
-code_ends input (Err NoMemory) out err result short stands cause h = inr (inr h)
+code_ends input (Err NoMemory) out err result short stands cause h = inr (inr (tt, h))
 
 pub code_good : (input : List ℕ) (found : Result (List ℕ) InputError) (out err : Passage SinkState) (result : Status)
     → ((m : Module) → IsModuleText input m → IfErr found (λ e. e ≡ NoMemory))

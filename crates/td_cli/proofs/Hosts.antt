@@ -1,5 +1,5 @@
 -- How the input of `host` is answered, from how its job was served.
-use Rattle.std.proofs.Common.{◌≡◌, ◌≢◌, inl, inr, ℕ, ◌≤◌, List, length, Result, Ok, Err, IfOk, IfErr, IsErr, MatchResult, refl, arith}
+use Rattle.std.proofs.Common.{◌≡◌, ◌≢◌, inl, inr, ℕ, ◌≤◌, List, length, Result, Ok, Err, IfOk, IfErr, IsErr, IsErrOf, MatchResult, refl, arith}
 use Rattle.td_io.specs.States.{SinkState}
 use Rattle.td_core.specs.declared.module.Module.{Module}
 use Rattle.td_posts.specs.declared.job.HostJob.{HostJob}
@@ -9,6 +9,7 @@ use Rattle.td_input.specs.declared.refusal.Refusal.TheVariants.{TooLong, NoJob, 
 use Rattle.td_input.specs.declared.refusal.InputError.{InputError}
 use Rattle.td_input.specs.declared.refusal.InputError.TheVariants.{Refused, NoMemory}
 use Rattle.td_input.specs.Causes.{HasCause}
+use Rattle.td_input.specs.Marker.{IsMarker}
 use Rattle.td_input.specs.Inputs.{IsHostInput, RefusesHost}
 use Rattle.td_serving.specs.declared.serving.ServedInput.{ServedInput}
 use Rattle.td_serving.specs.Serving.{IsServedInput}
@@ -21,6 +22,7 @@ use Rattle.td_cli.specs.Errors.{unanswered_status, unanswered_line}
 use Rattle.td_cli.specs.Lines.{memory_line, refusal_line}
 use Rattle.td_cli.specs.Ends.{Passage}
 use Rattle.td_cli.specs.Endings.{EndsWithOutput, EndsWithLine, InputEnds}
+use Rattle.td_input.proofs.Markers.{marker_there}
 use Rattle.td_cli.proofs.Calls.{ends_or_fails}
 
 -- how a job that was served, or an input without one, ends the call
@@ -43,11 +45,12 @@ refuses_host input (BadJob e) short h = h.1
 
 pub host_ends : (input : List ℕ) (served : Result ServedInput InputError) (out err : Passage SinkState) (result : Status)
     → length input ≤ INPUT_LIMIT → IfOk served (λ s. IsServedInput input s.module s.entry s.replies) → IfErr served (HasCause (RefusesHost input))
+    → (((n : ℕ) → IsMarker input n → ⊥) → IsErrOf served (Refused NoJob))
     → HostEnds input served out err result → InputEnds Host input out err result
-host_ends input (Ok s) out err result short is cause h =
+host_ends input (Ok s) out err result short is cause none h =
     inl (host_report s.module s.entry s.replies, (short, record { m = s.module; entry = s.entry; replies = s.replies; served = is; text_is = refl }), h)
-host_ends input (Err (Refused refusal)) out err result short is cause h = inr (inl (refusal, refuses_short input refusal short cause, h))
-host_ends input (Err NoMemory) out err result short is cause h = inr (inr h)
+host_ends input (Err (Refused refusal)) out err result short is cause none h = inr (inl (refusal, refuses_short input refusal short cause, h))
+host_ends input (Err NoMemory) out err result short is cause none h = inr (inr (marker_there input (λ never. let same = none never in absurd (cc same)), h))
 
 pub host_good : (input : List ℕ) (served : Result ServedInput InputError) (out err : Passage SinkState) (result : Status)
     → ((m : Module) (job : HostJob) → IsHostInput input m job → IfErr served (λ e. e ≡ NoMemory))

@@ -42,7 +42,7 @@ pub pack_ends : (input : List ℕ) (found : Result (List ℕ) InputError) (out e
     → PackEnds input found out err result → InputEnds Pack input out err result
 pack_ends input (Ok text) out err result short stands cause h = inl (text, (short, stands), h)
 pack_ends input (Err (Refused refusal)) out err result short stands cause h = inr (inl (refusal, refuses_short input refusal short cause, h))
-pack_ends input (Err NoMemory) out err result short stands cause h = inr (inr h)
+pack_ends input (Err NoMemory) out err result short stands cause h = inr (inr (tt, h))
 
 pub pack_good : (input : List ℕ) (found : Result (List ℕ) InputError) (out err : Passage SinkState) (result : Status)
     → ((m : Module) → IsModuleText input m → IfErr found (λ e. e ≡ NoMemory))

@@ -1,5 +1,5 @@
 -- How the input of `run` is answered, from how its run finished.
-use Rattle.std.proofs.Common.{◌≡◌, ◌≢◌, inl, inr, ℕ, ◌≤◌, List, length, Result, Ok, Err, IfOk, IfErr, IsErr, MatchResult, refl, arith}
+use Rattle.std.proofs.Common.{◌≡◌, ◌≢◌, inl, inr, ℕ, ◌≤◌, List, length, Result, Ok, Err, IfOk, IfErr, IsErr, IsErrOf, MatchResult, refl, arith}
 use Rattle.td_io.specs.States.{SinkState}
 use Rattle.td_core.specs.declared.module.Module.{Module}
 use Rattle.td_job.specs.declared.run_job.RunJob.{RunJob}
@@ -17,10 +17,12 @@ use Rattle.td_cli.specs.Answers.{Admits, Refuses}
 use Rattle.td_input.specs.Inputs.{IsRunInput, RefusesRun}
 use Rattle.td_cli.specs.Errors.{unanswered_status, unanswered_line}
 use Rattle.td_input.specs.Causes.{HasCause}
+use Rattle.td_input.specs.Marker.{IsMarker}
 use Rattle.td_cli.specs.Lines.{memory_line, refusal_line}
 use Rattle.td_cli.specs.Run.{IsRunOf}
 use Rattle.td_cli.specs.Ends.{Passage}
 use Rattle.td_cli.specs.Endings.{EndsWithOutput, EndsWithLine, InputEnds}
+use Rattle.td_input.proofs.Markers.{marker_there}
 use Rattle.td_cli.proofs.Calls.{ends_or_fails}
 
 -- how a run that finished, or an input without one, ends the call
@@ -43,11 +45,12 @@ refuses_run input (BadJob e) short h = h.1
 
 pub run_ends : (input : List ℕ) (run : Result FinishedRun InputError) (out err : Passage SinkState) (result : Status)
     → length input ≤ INPUT_LIMIT → IfOk run (λ r. IsRunInput input r.input.module r.input.job) → IfOk run (λ r. IsRunOf r.input.module r.input.job r.outcome r.loads.list) → IfErr run (HasCause (RefusesRun input))
+    → (((n : ℕ) → IsMarker input n → ⊥) → IsErrOf run (Refused NoJob))
     → RunEnds input run out err result → InputEnds Run input out err result
-run_ends input (Ok r) out err result short given ran cause h =
+run_ends input (Ok r) out err result short given ran cause none h =
     inl (report r.outcome r.input.module r.input.job.entry r.loads.list, (short, record { m = r.input.module; job = r.input.job; outcome = r.outcome; loads = r.loads.list; input_is = given; run = ran; text_is = refl }), h)
-run_ends input (Err (Refused refusal)) out err result short given ran cause h = inr (inl (refusal, refuses_short input refusal short cause, h))
-run_ends input (Err NoMemory) out err result short given ran cause h = inr (inr h)
+run_ends input (Err (Refused refusal)) out err result short given ran cause none h = inr (inl (refusal, refuses_short input refusal short cause, h))
+run_ends input (Err NoMemory) out err result short given ran cause none h = inr (inr (marker_there input (λ never. let same = none never in absurd (cc same)), h))
 
 pub run_good : (input : List ℕ) (run : Result FinishedRun InputError) (out err : Passage SinkState) (result : Status)
     → ((m : Module) (job : RunJob) → IsRunInput input m job → IfErr run (λ e. e ≡ NoMemory))

@@ -42,7 +42,7 @@ pub tidy_ends : (input : List ℕ) (tidied : Result (List ℕ) InputError) (out 
     → TidyEnds input tidied out err result → InputEnds Tidy input out err result
 tidy_ends input (Ok text) out err result short stands cause h = inl (text, (short, stands), h)
 tidy_ends input (Err (Refused refusal)) out err result short stands cause h = inr (inl (refusal, refuses_short input refusal short cause, h))
-tidy_ends input (Err NoMemory) out err result short stands cause h = inr (inr h)
+tidy_ends input (Err NoMemory) out err result short stands cause h = inr (inr (tt, h))
 
 pub tidy_good : (input : List ℕ) (tidied : Result (List ℕ) InputError) (out err : Passage SinkState) (result : Status)
     → ((m : Module) → IsModuleText input m → IfErr tidied (λ e. e ≡ NoMemory))

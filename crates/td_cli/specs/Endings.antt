@@ -4,7 +4,9 @@ use Rattle.td_io.specs.States.{SinkState}
 use Rattle.td_cli.specs.declared.status.Status.{Status}
 use Rattle.td_cli.specs.declared.status.Status.TheVariants as ends
 use Rattle.td_command.specs.declared.command.Command.{Command}
+use Rattle.td_command.specs.declared.command.Command.TheVariants.{Run, Host}
 use Rattle.td_input.specs.declared.refusal.Refusal.{Refusal}
+use Rattle.td_input.specs.Marker.{IsFirstMarker}
 use Rattle.td_cli.specs.Answers.{Answers, Refuses}
 use Rattle.td_cli.specs.Lines.{memory_line, refusal_line}
 use Rattle.td_cli.specs.Ends.{Passage, Takes, WriteFails}
@@ -21,10 +23,16 @@ EndsWithOutput output out err result = EndsWith ends.Done output out result × e
 abbrev pub EndsWithLine : Status → List ℕ → Passage SinkState → Passage SinkState → Status → Type 0
 EndsWithLine status line out err result = EndsWith status line err result × out.Untouched
 
+-- for such an input the command takes memory: `run` and `host` look for the marker first, and take none for that
+abbrev pub NeedsMemory : Command → List ℕ → Type 0
+NeedsMemory Run input = (n : ℕ) × IsFirstMarker input n
+NeedsMemory Host input = (n : ℕ) × IsFirstMarker input n
+NeedsMemory command input = Unit {0}
+
 -- an input that was read is answered: the command's output goes to `out`; or a line goes to `err`, which says why the
--- command refuses the input, or that there was no memory
+-- command refuses the input, or that there was no memory for what it needs
 abbrev pub InputEnds : Command → List ℕ → Passage SinkState → Passage SinkState → Status → Type 0
 InputEnds command input out err result =
     ((output : List ℕ) × Answers command input output × EndsWithOutput output out err result)
     ⊎ (((refusal : Refusal) × Refuses command input refusal × EndsWithLine ends.Refused (refusal_line input refusal) out err result)
-    ⊎ EndsWithLine ends.NoMemory memory_line out err result)
+    ⊎ (NeedsMemory command input × EndsWithLine ends.NoMemory memory_line out err result))

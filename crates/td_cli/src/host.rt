@@ -18,7 +18,8 @@ use td_live::gate::Gate;
 use td_serving::gates::GATES_OF_EACH;
 use td_serving::serving::serve_input;
 
-/// Answers the input of `host`: with the report of its job's replies, or the line that refuses it. It may wait.
+/// Answers the input of `host`: with the report of its job's replies, or the line that refuses it. There may be no memory
+/// only where the input has a marker. It may wait.
 pub(crate) fn answer_host<
     R: AllocGlobal + Threads + Wait + Sync,
     O: Sink,

@@ -1,7 +1,7 @@
 //! The command `run`: the module becomes code, the job's words are laid out, and the message in them is validated once by
 //! that code, while others store to the words by the job's plan.
 
-ghost use Rattle.std.specs.Prelude.{◌≡◌, ◌≢◌, ◌<◌, ◌≤◌, ◌*◌, ◌^◌, ◌-◌, length, IfOk, IfErr, IsErr};
+ghost use Rattle.std.specs.Prelude.{◌≡◌, ◌≢◌, ◌<◌, ◌≤◌, ◌*◌, ◌^◌, ◌-◌, ℕ, length, IfOk, IfErr, IsErr, IsErrOf};
 ghost use Rattle.td_core.specs.declared.module.Module.{Module};
 ghost use Rattle.td_front.specs.Checked.{IsChecked};
 ghost use Rattle.td_job.specs.declared.run_job.RunJob.{RunJob};
@@ -13,6 +13,7 @@ ghost use Rattle.td_input.specs.Inputs.{IsRunInput, RefusesRun};
 ghost use Rattle.td_cli.specs.Ends.{passage};
 ghost use Rattle.td_cli.specs.Endings.{InputEnds};
 ghost use Rattle.td_input.specs.Causes.{HasCause};
+ghost use Rattle.td_input.specs.Marker.{IsMarker};
 ghost use Rattle.td_cli.specs.Run.{IsRunOf};
 ghost use Rattle.td_input.specs.Inputs.{IsSoundJob};
 
@@ -63,7 +64,8 @@ fn run_job(alloc: Global, m: &Module, job: &RunJob) -> Result<Run, AllocError>
     )
 }
 
-// Runs the job of an input. It looks at nothing of how the run came out.
+// Runs the job of an input. It looks at nothing of how the run came out. Where the input has no marker, that is told in any
+// case.
 fn run_input(alloc: Global, input: &[u8]) -> Result<FinishedRun, InputError>
     requires { length input.now < 2 ^ 32 - 1 }
     ensures input { IfOk result (λ run. IsRunInput input.now run.input.module run.input.job) }
@@ -71,6 +73,7 @@ fn run_input(alloc: Global, input: &[u8]) -> Result<FinishedRun, InputError>
     ensures cause { IfErr result (HasCause (RefusesRun input.now)) }
     ensures complete { (m : Module) (job : RunJob) → IsRunInput input.now m job → IfErr result (λ e. e ≡ InputError.NoMemory) }
     ensures refused { (refusal : Refusal) → RefusesRun input.now refusal → IsErr result }
+    ensures no_job { ((n : ℕ) → IsMarker input.now n → ⊥) → IsErrOf result (InputError.Refused Refusal.NoJob) }
 {
     front::modules_are_checked();
     jobs_are_sized();
@@ -85,7 +88,8 @@ fn run_input(alloc: Global, input: &[u8]) -> Result<FinishedRun, InputError>
     })
 }
 
-/// Answers the input of `run`: with the report of its job's run, or the line that refuses it.
+/// Answers the input of `run`: with the report of its job's run, or the line that refuses it. There may be no memory only
+/// where the input has a marker.
 pub(crate) fn answer_run<O: Sink, E: Sink>(
     alloc: Global,
     input: &[u8],

@@ -29,7 +29,8 @@ use td_serving::gates::GATES_OF_EACH;
 /// How many bytes an input has at most: 4 MiB.
 pub const INPUT_LIMIT: usize = 4_194_304;
 
-// Answers an input that was read, for a command that reads one.
+// Answers an input that was read, for a command that reads one. For `run` there may be no memory only where the input has a
+// marker.
 fn answer_input<O: Sink, E: Sink>(
     alloc: Global,
     command: Command,

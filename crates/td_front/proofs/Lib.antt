@@ -2,3 +2,4 @@ pub mod Trees
 pub mod Texts
 pub mod Counts
 pub mod Answering
+pub mod Memory

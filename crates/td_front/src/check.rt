@@ -1,9 +1,9 @@
 //! The module for which a text stands.
 
-ghost use Rattle.std.specs.Prelude.{◌≡◌, ◌<◌, ◌≤◌, ◌-◌, ◌^◌, ◌⊎◌, length, IfOk, IfErr, MatchResult};
+ghost use Rattle.std.specs.Prelude.{◌≡◌, ◌<◌, ◌≤◌, ◌-◌, ◌^◌, ◌⊎◌, Err, length, IfOk, IfErr, MatchResult};
 ghost use Rattle.td_ast.specs.declared.definitions.ModuleTree.{ModuleTree};
 ghost use Rattle.td_core.specs.declared.module.Module.{Module};
-ghost use Rattle.td_lexer.specs.Splits.{Splits};
+ghost use Rattle.td_lexer.specs.Splits.{Splits, HasToken};
 ghost use Rattle.td_front.specs.Checked.{IsChecked};
 ghost use Rattle.td_front.specs.Errors.{of_parsing};
 ghost use Rattle.td_front.specs.ModuleText.{IsModuleText, RefusedBy, SpellsTree, beginning_of};
@@ -16,6 +16,7 @@ use std::alloc::Global;
 use td_ast::definitions::ModuleTree;
 use td_ast::token::Token;
 use td_core::module::Module;
+use td_grammar::laws::one_tree;
 use td_lexer::lex;
 use td_parser::{ParseError, parse};
 
@@ -23,7 +24,8 @@ use td_parser::{ParseError, parse};
 ///
 /// Where it stands for none, the error is the first refusal: of its bytes as tokens, of the tokens as a tree, of the
 /// counts of the tree, of its names, types, constants and actions, of the kinds of its module, of its operators, or of
-/// its sizes; in each of these passes the first in the order of the text.
+/// its sizes; in each of these passes the first in the order of the text. `NoMemory`: out of memory for a token or what it
+/// became; so it never comes of a text of white space and comments, nor of one that is refused before its first token.
 pub fn check_module(alloc: Global, text: &[u8]) -> Result<Module, FrontError>
     requires { length text.now < 2 ^ 32 - 1 }
     // What is answered is the module for which the text stands.
@@ -36,6 +38,8 @@ pub fn check_module(alloc: Global, text: &[u8]) -> Result<Module, FrontError>
     ensures exact { (e : FrontError) → RefusedBy text.now e → MatchResult result (λ m. ⊥) (λ found. (found ≡ e) ⊎ (found ≡ FrontError.NoMemory)) }
     // What holds of each module that is answered.
     ensures checked { IfOk result IsChecked }
+    // Memory runs out only where the text begins with a token, after white space and comments.
+    ensures memory { result ≡ Err FrontError.NoMemory → HasToken text.now }
 {
     one_answer_each();
     modules_are_checked();
@@ -47,6 +51,7 @@ fn checked(alloc: Global, text: &[u8]) -> Result<Module, FrontError>
     requires { length text.now < 2 ^ 32 - 1 }
     ensures stands { IfOk result (λ m. IsModuleText text.now m) }
     ensures refused { IfErr result (λ e. (e ≡ FrontError.NoMemory) ⊎ RefusedBy text.now e) }
+    ensures memory { result ≡ Err FrontError.NoMemory → HasToken text.now }
 {
     let tokens = tokens(alloc, text)?;
     let tree = tree(alloc, text, tokens.as_slice())?;
@@ -59,6 +64,7 @@ fn tokens(alloc: Global, text: &[u8]) -> Result<Vec<Token>, FrontError>
     ensures tokens { IfOk result (λ v. Splits text.now v.items) }
     ensures few { IfOk result (λ v. length v.items ≤ length text.now) }
     ensures refused { IfErr result (λ e. (e ≡ FrontError.NoMemory) ⊎ RefusedBy text.now e) }
+    ensures memory { result ≡ Err FrontError.NoMemory → HasToken text.now }
 {
     match lex(alloc, text) {
         Ok(tokens) => Ok(tokens),
@@ -73,6 +79,7 @@ fn tree(alloc: Global, text: &[u8], tokens: &[Token]) -> Result<ModuleTree, Fron
     requires tokens { Splits text.now tokens.now }
     ensures tree { IfOk result (λ tree. SpellsTree text.now tree) }
     ensures refused { IfErr result (λ e. (e ≡ FrontError.NoMemory) ⊎ RefusedBy text.now e) }
+    ensures memory { result ≡ Err FrontError.NoMemory → HasToken text.now }
 {
     match parse(alloc, tokens) {
         Ok(tree) => Ok(tree),
@@ -85,7 +92,9 @@ fn passed(alloc: Global, text: &[u8], tree: &ModuleTree) -> Result<Module, Front
     requires { SpellsTree text.now tree.now }
     ensures stands { IfOk result (λ m. IsModuleText text.now m) }
     ensures refused { IfErr result (λ e. (e ≡ FrontError.NoMemory) ⊎ RefusedBy text.now e) }
+    ensures memory { result ≡ Err FrontError.NoMemory → HasToken text.now }
 {
+    one_tree();
     check_counts(tree)?;
     let found = module_of(alloc, tree)?;
     check_kinds(alloc, tree, &found)?;

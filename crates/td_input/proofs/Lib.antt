@@ -1,3 +1,4 @@
 pub mod Inputs
 pub mod Sounds
 pub mod Markers
+pub mod Memory

@@ -50,3 +50,7 @@ marker_below input (suc k) = by (marker_below input k) (marker_decided input k)
         order zero (suc k) lt ne = omega arith
         order (suc n) zero lt ne = absurd (omega (arith, lt))
         order (suc n) (suc k) lt ne = let less = order n k (omega (arith, lt)) (λ e. ne (ap suc e)) in omega (arith, less)
+
+-- an input has a first marker, where it isn't so that none is there
+pub marker_there : (input : List ℕ) → (((n : ℕ) → IsMarker input n → ⊥) → ⊥) → (n : ℕ) × IsFirstMarker input n
+marker_there input some = elim (marker_below input (length input)) [ inl found ↦ found | inr none ↦ absurd (some (λ n h. none n h.within h)) ]

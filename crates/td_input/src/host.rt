@@ -1,11 +1,11 @@
 //! The host job of an input, or why it has none.
 
-ghost use Rattle.std.specs.Prelude.{◌≡◌, ◌<◌, ◌^◌, ◌-◌, ℕ, length, IfOk, IfErr, IsErr, IsErrOf};
+ghost use Rattle.std.specs.Prelude.{◌≡◌, ◌<◌, ◌^◌, ◌-◌, ℕ, Err, length, IfOk, IfErr, IsErr, IsErrOf};
 ghost use Rattle.td_core.specs.declared.module.Module.{Module};
 ghost use Rattle.td_posts.specs.declared.job.HostJob.{HostJob};
 ghost use Rattle.td_posts.specs.Servable.{IsServable};
 ghost use Rattle.td_input.specs.declared.refusal.Refusal.{Refusal};
-ghost use Rattle.td_input.specs.Causes.{HasCause};
+ghost use Rattle.td_input.specs.Causes.{HasCause, HasParts};
 ghost use Rattle.td_input.specs.Marker.{IsMarker};
 ghost use Rattle.td_front.specs.Checked.{IsChecked};
 ghost use Rattle.td_input.specs.Inputs.{IsHostInput, RefusesHost, IsSoundHost, FitsEntry};
@@ -29,7 +29,8 @@ pub struct HostInput {
 /// Parses an input: a module text, the first line that is exactly `%%`, and a host job.
 ///
 /// `Refused`: there is no such line, the text is no module, or the job is none for it; the first of these. `NoMemory`:
-/// there was no memory. The line is looked for without any, so where it is missing that is told in any case. The module
+/// there was no memory for a token before that line, or for a job of a byte or more. The line is looked for without any, so
+/// where it is missing that is told in any case. The module
 /// is a checked one, the job is for it and fits its entry point, a host can serve it, and whatever bytes a message has, each expression that the module's meaning evaluates lies in its
 /// type's range.
 pub fn parse_host_input(alloc: Global, input: &[u8]) -> Result<HostInput, InputError>
@@ -44,6 +45,7 @@ pub fn parse_host_input(alloc: Global, input: &[u8]) -> Result<HostInput, InputE
     ensures complete { (m : Module) (job : HostJob) → IsHostInput input.now m job → IfErr result (λ e. e ≡ InputError.NoMemory) }
     ensures refused { (refusal : Refusal) → RefusesHost input.now refusal → IsErr result }
     ensures no_job { ((n : ℕ) → IsMarker input.now n → ⊥) → IsErrOf result (InputError.Refused Refusal.NoJob) }
+    ensures memory { result ≡ Err InputError.NoMemory → HasParts input.now }
 {
     evaluated_is_sound();
     let Some(place) = find_marker(input) else {

@@ -1,12 +1,13 @@
 //! The replies to an input's job.
 
-ghost use Rattle.std.specs.Prelude.{◌≡◌, ◌<◌, ◌^◌, ◌-◌, ◌*◌, ℕ, length, IfOk, IfErr, IsErr};
+ghost use Rattle.std.specs.Prelude.{◌≡◌, ◌<◌, ◌^◌, ◌-◌, ◌*◌, ℕ, length, IfOk, IfErr, IsErr, IsErrOf};
 ghost use Rattle.td_core.specs.declared.module.Module.{Module};
 ghost use Rattle.td_posts.specs.declared.job.HostJob.{HostJob};
 ghost use Rattle.td_input.specs.declared.refusal.Refusal.{Refusal};
 ghost use Rattle.td_input.specs.Causes.{HasCause};
 ghost use Rattle.td_front.specs.Checked.{IsChecked};
 ghost use Rattle.td_input.specs.Inputs.{IsHostInput, RefusesHost, IsSoundHost, FitsEntry};
+ghost use Rattle.td_input.specs.Marker.{IsMarker};
 ghost use Rattle.td_host.specs.Served.{IsJobCode};
 ghost use Rattle.td_serving.specs.Serving.{IsServedInput};
 
@@ -49,7 +50,7 @@ fn job_code(alloc: Global, given: &HostInput) -> Result<Verified, AllocError>
 /// wait: a promise is kept where it returns.
 ///
 /// `Refused`: the input has no marker, its text is no module, or its job is none; nothing was opened then. `NoMemory`: there
-/// was no memory; no thread was started then, and no word loaded.
+/// was no memory; no thread was started then, and no word loaded. That the marker is missing is told in any case.
 pub fn serve_input<R: AllocGlobal + Threads + Wait + Sync, G: Gate + Send + Drop>(
     rt: &R,
     input: &[u8],
@@ -61,6 +62,7 @@ pub fn serve_input<R: AllocGlobal + Threads + Wait + Sync, G: Gate + Send + Drop
     ensures cause { IfErr result (HasCause (RefusesHost input.now)) }
     ensures complete { (m : Module) (job : HostJob) → IsHostInput input.now m job → IfErr result (λ e. e ≡ InputError.NoMemory) }
     ensures refused { (refusal : Refusal) → RefusesHost input.now refusal → IsErr result }
+    ensures no_job { ((n : ℕ) → IsMarker input.now n → ⊥) → IsErrOf result (InputError.Refused Refusal.NoJob) }
 {
     let given = parse_host_input(rt.alloc(), input)?;
     let Ok(code) = job_code(rt.alloc(), &given) else {

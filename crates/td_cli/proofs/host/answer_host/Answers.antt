@@ -4,7 +4,7 @@ use Rattle.td_cli.proofs.host.answer_host.Goals as goal
 
 pub returns-clause-ends : goal.returns-clause-ends
 returns-clause-ends g c =
-    host_ends c.args.input.now c.serve_input-served.result (passage g.O.Sink.state c.args.out.now c.finish_host.new.out) (passage g.E.Sink.state c.args.err.now c.finish_host.new.err) c.finish_host.result c.requires.short c.serve_input-served.ensures.served c.serve_input-served.ensures.cause c.finish_host.ensures
+    host_ends c.args.input.now c.serve_input-served.result (passage g.O.Sink.state c.args.out.now c.finish_host.new.out) (passage g.E.Sink.state c.args.err.now c.finish_host.new.err) c.finish_host.result c.requires.short c.serve_input-served.ensures.served c.serve_input-served.ensures.cause c.serve_input-served.ensures.no_job c.finish_host.ensures
 
 pub returns-clause-good : goal.returns-clause-good
 returns-clause-good g c =

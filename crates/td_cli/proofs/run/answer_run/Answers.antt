@@ -4,7 +4,7 @@ use Rattle.td_cli.proofs.run.answer_run.Goals as goal
 
 pub returns-clause-ends : goal.returns-clause-ends
 returns-clause-ends g c =
-    run_ends c.args.input.now c.run_input-run.result (passage g.O.Sink.state c.args.out.now c.finish_run.new.out) (passage g.E.Sink.state c.args.err.now c.finish_run.new.err) c.finish_run.result c.requires c.run_input-run.ensures.input c.run_input-run.ensures.run c.run_input-run.ensures.cause c.finish_run.ensures
+    run_ends c.args.input.now c.run_input-run.result (passage g.O.Sink.state c.args.out.now c.finish_run.new.out) (passage g.E.Sink.state c.args.err.now c.finish_run.new.err) c.finish_run.result c.requires c.run_input-run.ensures.input c.run_input-run.ensures.run c.run_input-run.ensures.cause c.run_input-run.ensures.no_job c.finish_run.ensures
 
 pub returns-clause-good : goal.returns-clause-good
 returns-clause-good g c =

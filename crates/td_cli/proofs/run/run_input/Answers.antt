@@ -8,6 +8,13 @@ returns-in_err-parsed-clause-complete c =
     let p = err_from_is_err_and c.from_residual.result c.from_residual.ensures.1 in
     rw (p.1, p.2) (c.in_err-parsed.ensures.complete m job given)
 
+pub returns-in_err-parsed-clause-no_job : goal.returns-in_err-parsed-clause-no_job
+returns-in_err-parsed-clause-no_job c =
+    λ none.
+    let p = err_from_is_err_and c.from_residual.result c.from_residual.ensures.1 in
+    let told = c.in_err-parsed.ensures.no_job none in
+    cc (p.1, p.2, told)
+
 pub run_job-requires-clause-checked : goal.run_job-requires-clause-checked
 run_job-requires-clause-checked c =
     let h = c.in_ok-parsed.ensures.input in

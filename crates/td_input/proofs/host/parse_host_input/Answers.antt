@@ -1,8 +1,9 @@
-use Rattle.std.proofs.Common.{◌≡◌, ℕ, List, subst, sym, ◌∙◌, ◌⊎◌, arith}
+use Rattle.std.proofs.Common.{◌≡◌, ℕ, ◌<◌, List, length, Err, subst, sym, ap, ◌∙◌, ◌⊎◌, inl, inr, arith}
 use Rattle.td_core.specs.declared.module.Module.{Module}
 use Rattle.td_front.specs.declared.error.FrontError.{FrontError}
 use Rattle.td_front.specs.declared.error.FrontError.TheVariants as front
 use Rattle.td_front.specs.ModuleText.{IsModuleText, RefusedBy}
+use Rattle.td_lexer.specs.Splits.{HasToken}
 use Rattle.td_posts.specs.declared.job.HostJob.{HostJob}
 use Rattle.td_job.specs.declared.error.JobError.{JobError}
 use Rattle.td_job.specs.declared.error.JobError.TheVariants as jobs
@@ -10,6 +11,7 @@ use Rattle.td_host_job.specs.HostJobs.{IsHostJob, RefusedHostJob}
 use Rattle.td_input.specs.Causes.{HasCause}
 use Rattle.td_input.specs.Marker.{text_part, job_part}
 use Rattle.td_input.specs.Inputs.{RefusesHost}
+use Rattle.td_input.proofs.Memory.{same_error, module_memory, job_memory}
 use Rattle.td_input.proofs.Inputs.{text_errors, job_errors, nothing_refuses, module_cause, job_cause, no_error}
 use Rattle.td_input.proofs.Sounds.{sound_host, fits_entry}
 use Rattle.td_input.proofs.host.parse_host_input.Goals as goal
@@ -58,3 +60,16 @@ returns-in-Ok-read_host_job-clause-by c = c.in-Ok-read_host_job.ensures.job.2.by
 
 pub returns-in-Ok-read_host_job-clause-fits : goal.returns-in-Ok-read_host_job-clause-fits
 returns-in-Ok-read_host_job-clause-fits c = fits_entry c.in-Ok.«module» c.in-Ok-read_host_job.job c.in-Ok-read_host_job.ensures.values
+
+pub returns-in-Err-clause-memory : goal.returns-in-Err-clause-memory
+returns-in-Err-clause-memory c =
+    λ same.
+    let told = c.in-Err.ensures.memory (ap Err (module_memory c.in-Err.error c.of_module.result c.of_module.ensures (same_error _ _ same))) in
+    (c.in-Some.place, c.in-Some.ensures, inl (subst HasToken c.module_part.ensures told))
+
+pub returns-in-Err-read_host_job-clause-memory : goal.returns-in-Err-read_host_job-clause-memory
+returns-in-Err-read_host_job-clause-memory c =
+    λ same.
+    let told = c.in-Err-read_host_job.ensures.memory (ap Err (job_memory c.in-Err-read_host_job.error c.of_job.result c.of_job.ensures (same_error _ _ same))) in
+    let P : List ℕ → Type 0 = λ bytes. 0 < length bytes in
+    (c.in-Some.place, c.in-Some.ensures, inr (subst P c.job_part.ensures told))

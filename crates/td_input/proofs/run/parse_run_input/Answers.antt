@@ -1,8 +1,9 @@
-use Rattle.std.proofs.Common.{◌≡◌, ℕ, List, subst, sym, ◌∙◌, ◌⊎◌, arith}
+use Rattle.std.proofs.Common.{◌≡◌, ℕ, ◌<◌, List, length, Err, subst, sym, ap, ◌∙◌, ◌⊎◌, inl, inr, arith}
 use Rattle.td_core.specs.declared.module.Module.{Module}
 use Rattle.td_front.specs.declared.error.FrontError.{FrontError}
 use Rattle.td_front.specs.declared.error.FrontError.TheVariants as front
 use Rattle.td_front.specs.ModuleText.{IsModuleText, RefusedBy}
+use Rattle.td_lexer.specs.Splits.{HasToken}
 use Rattle.td_job.specs.declared.run_job.RunJob.{RunJob}
 use Rattle.td_job.specs.declared.error.JobError.{JobError}
 use Rattle.td_job.specs.declared.error.JobError.TheVariants as jobs
@@ -10,6 +11,7 @@ use Rattle.td_job.specs.Jobs.{IsRunJob, RefusedJob}
 use Rattle.td_input.specs.Causes.{HasCause}
 use Rattle.td_input.specs.Marker.{text_part, job_part}
 use Rattle.td_input.specs.Inputs.{RefusesRun}
+use Rattle.td_input.proofs.Memory.{same_error, module_memory, job_memory}
 use Rattle.td_input.proofs.Inputs.{text_errors, job_errors, nothing_refuses, module_cause, job_cause, no_error}
 use Rattle.td_input.proofs.Sounds.{sound_job}
 use Rattle.td_input.proofs.run.parse_run_input.Goals as goal
@@ -52,3 +54,16 @@ returns-in-Ok-read_run_job-clause-refused c =
 pub returns-in-Ok-read_run_job-clause-sound : goal.returns-in-Ok-read_run_job-clause-sound
 returns-in-Ok-read_run_job-clause-sound c =
     sound_job c.in-Ok.«module» c.in-Ok-read_run_job.job c.evaluated_is_sound.ensures c.in-Ok.ensures.checked c.in-Ok-read_run_job.ensures.entry c.in-Ok-read_run_job.ensures.values (omega (arith, c.in-Ok-read_run_job.ensures.room.limit))
+
+pub returns-in-Err-clause-memory : goal.returns-in-Err-clause-memory
+returns-in-Err-clause-memory c =
+    λ same.
+    let told = c.in-Err.ensures.memory (ap Err (module_memory c.in-Err.error c.of_module.result c.of_module.ensures (same_error _ _ same))) in
+    (c.in-Some.place, c.in-Some.ensures, inl (subst HasToken c.module_part.ensures told))
+
+pub returns-in-Err-read_run_job-clause-memory : goal.returns-in-Err-read_run_job-clause-memory
+returns-in-Err-read_run_job-clause-memory c =
+    λ same.
+    let told = c.in-Err-read_run_job.ensures.memory (ap Err (job_memory c.in-Err-read_run_job.error c.of_job.result c.of_job.ensures (same_error _ _ same))) in
+    let P : List ℕ → Type 0 = λ bytes. 0 < length bytes in
+    (c.in-Some.place, c.in-Some.ensures, inr (subst P c.job_part.ensures told))

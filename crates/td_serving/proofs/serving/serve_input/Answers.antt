@@ -6,3 +6,10 @@ returns-in_err-given-clause-complete g c =
     λ m job given.
     let p = err_from_is_err_and c.from_residual.result c.from_residual.ensures.1 in
     rw (p.1, p.2) (c.in_err-given.ensures.complete m job given)
+
+pub returns-in_err-given-clause-no_job : goal.returns-in_err-given-clause-no_job
+returns-in_err-given-clause-no_job g c =
+    λ none.
+    let p = err_from_is_err_and c.from_residual.result c.from_residual.ensures.1 in
+    let told = c.in_err-given.ensures.no_job none in
+    cc (p.1, p.2, told)

@@ -1,0 +1,10 @@
+use Rattle.std.proofs.Common.{◌<◌, length, ap, Err, subst}
+use Rattle.td_core.specs.declared.module.Module.{Module}
+use Rattle.td_front.proofs.Memory.{same_error, arith_memory, has_definition}
+use Rattle.td_front.proofs.passes.check_safety.Goals as goal
+
+pub returns-in-Err-clause-memory : goal.returns-in-Err-clause-memory
+returns-in-Err-clause-memory c =
+    λ same.
+    let P : Module → Type 0 = λ x. 0 < length x.definitions in
+    has_definition c.args.tree.now (subst P c.requires.m (c.in-Err.ensures.memory (ap Err (arith_memory c.in-Err.error c.from.result c.from.ensures (same_error _ _ same)))))
