@@ -1,6 +1,6 @@
 #!/usr/bin/env bash
-# Runs the proved program with these words and this input. Where it isn't built yet, or a source of a crate that it stands on
-# (all but td_rows) is newer, it is proved and built first; that is said on standard error, and takes minutes the first time.
+# Runs the proved program with these words and this input. Where it isn't built yet, or a source of any crate but td_rows is newer,
+# it is proved and built first; that is said on standard error, and takes half an hour and more the first time.
 set -u
 top=$(dirname "$(readlink -f "$0")")
 program=$top/crates/td/out/td
