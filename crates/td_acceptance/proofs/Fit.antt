@@ -1,5 +1,6 @@
 -- What the tables of code have for a definition's fields (own rule).
 use Rattle.std.specs.Prelude.{◌≡◌, ℕ, ◌+◌, ◌<◌, ◌≤◌, Bool, true, List, [], ◌∷◌, length, Option, Some, None}
+use Rattle.td_num.specs.Lists.{Each}
 use Rattle.td_core.specs.declared.module.Element.{Element}
 use Rattle.td_core.specs.declared.module.Element.TheVariants.{Number, Listed, Named, Unit as UnitElement, Rest, Zeros}
 use Rattle.td_core.specs.declared.module.Extent.{Extent}
@@ -9,7 +10,6 @@ use Rattle.td_core.specs.declared.module.Field.{Field}
 use Rattle.td_core.specs.declared.module.Case.{Case}
 use Rattle.td_core.specs.declared.module.Body.{Body}
 use Rattle.td_core.specs.declared.module.Body.TheVariants.{Struct, Casetype}
-use Rattle.td_core.specs.WellFormed.{Each}
 use Rattle.td_ir.specs.declared.tables.Parts.{Parts}
 use Rattle.td_ir.specs.Tables.{routine_of, map_of}
 use Rattle.td_verify.specs.Operands.{AreBelow}

@@ -1,11 +1,12 @@
 -- What is written for a definition's fields weighs no more than the definition.
 use Rattle.std.proofs.Common.{◌≡◌, ℕ, zero, suc, ◌+◌, ◌-◌, ◌*◌, ◌^◌, ◌<◌, ◌≤◌, List, [], ◌∷◌, Bool, true, false, cond, nat_lt, length, Option, Some, None, refl, arith}
+use Rattle.td_num.specs.Lists.{Each}
 use Rattle.td_core.specs.declared.expressions.Binary.{Binary as Operator}
 use Rattle.td_core.specs.declared.expressions.Binary.TheVariants.{Plus, Minus, Times, Over, Modulo, BitAnd, BitOr, BitXor, ShiftLeft as ShiftLeftOp, ShiftRight}
 use Rattle.td_core.specs.declared.expressions.Relation.{Relation}
 use Rattle.td_core.specs.declared.expressions.Relation.TheVariants.{Equal, NotEqual, Less, LessEqual, Greater, GreaterEqual}
 use Rattle.td_core.specs.Term.{Term, number, name, complement, negation, compute, compare, both, either, choice, range_okay, measure, Deed, done, set, keep, fork, answer, give_up}
-use Rattle.td_core.specs.WellFormed.{Each, OfSome, EachField, HasParts}
+use Rattle.td_core.specs.WellFormed.{OfSome, EachField, HasParts}
 use Rattle.td_core.specs.Weights.{option_nodes, terms_nodes, deed_nodes, action_nodes, element_nodes, extent_nodes, part_nodes, total, inner_nodes, of_named, as_array, fields_weight as module_weight, default_weight, cases_weight as module_cases_weight, body_weight as module_body_weight, head_nodes}
 use Rattle.td_core.specs.declared.module.Element.{Element}
 use Rattle.td_core.specs.declared.module.Element.TheVariants.{Number as NumberElement, Listed as ListedElement, Named as NamedElement, Unit as UnitElement, Rest, Zeros}

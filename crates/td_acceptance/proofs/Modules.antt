@@ -1,6 +1,7 @@
 -- The verifier accepts the code of a module.
 use Rattle.std.proofs.Common.{◌≡◌, ℕ, zero, suc, ◌+◌, ◌-◌, ◌<◌, ◌≤◌, max, List, [], ◌∷◌, Bool, true, false, nat_eq, nat_lt, length, map, slice_get, Option, Some, None, refl, sym, ap, subst, ◌∙◌, arith}
 use Rattle.std.proofs.lemmas.Bool.Decides.{nat_tests}
+use Rattle.td_num.specs.Lists.{Each}
 use Rattle.td_core.specs.declared.kind.Kind.{Kind}
 use Rattle.td_core.specs.declared.module.Cell.{Cell}
 use Rattle.td_core.specs.declared.module.Field.{Field}
@@ -10,7 +11,7 @@ use Rattle.td_core.specs.declared.module.Body.TheVariants.{Struct as StructDef, 
 use Rattle.td_core.specs.declared.module.TypeDef.{TypeDef}
 use Rattle.td_core.specs.declared.module.Module.{Module}
 use Rattle.td_core.specs.Formed.{cell_bound, cell_bounds, cells_at, param_bounds}
-use Rattle.td_core.specs.WellFormed.{Each, OfSome, EachField, HasParts, IsFieldWhole}
+use Rattle.td_core.specs.WellFormed.{OfSome, EachField, HasParts, IsFieldWhole}
 use Rattle.td_core.specs.Weights.{definition_depth, body_depth, depth_of, definition_weight, weight_of, below_by, either_number}
 use Rattle.td_kinds.specs.Kinds.{kinds_below, definition_kind, body_kind, pick_kind}
 use Rattle.td_kinds.specs.KindRules.{body_faults, definitions_faults, kinds_of}

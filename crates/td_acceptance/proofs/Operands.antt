@@ -1,5 +1,6 @@
 -- Cells and bits of a definition.
 use Rattle.std.proofs.Common.{◌≡◌, ℕ, ◌≤◌, List, [], ◌∷◌, length, slice_get, Option, Some, None, arith}
+use Rattle.td_num.specs.Lists.{Each}
 use Rattle.td_core.specs.declared.module.Cell.{Cell}
 use Rattle.td_core.specs.declared.module.Bits.{Bits}
 use Rattle.td_core.specs.declared.module.Part.{Part}
@@ -10,7 +11,7 @@ use Rattle.td_core.specs.declared.module.Body.TheVariants.{Struct, Casetype}
 use Rattle.td_core.specs.declared.module.TypeDef.{TypeDef}
 use Rattle.td_core.specs.declared.module.Module.{Module}
 use Rattle.td_core.specs.Formed.{Bound, cell_bound, cell_bounds, param_bounds, parts_scope, AreFieldsFormed, AreCasesFormed, IsDefaultFormed, IsBodyFormed}
-use Rattle.td_core.specs.WellFormed.{Each, OfSome, EachField, IsFieldWhole}
+use Rattle.td_core.specs.WellFormed.{OfSome, EachField, IsFieldWhole}
 use Rattle.td_blocks.specs.Tops.{fields_cells, default_cells, cases_cells, body_cells, bits_end, parts_bits, fields_bits, default_bits, cases_bits, body_bits}
 use Rattle.td_acceptance.proofs.Fit.{BitsFit}
 use Rattle.td_acceptance.specs.Modules.{IsAdmissible}

@@ -1,5 +1,6 @@
 -- A struct or casetype is within the limits of its tree.
 use Rattle.std.proofs.Common.{◌≡◌, ℕ, suc, ◌+◌, ◌≤◌, List, [], ◌∷◌, length, Option, Some, None, refl, ap, arith}
+use Rattle.td_num.specs.Lists.{Each}
 use Rattle.td_ast.specs.declared.fields.FieldTree.{FieldTree}
 use Rattle.td_ast.specs.declared.definitions.CaseTree.{CaseTree}
 use Rattle.td_ast.specs.declared.definitions.StructTree.{StructTree}
@@ -13,7 +14,7 @@ use Rattle.td_limits.specs.Depths.{uses_depth}
 use Rattle.td_limits.specs.Weights as weights
 use Rattle.td_core.specs.declared.module.TypeDef.{TypeDef}
 use Rattle.td_core.specs.Weights.{definition_depth, depth_of, total, head_nodes, body_nodes, cases_nodes, default_nodes, definition_weight, weight_of}
-use Rattle.td_core.specs.WellFormed.{Each, OfSome, FieldsWithin, BodyWithin}
+use Rattle.td_core.specs.WellFormed.{OfSome, FieldsWithin, BodyWithin}
 use Rattle.td_rules.specs.declared.known.Known.{Known}
 use Rattle.td_rules.specs.declared.known.Scope.{Scope}
 use Rattle.td_rules.specs.Parameters.{no_head}

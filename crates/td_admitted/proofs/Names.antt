@@ -1,5 +1,6 @@
 -- What holds of the names among tokens holds of the names that are written in the tree which they spell.
 use Rattle.std.proofs.Common.{◌≡◌, inl, inr, ℕ, Bool, true, false, List, [], ◌∷◌, ◌++◌, Option, Some, None, subst}
+use Rattle.td_num.specs.Lists.{Each}
 use Rattle.td_ast.specs.declared.token.Token.{Token}
 use Rattle.td_ast.specs.declared.token.Span.{Span}
 use Rattle.td_ast.specs.declared.token.TokenKind.{TokenKind}
@@ -13,7 +14,7 @@ use Rattle.td_ast.specs.declared.definitions.CaseTree.{CaseTree}
 use Rattle.td_ast.specs.declared.definitions.Def.{Def}
 use Rattle.td_ast.specs.declared.definitions.ModuleTree.{ModuleTree}
 use Rattle.td_ast.specs.Trees.{Tree}
-use Rattle.td_core.specs.WellFormed.{Each, OfSome}
+use Rattle.td_core.specs.WellFormed.{OfSome}
 use Rattle.td_grammar.specs.Grammar.{Grammar, ◌then◌, ◌making◌, maybe, all_of, ◌or◌}
 use Rattle.td_grammar.specs.Sequences.{some_of, parted, list_of, in_parentheses}
 use Rattle.td_grammar.specs.Sets.{only}

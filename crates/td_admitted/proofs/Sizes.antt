@@ -13,6 +13,7 @@ use Rattle.td_limits.specs.Excesses.{greatest}
 use Rattle.td_limits.specs.Measures.{Measures, type_depth_of, type_weight_of}
 use Rattle.td_limits.specs.Nodes as text
 use Rattle.td_limits.specs.Depths as depths
+use Rattle.td_ast.specs.Extents.{is_array}
 use Rattle.td_limits.specs.Weights as weights
 use Rattle.td_core.specs.Term.{Term}
 use Rattle.td_core.specs.declared.module.Element.{Element}
@@ -62,7 +63,7 @@ zero_array element.Unit e a b le = omega (arith, le)
 zero_array element.Rest e a b le = omega (arith, le)
 zero_array element.Zeros e a b le = omega (arith, le)
 
-core_array : (k : Known) (s : Scope) (x : Element) (o : Option ExtentTree) (a b : ℕ) → a ≤ b → as_array (extent_core k s x o) a ≤ weights.in_array (weights.is_array o) b
+core_array : (k : Known) (s : Scope) (x : Element) (o : Option ExtentTree) (a b : ℕ) → a ≤ b → as_array (extent_core k s x o) a ≤ weights.in_array (is_array o) b
 core_array k s x None a b le = le
 core_array k s x (Some (Bytes e)) a b le = omega (arith, le)
 core_array k s x (Some (ByteSize e)) a b le = omega (arith, le)

@@ -3,6 +3,7 @@ use Rattle.std.proofs.Common.{◌≡◌, ℕ, List, [], ◌∷◌, ◌++◌, ref
 use Rattle.td_num.specs.Numbers.{bytes_in}
 use Rattle.td_num.specs.declared.number.Width.{Width}
 use Rattle.td_num.specs.declared.number.Width.TheVariants.{One, Two, Four, Eight}
+use Rattle.td_num.specs.Lists.{Each}
 use Rattle.td_ast.specs.declared.fields.ExtentTree.{ExtentTree}
 use Rattle.td_ast.specs.declared.fields.ExtentTree.TheVariants as after_name
 use Rattle.td_ast.specs.declared.fields.FieldTree.{FieldTree}
@@ -16,7 +17,7 @@ use Rattle.td_core.specs.declared.module.Element.{Element}
 use Rattle.td_core.specs.declared.module.Element.TheVariants as element
 use Rattle.td_core.specs.declared.module.TypeDef.{TypeDef}
 use Rattle.td_core.specs.declared.module.Module.{Module}
-use Rattle.td_core.specs.WellFormed.{Each, OfSome, EachField}
+use Rattle.td_core.specs.WellFormed.{OfSome, EachField}
 use Rattle.td_kinds.specs.Kinds.{constant_size, exactly}
 use Rattle.td_sizes.specs.Sizes.{IsStepOf, HasSteps, IsFieldStepped}
 use Rattle.td_rules.specs.declared.fields.FlatField.{FlatField}

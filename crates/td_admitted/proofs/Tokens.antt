@@ -1,6 +1,7 @@
 -- The names among the tokens of a text are words.
 use Rattle.std.proofs.Common.{◌≡◌, ℕ, Bool, true, false, ◌&&◌, List, [], ◌∷◌, Option, Some, None, refl, subst, bytes_eq}
 use Rattle.std.specs.Prelude.{if◌then◌else◌}
+use Rattle.td_num.specs.Lists.{Each}
 use Rattle.td_ast.specs.declared.token.Token.{Token}
 use Rattle.td_ast.specs.declared.token.TokenKind.{TokenKind}
 use Rattle.td_ast.specs.declared.token.TokenKind.TheVariants.{Name}
@@ -8,7 +9,6 @@ use Rattle.td_lexer.specs.Spellings.{Entry, kind_in, or_else, keyword_kind, defi
 use Rattle.td_lexer.specs.Splits.{IsName, Begins, SplitsUpTo, Splits}
 use Rattle.td_lexer.specs.Splits.Begins.{keyword_begins, name_begins, number_begins, marked_begins, punctuation_begins}
 use Rattle.td_lexer.specs.Splits.SplitsUpTo.{splits_here, splits_passed, splits_token}
-use Rattle.td_core.specs.WellFormed.{Each}
 
 -- of a token that is a name
 abbrev pub OfKind : (List ℕ → Type 0) → TokenKind → Type 0

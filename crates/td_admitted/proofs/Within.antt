@@ -2,6 +2,7 @@
 use Rattle.std.proofs.Common.{◌≡◌, ℕ, ◌+◌, ◌≤◌, Bool, true, false, cond, List, [], ◌∷◌, ◌++◌, length, map, Option, Some, None, refl, sym, subst, arith, nat_lt, length-append}
 use Rattle.std.proofs.lemmas.Bool.{ltb-false}
 use Rattle.std.proofs.lemmas.List.{length-map}
+use Rattle.td_num.specs.Lists.{Each}
 use Rattle.td_ast.specs.declared.token.Span.{Span}
 use Rattle.td_ast.specs.declared.definitions.ItemTree.{ItemTree}
 use Rattle.td_ast.specs.declared.definitions.Def.{Def}
@@ -23,7 +24,7 @@ use Rattle.td_limits.specs.Weights as weights
 use Rattle.td_limits.specs.Sizes.{measure_of, member, with_members, with_definition, definition_sizes, size_excesses}
 use Rattle.td_core.specs.declared.module.TypeDef.{TypeDef}
 use Rattle.td_core.specs.Weights.{definition_depth, depth_of, below_by, head_nodes, body_nodes, definitions_nodes, definition_weight, weight_of}
-use Rattle.td_core.specs.WellFormed.{Each, DefinitionWithin, IsWithin}
+use Rattle.td_core.specs.WellFormed.{DefinitionWithin, IsWithin}
 use Rattle.td_rules.specs.declared.known.Parameter.{Parameter}
 use Rattle.td_rules.specs.declared.known.Meaning.{Meaning}
 use Rattle.td_rules.specs.declared.known.Meaning.TheVariants as meaning

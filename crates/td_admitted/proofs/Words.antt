@@ -1,7 +1,7 @@
 -- The names of a module of a text are words.
 use Rattle.std.proofs.Common.{ℕ, zero, suc, List, [], ◌∷◌, Contains, subst, arith}
+use Rattle.td_num.specs.Lists.{Each}
 use Rattle.td_lexer.specs.Splits.{IsName}
-use Rattle.td_core.specs.WellFormed.{Each}
 use Rattle.td_rules.specs.Written.{names_written}
 use Rattle.td_rules.specs.Laws.{NamesAreWritten}
 use Rattle.td_admitted.specs.Laws.{NamesAreWords}

@@ -1,5 +1,6 @@
 -- What holds of each module that an admitted tree stands for.
 use Rattle.std.specs.Prelude.{◌≡◌, ◌≤◌, ℕ, List, None}
+use Rattle.td_num.specs.Lists.{Each}
 use Rattle.td_ast.specs.declared.token.Token.{Token}
 use Rattle.td_ast.specs.declared.definitions.ModuleTree.{ModuleTree}
 use Rattle.td_lexer.specs.Splits.{Splits, IsName}
@@ -9,7 +10,7 @@ use Rattle.td_limits.specs.Sizes.{sizes_passed}
 use Rattle.td_core.specs.declared.module.Module.{Module}
 use Rattle.td_core.specs.declared.limits.TheConstants.{MOST_NODES, MOST_DEPTH, MOST_WEIGHT}
 use Rattle.td_core.specs.Weights.{depth_of, definitions_nodes, weight_of}
-use Rattle.td_core.specs.WellFormed.{Each, EachField, IsWithin}
+use Rattle.td_core.specs.WellFormed.{EachField, IsWithin}
 use Rattle.td_sizes.specs.Sizes.{IsFieldStepped}
 use Rattle.td_rules.specs.Modules.{StandsFor}
 

@@ -1,6 +1,7 @@
 -- Each expression that a definition evaluates is sound.
 use Rattle.std.proofs.Common.{◌≡◌, ℕ, zero, suc, ◌^◌, ◌<◌, ◌≤◌, Bool, true, false, cond, List, [], ◌∷◌, length, refl, sym, subst, arith, Option, Some, None, slice_get, nat_eq}
 use Rattle.std.proofs.lemmas.Bool.{eqb-true, eqb-false}
+use Rattle.td_num.specs.Lists.{AreBytes}
 use Rattle.td_core.specs.declared.module.NameId.{NameId}
 use Rattle.td_core.specs.declared.module.Field.{Field}
 use Rattle.td_core.specs.declared.module.Case.{Case}
@@ -18,7 +19,6 @@ use Rattle.td_arith.specs.SafeModule.{option_unsafe, known_after, element_unsafe
 use Rattle.td_core.specs.Formed.{Bound, AllFit, param_bounds, cell_bounds, params_at, cells_at, parts_scope, AreFieldsFormed, AreCasesFormed, IsDefaultFormed, IsBodyFormed, IsDefinitionFormed}
 use Rattle.td_meaning.specs.Meaning.{Sense, shape_meaning, field_number, number_places, parts_meaning, extended, fields_meaning, field_place, where_place, first_name, case_for, chosen_meaning, body_meaning, definition_meaning, refined, below, pick}
 use Rattle.td_meaning.specs.Throughout.{Through, OnEnding, OnParts, OnFields, OnChosen, OnBody, OnDefinition, through_below, pick_through}
-use Rattle.td_arith.specs.Laws.{AreBytes}
 use Rattle.td_arith.proofs.Fitting.{Stand}
 use Rattle.td_arith.proofs.States.{State, sound}
 use Rattle.td_meaning.proofs.Ending.{Between, on_then, on_map, on_within}

@@ -8,6 +8,7 @@ use Rattle.td_num.specs.declared.number.Width.TheVariants.{One, Two, Four, Eight
 use Rattle.td_num.specs.declared.number.ByteOrder.{ByteOrder}
 use Rattle.td_num.specs.declared.number.ByteOrder.TheVariants.{LittleEndian, BigEndian}
 use Rattle.td_num.specs.declared.number.NumberType.{NumberType}
+use Rattle.td_num.specs.Lists.{AreBytes}
 use Rattle.td_core.specs.declared.module.Element.{Element}
 use Rattle.td_core.specs.declared.module.Element.TheVariants.{Number, Listed, Named, Unit as UnitElement, Rest, Zeros}
 use Rattle.td_core.specs.declared.module.Extent.{Extent}
@@ -16,7 +17,6 @@ use Rattle.td_core.specs.declared.module.Bits.{Bits}
 use Rattle.td_core.specs.Types.{limit}
 use Rattle.td_core.specs.Formed.{scalar_of, bits_bound, part_bound}
 use Rattle.td_meaning.specs.Meaning.{bits_of, field_number}
-use Rattle.td_arith.specs.Laws.{AreBytes}
 
 power : (k : ℕ) → 2 ^ (8 * suc k) ≡ 256 * 2 ^ (8 * k)
 power k = rw mul-suc (rw pow-add (omega arith))

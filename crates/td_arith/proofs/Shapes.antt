@@ -4,6 +4,7 @@ use Rattle.std.proofs.lemmas.Option.{none-some, same_Some}
 use Rattle.std.proofs.Math.Nat.{div-mul-le_self, mul-le-mul_right}
 use Rattle.td_num.specs.Numbers.{bytes_in, number_at, places_from}
 use Rattle.td_num.specs.declared.number.NumberType.{NumberType}
+use Rattle.td_num.specs.Lists.{is_among}
 use Rattle.td_core.specs.Term.{Term}
 use Rattle.td_core.specs.declared.module.Element.{Element}
 use Rattle.td_core.specs.declared.module.Element.TheVariants.{Number, Listed, Named, Unit as UnitElement, Rest, Zeros}
@@ -19,7 +20,7 @@ use Rattle.td_expr.proofs.Admitting.{neither}
 use Rattle.td_meaning.specs.Doing.{natural_of}
 use Rattle.td_arith.specs.SafeModule.{list_unsafe, element_unsafe, extent_unsafe}
 use Rattle.td_core.specs.Formed.{Bound, AllFit, AreArgsFormed, AreCellsFormed, params_at, cells_at, IsElementFormed, IsExtentFormed}
-use Rattle.td_meaning.specs.Meaning.{Sense, values, values_of, taken, demanded, is_among, is_nonzero, byte_type, zeros_end, first_where, one_more, numbers_at, element_meaning, elements, divides, equals, zero_end, up_to_zero, element_up_to_zero, shape_meaning}
+use Rattle.td_meaning.specs.Meaning.{Sense, values, values_of, taken, demanded, is_nonzero, byte_type, zeros_end, first_where, one_more, numbers_at, element_meaning, elements, divides, equals, zero_end, up_to_zero, element_up_to_zero, shape_meaning}
 use Rattle.td_meaning.specs.Throughout.{Through, OnEnding, OnAll, OnElement, OnElements, OnShape}
 use Rattle.td_arith.proofs.Fitting.{Stand, stand_at}
 use Rattle.td_arith.proofs.States.{State, sound, number_fits}

@@ -5,6 +5,7 @@ use Rattle.std.proofs.lemmas.Option.{none-some, same_Some}
 use Rattle.std.proofs.Math.Nat.{div-mul-le_self, mul-le-mul_right}
 use Rattle.td_num.specs.Numbers.{bytes_in, number_at, places_from}
 use Rattle.td_num.specs.declared.number.NumberType.{NumberType}
+use Rattle.td_num.specs.Lists.{is_among}
 use Rattle.td_core.specs.Term.{Term, Deed}
 use Rattle.td_core.specs.declared.module.NameId.{NameId}
 use Rattle.td_core.specs.declared.module.Element.{Element}
@@ -26,7 +27,7 @@ use Rattle.td_core.specs.declared.kind.Kind.{Kind}
 use Rattle.td_kinds.specs.Kinds.{up_to, exactly, at_least, on_both, joined, element_kind, sized_kind, field_kind, fields_kind, default_kind, spanned_with, cases_kind, body_kind, definition_kind, kinds_below, pick_kind}
 use Rattle.td_meaning.specs.Doing.{Effect, On, Returned, Aborted, doing, natural_of, is_true}
 use Rattle.td_meaning.specs.Naming.{is_needed}
-use Rattle.td_meaning.specs.Meaning.{Sense, values, values_of, taken, demanded, is_among, is_nonzero, byte_type, zeros_end, first_where, one_more, numbers_at, element_meaning, elements, divides, equals, zero_end, element_up_to_zero, shape_meaning, refined, ended, acted, checked, parts_meaning, bits_of, field_number, number_places, extended, field_place, where_place, first_name, fields_meaning, case_for, chosen_meaning, body_meaning, definition_meaning, below, pick}
+use Rattle.td_meaning.specs.Meaning.{Sense, values, values_of, taken, demanded, is_nonzero, byte_type, zeros_end, first_where, one_more, numbers_at, element_meaning, elements, divides, equals, zero_end, element_up_to_zero, shape_meaning, refined, ended, acted, checked, parts_meaning, bits_of, field_number, number_places, extended, field_place, where_place, first_name, fields_meaning, case_for, chosen_meaning, body_meaning, definition_meaning, below, pick}
 use Rattle.td_meaning.specs.Throughout.{OnEnding}
 use Rattle.td_kinds.specs.KindRules.{kinds_of}
 use Rattle.td_arith.specs.Sizes.{UpTo, Sized, SizesHold, ElementsMoveOn}

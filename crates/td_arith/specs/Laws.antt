@@ -1,5 +1,6 @@
 -- Laws of the meaning.
-use Rattle.std.specs.Prelude.{◌≡◌, ℕ, ◌^◌, ◌<◌, List, length, None, Some, slice_get, slice_index}
+use Rattle.std.specs.Prelude.{◌≡◌, ℕ, ◌^◌, ◌<◌, List, length, None, Some, slice_get}
+use Rattle.td_num.specs.Lists.{AreBytes}
 use Rattle.td_core.specs.declared.module.Module.{Module}
 use Rattle.td_core.specs.declared.module.Entry.{Entry}
 use Rattle.td_core.specs.declared.module.TypeDef.{TypeDef}
@@ -7,9 +8,6 @@ use Rattle.td_expr.specs.Sound.{Sound}
 use Rattle.td_arith.specs.SafeModule.{module_unsafe}
 use Rattle.td_core.specs.Formed.{AllFit, IsModuleFormed, params_at, cells_at}
 use Rattle.td_meaning.specs.Throughout.{Throughout}
-
-abbrev pub AreBytes : List ℕ → Type 0
-AreBytes message = (i : ℕ) → slice_index message i < 256
 
 -- in an admitted module every expression that the meaning evaluates lies in its type's range, and so does each part of
 -- it that is evaluated

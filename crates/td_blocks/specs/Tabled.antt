@@ -1,5 +1,6 @@
 -- The tables of code have what the numbers that occur in it stand for.
 use Rattle.std.specs.Prelude.{◌≡◌, ℕ, suc, ◌+◌, ◌<◌, List, [], ◌∷◌, length, Option, Some, None, slice_get}
+use Rattle.td_num.specs.Lists.{is_among}
 use Rattle.td_core.specs.Term.{Term}
 use Rattle.td_core.specs.declared.module.NameId.{NameId}
 use Rattle.td_core.specs.declared.module.Part.{Part}
@@ -13,10 +14,9 @@ use Rattle.td_core.specs.declared.module.Element.{Element}
 use Rattle.td_core.specs.declared.module.Element.TheVariants.{Number, Listed, Named, Unit as UnitElement, Rest, Zeros}
 use Rattle.td_core.specs.declared.outcome.Spot.{Spot}
 use Rattle.td_core.specs.declared.outcome.Spot.TheVariants.{Field as AtField, Where as AtWhere, Switch as AtSwitch}
-use Rattle.td_meaning.specs.Meaning.{first_name, values_of, is_among}
+use Rattle.td_meaning.specs.Meaning.{first_name, values_of}
 use Rattle.td_ir.specs.declared.tables.Parts.{Parts}
 use Rattle.td_ir.specs.Tables.{set_of, map_of}
-use Rattle.td_ir.specs.Values as values
 use Rattle.td_ir.specs.Run.{place_of_site}
 use Rattle.td_blocks.specs.Lowered.{parts_in, first_site}
 
@@ -67,4 +67,4 @@ module _ (c : Parts) where
 -- sites and cell maps are those of the definitions, and a set has the values of its enum
 pub record IsTabled (c : Parts) (m : Module) : Type 0 where
   pub sited : (n : ℕ) → n < length m.definitions → DefinitionSited c (first_site m.definitions n) (slice_get m.definitions n)
-  pub listed : (v n : ℕ) → values.is_among (set_of c v) n ≡ is_among (values_of m.listed v) n
+  pub listed : (v n : ℕ) → is_among (set_of c v) n ≡ is_among (values_of m.listed v) n

@@ -1,11 +1,11 @@
 -- What a body's run of a job comes to, as all bodies promise it.
 use Rattle.std.specs.Prelude.{ℕ, List}
+use Rattle.td_num.specs.Lists.{AreBytes}
 use Rattle.td_core.specs.declared.module.Module.{Module}
 use Rattle.td_core.specs.declared.outcome.Outcome.{Outcome}
 use Rattle.td_stream.specs.declared.load.Load.{Load}
 use Rattle.td_stream.specs.Loads.{Carries}
 use Rattle.td_meaning.specs.Meaning.{meaning}
-use Rattle.td_arith.specs.Laws.{AreBytes}
 use Rattle.td_leaves.specs.Outcomes.{IsBehaviorOf}
 use Rattle.td_job.specs.declared.run_job.RunJob.{RunJob}
 

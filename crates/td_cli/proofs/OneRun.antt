@@ -3,6 +3,7 @@ use Rattle.std.proofs.Common.{◌≡◌, inl, inr, ℕ, suc, ◌<◌, ◌≤◌,
 use Rattle.std.specs.List.{All}
 use Rattle.std.proofs.lemmas.Bool.{cases_order}
 use Rattle.std.proofs.Math.ListN.{get_or-eq_default}
+use Rattle.td_num.specs.Lists.{AreBytes}
 use Rattle.td_core.specs.declared.module.Module.{Module}
 use Rattle.td_core.specs.declared.outcome.Outcome.{Outcome}
 use Rattle.td_stream.specs.declared.load.Load.{Load}
@@ -10,7 +11,6 @@ use Rattle.td_stream.specs.Loads.{IsRising, Carries}
 use Rattle.td_sched.specs.declared.store.PlannedStore.{PlannedStore}
 use Rattle.td_sched.specs.Plan.{at, ArePlanned}
 use Rattle.td_runs.specs.Runs.{AreGiven, IsRun, RunsAreOne}
-use Rattle.td_arith.specs.Laws.{AreBytes}
 use Rattle.td_job.specs.declared.run_job.RunJob.{RunJob}
 use Rattle.td_cli.specs.Run.{IsRunOf}
 

@@ -1,12 +1,12 @@
 -- What a run of a job comes to: the sentence that the whole tool is for.
 use Rattle.std.specs.Prelude.{ℕ, List}
+use Rattle.td_num.specs.Lists.{AreBytes}
 use Rattle.td_core.specs.declared.module.Module.{Module}
 use Rattle.td_core.specs.declared.outcome.Outcome.{Outcome}
 use Rattle.td_stream.specs.declared.load.Load.{Load}
 use Rattle.td_stream.specs.Loads.{IsRising, Inside, Carries}
 use Rattle.td_meaning.specs.Meaning.{meaning}
 use Rattle.td_sched.specs.Plan.{ArePlanned}
-use Rattle.td_arith.specs.Laws.{AreBytes}
 use Rattle.td_leaves.specs.Outcomes.{IsBehaviorOf}
 use Rattle.td_job.specs.declared.run_job.RunJob.{RunJob}
 

@@ -1,12 +1,12 @@
 -- Lowered code does what a checked module means.
 use Rattle.std.proofs.Common.{◌≡◌, ℕ, zero, suc, ◌<◌, ◌^◌, List, [], ◌∷◌, length, Option, Some, Result, Ok, Err, IfOk, slice_get, subst, refl, arith}
+use Rattle.td_num.specs.Lists.{AreBytes, Each}
 use Rattle.td_core.specs.declared.module.Module.{Module}
 use Rattle.td_core.specs.declared.module.TypeDef.{TypeDef}
 use Rattle.td_core.specs.declared.module.Entry.{Entry}
 use Rattle.td_core.specs.Entries.{entry_definition}
 use Rattle.td_core.specs.Formed.{AllFit, params_at, cells_at}
-use Rattle.td_core.specs.WellFormed.{Each}
-use Rattle.td_arith.specs.Laws.{AreBytes, EvaluatedIsSound}
+use Rattle.td_arith.specs.Laws.{EvaluatedIsSound}
 use Rattle.td_expr.specs.Sound.{Sound}
 use Rattle.td_meaning.specs.Throughout.{Throughout}
 use Rattle.td_front.specs.Checked.{IsChecked}

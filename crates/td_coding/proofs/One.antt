@@ -1,10 +1,10 @@
 -- The code of a module is one: its definition says each table, but for the sets, and numbers that rise are one list.
 use Rattle.std.proofs.Common.{◌≡◌, ℕ, suc, ◌<◌, ◌≤◌, Bool, true, false, ◌||◌, nat_eq, List, [], ◌∷◌, length, slice_index_or, refl, sym, ap, ap₂, subst, ◌∙◌, arith, true≢false}
 use Rattle.std.proofs.lemmas.Bool.Decides.{nat_tests}
+use Rattle.td_num.specs.Lists.{is_among}
 use Rattle.td_core.specs.declared.module.Module.{Module}
 use Rattle.td_ir.specs.declared.tables.Parts.{Parts}
 use Rattle.td_ir.specs.Listing.{listing}
-use Rattle.td_ir.specs.Values.{is_among}
 use Rattle.td_ir.specs.WellFormed.{Rises}
 use Rattle.td_lower.specs.Sets.{IsSetOf, AreSetsOf}
 use Rattle.td_lower.specs.Code.{IsWritten}

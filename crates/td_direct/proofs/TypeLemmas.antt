@@ -28,7 +28,8 @@ use Rattle.td_core.specs.declared.outcome.Reason.TheVariants.{NotEnough, Constra
 use Rattle.td_core.specs.declared.outcome.Spot.TheVariants.{Where}
 use Rattle.td_core.specs.Outcome.{Ending, Accepted, Rejected, Behavior, plain, after_reading, and_then, within, ending_within, accepted, rejected, outcome_of}
 use Rattle.td_meaning.specs.Meaning.{Sense, extended, bits_of, taken, demanded, where_place, elements, divides, equals, filled, filled_once, entry_place}
-use Rattle.td_meaning.specs.Machine.{is_met, body_fields, chosen_meaning, definition_meaning, below, fields_meaning, meaning}
+use Rattle.td_meaning.specs.Machine.{is_met, body_fields, chosen_meaning, definition_meaning, below, fields_meaning}
+use Rattle.td_meaning.proofs.MachineMeaning.{meaning}
 use Rattle.td_meaning.specs.Verdicts.{ending_of, IsAt, frame_place}
 use Rattle.td_meaning.proofs.Below.{below_self, below_at, below_past}
 use Rattle.td_leaves.specs.Counting.{IsPlain}

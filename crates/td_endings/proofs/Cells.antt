@@ -1,6 +1,7 @@
 -- Endings one after the other, and the cells after an action.
 use Rattle.std.proofs.Common.{◌≡◌, ℕ, zero, suc, ◌+◌, ◌^◌, ◌<◌, ◌≤◌, Bool, true, false, List, [], ◌∷◌, ◌++◌, length, refl, ap, ◌∙◌, arith, nat_le, slice_index, slice_set}
 use Rattle.std.proofs.lemmas.Bool.{leb-true}
+use Rattle.td_num.specs.Lists.{Each}
 use Rattle.td_core.specs.Term.{Term, Deed, done, set, keep, fork, answer, give_up}
 use Rattle.td_core.specs.declared.expressions.Scalar.{Scalar}
 use Rattle.td_core.specs.declared.expressions.Scalar.TheVariants.{Truth, Eight, Sixteen, ThirtyTwo, SixtyFour}
@@ -9,7 +10,6 @@ use Rattle.td_core.specs.declared.outcome.Reason.{Reason}
 use Rattle.td_core.specs.declared.outcome.Reason.TheVariants.{NotEnough}
 use Rattle.td_core.specs.declared.outcome.TraceFrame.{TraceFrame}
 use Rattle.td_core.specs.Outcome.{Behavior, Ending, Accepted, Rejected, FramePlace, frame_at, onward, ending_within}
-use Rattle.td_core.specs.WellFormed.{Each}
 use Rattle.td_expr.specs.Value.{value_of}
 use Rattle.td_expr.specs.Sound.{Sound}
 use Rattle.td_expr.proofs.Holding.{in_type, below_limit}

@@ -3,6 +3,7 @@ use Rattle.std.proofs.Common.{◌≡◌, ℕ, zero, suc, ◌+◌, ◌-◌, ◌/�
 use Rattle.std.proofs.lemmas.Option.{none-some, same_Some}
 use Rattle.td_num.specs.Numbers.{bytes_in, number_at, places_from}
 use Rattle.td_num.specs.declared.number.NumberType.{NumberType}
+use Rattle.td_num.specs.Lists.{is_among}
 use Rattle.td_core.specs.declared.module.Element.{Element}
 use Rattle.td_core.specs.declared.module.Element.TheVariants.{Number, Listed, Named, Unit as UnitElement, Rest, Zeros}
 use Rattle.td_core.specs.declared.module.Extent.{Extent}
@@ -11,7 +12,7 @@ use Rattle.td_core.specs.declared.outcome.Reason.TheVariants.{Constraint, ListSi
 use Rattle.td_core.specs.Outcome.{Behavior, Ending, accepted, after_reading, and_then}
 use Rattle.td_expr.specs.Sound.{Sound}
 use Rattle.td_meaning.specs.Doing.{natural_of}
-use Rattle.td_meaning.specs.Meaning.{Sense, numbers_at, one_more, first_where, demanded, taken, is_among, values_of, byte_type, is_nonzero, zeros_end, values, element_meaning, elements, divides, equals, zero_end, element_up_to_zero, shape_meaning}
+use Rattle.td_meaning.specs.Meaning.{Sense, numbers_at, one_more, first_where, demanded, taken, values_of, byte_type, is_nonzero, zeros_end, values, element_meaning, elements, divides, equals, zero_end, element_up_to_zero, shape_meaning}
 use Rattle.td_meaning.specs.Throughout.{Through, OnEnding, OnElement, OnElements, OnShape}
 use Rattle.td_endings.specs.Endings.{AreCells, IsEndingWithin}
 use Rattle.td_endings.proofs.Cells.{within_more, within_then, within_demanded, within_taken, demanded_at, on_both}

@@ -1,8 +1,9 @@
 //! Single fields.
 
 ghost use Rattle.std.specs.Prelude.{◌≡◌, ◌≤◌, ◌-◌, ◌^◌, IfOk, OnOk, IfSome};
+ghost use Rattle.td_ast.specs.Extents.{is_array};
 ghost use Rattle.td_rules.specs.Breach.{first_of};
-ghost use Rattle.td_rules.specs.Fields.{found_base, base_of, is_array, readable_bits, readable_of, with_readable, with_field, field_name_breaches, refined_breaches, refinement_core};
+ghost use Rattle.td_rules.specs.Fields.{found_base, base_of, readable_bits, readable_of, with_readable, with_field, field_name_breaches, refined_breaches, refinement_core};
 
 use crate::extents::bit_width;
 use std::alloc::{AllocError, Global};

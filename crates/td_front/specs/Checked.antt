@@ -1,10 +1,11 @@
 -- What holds of each module that a text stands for (own rule). Layers above rest on this alone, and never look into trees.
 use Rattle.std.specs.Prelude.{◌≡◌, ◌≤◌, ℕ, List, [], length, Some, None, slice_get}
+use Rattle.td_num.specs.Lists.{Each}
 use Rattle.td_core.specs.declared.module.Module.{Module}
 use Rattle.td_core.specs.Formed.{IsModuleFormed}
 use Rattle.td_core.specs.declared.limits.TheConstants.{MOST_NODES, MOST_DEPTH, MOST_WEIGHT}
 use Rattle.td_core.specs.Weights.{depth_of, definitions_nodes, weight_of}
-use Rattle.td_core.specs.WellFormed.{Each, EachField, IsWhole, IsFieldWhole, IsDefinitionSorted, IsDefinitionNamed, IsWithin}
+use Rattle.td_core.specs.WellFormed.{EachField, IsWhole, IsFieldWhole, IsDefinitionSorted, IsDefinitionNamed, IsWithin}
 use Rattle.td_sizes.specs.Sizes.{IsFieldStepped}
 use Rattle.td_lexer.specs.Splits.{IsName}
 use Rattle.td_kinds.specs.KindRules.{kind_faults}

@@ -2,6 +2,7 @@
 use Rattle.std.specs.Prelude.{◌≡◌, ◌⊎◌, ℕ, ◌+◌, ◌<◌, ◌≤◌, ◌^◌, true, false, List, [], ◌∷◌, ◌++◌, map, length, slice_index, Option, Some, None}
 use Rattle.std.specs.List.{All}
 use Rattle.std.specs.List.Sorted.{IsPermutation}
+use Rattle.td_num.specs.Lists.{AreBytes}
 use Rattle.td_stream.specs.declared.load.Load.{Load}
 use Rattle.td_stream.specs.Loads.{IsRising, Inside, Carries}
 use Rattle.td_posts.specs.declared.name.PostName.{PostName}
@@ -26,9 +27,6 @@ use Rattle.td_posts.specs.declared.mail.Mail.{Mail}
 use Rattle.td_posts.specs.declared.reply.Reply.{Reply}
 use Rattle.td_posts.specs.declared.job.HostJob.{HostJob}
 use Rattle.td_posts.specs.Posts.{mails_of, all_mails, stores_of, mail_named, zeros, reply_name, outcome_in}
-
-abbrev pub AreBytes : List ℕ → Type 0
-AreBytes message = (i : ℕ) → slice_index message i < 256
 
 -- whatever bytes a message of the job has, each expression that the meaning evaluates lies in its type's range
 abbrev pub IsSoundJob : HostJob → Type 0

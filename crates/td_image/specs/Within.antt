@@ -1,6 +1,6 @@
 -- Which code has an image, in one record: tables that fit together have one exactly where they are within this (own rule).
 use Rattle.std.specs.Prelude.{◌≡◌, ℕ, ◌+◌, ◌^◌, ◌<◌, ◌≤◌, true, List, [], ◌∷◌, length, Some, slice_get}
-use Rattle.td_core.specs.WellFormed.{Each}
+use Rattle.td_num.specs.Lists.{Each}
 use Rattle.td_ir.specs.declared.tables.Routine.{Routine}
 use Rattle.td_ir.specs.declared.tables.Parts.{Parts}
 use Rattle.td_image.specs.declared.limits.TheConstants.{MOST_ROWS, MOST_INSTRUCTIONS, MOST_CELLS, MOST_NUMBERS, MOST_PARAMETERS, MOST_REGISTERS}

@@ -1,12 +1,12 @@
 -- In a module that was checked, each expression that a run of a good job evaluates lies in its type's range.
 use Rattle.std.proofs.Common.{◌≡◌, ℕ, zero, suc, ◌<◌, ◌^◌, List, [], ◌∷◌, length, Option, Some, None, slice_get, subst, sym, ap, ◌∙◌, refl, arith}
+use Rattle.td_num.specs.Lists.{AreBytes, Each}
 use Rattle.td_core.specs.declared.module.Module.{Module}
 use Rattle.td_core.specs.declared.module.TypeDef.{TypeDef}
 use Rattle.td_core.specs.declared.module.Entry.{Entry}
 use Rattle.td_core.specs.Entries.{entry_definition}
 use Rattle.td_core.specs.Formed.{Bound, AllFit, params_at, cells_at}
-use Rattle.td_core.specs.WellFormed.{Each}
-use Rattle.td_arith.specs.Laws.{AreBytes, EvaluatedIsSound}
+use Rattle.td_arith.specs.Laws.{EvaluatedIsSound}
 use Rattle.td_front.specs.Checked.{IsChecked}
 use Rattle.td_job.specs.declared.run_job.RunJob.{RunJob}
 use Rattle.td_job.specs.Jobs.{HasValues}

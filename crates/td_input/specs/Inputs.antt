@@ -1,9 +1,9 @@
 -- Inputs: a module text, a marker and a job; and what refuses one that isn't too long (own rule).
 use Rattle.std.specs.Prelude.{◌≡◌, ℕ, ◌<◌, ◌^◌, List, length}
+use Rattle.td_num.specs.Lists.{AreBytes}
 use Rattle.td_core.specs.Entries.{entry_definition}
 use Rattle.td_core.specs.Formed.{AllFit, params_at, cells_at}
 use Rattle.td_core.specs.declared.module.Module.{Module}
-use Rattle.td_arith.specs.Laws.{AreBytes}
 use Rattle.td_expr.specs.Sound.{Sound}
 use Rattle.td_meaning.specs.Throughout.{Throughout}
 use Rattle.td_front.specs.ModuleText.{IsModuleText, RefusedBy}

@@ -1,5 +1,5 @@
 -- What operators and other instructions compute. Registers are below 2^64.
-use Rattle.std.specs.Prelude.{ℕ, zero, suc, ◌+◌, ◌-◌, ◌*◌, ◌/◌, ◌%◌, ◌^◌, Bool, true, false, cond, ◌||◌, List, [], ◌∷◌, Option, Some, None, nat_eq, nat_lt, nat_le, bit_and, bit_or, bit_xor}
+use Rattle.std.specs.Prelude.{ℕ, zero, suc, ◌+◌, ◌-◌, ◌*◌, ◌/◌, ◌%◌, ◌^◌, Bool, true, false, cond, List, [], ◌∷◌, Option, Some, None, nat_eq, nat_lt, nat_le, bit_and, bit_or, bit_xor}
 use Rattle.td_num.specs.Numbers.{rising_at}
 use Rattle.td_num.specs.declared.number.ByteOrder.{ByteOrder}
 use Rattle.td_num.specs.declared.number.ByteOrder.TheVariants.{LittleEndian, BigEndian}
@@ -42,10 +42,6 @@ operated x m n = cond (nat_lt x 5) (arithmetic x m n) (cond (nat_lt x 10) (bitwi
 -- so many bits of a number from one on
 abbrev pub bits_of : ℕ → ℕ → ℕ → ℕ
 bits_of n low count = (n / 2 ^ low) % 2 ^ count
-
-abbrev pub is_among : List ℕ → ℕ → Bool
-is_among [] n = false
-is_among (v ∷ vs) n = nat_eq n v || is_among vs n
 
 abbrev pub reason_of : ℕ → Reason
 reason_of x =

@@ -3,11 +3,11 @@
 use Rattle.std.proofs.Common.{◌≡◌, ℕ, zero, suc, List, [], ◌∷◌, ◌++◌, map, Option, Some, None, refl, sym, ap, ◌∙◌, inl, inr}
 use Rattle.std.specs.Prelude.{option_map, flat_map}
 use Rattle.std.proofs.lemmas.List.{append-nil}
+use Rattle.td_num.specs.Lists.{Each}
 use Rattle.td_ast.specs.declared.token.Token.{Token}
 use Rattle.td_grammar.specs.Spelling.{SpellsBoth, SpellsMade, SpellsMaybe, SpellsAll, SpellsEither}
 use Rattle.td_joined.specs.Pieces.{Piece, Blank, LineEnd, kinds_of}
 use Rattle.td_layout.specs.Sequences.{indented, optional}
-use Rattle.td_layout.specs.Laws.{Each}
 use Rattle.td_layout.proofs.Tokens.{kinds_in, kinds_append, split_kinds, no_kinds}
 
 pub record Back {A : Type 0} (P : A → List Token → Type 0) (pieces : List Piece) (Good : A → Type 0) : Type 0 where

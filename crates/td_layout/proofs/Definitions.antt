@@ -1,6 +1,7 @@
 -- Definitions read back.
 use Rattle.std.proofs.Common.{◌≡◌, Bool, true, false, List, [], ◌∷◌, ◌++◌, map, Option, Some, None, refl, ap}
 use Rattle.std.specs.Prelude.{option_map, flat_map}
+use Rattle.td_num.specs.Lists.{Each}
 use Rattle.td_ast.specs.declared.token.TokenKind.TheVariants as kinds
 use Rattle.td_ast.specs.declared.names.Name.{Name}
 use Rattle.td_ast.specs.declared.names.NumberTree.{NumberTree}
@@ -27,7 +28,6 @@ use Rattle.td_layout.specs.Parameters.{head_pieces}
 use Rattle.td_layout.specs.Definitions.{closing_pieces, struct_body, struct_pieces, subject_pieces, case_lines, default_lines, cases_lines, casetype_pieces, slot_piece, slot_line, output_pieces, definition_pieces}
 use Rattle.td_layout.specs.Fields.{field_line}
 use Rattle.td_layout.specs.Unspanned.{unspanned_name, unspanned_expression, unspanned_field, unspanned_case, unspanned_slot_kind, unspanned_slot, unspanned_definition}
-use Rattle.td_layout.specs.Laws.{Each}
 use Rattle.td_layout.proofs.Back.{Back, good, blank, line, deep, ended, both, made, left, right, none, some}
 use Rattle.td_layout.proofs.Words.{terminal_back, name_back, number_back, constant_back}
 use Rattle.td_layout.proofs.Expressions.{expression_back}

@@ -1,5 +1,6 @@
 -- What is spelled is filled: what is repeated in a definition stands there once at least.
 use Rattle.std.proofs.Common.{Bool, true, false, List, [], ◌∷◌, Option, Some, None, subst, inl, inr}
+use Rattle.td_num.specs.Lists.{Each}
 use Rattle.td_ast.specs.declared.token.Token.{Token}
 use Rattle.td_ast.specs.declared.fields.FieldTree.{FieldTree}
 use Rattle.td_ast.specs.declared.definitions.CaseTree.{CaseTree}
@@ -14,7 +15,6 @@ use Rattle.td_grammar.specs.Sequences.{some_of}
 use Rattle.td_grammar.specs.Listed.{SpellsList}
 use Rattle.td_grammar.specs.Fields.{field}
 use Rattle.td_grammar.specs.Definitions.{case_tree, item, slot, default_case, cases, define, enumeration, alias_rest, struct_rest, casetype, typedef, entrypoint, output, def}
-use Rattle.td_layout.specs.Laws.{Each}
 use Rattle.td_layout.proofs.Sequences.{IsFilled}
 use Rattle.td_layout.proofs.Definitions.{IsFilledDefault, IsFilledDefinition}
 

@@ -1,5 +1,6 @@
 -- Actions that were spelled within the limits fit.
 use Rattle.std.proofs.Common.{ℕ, zero, suc, List, [], ◌∷◌, Option, Some, None, subst, inl, inr}
+use Rattle.td_num.specs.Lists.{Each}
 use Rattle.td_ast.specs.declared.token.Token.{Token}
 use Rattle.td_ast.specs.declared.token.Span.{Span}
 use Rattle.td_ast.specs.declared.token.TokenKind.TheVariants as kinds
@@ -16,7 +17,6 @@ use Rattle.td_grammar.specs.declared.limits.TheConstants.{BRACES}
 use Rattle.td_grammar.specs.Actions.{assigned, if_of, statement_from, braced_of, statement_body, SpellsStatement, statement_within, statement, action}
 use Rattle.td_grammar.proofs.Steady.{nested_out}
 use Rattle.td_grammar.proofs.Words.{terminal_known}
-use Rattle.td_layout.specs.Laws.{Each}
 use Rattle.td_layout.proofs.Actions.{steady_statement}
 use Rattle.td_layout.proofs.Light.{IsLight}
 use Rattle.td_layout.proofs.Sources.{NoPass, light}

@@ -1,5 +1,6 @@
 -- Definitions that were spelled within the limits fit.
 use Rattle.std.proofs.Common.{Bool, true, false, List, Option, subst, inl, inr}
+use Rattle.td_num.specs.Lists.{Each}
 use Rattle.td_ast.specs.declared.token.Token.{Token}
 use Rattle.td_ast.specs.declared.token.TokenKind.TheVariants as kinds
 use Rattle.td_ast.specs.declared.fields.FieldTree.{FieldTree}
@@ -14,7 +15,6 @@ use Rattle.td_grammar.specs.Tokens.{terminal}
 use Rattle.td_grammar.specs.Sequences.{some_of}
 use Rattle.td_grammar.specs.Fields.{field}
 use Rattle.td_grammar.specs.Definitions.{case_tree, item, slot, subject, default_case, cases, define, enumeration, alias_rest, struct_rest, casetype, typedef, entrypoint, output, def}
-use Rattle.td_layout.specs.Laws.{Each}
 use Rattle.td_layout.proofs.Sequences.{IsFilled}
 use Rattle.td_layout.proofs.Filled.{some_filled, list_filled}
 use Rattle.td_layout.proofs.Kept.{IfAny}

@@ -1,5 +1,6 @@
 -- Fields that were spelled within the limits fit.
 use Rattle.std.proofs.Common.{List, Option, Some, None, subst, inl, inr}
+use Rattle.td_num.specs.Lists.{Each}
 use Rattle.td_ast.specs.declared.token.Token.{Token}
 use Rattle.td_ast.specs.declared.token.TokenKind.TheVariants as kinds
 use Rattle.td_ast.specs.declared.parameters.HeadTree.{HeadTree}
@@ -14,7 +15,6 @@ use Rattle.td_grammar.specs.Actions.{action}
 use Rattle.td_grammar.specs.Sequences.{in_parentheses, list_of, parted}
 use Rattle.td_grammar.specs.Parameters.{head}
 use Rattle.td_grammar.specs.Fields.{type_tree, extent, refinement, field}
-use Rattle.td_layout.specs.Laws.{Each}
 use Rattle.td_layout.proofs.Kept.{IfAny}
 use Rattle.td_layout.proofs.Light.{IsLight}
 use Rattle.td_layout.proofs.Sources.{NoPass, light}

@@ -1,6 +1,7 @@
 -- The tokens of the canonical text of what was spelled within the limits are within the limits.
 use Rattle.std.proofs.Common.{◌≡◌, suc, ◌+◌, take, List, [], ◌∷◌, ◌++◌, length, map, refl, sym, ap, subst, ◌∙◌, arith}
 use Rattle.std.proofs.lemmas.List.{append-nil, length-append, take_at}
+use Rattle.td_num.specs.Lists.{Each}
 use Rattle.td_ast.specs.declared.token.Token.{Token}
 use Rattle.td_ast.specs.declared.definitions.Def.{Def}
 use Rattle.td_ast.specs.declared.definitions.ModuleTree.{ModuleTree}
@@ -17,7 +18,7 @@ use Rattle.td_joined.specs.Pieces.{LineEnd}
 use Rattle.td_layout.specs.Sequences.{parted_by}
 use Rattle.td_layout.specs.Definitions.{definition_pieces, layout}
 use Rattle.td_layout.specs.Unspanned.{unspanned_definition, unspanned}
-use Rattle.td_layout.specs.Laws.{KeepsLimits, Each}
+use Rattle.td_layout.specs.Laws.{KeepsLimits}
 use Rattle.td_layout.proofs.Clean.{Clean}
 use Rattle.td_layout.proofs.Kept.{Kept, line, made, nil, more, all, each_all}
 use Rattle.td_layout.proofs.Sources.{NoPass}

@@ -3,6 +3,7 @@
 use Rattle.std.proofs.Common.{◌≡◌, ℕ, zero, suc, true, false, List, [], ◌∷◌, ◌++◌, map, Option, Some, None, refl, sym, ap, subst, ◌∙◌}
 use Rattle.std.specs.Prelude.{option_map, flat_map}
 use Rattle.std.proofs.lemmas.List.{append-nil}
+use Rattle.td_num.specs.Lists.{Each}
 use Rattle.td_ast.specs.declared.token.Token.{Token}
 use Rattle.td_ast.specs.declared.token.TokenKind.{TokenKind}
 use Rattle.td_ast.specs.Kinds.{number_of_kind}
@@ -16,7 +17,6 @@ use Rattle.td_grammar.proofs.Seen.{covers, stops_less}
 use Rattle.td_joined.specs.Pieces.{Piece, Blank, LineEnd, kinds_of}
 use Rattle.td_layout.specs.Sequences.{indented, optional}
 use Rattle.td_layout.proofs.Tokens.{kinds_in, kinds_append, split_kinds, first_kind, no_kinds}
-use Rattle.td_layout.specs.Laws.{Each}
 use Rattle.td_layout.proofs.Clean.{Clean, Begun, both_clean, both_begun, made_clean, made_begun, none_clean, some_clean, maybe_begun, AllClean, AllBegun, nil_clean, more_clean, more_begun, all_clean, all_begun, into_clean}
 
 pub record Kept {A : Type 0} (g : Grammar A) (pieces : List Piece) (Good : A → Type 0) : Type 0 where

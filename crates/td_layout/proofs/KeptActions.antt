@@ -1,5 +1,6 @@
 -- Statements and actions within the limits are kept.
 use Rattle.std.proofs.Common.{◌≡◌, ℕ, zero, suc, false, List, [], ◌∷◌, Option, refl, ap}
+use Rattle.td_num.specs.Lists.{Each}
 use Rattle.td_ast.specs.declared.token.Span.{Span}
 use Rattle.td_ast.specs.declared.token.TokenKind.TheVariants as kinds
 use Rattle.td_ast.specs.declared.actions.Assigned.{Assigned}
@@ -18,7 +19,6 @@ use Rattle.td_grammar.proofs.Stmts.{action_word}
 use Rattle.td_joined.specs.Pieces.{Word}
 use Rattle.td_layout.specs.Actions.{assigned_pieces, in_braces, statement_pieces, block_pieces, action_kind, statement_after, action_pieces}
 use Rattle.td_layout.specs.Unspanned.{unspanned_assigned, unspanned_statement, unspanned_block, unspanned_action}
-use Rattle.td_layout.specs.Laws.{Each}
 use Rattle.td_layout.proofs.Actions.{SameBlock, Otherwise, if_same, if_else_same, word_of_action}
 use Rattle.td_layout.proofs.Kept.{Kept, AllKept, blank, both, made, alone, some, first, into, seen, nil, more, spaced_all, all, each_kept}
 use Rattle.td_layout.proofs.Plainly.{plainly, never_one, terminal_kept, name_kept}

@@ -1,6 +1,7 @@
 -- Definitions within the limits are kept.
 use Rattle.std.proofs.Common.{◌≡◌, ℕ, Bool, true, false, List, [], ◌∷◌, ◌++◌, map, Option, Some, None, refl, ap}
 use Rattle.std.specs.Prelude.{option_map, flat_map}
+use Rattle.td_num.specs.Lists.{Each}
 use Rattle.td_ast.specs.declared.token.TokenKind.TheVariants as kinds
 use Rattle.td_ast.specs.declared.names.Name.{Name}
 use Rattle.td_ast.specs.declared.parameters.HeadTree.{HeadTree}
@@ -29,7 +30,6 @@ use Rattle.td_layout.specs.Parameters.{head_pieces}
 use Rattle.td_layout.specs.Fields.{field_line}
 use Rattle.td_layout.specs.Definitions.{closing_pieces, struct_body, struct_pieces, subject_pieces, case_lines, default_lines, cases_lines, casetype_pieces, definition_pieces}
 use Rattle.td_layout.specs.Unspanned.{unspanned_name, unspanned_expression, unspanned_field, unspanned_case, unspanned_definition}
-use Rattle.td_layout.specs.Laws.{Each}
 use Rattle.td_layout.proofs.Sequences.{IsFilled}
 use Rattle.td_layout.proofs.Items.{define_back, enum_back, alias_back}
 use Rattle.td_layout.proofs.Definitions.{SameDefinition, SameCases, struct_of, casetype_of, closing_back, output_back}

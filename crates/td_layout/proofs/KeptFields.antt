@@ -1,5 +1,6 @@
 -- Parameters and fields within the limits are kept.
 use Rattle.std.proofs.Common.{◌≡◌, ℕ, true, false, List, [], ◌∷◌, ◌++◌, map, Option, refl, ap}
+use Rattle.td_num.specs.Lists.{Each}
 use Rattle.td_ast.specs.declared.token.Span.{Span}
 use Rattle.td_ast.specs.declared.token.TokenKind.TheVariants as kinds
 use Rattle.td_ast.specs.declared.names.Name.{Name}
@@ -32,7 +33,6 @@ use Rattle.td_layout.specs.Expressions.{expression_pieces}
 use Rattle.td_layout.specs.Parameters.{parameter_pieces, condition_pieces, head_pieces}
 use Rattle.td_layout.specs.Fields.{type_pieces, extent_pieces, refinement_pieces, action_after, field_pieces, field_line}
 use Rattle.td_layout.specs.Unspanned.{nowhere, unspanned_expression, unspanned_parameter, unspanned_head, unspanned_type, unspanned_extent, unspanned_action, unspanned_field}
-use Rattle.td_layout.specs.Laws.{Each}
 use Rattle.td_layout.proofs.Fields.{parameter_back}
 use Rattle.td_layout.proofs.Kept.{Kept, blank, deep, ended, both, made, none, some, into, each_kept, maybe_kept, IfAny}
 use Rattle.td_layout.proofs.Plainly.{plainly, never_one, never_both, never_either, terminal_kept, name_kept, literal_kept, number_kept}

@@ -1,5 +1,6 @@
 -- Modules read back.
 use Rattle.std.proofs.Common.{◌≡◌, List, [], ◌∷◌, ◌++◌, map, ap, subst}
+use Rattle.td_num.specs.Lists.{Each}
 use Rattle.td_ast.specs.declared.token.Token.{Token}
 use Rattle.td_ast.specs.declared.definitions.Def.{Def}
 use Rattle.td_ast.specs.declared.definitions.ModuleTree.{ModuleTree}
@@ -9,7 +10,7 @@ use Rattle.td_joined.specs.Pieces.{LineEnd}
 use Rattle.td_layout.specs.Sequences.{parted_by}
 use Rattle.td_layout.specs.Definitions.{definition_pieces, layout}
 use Rattle.td_layout.specs.Unspanned.{unspanned_definition, unspanned}
-use Rattle.td_layout.specs.Laws.{ReadsBack, Each}
+use Rattle.td_layout.specs.Laws.{ReadsBack}
 use Rattle.td_layout.proofs.Back.{Back, good, line, made, nil, more, each_back}
 use Rattle.td_layout.proofs.Definitions.{IsFilledDefinition, definition_back}
 use Rattle.td_layout.proofs.Filled.{definitions_filled}

@@ -1,6 +1,7 @@
 -- Several of one production read back.
 use Rattle.std.proofs.Common.{◌≡◌, List, [], ◌∷◌, ◌++◌, map, Option, refl, ap}
 use Rattle.std.specs.Prelude.{flat_map}
+use Rattle.td_num.specs.Lists.{Each}
 use Rattle.td_ast.specs.declared.token.TokenKind.TheVariants as kinds
 use Rattle.td_grammar.specs.Grammar.{Grammar, ◌then◌, ◌making◌}
 use Rattle.td_grammar.specs.Tokens.{terminal}
@@ -8,7 +9,6 @@ use Rattle.td_grammar.specs.Sequences.{some_of, in_parentheses, list_of}
 use Rattle.td_joined.specs.Pieces.{Piece}
 use Rattle.td_layout.specs.Sequences.{comma}
 use Rattle.td_layout.specs.Sequences as sequences
-use Rattle.td_layout.specs.Laws.{Each}
 use Rattle.td_layout.proofs.Back.{Back, blank, both, made, none, some, list_back, each_back}
 use Rattle.td_layout.proofs.Words.{terminal_back}
 

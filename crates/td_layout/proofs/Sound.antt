@@ -2,6 +2,7 @@
 -- productions, as in Back.antt.
 use Rattle.std.proofs.Common.{◌≡◌, ℕ, zero, suc, List, [], ◌∷◌, ◌++◌, Option, Some, None, refl, sym, ap, subst, ◌∙◌, inl, inr}
 use Rattle.std.specs.Prelude.{flat_map}
+use Rattle.td_num.specs.Lists.{Each}
 use Rattle.td_ast.specs.declared.token.Token.{Token}
 use Rattle.td_ast.specs.declared.token.Span.{Span}
 use Rattle.td_ast.specs.declared.token.TokenKind.{TokenKind}
@@ -13,7 +14,6 @@ use Rattle.td_grammar.specs.Tokens.{terminal, name, name_of, literal, literal_of
 use Rattle.td_joined.specs.Pieces.{Piece, Word, Blank, LineEnd, kinds_of}
 use Rattle.td_joined.specs.Joining.{IsSpellable}
 use Rattle.td_layout.specs.Sequences.{name_piece, literal_piece, number_piece, constant_piece, plain_piece, indented, optional}
-use Rattle.td_layout.specs.Laws.{Each}
 use Rattle.td_layout.proofs.Tokens.{kinds_in, kinds_append}
 
 -- each of these kinds can be spelled

@@ -1,11 +1,11 @@
 -- Parts of what is within the limits are within the limits.
 use Rattle.std.proofs.Common.{◌≡◌, List, [], ◌∷◌, ◌++◌, Option, Some, None, refl, sym, ap, subst, ◌∙◌, append_assoc, inl, inr}
+use Rattle.td_num.specs.Lists.{Each}
 use Rattle.td_ast.specs.declared.token.Token.{Token}
 use Rattle.td_grammar.specs.Spelling.{SpellsAll}
 use Rattle.td_grammar.specs.Limits.{PassesBoth, PassesAll, PassesEither}
 use Rattle.td_grammar.specs.Grammar.{Grammar, maybe}
 use Rattle.td_grammar.specs.Sequences.{some_of}
-use Rattle.td_layout.specs.Laws.{Each}
 use Rattle.td_layout.proofs.Kept.{IfAny}
 use Rattle.td_layout.proofs.Sources.{NoPass}
 

@@ -1,5 +1,6 @@
 -- What holds of canonical texts.
-use Rattle.std.specs.Prelude.{◌≡◌, List, [], ◌∷◌, map}
+use Rattle.std.specs.Prelude.{◌≡◌, List, map}
+use Rattle.td_num.specs.Lists.{Each}
 use Rattle.td_ast.specs.declared.token.Token.{Token}
 use Rattle.td_ast.specs.declared.definitions.ModuleTree.{ModuleTree}
 use Rattle.td_grammar.specs.Limits.{IsWithinLimits}
@@ -23,11 +24,6 @@ ReadsBack =
 abbrev pub KeepsLimits : Type 0
 KeepsLimits =
     (tree : ModuleTree) (source tokens : List Token) → module_text.Spells tree source → IsWithinLimits module_text.Passes source → AreOf tree tokens → IsWithinLimits module_text.Passes tokens
-
--- it holds of each
-abbrev pub Each : {A : Type 0} → (A → Type 0) → List A → Type 0
-Each F [] = Unit {0}
-Each F (x ∷ xs) = F x × Each F xs
 
 -- Where each of the tokens that spell a tree can be spelled, a name as a name and a number below 2^64, so can each of its
 -- canonical text.

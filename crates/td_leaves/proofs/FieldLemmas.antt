@@ -5,6 +5,7 @@ use Rattle.std.proofs.lemmas.Bool.{le-leb, lt-leb, leb-false}
 use Rattle.std.proofs.Math.Nat.{div-mul-le_self, min-le_right, mul-le-mul_right, le_trans}
 use Rattle.td_num.specs.Numbers.{bytes_in, number_at, places_from}
 use Rattle.td_num.specs.declared.number.NumberType.{NumberType}
+use Rattle.td_num.specs.Lists.{is_among}
 use Rattle.td_core.specs.declared.module.NameId.{NameId}
 use Rattle.td_core.specs.declared.module.Element.{Element}
 use Rattle.td_core.specs.declared.module.Element.TheVariants.{Number, Listed, Named, Unit as UnitElement, Rest, Zeros}
@@ -16,7 +17,7 @@ use Rattle.td_core.specs.declared.outcome.Verdict.{Verdict}
 use Rattle.td_core.specs.declared.outcome.Verdict.TheVariants.{Accept, Reject}
 use Rattle.td_core.specs.Outcome.{Ending, Accepted, Rejected, Behavior, plain, after_reading, and_then, ending_within, within, accepted, rejected}
 use Rattle.td_meaning.specs.Naming.{is_needed}
-use Rattle.td_meaning.specs.Meaning.{Sense, taken, demanded, is_among, values_of, field_number, number_places, places_if, field_place, first_name}
+use Rattle.td_meaning.specs.Meaning.{Sense, taken, demanded, values_of, field_number, number_places, places_if, field_place, first_name}
 use Rattle.td_meaning.specs.Machine.{listed_meaning, shape_meaning, fields_meaning}
 use Rattle.td_meaning.specs.Verdicts.{ending_of, IsRejection}
 use Rattle.td_meaning.proofs.MachineAgreeing.{onward_alike, unneeded}

@@ -1,14 +1,13 @@
 -- The weight of a definition (own rule): 32, and 8 for each node of parameters, `where` and switch and for each case, and
 -- the weights of the fields. A field weighs 32, and 8 for each node of its expressions and statements, and what the
 -- definition weighs that it names; an array twice that and 64. And the cells of a definition.
-use Rattle.std.specs.Prelude.{ℕ, ◌+◌, ◌*◌, Bool, true, false, cond, List, map, sum, length, Option, Some, None}
+use Rattle.std.specs.Prelude.{ℕ, ◌+◌, ◌*◌, Bool, cond, List, map, sum, length, Option, Some, None}
+use Rattle.td_ast.specs.Extents.{is_array}
 use Rattle.td_ast.specs.Trees.{tree_size}
 use Rattle.td_ast.specs.declared.names.PlainTree.{PlainTree}
 use Rattle.td_ast.specs.declared.names.PlainTree.TheVariants as plain
 use Rattle.td_ast.specs.declared.fields.TypeKind.{TypeKind}
 use Rattle.td_ast.specs.declared.fields.TypeKind.TheVariants as type
-use Rattle.td_ast.specs.declared.fields.ExtentTree.{ExtentTree}
-use Rattle.td_ast.specs.declared.fields.ExtentTree.TheVariants.{Bytes, ByteSize, SingleElement, Zeroterm, Bits}
 use Rattle.td_ast.specs.declared.fields.FieldTree.{FieldTree}
 use Rattle.td_ast.specs.declared.parameters.HeadTree.{HeadTree}
 use Rattle.td_ast.specs.declared.parameters.ParamTree.{ParamTree}
@@ -27,15 +26,6 @@ kind_weight known type.Unit = 0
 kind_weight known type.AllBytes = 0
 kind_weight known type.AllZeros = 0
 kind_weight known (type.Named n args) = type_weight_of known n
-
--- an array, a single element too
-abbrev pub is_array : Option ExtentTree → Bool
-is_array None = false
-is_array (Some (Bytes e)) = true
-is_array (Some (ByteSize e)) = true
-is_array (Some (SingleElement e)) = true
-is_array (Some (Zeroterm e)) = true
-is_array (Some (Bits n)) = false
 
 abbrev pub in_array : Bool → ℕ → ℕ
 in_array is weight = cond is (2 * weight + 64) weight

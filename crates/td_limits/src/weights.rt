@@ -1,9 +1,10 @@
 //! How heavy a definition is, and how many cells it has. A number that 64 bits don't hold stands still at their end.
 
 ghost use Rattle.std.specs.Prelude.{◌≡◌, ◌+◌, ◌*◌, map, sum};
+ghost use Rattle.td_ast.specs.Extents.{is_array};
 ghost use Rattle.td_limits.specs.Excesses.{capped};
 ghost use Rattle.td_limits.specs.Measures.{type_cells_of, type_weight_of};
-ghost use Rattle.td_limits.specs.Weights.{case_weight, count_cells, default_weight, definition_weight, field_weight, fields_weight, head_cells, in_array, is_array, kind_weight, param_cells, plain_weight, target_cells};
+ghost use Rattle.td_limits.specs.Weights.{case_weight, count_cells, default_weight, definition_weight, field_weight, fields_weight, head_cells, in_array, kind_weight, param_cells, plain_weight, target_cells};
 
 use crate::measures::Measure;
 use crate::nodes::{expr_nodes, head_nodes, inner_nodes};

@@ -1,6 +1,7 @@
 -- The tables of a module's code fit together, and stand for what they should.
 use Rattle.std.proofs.Common.{◌≡◌, ℕ, zero, suc, ◌+◌, ◌<◌, ◌≤◌, ◌||◌, List, [], ◌∷◌, ◌++◌, length, nat_eq, slice_index_or, slice_get, codes, Option, Some, None, refl, sym, ap, subst, ◌∙◌, arith, length-append}
 use Rattle.td_num.specs.declared.number.Width.TheVariants.{One}
+use Rattle.td_num.specs.Lists.{Each, is_among}
 use Rattle.td_core.specs.declared.module.NameId.{NameId}
 use Rattle.td_core.specs.declared.module.Param.{Param}
 use Rattle.td_core.specs.declared.module.Cell.{Cell}
@@ -12,13 +13,12 @@ use Rattle.td_core.specs.declared.module.Body.{Body}
 use Rattle.td_core.specs.declared.module.Body.TheVariants.{Struct, Casetype}
 use Rattle.td_core.specs.declared.module.TypeDef.{TypeDef}
 use Rattle.td_core.specs.declared.module.Module.{Module}
-use Rattle.td_core.specs.WellFormed.{Each, OfSome, EachField, HasParts, IsWhole, IsNameThere, IsDefinitionNamed}
+use Rattle.td_core.specs.WellFormed.{OfSome, EachField, HasParts, IsWhole, IsNameThere, IsDefinitionNamed}
 use Rattle.td_meaning.specs.Meaning as meaning
 use Rattle.td_lexer.specs.Splits.{IsName}
 use Rattle.td_ir.specs.declared.tables.EntryPoint.{EntryPoint}
 use Rattle.td_ir.specs.declared.tables.Parts.{Parts}
 use Rattle.td_ir.specs.Tables.{routine_of, entry_of, param_of, cell_of, lengths_of, begin}
-use Rattle.td_ir.specs.Values.{is_among}
 use Rattle.td_ir.specs.WellFormed.{IsName as IsNameIn, IsField, IsSite, IsRoutine, IsCellNamed, IsEntry, IsCode}
 use Rattle.td_blocks.specs.Block.{size, LayingOut}
 use Rattle.td_blocks.specs.Constructs.{body}
@@ -125,10 +125,6 @@ body_up L (Struct fs) = fields_up L fs
 body_up L (Casetype e cases o) = (let x = cases_up L cases in omega (arith, x))
 
 -- values of enums
-among_same : (xs : List ℕ) (n : ℕ) → is_among xs n ≡ meaning.is_among xs n
-among_same [] n = refl
-among_same (x ∷ xs) n = ap (λ b. nat_eq n x || b) (among_same xs n)
-
 values_same : (all : List (List ℕ)) (v : ℕ) → slice_index_or all v [] ≡ meaning.values_of all v
 values_same [] v = refl
 values_same (x ∷ xs) zero = refl
@@ -238,7 +234,7 @@ module _ (c : Parts) (m : Module) (w : IsWritten c m) (whole : IsWhole m) (named
   pub is_tabled : IsTabled c m
   is_tabled = record {
     sited = sited;
-    listed = λ v n. (w.sets.each v).same n ∙ (among_same (slice_index_or m.listed v []) n ∙ ap (λ y. meaning.is_among y n) (values_same m.listed v));
+    listed = λ v n. (w.sets.each v).same n ∙ ap (λ y. is_among y n) (values_same m.listed v);
   }
 
   pub is_supplied : IsSupplied c m

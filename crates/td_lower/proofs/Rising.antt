@@ -7,8 +7,8 @@ use Rattle.std.proofs.lemmas.Bool.{cases_lt}
 use Rattle.std.proofs.lemmas.Bool.Decides.{nat_tests}
 use Rattle.std.proofs.lemmas.List.Sorted.{sum_by-IsPermutation}
 use Rattle.std.proofs.lemmas.List.Sums.{sum_by-cons}
+use Rattle.td_num.specs.Lists.{is_among}
 use Rattle.td_ir.specs.WellFormed.{Rises}
-use Rattle.td_ir.specs.Values.{is_among}
 use Rattle.td_lower.specs.Sets.{IsSetOf, AreSetsOf, once}
 
 -- the sets of the first n enums

@@ -3,6 +3,7 @@ use Rattle.std.proofs.Common.{◌≡◌, ℕ, zero, suc, ◌+◌, ◌<◌, List,
 use Rattle.std.specs.Str.{bytes_eq}
 use Rattle.std.proofs.lemmas.Slice.Eq.{bytes_eq-Decides}
 use Rattle.std.proofs.lemmas.Option.{none-some}
+use Rattle.td_num.specs.Lists.{Each}
 use Rattle.td_ast.specs.declared.token.TokenKind.TheVariants as kinds
 use Rattle.td_lexer.specs.Spellings.{keyword_kind}
 use Rattle.td_lexer.specs.Splits.{IsName}
@@ -18,7 +19,7 @@ use Rattle.td_core.specs.declared.module.TypeDef.{TypeDef}
 use Rattle.td_core.specs.declared.module.Module.{Module}
 use Rattle.td_core.specs.declared.outcome.Spot.TheVariants.{Field as AtField, Where as AtWhere, Switch as AtSwitch}
 use Rattle.td_core.specs.Term.{Term}
-use Rattle.td_core.specs.WellFormed.{Each, OfSome, EachField, HasParts, IsNameThere}
+use Rattle.td_core.specs.WellFormed.{OfSome, EachField, HasParts, IsNameThere}
 use Rattle.td_meaning.specs.Meaning.{first_name}
 use Rattle.td_ir.specs.declared.tables.Site.{Site}
 use Rattle.td_ir.specs.declared.tables.Parts.{Parts}

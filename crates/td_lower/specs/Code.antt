@@ -1,11 +1,12 @@
 -- The code of a module (own rule; docs/language/code.md).
 use Rattle.std.specs.Prelude.{◌≡◌, ℕ, zero, suc, ◌+◌, ◌^◌, ◌<◌, ◌≤◌, List, [], ◌∷◌, ◌++◌, length, Option, Some, None, slice_get}
+use Rattle.td_num.specs.Lists.{Each}
 use Rattle.td_core.specs.declared.module.TypeDef.{TypeDef}
 use Rattle.td_core.specs.declared.module.Module.{Module}
 use Rattle.td_core.specs.declared.module.Entry.{Entry}
 use Rattle.td_core.specs.declared.limits.TheConstants.{MOST_NODES, MOST_DEPTH, MOST_WEIGHT}
 use Rattle.td_core.specs.Weights.{head_nodes, body_nodes, definitions_nodes, depth_of, weight_of}
-use Rattle.td_core.specs.WellFormed.{Each, IsWhole, IsDefinitionNamed, IsWithin}
+use Rattle.td_core.specs.WellFormed.{IsWhole, IsDefinitionNamed, IsWithin}
 use Rattle.td_lexer.specs.Splits.{IsName}
 use Rattle.td_expr.specs.Sound.{Sound}
 use Rattle.td_meaning.specs.Meaning.{meaning}

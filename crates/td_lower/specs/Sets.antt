@@ -1,7 +1,7 @@
 -- Sets of the values of enums.
 use Rattle.std.specs.Prelude.{◌≡◌, ℕ, List, [], ◌∷◌, cond, nat_eq, length, slice_index_or}
+use Rattle.td_num.specs.Lists.{is_among}
 use Rattle.td_ir.specs.WellFormed.{Rises}
-use Rattle.td_ir.specs.Values.{is_among}
 
 -- the same numbers, strictly rising
 pub record IsSetOf (values set : List ℕ) : Type 0 where

@@ -13,6 +13,7 @@ use Rattle.td_num.specs.Numbers.{bytes_in, number_at, falling_on, rising_at}
 use Rattle.td_num.specs.declared.number.ByteOrder.{ByteOrder}
 use Rattle.td_num.specs.declared.number.ByteOrder.TheVariants.{LittleEndian, BigEndian}
 use Rattle.td_num.specs.declared.number.NumberType.{NumberType}
+use Rattle.td_num.specs.Lists.{is_among}
 use Rattle.td_core.specs.Term.{Term}
 use Rattle.td_core.specs.Outcome.{Behavior, Accepted, and_then, within, accepted}
 use Rattle.td_core.specs.declared.module.NameId.{NameId}
@@ -25,7 +26,7 @@ use Rattle.td_expr.specs.Sound.{Sound}
 use Rattle.td_expr.specs.Naming.{names}
 use Rattle.td_meaning.specs.Naming.{some_name, element_names, extent_names}
 use Rattle.td_meaning.specs.Doing.{natural_of}
-use Rattle.td_meaning.specs.Meaning.{Sense, values as values_in, taken, demanded, is_among, values_of, element_meaning, shape_meaning, number_places, elements, filled, filled_once, divides, equals, zeros_end, numbers_at, first_where, is_nonzero, byte_type, run_of, looked_at, up_to_zero, zero_end, one_more}
+use Rattle.td_meaning.specs.Meaning.{Sense, values as values_in, taken, demanded, values_of, element_meaning, shape_meaning, number_places, elements, filled, filled_once, divides, equals, zeros_end, numbers_at, first_where, is_nonzero, byte_type, run_of, looked_at, up_to_zero, zero_end, one_more}
 use Rattle.td_meaning.specs.Throughout.{Through, OnEnding, OnAll, OnShape, OnElement, OnElements}
 use Rattle.td_ir.specs.declared.instructions.Instr.TheVariants as i
 use Rattle.td_blocks.specs.Block.{Block, Done, Then, Window}
@@ -36,7 +37,6 @@ use Rattle.td_ir.specs.State.{State, Turned, registers_from}
 use Rattle.td_lowered.proofs.BlockRun.{Passage, touching, plainly, onwards, if_so, turns, again, back, failed, Calling, ran, passage_of, onto}
 use Rattle.td_ir.specs.Values.{bit, operated}
 use Rattle.td_ir.specs.Flow.{where_so, zeros_flow, zeroterm_flow}
-use Rattle.td_ir.specs.Values as in_set
 use Rattle.td_sizes.specs.Sizes.{IsStepOf}
 use Rattle.td_blocks.specs.Lowered.{expr_of, exprs_of, shape_step, each_inner, terms_of, evenly, exactly as exactly_code, one_inner, once_filling_step, filling_step, constant_step, order_code}
 use Rattle.td_blocks.specs.Tabled.{Mapped}
@@ -177,7 +177,7 @@ module _ (T : Parts) (message places : List ℕ) (calls : Calling) (D t : ℕ) (
   goes = ran T message places calls
 
   module _ (sets : List (List ℕ)) (senses : ℕ → Sense) (throughs : ℕ → Through) (ty : NameId) (n : ℕ) (params : ℕ → ℕ)
-      (setted : (v x : ℕ) → in_set.is_among (set_of T v) x ≡ is_among (values_of sets v) x)
+      (setted : (v x : ℕ) → is_among (set_of T v) x ≡ is_among (values_of sets v) x)
       (called : (d first m : ℕ) (s : State) (args : List ℕ) → s.end < 2 ^ 32 → d < n → params d ≡ length args → registers_from s.regs first (length args) ≡ args
       → throughs d args (map (slice_index places) (map_of T m)) s.cells message s.pos s.end
       → calls first d m s ≡ passage_of (senses d args (map (slice_index places) (map_of T m)) s.cells message s.pos s.end)) where

@@ -2,6 +2,7 @@
 use Rattle.std.proofs.Common.{◌≡◌, ℕ, suc, ◌+◌, ◌<◌, ◌≤◌, ◌^◌, Bool, true, false, cond, List, [], ◌∷◌, length, map, refl, sym, ap, ◌∙◌, subst, arith, nat_eq, slice_index, slice_set, Option, Some, None}
 use Rattle.std.proofs.lemmas.List.{get_or-set_same, get_or-set_other}
 use Rattle.std.proofs.Math.ListN.{length-set}
+use Rattle.td_num.specs.Lists.{is_among}
 use Rattle.td_core.specs.Term.{Term}
 use Rattle.td_core.specs.Outcome.{and_then, within, rejected}
 use Rattle.td_core.specs.declared.module.NameId.{NameId}
@@ -12,7 +13,7 @@ use Rattle.td_core.specs.declared.module.Body.TheVariants.{Struct, Casetype}
 use Rattle.td_core.specs.declared.outcome.Reason.TheVariants.{Constraint, Impossible}
 use Rattle.td_expr.specs.Sound.{Sound}
 use Rattle.td_meaning.specs.Doing.{natural_of, is_true}
-use Rattle.td_meaning.specs.Meaning.{Sense, is_among, values_of, demanded, refined, case_for, chosen_meaning, body_meaning, where_place}
+use Rattle.td_meaning.specs.Meaning.{Sense, values_of, demanded, refined, case_for, chosen_meaning, body_meaning, where_place}
 use Rattle.td_meaning.specs.Throughout.{Through, OnEnding, OnOption, OnChosen, OnBody}
 use Rattle.td_ir.specs.declared.instructions.Instr.TheVariants as i
 use Rattle.td_blocks.specs.Block.{Block, Stop, Guard}
@@ -23,7 +24,6 @@ use Rattle.td_lowered.proofs.BlockRun.{Passage, failed, Calling, ran, passage_of
 use Rattle.td_ir.specs.Values.{operated, bit}
 use Rattle.td_blocks.specs.Lowered.{fields_steps, cases_of, last_case, body_of, guarded_body, parts_in}
 use Rattle.td_blocks.specs.Placed.{OptionExpr, CasesPlaced, DefaultPlaced, BodyPlaced, FieldsPlaced}
-use Rattle.td_ir.specs.Values as in_set
 use Rattle.td_blocks.specs.Tabled.{FieldsSited, DefaultSited, CasesSited, BodySited, GuardSited}
 use Rattle.td_lowered.proofs.Acts.{Follows, put_value, truth_at, not_of}
 use Rattle.td_lowered.proofs.Shapes.{at}
@@ -49,7 +49,7 @@ module _ (T : Parts) (message places : List ℕ) (calls : Calling) (D t : ℕ) (
   goes = ran T message places calls
 
   module _ (sets : List (List ℕ)) (senses : ℕ → Sense) (throughs : ℕ → Through) (ty : NameId) (n : ℕ) (params : ℕ → ℕ)
-      (setted : (v x : ℕ) → in_set.is_among (set_of T v) x ≡ is_among (values_of sets v) x)
+      (setted : (v x : ℕ) → is_among (set_of T v) x ≡ is_among (values_of sets v) x)
       (called : (d first m : ℕ) (s : State) (args : List ℕ) → s.end < 2 ^ 32 → d < n → params d ≡ length args → registers_from s.regs first (length args) ≡ args
       → throughs d args (map (slice_index places) (map_of T m)) s.cells message s.pos s.end
       → calls first d m s ≡ passage_of (senses d args (map (slice_index places) (map_of T m)) s.cells message s.pos s.end)) where

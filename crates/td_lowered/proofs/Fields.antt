@@ -1,6 +1,7 @@
 -- The code of fields does what the fields mean.
 use Rattle.std.proofs.Common.{◌≡◌, ℕ, ◌+◌, ◌^◌, ◌<◌, ◌≤◌, Bool, true, false, ◌||◌, List, [], ◌∷◌, ◌++◌, length, map, refl, sym, ap, ◌∙◌, subst, arith, slice_index, Option, Some, None}
 use Rattle.std.proofs.lemmas.Bool.{false≢true}
+use Rattle.td_num.specs.Lists.{is_among}
 use Rattle.td_core.specs.Outcome.{Behavior, and_then, within, after_reading}
 use Rattle.td_core.specs.declared.module.NameId.{NameId}
 use Rattle.td_core.specs.declared.module.Bits.{Bits}
@@ -12,7 +13,7 @@ use Rattle.td_core.specs.declared.module.Extent.{Extent}
 use Rattle.td_core.specs.declared.module.Extent.TheVariants.{Once, Filling, OnceFilling, UpToZero}
 use Rattle.td_expr.specs.Sound.{Sound}
 use Rattle.td_meaning.specs.Naming.{element_names, extent_names, parts_name, field_names, fields_name, is_needed}
-use Rattle.td_meaning.specs.Meaning.{Sense, is_among, values_of, shape_meaning, field_number, number_places, field_place, first_name, parts_meaning, bits_of, extended, fields_meaning}
+use Rattle.td_meaning.specs.Meaning.{Sense, values_of, shape_meaning, field_number, number_places, field_place, first_name, parts_meaning, bits_of, extended, fields_meaning}
 use Rattle.td_meaning.specs.Throughout.{Through, OnEnding, OnParts, OnFields}
 use Rattle.td_blocks.specs.Block.{Block}
 use Rattle.td_blocks.specs.Constructs.{steps}
@@ -22,7 +23,6 @@ use Rattle.td_ir.specs.State.{State, registers_from}
 use Rattle.td_lowered.proofs.BlockRun.{Passage, touching, Calling, ran, passage_of, onto}
 use Rattle.td_blocks.specs.Lowered.{part_slot, number_slot, is_read, parts_steps, fields_steps}
 use Rattle.td_blocks.specs.Tabled.{FieldsSited}
-use Rattle.td_ir.specs.Values as in_set
 use Rattle.td_lowered.proofs.Valued.{or_left, or_right}
 use Rattle.td_lowered.proofs.Ontos.{passage_then, onto_all}
 use Rattle.td_lowered.proofs.Acts.{Follows, follows_kept, follows_some, pushed_length}
@@ -56,7 +56,7 @@ module _ (T : Parts) (message places : List ℕ) (calls : Calling) (D t : ℕ) (
   goes = ran T message places calls
 
   module _ (sets : List (List ℕ)) (senses : ℕ → Sense) (throughs : ℕ → Through) (ty : NameId) (n : ℕ) (params : ℕ → ℕ)
-      (setted : (v x : ℕ) → in_set.is_among (set_of T v) x ≡ is_among (values_of sets v) x)
+      (setted : (v x : ℕ) → is_among (set_of T v) x ≡ is_among (values_of sets v) x)
       (called : (d first m : ℕ) (s : State) (args : List ℕ) → s.end < 2 ^ 32 → d < n → params d ≡ length args → registers_from s.regs first (length args) ≡ args
       → throughs d args (map (slice_index places) (map_of T m)) s.cells message s.pos s.end
       → calls first d m s ≡ passage_of (senses d args (map (slice_index places) (map_of T m)) s.cells message s.pos s.end)) where

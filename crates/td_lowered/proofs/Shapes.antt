@@ -6,6 +6,7 @@ use Rattle.td_num.specs.Numbers.{bytes_in, ordered_at, number_at, places_from}
 use Rattle.td_num.specs.declared.number.NumberType.{NumberType}
 use Rattle.td_num.specs.declared.number.ByteOrder.{ByteOrder}
 use Rattle.td_num.specs.declared.number.ByteOrder.TheVariants.{LittleEndian, BigEndian}
+use Rattle.td_num.specs.Lists.{is_among}
 use Rattle.td_core.specs.Term.{Term}
 use Rattle.td_core.specs.Outcome.{Behavior, Ending, Accepted, Rejected, and_then, within, after_reading}
 use Rattle.td_core.specs.declared.module.NameId.{NameId}
@@ -17,7 +18,7 @@ use Rattle.td_expr.specs.Sound.{Sound}
 use Rattle.td_expr.specs.Naming.{names}
 use Rattle.td_meaning.specs.Naming.{some_name, element_names}
 use Rattle.td_meaning.specs.Doing.{natural_of}
-use Rattle.td_meaning.specs.Meaning.{Sense, values as values_in, taken, demanded, is_among, values_of, element_meaning, number_places, zeros_end, numbers_at, first_where, is_nonzero, byte_type, run_of, looked_at}
+use Rattle.td_meaning.specs.Meaning.{Sense, values as values_in, taken, demanded, values_of, element_meaning, number_places, zeros_end, numbers_at, first_where, is_nonzero, byte_type, run_of, looked_at}
 use Rattle.td_meaning.specs.Throughout.{Through, OnAll, OnElement}
 use Rattle.td_ir.specs.declared.instructions.Instr.TheVariants as i
 use Rattle.td_blocks.specs.Block.{Block, Then, Stop, Guard}
@@ -29,7 +30,6 @@ use Rattle.td_lowered.proofs.BlockRun.{Passage, touching, failed, onwards, if_so
 use Rattle.td_lowered.specs.CodeRun.{way_of}
 use Rattle.td_ir.specs.Flow.{Effect, Goes, Fails, zeros_flow}
 use Rattle.td_ir.specs.Values.{bit, order_of}
-use Rattle.td_ir.specs.Values as in_set
 use Rattle.td_blocks.specs.Lowered.{expr_of, exprs_of, order_code, once_step}
 use Rattle.td_blocks.specs.Tabled.{Mapped}
 use Rattle.td_lowered.proofs.Valued.{or_left, or_right, value_is}
@@ -98,7 +98,7 @@ module _ (T : Parts) (message places : List ℕ) (calls : Calling) (D t : ℕ) (
       by (Rejected reason q trace c) = refl
 
   module _ (sets : List (List ℕ)) (senses : ℕ → Sense) (throughs : ℕ → Through) (ty : NameId) (n : ℕ) (params : ℕ → ℕ)
-      (setted : (v x : ℕ) → in_set.is_among (set_of T v) x ≡ is_among (values_of sets v) x)
+      (setted : (v x : ℕ) → is_among (set_of T v) x ≡ is_among (values_of sets v) x)
       (called : (d first m : ℕ) (s : State) (args : List ℕ) → s.end < 2 ^ 32 → d < n → params d ≡ length args → registers_from s.regs first (length args) ≡ args
       → throughs d args (map (slice_index places) (map_of T m)) s.cells message s.pos s.end
       → calls first d m s ≡ passage_of (senses d args (map (slice_index places) (map_of T m)) s.cells message s.pos s.end)) where
@@ -151,10 +151,10 @@ module _ (T : Parts) (message places : List ℕ) (calls : Calling) (D t : ℕ) (
     pub listed_runs : (base : NumberType) (v slot u site : ℕ) (r c : List ℕ) (p start end o : ℕ) → slot < u → u < length r → ListedRun base v slot u site r c p start end o
     listed_runs base v slot u site r c p start end o su ur = record {
       regs = r2;
-      count = length-set r1 u (bit (in_set.is_among (set_of T v) (slice_index r1 slot))) ∙ length-set r slot (read2);
-      low = λ j l. get_or-set_other r1 u j (bit (in_set.is_among (set_of T v) (slice_index r1 slot))) 0 (λ z. absurd (omega (arith, l, z, su))) ∙ get_or-set_other r slot j (read2) 0 (λ z. absurd (omega (arith, l, z)));
-      between = λ j l m. get_or-set_other r1 u j (bit (in_set.is_among (set_of T v) (slice_index r1 slot))) 0 (λ z. absurd (omega (arith, m, z))) ∙ get_or-set_other r slot j (read2) 0 (λ z. absurd (omega (arith, l, z)));
-      here = get_or-set_other r1 u slot (bit (in_set.is_among (set_of T v) (slice_index r1 slot))) 0 (λ z. absurd (omega (arith, su, z))) ∙ here1;
+      count = length-set r1 u (bit (is_among (set_of T v) (slice_index r1 slot))) ∙ length-set r slot (read2);
+      low = λ j l. get_or-set_other r1 u j (bit (is_among (set_of T v) (slice_index r1 slot))) 0 (λ z. absurd (omega (arith, l, z, su))) ∙ get_or-set_other r slot j (read2) 0 (λ z. absurd (omega (arith, l, z)));
+      between = λ j l m. get_or-set_other r1 u j (bit (is_among (set_of T v) (slice_index r1 slot))) 0 (λ z. absurd (omega (arith, m, z))) ∙ get_or-set_other r slot j (read2) 0 (λ z. absurd (omega (arith, l, z)));
+      here = get_or-set_other r1 u slot (bit (is_among (set_of T v) (slice_index r1 slot))) 0 (λ z. absurd (omega (arith, su, z))) ∙ here1;
       by = λ k leave go next h. first k leave go next h (nat_le (p + w) end) refl;
     }
       where
@@ -174,7 +174,7 @@ module _ (T : Parts) (message places : List ℕ) (calls : Calling) (D t : ℕ) (
         r1 = slice_set r slot (read2)
 
         r2 : List ℕ
-        r2 = slice_set r1 u (bit (in_set.is_among (set_of T v) (slice_index r1 slot)))
+        r2 = slice_set r1 u (bit (is_among (set_of T v) (slice_index r1 slot)))
 
         s1 : State
         s1 = at r1 c (p + w) start end o
@@ -184,7 +184,7 @@ module _ (T : Parts) (message places : List ℕ) (calls : Calling) (D t : ℕ) (
 
         here2 : slice_index r2 u ≡ bit (is_among (values_of sets v) x)
         here2 =
-            get_or-set_same r1 u (bit (in_set.is_among (set_of T v) (slice_index r1 slot))) 0 (omega (arith, ur, length-set r slot (read2)))
+            get_or-set_same r1 u (bit (is_among (set_of T v) (slice_index r1 slot))) 0 (omega (arith, ur, length-set r slot (read2)))
             ∙ ap bit (setted v (slice_index r1 slot)) ∙ ap (λ z. bit (is_among (values_of sets v) z)) here1
 
         zero_bit : (b : Bool) → nat_eq (bit b) 0 ≡ not_of b

@@ -4,6 +4,7 @@ use Rattle.std.specs.Prelude.{◌⊎◌, slice_get, slice_index, nat_eq, nat_le}
 use Rattle.std.proofs.lemmas.Bool.{cases_lt}
 use Rattle.td_num.specs.Numbers.{bytes_in, number_at, places_from}
 use Rattle.td_num.specs.declared.number.NumberType.{NumberType}
+use Rattle.td_num.specs.Lists.{Each, is_among}
 use Rattle.td_core.specs.Term.{Term}
 use Rattle.td_core.specs.declared.module.NameId.{NameId}
 use Rattle.td_core.specs.declared.module.Element.{Element}
@@ -17,10 +18,9 @@ use Rattle.td_core.specs.declared.module.TypeDef.{TypeDef}
 use Rattle.td_core.specs.declared.outcome.Reason.{Reason}
 use Rattle.td_core.specs.declared.outcome.Reason.TheVariants.{NotEnough, Constraint, ListSize}
 use Rattle.td_core.specs.Outcome.{Behavior, FramePlace, Ending, Accepted, Rejected, accepted, rejected, and_then, onward, within, after_reading}
-use Rattle.td_core.specs.WellFormed.{Each}
 use Rattle.td_meaning.specs.Doing.{natural_of, is_true}
 use Rattle.td_meaning.specs.Naming.{is_needed}
-use Rattle.td_meaning.specs.Meaning.{Sense, values, values_of, taken, demanded, is_among, is_nonzero, byte_type, zeros_end, first_where, looked_at, one_more, run_of, numbers_at, zeros_meaning, element_meaning, elements, divides, equals, zero_end, up_to_zero, element_up_to_zero, shape_meaning, refined, parts_meaning, field_number, number_places, extended, field_place, where_place, first_name, fields_meaning, case_for, chosen_meaning, body_meaning, definition_meaning, below, pick, entry_place, meaning}
+use Rattle.td_meaning.specs.Meaning.{Sense, values, values_of, taken, demanded, is_nonzero, byte_type, zeros_end, first_where, looked_at, one_more, run_of, numbers_at, zeros_meaning, element_meaning, elements, divides, equals, zero_end, up_to_zero, element_up_to_zero, shape_meaning, refined, parts_meaning, field_number, number_places, extended, field_place, where_place, first_name, fields_meaning, case_for, chosen_meaning, body_meaning, definition_meaning, below, pick, entry_place, meaning}
 use Rattle.td_meaning.specs.Throughout.{OnEnding}
 use Rattle.td_meaning.specs.Deciding.{SameAt}
 use Rattle.td_meaning.specs.Forward.{IsAt, ReadsGoForward, ReadsAreWithin}

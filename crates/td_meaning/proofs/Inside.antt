@@ -5,6 +5,7 @@ use Rattle.std.proofs.lemmas.Bool.{leb-true}
 use Rattle.std.proofs.Math.Nat.{div-mul-le_self, min-le_right, mul-le-mul_right, le_trans}
 use Rattle.td_num.specs.Numbers.{bytes_in, number_at, places_from}
 use Rattle.td_num.specs.declared.number.NumberType.{NumberType}
+use Rattle.td_num.specs.Lists.{Each, is_among}
 use Rattle.td_core.specs.Term.{Term, Deed}
 use Rattle.td_core.specs.declared.module.NameId.{NameId}
 use Rattle.td_core.specs.declared.module.Element.{Element}
@@ -19,10 +20,9 @@ use Rattle.td_core.specs.declared.module.TypeDef.{TypeDef}
 use Rattle.td_core.specs.declared.outcome.Reason.{Reason}
 use Rattle.td_core.specs.declared.outcome.Reason.TheVariants.{NotEnough, Constraint, Impossible, ListSize, Action as ActionFails}
 use Rattle.td_core.specs.Outcome.{Behavior, FramePlace, Ending, Accepted, Rejected, accepted, rejected, and_then, onward, ending_within, frame_at, within, after_reading}
-use Rattle.td_core.specs.WellFormed.{Each}
 use Rattle.td_meaning.specs.Doing.{Effect, On, Returned, Aborted, doing, natural_of, is_true}
 use Rattle.td_meaning.specs.Naming.{is_needed}
-use Rattle.td_meaning.specs.Meaning.{Sense, values, values_of, taken, demanded, is_among, is_nonzero, byte_type, zeros_end, first_where, looked_at, one_more, run_of, numbers_at, zeros_meaning, element_meaning, elements, divides, equals, zero_end, up_to_zero, element_up_to_zero, shape_meaning, refined, ended, acted, checked, parts_meaning, bits_of, field_number, number_places, extended, field_place, where_place, switch_place, first_name, fields_meaning, case_for, chosen_meaning, body_meaning, definition_meaning, below, pick}
+use Rattle.td_meaning.specs.Meaning.{Sense, values, values_of, taken, demanded, is_nonzero, byte_type, zeros_end, first_where, looked_at, one_more, run_of, numbers_at, zeros_meaning, element_meaning, elements, divides, equals, zero_end, up_to_zero, element_up_to_zero, shape_meaning, refined, ended, acted, checked, parts_meaning, bits_of, field_number, number_places, extended, field_place, where_place, switch_place, first_name, fields_meaning, case_for, chosen_meaning, body_meaning, definition_meaning, below, pick}
 use Rattle.td_meaning.specs.Throughout.{OnEnding}
 use Rattle.td_meaning.proofs.Ending.{on_map, on_within}
 

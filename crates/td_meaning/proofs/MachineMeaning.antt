@@ -24,7 +24,7 @@ use Rattle.td_meaning.specs.Naming.{is_needed}
 use Rattle.td_meaning.specs.Meaning.{Sense, taken, demanded, elements, filled, filled_once, element_up_to_zero, divides, equals, ended, refined, bits_of, field_place, field_number, number_places, first_name, extended, case_for, where_place, pick, entry_place}
 use Rattle.td_meaning.specs.Meaning as whole_of
 use Rattle.td_meaning.specs.Throughout.{Through, OnEnding, OnEffect, OnOption, OnAll, OnDeed, OnAction, OnParts, OnElement, OnElements, OnShape, OnFields, OnChosen, OnBody, OnDefinition, pick_through, through_below, Throughout}
-use Rattle.td_meaning.specs.Machine.{values, is_met, doing, acted, checked, with_part, parts_meaning, element_meaning, shape_meaning, fields_meaning, body_fields, chosen_meaning, definition_meaning, below, meaning}
+use Rattle.td_meaning.specs.Machine.{values, is_met, doing, acted, checked, with_part, parts_meaning, element_meaning, shape_meaning, fields_meaning, body_fields, chosen_meaning, definition_meaning, below}
 use Rattle.td_meaning.proofs.Ending.{on_map, on_within}
 use Rattle.td_meaning.proofs.MachineValues.{natural_is, truth_is}
 
@@ -221,6 +221,11 @@ below_is sets ds (suc n) = record { by = λ j args places cells message p end h.
         ≡ pick v (whole_of.definition_meaning sets (whole_of.below sets ds n) (slice_get ds n)) (whole_of.below sets ds n j) args places cells message p end
     step same j args places cells message p end true h = definition_is sets (below sets ds n) (whole_of.below sets ds n) (through_below Sound sets ds n) same (slice_get ds n) args places cells message p end h
     step same j args places cells message p end false h = same.by j args places cells message p end h
+
+-- the meaning of a message from an entry point, so computed
+abbrev pub meaning : Module → Entry → List ℕ → List ℕ → List ℕ → Behavior
+meaning m entry args cells message =
+    below m.listed m.definitions (length m.definitions) (entry_place (slice_get m.entries entry.number) (length m.definitions)) args (places_from 0 (length cells)) cells message 0 (length message)
 
 pub meaning_is : (m : Module) (entry : Entry) (args cells message : List ℕ) → Throughout Sound m entry args cells message → meaning m entry args cells message ≡ whole_of.meaning m entry args cells message
 meaning_is m entry args cells message h =

@@ -2,6 +2,7 @@
 use Rattle.std.proofs.Common.{◌≡◌, ℕ, zero, suc, Bool, true, false, cond, List, [], ◌∷◌, ◌++◌, length, map, refl, sym, ◌∙◌, Option, Some, None, slice_get, slice_index, nat_eq}
 use Rattle.std.proofs.lemmas.Bool.{true≢false}
 use Rattle.td_num.specs.Numbers.{bytes_in, number_at, places_from}
+use Rattle.td_num.specs.Lists.{is_among}
 use Rattle.td_core.specs.Term.{Term}
 use Rattle.td_core.specs.declared.module.NameId.{NameId}
 use Rattle.td_core.specs.declared.module.Element.{Element}
@@ -17,7 +18,7 @@ use Rattle.td_core.specs.declared.outcome.Reason.TheVariants.{Constraint, ListSi
 use Rattle.td_core.specs.Outcome.{Behavior, FramePlace, Ending, Accepted, Rejected, accepted, and_then, onward, within, after_reading}
 use Rattle.td_meaning.specs.Doing.{natural_of, is_true}
 use Rattle.td_meaning.specs.Naming.{is_needed}
-use Rattle.td_meaning.specs.Meaning.{Sense, values, values_of, taken, demanded, is_among, element_meaning, elements, divides, equals, shape_meaning, refined, acted, checked, parts_meaning, bits_of, field_number, number_places, extended, field_place, where_place, first_name, fields_meaning, case_for, chosen_meaning, body_meaning, definition_meaning, below, pick, entry_place}
+use Rattle.td_meaning.specs.Meaning.{Sense, values, values_of, taken, demanded, element_meaning, elements, divides, equals, shape_meaning, refined, acted, checked, parts_meaning, bits_of, field_number, number_places, extended, field_place, where_place, first_name, fields_meaning, case_for, chosen_meaning, body_meaning, definition_meaning, below, pick, entry_place}
 use Rattle.td_meaning.specs.Throughout.{Through, OnEnding}
 use Rattle.td_meaning.specs.Met.{IfAccepted, MetOption, MetParts, MetElement, MetElements, MetShape, MetFields, MetChosen, MetBody, MetDefinition, either_type, met_below, AcceptedHasMet}
 use Rattle.td_meaning.proofs.Ending.{on_map, on_within, on_demanded}

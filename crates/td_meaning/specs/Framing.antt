@@ -1,5 +1,6 @@
 -- The frames of a rejection (own rule).
 use Rattle.std.specs.Prelude.{◌≡◌, ◌⊎◌, ℕ, List, [], ◌∷◌, Option, Some, None, slice_get}
+use Rattle.td_num.specs.Lists.{Each}
 use Rattle.td_core.specs.Term.{Term}
 use Rattle.td_core.specs.declared.module.NameId.{NameId}
 use Rattle.td_core.specs.declared.module.Field.{Field as FieldDef}
@@ -15,7 +16,7 @@ use Rattle.td_core.specs.declared.outcome.Spot.TheVariants.{Field, Where, Switch
 use Rattle.td_core.specs.declared.outcome.TraceFrame.{TraceFrame}
 use Rattle.td_core.specs.Outcome.{Ending, Accepted, Rejected}
 use Rattle.td_core.specs.Formed.{IsModuleFormed}
-use Rattle.td_core.specs.WellFormed.{Each, IsWhole}
+use Rattle.td_core.specs.WellFormed.{IsWhole}
 use Rattle.td_meaning.specs.Meaning.{meaning}
 
 -- all frames have this reason

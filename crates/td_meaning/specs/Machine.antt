@@ -3,6 +3,7 @@
 use Rattle.std.specs.Prelude.{ℕ, zero, suc, ◌+◌, ◌-◌, ◌*◌, ◌/◌, ◌%◌, ◌^◌, min, Bool, true, false, nat_eq, pos, bit_and, bit_or, bit_xor, List, [], ◌∷◌, ◌++◌, length, map, Option, Some, None, slice_get, slice_index, slice_set}
 use Rattle.td_num.specs.Numbers.{bytes_in, number_at, places_from}
 use Rattle.td_num.specs.declared.number.NumberType.{NumberType}
+use Rattle.td_num.specs.Lists.{is_among}
 use Rattle.td_core.specs.Term.{Term, number, name, complement, negation, compute, compare, both, either, choice, range_okay, Deed, done, set, keep, fork, answer, give_up}
 use Rattle.td_core.specs.Types.{limit, type_of}
 use Rattle.td_core.specs.declared.expressions.Scalar.{Scalar}
@@ -20,14 +21,12 @@ use Rattle.td_core.specs.declared.module.Field.{Field}
 use Rattle.td_core.specs.declared.module.Body.{Body}
 use Rattle.td_core.specs.declared.module.Body.TheVariants.{Struct, Casetype}
 use Rattle.td_core.specs.declared.module.TypeDef.{TypeDef}
-use Rattle.td_core.specs.declared.module.Module.{Module}
-use Rattle.td_core.specs.declared.module.Entry.{Entry}
 use Rattle.td_core.specs.declared.outcome.Reason.TheVariants.{Constraint, Impossible}
 use Rattle.td_core.specs.Outcome.{Behavior, accepted, rejected, after_reading, and_then, within}
 use Rattle.td_expr.specs.Value.{truth_of, chosen, flip, related}
 use Rattle.td_meaning.specs.Doing.{Effect, On, Returned, Aborted, after, either_way}
 use Rattle.td_meaning.specs.Naming.{is_needed}
-use Rattle.td_meaning.specs.Meaning.{Sense, taken, demanded, is_among, values_of, zeros_meaning, element_up_to_zero, filled, filled_once, ended, field_place, field_number, number_places, bits_of, extended, first_name, case_for, where_place, switch_place, pick, nothing, entry_place}
+use Rattle.td_meaning.specs.Meaning.{Sense, taken, demanded, values_of, zeros_meaning, element_up_to_zero, filled, filled_once, ended, field_place, field_number, number_places, bits_of, extended, first_name, case_for, where_place, switch_place, pick, nothing}
 
 -- Expressions
 
@@ -172,7 +171,3 @@ unfoldable pub below : List (List ℕ) → List TypeDef → ℕ → ℕ → Sens
 below sets definitions zero j = nothing
 below sets definitions (suc n) j =
     pick (nat_eq j n) (definition_meaning sets (below sets definitions n) (slice_get definitions n)) (below sets definitions n j)
-
-abbrev pub meaning : Module → Entry → List ℕ → List ℕ → List ℕ → Behavior
-meaning m entry args cells message =
-    below m.listed m.definitions (length m.definitions) (entry_place (slice_get m.entries entry.number) (length m.definitions)) args (places_from 0 (length cells)) cells message 0 (length message)

@@ -1,6 +1,7 @@
 -- What an accepted message has met: each refinement, `where` and enum on its way (own rule), by the meaning's recursion.
 use Rattle.std.specs.Prelude.{◌≡◌, ℕ, zero, suc, Bool, true, false, nat_eq, List, [], ◌∷◌, ◌++◌, length, map, Option, Some, None, slice_get, slice_index}
 use Rattle.td_num.specs.Numbers.{number_at, places_from}
+use Rattle.td_num.specs.Lists.{is_among}
 use Rattle.td_core.specs.Term.{Term}
 use Rattle.td_core.specs.declared.module.NameId.{NameId}
 use Rattle.td_core.specs.declared.module.Element.{Element}
@@ -16,7 +17,7 @@ use Rattle.td_core.specs.declared.module.Module.{Module}
 use Rattle.td_core.specs.declared.module.Entry.{Entry}
 use Rattle.td_core.specs.Outcome.{Behavior, Ending}
 use Rattle.td_meaning.specs.Doing.{natural_of, is_true}
-use Rattle.td_meaning.specs.Meaning.{Sense, values, values_of, is_among, taken, element_meaning, shape_meaning, parts_meaning, field_number, bits_of, extended, case_for, below, entry_place, meaning}
+use Rattle.td_meaning.specs.Meaning.{Sense, values, values_of, taken, element_meaning, shape_meaning, parts_meaning, field_number, bits_of, extended, case_for, below, entry_place, meaning}
 use Rattle.td_meaning.specs.Throughout.{Through, OnEnding}
 
 -- a fact for where it accepts

@@ -1,7 +1,8 @@
 //! The values of enums.
 
 ghost use Rattle.std.specs.Prelude.{◌≡◌};
-ghost use Rattle.td_meaning.specs.Meaning.{is_among, values_of};
+ghost use Rattle.td_num.specs.Lists.{is_among};
+ghost use Rattle.td_meaning.specs.Meaning.{values_of};
 
 use td_num::items::Items;
 

@@ -4,6 +4,7 @@ use Rattle.std.proofs.Math.Nat.{le-max_left}
 use Rattle.std.proofs.lemmas.List.{length-append}
 use Rattle.std.proofs.lemmas.Option.{none-some, same_Some, slice_get-get_or}
 use Rattle.td_num.specs.declared.number.NumberType.{NumberType}
+use Rattle.td_num.specs.Lists.{Each}
 use Rattle.td_core.specs.Term.{Term, Deed, done, set, keep, fork, answer, give_up}
 use Rattle.td_core.specs.declared.expressions.Scalar.TheVariants as scalar
 use Rattle.td_core.specs.declared.module.Element.{Element}
@@ -20,7 +21,7 @@ use Rattle.td_core.specs.declared.module.Body.TheVariants.{Struct, Casetype}
 use Rattle.td_core.specs.declared.module.TypeDef.{TypeDef}
 use Rattle.td_core.specs.declared.kind.Kind.{Kind}
 use Rattle.td_core.specs.Formed.{Bound, IsScoped, IsOptionScoped, IsDeedFormed, IsActionFormed, given, whole, param_bounds, cell_bounds, part_bound, parts_scope, ArePartsFormed, AreArgsFormed, params_at, IsElementFormed, IsExtentFormed, AreFieldsFormed, AreCasesFormed, IsDefaultFormed, IsBodyFormed}
-use Rattle.td_core.specs.WellFormed.{Each, OfSome, EachField, IsSorted, IsDeedSorted, IsElementSorted, IsExtentSorted, IsPartSorted, IsFieldSorted, IsSwitchSorted, IsDefinitionSorted, AreBitsOf, AreParts, AreFieldParts, IsRefinable, IsZeroEnded, IsFieldWhole}
+use Rattle.td_core.specs.WellFormed.{OfSome, EachField, IsSorted, IsDeedSorted, IsElementSorted, IsExtentSorted, IsPartSorted, IsFieldSorted, IsSwitchSorted, IsDefinitionSorted, AreBitsOf, AreParts, AreFieldParts, IsRefinable, IsZeroEnded, IsFieldWhole}
 use Rattle.td_expr.specs.Same.{constant_of}
 use Rattle.td_meaning.specs.Naming.{is_needed}
 use Rattle.td_kinds.specs.KindRules.{field_faults, fields_faults, cases_faults, default_faults, body_faults, definitions_faults, kinds_of, is_empty}

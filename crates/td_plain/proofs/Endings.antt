@@ -16,7 +16,8 @@ use Rattle.td_core.specs.declared.outcome.Verdict.TheVariants.{Accept, Reject}
 use Rattle.td_core.specs.Outcome.{Ending, Accepted, Rejected, Behavior, plain, accepted, rejected, after_reading, onward, and_then, ending_within, within, outcome_of}
 use Rattle.td_meaning.specs.Naming.{is_needed}
 use Rattle.td_meaning.specs.Meaning.{Sense, taken, demanded, elements, field_place, field_number, number_places, first_name, extended, filled, filled_once, divides, equals, entry_place, numbers_at, run_of, first_where, looked_at, is_nonzero, byte_type, zeros_end, zeros_meaning}
-use Rattle.td_meaning.specs.Machine.{below, definition_meaning, fields_meaning, shape_meaning, parts_meaning, meaning}
+use Rattle.td_meaning.specs.Machine.{below, definition_meaning, fields_meaning, shape_meaning, parts_meaning}
+use Rattle.td_meaning.proofs.MachineMeaning.{meaning}
 use Rattle.td_meaning.specs.Verdicts.{ending_of, IsAt}
 use Rattle.td_meaning.proofs.Below.{below_self, below_at, below_past}
 

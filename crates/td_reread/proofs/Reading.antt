@@ -4,6 +4,7 @@ use Rattle.td_ast.specs.declared.token.Token.{Token}
 use Rattle.td_ast.specs.declared.token.TokenKind.{TokenKind}
 use Rattle.td_ast.specs.declared.definitions.ModuleTree.{ModuleTree}
 use Rattle.std.specs.Prelude.{◌⊎◌, ◌↔◌, bytes_eq, true, false, Bool, Result, Ok}
+use Rattle.td_num.specs.Lists.{Each}
 use Rattle.td_lexer.specs.Spellings.{Entry, kind_in, keyword_kind, or_else, definition_words, expression_words, number_types, marked_words, punctuation_of_two, operators, delimiters, single_kind, punctuation_kind}
 use Rattle.td_lexer.specs.declared.error.LexError.{LexError}
 use Rattle.td_lexer.specs.Scanner.{tokens_of}
@@ -14,7 +15,7 @@ use Rattle.td_grammar.specs.Definitions.{module_text}
 use Rattle.td_joined.specs.Pieces.{kinds_of, Piece, Word, Blank, LineEnd}
 use Rattle.td_joined.specs.Joining.{IsSpellable, PiecesAreSplit}
 use Rattle.td_layout.specs.Definitions.{layout, canonical_text}
-use Rattle.td_layout.specs.Laws.{ReadsBack, KeepsLimits, KeepsSpellings, SameText, Each}
+use Rattle.td_layout.specs.Laws.{ReadsBack, KeepsLimits, KeepsSpellings, SameText}
 use Rattle.td_layout.proofs.Tokens.{kinds_in}
 use Rattle.td_grammar.specs.Laws.{OneTree}
 use Rattle.td_layout.specs.Unspanned.{unspanned}

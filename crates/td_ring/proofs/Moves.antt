@@ -1,6 +1,7 @@
 -- Each call keeps the rule of the ring.
 use Rattle.std.specs.Prelude.{Result, Ok, Err, MatchResult, MatchOption}
 use Rattle.std.proofs.Common.{◌≡◌, ◌≢◌, ℕ, List, [], ◌∷◌, ◌++◌, set, Option, None, Some, refl, sym, ap, ◌∙◌, subst, ⊎_elim, append_assoc}
+use Rattle.td_num.specs.Lists.{Each}
 use mathlib.Core.Option.{some}
 use lib.ListN.{get_elem?}
 use Rattle.atomic_table.proofs.Lists.{at_set}
@@ -13,7 +14,6 @@ use Rattle.td_roll.proofs.Gathers.{gathers}
 use Rattle.td_roll.proofs.Moves.{moves, hands}
 use Rattle.td_roll.proofs.Begins.{begins_own}
 use Rattle.td_roll.proofs.Heads.{is_none, are_in_log}
-use Rattle.td_core.specs.WellFormed.{Each}
 use Rattle.td_ring.specs.declared.post.Post.{Post}
 use Rattle.td_ring.specs.declared.view.RingView.{RingView}
 use Rattle.td_roll.specs.Heads.{maybe_of, one_more, new_part, with_ended, with_more}

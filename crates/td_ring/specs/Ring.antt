@@ -1,5 +1,6 @@
 -- The rule of a ring of posts, and what its passes know and tell (own rule).
 use Rattle.std.specs.Prelude.{◌≡◌, ℕ, List, [], ◌++◌, Option, None, Some}
+use Rattle.td_num.specs.Lists.{Each}
 use mathlib.Core.Option as maybe
 use mathlib.Core.Option.{some}
 use lib.ListN.{get_elem?}
@@ -8,7 +9,6 @@ use Rattle.td_roll.specs.declared.parts.Part.{Part}
 use Rattle.td_roll.specs.declared.parts.Head.{Head}
 use Rattle.td_roll.specs.Roll.{Entry, all_entries, part_of, head_of, Roll}
 use Rattle.td_roll.specs.Heads.{maybe_of, one_more, new_part, with_ended, with_more, AreInLog}
-use Rattle.td_core.specs.WellFormed.{Each}
 use Rattle.td_ring.specs.declared.post.Post.{Post}
 use Rattle.td_ring.specs.declared.view.RingView.{RingView}
 

@@ -8,6 +8,7 @@ use Rattle.td_num.specs.Numbers.{bytes_in}
 use Rattle.td_num.specs.declared.number.Width.{Width}
 use Rattle.td_num.specs.declared.number.Width.TheVariants.{One, Two, Four, Eight}
 use Rattle.td_num.specs.declared.number.NumberType.{NumberType}
+use Rattle.td_ast.specs.Extents.{is_array}
 use Rattle.td_ast.specs.declared.token.Span.{Span}
 use Rattle.td_ast.specs.declared.fields.TypeKind.{TypeKind}
 use Rattle.td_ast.specs.declared.fields.TypeKind.TheVariants as type
@@ -48,7 +49,7 @@ use Rattle.td_rules.specs.Sorts.{core_of, option_core}
 use Rattle.td_rules.specs.Types.{same_number, number_found, number_of_kind, args_core, args_cells, fits_params, same_kind, is_kind, fits_cells, applied, found_element, kind_element, element_of}
 use Rattle.td_rules.specs.Extents.{is_width, zero_ended, extent_core, allowed, bit_width}
 use Rattle.td_rules.specs.BitFields.{fits_room, unit_bits, part_of, whole_field, new_unit, more_bits, room_of, grown, closed, gathered}
-use Rattle.td_rules.specs.Fields.{found_base, base_of, is_array, readable_bits, readable_base, readable_of, with_readable, with_field, refinement_core, flat_of, flats_of, fields_core}
+use Rattle.td_rules.specs.Fields.{found_base, base_of, readable_bits, readable_base, readable_of, with_readable, with_field, refinement_core, flat_of, flats_of, fields_core}
 use Rattle.td_rules.proofs.Scopes.{bounds_of, IsScope, level_scope, value_scope, whole_small, whole_pos, wide_enough, limit_pos, core_scoped, option_scoped}
 use Rattle.td_rules.proofs.DeedsFormed.{action_formed}
 

@@ -8,6 +8,8 @@ use Rattle.td_num.specs.Numbers.{bytes_in}
 use Rattle.td_num.specs.declared.number.NumberType.{NumberType}
 use Rattle.td_num.specs.declared.number.ByteOrder.{ByteOrder}
 use Rattle.td_num.specs.declared.number.ByteOrder.TheVariants.{LittleEndian, BigEndian}
+use Rattle.td_num.specs.Lists.{Each}
+use Rattle.td_ast.specs.Extents.{is_array}
 use Rattle.td_ast.specs.Trees.{Tree}
 use Rattle.td_ast.specs.declared.fields.TypeKind.{TypeKind}
 use Rattle.td_ast.specs.declared.fields.TypeKind.TheVariants as type
@@ -29,7 +31,7 @@ use Rattle.td_core.specs.declared.module.Extent.TheVariants.{Once, Filling, Once
 use Rattle.td_core.specs.declared.module.Bits.{Bits}
 use Rattle.td_core.specs.declared.module.Part.{Part}
 use Rattle.td_core.specs.declared.module.TypeDef.{TypeDef}
-use Rattle.td_core.specs.WellFormed.{Each, OfSome, EachField, HasParts, AreBitsOf, AreParts, AreFieldParts, IsRefinable, IsZeroEnded, IsEnumThere, IsFieldWhole}
+use Rattle.td_core.specs.WellFormed.{OfSome, EachField, HasParts, AreBitsOf, AreParts, AreFieldParts, IsRefinable, IsZeroEnded, IsEnumThere, IsFieldWhole}
 use Rattle.td_names.specs.Names.{looked_up, declared}
 use Rattle.td_rules.specs.declared.fields.Readable.{Readable}
 use Rattle.td_rules.specs.declared.fields.FlatField.{FlatField}
@@ -46,7 +48,7 @@ use Rattle.td_rules.specs.Sorts.{core_of, option_core}
 use Rattle.td_rules.specs.Types.{same_number, number_found, number_of_kind, args_core, args_cells, fits_params, fits_cells, applied, found_element, kind_element, element_of}
 use Rattle.td_rules.specs.Extents.{is_width, zero_ended, extent_core, allowed, bit_width}
 use Rattle.td_rules.specs.BitFields.{fits_room, low_bit, unit_bits, part_of, whole_field, unit_field, new_unit, more_bits, bit_field}
-use Rattle.td_rules.specs.Fields.{found_base, base_of, is_array, readable_base, readable_of, with_field, refinement_core, flat_of, flats_of, fields_core}
+use Rattle.td_rules.specs.Fields.{found_base, base_of, readable_base, readable_of, with_field, refinement_core, flat_of, flats_of, fields_core}
 use Rattle.td_rules.specs.Constants.{number_or_zero}
 use Rattle.td_rules.specs.Enums.{next_value, item_value, with_item, items_after, with_enum_name, after_enum}
 use Rattle.td_rules.specs.Aliases.{plain_type, alias_found, alias_meaning, meaning_or_none}

@@ -2,6 +2,8 @@
 use Rattle.std.proofs.Common.{◌≡◌, ◌≢◌, ℕ, Bool, true, false, cond, ◌&&◌, List, [], ◌∷◌, refl, sym, subst, Option, Some, None, nat_le, slice_get}
 use Rattle.td_num.specs.declared.number.NumberType.{NumberType}
 use Rattle.td_num.specs.declared.number.Width.{Width}
+use Rattle.td_num.specs.Lists.{Each}
+use Rattle.td_ast.specs.Extents.{is_array}
 use Rattle.td_ast.specs.Trees.{Tree}
 use Rattle.td_ast.specs.Statements.{Statement, Store, StoreField, Var, If, IfElse, Return, Abort, Statements, End, More, block_of}
 use Rattle.td_ast.specs.declared.token.Span.{Span}
@@ -30,7 +32,7 @@ use Rattle.td_core.specs.Formed.{scalar_of}
 use Rattle.td_core.specs.declared.module.Element.{Element}
 use Rattle.td_core.specs.declared.module.Element.TheVariants as element
 use Rattle.td_core.specs.declared.module.TypeDef.{TypeDef}
-use Rattle.td_core.specs.WellFormed.{Each, OfSome, IsSorted, IsDeedSorted, IsElementSorted, IsExtentSorted, IsPartSorted, IsFieldSorted, IsDefinitionSorted}
+use Rattle.td_core.specs.WellFormed.{OfSome, IsSorted, IsDeedSorted, IsElementSorted, IsExtentSorted, IsPartSorted, IsFieldSorted, IsDefinitionSorted}
 use Rattle.td_rules.specs.declared.actions.Target.{Target}
 use Rattle.td_rules.specs.declared.actions.Target.TheVariants as target
 use Rattle.td_rules.specs.declared.fields.Readable.{Readable}
@@ -54,7 +56,7 @@ use Rattle.td_rules.specs.Actions.{stored_cell, stored_slot, target_breaches, st
 use Rattle.td_rules.specs.Types.{args_breaches, found_breaches, kind_breaches, type_breaches, args_core, args_cells, fits_params, fits_cells, applied, found_element, kind_element, element_of}
 use Rattle.td_rules.specs.Extents.{extent_breaches, zero_ended, extent_core}
 use Rattle.td_rules.specs.BitFields.{part_of}
-use Rattle.td_rules.specs.Fields.{is_array, base_of, readable_bits, readable_base, readable_of, with_readable, with_field, field_name_breaches, refined_breaches, field_breaches, field_taken, fields_breaches, refinement_core, flat_of, flats_of, fields_core}
+use Rattle.td_rules.specs.Fields.{base_of, readable_bits, readable_base, readable_of, with_readable, with_field, field_name_breaches, refined_breaches, field_breaches, field_taken, fields_breaches, refinement_core, flat_of, flats_of, fields_core}
 use Rattle.td_rules.specs.Extents.{bit_width}
 use Rattle.td_rules.specs.Constants.{with_value_number, constant_value}
 use Rattle.td_rules.specs.Enums.{next_value, item_value, with_item, items_after, with_enum_name}

@@ -5,6 +5,7 @@ use Rattle.std.proofs.lemmas.Slice.Eq.{bytes_eq-Decides}
 use Rattle.std.proofs.lemmas.List.Folds.{list_any-append}
 use Rattle.std.proofs.lemmas.Option.{none-some, same_Some}
 use Rattle.std.specs.Str.{bytes_eq}
+use Rattle.td_num.specs.Lists.{Each}
 use Rattle.td_ast.specs.declared.fields.FieldTree.{FieldTree}
 use Rattle.td_ast.specs.declared.parameters.ParamTree.{ParamTree}
 use Rattle.td_ast.specs.declared.parameters.ParamTree.TheVariants as param
@@ -18,7 +19,7 @@ use Rattle.td_ast.specs.declared.definitions.Def.TheVariants.{Define, Enum, Alia
 use Rattle.td_ast.specs.declared.definitions.ModuleTree.{ModuleTree}
 use Rattle.td_core.specs.declared.module.Cell.{Cell}
 use Rattle.td_core.specs.declared.module.Part.{Part}
-use Rattle.td_core.specs.WellFormed.{Each, OfSome, IsNameThere, IsDefinitionNamed}
+use Rattle.td_core.specs.WellFormed.{OfSome, IsNameThere, IsDefinitionNamed}
 use Rattle.td_names.specs.Names.{is_seen, with_name, number_of}
 use Rattle.td_rules.specs.declared.fields.FlatField.{FlatField}
 use Rattle.td_rules.specs.declared.known.CellType.{CellType}

@@ -1,11 +1,10 @@
 -- The rules of fields, and the core fields (3D manual, "Structs", "Constraints").
-use Rattle.std.specs.Prelude.{ℕ, ◌+◌, ◌-◌, ◌^◌, Bool, true, false, cond, ◌||◌, ◌&&◌, List, [], ◌∷◌, ◌++◌, Option, Some, None, is_some, is_none}
+use Rattle.std.specs.Prelude.{ℕ, ◌+◌, ◌-◌, ◌^◌, cond, ◌||◌, ◌&&◌, List, [], ◌∷◌, ◌++◌, Option, Some, None, is_some, is_none}
 use Rattle.td_num.specs.declared.number.NumberType.{NumberType}
 use Rattle.td_num.specs.declared.number.Width.{Width}
+use Rattle.td_ast.specs.Extents.{is_array}
 use Rattle.td_ast.specs.declared.fields.TypeKind.{TypeKind}
 use Rattle.td_ast.specs.declared.fields.TypeKind.TheVariants as type
-use Rattle.td_ast.specs.declared.fields.ExtentTree.{ExtentTree}
-use Rattle.td_ast.specs.declared.fields.ExtentTree.TheVariants.{Bytes, ByteSize, SingleElement, Zeroterm, Bits}
 use Rattle.td_ast.specs.declared.fields.FieldTree.{FieldTree}
 use Rattle.td_core.specs.Term.{Term}
 use Rattle.td_core.specs.Types.{limit}
@@ -51,14 +50,6 @@ base_of k s type.Unit = None
 base_of k s type.AllBytes = None
 base_of k s type.AllZeros = None
 base_of k s (type.Named n args) = found_base (found_in k s n)
-
-abbrev pub is_array : Option ExtentTree → Bool
-is_array None = false
-is_array (Some (Bytes e)) = true
-is_array (Some (ByteSize e)) = true
-is_array (Some (SingleElement e)) = true
-is_array (Some (Zeroterm e)) = true
-is_array (Some (Bits n)) = false
 
 -- any number of this width, or of so many bits of it
 abbrev pub readable_bits : Width → Option ℕ → Readable

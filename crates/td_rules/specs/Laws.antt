@@ -1,9 +1,10 @@
 -- What holds of each module that a tree stands for.
 use Rattle.std.specs.Prelude.{◌≡◌, ℕ, List, length, Some, slice_get, Contains}
+use Rattle.td_num.specs.Lists.{Each}
 use Rattle.td_ast.specs.declared.definitions.ModuleTree.{ModuleTree}
 use Rattle.td_core.specs.declared.module.Module.{Module}
 use Rattle.td_core.specs.Formed.{IsModuleFormed}
-use Rattle.td_core.specs.WellFormed.{Each, EachField, IsWhole, IsFieldWhole, IsDefinitionSorted, IsDefinitionNamed}
+use Rattle.td_core.specs.WellFormed.{EachField, IsWhole, IsFieldWhole, IsDefinitionSorted, IsDefinitionNamed}
 use Rattle.td_rules.specs.Modules.{StandsFor}
 use Rattle.td_rules.specs.Written.{names_written}
 

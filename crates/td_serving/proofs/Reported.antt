@@ -5,6 +5,7 @@ use Rattle.std.proofs.lemmas.Bool.{cases_order}
 use Rattle.std.proofs.lemmas.List.Elements.{All-nil, All-cons, All-head, All-tail, All-append}
 use Rattle.std.proofs.lemmas.List.Sorted.{All-permutation}
 use Rattle.std.proofs.Math.ListN.{get_or-eq_default}
+use Rattle.td_num.specs.Lists.{AreBytes}
 use Rattle.td_core.specs.declared.module.Module.{Module}
 use Rattle.td_core.specs.declared.module.Entry.{Entry}
 use Rattle.td_core.specs.Outcome.{outcome_of}
@@ -24,7 +25,7 @@ use Rattle.td_posts.specs.Posts.{mail, post_name, mails_from, mails_of, all_mail
 use Rattle.td_words.specs.declared.view.SeatView.{SeatView}
 use Rattle.td_words.specs.declared.view.HostView.{HostView}
 use Rattle.td_words.specs.History.{loads}
-use Rattle.td_host.specs.Served.{AreBytes, IsReplyTo, RepliesTo, placed, base_in, pieces, ArePieces, joined, In, Comes, SeatsServed}
+use Rattle.td_host.specs.Served.{IsReplyTo, RepliesTo, placed, base_in, pieces, ArePieces, joined, In, Comes, SeatsServed}
 use Rattle.td_host_job.specs.HostJobs.{IsHostJob}
 use Rattle.td_host_report.specs.Report.{host_report}
 use Rattle.td_host_report.specs.Laws.{IsReportable, HostReportsDetermineReplies}

@@ -5,6 +5,7 @@ use Rattle.std.specs.List.{All}
 use Rattle.std.proofs.lemmas.Bool.{leb-true, eqb-true}
 use Rattle.std.proofs.lemmas.Option.{none-some}
 use Rattle.std.proofs.lemmas.List.Elements.{All-nil, All-cons}
+use Rattle.td_num.specs.Lists.{Each}
 use Rattle.td_ast.specs.declared.token.TokenKind.TheVariants as kinds
 use Rattle.td_core.specs.declared.module.NameId.{NameId}
 use Rattle.td_core.specs.declared.module.Part.{Part}
@@ -18,7 +19,7 @@ use Rattle.td_core.specs.declared.module.Module.{Module}
 use Rattle.td_core.specs.declared.outcome.Spot.{Spot}
 use Rattle.td_core.specs.declared.outcome.Spot.TheVariants.{Field, Where, Switch}
 use Rattle.td_core.specs.declared.outcome.TraceFrame.{TraceFrame}
-use Rattle.td_core.specs.WellFormed.{Each, OfSome, EachField, IsNameThere, IsDefinitionNamed}
+use Rattle.td_core.specs.WellFormed.{OfSome, EachField, IsNameThere, IsDefinitionNamed}
 use Rattle.td_lexer.specs.Bytes.{is_word_byte, every}
 use Rattle.td_lexer.specs.Spellings.{keyword_kind}
 use Rattle.td_lexer.specs.Splits.{IsName}

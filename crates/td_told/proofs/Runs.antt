@@ -1,10 +1,11 @@
 -- What the report of a good job's run tells.
 use Rattle.std.proofs.Common.{◌≡◌, ℕ, zero, suc, ◌<◌, List, [], ◌∷◌, length, Some, refl, subst, arith, slice_get}
+use Rattle.td_num.specs.Lists.{Each}
 use Rattle.td_core.specs.declared.module.Module.{Module}
 use Rattle.td_core.specs.declared.module.TypeDef.{TypeDef}
 use Rattle.td_core.specs.Entries.{entry_definition}
 use Rattle.td_core.specs.Formed.{AllFit, params_at, cells_at}
-use Rattle.td_core.specs.WellFormed.{Each, IsDefinitionNamed}
+use Rattle.td_core.specs.WellFormed.{IsDefinitionNamed}
 use Rattle.td_meaning.specs.Meaning.{meaning}
 use Rattle.td_meaning.specs.Framing.{RejectionsAreFramed, FramesAreNamed}
 use Rattle.td_endings.specs.Endings.{IsEndingWithin, EndingsAreWithin}

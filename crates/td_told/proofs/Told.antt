@@ -6,6 +6,7 @@ use Rattle.std.proofs.lemmas.List.Elements.{All-nil, All-cons, All-head, All-tai
 use Rattle.std.proofs.Math.ListN.{get_or-eq_default}
 use Rattle.td_num.specs.declared.number.Width.{Width}
 use Rattle.td_num.specs.declared.number.Width.TheVariants.{One, Two, Four, Eight}
+use Rattle.td_num.specs.Lists.{Each}
 use Rattle.td_core.specs.declared.module.Module.{Module}
 use Rattle.td_core.specs.declared.module.Entry.{Entry}
 use Rattle.td_core.specs.declared.module.Cell.{Cell}
@@ -18,7 +19,7 @@ use Rattle.td_core.specs.declared.outcome.Outcome.{Outcome}
 use Rattle.td_core.specs.Outcome.{Ending, Accepted, Rejected, outcome_of}
 use Rattle.td_core.specs.Entries.{entry_definition}
 use Rattle.td_core.specs.Formed.{AllFit, cell_bound, cell_bounds}
-use Rattle.td_core.specs.WellFormed.{Each, IsDefinitionNamed}
+use Rattle.td_core.specs.WellFormed.{IsDefinitionNamed}
 use Rattle.td_stream.specs.declared.load.Load.{Load}
 use Rattle.td_stream.specs.Loads.{Inside}
 use Rattle.td_sched.specs.declared.store.PlannedStore.{PlannedStore}

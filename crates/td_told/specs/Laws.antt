@@ -1,6 +1,7 @@
 -- What holds of all that the report of a run prints.
 use Rattle.std.specs.Prelude.{◌≡◌, ℕ, ◌^◌, ◌<◌, ◌≤◌, List, length, slice_index}
 use Rattle.std.specs.List.{All}
+use Rattle.td_num.specs.Lists.{AreBytes}
 use Rattle.td_core.specs.declared.module.Module.{Module}
 use Rattle.td_core.specs.declared.module.Entry.{Entry}
 use Rattle.td_core.specs.declared.outcome.Outcome.{Outcome}
@@ -10,7 +11,6 @@ use Rattle.td_stream.specs.Loads.{Inside}
 use Rattle.td_sched.specs.declared.store.PlannedStore.{PlannedStore}
 use Rattle.td_sched.specs.Plan.{ArePlanned}
 use Rattle.td_meaning.specs.Meaning.{meaning}
-use Rattle.td_arith.specs.Laws.{AreBytes}
 use Rattle.td_front.specs.Checked.{IsChecked}
 use Rattle.td_job.specs.declared.checks.TheConstants.{MOST_BYTES}
 use Rattle.td_job.specs.declared.run_job.RunJob.{RunJob}

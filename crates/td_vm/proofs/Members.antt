@@ -4,7 +4,7 @@ use Rattle.std.specs.Prelude.{nat_eq, slice_index, Ok, Err}
 use Rattle.std.specs.List.Sorted.{IsBinarySearchResult}
 use Rattle.std.proofs.lemmas.List.Sorted.{searched}
 use Rattle.std.proofs.lemmas.Bool.{cases_lt}
-use Rattle.td_ir.specs.Values.{is_among}
+use Rattle.td_num.specs.Lists.{is_among}
 use Rattle.td_ir.specs.WellFormed.{Rises}
 
 is_same : (m n : ℕ) → m ≡ n → nat_eq n m ≡ true

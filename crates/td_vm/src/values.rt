@@ -1,6 +1,7 @@
 //! The numbers that instructions compute.
 
 ghost use Rattle.std.specs.Prelude.{◌≡◌, ◌+◌, ◌≤◌};
+ghost use Rattle.td_num.specs.Lists.{is_among};
 ghost use Rattle.td_ir.specs.Values as values;
 ghost use Rattle.td_ir.specs.WellFormed.{Rises};
 
@@ -96,7 +97,7 @@ pub fn bits(number: u64, low: u8, count: u16) -> u64
 /// Whether a number is in a set.
 pub fn is_member(number: u64, set: &[u64]) -> bool
     requires { Rises set.now }
-    ensures { result ≡ values.is_among set.now number }
+    ensures { result ≡ is_among set.now number }
 {
     match set.binary_search(&number) {
         Ok(_) => true,

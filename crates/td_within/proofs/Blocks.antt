@@ -1,7 +1,7 @@
 -- Blocks whose numbers, beside those that the verifier bounds, have room in an instruction's fields; and so have those of their
 -- code.
 use Rattle.std.proofs.Common.{ℕ, ◌+◌, ◌^◌, ◌<◌, ◌∷◌, Bool, true, false, arith}
-use Rattle.td_core.specs.WellFormed.{Each}
+use Rattle.td_num.specs.Lists.{Each}
 use Rattle.td_ir.specs.declared.instructions.Instr.{Instr}
 use Rattle.td_ir.specs.declared.instructions.Instr.TheVariants as i
 use Rattle.td_blocks.specs.Block.{Block, Done, Then, Stop, Leave, Guard, Scope, Window, Loop, size, guard, code}

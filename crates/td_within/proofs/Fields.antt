@@ -1,9 +1,10 @@
 -- The blocks of a definition: numbers beside those that the verifier bounds have room in the fields of instructions.
 use Rattle.std.proofs.Common.{ℕ, zero, suc, ◌+◌, ◌^◌, ◌<◌, List, [], ◌∷◌, ◌++◌, Bool, true, false, cond, nat_lt, length, Option, Some, None, slice_get, arith}
+use Rattle.td_num.specs.Lists.{Each}
 use Rattle.td_core.specs.declared.expressions.Scalar.TheVariants as scalar
 use Rattle.td_core.specs.Term.{Term, Deed}
 use Rattle.td_core.specs.Formed.{Bound, whole, part_bound, parts_scope, param_bounds, cell_bounds, params_at, IsScoped, IsOptionScoped, IsActionFormed, ArePartsFormed, IsElementFormed, IsExtentFormed, AreFieldsFormed, AreCasesFormed, IsDefaultFormed, IsBodyFormed, IsDefinitionFormed}
-use Rattle.td_core.specs.WellFormed.{Each, OfSome, EachField}
+use Rattle.td_core.specs.WellFormed.{OfSome, EachField}
 use Rattle.td_core.specs.declared.module.Element.{Element}
 use Rattle.td_core.specs.declared.module.Element.TheVariants.{Number as NumberElement, Listed as ListedElement, Named as NamedElement, Unit as UnitElement, Rest, Zeros}
 use Rattle.td_core.specs.declared.module.Extent.{Extent}

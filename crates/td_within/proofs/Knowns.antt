@@ -2,6 +2,7 @@
 use Rattle.std.proofs.Common.{◌≡◌, ℕ, suc, ◌+◌, ◌≤◌, Bool, true, false, List, [], ◌∷◌, ◌++◌, length, refl, sym, ap, subst, arith, Option, Some, None, length-append}
 use Rattle.std.proofs.lemmas.Bool.{leb-false}
 use Rattle.td_num.specs.declared.number.NumberType.{NumberType}
+use Rattle.td_num.specs.Lists.{Each}
 use Rattle.td_ast.specs.declared.names.ConstTree.{ConstTree}
 use Rattle.td_ast.specs.declared.definitions.ItemTree.{ItemTree}
 use Rattle.td_ast.specs.declared.definitions.EnumTree.{EnumTree}
@@ -14,7 +15,7 @@ use Rattle.td_core.specs.declared.expressions.Scalar.{Scalar}
 use Rattle.td_core.specs.Types.{limit}
 use Rattle.td_core.specs.Formed.{scalar_of}
 use Rattle.td_core.specs.Weights.{total}
-use Rattle.td_core.specs.WellFormed.{Each, EachField}
+use Rattle.td_core.specs.WellFormed.{EachField}
 use Rattle.td_core.specs.declared.module.TypeDef.{TypeDef}
 use Rattle.td_kinds.specs.Kinds.{body_kind}
 use Rattle.td_limits.specs.Nodes.{definition_nodes}

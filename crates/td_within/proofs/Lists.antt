@@ -1,6 +1,6 @@
 -- What holds of each element of lists.
 use Rattle.std.proofs.Common.{◌≡◌, ◌⊎◌, inl, inr, ℕ, zero, suc, ◌<◌, List, [], ◌∷◌, ◌++◌, length, Some, slice_get, slice_index_or, refl, ap, subst, arith}
-use Rattle.td_core.specs.WellFormed.{Each}
+use Rattle.td_num.specs.Lists.{Each}
 
 pub each_append : {A : Type 0} (P : A → Type 0) (xs ys : List A) → Each P xs → Each P ys → Each P (xs ++ ys)
 each_append P [] ys h g = g

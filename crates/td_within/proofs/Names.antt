@@ -1,6 +1,7 @@
 -- The names of a module are no more than the nodes of its text, and no longer than the text.
 use Rattle.std.proofs.Common.{◌≡◌, ℕ, zero, suc, ◌+◌, ◌≤◌, Bool, true, false, if◌then◌else◌, cond, nat_lt, List, [], ◌∷◌, ◌++◌, length, Contains, Option, Some, None, refl, subst, arith, length-append}
 use Rattle.std.proofs.lemmas.Bool.{ltb-false}
+use Rattle.td_num.specs.Lists.{Each}
 use Rattle.td_ast.specs.declared.token.Span.{Span}
 use Rattle.td_ast.specs.declared.token.Token.{Token}
 use Rattle.td_ast.specs.declared.fields.FieldTree.{FieldTree}
@@ -19,7 +20,6 @@ use Rattle.td_limits.specs.Excesses.{above, first_excess, definition_name}
 use Rattle.td_limits.specs.Nodes.{inner_nodes, fields_nodes, default_nodes, cases_nodes, definition_nodes}
 use Rattle.td_limits.specs.Counts.{most_fields, count_cases, count_params, definition_counts, count_excesses, counts_passed}
 use Rattle.td_core.specs.declared.module.Module.{Module}
-use Rattle.td_core.specs.WellFormed.{Each}
 use Rattle.td_names.specs.Names.{is_seen, with_name}
 use Rattle.td_rules.specs.Records.{with_slots}
 use Rattle.td_rules.specs.Modules.{StandsFor, param_name, see_params, see_fields, see_cases, see_default, see_definition, all_names, names_of}

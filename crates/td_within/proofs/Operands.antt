@@ -1,7 +1,7 @@
 -- The numbers of an instruction that keeps the verifier's rules have room in the fields of an image.
 use Rattle.std.proofs.Common.{◌≡◌, inl, inr, ℕ, zero, suc, ◌^◌, ◌<◌, ◌≤◌, Bool, true, false, List, length, nat_lt, refl, arith, slice_index_or}
 use Rattle.std.proofs.lemmas.Bool.{ltb-true, ltb-false}
-use Rattle.td_core.specs.WellFormed.{Each}
+use Rattle.td_num.specs.Lists.{Each}
 use Rattle.td_ir.specs.declared.instructions.Instr.{Instr}
 use Rattle.td_ir.specs.declared.instructions.Instr.TheVariants as i
 use Rattle.td_ir.specs.declared.tables.Parts.{Parts}

@@ -1,10 +1,9 @@
 -- A set has no more numbers than the values of its enum, and they are among these.
 use Rattle.std.proofs.Common.{◌≡◌, ℕ, suc, ◌+◌, ◌<◌, ◌≤◌, Bool, true, false, cond, ◌||◌, nat_eq, List, [], ◌∷◌, length, refl, sym, subst, ap, ◌∙◌, arith, slice_index_or}
 use Rattle.std.proofs.lemmas.Bool.Decides.{nat_tests}
+use Rattle.td_num.specs.Lists.{Each, is_among}
 use Rattle.td_core.specs.Weights.{total}
-use Rattle.td_core.specs.WellFormed.{Each}
 use Rattle.td_ir.specs.WellFormed.{Rises}
-use Rattle.td_ir.specs.Values.{is_among}
 use Rattle.td_lower.specs.Sets.{IsSetOf, AreSetsOf}
 use Rattle.td_image.specs.Within.{total as all_numbers}
 

@@ -1,8 +1,9 @@
 -- The block of a definition has no more instructions than sixteen times its nodes.
 use Rattle.std.proofs.Common.{◌≡◌, ℕ, zero, suc, ◌+◌, ◌*◌, ◌^◌, ◌≤◌, List, [], ◌∷◌, Bool, true, false, cond, nat_lt, length, Option, Some, None, refl, arith}
 use Rattle.td_num.specs.Numbers.{bytes_in}
+use Rattle.td_num.specs.Lists.{Each}
 use Rattle.td_core.specs.Term.{Term, measure, Deed}
-use Rattle.td_core.specs.WellFormed.{Each, OfSome, EachField, HasParts}
+use Rattle.td_core.specs.WellFormed.{OfSome, EachField, HasParts}
 use Rattle.td_core.specs.Weights.{option_nodes, action_nodes, element_nodes, extent_nodes, part_nodes, total, fields_nodes, default_nodes, cases_nodes as module_cases_nodes, body_nodes, head_nodes}
 use Rattle.td_core.specs.declared.module.Element.{Element}
 use Rattle.td_core.specs.declared.module.Element.TheVariants.{Number as NumberElement, Listed as ListedElement, Named as NamedElement, Unit as UnitElement, Rest, Zeros}

@@ -1,6 +1,7 @@
 -- The tables of a module's code are no longer than an image's.
 use Rattle.std.proofs.Common.{◌≡◌, ℕ, zero, suc, ◌+◌, ◌*◌, ◌^◌, ◌<◌, ◌≤◌, List, [], ◌∷◌, length, Option, Some, None, slice_get, refl, sym, ap, subst, arith, length-append}
 use Rattle.std.proofs.lemmas.List.{length-map}
+use Rattle.td_num.specs.Lists.{Each}
 use Rattle.td_core.specs.declared.module.Element.{Element}
 use Rattle.td_core.specs.declared.module.Element.TheVariants.{Number, Listed, Named, Unit as UnitElement, Rest, Zeros}
 use Rattle.td_core.specs.declared.module.Part.{Part}
@@ -11,7 +12,7 @@ use Rattle.td_core.specs.declared.module.Body.TheVariants.{Struct, Casetype}
 use Rattle.td_core.specs.declared.module.TypeDef.{TypeDef}
 use Rattle.td_core.specs.Formed.{Bound, cell_bound, cell_bounds, param_bounds, parts_scope, cells_at, AreCellsFormed, IsElementFormed, AreFieldsFormed, AreCasesFormed, IsDefaultFormed, IsBodyFormed, IsDefinitionFormed}
 use Rattle.td_core.specs.Weights.{head_nodes, body_nodes, definitions_nodes}
-use Rattle.td_core.specs.WellFormed.{Each, DefinitionWithin, HasParts, EachField}
+use Rattle.td_core.specs.WellFormed.{DefinitionWithin, HasParts, EachField}
 use Rattle.td_blocks.specs.Block.{size, code}
 use Rattle.td_blocks.specs.Lowered.{definition_block, block_of, first_site}
 use Rattle.td_emit.proofs.Writing.{code_size}

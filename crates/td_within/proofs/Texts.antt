@@ -1,7 +1,7 @@
 -- The module of a text is small.
 use Rattle.std.proofs.Common.{◌≡◌, ◌^◌, ◌<◌, ◌≤◌, [], length, refl, sym, subst, arith}
+use Rattle.td_num.specs.Lists.{Each}
 use Rattle.td_ast.specs.declared.definitions.ModuleTree.{ModuleTree}
-use Rattle.td_core.specs.WellFormed.{Each}
 use Rattle.td_rules.specs.Modules.{breaches, module_of}
 use Rattle.td_rules.specs.Laws.{NamesAreWritten}
 use Rattle.td_admitted.specs.Laws.{HasLimits}

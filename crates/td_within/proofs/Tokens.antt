@@ -2,6 +2,7 @@
 use Rattle.std.proofs.Common.{◌≡◌, ℕ, ◌≤◌, Bool, true, false, ◌&&◌, List, [], ◌∷◌, length, Option, Some, None, refl, subst, arith, bytes_eq, length-append}
 use Rattle.std.specs.Prelude.{if◌then◌else◌}
 use Rattle.std.proofs.lemmas.Bool.{and_parts}
+use Rattle.td_num.specs.Lists.{Each}
 use Rattle.td_ast.specs.declared.token.Token.{Token}
 use Rattle.td_ast.specs.declared.token.TokenKind.{TokenKind}
 use Rattle.td_ast.specs.declared.token.TokenKind.TheVariants.{Name}
@@ -9,7 +10,6 @@ use Rattle.td_lexer.specs.Spellings.{Entry, kind_in, or_else, keyword_kind, defi
 use Rattle.td_lexer.specs.Splits.{Begins, SplitsUpTo, Splits}
 use Rattle.td_lexer.specs.Splits.Begins.{keyword_begins, name_begins, number_begins, marked_begins, punctuation_begins}
 use Rattle.td_lexer.specs.Splits.SplitsUpTo.{splits_here, splits_passed, splits_token}
-use Rattle.td_core.specs.WellFormed.{Each}
 use Rattle.td_admitted.proofs.Tokens.{OfKind, OfToken}
 
 -- ---- what is spelled by a table is no name

@@ -1,6 +1,7 @@
 -- Expressions and actions in blocks: their numbers are of 64 bits, and they have no more instructions than five times their
 -- nodes.
 use Rattle.std.proofs.Common.{◌≡◌, ℕ, suc, ◌+◌, ◌-◌, ◌*◌, ◌^◌, ◌<◌, ◌≤◌, List, [], ◌∷◌, true, false, refl, arith, slice_get}
+use Rattle.td_num.specs.Lists.{Each}
 use Rattle.td_core.specs.declared.expressions.Scalar.{Scalar}
 use Rattle.td_core.specs.declared.expressions.Scalar.TheVariants.{Truth, Eight, Sixteen, ThirtyTwo, SixtyFour}
 use Rattle.td_core.specs.declared.expressions.Binary.{Binary as Operator}
@@ -11,7 +12,6 @@ use Rattle.td_core.specs.Term.{Term, number, name, complement, negation, compute
 use Rattle.td_core.specs.Types.{limit, type_of}
 use Rattle.td_core.specs.Formed.{Bound, given, IsScoped, IsDeedFormed, AreArgsFormed}
 use Rattle.td_core.specs.Weights.{terms_nodes, deed_nodes}
-use Rattle.td_core.specs.WellFormed.{Each}
 use Rattle.td_ir.specs.declared.instructions.Instr.TheVariants as i
 use Rattle.td_blocks.specs.Block.{Block, Done, Then, Stop, Leave, Guard, Scope, size}
 use Rattle.td_blocks.specs.Constructs.{Expr, Lit, Slot, Binary, Not, Complement, ShiftLeft, Both, Either, Choice, Range, value, values, Action, Finish, Assign, Read, If, Return, Abort, acts}

@@ -5,11 +5,11 @@ use Rattle.std.proofs.lemmas.Bool.{leb-true, and_parts}
 use Rattle.std.proofs.lemmas.Bool.Decides.{Decides-eqb}
 use Rattle.std.proofs.lemmas.List.Sums.{take_while-cons}
 use Rattle.std.proofs.lemmas.Option.{none-some}
+use Rattle.td_num.specs.Lists.{Each}
 use Rattle.td_ast.specs.declared.token.TokenKind.TheVariants as kinds
 use Rattle.td_lexer.specs.Bytes.{is_letter, is_digit, is_word_byte, every, first_is}
 use Rattle.td_lexer.specs.Spellings.{keyword_kind}
 use Rattle.td_lexer.specs.Splits.{IsName}
-use Rattle.td_core.specs.WellFormed.{Each}
 use Rattle.td_image.specs.Format.{AreBytes}
 use Rattle.td_image.specs.Names as names
 use Rattle.td_image.specs.Within.{IsSpelled, AreApart}

@@ -1,6 +1,7 @@
 -- How large the module of a text is (own rule): what its code needs to be within the format of images, beside what holds of
 -- each checked module.
 use Rattle.std.specs.Prelude.{ℕ, ◌^◌, ◌<◌, ◌≤◌, length}
+use Rattle.td_num.specs.Lists.{Each}
 use Rattle.td_core.specs.declared.module.Extent.{Extent}
 use Rattle.td_core.specs.declared.module.Extent.TheVariants.{Once, Filling, OnceFilling, UpToZero}
 use Rattle.td_core.specs.declared.module.Field.{Field}
@@ -9,7 +10,7 @@ use Rattle.td_core.specs.declared.module.Body.TheVariants.{Struct, Casetype}
 use Rattle.td_core.specs.declared.module.Module.{Module}
 use Rattle.td_core.specs.declared.limits.TheConstants.{MOST_DEFINITIONS, MOST_NODES}
 use Rattle.td_core.specs.Weights.{total}
-use Rattle.td_core.specs.WellFormed.{Each, OfSome, EachField}
+use Rattle.td_core.specs.WellFormed.{OfSome, EachField}
 
 abbrev pub IsWord : ℕ → Type 0
 IsWord n = n < 2 ^ 64

@@ -6,6 +6,7 @@ use Rattle.std.proofs.lemmas.Result.{err_from_is_err_and}
 use Rattle.std.proofs.lemmas.List.{drop_more, drop_all}
 use Rattle.td_num.specs.Numbers.{bytes_in, number_at}
 use Rattle.td_num.specs.declared.number.NumberType.{NumberType}
+use Rattle.td_num.specs.Lists.{is_among}
 use Rattle.td_core.specs.declared.module.Element.{Element}
 use Rattle.td_core.specs.declared.module.Element.TheVariants as element
 use Rattle.td_core.specs.declared.module.Extent.{Extent}
@@ -15,7 +16,7 @@ use Rattle.td_core.specs.declared.outcome.Reason.TheVariants.{NotEnough, Impossi
 use Rattle.td_core.specs.declared.outcome.Verdict.{Verdict}
 use Rattle.td_core.specs.declared.outcome.Verdict.TheVariants.{Accept}
 use Rattle.td_core.specs.Outcome.{Ending, Behavior, Rejected, plain, and_then, within, ending_within, accepted, rejected}
-use Rattle.td_meaning.specs.Meaning.{Sense, is_among, elements, filled, filled_once, demanded, values_of as values_in, field_place, first_name, divides, equals, zeros_meaning}
+use Rattle.td_meaning.specs.Meaning.{Sense, elements, filled, filled_once, demanded, values_of as values_in, field_place, first_name, divides, equals, zeros_meaning}
 use Rattle.td_meaning.specs.Machine.{values, below, listed_meaning, definition_meaning, fields_meaning, shape_meaning, element_meaning, chosen_meaning, body_fields}
 use Rattle.td_meaning.specs.Verdicts.{ending_of, IsAt, frame_place}
 use Rattle.td_meaning.proofs.Below.{below_past}

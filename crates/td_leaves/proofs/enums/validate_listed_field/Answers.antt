@@ -2,10 +2,11 @@ use Rattle.std.proofs.Common.{rules, ◌≡◌, ℕ, ◌+◌, ◌-◌, ◌<◌, 
 use Rattle.std.specs.Prelude.{◌⊎◌}
 use Rattle.std.proofs.lemmas.Result.{err_from_is_err_and}
 use Rattle.td_num.specs.Numbers.{bytes_in, number_at, places_from}
+use Rattle.td_num.specs.Lists.{is_among}
 use Rattle.td_core.specs.declared.module.Field.{Field}
 use Rattle.td_core.specs.declared.outcome.Spot.TheVariants.{Field as FieldSpot}
 use Rattle.td_core.specs.Outcome.{Ending, Behavior, ending_within, plain, and_then, within}
-use Rattle.td_meaning.specs.Meaning.{field_place, first_name, is_among, values_of}
+use Rattle.td_meaning.specs.Meaning.{field_place, first_name, values_of}
 use Rattle.td_meaning.specs.Machine.{listed_meaning}
 use Rattle.td_meaning.specs.Verdicts.{ending_of, frame_place}
 use Rattle.td_leaves.specs.Step.{Step, rest_meaning}

@@ -1,5 +1,5 @@
 use Rattle.std.proofs.Common.{◌≡◌, drop}
-use Rattle.td_meaning.specs.Meaning.{is_among}
+use Rattle.td_num.specs.Lists.{is_among}
 use Rattle.td_meaning.proofs.enums.is_among.Given as goal
 
 abbrev pub invariant-loop-value : goal.invariant-loop-value

@@ -1,6 +1,7 @@
 use Rattle.std.proofs.Common.{◌≡◌, ◌+◌, [], slice_index, sym, ap, ◌∙◌, arith}
+use Rattle.td_num.specs.Lists.{is_among}
 use Rattle.td_ir.specs.State.{with_reg}
-use Rattle.td_ir.specs.Values.{bit, is_among}
+use Rattle.td_ir.specs.Values.{bit}
 use Rattle.td_ir.specs.Flow.{Goes, Fails, plain, effect}
 use Rattle.td_stream.specs.StreamInvariant.{position, end_of}
 use Rattle.td_vm.specs.Stepping.{state_of}
