@@ -1,8 +1,8 @@
 -- What a sink holds after several writes, and a source after several reads.
-use Rattle.std.proofs.Common.{◌≡◌, ℕ, ◌+◌, ◌≤◌, List, ◌++◌, length, take, drop, Option, Some, None, sym, ap, ◌∙◌, append_assoc, arith, length-append, length-take}
+use Rattle.std.proofs.Common.{◌≡◌, ℕ, ◌+◌, ◌<◌, ◌≤◌, List, ◌++◌, length, take, drop, Option, Some, None, sym, ap, ◌∙◌, append_assoc, arith, length-append, length-take}
 use Rattle.std.proofs.Math.Seq.{take-add}
 use Rattle.std.specs.Io.KnownBytes.{Appends, Consumes}
-use Rattle.td_io.specs.Causes.{TookAtMost}
+use Rattle.td_io.specs.Causes.{TookAtMost, TookSome}
 
 pub appends_more : (a b c : Option (List ℕ)) (text : List ℕ) (n m : ℕ) (rest : List ℕ) → rest ≡ drop n text → Appends a b (take n text) → Appends b c (take m rest) → Appends a c (take (n + m) text)
 appends_more None b c text n m rest e p q = tt
@@ -21,5 +21,14 @@ pub taken_more : (a b c : Option (List ℕ)) (bytes piece : List ℕ) (n most : 
 taken_more a b c bytes piece n most before more fits = (
   bytes ++ take n piece,
   consumes_more a b c bytes (take n piece) before more,
+  omega (arith, length-append bytes (take n piece), length-take n piece),
+)
+
+-- after the bytes more were taken, at least one
+pub taken_some : (a b c : Option (List ℕ)) (bytes piece : List ℕ) (n most : ℕ) → Consumes a b bytes → Consumes b c (take n piece) → 0 < n → n ≤ length piece → length bytes + n ≤ most → TookSome a c most
+taken_some a b c bytes piece n most before more some within fits = (
+  bytes ++ take n piece,
+  consumes_more a b c bytes (take n piece) before more,
+  omega (arith, length-append bytes (take n piece), length-take n piece),
   omega (arith, length-append bytes (take n piece), length-take n piece),
 )

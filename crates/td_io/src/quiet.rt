@@ -1,7 +1,10 @@
 //! A source and a sink that never fail.
 
 ghost use Rattle.std.specs.Prelude.{◌≡◌, Ok, Some, None, length};
-ghost use Rattle.td_io.specs.Faults.{none_yet};
+ghost use Rattle.std.specs.Io.{ReadsAtMost};
+ghost use Rattle.std.specs.Io.KnownBytes.{ReadConsumes};
+ghost use Rattle.td_io.specs.Faults.{HasCause, none_yet};
+ghost use Rattle.td_io.specs.Quiet.{HandsOver};
 
 use crate::slices::{copy_prefix, rest_at};
 use crate::traits::{Failed, Sink, Source};
@@ -37,7 +40,12 @@ impl Source for QuietSource {
     ghost state = { λ s. record { left = Some s; faults = none_yet } };
 
     /// Reads as many bytes as are left and fit. Takes no memory.
-    fn read(&mut self, buf: &mut [u8]) -> Result<usize, Failed> {
+    fn read(&mut self, buf: &mut [u8]) -> Result<usize, Failed>
+        ensures next { HandsOver self.old self.new buf.old buf.new result }
+        ensures bound { ReadsAtMost result buf.new }
+        ensures bytes { ReadConsumes (Some self.old) (Some self.new) result buf.new }
+        ensures cause { HasCause none_yet none_yet result }
+    {
         let n = copy_prefix(rest_at(&self.bytes, self.at), buf);
         self.at += n;
         Ok(n)

@@ -2,8 +2,8 @@
 
 ghost use Rattle.std.specs.Prelude.{◌≤◌, ◌+◌, length, IfOk, OnOk, IsErrOf};
 ghost use Rattle.std.specs.Io.KnownBytes.{IsAtEnd};
-ghost use Rattle.td_io.specs.Causes.{HasMore, ReadWhole, TookAtMost};
-ghost use Rattle.td_io.specs.States.{ReadFails, NoReadFails};
+ghost use Rattle.td_io.specs.Causes.{HasMore, ReadWhole, TookAtMost, TookSome};
+ghost use Rattle.td_io.specs.States.{ReadFails, ReadWorks, NoReadFails};
 
 use crate::traits::Source;
 use std::alloc::Global;
@@ -29,9 +29,11 @@ pub enum ReadError {
 /// Reads a source to its end, at most `limit` bytes. It stops as soon as one byte past the limit was read, so it also
 /// ends over a source that never does, and takes at most [`PIECE`] bytes more than the limit.
 ///
-/// `Fault`: a read failed, and nothing was read after it; at each other end the source's count of faults is as before.
+/// `Fault`: a read failed, and nothing was read after it; at each other end the latest read worked, and the source's count of
+/// faults is as before.
 /// `TooLong`: the source has more bytes than the limit; that is told whether there is memory or not, so at each other end
-/// at most `limit` bytes were taken. `NoMemory`: there was no memory for the bytes.
+/// at most `limit` bytes were taken. `NoMemory`: there was no memory for bytes that were read, so at least one was; a source
+/// that has none needs no memory.
 pub fn read_whole<S: Source>(alloc: Global, src: &mut S, limit: usize) -> Result<Vec<u8>, ReadError>
     ensures whole { IfOk result (λ bytes. ReadWhole (S.state src.old).left bytes.items) }
     ensures end { OnOk result (IsAtEnd (S.state src.new).left) }
@@ -39,6 +41,8 @@ pub fn read_whole<S: Source>(alloc: Global, src: &mut S, limit: usize) -> Result
     ensures long { IsErrOf result ReadError.TooLong → HasMore (S.state src.old).left limit }
     ensures fault { IsErrOf result ReadError.Fault → ReadFails (S.state src.old) (S.state src.new) }
     ensures quiet { (IsErrOf result ReadError.Fault → ⊥) → NoReadFails (S.state src.old) (S.state src.new) }
+    ensures worked { (IsErrOf result ReadError.Fault → ⊥) → ReadWorks (S.state src.old) (S.state src.new) }
+    ensures memory { IsErrOf result ReadError.NoMemory → TookSome (S.state src.old).left (S.state src.new).left limit }
     ensures taken { TookAtMost (S.state src.old).left (S.state src.new).left (limit + PIECE) }
     ensures within { (IsErrOf result ReadError.TooLong → ⊥) → TookAtMost (S.state src.old).left (S.state src.new).left limit }
 {

@@ -17,10 +17,11 @@ impl From<Failed> for WriteFault {
     }
 }
 
-/// Writes all of a text, by as many writes as it takes. Takes no memory.
+/// Writes all of a text, by as many writes as it takes: for an empty text by none, so nothing fails and the sink's state is
+/// as before. Takes no memory.
 ///
-/// `WriteFault`: a write failed. What went out is a prefix of the text, and nothing was written after the write that
-/// failed.
+/// `WriteFault`: a write failed. What went out is a prefix of the text, and not all of it, and nothing was written after the
+/// write that failed.
 pub fn write_all<O: Sink>(out: &mut O, text: &[u8]) -> Result<(), WriteFault>
     ensures { Writes (O.state out.old) (O.state out.new) text.now result }
 {

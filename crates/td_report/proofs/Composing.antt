@@ -1,5 +1,5 @@
 -- Texts that are written one after the other.
-use Rattle.std.proofs.Common.{◌≡◌, ℕ, ◌+◌, ◌<◌, List, [], ◌++◌, length, take, drop, get_or, Option, Some, None, Result, Ok, Err, IsErr, sym, ap, subst, ◌∙◌, append_assoc}
+use Rattle.std.proofs.Common.{◌≡◌, ℕ, ◌+◌, ◌<◌, List, [], ◌∷◌, ◌++◌, length, take, drop, get_or, Option, Some, None, Result, Ok, Err, IsErr, refl, sym, ap, subst, ◌∙◌, append_assoc, arith, length-append, length-take}
 use Rattle.std.proofs.Math.Seq.{take-append-add, take-append_seam}
 use Rattle.std.proofs.lemmas.List.{take-append-drop}
 use Rattle.std.proofs.lemmas.Grind.{flat_map-append}
@@ -18,14 +18,22 @@ appends_both (Some xs) (Some ys) (Some zs) first second p q = q ∙ ap (λ (l : 
 
 starts_later : (a b c : Option (List ℕ)) (first second : List ℕ) → Appends a b first → StartsWritten b c second → StartsWritten a c (first ++ second)
 starts_later a b c first second p q =
-    (length first + q.0, subst (λ (l : List ℕ). Appends a c l) (sym (take-append-add first second q.0)) (appends_both a b c first (take q.0 second) p q.1))
+    (length first + q.0, omega (arith, q.1, length-append first second), subst (λ (l : List ℕ). Appends a c l) (sym (take-append-add first second q.0)) (appends_both a b c first (take q.0 second) p q.2))
 
 starts_longer : (a b : Option (List ℕ)) (first second : List ℕ) → StartsWritten a b first → StartsWritten a b (first ++ second)
 starts_longer a b first second q =
     let prefix : List ℕ = take q.0 first in
     let split : first ++ second ≡ prefix ++ (drop q.0 first ++ second) = ap (λ (l : List ℕ). l ++ second) (sym (take-append-drop q.0 first)) ∙ append_assoc prefix (drop q.0 first) second in
     let same : take (length prefix) (first ++ second) ≡ prefix = ap (λ (l : List ℕ). take (length prefix) l) split ∙ take-append_seam prefix (drop q.0 first ++ second) in
-    (length prefix, subst (λ (l : List ℕ). Appends a b l) (sym same) q.1)
+    (length prefix, omega (arith, q.1, length-append first second, length-take q.0 first), subst (λ (l : List ℕ). Appends a b l) (sym same) q.2)
+
+first_empty : (first second : List ℕ) → first ++ second ≡ [] → first ≡ []
+first_empty [] second e = refl
+first_empty (x ∷ xs) second e = absurd (omega (arith, ap length e, length-append (x ∷ xs) second))
+
+second_empty : (first second : List ℕ) → first ++ second ≡ [] → second ≡ []
+second_empty [] second e = e
+second_empty (x ∷ xs) second e = absurd (omega (arith, ap length e, length-append (x ∷ xs) second))
 
 -- a text was written, and then another one was, or wasn't
 pub writes_both : {T U E F : Type 0} {a b c : SinkState} {first second : List ℕ} {u : U} {r : Result T E} → Writes {T = U} {E = F} a b first (Ok u) → Writes b c second r → Writes a c (first ++ second) r
@@ -33,6 +41,7 @@ writes_both {a = a} {b = b} {c = c} {first = first} {second = second} {r = Ok v}
   done = record {
     written = appends_both a.written b.written c.written first second p.done.written q.done.written;
     faults = q.done.faults ∙ p.done.faults;
+    nothing = λ none. q.done.nothing (second_empty first second none) ∙ p.done.nothing (first_empty first second none);
   };
   failed = tt;
 }
