@@ -1,17 +1,12 @@
-"""Code in Python: a plain reading of docs/language/code.md, and how code and its runs are spelled for crates/td_machine.
+"""Code in Python: a plain reading of docs/language/code.md, and how code and its runs are given to crates/td_code_try.
 
-An instruction is a tuple of its name and its operands, in the order of the page's table. What is spelled is numbers in
-decimal, parted by blanks: for each code either 0 and its tables in the order names, sites, cell maps, sets, routines, entry
-points, instructions, a count before each list, or 1 and the bytes of its image, their count before them; and then its runs, their
-count before them. Where tables are spelled, the parameters and cells of an entry point have 8 bytes each.
+An instruction is a tuple of its name and its operands, in the order of the page's table. Code is given as its image, a run in
+numbers (crates/td_code_try/src/numbers.rt).
 """
 
-import subprocess
+from codes import NO_FIELD, Tables, image_of
+from program import answers
 
-KINDS = (
-    "Const Member Op Bits Pos Jump JumpIf JumpUnless Call Return Fetch SkipK Skip Rest Zeros Zeroterm "
-    "NarrowK Narrow Divides While Again Widen Fail Get Set Mark"
-).split()
 NOT_ENOUGH, IMPOSSIBLE, LIST_SIZE, ACTION, CONSTRAINT, PADDING = range(6)
 MOST = 1 << 64
 
@@ -36,51 +31,33 @@ class Code:
             self.begins.append(at)
             at += len(routine.instructions)
 
-    def numbers(self):
-        """The code in numbers."""
-        out = [0, len(self.names)]
-        for name in self.names:
-            out += [len(name), *name.encode()]
-        out.append(len(self.sites))
-        for site in self.sites:
-            out += site
-        for table in (self.maps, self.sets):
-            out.append(len(table))
-            for entry in table:
-                out += [len(entry), *entry]
-        out.append(len(self.routines))
-        for routine in self.routines:
-            out += [routine.params, routine.cells, routine.registers, len(routine.instructions)]
-        out.append(len(self.entries))
+    def image(self):
+        """Its image. Each routine has the first name; parameters and cells of entry points have it too, and 64 bits."""
+        tables = Tables()
+        tables.names = [name.encode() for name in self.names]
+        tables.sites, tables.maps, tables.sets = self.sites, self.maps, self.sets
+        for routine, begin in zip(self.routines, self.begins):
+            tables.routines.append((0, routine.params, routine.cells, routine.registers, len(routine.instructions)))
+            tables.instructions += [placed(instruction, begin) for instruction in routine.instructions]
         for number in self.entries:
             routine = self.routines[number]
-            out += [number, routine.params, routine.cells]
-        out.append(sum(len(routine.instructions) for routine in self.routines))
-        for routine, begin in zip(self.routines, self.begins):
-            for instruction in routine.instructions:
-                out += spelled(instruction, begin)
-        return out
+            tables.entries.append((number, [(0, 64)] * routine.params, [(0, NO_FIELD, 64)] * routine.cells))
+        return image_of(tables)
 
 
 TARGETS = {"Jump": 1, "JumpIf": 2, "JumpUnless": 2, "While": 1, "Again": 1}
 
 
-def spelled(instruction, begin):
-    """An instruction in numbers, its target counted over the whole code: its kind and four operands."""
-    operands = [*instruction[1:], 0, 0, 0, 0][:4]
-    out = [KINDS.index(instruction[0]), *operands]
+def placed(instruction, begin):
+    """An instruction with its target moved by so many places."""
     at = TARGETS.get(instruction[0])
-    if at:
-        out[at] += begin
-    return out
+    return instruction if at is None else (*instruction[:at], instruction[at] + begin, *instruction[at + 1 :])
 
 
 def run_numbers(entry, args, cells, length, words, stores=()):
     """A run in numbers. A store is the number of the load before which it is made, the word and the value."""
-    out = [entry, len(args), *args, len(cells), *cells, length, len(words), *words, len(stores)]
-    for store in stores:
-        out += store
-    return out
+    flat = [number for store in stores for number in store]
+    return [entry, len(args), *args, len(cells), *cells, length, len(words), *words, len(flat), *flat]
 
 
 class Failed(Exception):
@@ -292,31 +269,21 @@ def code_of_image(tables):
     """The code of an image's tables (as td-image reads them): here a target counts from its own routine's first instruction."""
     routines, begin = [], 0
     for _, params, cells, registers, length in tables.routines:
-        own = []
-        for kind, *operands in tables.instructions[begin : begin + length]:
-            if kind in TARGETS:
-                operands[TARGETS[kind] - 1] -= begin
-            own.append((kind, *operands))
+        own = [placed(instruction, -begin) for instruction in tables.instructions[begin : begin + length]]
         routines.append(Routine(own, params, cells, registers))
         begin += length
     names = [name.decode() for name in tables.names]
     return Code(routines, tables.sets, tables.maps, [entry[0] for entry in tables.entries], names, tables.sites)
 
 
-def image_numbers(image):
-    """The head of a case: an image in numbers."""
-    return [1, len(image), *image]
+def run_line(image, runs):
+    """The line that gives td_code_try an image and the numbers of its runs."""
+    return "run %s %s" % (";".join(" ".join(map(str, run)) for run in runs), image.hex())
 
 
-def machine_lines(program, cases):
-    """The lines of td_machine for cases, each the numbers of a code and those of its runs."""
-    text = []
-    for numbers, runs in cases:
-        text += [*numbers, len(runs)]
-        for run in runs:
-            text += run
-    done = subprocess.run([program], input=" ".join(map(str, text)).encode(), stdout=subprocess.PIPE, check=True, timeout=600)
-    return done.stdout.decode().splitlines()
+def run_answers(program, cases):
+    """What td_code_try answers to cases, each an image and the numbers of its runs: an answer to each run, or one of the image."""
+    return [line.split("; ") for line in answers(program, [run_line(image, runs) for image, runs in cases])]
 
 
 def words_of(message):

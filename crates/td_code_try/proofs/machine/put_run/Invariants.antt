@@ -1,4 +1,4 @@
-use Rattle.td_machine.proofs.case.answer_run.Given as goal
+use Rattle.td_code_try.proofs.machine.put_run.Given as goal
 
 abbrev pub ghosts-validated : goal.ghosts-validated
 ghosts-validated a = record { name = a.blank.name; parts = a.blank.parts }
