@@ -1,16 +1,17 @@
 //! A ring with room for one post, and tickets, in one thread.
 
 use crate::posts::{Any, post};
+use std::alloc::{AllocError, Global};
 use std::test::Fail;
 use td_ring::post::{Full, Post};
 use td_ring::ring::Ring;
 use td_ring::tickets::Tickets;
 use td_words::shared::Shared;
 
-fn refused(answer: Result<(), Full>) -> u32 {
+fn told(alloc: Global, answer: Result<(), Full>) -> Result<String, AllocError> {
     match answer {
-        Ok(()) => 0,
-        Err(full) => full.post.name.number,
+        Ok(()) => String::from_str(alloc, "posted"),
+        Err(full) => format!(in alloc; "{full}: {}", full.post.name.number),
     }
 }
 
@@ -27,9 +28,16 @@ fn a_full_ring_hands_the_post_back(rt: HostRuntime) -> Result<(), Fail> {
     let (shared, mut host) = Shared::open(alloc, &[])?;
     let guest = shared.split_guest(&mut host);
     let (ring, mut posts, mut takes) = Ring::<Any>::new(alloc, 1)?;
-    let first = refused(ring.post(&rt, &mut posts, &guest, post(alloc, 1, 1)?));
-    let second = refused(ring.post(&rt, &mut posts, &guest, post(alloc, 1, 2)?));
-    assert_eq!(rt; (first, second), (0, 2));
+    let first = told(
+        alloc,
+        ring.post(&rt, &mut posts, &guest, post(alloc, 1, 1)?),
+    )?;
+    let second = told(
+        alloc,
+        ring.post(&rt, &mut posts, &guest, post(alloc, 1, 2)?),
+    )?;
+    assert_eq!(rt; first.as_str(), "posted");
+    assert_eq!(rt; second.as_str(), "ring full: 2");
     let got = number(ring.take(&rt, &mut takes));
     let none = number(ring.take(&rt, &mut takes));
     assert_eq!(rt; (got, none), (1, 0));
