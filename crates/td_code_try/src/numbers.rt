@@ -6,7 +6,7 @@ use std::alloc::{AllocError, Global};
 use td_core::module::Entry;
 use td_sched::store::PlannedStore;
 
-/// A run. Its lists are lent, and each three numbers of the last are a store.
+/// A run. Its lists are lent. A store is the number of the load right before which it is made, the word, and the value.
 #[derive(Drop)]
 pub struct Run<'a> {
     pub entry: Entry,
@@ -14,7 +14,7 @@ pub struct Run<'a> {
     pub cells: &'a [u64],
     pub length: u32,
     pub words: &'a [u64],
-    pub stores: &'a [u64],
+    pub stores: &'a [[u64; 3]],
 }
 
 /// The numbers of a text. None: it is something else. `AllocError`: there was no memory.
@@ -41,15 +41,16 @@ fn list_at(numbers: &[u64]) -> Option<(&[u64], &[u64])> {
     rest.split_at_checked(*count as usize)
 }
 
-/// The run of these numbers. None: they aren't those of a run.
+/// The run of these numbers. None: they aren't those of a run, as where the last list ends amid a store.
 pub fn run_of(numbers: &[u64]) -> Option<Run<'_>> {
     let (number, rest) = short_at(numbers)?;
     let (args, rest) = list_at(rest)?;
     let (cells, rest) = list_at(rest)?;
     let (length, rest) = short_at(rest)?;
     let (words, rest) = list_at(rest)?;
-    let (stores, rest) = list_at(rest)?;
-    if !rest.is_empty() {
+    let (numbers, rest) = list_at(rest)?;
+    let (stores, part) = numbers.as_chunks::<3>();
+    if !part.is_empty() || !rest.is_empty() {
         return None;
     }
     Some(Run {
@@ -62,11 +63,10 @@ pub fn run_of(numbers: &[u64]) -> Option<Run<'_>> {
     })
 }
 
-/// The stores of numbers, each three of them one. Words are fewer than 2^32, so a store to a word past all numbers of 32 bits
-/// is made to none, as that to the last of these numbers is.
-pub fn stores_of(alloc: Global, numbers: &[u64]) -> Result<Vec<PlannedStore>, AllocError> {
+/// The plan of a run's stores. Words are fewer than 2^32, so a store to a word past all numbers of 32 bits is made to none, as
+/// that to the last of these numbers is. `AllocError`: there was no memory.
+pub fn stores_of(alloc: Global, triples: &[[u64; 3]]) -> Result<Vec<PlannedStore>, AllocError> {
     let mut stores = Vec::new(alloc);
-    let (triples, _) = numbers.as_chunks::<3>();
     for triple in triples {
         let [before, word, value] = *triple;
         stores.push(PlannedStore {
