@@ -1,6 +1,6 @@
 use Rattle.std.proofs.Common.{◌≤◌, length, arith}
 use Rattle.td_stream.proofs.Rising.{few}
-use Rattle.td_memory_rows.proofs.words.MemoryWords.load.Goals as goal
+use Rattle.td_job_rows.proofs.words.MemoryWords.load.Goals as goal
 
 pub push-requires : goal.push-requires
 push-requires c =

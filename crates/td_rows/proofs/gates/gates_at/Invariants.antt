@@ -1,5 +1,5 @@
 use Rattle.std.proofs.Common.{◌≡◌, length}
-use Rattle.td_host_rows.proofs.gates.gates_at.Given as goal
+use Rattle.td_rows.proofs.gates.gates_at.Given as goal
 
 -- a gate was made at each turn
 abbrev pub invariant-loop : goal.invariant-loop

@@ -3,7 +3,7 @@ use Rattle.std.specs.Prelude.{slice_index_or}
 use Rattle.td_stream.specs.declared.load.Load.{Load}
 use Rattle.td_stream.specs.Loads.{IsNext}
 use Rattle.td_stream.proofs.Rising.{next_later, next_after}
-use Rattle.td_memory_rows.proofs.plans.loaded.Goals as goal
+use Rattle.td_job_rows.proofs.plans.loaded.Goals as goal
 
 pub places-preserved : goal.places-preserved
 places-preserved c =

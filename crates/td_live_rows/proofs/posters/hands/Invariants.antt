@@ -1,6 +1,6 @@
 use Rattle.std.proofs.Common.{◌≡◌}
 use Rattle.td_roll.specs.Heads.{HasHead}
-use Rattle.td_ring_rows.proofs.posters.hands.Given as goal
+use Rattle.td_live_rows.proofs.posters.hands.Given as goal
 
 abbrev pub invariant-loop-number : goal.invariant-loop-number
 invariant-loop-number l = record {
