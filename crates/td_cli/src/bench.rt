@@ -6,6 +6,9 @@ ghost use Rattle.td_core.specs.declared.outcome.TraceFrame.{TraceFrame};
 ghost use Rattle.td_gen.specs.Message.{format_of};
 ghost use Rattle.td_command.specs.declared.command.Command.TheVariants as commands;
 ghost use Rattle.td_input.specs.declared.refusal.Refusal.{Refusal};
+ghost use Rattle.td_front.specs.Checked.{IsChecked};
+ghost use Rattle.td_lowered.specs.CodeRun.{IsCodeOf};
+ghost use Rattle.td_vm.specs.Frames.{IsArmed};
 ghost use Rattle.td_cli.specs.Answers.{Admits, Refuses};
 ghost use Rattle.td_cli.specs.Bench.{AreTotals, HaveBefore, RefusesBench};
 ghost use Rattle.td_cli.specs.Benching.{AreModules, HasRun, IsPrepared, IsTextModule, RefusesMessage, RefusesSomeText, RefusesText, totals_with};
@@ -16,7 +19,7 @@ ghost use Rattle.td_input.specs.Causes.{HasCause};
 use crate::finish::finish_bench;
 use crate::status::Status;
 use crate::totals::Totals;
-use std::alloc::Global;
+use std::alloc::{AllocError, Global};
 use td_arith::laws::evaluated_is_sound;
 use td_coding::code_of;
 use td_command::command::MOST_MESSAGES;
@@ -63,6 +66,23 @@ fn checked_module(alloc: Global, format: Format) -> Result<Module, InputError>
     }
 }
 
+/// A module, its code and a frame that is armed for that. It stands apart from `prepare`, as the ways in which values are let go
+/// where memory runs out multiply in one function.
+fn compiled(alloc: Global, checked: Module) -> Result<Prepared, AllocError>
+    requires { IsChecked checked }
+    ensures module { IfOk result (λ p. p.checked ≡ checked) }
+    ensures code { IfOk result (λ p. IsCodeOf p.code p.checked) }
+    ensures armed { IfOk result (λ p. IsArmed p.code p.frame) }
+{
+    let code = code_of(alloc, &checked)?;
+    let frame = Frame::arm(alloc, &code)?;
+    Ok(Prepared {
+        checked,
+        code,
+        frame,
+    })
+}
+
 /// A format's module, its code and a frame, once the texts before it were found to be modules. Each text is checked once, and
 /// its module lowered once.
 fn prepare(alloc: Global, format: Format) -> Result<Box<Prepared>, InputError>
@@ -71,23 +91,13 @@ fn prepare(alloc: Global, format: Format) -> Result<Box<Prepared>, InputError>
     ensures cause { IfErr result (HasCause (RefusesText format)) }
 {
     let checked = checked_module(alloc, format)?;
-    let Ok(code) = code_of(alloc, &checked) else {
+    let Ok(prepared) = compiled(alloc, checked) else {
         return Err(InputError::NoMemory);
     };
-    let Ok(frame) = Frame::arm(alloc, &code) else {
+    let Ok(boxed) = Box::new(alloc, prepared) else {
         return Err(InputError::NoMemory);
     };
-    let Ok(prepared) = Box::new(
-        alloc,
-        Prepared {
-            checked,
-            code,
-            frame,
-        },
-    ) else {
-        return Err(InputError::NoMemory);
-    };
-    Ok(prepared)
+    Ok(boxed)
 }
 
 /// What is prepared for the four formats.

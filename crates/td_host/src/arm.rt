@@ -24,12 +24,9 @@ use td_posts::mail::Mail;
 use td_posts::name::PostName;
 use td_posts::reply::Reply;
 use td_ring::naming::Naming;
-use td_ring::ring::Ring;
-use td_ring::tickets::Tickets;
 use td_stream::loads::Loads;
 use td_verify::verify::Verified;
 use td_vm::validate::Frame;
-use td_words::shared::Shared;
 
 /// The posts of a guest's script.
 fn add_mails(guest: u32, script: &[Step], mails: &mut Vec<Mail>) -> Result<(), AllocError>
@@ -56,7 +53,7 @@ fn add_mails(guest: u32, script: &[Step], mails: &mut Vec<Mail>) -> Result<(), A
 }
 
 /// The posts of all guests, by guest and number.
-fn mails_of_all(alloc: Global, guests: &[Items<Step>]) -> Result<Vec<Mail>, AllocError>
+pub(crate) fn mails_of_all(alloc: Global, guests: &[Items<Step>]) -> Result<Vec<Mail>, AllocError>
     requires few { length guests.now < 2 ^ 32 - 1 }
     requires short { All (λ s. length s < 2 ^ 32) guests.now }
     ensures { IfOk result (λ v. v.items ≡ all_mails 1 guests.now) }
@@ -184,38 +181,6 @@ fn seat_guests<J: Naming, G: Drop>(
         actors.push(Actor::Guest(guest))?;
     }
     Ok(())
-}
-
-/// The desk of a job, with a new buffer, ring and tickets, and what the host acts with.
-pub(crate) fn open_desk<J: Naming>(
-    alloc: Global,
-    code: Verified,
-    job: HostJob,
-) -> Result<(Desk<J>, Heads), AllocError>
-    requires { IsServable job }
-    ensures code { IfOk result (λ r. r.0.code ≡ code) }
-    ensures job { IfOk result (λ r. r.0.job ≡ job) }
-    ensures opened { IfOk result (λ r. IsOpened r.0 r.1) }
-{
-    let mails = mails_of_all(alloc, job.guests.as_slice())?;
-    let (shared, seat) = Shared::open(alloc, job.words.as_slice())?;
-    let (ring, posts, takes) = Ring::new(alloc, (mails.len() as u32).max(1))?;
-    let (tickets, drawer) = Tickets::new(alloc)?;
-    let desk = Desk {
-        shared,
-        ring,
-        tickets,
-        code,
-        job,
-        mails,
-    };
-    let heads = Heads {
-        seat,
-        posts,
-        takes,
-        drawer,
-    };
-    Ok((desk, heads))
 }
 
 /// How many frames a failure of this code has at most. `AllocError`: there was no memory to find it.

@@ -8,7 +8,8 @@ ghost use Rattle.td_host.specs.Served.{IsJobCode};
 ghost use Rattle.td_host.specs.Hosts.{IsArmed, IsServed, replies_in};
 
 use crate::actor::Desk;
-use crate::arm::{make_crew, open_desk};
+use crate::arm::make_crew;
+use crate::desk::open_desk;
 use crate::serve::{Crew, Finished, serve_all};
 use std::alloc::{AllocError, Global};
 use std::sync::Wait;
@@ -86,20 +87,9 @@ impl<J: Naming + Send + Sync, G: Gate + Send + Drop> Host<J, G> {
     pub fn into_replies(self, alloc: Global) -> Items<Reply>
         ensures { result ≡ replies_in self.finished }
     {
-        let Host {
-            desk: _,
-            crew: _,
-            finished,
-        } = self;
-        match finished {
-            Some(finished) => {
-                let Finished {
-                    seat: _,
-                    posts: _,
-                    replies,
-                } = finished;
-                replies
-            }
+        let mut host = self;
+        match host.finished.take() {
+            Some(finished) => finished.into_replies(),
             None => Items::new(alloc),
         }
     }

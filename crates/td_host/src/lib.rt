@@ -6,6 +6,7 @@
 
 pub mod actor;
 pub mod arm;
+pub mod desk;
 pub mod gather;
 pub mod guest;
 pub mod host;

@@ -63,6 +63,15 @@ pub struct Finished {
     pub replies: Items<Reply>,
 }
 
+impl Finished {
+    /// The replies alone.
+    pub fn into_replies(self) -> Items<Reply>
+        ensures { result ≡ self.replies }
+    {
+        self.replies
+    }
+}
+
 /// Serves all posts of the desk's job. It takes no memory.
 pub fn serve_all<J: Naming + Send + Sync, R: Threads + Wait + Sync, G: Gate + Send + Drop>(
     rt: &R,

@@ -1,6 +1,5 @@
-use Rattle.std.proofs.Common.{rules, ◌≡◌, ℕ, ◌+◌, ◌*◌, ◌<◌, ◌≤◌, List, length, vec_capacity, sym, ap, ◌∙◌, subst, arith}
+use Rattle.std.proofs.Common.{rules, ◌≡◌, ℕ, ◌*◌, ◌≤◌, List, length, vec_capacity, sym, ap, ◌∙◌, subst, arith}
 use Rattle.td_words.specs.Seats.{HostState}
-use Rattle.td_posts.specs.Posts.{all_mails}
 use Rattle.td_host.specs.Acting.{Fits}
 use Rattle.td_host.specs.Gathered.{host_at}
 use Rattle.td_host.proofs.Arms.{arms}

@@ -1,4 +1,0 @@
-use Rattle.td_cli.proofs.bench.prepare.Goals as goal
-
-pub code_of-requires : goal.code_of-requires
-code_of-requires c = c.in_ok-checked.ensures.stands.checked
