@@ -25,8 +25,8 @@ struct Opened<J: Naming> {
     heads: Heads,
 }
 
-/// A new buffer of these words, a new ring with room for so many posts, and new tickets. It stands apart from `open_desk`, as the
-/// ways in which values are let go where memory runs out multiply in one function.
+/// A new buffer of these words, a new ring with room for so many posts, and new tickets. `AllocError`: there was no memory for them.
+/// It stands apart from `open_desk`, as the ways in which values are let go where memory runs out multiply in one function.
 fn open_shared<J: Naming>(alloc: Global, words: &[u64], room: u32) -> Result<Opened<J>, AllocError>
     requires words { length words.now < 2 ^ 32 }
     requires room { 0 < room }
@@ -54,7 +54,7 @@ fn open_shared<J: Naming>(alloc: Global, words: &[u64], room: u32) -> Result<Ope
     })
 }
 
-/// The desk of a job, with a new buffer, ring and tickets, and what the host acts with.
+/// The desk of a job, with a new buffer, ring and tickets, and what the host acts with. `AllocError`: there was no memory for them.
 pub(crate) fn open_desk<J: Naming>(
     alloc: Global,
     code: Verified,

@@ -11,7 +11,7 @@ ghost use Rattle.td_ir.specs.Entries.{Fits};
 ghost use Rattle.td_ir.specs.Run.{run};
 ghost use Rattle.td_lowered.specs.CodeRun.{IsCodeOf};
 ghost use Rattle.td_vm.specs.Frames.{IsArmed};
-ghost use Rattle.td_vm.specs.Outcomes.{IsRun};
+ghost use Rattle.td_vm.specs.Outcomes.{IsRun, entry_weight};
 ghost use Rattle.td_posts.specs.Posts.{words_in};
 ghost use Rattle.td_live.specs.Live.{HasLoaded};
 
@@ -67,6 +67,9 @@ pub fn validate_slot<G: Gate>(
     ensures loaded { HasLoaded slot.base seat.old seat.new loads.new.list }
     ensures rising { IsRising loads.new.list }
     ensures within { Inside slot.length loads.new.list }
+    // its steps grow no faster than the message
+    ensures cost { (b : List ℕ) → Carries slot.length b loads.new.list
+        → (run code.now entry args.now frame.old.cells b).steps ≤ entry_weight code.now entry * (slot.length + 1) }
     // whatever code it is, the outcome is that of its run on whatever message these words were loaded from, and exactly the
     // words with a byte that it looks at were loaded
     ensures run { (b : List ℕ) → Carries slot.length b loads.new.list

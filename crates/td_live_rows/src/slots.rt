@@ -105,5 +105,6 @@ fn a_store_counts_where_its_word_is_still_to_be_loaded(rt: HostRuntime) -> Resul
             None => return Err(Fail::new("no report")),
         }
     }
+    println!(rt; "{} rows", ROWS.len())?;
     Ok(())
 }

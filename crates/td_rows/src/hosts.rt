@@ -8,10 +8,13 @@ use std::sync::atomic::Ordering;
 use std::test::Fail;
 use std::thread::Threads;
 use td_cli::run_tool;
+use td_host::serving::serve_job;
 use td_host_report::report::host_report;
+use td_input::host::parse_host_input;
 use td_io::{MemorySink, MemorySource};
 use td_posts::name::PostName;
-use td_serving::serving::serve_input;
+use td_serving::gates::gates_of;
+use td_serving::serving::job_code;
 
 /// A message of two loads, which one guest posts twice before it stores to its first word what that holds.
 const TWO_MESSAGES: &str = concat!(
@@ -96,21 +99,20 @@ fn a_held_guest_gets_no_reply(rt: HostRuntime) -> Result<(), Fail> {
 }
 
 #[test]
-fn nor_does_it_where_its_job_is_served(rt: HostRuntime) -> Result<(), Fail> {
+fn nor_does_it_where_a_host_serves(rt: HostRuntime) -> Result<(), Fail> {
     let alloc = rt.alloc();
     let notes = Notes::with_room(alloc, 16)?;
     let places = [Place::Step { guest: 2, step: 1 }];
     let gates = gates_at(alloc, &rt, &notes, &places, post(2, 1))?;
-    let Ok(served) = serve_input(&rt, OWN_WORDS.as_bytes(), gates) else {
+    let Ok(given) = parse_host_input(alloc, OWN_WORDS.as_bytes()) else {
         return Err(AllocError.into());
     };
+    let code = job_code(alloc, &given)?;
+    let gates = gates_of(gates, given.job.workers as usize, given.job.guests.len())?;
+    let entry = given.job.entry;
+    let replies = serve_job(&rt, alloc, code, given.job, gates)?;
     let mut out = MemorySink::with_room(alloc, 4096, Vec::new(alloc))?;
-    let written = host_report(
-        &served.module,
-        served.entry,
-        served.replies.as_slice(),
-        &mut out,
-    );
+    let written = host_report(&given.module, entry, replies.as_slice(), &mut out);
     assert!(rt; written.is_ok());
     assert_eq!(rt; out.written(), OWN_STORES.as_bytes());
     assert!(rt; !notes.unnoted.load(Ordering::SeqCst));

@@ -8,11 +8,7 @@ use std::alloc::AllocError;
 pub const GATES_OF_EACH: usize = 16;
 
 /// The first gates of each half, so many of the workers' and then so many of the guests'. `AllocError`: there was no memory.
-pub(crate) fn gates_of<G: Drop>(
-    gates: Vec<G>,
-    workers: usize,
-    guests: usize,
-) -> Result<Vec<G>, AllocError>
+pub fn gates_of<G: Drop>(gates: Vec<G>, workers: usize, guests: usize) -> Result<Vec<G>, AllocError>
     requires both { length gates.items ≡ 2 * GATES_OF_EACH }
     requires workers { workers ≤ GATES_OF_EACH }
     requires guests { guests ≤ GATES_OF_EACH }

@@ -1,6 +1,6 @@
 //! The answer to an input of `host`: its job is read, armed and served, and the replies are handed out with what names them
-//! in a report. The layer above rests on one promise: the replies are those of the input's job, served by the seats of the
-//! one buffer and the passes of the one ring that the call opened.
+//! in a report. The layer above rests on one promise: the replies are those of the input's job, served by seats of one buffer
+//! and passes of one ring. That these are the ones that the call opened is promised by `Host::serve`, which it goes through.
 #![tactic(auto)]
 
 pub mod gates;

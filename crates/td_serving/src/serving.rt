@@ -35,7 +35,7 @@ pub struct ServedInput {
 }
 
 /// The code by which a host can serve the job of an input. `AllocError`: there was no memory for it.
-fn job_code(alloc: Global, given: &HostInput) -> Result<Verified, AllocError>
+pub fn job_code(alloc: Global, given: &HostInput) -> Result<Verified, AllocError>
     requires checked { IsChecked given.now.module }
     requires by { given.now.job.format ≡ given.now.module }
     requires fits { FitsEntry given.now.module given.now.job }
