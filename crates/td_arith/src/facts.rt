@@ -209,23 +209,30 @@ fn cut_by_known(
     Ok(left)
 }
 
-fn says_up_to_one(relation: Relation, left: bool, right: bool) -> bool
-    ensures { result ≡ (up_to relation && (left && right)) }
+/// Whether two expressions are two others.
+fn are_same(left: &CoreExpr, a: &CoreExpr, right: &CoreExpr, b: &CoreExpr) -> bool
+    ensures { result ≡ (same left.now a.now && same right.now b.now) }
+{
+    is_same(left, a) && is_same(right, b)
+}
+
+fn is_up_to(relation: Relation) -> bool
+    ensures { result ≡ up_to relation }
 {
     match relation {
-        Relation::Equal | Relation::Less | Relation::LessEqual => left && right,
+        Relation::Equal | Relation::Less | Relation::LessEqual => true,
         _ => false,
     }
 }
 
-/// Whether a comparison is what is asked.
+/// Whether a comparison is what is asked. Expressions are compared only where the relation lets it be.
 fn is_answer(question: Question, relation: Relation, left: &CoreExpr, right: &CoreExpr) -> bool
     ensures { result ≡ asks question.entry
         (record { relation = relation; left = left.now; right = right.now }) }
 {
     match question {
-        Question::UpTo(a, b) => says_up_to_one(relation, is_same(left, a), is_same(right, b))
-            || says_up_to_one(mirrored(relation), is_same(right, a), is_same(left, b)),
+        Question::UpTo(a, b) => (is_up_to(relation) && are_same(left, a, right, b))
+            || (is_up_to(mirrored(relation)) && are_same(right, a, left, b)),
         Question::NotZero(a) => match relation {
             Relation::NotEqual => (is_same(left, a) && is_zero(constant_of(right)))
                 || (is_same(right, a) && is_zero(constant_of(left))),

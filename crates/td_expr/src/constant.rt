@@ -1,80 +1,104 @@
 //! Constant parts of expressions.
 
-ghost use Rattle.std.specs.Prelude.{◌≡◌, ◌<◌, ◌%◌, pos};
+ghost use Rattle.std.specs.Prelude.{◌≡◌, ◌<◌, ◌%◌, pos, Some, None};
+ghost use Rattle.std.specs.Option.{ForSome};
 ghost use Rattle.td_core.specs.declared.expressions.Scalar.TheVariants.{Truth};
-ghost use Rattle.td_core.specs.Types.{limit, computed_type};
+ghost use Rattle.td_core.specs.Types.{limit, computed_type, type_of};
 ghost use Rattle.td_expr.specs.Value.{computed, complemented, number_of};
 ghost use Rattle.td_expr.specs.Same.{fitting, constant_of};
 
-use crate::types::{greatest_of, type_of, wider_of};
+use crate::types::{computed_type_of, greatest_of, wider_of};
 use crate::value::{compare, shift_left, shift_right};
 use td_core::expressions::{Binary, CoreExpr, Node, Scalar};
 
+/// The value and the type of a constant part.
+#[derive(Clone, Copy)]
+struct Constant {
+    value: u64,
+    scalar: Scalar,
+}
+
 /// The value of an expression of literals alone in which every value (also on a branch that isn't taken) fits its type;
-/// none of any other expression.
+/// none of any other expression. It goes along the expression once.
 pub fn constant_of(e: &CoreExpr) -> Option<u64>
     ensures { result ≡ constant_of e.now }
 {
-    match &e.node {
-        Node::Number { value, .. } => Some(*value),
-        Node::Name { .. } => None,
-        Node::Complement(a) => match constant_of(a) {
-            Some(x) => complement_constant(type_of(a), x),
-            None => None,
-        },
-        Node::Not(a) => match constant_of(a) {
-            Some(x) => truth(x == 0),
-            None => None,
-        },
-        Node::Compute(op, _, a, b) => match constant_of(a) {
-            Some(x) => match constant_of(b) {
-                Some(y) => compute_constant(*op, type_of(a), type_of(b), x, y),
-                None => None,
-            },
-            None => None,
-        },
-        Node::Compare(relation, a, b) => match constant_of(a) {
-            Some(x) => match constant_of(b) {
-                Some(y) => truth(compare(*relation, x, y)),
-                None => None,
-            },
-            None => None,
-        },
-        Node::Both(a, b) => match constant_of(a) {
-            Some(x) => match constant_of(b) {
-                Some(y) => truth(x != 0 && y != 0),
-                None => None,
-            },
-            None => None,
-        },
-        Node::Either(a, b) => match constant_of(a) {
-            Some(x) => match constant_of(b) {
-                Some(y) => truth(x != 0 || y != 0),
-                None => None,
-            },
-            None => None,
-        },
-        Node::Choice(c, a, b) => match constant_of(c) {
-            Some(z) => match constant_of(a) {
-                Some(x) => match constant_of(b) {
-                    Some(y) => fit(wider_of(type_of(a), type_of(b)), if z == 0 { y } else { x }),
-                    None => None,
-                },
-                None => None,
-            },
-            None => None,
-        },
-        Node::RangeOkay(s, o, a) => match constant_of(s) {
-            Some(size) => match constant_of(o) {
-                Some(offset) => match constant_of(a) {
-                    Some(access) => truth(access <= size && offset <= size - access),
-                    None => None,
-                },
-                None => None,
-            },
-            None => None,
-        },
+    match typed_constant(e) {
+        Some(constant) => Some(constant.value),
+        None => None,
     }
+}
+
+/// The same, with the type.
+fn typed_constant(e: &CoreExpr) -> Option<Constant>
+    ensures value { ForSome result (λ c. constant_of e.now ≡ Some c.value) }
+    ensures scalar { ForSome result (λ c. c.scalar ≡ type_of e.now) }
+    ensures none { result ≡ None → constant_of e.now ≡ None }
+{
+    match &e.node {
+        Node::Number { value, scalar } => Some(Constant {
+            value: *value,
+            scalar: *scalar,
+        }),
+        Node::Name { .. } => None,
+        Node::Complement(a) => {
+            let a = typed_constant(a)?;
+            with_type(a.scalar, complement_constant(a.scalar, a.value))
+        }
+        Node::Not(a) => {
+            let a = typed_constant(a)?;
+            truth(a.value == 0)
+        }
+        Node::Compute(op, _, a, b) => {
+            let a = typed_constant(a)?;
+            let b = typed_constant(b)?;
+            with_type(
+                computed_type_of(*op, a.scalar, b.scalar),
+                compute_constant(*op, a.scalar, b.scalar, a.value, b.value),
+            )
+        }
+        Node::Compare(relation, a, b) => {
+            let a = typed_constant(a)?;
+            let b = typed_constant(b)?;
+            truth(compare(*relation, a.value, b.value))
+        }
+        Node::Both(a, b) => {
+            let a = typed_constant(a)?;
+            let b = typed_constant(b)?;
+            truth(a.value != 0 && b.value != 0)
+        }
+        Node::Either(a, b) => {
+            let a = typed_constant(a)?;
+            let b = typed_constant(b)?;
+            truth(a.value != 0 || b.value != 0)
+        }
+        Node::Choice(c, a, b) => {
+            let c = typed_constant(c)?;
+            let a = typed_constant(a)?;
+            let b = typed_constant(b)?;
+            let wide = wider_of(a.scalar, b.scalar);
+            with_type(
+                wide,
+                fit(wide, if c.value == 0 { b.value } else { a.value }),
+            )
+        }
+        Node::RangeOkay(s, o, a) => {
+            let size = typed_constant(s)?;
+            let offset = typed_constant(o)?;
+            let access = typed_constant(a)?;
+            truth(access.value <= size.value && offset.value <= size.value - access.value)
+        }
+    }
+}
+
+/// A value, where there is one, with its type.
+fn with_type(scalar: Scalar, value: Option<u64>) -> Option<Constant>
+    ensures value { ForSome result (λ c. value ≡ Some c.value) }
+    ensures scalar { ForSome result (λ c. c.scalar ≡ scalar) }
+    ensures none { result ≡ None → value ≡ None }
+{
+    let value = value?;
+    Some(Constant { value, scalar })
 }
 
 /// A value, where it fits a type.
@@ -88,11 +112,16 @@ fn fit(scalar: Scalar, n: u64) -> Option<u64>
     }
 }
 
-/// The number of a truth value.
-fn truth(holds: bool) -> Option<u64>
-    ensures { result ≡ fitting Truth (number_of holds) }
+/// The number of a truth value, with its type.
+fn truth(holds: bool) -> Option<Constant>
+    ensures value { ForSome result (λ c. fitting Truth (number_of holds) ≡ Some c.value) }
+    ensures scalar { ForSome result (λ c. c.scalar ≡ Truth) }
+    ensures some { result ≡ None → fitting Truth (number_of holds) ≡ None }
 {
-    Some(u64::from(holds))
+    Some(Constant {
+        value: u64::from(holds),
+        scalar: Scalar::Truth,
+    })
 }
 
 /// What a type's width leaves of a number.
