@@ -1,17 +1,23 @@
 //! The action of a field.
 
-ghost use Rattle.std.specs.Prelude.{◌≡◌, ◌≢◌, IfOk, None, OnErr, OnOk};
+ghost use Rattle.std.specs.Prelude.{◌≡◌, ◌≢◌, ◌++◌, IfOk, None, OnErr, OnOk};
 ghost use Rattle.td_ast.specs.Statements.{block_of};
+ghost use Rattle.td_core.specs.Term.{done};
 ghost use Rattle.td_rules.specs.Breach.{first_of};
+ghost use Rattle.td_rules.specs.Sorts.{core_of};
+ghost use Rattle.td_rules.specs.ExprRules.{truth_breaches};
+ghost use Rattle.td_typing.specs.Memory.{HasOperator};
 ghost use Rattle.td_rules.specs.Actions.{statement_breaches, block_breaches, vars_after, block_vars, scope_after, block_core, shape_breaches, inside, action_breaches, action_vars, action_core};
+ghost use Rattle.td_actions.specs.declared.pieces.Piece.TheVariants as pieces;
 ghost use Rattle.td_actions.specs.Pieces.{piece_of, pieces_of, block_scope, followed, chained};
 
 use crate::pieces::{Piece, store_cell, store_slot, var};
 use crate::scopes::{add_level, cut_back};
-use crate::steps::{fork, read, set};
+use crate::steps::{fork, last, read, set};
 use crate::ways::{block_ways, is_shaped};
 use std::alloc::{AllocError, Global};
 use td_ast::actions::{ActionTree, Block, Stmt, StmtKind};
+use td_ast::expressions::Expr;
 use td_core::actions::{Action, Step};
 use td_rules::breach::Rule;
 use td_rules::known::{Known, Scope, Taken};
@@ -40,20 +46,102 @@ fn piece(
             store_slot(alloc, known, scope, p, f, assigned, findings)
         }
         StmtKind::Var(x, star, p) => var(alloc, known, scope, taken, x, *star, p, findings),
-        StmtKind::If(e, one) => {
-            let condition = truth_value(alloc, known, scope, e, findings)?;
-            let one = block(alloc, known, scope, taken, one, findings)?;
-            Ok(Piece::If(condition, one, Action { step: Step::Done }))
-        }
+        StmtKind::If(e, one) => if_piece(alloc, known, scope, taken, e, one, findings),
         StmtKind::IfElse(e, one, other) => {
-            let condition = truth_value(alloc, known, scope, e, findings)?;
-            let one = block(alloc, known, scope, taken, one, findings)?;
-            let other = block(alloc, known, scope, taken, other, findings)?;
-            Ok(Piece::If(condition, one, other))
+            if_else_piece(alloc, known, scope, taken, e, one, other, findings)
         }
-        StmtKind::Return(e) => Ok(Piece::Return(truth_value(alloc, known, scope, e, findings)?)),
+        StmtKind::Return(e) => returned(alloc, known, scope, e, findings),
         StmtKind::Abort => Ok(Piece::Abort),
     }
+}
+
+/// `if (e) { .. }`. `AllocError`: out of memory.
+#[cycle(block)]
+#[tactic(auto, using(td_typing::proofs::Steps::first_append))]
+fn if_piece(
+    alloc: Global,
+    known: &Known,
+    scope: &mut Scope,
+    taken: &mut Taken,
+    e: &Expr,
+    one: &Block,
+    findings: &mut Findings,
+) -> Result<Piece, AllocError>
+    ensures core { IfOk result (λ p. p ≡ pieces.If (core_of known.now scope.old e.now) (block_core known.now scope.old (block_of one.now)) done) }
+    ensures first { OnOk result (findings.new.first ≡ first_of findings.old.first
+        (truth_breaches known.now scope.old e.now ++ block_breaches known.now taken.old scope.old (block_of one.now))) }
+    ensures taken { OnOk result (taken.new ≡ block_vars taken.old (block_of one.now)) }
+    ensures scope { OnOk result (scope.new ≡ scope.old) }
+{
+    let condition = truth_value(alloc, known, scope, e, findings)?;
+    let one = block(alloc, known, scope, taken, one, findings)?;
+    Ok(Piece::If(condition, one, Action { step: Step::Done }))
+}
+
+/// `if (e) { .. } else { .. }`. `AllocError`: out of memory.
+#[cycle(block)]
+#[tactic(auto, using(td_typing::proofs::Steps::first_append))]
+fn if_else_piece(
+    alloc: Global,
+    known: &Known,
+    scope: &mut Scope,
+    taken: &mut Taken,
+    e: &Expr,
+    one: &Block,
+    other: &Block,
+    findings: &mut Findings,
+) -> Result<Piece, AllocError>
+    ensures core { IfOk result (λ p. p ≡ pieces.If (core_of known.now scope.old e.now)
+        (block_core known.now scope.old (block_of one.now)) (block_core known.now scope.old (block_of other.now))) }
+    ensures first { OnOk result (findings.new.first ≡ first_of findings.old.first
+        (truth_breaches known.now scope.old e.now ++ (block_breaches known.now taken.old scope.old (block_of one.now)
+        ++ block_breaches known.now (block_vars taken.old (block_of one.now)) scope.old (block_of other.now)))) }
+    ensures taken { OnOk result (taken.new ≡ block_vars (block_vars taken.old (block_of one.now)) (block_of other.now)) }
+    ensures scope { OnOk result (scope.new ≡ scope.old) }
+{
+    let condition = truth_value(alloc, known, scope, e, findings)?;
+    let (one, other) = branches(alloc, known, scope, taken, one, other, findings)?;
+    Ok(Piece::If(condition, one, other))
+}
+
+/// The branches of an `if` with an `else`. `AllocError`: out of memory.
+#[cycle(block)]
+#[tactic(auto, using(td_typing::proofs::Steps::first_append))]
+fn branches(
+    alloc: Global,
+    known: &Known,
+    scope: &mut Scope,
+    taken: &mut Taken,
+    one: &Block,
+    other: &Block,
+    findings: &mut Findings,
+) -> Result<(Action, Action), AllocError>
+    ensures core { IfOk result (λ b. (b.0 ≡ block_core known.now scope.old (block_of one.now)) × (b.1 ≡ block_core known.now scope.old (block_of other.now))) }
+    ensures first { OnOk result (findings.new.first ≡ first_of findings.old.first
+        (block_breaches known.now taken.old scope.old (block_of one.now)
+        ++ block_breaches known.now (block_vars taken.old (block_of one.now)) scope.old (block_of other.now))) }
+    ensures taken { OnOk result (taken.new ≡ block_vars (block_vars taken.old (block_of one.now)) (block_of other.now)) }
+    ensures scope { OnOk result (scope.new ≡ scope.old) }
+{
+    let one = block(alloc, known, scope, taken, one, findings)?;
+    let other = block(alloc, known, scope, taken, other, findings)?;
+    Ok((one, other))
+}
+
+/// `return e;`. `AllocError`: e has an operator or is `is_range_okay`, and out of memory.
+fn returned(
+    alloc: Global,
+    known: &Known,
+    scope: &Scope,
+    e: &Expr,
+    findings: &mut Findings,
+) -> Result<Piece, AllocError>
+    ensures memory { OnErr result (HasOperator e.now) }
+    ensures core { IfOk result (λ p. p ≡ pieces.Return (core_of known.now scope.now e.now)) }
+    ensures first { OnOk result (findings.new.first ≡ first_of findings.old.first (truth_breaches known.now scope.now e.now)) }
+{
+    let e = truth_value(alloc, known, scope, e, findings)?;
+    Ok(Piece::Return(e))
 }
 
 /// The statements of a block, one by one. `AllocError`: out of memory.
@@ -120,10 +208,8 @@ fn followed(alloc: Global, piece: Piece, rest: Action) -> Result<Action, AllocEr
         Piece::Set(cell, e) => set(alloc, cell, e, rest),
         Piece::Read(cell) => read(alloc, cell, rest),
         Piece::If(e, one, other) => fork(alloc, e, one, other, rest),
-        Piece::Return(e) => Ok(Action {
-            step: Step::Return(e),
-        }),
-        Piece::Abort => Ok(Action { step: Step::Abort }),
+        Piece::Return(e) => Ok(last(Step::Return(e), rest)),
+        Piece::Abort => Ok(last(Step::Abort, rest)),
     }
 }
 

@@ -1,11 +1,13 @@
 //! Statements, each elaborated to what it does.
 
-ghost use Rattle.std.specs.Prelude.{◌≡◌, ◌++◌, IfOk, OnErr, OnOk};
+ghost use Rattle.std.specs.Prelude.{◌≡◌, ◌++◌, IfOk, OnErr, OnOk, cond, nat_le};
 ghost use Rattle.td_ast.specs.Statements.{Var};
 ghost use Rattle.td_rules.specs.Breach.{first_of};
 ghost use Rattle.td_rules.specs.Known.{nothing_known, with_outer};
 ghost use Rattle.td_rules.specs.Actions.{stored_cell, stored_slot, target_breaches, stored_breaches, read_breaches, with_read, var_breaches, statement_breaches, scope_after};
 ghost use Rattle.td_typing.specs.Memory.{HasOperator};
+ghost use Rattle.td_actions.specs.declared.pieces.Piece.TheVariants as a_piece;
+ghost use Rattle.td_core.specs.Types.{bits, type_of};
 ghost use Rattle.td_actions.specs.Pieces.{set_piece, read_piece};
 ghost use Rattle.td_actions.specs.Memory.{StoresOperator};
 
@@ -44,6 +46,17 @@ pub enum Piece {
     Abort,
 }
 
+/// A cell of this type is set, where the value is no wider.
+fn set_if_narrow(cell: u32, w: Scalar, core: CoreExpr) -> Piece
+    ensures { result ≡ cond (nat_le (bits (type_of core)) (bits w)) (a_piece.Set cell core) a_piece.Nothing }
+{
+    if bits_of(type_of(&core)) <= bits_of(w) {
+        Piece::Set(cell, core)
+    } else {
+        Piece::Nothing
+    }
+}
+
 /// `*p = e;`, where p is this target. `AllocError`: e has an operator or is `is_range_okay`, and out of memory.
 #[tactic(auto, using(td_typing::proofs::Steps::first_append))]
 fn store_value(
@@ -66,11 +79,7 @@ fn store_value(
         Target::Number(cell, number) => {
             let w = scalar_of(number.width);
             let typing = fitting(alloc, known, scope, w, e, findings)?;
-            if bits_of(type_of(&typing.core)) <= bits_of(w) {
-                Ok(Piece::Set(cell, typing.core))
-            } else {
-                Ok(Piece::Nothing)
-            }
+            Ok(set_if_narrow(cell, w, typing.core))
         }
         Target::Pointer(_) => {
             findings.note(Rule::Mismatch, span_of(e));

@@ -3,6 +3,7 @@
 
 ghost use Rattle.std.specs.Prelude.{◌≡◌, IfOk};
 ghost use Rattle.td_core.specs.Term as term;
+ghost use Rattle.td_core.specs.Steps.{done_by};
 
 use std::alloc::{AllocError, Global};
 use td_core::actions::{Action, Step};
@@ -28,6 +29,19 @@ pub fn read(alloc: Global, cell: u32, rest: Action) -> Result<Action, AllocError
     })
 }
 
+/// Two actions, each in a box. `AllocError`: out of memory.
+fn both_boxed(
+    alloc: Global,
+    one: Action,
+    other: Action,
+) -> Result<(Box<Action>, Box<Action>), AllocError>
+    ensures { IfOk result (λ b. (b.0.value ≡ one) × (b.1.value ≡ other)) }
+{
+    let one = Box::new(alloc, one)?;
+    let other = Box::new(alloc, other)?;
+    Ok((one, other))
+}
+
 /// One of two actions, by a condition. `AllocError`: out of memory.
 pub fn fork(
     alloc: Global,
@@ -38,10 +52,29 @@ pub fn fork(
 ) -> Result<Action, AllocError>
     ensures { IfOk result (λ a. a ≡ term.fork condition one other rest) }
 {
-    let one = Box::new(alloc, one)?;
-    let other = Box::new(alloc, other)?;
+    let branches = both_boxed(alloc, one, other)?;
+    fork_of(alloc, condition, branches, rest)
+}
+
+/// The same, of two boxes.
+fn fork_of(
+    alloc: Global,
+    condition: CoreExpr,
+    branches: (Box<Action>, Box<Action>),
+    rest: Action,
+) -> Result<Action, AllocError>
+    ensures { IfOk result (λ a. a ≡ term.fork condition branches.0.value branches.1.value rest) }
+{
     let rest = Box::new(alloc, rest)?;
+    let (one, other) = branches;
     Ok(Action {
         step: Step::If(condition, one, other, rest),
     })
+}
+
+/// An action that ends with a step; what would follow it is let go.
+pub fn last(step: Step, rest: Action) -> Action
+    ensures { result ≡ done_by step }
+{
+    Action { step }
 }

@@ -1,6 +1,8 @@
 use Rattle.std.proofs.Common.{◌≡◌, sym, ap, ◌∙◌, ◌+◌, [], ◌∷◌, ◌++◌, length, drop, append_assoc, arith}
 use Rattle.std.proofs.lemmas.Result.{IfOk-weaker}
-use Rattle.td_ast.specs.Statements.{block_of}
+use Rattle.td_ast.specs.Statements.{block_of, statement_size}
+use Rattle.td_ast.specs.StmtView.{statement_at}
+use Rattle.td_ast.specs.StatementCode.{block_of_size}
 use Rattle.td_rules.specs.Breach.{first_of}
 use Rattle.td_rules.specs.Actions.{statement_breaches, block_breaches, vars_after, block_vars, scope_after, block_core}
 use Rattle.td_typing.proofs.Steps.{first_append}
@@ -15,6 +17,13 @@ pub pieces-piece-requires : goal.pieces-piece-requires
 pieces-piece-requires t c =
     let small = below c.args.statements.now c.loop-statement.statement-index c.statement-item.result (omega arith) c.statement-item.is in
     (omega arith, tt)
+
+pub piece-if_else_piece-requires : goal.piece-if_else_piece-requires
+piece-if_else_piece-requires t c =
+    let one = block_of_size c.in-IfElse.one in
+    let other = block_of_size c.in-IfElse.other in
+    let whole = ap statement_size (ap (λ k. statement_at c.statement.inside.span k) (sym c.in-IfElse.is) ∙ c.statement.view_is) in
+    omega (arith, one, other, whole)
 
 pub pieces-loop-statement-preserved : goal.pieces-loop-statement-preserved
 pieces-loop-statement-preserved t c =

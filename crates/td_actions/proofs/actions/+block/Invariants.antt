@@ -6,13 +6,22 @@ use Rattle.td_actions.specs.Pieces.{pieces_of, block_scope}
 use Rattle.td_actions.proofs.actions.+block.Given as goal
 
 abbrev pub decreases-piece : goal.decreases-piece
-decreases-piece l = 3 * statement_size l.statement.now
+decreases-piece l = 5 * statement_size l.statement.now
+
+abbrev pub decreases-if_piece : goal.decreases-if_piece
+decreases-if_piece l = 5 * list_size l.one.now + 3
+
+abbrev pub decreases-if_else_piece : goal.decreases-if_else_piece
+decreases-if_else_piece l = 5 * (list_size l.one.now + list_size l.other.now) + 4
+
+abbrev pub decreases-branches : goal.decreases-branches
+decreases-branches l = 5 * (list_size l.one.now + list_size l.other.now) + 3
 
 abbrev pub decreases-pieces : goal.decreases-pieces
-decreases-pieces l = 3 * list_size l.statements.now + 1
+decreases-pieces l = 5 * list_size l.statements.now + 1
 
 abbrev pub decreases-block : goal.decreases-block
-decreases-block l = 3 * list_size l.block.now + 2
+decreases-block l = 5 * list_size l.block.now + 2
 
 -- what is left of the statements decides
 abbrev pub invariant-pieces-loop-statement : goal.invariant-pieces-loop-statement
