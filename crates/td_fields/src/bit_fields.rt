@@ -60,17 +60,26 @@ fn part(flat: FlatField, bits: Option<Bits>) -> Part
     }
 }
 
+/// One part. `AllocError`: out of memory.
+fn one_part(alloc: Global, part: Part) -> Result<Items<Part>, AllocError>
+    ensures { IfOk result (λ ps. ps ≡ part ∷ []) }
+{
+    let mut parts = Items::new(alloc);
+    parts.push(part)?;
+    Ok(parts)
+}
+
 /// A field that is none of bits. `AllocError`: out of memory.
 fn whole_field(alloc: Global, flat: FlatField) -> Result<Field, AllocError>
     ensures { IfOk result (λ f. f ≡ whole_field flat) }
 {
-    let mut parts = Items::new(alloc);
-    parts.push(Part {
+    let part = Part {
         name: flat.name,
         bits: None,
         refinement: flat.refinement,
         action: flat.action,
-    })?;
+    };
+    let parts = one_part(alloc, part)?;
     Ok(Field {
         element: flat.element,
         extent: flat.extent,
@@ -89,6 +98,25 @@ fn unit_field(unit: OpenUnit) -> Field
         parts: unit.parts,
         place: unit.place,
     }
+}
+
+/// A unit of one bit field. `AllocError`: out of memory.
+fn opened(
+    alloc: Global,
+    base: NumberType,
+    width: u32,
+    flat: FlatField,
+) -> Result<OpenUnit, AllocError>
+    requires { width ≤ 8 * bytes_in base.width }
+    ensures { IfOk result (λ u. u ≡ new_unit base width flat) }
+{
+    let place = flat.place;
+    let parts = one_part(alloc, part(flat, Some(unit_bits(base, 0, width))))?;
+    let room = UnitRoom {
+        base,
+        filled: width,
+    };
+    Ok(OpenUnit { room, parts, place })
 }
 
 /// Fields, and the unit that is open after them.
@@ -145,14 +173,7 @@ impl Gathering {
         ensures unit { OnOk result (self.new.unit ≡ Some (new_unit base width flat)) }
     {
         self.close()?;
-        let place = flat.place;
-        let mut parts = Items::new(alloc);
-        parts.push(part(flat, Some(unit_bits(base, 0, width))))?;
-        let room = UnitRoom {
-            base,
-            filled: width,
-        };
-        self.unit = Some(OpenUnit { room, parts, place });
+        self.unit = Some(opened(alloc, base, width, flat)?);
         Ok(())
     }
 
@@ -174,22 +195,45 @@ impl Gathering {
         Ok(())
     }
 
-    /// One more field. `AllocError`: out of memory.
-    pub fn gather(&mut self, alloc: Global, flat: FlatField) -> Result<(), AllocError>
-        requires { IsNarrow flat }
+    /// One more field that is none of bits. `AllocError`: out of memory.
+    fn gather_whole(&mut self, alloc: Global, flat: FlatField) -> Result<(), AllocError>
+        ensures fields { OnOk result (self.new.fields ≡ (self.old.fields ++ closed self.old.unit) ++ whole_field flat ∷ []) }
+        ensures unit { OnOk result (self.new.unit ≡ None) }
+    {
+        self.close()?;
+        let field = whole_field(alloc, flat)?;
+        self.fields.push(field)
+    }
+
+    /// One more bit field of a base. `AllocError`: out of memory.
+    fn gather_bits(
+        &mut self,
+        alloc: Global,
+        base: NumberType,
+        width: u32,
+        flat: FlatField,
+    ) -> Result<(), AllocError>
+        requires bits { bit_field flat.element flat.width ≡ Some (base, width) }
+        requires narrow { width ≤ 8 * bytes_in base.width }
         ensures { OnOk result ((rest : List FlatField) → self.new.fields ++ gathered self.new.unit rest ≡ self.old.fields ++ gathered self.old.unit (flat ∷ rest)) }
     {
-        let Some((base, width)) = bit_field(&flat) else {
-            self.close()?;
-            self.fields.push(whole_field(alloc, flat)?)?;
-            return Ok(());
-        };
         if !fits_room(self.room(), base, width) {
             return self.begin(alloc, base, width, flat);
         }
         match self.unit.take() {
             Some(unit) => self.fill(unit, width, flat),
             None => self.begin(alloc, base, width, flat),
+        }
+    }
+
+    /// One more field. `AllocError`: out of memory.
+    pub fn gather(&mut self, alloc: Global, flat: FlatField) -> Result<(), AllocError>
+        requires { IsNarrow flat }
+        ensures { OnOk result ((rest : List FlatField) → self.new.fields ++ gathered self.new.unit rest ≡ self.old.fields ++ gathered self.old.unit (flat ∷ rest)) }
+    {
+        match bit_field(&flat) {
+            Some((base, width)) => self.gather_bits(alloc, base, width, flat),
+            None => self.gather_whole(alloc, flat),
         }
     }
 }
