@@ -1,10 +1,9 @@
 -- Cuts by one list of facts and then by another.
-use Rattle.std.proofs.Common.{◌≡◌, ℕ, ◌<◌, ◌+◌, length, get_or, drop, drop-cons, add-one, append-nil, append_assoc, Bool, true, false, refl, sym, ap, ◌∙◌, List, [], ◌∷◌, ◌++◌, Option, Some, None}
+use Rattle.std.proofs.Common.{◌≡◌, ℕ, ◌<◌, ◌+◌, length, get_or, drop, drop-cons, add-one, append-nil, append_assoc, Bool, true, false, refl, sym, ap, ◌∙◌, List, [], ◌∷◌, ◌++◌, None}
 use Rattle.std.specs.Prelude.{◌||◌}
 use Rattle.td_core.specs.Term.{Term}
 use Rattle.td_expr.specs.Facts.{Fact, facts_of, some_fact}
 use Rattle.td_core.specs.declared.expressions.Relation.{Relation}
-use Rattle.td_expr.specs.Same.{settled}
 use Rattle.td_expr.specs.Range.{Range, cut_by, cut_by_all, cut_where}
 use Rattle.td_arith.specs.declared.facts.Known.{Known}
 use Rattle.td_arith.specs.Known.{facts_in}
@@ -46,11 +45,6 @@ facts_push [] k = append-nil (facts_of k.truth k.condition.now)
 facts_push (j ∷ ks) k =
     ap (λ fs. facts_of j.truth j.condition.now ++ fs) (facts_push ks k)
     ∙ sym (append_assoc (facts_of j.truth j.condition.now) (facts_in ks) (facts_of k.truth k.condition.now))
-
--- what isn't constant is the same as what has other parts in no case
-pub settled_apart : (o : Option ℕ) (types : Bool) → settled None o types false ≡ false
-settled_apart None types = refl
-settled_apart (Some n) types = refl
 
 -- a comparison without a constant cuts nothing
 pub no_bound : (b : Bool) (r : Relation) (range : Range) → cut_where b r None range ≡ range

@@ -1,4 +1,3 @@
-pub mod Comparing
 pub mod Fitting
 pub mod States
 pub mod Numbers

@@ -1,6 +1,5 @@
 pub mod SafeModule
 pub mod Sizes
 pub mod Laws
-pub mod Ends
 pub mod Known
 pub mod Memory

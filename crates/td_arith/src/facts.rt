@@ -8,16 +8,16 @@ ghost use Rattle.td_expr.specs.Same.{constant_of, same};
 ghost use Rattle.td_expr.specs.Facts.{facts_of, no_span, some_fact};
 ghost use Rattle.td_expr.specs.Range.{cut_where, cut_by, cut_by_all, narrowed};
 ghost use Rattle.td_expr.specs.Safe.{up_to, is_apart, is_at_most, is_zero, bounds_sum};
-ghost use Rattle.td_arith.specs.Ends.{range_in};
+ghost use Rattle.td_ranges.specs.Ends.{range_in};
 ghost use Rattle.td_arith.specs.Known.{facts_in, asks};
 
-use crate::ends::{Ends, constant_or, cut};
-use crate::relations::{mirrored, turned};
-use crate::same::{constant_difference, is_same, is_same_difference};
 use std::alloc::{AllocError, Global};
 use td_core::expressions::{Binary, CoreExpr, Node, Relation, Scalar};
 use td_expr::constant::constant_of;
 use td_expr::types::{bits_of, type_of};
+use td_ranges::ends::{Ends, constant_or, cut};
+use td_ranges::relations::{mirrored, turned};
+use td_ranges::same::{constant_difference, is_same, is_same_difference};
 
 /// A condition that is true, or is false.
 #[derive(Clone, Copy)]

@@ -5,13 +5,10 @@
 
 pub mod actions;
 pub mod casetypes;
-pub mod ends;
 pub mod error;
 pub mod expressions;
 pub mod facts;
 pub mod fields;
 pub mod laws;
 pub mod modules;
-pub mod relations;
-pub mod same;
 pub mod walk;

@@ -7,16 +7,16 @@ ghost use Rattle.td_core.specs.Types.{type_of};
 ghost use Rattle.td_expr.specs.Facts.{facts_of};
 ghost use Rattle.td_expr.specs.Range.{narrowed, computed_range, range_of};
 ghost use Rattle.td_expr.specs.Safe.{is_safe, first, first_unsafe, unless_safe};
-ghost use Rattle.td_arith.specs.Ends.{range_in, spanned};
+ghost use Rattle.td_ranges.specs.Ends.{range_in, spanned};
 ghost use Rattle.td_arith.specs.Known.{facts_in};
 
-use crate::ends::{Ends, up_to};
 use crate::expressions::{computed_range, first_of, is_safe, spanned_range, unless, whole_range};
 use crate::facts::{Known, narrowed};
 use std::alloc::{AllocError, Global};
 use td_ast::token::Span;
 use td_core::expressions::{Binary, CoreExpr, Node};
 use td_expr::safety::Unsafe;
+use td_ranges::ends::{Ends, up_to};
 
 /// What a look at an expression tells: its range, and its first operator that isn't safe.
 #[derive(Drop)]

@@ -2,7 +2,7 @@ use Rattle.std.proofs.Common.{◌≡◌, true, false, ◌∙◌, ap, sym, subst,
 use Rattle.td_core.specs.Shown.{shown}
 use Rattle.td_expr.specs.Facts.{facts_of}
 use Rattle.td_expr.specs.Range.{cut_by_all}
-use Rattle.td_arith.specs.Ends.{range_in}
+use Rattle.td_ranges.specs.Ends.{range_in}
 use Rattle.td_arith.proofs.Cutting.{cut_twice}
 use Rattle.td_arith.proofs.facts.+cut_by_condition.Goals as goal
 

@@ -14,7 +14,7 @@ use td_expr::types::{greatest_of, type_of, wider_of};
 
 /// Two expressions, and what one walk along both tells: whether they are the same, where the first one has no value. None: the
 /// first one is of literals alone, as far as the two were compared, so that its value decides, if it has one.
-#[derive(Clone, Copy)]
+#[derive(Drop)]
 struct Pair<'a> {
     left: &'a CoreExpr,
     right: &'a CoreExpr,
@@ -258,7 +258,7 @@ pub fn is_same_difference(a: &CoreExpr, b: &CoreExpr, e: &CoreExpr) -> bool
 
 /// Constant parts have one value and one type; where none of the two is constant their parts decide. The second one is
 /// looked into only where the first is constant or the parts are the same.
-#[tactic(auto, using(crate::proofs::Cutting::settled_apart))]
+#[tactic(auto, using(crate::proofs::Comparing::settled_apart))]
 fn agree(a: &CoreExpr, b: &CoreExpr, parts: bool) -> bool
     ensures { result ≡ alike a.now b.now parts }
 {
@@ -303,7 +303,7 @@ fn all_hold(a: bool, b: bool, c: bool) -> bool
 }
 
 /// Whether a difference and an expression are the same, where their parts are or aren't.
-#[tactic(auto, using(crate::proofs::Cutting::settled_apart))]
+#[tactic(auto, using(crate::proofs::Comparing::settled_apart))]
 fn agree_difference(a: &CoreExpr, b: &CoreExpr, e: &CoreExpr, parts: bool) -> bool
     ensures { result ≡ alike (compute Minus no_span a.now b.now) e.now parts }
 {

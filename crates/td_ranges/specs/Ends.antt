@@ -1,6 +1,6 @@
 -- Ranges as the code holds them.
 use Rattle.td_expr.specs.Range.{Range, from_to, least, greatest}
-use Rattle.td_arith.specs.declared.ends.Ends.{Ends}
+use Rattle.td_ranges.specs.declared.ends.Ends.{Ends}
 
 abbrev pub range_in : Ends → Range
 range_in e = from_to e.low e.high

@@ -22,6 +22,11 @@ three_free w f None p q h = refl
 three_free w f (Some x) p q (inl h) = absurd (none-some x (sym h))
 three_free w f (Some x) p q (inr h) = two_free w (f (pos x)) p q h
 
+-- what isn't constant is the same as what has other parts in no case
+pub settled_apart : (o : Option ℕ) (types : Bool) → settled None o types false ≡ false
+settled_apart None types = refl
+settled_apart (Some n) types = refl
+
 -- where the first has no value, and neither has the second if their parts are the same, the parts decide
 pub settled_free : (o p : Option ℕ) (types parts : Bool) → o ≡ None → (parts ≡ true → p ≡ None) → parts ≡ settled o p types parts
 settled_free (Some m) p types parts h k = absurd (none-some m (sym h))

@@ -2,7 +2,7 @@
 
 ghost use Rattle.std.specs.Prelude.{◌≡◌, ◌≢◌, pos, ◌+ℤ◌, ◌-ℤ◌, ◌*ℤ◌, IfOk, OnErr};
 ghost use Rattle.td_expr.specs.Range.{cut, cut_where, whole, computed_range, constant_or, from_to, least, greatest};
-ghost use Rattle.td_arith.specs.Ends.{range_in, spanned};
+ghost use Rattle.td_ranges.specs.Ends.{range_in, spanned};
 
 use std::alloc::{AllocError, Global};
 use td_core::expressions::{Binary, Relation, Scalar};
