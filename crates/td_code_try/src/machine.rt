@@ -12,11 +12,11 @@ use std::sync::ledger::{Blank, Ledger};
 use td_core::outcome::Verdict;
 use td_ir::entries::fits;
 use td_sched::planned::Planned;
+use td_step::steps::Steps;
 use td_stream::loads::Loads;
 use td_stream::recorder::Recorder;
 use td_verify::verify::Verified;
 use td_vm::laws::fitting_cells_have_room;
-use td_vm::steps::Steps;
 use td_vm::validate::{Frame, validate};
 
 // One validation, in a frame that has the run's cells.

@@ -18,11 +18,11 @@ use std::sync::ledger::{Blank, Ledger};
 use td_core::module::Entry;
 use td_core::outcome::Verdict;
 use td_lowered::laws::code_means;
+use td_step::steps::Steps;
 use td_stream::loads::Loads;
 use td_stream::recorder::Recorder;
 use td_stream::words::Words;
 use td_verify::verify::Verified;
-use td_vm::steps::Steps;
 use td_vm::validate::{Frame, validate};
 
 // Validates, with a ledger of its own for the steps.

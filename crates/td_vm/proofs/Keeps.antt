@@ -9,7 +9,7 @@ use Rattle.td_ir.specs.Tables.{instruction_of, lengths_of, begin, end_of as end_
 use Rattle.td_ir.proofs.Begins.{begin_next}
 use Rattle.td_verify.specs.declared.shape.Shape.{Shape}
 use Rattle.td_verify.specs.declared.shape.Shape.TheVariants.{Straight, Jump, Branch, Call, Return, Fail, While, Again, Open, Close}
-use Rattle.td_verify.specs.Shape.{shape, shapes_of}
+use Rattle.td_verify.specs.Shape.{shapes_of}
 use Rattle.td_verify.specs.declared.bracket.Bracket.{Bracket}
 use Rattle.td_verify.specs.declared.bracket.Bracket.TheVariants.{Window, Loop}
 use Rattle.td_verify.specs.Brackets.{shape_at, opened, and_then, closing_window, in_loop, some_loop, window_bytes}
@@ -17,7 +17,7 @@ use Rattle.td_verify.specs.Ways.{Leads, IsIdle, MayBeEmpty}
 use Rattle.td_verify.specs.Rules.{cost}
 use Rattle.td_verify.specs.Verify.{IsIn, weights}
 use Rattle.td_verify.specs.Safe.{IsSafe, IsWholeAt, Stays, before, cost_at, looped}
-use Rattle.td_vm.specs.Stepping.{Passes, least, more, Ends, IsFine}
+use Rattle.td_step.specs.Stepping.{Passes, least, more, Ends, IsFine}
 use Rattle.td_vm.specs.Need.{called, greatest, need, room_below, registers, cells}
 use Rattle.td_vm.specs.Machine.{Idle, IsRunnable, scale}
 use Rattle.td_vm.proofs.Shapes.{next_opened}

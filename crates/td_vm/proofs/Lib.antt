@@ -1,8 +1,5 @@
 mod Stretches
 mod Shapes
-mod Members
-mod Bytes
-mod Elements
 mod Keeps
 mod Turns
 mod Rooms

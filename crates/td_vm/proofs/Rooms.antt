@@ -6,7 +6,7 @@ use Rattle.std.proofs.Math.ListN.{get_or-append}
 use Rattle.std.proofs.Math.Seq.{get_or-append_seam}
 use Rattle.td_core.specs.declared.module.Entry.{Entry}
 use Rattle.td_ir.specs.declared.tables.Parts.{Parts}
-use Rattle.td_ir.specs.Tables.{routine_of, entry_of, lengths_of, begin, first_of, end_of as end_at}
+use Rattle.td_ir.specs.Tables.{entry_of, lengths_of, begin, first_of, end_of as end_at}
 use Rattle.td_ir.specs.Entries.{Fits}
 use Rattle.td_verify.specs.declared.shape.Shape.{Shape}
 use Rattle.td_verify.specs.declared.shape.Shape.TheVariants.{Straight, Jump, Branch, Call, Return, Fail, While, Again, Open, Close}
@@ -14,11 +14,11 @@ use Rattle.td_verify.specs.Shape.{shapes_of}
 use Rattle.td_verify.specs.Brackets.{shape_at}
 use Rattle.td_verify.specs.Rules.{CallsWell}
 use Rattle.td_verify.specs.Verify.{IsIn, depths}
+use Rattle.td_step.specs.declared.activation.TraceRoom.{TraceRoom}
+use Rattle.td_step.specs.declared.activation.Env.{Env}
 use Rattle.td_vm.specs.Need.{called, greatest, need, room_below, most, most_cells, most_entry_cells, registers, cells, level}
 use Rattle.td_vm.specs.Frames.{FrameView, AreBegins, IsArmed}
 use Rattle.td_vm.specs.Machine.{IsRunnable, HasEntryRoom}
-use Rattle.td_vm.specs.declared.activation.TraceRoom.{TraceRoom}
-use Rattle.td_vm.specs.declared.activation.Env.{Env}
 use Rattle.td_vm.proofs.Keeps.{own_need}
 
 greatest_same : (s : List Shape) (f g : ℕ → ℕ) (from n : ℕ) → ((k : ℕ) → k < n → called f (shape_at s (from + k)) ≡ called g (shape_at s (from + k))) → greatest s f from n ≡ greatest s g from n

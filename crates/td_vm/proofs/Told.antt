@@ -1,5 +1,5 @@
 -- What a validation says.
-use Rattle.std.proofs.Common.{rules, ◌≡◌, ℕ, ◌+◌, ⊎_elim, List, [], length, Some, refl, sym, ap, ◌∙◌, subst, take}
+use Rattle.std.proofs.Common.{rules, ◌≡◌, ℕ, ◌+◌, ⊎_elim, List, [], length, Some, sym, ap, ◌∙◌, subst, take}
 use Rattle.td_core.specs.declared.outcome.Outcome.{Outcome}
 use Rattle.td_core.specs.declared.outcome.Verdict.TheVariants.{Accept}
 use Rattle.td_stream.specs.declared.load.Load.{Load}
@@ -7,11 +7,11 @@ use Rattle.td_stream.specs.declared.stream.Stream.{Stream}
 use Rattle.td_stream.specs.Loads.{Carries, IsLoaded, Exactly}
 use Rattle.td_stream.specs.StreamInvariant.{Looked, length_of}
 use Rattle.td_ir.specs.State.{Exit, Returned}
-use Rattle.td_vm.specs.Stepping.{Ran}
+use Rattle.td_step.specs.Stepping.{Ran}
+use Rattle.td_step.specs.declared.activation.Left.{Left}
+use Rattle.td_step.specs.declared.activation.TraceRoom.{TraceRoom}
 use Rattle.td_vm.specs.Exits.{frames_of, exit_by, call_way}
 use Rattle.td_vm.specs.Outcomes.{IsRun, outcome_of}
-use Rattle.td_vm.specs.declared.activation.Left.{Left}
-use Rattle.td_vm.specs.declared.activation.TraceRoom.{TraceRoom}
 
 nothing_loaded : (i : ℕ) → IsLoaded [] i → ⊥
 nothing_loaded i l = search rules

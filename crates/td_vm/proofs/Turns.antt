@@ -28,15 +28,18 @@ use Rattle.td_verify.specs.Brackets.{shape_at, opened, and_then, opening, in_loo
 use Rattle.td_verify.specs.Ways.{MayBeEmpty}
 use Rattle.td_verify.specs.Verify.{IsIn, depths}
 use Rattle.td_verify.specs.Safe.{IsSafe, IsWhole, IsWholeAt, before, looped}
-use Rattle.td_vm.specs.Exits.{frames_of, exit_by, way_of, call_way, WhenTurned, WhenReturned, NotTurned, NotReturned, Traced}
-use Rattle.td_vm.specs.Need.{room_below, registers, cells, level}
+use Rattle.td_step.specs.declared.activation.TraceRoom.{TraceRoom}
+use Rattle.td_step.specs.declared.activation.Env.{Env}
+use Rattle.td_step.specs.declared.activation.Left.{Left}
+use Rattle.td_step.specs.declared.activation.Left.TheVariants.{Returned, Turned, Failed}
+use Rattle.td_vm.specs.Exits.{frames_of, exit_by, way_of, call_way, WhenTurned, WhenReturned, NotTurned, Traced}
+use Rattle.td_vm.specs.Need.{registers, cells, level}
 use Rattle.td_vm.specs.Machine.{Idle, IsRunnable, HasRoom, HasEntryRoom, IsStretch, IsCallee, IdleTurn, IdleReturn, scale}
-use Rattle.td_vm.specs.declared.activation.TraceRoom.{TraceRoom}
-use Rattle.td_vm.specs.declared.activation.Env.{Env}
-use Rattle.td_vm.specs.declared.activation.Left.{Left}
-use Rattle.td_vm.specs.declared.activation.Left.TheVariants.{Returned, Turned, Failed}
 use Rattle.td_vm.proofs.Shapes.{next_opened, shape_there}
 use Rattle.td_vm.proofs.Keeps.{callee_need, goes_on}
+
+pub none_left : (n : ℕ) → (1 ≤ n → ⊥) → n ≡ 0
+none_left n h = grind arith
 
 below_all : (n : ℕ) (xs : List ℕ) → AreBelow n xs → All (λ x. x < n) xs
 below_all n [] h = All-nil (λ x. x < n)

@@ -1,6 +1,5 @@
 pub mod Need
 pub mod Frames
-pub mod Stepping
 pub mod Exits
 pub mod Machine
 pub mod Outcomes

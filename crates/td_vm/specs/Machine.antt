@@ -1,5 +1,5 @@
 -- What the machine rests on, and what its calls keep; of use in this crate alone.
-use Rattle.std.specs.Prelude.{◌≡◌, ℕ, ◌+◌, ◌<◌, ◌≤◌, Bool, true, cond, List, length, slice_index}
+use Rattle.std.specs.Prelude.{◌≡◌, ℕ, ◌+◌, ◌<◌, ◌≤◌, true, cond, List, length}
 use Rattle.std.specs.List.{All}
 use Rattle.td_ir.specs.declared.tables.Parts.{Parts}
 use Rattle.td_ir.specs.Tables.{routine_of, lengths_of, end_of}
@@ -11,11 +11,11 @@ use Rattle.td_verify.specs.Brackets.{shape_at, opened, window_bytes}
 use Rattle.td_verify.specs.Ways.{IdleWay, MayBeEmpty}
 use Rattle.td_verify.specs.Operands.{IsCellMap}
 use Rattle.td_verify.specs.Verify.{IsIn}
-use Rattle.td_verify.specs.Safe.{IsSafe, before, looped}
+use Rattle.td_verify.specs.Safe.{IsSafe, looped}
+use Rattle.td_step.specs.declared.activation.TraceRoom.{TraceRoom}
+use Rattle.td_step.specs.declared.activation.Env.{Env}
 use Rattle.td_vm.specs.Frames.{AreBegins}
 use Rattle.td_vm.specs.Need.{room_below, registers, cells, level}
-use Rattle.td_vm.specs.declared.activation.TraceRoom.{TraceRoom}
-use Rattle.td_vm.specs.declared.activation.Env.{Env}
 
 -- tables that fit together, and instructions that keep what the verifier asks of them
 pub record IsRunnable (c : Parts) : Type 0 where

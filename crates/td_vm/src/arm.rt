@@ -8,10 +8,10 @@ ghost use Rattle.td_vm.specs.Arm.{own_of};
 ghost use Rattle.td_vm.specs.Frames.{AreBegins};
 ghost use Rattle.td_vm.specs.Machine.{IsRunnable};
 
-use crate::tables::{entry_at, instruction_at, routine_at};
 use std::alloc::{AllocError, Global};
 use td_ir::instructions::Instr;
 use td_ir::tables::Parts;
+use td_step::tables::{entry_at, instruction_at, routine_at};
 
 /// What a routine takes, and the routines that it calls beside it.
 #[derive(Clone, Copy)]

@@ -5,17 +5,17 @@ ghost use Rattle.td_num.specs.Numbers.{places_from};
 ghost use Rattle.td_ir.specs.Tables.{routine_of};
 ghost use Rattle.td_ir.specs.Run.{run_routine};
 ghost use Rattle.td_stream.specs.StreamInvariant.{IsStream, Later, length_of, position, end_of};
-ghost use Rattle.td_vm.specs.Stepping.{Ran};
+ghost use Rattle.td_step.specs.Stepping.{Ran};
 ghost use Rattle.td_vm.specs.Exits.{frames_of, exit_by, call_way, NotTurned, WhenReturned};
 ghost use Rattle.td_vm.specs.Machine.{HasEntryRoom};
 ghost use Rattle.td_vm.specs.Need.{cells as cells_in};
 ghost use Rattle.td_vm.specs.Outcomes.{weight};
 
-use crate::activation::{Activation, Env, Left, TraceRoom};
 use crate::machine::{run_block, set_registers};
-use crate::steps::Steps;
-use crate::tables::routine_at;
 use std::sync::ledger::Ledger;
+use td_step::activation::{Activation, Env, Left, TraceRoom};
+use td_step::steps::Steps;
+use td_step::tables::routine_at;
 use td_stream::stream::Stream;
 use td_stream::words::Words;
 

@@ -4,16 +4,9 @@
 //! each byte and once more. No validation takes memory, or waits.
 #![tactic(auto)]
 
-mod activation;
 mod arm;
 mod entry;
 pub mod laws;
 mod machine;
 mod message;
-mod reads;
-mod step;
-pub mod steps;
-mod tables;
 pub mod validate;
-mod values;
-mod windows;

@@ -14,22 +14,22 @@ ghost use Rattle.td_verify.specs.Operands.{AreBelow};
 ghost use Rattle.td_verify.specs.Verify.{IsIn};
 ghost use Rattle.td_verify.specs.Safe.{before, looped};
 ghost use Rattle.td_stream.specs.StreamInvariant.{IsStream, Later, position, end_of};
-ghost use Rattle.td_vm.specs.Stepping.{state_of, Ran, InWindow};
+ghost use Rattle.td_step.specs.Stepping.{state_of, Ran, InWindow};
 ghost use Rattle.td_vm.specs.Exits.{frames_of, exit_by, way_of, call_way, loop_exit, WhenTurned, WhenReturned, NotTurned, NotReturned, Traced};
 ghost use Rattle.td_vm.specs.Machine.{AreLaws, HasRoom, IsStretch, IsCallee, IdleTurn, IdleReturn, scale};
 ghost use Rattle.td_vm.specs.Outcomes.{weight};
 ghost use Rattle.td_vm.specs.Need.{room_below, level};
 
-use crate::activation::{Activation, Env, Left, Step, TraceRoom};
-use crate::step::step;
-use crate::steps::Steps;
-use crate::tables::{frame_at, instruction_at, map_at, routine_at};
 use std::sync::ledger::Ledger;
 use td_core::outcome::Reason;
 use td_ir::laws::{
     run_calls, run_fails, run_goes, run_loops, run_returns, run_turns as run_turned,
 };
 use td_ir::tables::Parts;
+use td_step::activation::{Activation, Env, Left, Step, TraceRoom};
+use td_step::step::step;
+use td_step::steps::Steps;
+use td_step::tables::{frame_at, instruction_at, map_at, routine_at};
 use td_stream::stream::Stream;
 use td_stream::words::Words;
 

@@ -9,11 +9,11 @@ ghost use Rattle.td_vm.specs.Outcomes.{IsRun, weight};
 ghost use Rattle.td_vm.specs.Machine.{HasEntryRoom};
 ghost use Rattle.td_vm.specs.Need.{cells as cells_in};
 
-use crate::activation::{Env, Left, TraceRoom};
 use crate::entry::run_entry;
-use crate::steps::Steps;
 use std::sync::ledger::Ledger;
 use td_core::outcome::Verdict;
+use td_step::activation::{Env, Left, TraceRoom};
+use td_step::steps::Steps;
 use td_stream::stream::Stream;
 use td_stream::words::Words;
 

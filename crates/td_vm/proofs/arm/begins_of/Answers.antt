@@ -1,4 +1,4 @@
-use Rattle.std.proofs.Common.{◌≡◌, ℕ, suc, ◌+◌, ◌<◌, ◌≤◌, length, slice_index, sym, ap, ◌∙◌, subst, arith}
+use Rattle.std.proofs.Common.{◌≡◌, suc, ◌+◌, ◌<◌, length, slice_index, sym, ap, subst, arith}
 use Rattle.td_ir.specs.Tables.{first_of}
 use Rattle.td_vm.proofs.Turns.{end_is, end_in}
 use Rattle.td_vm.proofs.Rooms.{told_more}

@@ -1,5 +1,5 @@
 use Rattle.std.proofs.Common.{◌≡◌, ℕ, suc, ◌+◌, ◌-◌, ◌*◌, ◌<◌, ◌≤◌, max, length, slice_index, sym, ap, ◌∙◌, subst, arith}
-use Rattle.td_ir.specs.Tables.{first_of, end_of as end_at}
+use Rattle.td_ir.specs.Tables.{first_of}
 use Rattle.td_verify.specs.Shape.{shapes_of}
 use Rattle.td_vm.specs.Need.{greatest, room_below, most as most_of}
 use Rattle.td_vm.specs.Arm.{own_of}

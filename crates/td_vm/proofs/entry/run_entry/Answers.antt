@@ -1,13 +1,13 @@
-use Rattle.std.proofs.Common.{◌≡◌, ℕ, suc, ◌+◌, ◌-◌, ◌++◌, length, arith, sym, ap, ◌∙◌, refl}
+use Rattle.std.proofs.Common.{◌≡◌, suc, ◌+◌, ◌-◌, ◌++◌, length, arith, sym, ap, ◌∙◌, refl}
 use Rattle.std.specs.Prelude.{slice_index, replicate}
 use Rattle.td_num.specs.Numbers.{places_from}
 use Rattle.td_ir.specs.Tables.{first_of, end_of as end_at}
 use Rattle.td_ir.specs.Run.{block, run_routine}
 use Rattle.td_verify.specs.Safe.{before}
 use Rattle.td_stream.specs.StreamInvariant.{length_of, position, end_of}
+use Rattle.td_step.proofs.Stretches.{ran_weaker}
 use Rattle.td_vm.specs.Exits.{frames_of}
 use Rattle.td_vm.specs.Need.{room_below, level}
-use Rattle.td_vm.proofs.Stretches.{ran_weaker}
 use Rattle.td_vm.proofs.Turns.{whole_stretch, no_turn, call_left, call_steps, entry_room, within_length, traced_within, none_on_return}
 use Rattle.td_vm.proofs.entry.run_entry.Goals as goal
 

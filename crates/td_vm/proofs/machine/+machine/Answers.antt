@@ -1,4 +1,4 @@
-use Rattle.std.proofs.Common.{◌≡◌, ℕ, suc, ◌+◌, ◌-◌, ◌*◌, ◌<◌, ◌≤◌, cond, List, ◌++◌, length, arith, sym, ap, ◌∙◌, subst, refl}
+use Rattle.std.proofs.Common.{◌≡◌, suc, ◌+◌, ◌-◌, ◌*◌, ◌<◌, ◌≤◌, cond, ◌++◌, length, arith, sym, ap, ◌∙◌, subst, refl}
 use Rattle.std.specs.Prelude.{slice_index}
 use Rattle.td_ir.specs.Tables.{routine_of, map_of, lengths_of, first_of, end_of as end_at}
 use Rattle.td_ir.specs.State.{State, Exit, after, registers_from}
@@ -10,15 +10,15 @@ use Rattle.td_verify.specs.Shape.{shape, shapes_of}
 use Rattle.td_verify.specs.Brackets.{in_loop, window_bytes}
 use Rattle.td_verify.specs.Safe.{before}
 use Rattle.td_stream.specs.StreamInvariant.{position, end_of}
-use Rattle.td_vm.specs.Stepping.{state_of, more, Passes, Ends}
+use Rattle.td_step.specs.Stepping.{state_of, more, Passes, Ends}
+use Rattle.td_step.proofs.Stretches.{later_trans, later_self, ran_self, ran_weaker}
 use Rattle.td_vm.specs.Exits.{frames_of, exit_by}
 use Rattle.td_vm.specs.Need.{room_below, registers, cells, level}
 use Rattle.td_vm.specs.Machine.{scale}
-use Rattle.td_vm.proofs.Stretches.{later_trans, later_self, ran_self, ran_trans, ran_step, ran_weaker, ran_ticked, ran_after, after_more, after_once, after_none}
-use Rattle.td_vm.proofs.Bytes.{none_left}
+use Rattle.td_vm.proofs.Stretches.{ran_trans, ran_step, ran_ticked, ran_after, after_more, after_once, after_none}
 use Rattle.td_vm.proofs.Shapes.{shape_here}
 use Rattle.td_vm.proofs.Keeps.{fine_at, kept_on, goes_on, room_on, idle_more, idle_on, empty_up, step_cost, call_cost, loop_cost, spend_turn, spend_last, grown, end_kept, callee_need}
-use Rattle.td_vm.proofs.Turns.{callee_room, room_kept, one_frame, whole_stretch, body_stretch, loop_whole, turn_busy, no_turn, call_idle, begun, entered_is, call_left, turn_more, turn_fails, turns_over, return_outside, in_code, callee_at, traced_more, call_steps, call_on, call_spent, length_registers}
+use Rattle.td_vm.proofs.Turns.{none_left, callee_room, room_kept, one_frame, whole_stretch, body_stretch, loop_whole, turn_busy, no_turn, call_idle, begun, entered_is, call_left, turn_more, turn_fails, turns_over, return_outside, in_code, callee_at, traced_more, call_steps, call_on, call_spent, length_registers}
 use Rattle.td_vm.proofs.machine.+machine.Goals as goal
 
 pub run_block-steps-init : goal.run_block-steps-init

@@ -7,7 +7,7 @@ use Rattle.td_verify.specs.Brackets.{opened, window_bytes}
 use Rattle.td_verify.specs.Verify.{IsIn}
 use Rattle.td_verify.specs.Safe.{before, looped}
 use Rattle.td_stream.specs.StreamInvariant.{IsStream, Later, position, end_of}
-use Rattle.td_vm.specs.Stepping.{state_of, Ran, InWindow}
+use Rattle.td_step.specs.Stepping.{state_of, Ran, InWindow}
 use Rattle.td_vm.specs.Machine.{Idle, HasRoom, scale}
 use Rattle.td_vm.proofs.machine.+machine.Given as goal
 

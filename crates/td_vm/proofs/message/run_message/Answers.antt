@@ -1,7 +1,7 @@
-use Rattle.std.proofs.Common.{rules, ◌≡◌, [], refl, sym, ap, ◌∙◌}
+use Rattle.std.proofs.Common.{rules, ◌≡◌, [], refl, ap, ◌∙◌}
 use Rattle.td_stream.specs.StreamInvariant.{position}
 use Rattle.td_ir.specs.Run.{run_routine}
-use Rattle.td_vm.specs.declared.activation.Left.TheVariants.{Returned, Failed}
+use Rattle.td_step.specs.declared.activation.Left.TheVariants.{Returned, Failed}
 use Rattle.td_vm.proofs.Told.{run_told, told_accept}
 use Rattle.td_vm.proofs.message.run_message.Goals as goal
 

@@ -1,4 +1,4 @@
-use Rattle.std.proofs.Common.{◌≡◌, ℕ, ◌+◌, ◌≤◌, List, ◌++◌, length, sym, ap, ◌∙◌, subst, arith, take, drop}
+use Rattle.std.proofs.Common.{◌≡◌, ℕ, ◌≤◌, List, ◌++◌, length, sym, ap, ◌∙◌, subst, arith, take, drop}
 use Rattle.std.proofs.lemmas.List.{length-take-le}
 use Rattle.td_core.specs.declared.outcome.Outcome.{Outcome}
 use Rattle.td_ir.specs.declared.tables.Parts.{Parts}
@@ -7,11 +7,11 @@ use Rattle.td_ir.specs.Tables.{entry_of}
 use Rattle.td_ir.specs.Entries.{Fits}
 use Rattle.td_ir.specs.State.{Exit}
 use Rattle.td_ir.specs.Run.{run, run_routine}
+use Rattle.td_step.specs.declared.activation.Env.{Env}
 use Rattle.td_vm.specs.Exits.{frames_of}
 use Rattle.td_vm.specs.Frames.{FrameView, IsArmed}
 use Rattle.td_vm.specs.Outcomes.{IsRun}
 use Rattle.td_vm.specs.Machine.{HasEntryRoom}
-use Rattle.td_vm.specs.declared.activation.Env.{Env}
 use Rattle.td_vm.proofs.Rooms.{entry_ready, front_kept}
 use Rattle.td_vm.proofs.validate.validate.Goals as goal
 

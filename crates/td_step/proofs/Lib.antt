@@ -1,0 +1,4 @@
+pub mod Stretches
+mod Members
+mod Bytes
+mod Elements

@@ -1,0 +1,195 @@
+//! Instructions that look at bytes.
+
+ghost use Rattle.std.specs.Prelude.{◌≡◌, ℕ, ◌+◌, ◌-◌, ◌*◌, ◌/◌, ◌<◌, ◌≤◌, Bool, List, length, IfSome};
+ghost use Rattle.td_num.specs.Numbers.{bytes_in, places_from};
+ghost use Rattle.td_stream.specs.Loads.{Carries};
+ghost use Rattle.td_stream.specs.StreamInvariant.{IsStream, Later, Looked, position, end_of, length_of, loads_of};
+ghost use Rattle.td_verify.specs.Operands.{IsWidth};
+ghost use Rattle.td_ir.specs.Values as values;
+ghost use Rattle.td_ir.specs.Values.{first_where, looked_at, numbers_from};
+ghost use Rattle.td_ir.specs.Flow as flow;
+ghost use Rattle.td_step.specs.Stepping.{state_of, flow_of, effect_of, Ran, WhenGoes, OnOrOut, sought};
+
+use crate::activation::{Activation, Step};
+use crate::steps::Steps;
+use std::sync::ledger::Ledger;
+use td_core::outcome::Reason;
+use td_num::number::{ByteOrder, NumberType, Width};
+use td_stream::stream::Stream;
+use td_stream::words::Words;
+
+// The width of so many bytes.
+fn width_of(bytes: u16) -> Width
+    requires { IsWidth bytes }
+    ensures { bytes_in result ≡ bytes }
+{
+    if bytes == 1 {
+        Width::One
+    } else if bytes == 2 {
+        Width::Two
+    } else if bytes == 4 {
+        Width::Four
+    } else {
+        Width::Eight
+    }
+}
+
+fn order_of(order: u8) -> ByteOrder
+    ensures { result ≡ values.order_of order }
+{
+    if order == 0 {
+        ByteOrder::LittleEndian
+    } else {
+        ByteOrder::BigEndian
+    }
+}
+
+/// Fetches a number of so many bytes into a register.
+pub fn fetch<W: Words>(
+    into: u16,
+    order: u8,
+    width: u16,
+    site: u32,
+    next: usize,
+    regs: &mut [u64],
+    act: &Activation,
+    stream: &mut Stream<W>,
+) -> Step
+    requires register { into < length regs.old }
+    requires width { IsWidth width }
+    requires whole { IsStream W.loads W.size stream.old }
+    ensures later { Later W.loads W.reaches stream.old stream.new }
+    ensures whole { IsStream W.loads W.size stream.new }
+    ensures end { end_of stream.new ≡ end_of stream.old }
+    ensures on { OnOrOut next site result }
+    ensures takes { WhenGoes result (position stream.old + width ≤ position stream.new) }
+    ensures same { (n : ℕ) → Ran W.loads stream.old stream.new n n (λ b touched taken. (cells : List ℕ) →
+        flow.fetched b next into order width site (state_of regs.old cells act.now stream.old)
+        ≡ effect_of (flow_of result (state_of regs.old cells act.now stream.old) (state_of regs.new cells act.now stream.new)) touched (1 + taken)) }
+{
+    let number = NumberType {
+        width: width_of(width),
+        order: order_of(order),
+    };
+    if !stream.need(u32::from(width)) {
+        return Step::Fails {
+            reason: Reason::NotEnough,
+            site,
+            pos: act.start,
+        };
+    }
+    regs[into as usize] = stream.take(number);
+    Step::Goes(next)
+}
+
+fn is_sought(zero: bool, element: u64) -> bool
+    ensures { result ≡ sought zero element }
+{
+    if zero { element == 0 } else { element != 0 }
+}
+
+// Looks at elements of so many bytes, at most n of them, up to one that is zero, or up to one that isn't. Answers its place
+// among them. Each is a step.
+fn seek<W: Words, L: Ledger>(
+    width: u16,
+    n: u32,
+    zero: bool,
+    stream: &mut Stream<W>,
+    steps: &mut Steps<L>,
+) -> Option<u32>
+    requires width { IsWidth width }
+    requires fit { n * width ≤ end_of stream.old - position stream.old }
+    requires whole { IsStream W.loads W.size stream.old }
+    ensures later { Later W.loads W.reaches stream.old stream.new }
+    ensures whole { IsStream W.loads W.size stream.new }
+    ensures end { end_of stream.new ≡ end_of stream.old }
+    ensures pos { position stream.new ≡ position stream.old + looked_at result n * width }
+    ensures counted { steps.new ≡ steps.old + looked_at result n }
+    ensures looked { Looked W.loads stream.old stream.new (places_from (position stream.old) (looked_at result n * width)) }
+    ensures first { (b : List ℕ) → Carries (length_of stream.old) b (loads_of W.loads stream.new)
+        → result ≡ first_where (sought zero) (numbers_from b (position stream.old) width n) }
+    ensures within { IfSome result (λ k. k < n) }
+{
+    let kind = NumberType {
+        width: width_of(width),
+        order: ByteOrder::LittleEndian,
+    };
+    for k in 0..n {
+        steps.tick();
+        let element = stream.take(kind);
+        if is_sought(zero, element) {
+            return Some(k);
+        }
+    }
+    None
+}
+
+/// Looks at all bytes that are left, up to one that isn't zero.
+pub fn zeros<W: Words, L: Ledger>(
+    site: u32,
+    next: usize,
+    act: &Activation,
+    stream: &mut Stream<W>,
+    steps: &mut Steps<L>,
+) -> Step
+    requires whole { IsStream W.loads W.size stream.old }
+    ensures later { Later W.loads W.reaches stream.old stream.new }
+    ensures whole { IsStream W.loads W.size stream.new }
+    ensures end { end_of stream.new ≡ end_of stream.old }
+    ensures on { OnOrOut next site result }
+    ensures cost { steps.new ≤ steps.old + (position stream.new - position stream.old) }
+    ensures same { Ran W.loads stream.old stream.new steps.old steps.new (λ b touched taken. (regs cells : List ℕ) →
+        flow.zeros b next site (state_of regs cells act.now stream.old)
+        ≡ effect_of (flow_of result (state_of regs cells act.now stream.old) (state_of regs cells act.now stream.new)) touched (1 + taken)) }
+{
+    let start = stream.pos();
+    let left = stream.end() - start;
+    match seek(1, left, false, stream, steps) {
+        None => Step::Goes(next),
+        Some(k) => Step::Fails {
+            reason: Reason::Padding,
+            site,
+            pos: start + k,
+        },
+    }
+}
+
+/// Looks at elements up to one that is zero, within a bound in bytes and what is left.
+pub fn zeroterm<W: Words, L: Ledger>(
+    bound: u64,
+    width: u16,
+    site: u32,
+    next: usize,
+    act: &Activation,
+    stream: &mut Stream<W>,
+    steps: &mut Steps<L>,
+) -> Step
+    requires width { IsWidth width }
+    requires whole { IsStream W.loads W.size stream.old }
+    ensures later { Later W.loads W.reaches stream.old stream.new }
+    ensures whole { IsStream W.loads W.size stream.new }
+    ensures end { end_of stream.new ≡ end_of stream.old }
+    ensures on { OnOrOut next site result }
+    ensures takes { WhenGoes result (position stream.old + width ≤ position stream.new) }
+    ensures cost { steps.new ≤ steps.old + (position stream.new - position stream.old) }
+    ensures same { Ran W.loads stream.old stream.new steps.old steps.new (λ b touched taken. (regs cells : List ℕ) →
+        flow.zeroterm b next site width (bound / width) ((end_of stream.old - position stream.old) / width) (state_of regs cells act.now stream.old)
+        ≡ effect_of (flow_of result (state_of regs cells act.now stream.old) (state_of regs cells act.now stream.new)) touched (1 + taken)) }
+{
+    let most = bound / u64::from(width);
+    let room = (stream.end() - stream.pos()) / u32::from(width);
+    let within = most <= u64::from(room);
+    let n = if within { most as u32 } else { room };
+    match seek(width, n, true, stream, steps) {
+        Some(_) => Step::Goes(next),
+        None => Step::Fails {
+            reason: if within {
+                Reason::Constraint
+            } else {
+                Reason::NotEnough
+            },
+            site,
+            pos: act.start,
+        },
+    }
+}
