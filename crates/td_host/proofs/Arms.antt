@@ -15,13 +15,13 @@ use Rattle.td_posts.specs.declared.mail.Mail.{Mail}
 use Rattle.td_posts.specs.declared.reply.Reply.{Reply}
 use Rattle.td_posts.specs.declared.job.HostJob.{HostJob}
 use Rattle.td_posts.specs.Posts.{mail, post_name, mails_from, mails_of, all_mails}
-use Rattle.td_host.specs.declared.actor.Actor.{Actor}
-use Rattle.td_host.specs.declared.actor.Actor.TheVariants as kind
-use Rattle.td_host.specs.declared.actor.Worker.{Worker}
-use Rattle.td_host.specs.declared.actor.Guest.{Guest}
+use Rattle.td_actors.specs.declared.actor.Actor.{Actor}
+use Rattle.td_actors.specs.declared.actor.Actor.TheVariants as kind
+use Rattle.td_actors.specs.declared.actor.Worker.{Worker}
+use Rattle.td_actors.specs.declared.actor.Guest.{Guest}
 use Rattle.td_vm.specs.Frames.{IsArmed}
-use Rattle.td_host.specs.Actors.{Service}
-use Rattle.td_host.specs.Acting.{RoomsFor, StoresInside, post_of}
+use Rattle.td_actors.specs.Actors.{Service}
+use Rattle.td_actors.specs.Acting.{RoomsFor, StoresInside, post_of}
 use Rattle.td_host.specs.Gathered.{FreshWorker, FreshWorkers, FreshGuest, FreshGuests, WorkersSeated, GuestsSeated, Armed, host_at, posts_at, takes_at, draws_at}
 
 append_nil : {A : Type 0} (xs : List A) → xs ++ [] ≡ xs

@@ -25,11 +25,12 @@ use Rattle.td_posts.specs.declared.mail.Mail.{Mail}
 use Rattle.td_posts.specs.declared.reply.Reply.{Reply}
 use Rattle.td_posts.specs.declared.job.HostJob.{HostJob}
 use Rattle.td_posts.specs.Posts.{all_mails, stores_of, reply_name}
-use Rattle.td_host.specs.declared.actor.Actor.{Actor}
-use Rattle.td_host.specs.declared.actor.Actor.TheVariants as kind
-use Rattle.td_host.specs.Served.{In, pieces, ArePieces, joined, AreStored, ArePosted, AnswerTakes}
-use Rattle.td_host.specs.Acting.{acts_of, guest_seat, read_seat, post_pass, take_pass, ticket_seat, RanScript, RanWorker, Answered}
-use Rattle.td_host.specs.Actors.{Service, Did}
+use Rattle.td_actors.specs.declared.actor.Actor.{Actor}
+use Rattle.td_actors.specs.declared.actor.Actor.TheVariants as kind
+use Rattle.td_actors.specs.Replies.{pieces}
+use Rattle.td_host.specs.Served.{In, ArePieces, joined, AreStored, ArePosted, AnswerTakes}
+use Rattle.td_actors.specs.Acting.{acts_of, guest_seat, read_seat, post_pass, take_pass, ticket_seat, RanScript, RanWorker, Answered}
+use Rattle.td_actors.specs.Actors.{Service, Did}
 use Rattle.td_host.specs.Gathered.{view_of, put_one, take_one, draw_one, seats_all, puts_all, takes_all, draws_all, all_replies, FreshWorkers, FreshGuests}
 use Rattle.td_host.proofs.Shares.{one_below}
 

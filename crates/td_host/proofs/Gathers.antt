@@ -14,8 +14,8 @@ use Rattle.td_roll.specs.Heads.{HasHead, with_ended as part_ended}
 use Rattle.td_ring.specs.Ring.{PassState, RingState, pass_with}
 use Rattle.td_ring.specs.Tickets.{DrawerState, drawer_with}
 use Rattle.td_posts.specs.declared.reply.Reply.{Reply}
-use Rattle.td_host.specs.declared.actor.Actor.{Actor}
-use Rattle.td_host.specs.declared.actor.Actor.TheVariants as kind
+use Rattle.td_actors.specs.declared.actor.Actor.{Actor}
+use Rattle.td_actors.specs.declared.actor.Actor.TheVariants as kind
 use Rattle.td_host.specs.Gathered.{view_of, IsAt, put_one, take_one, draw_one, replies_of, seats_all, puts_all, takes_all, draws_all, all_replies}
 
 put_keeps : (h : Option (Head Post)) (p : Option (Part Post)) → HasHead h → HasHead (part_ended h p)

@@ -3,7 +3,7 @@ use Rattle.std.proofs.Common.{◌≡◌, Option, None, Some}
 use Rattle.atomic_table.specs.Seated.{TableId}
 use Rattle.td_posts.specs.declared.job.HostJob.{HostJob}
 use Rattle.td_host.specs.declared.serve.Finished.{Finished}
-use Rattle.td_host.specs.declared.actor.Desk.{Desk}
+use Rattle.td_actors.specs.declared.actor.Desk.{Desk}
 use Rattle.td_host.specs.declared.host.Host.{Host}
 use Rattle.td_host.specs.Served.{Served}
 use Rattle.td_host.specs.Hosts.{IfThere, IsServed, IsServedJob, replies_in}

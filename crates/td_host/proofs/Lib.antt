@@ -1,6 +1,3 @@
-pub mod Named
-pub mod Plays
-pub mod Works
 pub mod Shares
 pub mod Ends
 pub mod Unique

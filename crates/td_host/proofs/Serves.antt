@@ -12,10 +12,10 @@ use Rattle.td_posts.specs.declared.job.Step.{Step}
 use Rattle.td_posts.specs.declared.mail.Mail.{Mail}
 use Rattle.td_posts.specs.declared.job.HostJob.{HostJob}
 use Rattle.td_posts.specs.Posts.{mails_of}
-use Rattle.td_host.specs.declared.actor.Actor.{Actor}
-use Rattle.td_host.specs.declared.actor.Actor.TheVariants as kind
-use Rattle.td_host.specs.Acting.{RoomsFor, StoresInside, guest_seat, read_seat, post_pass, take_pass, ticket_seat, RanScript, RanWorker}
-use Rattle.td_host.specs.Actors.{Service, IsReady, Did}
+use Rattle.td_actors.specs.declared.actor.Actor.{Actor}
+use Rattle.td_actors.specs.declared.actor.Actor.TheVariants as kind
+use Rattle.td_actors.specs.Acting.{RoomsFor, StoresInside, guest_seat, read_seat, post_pass, take_pass, ticket_seat, RanScript, RanWorker}
+use Rattle.td_actors.specs.Actors.{Service, IsReady, Did}
 use Rattle.td_host.specs.Gathered.{IsAt, FreshWorkers, FreshGuests, Armed}
 use Rattle.td_host.proofs.Ends.{DidAll, did_all, did_both}
 

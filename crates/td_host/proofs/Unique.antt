@@ -11,9 +11,10 @@ use Rattle.td_posts.specs.declared.mail.Mail.{Mail}
 use Rattle.td_posts.specs.declared.reply.Reply.{Reply}
 use Rattle.td_posts.specs.declared.job.HostJob.{HostJob}
 use Rattle.td_posts.specs.Posts.{mail, post_name, mails_from, mails_of, all_mails, mail_named, same_name, reply_name}
-use Rattle.td_host.specs.Served.{RepliesTo, IsReplyTo}
-use Rattle.td_host.specs.Acting.{Answered}
-use Rattle.td_host.proofs.Named.{some_same}
+use Rattle.td_actors.specs.Replies.{IsReplyTo}
+use Rattle.td_host.specs.Served.{RepliesTo}
+use Rattle.td_actors.specs.Acting.{Answered}
+use Rattle.td_actors.proofs.Named.{some_same}
 
 -- a stands before b
 abbrev Before : PostName → PostName → Type 0

@@ -24,10 +24,11 @@ use Rattle.td_posts.specs.declared.mail.Mail.{Mail}
 use Rattle.td_posts.specs.declared.reply.Reply.{Reply}
 use Rattle.td_posts.specs.declared.job.HostJob.{HostJob}
 use Rattle.td_posts.specs.Posts.{mails_of, all_mails, reply_name}
-use Rattle.td_host.specs.declared.actor.Actor.{Actor}
-use Rattle.td_host.specs.Served.{ArePosted, label, mail_label, Served}
-use Rattle.td_host.specs.Acting.{Answered}
-use Rattle.td_host.specs.Actors.{Service, Did}
+use Rattle.td_actors.specs.declared.actor.Actor.{Actor}
+use Rattle.td_actors.specs.Replies.{label, mail_label}
+use Rattle.td_host.specs.Served.{ArePosted, Served}
+use Rattle.td_actors.specs.Acting.{Answered}
+use Rattle.td_actors.specs.Actors.{Service, Did}
 use Rattle.td_host.specs.Gathered.{view_of, seats_all, puts_all, takes_all, draws_all, all_replies, replies_of, Armed}
 use Rattle.td_host.proofs.Shares.{all_taken, drawn_all, drawn_below}
 use Rattle.td_host.proofs.Ends.{put_of, take_of, draw_of, put_parts, take_parts, draw_parts, seats_are, puts_are, takes_are, draws_are, DidAll, did_all, did_both, GuestsDone, guests_done, WorkersDone, workers_done, cons_opt, append_nil}

@@ -19,13 +19,13 @@ use Rattle.td_posts.specs.declared.job.HostJob.{HostJob}
 use Rattle.td_posts.specs.declared.mail.Mail.{Mail}
 use Rattle.td_posts.specs.Posts.{mails_of, all_mails}
 use Rattle.td_posts.specs.Posts.{words_in}
-use Rattle.td_host.specs.declared.actor.Actor.{Actor}
-use Rattle.td_host.specs.declared.actor.Guest.{Guest}
-use Rattle.td_host.specs.declared.actor.Worker.{Worker}
-use Rattle.td_host.specs.declared.actor.Actor.TheVariants as kind
+use Rattle.td_actors.specs.declared.actor.Actor.{Actor}
+use Rattle.td_actors.specs.declared.actor.Guest.{Guest}
+use Rattle.td_actors.specs.declared.actor.Worker.{Worker}
+use Rattle.td_actors.specs.declared.actor.Actor.TheVariants as kind
 use Rattle.td_vm.specs.Frames.{IsArmed}
-use Rattle.td_host.specs.Actors.{Service}
-use Rattle.td_host.specs.Acting.{RoomsFor, StoresInside, guest_seat, read_seat, post_pass, take_pass, ticket_seat}
+use Rattle.td_actors.specs.Actors.{Service}
+use Rattle.td_actors.specs.Acting.{RoomsFor, StoresInside, guest_seat, read_seat, post_pass, take_pass, ticket_seat}
 
 -- the host's seat and the first passes, which made so many others and gathered none
 abbrev pub host_at : TableId → List ℕ → ℕ → HostState

@@ -9,15 +9,16 @@ use Rattle.td_posts.specs.declared.mail.Mail.{Mail}
 use Rattle.td_posts.specs.declared.reply.Reply.{Reply}
 use Rattle.td_posts.specs.Posts.{all_mails}
 use Rattle.td_posts.specs.Posts.{words_in}
-use Rattle.td_host.specs.declared.actor.Desk.{Desk}
+use Rattle.td_actors.specs.declared.actor.Desk.{Desk}
 use Rattle.td_host.specs.declared.gather.Heads.{Heads}
 use Rattle.td_host.specs.declared.serve.Crew.{Crew}
 use Rattle.td_host.specs.declared.serve.Finished.{Finished}
 use Rattle.td_host.specs.declared.host.Host.{Host}
-use Rattle.td_host.specs.Acting.{Fits, most_frames}
-use Rattle.td_host.specs.Actors.{service_at}
+use Rattle.td_actors.specs.Acting.{Fits, most_frames}
+use Rattle.td_actors.specs.Actors.{service_at}
 use Rattle.td_host.specs.Gathered.{Armed, host_at, posts_at, takes_at, draws_at}
-use Rattle.td_host.specs.Served.{IsJobCode, Served}
+use Rattle.td_actors.specs.Replies.{IsJobCode}
+use Rattle.td_host.specs.Served.{Served}
 
 -- there is such a thing, and this holds of it
 abbrev pub IfThere : {A : Type 0} → Option A → (A → Type 0) → Type 0

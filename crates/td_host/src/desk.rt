@@ -5,10 +5,10 @@ ghost use Rattle.td_posts.specs.Servable.{IsServable};
 ghost use Rattle.td_host.specs.Gathered.{host_at, posts_at, takes_at, draws_at};
 ghost use Rattle.td_host.specs.Hosts.{IsOpened};
 
-use crate::actor::Desk;
 use crate::arm::mails_of_all;
 use crate::gather::Heads;
 use std::alloc::{AllocError, Global};
+use td_actors::actor::Desk;
 use td_posts::job::HostJob;
 use td_ring::naming::Naming;
 use td_ring::ring::Ring;

@@ -9,7 +9,7 @@ ghost use Rattle.td_ring.specs.Ring.{pass_with, with_put, with_take};
 ghost use Rattle.td_ring.specs.Tickets.{drawer_with, with_seat};
 ghost use Rattle.td_host.specs.Gathered.{IsAt, view_of, put_one, take_one, draw_one, replies_of, seats_all, puts_all, takes_all, draws_all, all_replies};
 
-use crate::actor::{Actor, Desk, Guest, Worker};
+use td_actors::actor::{Actor, Desk, Guest, Worker};
 use td_posts::reply::Reply;
 use td_ring::naming::Naming;
 use td_ring::passes::{PostPass, TakePass};

@@ -2,18 +2,18 @@
 
 ghost use Rattle.std.specs.Prelude.{◌≡◌, ◌+◌, [], length, IfOk};
 ghost use Rattle.td_ring.specs.declared.post.Post.{Post};
-ghost use Rattle.td_host.specs.Acting.{Fits, most_frames};
+ghost use Rattle.td_actors.specs.Acting.{Fits, most_frames};
 ghost use Rattle.td_posts.specs.Servable.{IsServable};
-ghost use Rattle.td_host.specs.Served.{IsJobCode};
+ghost use Rattle.td_actors.specs.Replies.{IsJobCode};
 ghost use Rattle.td_host.specs.Hosts.{IsArmed, IsServed, replies_in};
 
-use crate::actor::Desk;
 use crate::arm::make_crew;
 use crate::desk::open_desk;
 use crate::serve::{Crew, Finished, serve_all};
 use std::alloc::{AllocError, Global};
 use std::sync::Wait;
 use std::thread::Threads;
+use td_actors::actor::Desk;
 use td_live::gate::Gate;
 use td_num::items::Items;
 use td_posts::job::HostJob;

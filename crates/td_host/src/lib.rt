@@ -4,13 +4,10 @@
 //! buffer and the passes of the ring did is what the scripts say. It holds if `serve` returns. Nothing is said of progress.
 #![tactic(auto)]
 
-pub mod actor;
 pub mod arm;
 pub mod desk;
 pub mod gather;
-pub mod guest;
 pub mod host;
 pub mod order;
 pub mod serve;
 pub mod serving;
-pub mod worker;

@@ -4,17 +4,18 @@ ghost use Rattle.std.specs.Prelude.{◌≡◌, ℕ, ◌+◌, ◌<◌, ◌≤◌,
 ghost use Rattle.std.specs.List.{All};
 ghost use Rattle.td_ring.specs.declared.post.Post.{Post};
 ghost use Rattle.td_posts.specs.Posts.{all_mails, words_in};
-ghost use Rattle.td_host.specs.Acting.{Fits, most_frames};
-ghost use Rattle.td_host.specs.Actors.{IsReady, Did, service_at};
+ghost use Rattle.td_actors.specs.Acting.{Fits, most_frames};
+ghost use Rattle.td_actors.specs.Actors.{IsReady, Did, service_at};
 ghost use Rattle.td_host.specs.Hosts.{IsCrew};
-ghost use Rattle.td_host.specs.Served.{IsJobCode, Served};
+ghost use Rattle.td_actors.specs.Replies.{IsJobCode};
+ghost use Rattle.td_host.specs.Served.{Served};
 
-use crate::actor::{Actor, Desk};
 use crate::gather::{Heads, gather_all};
 use crate::order::put_in_order;
 use std::sync::Wait;
 use std::thread;
 use std::thread::Threads;
+use td_actors::actor::{Actor, Desk};
 use td_live::gate::Gate;
 use td_num::items::Items;
 use td_posts::reply::Reply;

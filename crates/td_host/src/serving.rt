@@ -2,9 +2,9 @@
 
 ghost use Rattle.std.specs.Prelude.{◌≡◌, ◌+◌, length, IfOk};
 ghost use Rattle.td_ring.specs.declared.post.Post.{Post};
-ghost use Rattle.td_host.specs.Acting.{Fits, most_frames};
+ghost use Rattle.td_actors.specs.Acting.{Fits, most_frames};
 ghost use Rattle.td_posts.specs.Servable.{IsServable};
-ghost use Rattle.td_host.specs.Served.{IsJobCode};
+ghost use Rattle.td_actors.specs.Replies.{IsJobCode};
 ghost use Rattle.td_host.specs.Hosts.{IsServedJob};
 
 use crate::host::Host;

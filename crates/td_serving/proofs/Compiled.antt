@@ -7,7 +7,7 @@ use Rattle.td_ir.specs.declared.tables.Parts.{Parts}
 use Rattle.td_ir.specs.Entries.{Fits}
 use Rattle.td_lowered.specs.CodeRun.{IsCodeOf, ArgumentsFit}
 use Rattle.td_input.specs.Inputs.{IsSoundHost, FitsEntry}
-use Rattle.td_host.specs.Served.{IsJobCode}
+use Rattle.td_actors.specs.Replies.{IsJobCode}
 
 serves : ArgumentsFit → (c : Parts) (m : Module) (job : HostJob) → job.format ≡ m → FitsEntry m job → IsSoundHost job → IsCodeOf c m → IsJobCode c job
 unfolding IsJobCode

@@ -25,7 +25,8 @@ use Rattle.td_posts.specs.Posts.{mail, post_name, mails_from, mails_of, all_mail
 use Rattle.td_words.specs.declared.view.SeatView.{SeatView}
 use Rattle.td_words.specs.declared.view.HostView.{HostView}
 use Rattle.td_words.specs.History.{loads}
-use Rattle.td_host.specs.Served.{IsReplyTo, RepliesTo, placed, base_in, pieces, ArePieces, joined, In, Comes, SeatsServed}
+use Rattle.td_actors.specs.Replies.{IsReplyTo, placed, base_in, pieces}
+use Rattle.td_host.specs.Served.{RepliesTo, ArePieces, joined, In, Comes, SeatsServed}
 use Rattle.td_host_job.specs.HostJobs.{IsHostJob}
 use Rattle.td_host_report.specs.Report.{host_report}
 use Rattle.td_host_report.specs.Laws.{IsReportable, HostReportsDetermineReplies}

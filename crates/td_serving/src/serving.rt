@@ -8,7 +8,7 @@ ghost use Rattle.td_input.specs.Causes.{HasCause};
 ghost use Rattle.td_front.specs.Checked.{IsChecked};
 ghost use Rattle.td_input.specs.Inputs.{IsHostInput, RefusesHost, IsSoundHost, FitsEntry};
 ghost use Rattle.td_input.specs.Marker.{IsMarker};
-ghost use Rattle.td_host.specs.Served.{IsJobCode};
+ghost use Rattle.td_actors.specs.Replies.{IsJobCode};
 ghost use Rattle.td_serving.specs.Serving.{IsServedInput};
 
 use crate::gates::{GATES_OF_EACH, gates_of};

@@ -1,6 +1,6 @@
 use Rattle.std.proofs.Common.{rules, ◌≡◌, ℕ, ◌*◌, ◌≤◌, List, length, vec_capacity, sym, ap, ◌∙◌, subst, arith}
 use Rattle.td_words.specs.Seats.{HostState}
-use Rattle.td_host.specs.Acting.{Fits}
+use Rattle.td_actors.specs.Acting.{Fits}
 use Rattle.td_host.specs.Gathered.{host_at}
 use Rattle.td_host.proofs.Arms.{arms}
 use Rattle.td_host.proofs.Bounds.{bounded}

@@ -5,7 +5,7 @@ use Rattle.td_posts.specs.declared.job.Step.TheVariants as step
 use Rattle.td_posts.specs.declared.mail.Mail.{Mail}
 use Rattle.td_posts.specs.Posts.{all_mails, mail_named}
 use Rattle.td_posts.specs.Posts.{words_in}
-use Rattle.td_host.specs.Acting.{post_of}
+use Rattle.td_actors.specs.Acting.{post_of}
 use Rattle.td_host.proofs.Arms.{rooms_store, rooms_post, rooms_all}
 use Rattle.td_host.proofs.arm.rooms_for.Goals.{in-Store, in-Post+in_ok-room_for-in-Post+in_ok-push_back-in-Post}
 use Rattle.td_host.proofs.arm.rooms_for.Goals as goal

@@ -1,5 +1,5 @@
 use Rattle.std.proofs.Common.{◌≡◌, ℕ, ◌+◌, length}
-use Rattle.td_host.specs.Actors.{service_at}
+use Rattle.td_actors.specs.Actors.{service_at}
 use Rattle.td_host.specs.Gathered.{WorkersSeated}
 use Rattle.td_host.proofs.arm.seat_workers.Given as goal
 

@@ -8,7 +8,7 @@ use Rattle.td_ring.specs.Tickets.{DrawerState}
 use Rattle.td_posts.specs.declared.reply.Reply.{Reply}
 use Rattle.td_posts.specs.declared.mail.Mail.{Mail}
 use Rattle.td_posts.specs.Posts.{reply_name}
-use Rattle.td_host.specs.Actors.{service_at}
+use Rattle.td_actors.specs.Actors.{service_at}
 use Rattle.td_host.specs.Gathered.{IsAt, Armed, seats_all, puts_all, takes_all, draws_all, all_replies}
 use Rattle.td_host.proofs.Serves.{lent, ready, at_all}
 use Rattle.td_host.proofs.Wholes.{halves, found_few, taken, same_names, served}

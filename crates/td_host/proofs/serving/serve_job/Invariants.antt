@@ -1,4 +1,4 @@
-use Rattle.td_host.specs.Acting.{Fits, most_frames}
+use Rattle.td_actors.specs.Acting.{Fits, most_frames}
 use Rattle.td_host.proofs.serving.serve_job.Given as goal
 
 abbrev pub ghosts-serve_under : goal.ghosts-serve_under

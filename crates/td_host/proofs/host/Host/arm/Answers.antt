@@ -5,8 +5,8 @@ use Rattle.td_posts.specs.declared.job.HostJob.{HostJob}
 use Rattle.td_posts.specs.declared.mail.Mail.{Mail}
 use Rattle.td_posts.specs.Posts.{words_in}
 use Rattle.td_posts.specs.Servable.{IsServable}
-use Rattle.td_host.specs.Acting.{Fits, most_frames}
-use Rattle.td_host.specs.Served.{IsJobCode}
+use Rattle.td_actors.specs.Acting.{Fits, most_frames}
+use Rattle.td_actors.specs.Replies.{IsJobCode}
 use Rattle.td_host.proofs.host.Host.arm.Goals as goal
 
 pub make_crew-requires-clause-servable : goal.make_crew-requires-clause-servable

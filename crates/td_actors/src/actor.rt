@@ -4,9 +4,9 @@ ghost use Rattle.std.specs.Prelude.{◌≡◌, ◌+◌, ◌≤◌};
 ghost use Rattle.std.specs.List.{All};
 ghost use Rattle.td_ring.specs.declared.post.Post.{Post};
 ghost use Rattle.td_posts.specs.Posts.{all_mails, words_in};
-ghost use Rattle.td_host.specs.Served.{IsJobCode};
-ghost use Rattle.td_host.specs.Acting.{Fits, most_frames};
-ghost use Rattle.td_host.specs.Actors.{IsReady, Did, service_at};
+ghost use Rattle.td_actors.specs.Replies.{IsJobCode};
+ghost use Rattle.td_actors.specs.Acting.{Fits, most_frames};
+ghost use Rattle.td_actors.specs.Actors.{IsReady, Did, service_at};
 
 use crate::guest::run_script;
 use crate::worker::run_worker;

@@ -7,8 +7,8 @@ ghost use Rattle.td_ring.specs.Ring.{pass_with, did_take};
 ghost use Rattle.td_posts.specs.Posts.{all_mails, reply_name, words_in};
 ghost use Rattle.td_live.specs.Live.{HasLoaded};
 ghost use Rattle.td_vm.specs.Frames.{IsArmed};
-ghost use Rattle.td_host.specs.Served.{IsJobCode, base_in};
-ghost use Rattle.td_host.specs.Acting.{Fits, most_frames, Answered, RanWorker};
+ghost use Rattle.td_actors.specs.Replies.{IsJobCode, base_in};
+ghost use Rattle.td_actors.specs.Acting.{Fits, most_frames, Answered, RanWorker};
 
 use std::sync::Wait;
 use std::thread;

@@ -3,9 +3,9 @@ use Rattle.td_ring.specs.Ring.{PassState}
 use Rattle.td_ring.specs.Tickets.{DrawerState}
 use Rattle.td_posts.specs.declared.mail.Mail.{Mail}
 use Rattle.td_live.specs.Live.{HasLoaded}
-use Rattle.td_host.specs.Served.{base_in}
-use Rattle.td_host.proofs.Works.{begins, answers, ends_drawn, ends_full}
-use Rattle.td_host.proofs.worker.run_worker.Goals as goal
+use Rattle.td_actors.specs.Replies.{base_in}
+use Rattle.td_actors.proofs.Works.{begins, answers, ends_drawn, ends_full}
+use Rattle.td_actors.proofs.worker.run_worker.Goals as goal
 
 pub loop-drawer-init : goal.loop-drawer-init
 loop-drawer-init g c = record {

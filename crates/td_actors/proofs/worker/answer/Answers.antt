@@ -7,10 +7,10 @@ use Rattle.td_expr.specs.Sound.{Sound}
 use Rattle.td_ir.specs.Entries.{Fits as FitsEntry}
 use Rattle.td_meaning.specs.Meaning.{meaning}
 use Rattle.td_meaning.specs.Throughout.{Throughout}
-use Rattle.td_host.specs.Served.{IsJobCode, JobCode}
-use Rattle.td_host.proofs.Named.{named_met, named_is}
-use Rattle.td_host.proofs.Works.{whole}
-use Rattle.td_host.proofs.worker.answer.Goals as goal
+use Rattle.td_actors.specs.Replies.{IsJobCode, JobCode}
+use Rattle.td_actors.proofs.Named.{named_met, named_is}
+use Rattle.td_actors.proofs.Works.{whole}
+use Rattle.td_actors.proofs.worker.answer.Goals as goal
 
 pub set_cells-requires : goal.set_cells-requires
 unfolding IsJobCode

@@ -18,8 +18,8 @@ use Rattle.td_posts.specs.declared.reply.Reply.{Reply}
 use Rattle.td_posts.specs.declared.job.HostJob.{HostJob}
 use Rattle.td_posts.specs.Posts.{all_mails, mail_named, reply_name}
 use Rattle.td_live.specs.Live.{steps_for, HasLoaded}
-use Rattle.td_host.specs.Served.{pieces, placed, base_in, base_or}
-use Rattle.td_host.specs.Acting.{Answered, read_seat, take_pass, ticket_seat, RanWorker}
+use Rattle.td_actors.specs.Replies.{pieces, placed, base_in, base_or}
+use Rattle.td_actors.specs.Acting.{Answered, read_seat, take_pass, ticket_seat, RanWorker}
 
 loads-append : (xs ys : List Access) → loads (xs ++ ys) ≡ loads xs ++ loads ys
 loads-append [] ys = refl

@@ -20,7 +20,7 @@ use Rattle.td_posts.specs.Posts.{mails_of, all_mails, mail_named, zeros, reply_n
 use Rattle.td_posts.specs.Posts.{words_in}
 use Rattle.td_ir.specs.declared.tables.Parts.{Parts}
 use Rattle.td_vm.specs.Need.{most_need, level}
-use Rattle.td_host.specs.Served.{IsReplyTo, pieces, label, mail_label}
+use Rattle.td_actors.specs.Replies.{IsReplyTo, pieces, label, mail_label}
 
 -- ---- what a post promises
 -- how many frames a failure of this code has at most

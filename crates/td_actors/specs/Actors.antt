@@ -10,10 +10,10 @@ use Rattle.td_vm.specs.Frames.{IsArmed}
 use Rattle.td_posts.specs.declared.mail.Mail.{Mail}
 use Rattle.td_posts.specs.declared.job.HostJob.{HostJob}
 use Rattle.td_posts.specs.Posts.{mails_of}
-use Rattle.td_host.specs.declared.actor.Actor.{Actor}
-use Rattle.td_host.specs.declared.actor.Actor.TheVariants as kind
-use Rattle.td_host.specs.declared.actor.Desk.{Desk}
-use Rattle.td_host.specs.Acting.{RoomsFor, StoresInside, RanScript, RanWorker}
+use Rattle.td_actors.specs.declared.actor.Actor.{Actor}
+use Rattle.td_actors.specs.declared.actor.Actor.TheVariants as kind
+use Rattle.td_actors.specs.declared.actor.Desk.{Desk}
+use Rattle.td_actors.specs.Acting.{RoomsFor, StoresInside, RanScript, RanWorker}
 
 -- what all workers work by: the tickets, the code, and how many posts there are to answer
 pub record Service : Type 0 where
