@@ -1,6 +1,7 @@
 //! Opens the desk of a job.
 
-ghost use Rattle.std.specs.Prelude.{◌≡◌, ◌<◌, ◌^◌, length, IfOk};
+ghost use Rattle.std.specs.Prelude.{◌≡◌, ◌<◌, ◌≤◌, ◌^◌, length, IfOk};
+ghost use Rattle.td_posts.specs.Posts.{all_mails};
 ghost use Rattle.td_posts.specs.Servable.{IsServable};
 ghost use Rattle.td_host.specs.Gathered.{host_at, posts_at, takes_at, draws_at};
 ghost use Rattle.td_host.specs.Hosts.{IsOpened};
@@ -10,6 +11,7 @@ use crate::gather::Heads;
 use std::alloc::{AllocError, Global};
 use td_actors::actor::Desk;
 use td_posts::job::HostJob;
+use td_posts::mail::Mail;
 use td_ring::naming::Naming;
 use td_ring::ring::Ring;
 use td_ring::tickets::Tickets;
@@ -26,7 +28,7 @@ struct Opened<J: Naming> {
 }
 
 /// A new buffer of these words, a new ring with room for so many posts, and new tickets. `AllocError`: there was no memory for them.
-/// It stands apart from `open_desk`, as the ways in which values are let go where memory runs out multiply in one function.
+/// It stands apart from `open_for`, as the ways in which values are let go where memory runs out multiply in one function.
 fn open_shared<J: Naming>(alloc: Global, words: &[u64], room: u32) -> Result<Opened<J>, AllocError>
     requires words { length words.now < 2 ^ 32 }
     requires room { 0 < room }
@@ -54,6 +56,23 @@ fn open_shared<J: Naming>(alloc: Global, words: &[u64], room: u32) -> Result<Ope
     })
 }
 
+/// The mails of all posts of a job, and a new buffer, ring and tickets for them. `AllocError`: there was no memory for them.
+fn open_for<J: Naming>(alloc: Global, job: &HostJob) -> Result<(Vec<Mail>, Opened<J>), AllocError>
+    requires { IsServable job.now }
+    ensures mails { IfOk result (λ r. r.0.items ≡ all_mails 1 job.now.guests) }
+    ensures count { IfOk result (λ r. r.1.shared.count ≡ length job.now.words) }
+    ensures ring_room { IfOk result (λ r. length r.0.items ≤ r.1.ring.capacity) }
+    ensures seat { IfOk result (λ r. r.1.heads.seat ≡ host_at r.1.shared.table job.now.words 0) }
+    ensures posts { IfOk result (λ r. r.1.heads.posts ≡ posts_at r.1.ring.queue 1) }
+    ensures takes { IfOk result (λ r. r.1.heads.takes ≡ takes_at r.1.ring.queue 1) }
+    ensures drawer { IfOk result (λ r. r.1.heads.drawer ≡ draws_at r.1.tickets 1) }
+{
+    let mails = mails_of_all(alloc, job.guests.as_slice())?;
+    let room = (mails.len() as u32).max(1);
+    let opened = open_shared::<J>(alloc, job.words.as_slice(), room)?;
+    Ok((mails, opened))
+}
+
 /// The desk of a job, with a new buffer, ring and tickets, and what the host acts with. `AllocError`: there was no memory for them.
 pub(crate) fn open_desk<J: Naming>(
     alloc: Global,
@@ -65,9 +84,7 @@ pub(crate) fn open_desk<J: Naming>(
     ensures job { IfOk result (λ r. r.0.job ≡ job) }
     ensures opened { IfOk result (λ r. IsOpened r.0 r.1) }
 {
-    let mails = mails_of_all(alloc, job.guests.as_slice())?;
-    let room = (mails.len() as u32).max(1);
-    let opened = open_shared::<J>(alloc, job.words.as_slice(), room)?;
+    let (mails, opened) = open_for::<J>(alloc, &job)?;
     let desk = Desk {
         shared: opened.shared,
         ring: opened.ring,

@@ -5,10 +5,11 @@ ghost use Rattle.td_ring.specs.declared.post.Post.{Post};
 ghost use Rattle.td_actors.specs.Acting.{Fits, most_frames};
 ghost use Rattle.td_posts.specs.Servable.{IsServable};
 ghost use Rattle.td_actors.specs.Replies.{IsJobCode};
-ghost use Rattle.td_host.specs.Hosts.{IsArmed, IsServed, replies_in};
+ghost use Rattle.td_host.specs.Hosts.{IsArmed, IsOpened, IsServed, replies_in};
 
 use crate::arm::make_crew;
 use crate::desk::open_desk;
+use crate::gather::Heads;
 use crate::serve::{Crew, Finished, serve_all};
 use std::alloc::{AllocError, Global};
 use std::sync::Wait;
@@ -51,6 +52,25 @@ impl<J: Naming + Send + Sync, G: Gate + Send + Drop> Host<J, G> {
         ensures job { IfOk result (λ h. h.desk.job ≡ job) }
     {
         let (desk, heads) = open_desk::<J>(alloc, code, job)?;
+        Host::at_desk(alloc, desk, heads, gates)
+    }
+
+    /// A host at this desk, with what acts there. `AllocError`: there was no memory for it.
+    fn at_desk(
+        alloc: Global,
+        desk: Desk<J>,
+        heads: Heads,
+        gates: Vec<G>,
+    ) -> Result<Host<J, G>, AllocError>
+        requires servable { IsServable desk.job }
+        requires opened { IsOpened desk heads }
+        requires code { IsJobCode desk.code desk.job }
+        requires gates { length gates.items ≡ desk.job.workers + length desk.job.guests }
+        requires said { (p : Post) → Fits (most_frames desk.code) desk.job p → J.names p }
+        requires says { (p : Post) → J.names p → Fits (most_frames desk.code) desk.job p }
+        ensures armed { IfOk result (λ h. IsArmed J.names h) }
+        ensures desk { IfOk result (λ h. h.desk ≡ desk) }
+    {
         let crew = make_crew(alloc, &desk, heads, gates)?;
         Ok(Host {
             desk,
@@ -87,10 +107,16 @@ impl<J: Naming + Send + Sync, G: Gate + Send + Drop> Host<J, G> {
     pub fn into_replies(self, alloc: Global) -> Items<Reply>
         ensures { result ≡ replies_in self.finished }
     {
-        let mut host = self;
-        match host.finished.take() {
-            Some(finished) => finished.into_replies(),
-            None => Items::new(alloc),
-        }
+        replies_of(alloc, self.finished)
+    }
+}
+
+/// The replies that are left, alone.
+fn replies_of(alloc: Global, finished: Option<Finished>) -> Items<Reply>
+    ensures { result ≡ replies_in finished }
+{
+    match finished {
+        Some(finished) => finished.into_replies(),
+        None => Items::new(alloc),
     }
 }
