@@ -79,13 +79,19 @@ fn words_of(alloc: Global, command: &str) -> Result<[String; 2], AllocError> {
     ])
 }
 
+// The source of a call.
+fn source_of(alloc: Global, call: &Call) -> Result<MemorySource, AllocError> {
+    let bytes = call.input.as_bytes().to_vec(alloc)?;
+    let failing = [call.failing_read].to_vec(alloc)?;
+    Ok(MemorySource::over(bytes, failing))
+}
+
 fn check_call(rt: &(impl AllocGlobal + Abort), call: &Call) -> Result<(), Fail> {
     let alloc = rt.alloc();
-    let bytes = call.input.as_bytes().to_vec(alloc)?;
-    let mut source = MemorySource::over(bytes, [call.failing_read].to_vec(alloc)?);
+    let words = words_of(alloc, call.command)?;
+    let mut source = source_of(alloc, call)?;
     let mut out = MemorySink::with_room(alloc, 4096, [call.failing_write].to_vec(alloc)?)?;
     let mut err = MemorySink::with_room(alloc, 4096, Vec::new(alloc))?;
-    let words = words_of(alloc, call.command)?;
     let status = run_alone(alloc, &words, &mut source, &mut out, &mut err);
     assert_eq!(rt; err.written(), call.err.as_bytes());
     assert_eq!(rt; out.written(), call.out.as_bytes());

@@ -69,6 +69,35 @@ fn tool_report<R: AllocGlobal + Threads + Wait + Sync + Abort>(
     Ok(())
 }
 
+// What td_host's `serve_job` makes of the input of two guests, under gates that hold at these places.
+fn host_answer<R: AllocGlobal + Threads + Wait + Sync + Abort>(
+    rt: &R,
+    notes: &Notes,
+    places: &[Place],
+    until: PostName,
+    out: &mut MemorySink,
+) -> Result<(), Fail> {
+    let alloc = rt.alloc();
+    let gates = gates_at(alloc, rt, notes, places, until)?;
+    let Ok(given) = parse_host_input(alloc, OWN_WORDS.as_bytes()) else {
+        return Err(AllocError.into());
+    };
+    let gates = gates_of(gates, given.job.workers as usize, given.job.guests.len())?;
+    let code = job_code(alloc, &given)?;
+    let entry = given.job.entry;
+    let replies = serve_job(rt, alloc, code, given.job, gates)?;
+    let written = host_report(&given.module, entry, replies.as_slice(), out);
+    assert!(rt; written.is_ok());
+    Ok(())
+}
+
+// Whether a hold ended at its limit, and how often a gate held; each answer found room.
+fn check_notes(rt: &impl Abort, notes: &Notes, gave_up: bool, holds: usize) {
+    assert!(rt; !notes.unnoted.load(Ordering::SeqCst));
+    assert_eq!(rt; notes.gave_up.load(Ordering::SeqCst), gave_up);
+    assert_eq!(rt; notes.holds.load(Ordering::SeqCst), holds);
+}
+
 #[test]
 fn guests_and_workers_run_at_the_same_time(rt: HostRuntime) -> Result<(), Fail> {
     let notes = Notes::with_room(rt.alloc(), 16)?;
@@ -79,9 +108,7 @@ fn guests_and_workers_run_at_the_same_time(rt: HostRuntime) -> Result<(), Fail> 
     let mut out = MemorySink::with_room(rt.alloc(), 4096, Vec::new(rt.alloc()))?;
     tool_report(&rt, &notes, TWO_MESSAGES, &places, post(1, 2), &mut out)?;
     assert_eq!(rt; out.written(), TWO_ACCEPTED.as_bytes());
-    assert!(rt; !notes.unnoted.load(Ordering::SeqCst));
-    assert!(rt; !notes.gave_up.load(Ordering::SeqCst));
-    assert_eq!(rt; notes.holds.load(Ordering::SeqCst), 2);
+    check_notes(&rt, &notes, false, 2);
     Ok(())
 }
 
@@ -92,31 +119,17 @@ fn a_held_guest_gets_no_reply(rt: HostRuntime) -> Result<(), Fail> {
     let mut out = MemorySink::with_room(rt.alloc(), 4096, Vec::new(rt.alloc()))?;
     tool_report(&rt, &notes, OWN_WORDS, &places, post(2, 1), &mut out)?;
     assert_eq!(rt; out.written(), OWN_STORES.as_bytes());
-    assert!(rt; !notes.unnoted.load(Ordering::SeqCst));
-    assert!(rt; notes.gave_up.load(Ordering::SeqCst));
-    assert_eq!(rt; notes.holds.load(Ordering::SeqCst), 1);
+    check_notes(&rt, &notes, true, 1);
     Ok(())
 }
 
 #[test]
 fn nor_does_it_where_a_host_serves(rt: HostRuntime) -> Result<(), Fail> {
-    let alloc = rt.alloc();
-    let notes = Notes::with_room(alloc, 16)?;
+    let notes = Notes::with_room(rt.alloc(), 16)?;
     let places = [Place::Step { guest: 2, step: 1 }];
-    let gates = gates_at(alloc, &rt, &notes, &places, post(2, 1))?;
-    let Ok(given) = parse_host_input(alloc, OWN_WORDS.as_bytes()) else {
-        return Err(AllocError.into());
-    };
-    let code = job_code(alloc, &given)?;
-    let gates = gates_of(gates, given.job.workers as usize, given.job.guests.len())?;
-    let entry = given.job.entry;
-    let replies = serve_job(&rt, alloc, code, given.job, gates)?;
-    let mut out = MemorySink::with_room(alloc, 4096, Vec::new(alloc))?;
-    let written = host_report(&given.module, entry, replies.as_slice(), &mut out);
-    assert!(rt; written.is_ok());
+    let mut out = MemorySink::with_room(rt.alloc(), 4096, Vec::new(rt.alloc()))?;
+    host_answer(&rt, &notes, &places, post(2, 1), &mut out)?;
     assert_eq!(rt; out.written(), OWN_STORES.as_bytes());
-    assert!(rt; !notes.unnoted.load(Ordering::SeqCst));
-    assert!(rt; notes.gave_up.load(Ordering::SeqCst));
-    assert_eq!(rt; notes.holds.load(Ordering::SeqCst), 1);
+    check_notes(&rt, &notes, true, 1);
     Ok(())
 }
