@@ -1,8 +1,8 @@
 //! What is known where an expression stands.
 
-ghost use Rattle.std.specs.Prelude.{◌≡◌, ◌&&◌, ◌<◌, length, IfOk, OnErr};
+ghost use Rattle.std.specs.Prelude.{◌≡◌, ◌&&◌, ◌<◌, true, false, length, IfOk, OnErr};
 ghost use Rattle.td_core.specs.declared.expressions.Binary.TheVariants.{Minus};
-ghost use Rattle.td_core.specs.declared.expressions.Relation.TheVariants.{LessEqual};
+ghost use Rattle.td_core.specs.declared.expressions.Relation.TheVariants.{LessEqual, GreaterEqual};
 ghost use Rattle.td_core.specs.Term.{compute};
 ghost use Rattle.td_expr.specs.Same.{constant_of, same};
 ghost use Rattle.td_expr.specs.Facts.{facts_of, no_span, some_fact};
@@ -83,6 +83,35 @@ fn cut_if_same(
     }
 }
 
+/// Whether one expression is a name, and another one isn't the same. It takes one step, however large the other one is.
+fn is_another_name(name: &CoreExpr, e: &CoreExpr) -> bool
+    ensures { result ≡ true → same name.now e.now ≡ false }
+{
+    match &name.node {
+        Node::Name { .. } => !is_same(name, e),
+        _ => false,
+    }
+}
+
+/// Cuts a range of an expression where one side of a comparison is that expression, and the other is constant. The other
+/// side's value isn't worked out where this side is the name of something else, as most are.
+fn cut_by_side(
+    alloc: Global,
+    side: &CoreExpr,
+    relation: Relation,
+    other: &CoreExpr,
+    e: &CoreExpr,
+    ends: Ends,
+) -> Result<Ends, AllocError>
+    ensures { IfOk result (λ r. range_in r ≡
+        cut_where (same side.now e.now) relation (constant_of other.now) (range_in ends)) }
+{
+    if is_another_name(side, e) {
+        return Ok(ends);
+    }
+    cut_if_same(alloc, side, relation, constant_of(other), e, ends)
+}
+
 /// Cuts a range of an expression by one comparison.
 fn cut_by(
     alloc: Global,
@@ -95,31 +124,59 @@ fn cut_by(
     ensures { IfOk result (λ r. range_in r ≡ cut_by
         (record { relation = relation; left = left.now; right = right.now }) e.now (range_in ends)) }
 {
-    let once = cut_if_same(alloc, left, relation, constant_of(right), e, ends)?;
-    cut_if_same(alloc, right, mirrored(relation), constant_of(left), e, once)
+    let once = cut_by_side(alloc, left, relation, right, e, ends)?;
+    cut_by_side(alloc, right, mirrored(relation), left, e, once)
 }
 
-/// Cuts a range by a comparison with a constant, where a test passes.
-fn cut_if(
+/// The same where the side is at most a difference, which is constant.
+fn cut_by_most(
     alloc: Global,
-    test: bool,
-    relation: Relation,
-    bound: Option<u64>,
+    side: &CoreExpr,
+    a: &CoreExpr,
+    b: &CoreExpr,
+    e: &CoreExpr,
     ends: Ends,
 ) -> Result<Ends, AllocError>
-    ensures { IfOk result (λ e. range_in e ≡ cut_where test relation bound (range_in ends)) }
+    ensures { IfOk result (λ r. range_in r ≡ cut_where (same side.now e.now) LessEqual
+        (constant_of (compute Minus no_span a.now b.now)) (range_in ends)) }
 {
-    if test {
-        match bound {
-            Some(c) => cut(alloc, relation, c, ends),
-            None => Ok(ends),
-        }
-    } else {
-        Ok(ends)
+    if is_another_name(side, e) {
+        return Ok(ends);
+    }
+    cut_if_same(
+        alloc,
+        side,
+        Relation::LessEqual,
+        constant_difference(a, b),
+        e,
+        ends,
+    )
+}
+
+/// The same where the difference is that expression, and at least a bound. They are compared only where there is one.
+#[tactic(auto, using(crate::proofs::Cutting::no_bound))]
+fn cut_by_least(
+    alloc: Global,
+    bound: Option<u64>,
+    a: &CoreExpr,
+    b: &CoreExpr,
+    e: &CoreExpr,
+    ends: Ends,
+) -> Result<Ends, AllocError>
+    ensures { IfOk result (λ r. range_in r ≡ cut_where (same (compute Minus no_span a.now b.now) e.now)
+        GreaterEqual bound (range_in ends)) }
+{
+    match bound {
+        Some(c) => if is_same_difference(a, b, e) {
+            cut(alloc, Relation::GreaterEqual, c, ends)
+        } else {
+            Ok(ends)
+        },
+        None => Ok(ends),
     }
 }
 
-/// The same by the comparison that one is at most a difference.
+/// Cuts a range of an expression by the comparison that one is at most a difference.
 fn cut_by_difference(
     alloc: Global,
     left: &CoreExpr,
@@ -132,21 +189,8 @@ fn cut_by_difference(
         (record { relation = LessEqual; left = left.now; right = compute Minus no_span a.now b.now })
         e.now (range_in ends)) }
 {
-    let once = cut_if_same(
-        alloc,
-        left,
-        Relation::LessEqual,
-        constant_difference(a, b),
-        e,
-        ends,
-    )?;
-    cut_if(
-        alloc,
-        is_same_difference(a, b, e),
-        Relation::GreaterEqual,
-        constant_of(left),
-        once,
-    )
+    let once = cut_by_most(alloc, left, a, b, e, ends)?;
+    cut_by_least(alloc, constant_of(left), a, b, e, once)
 }
 
 /// Cuts a range by the conjuncts of a condition.

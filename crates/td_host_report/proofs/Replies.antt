@@ -14,7 +14,8 @@ use Rattle.td_stream.specs.declared.load.Load.{Load}
 use Rattle.td_report.specs.Report.{line, report}
 use Rattle.td_report.specs.Laws.{HasWords, HasNoSpotWord, frames_of}
 use Rattle.td_report.proofs.Cutting.{Above, above_append, cut_after, AreLines, lines_append, same_lines}
-use Rattle.td_report.proofs.Determining.{differ, decimal_above, verdict_words, frame_words, cell_words, load_words, shown_cells, part_words, report_by_lines, parts_are_lines, all_begin, both_all, reports_determine_outcomes}
+use Rattle.td_report.proofs.Lines.{differ, decimal_above, verdict_words, frame_words, cell_words, load_words}
+use Rattle.td_report.proofs.Determining.{shown_cells, part_words, report_by_lines, parts_are_lines, all_begin, both_all, reports_determine_outcomes}
 use Rattle.td_posts.specs.declared.reply.Reply.{Reply}
 use Rattle.td_posts.specs.Posts.{outcome_in}
 use Rattle.td_host_report.specs.Report.{reply_line, reply_report, host_report}

@@ -1,7 +1,8 @@
 //! Sources and sinks of bytes.
 
 use std::io;
-use std::test::Fail;
+use std::process::Abort;
+use std::test::*;
 use td_io::{
     Failed, MemorySink, MemorySource, QuietSink, QuietSource, ReadError, ReaderSource, Sink,
     Source, WriteFault, WriterSink, read_whole, write_all,
@@ -78,6 +79,25 @@ fn writes_fail_at_listed_calls_and_without_room(rt: HostRuntime) -> Result<(), F
     Ok(())
 }
 
+// What is read of `abc` with this limit, where the read of this number fails; none fails where it is 0.
+fn check_whole(
+    rt: &(impl AllocGlobal + Abort),
+    fail: u64,
+    limit: usize,
+    want: Result<&[u8], ReadError>,
+) -> Result<(), Fail> {
+    let bytes = b"abc".to_vec(rt.alloc())?;
+    let fails = [fail].to_vec(rt.alloc())?;
+    let mut source = MemorySource::over(bytes, fails);
+    let read = read_whole(rt.alloc(), &mut source, limit);
+    assert_eq!(rt;
+        read.as_ref().map(|v| v.as_slice()).map_err(|e| *e),
+        want,
+        "fail {fail}, limit {limit}"
+    );
+    Ok(())
+}
+
 #[test]
 fn whole_sources_are_read_up_to_the_limit(rt: HostRuntime) -> Result<(), Fail> {
     for (fail, limit, want) in [
@@ -88,20 +108,16 @@ fn whole_sources_are_read_up_to_the_limit(rt: HostRuntime) -> Result<(), Fail> {
         (2, 2, Err(ReadError::TooLong)),
         (3, 3, Ok(b"abc".as_slice())),
     ] {
-        let bytes = b"abc".to_vec(rt.alloc())?;
-        let mut source = MemorySource::over(bytes, [fail].to_vec(rt.alloc())?);
-        let read = read_whole(rt.alloc(), &mut source, limit);
-        assert_eq!(rt;
-            read.as_ref().map(|v| v.as_slice()).map_err(|e| *e),
-            want,
-            "fail {fail}, limit {limit}"
-        );
+        check_whole(&rt, fail, limit, want)?;
     }
+    Ok(())
+}
+
+#[test]
+fn a_quiet_source_is_read_whole(rt: HostRuntime) -> Result<(), Fail> {
     let mut quiet = QuietSource::over(b"abc".to_vec(rt.alloc())?);
-    assert_eq!(rt;
-        read_whole(rt.alloc(), &mut quiet, 3)?.as_slice(),
-        b"abc".as_slice()
-    );
+    let read = read_whole(rt.alloc(), &mut quiet, 3)?;
+    assert_eq!(rt; read.as_slice(), b"abc".as_slice());
     Ok(())
 }
 
@@ -121,21 +137,34 @@ fn streams_are_read_byte_by_byte(rt: HostRuntime) -> Result<(), Fail> {
     Ok(())
 }
 
+// What is written of `abc` to a sink with room for so many bytes, whose write of this number fails; none where it is 0.
+fn check_written(
+    rt: &(impl AllocGlobal + Abort),
+    room: usize,
+    fail: u64,
+    want: Result<(), WriteFault>,
+    written: &[u8],
+) -> Result<(), Fail> {
+    let fails = [fail].to_vec(rt.alloc())?;
+    let mut sink = MemorySink::with_room(rt.alloc(), room, fails)?;
+    assert_eq!(rt;
+        write_all(&mut sink, b"abc"),
+        want,
+        "room {room}, fail {fail}"
+    );
+    assert_eq!(rt; sink.written(), written, "room {room}, fail {fail}");
+    Ok(())
+}
+
 #[test]
 fn texts_are_written_until_a_write_fails(rt: HostRuntime) -> Result<(), Fail> {
-    for (room, fail, want, written) in [
-        (3, 0, Ok(()), b"abc".as_slice()),
-        (2, 0, Err(WriteFault), b"ab".as_slice()),
-        (3, 1, Err(WriteFault), b"".as_slice()),
-    ] {
-        let mut sink = MemorySink::with_room(rt.alloc(), room, [fail].to_vec(rt.alloc())?)?;
-        assert_eq!(rt;
-            write_all(&mut sink, b"abc"),
-            want,
-            "room {room}, fail {fail}"
-        );
-        assert_eq!(rt; sink.written(), written, "room {room}, fail {fail}");
-    }
+    check_written(&rt, 3, 0, Ok(()), b"abc")?;
+    check_written(&rt, 2, 0, Err(WriteFault), b"ab")?;
+    check_written(&rt, 3, 1, Err(WriteFault), b"")
+}
+
+#[test]
+fn streams_are_written_until_they_take_nothing(rt: HostRuntime) -> Result<(), Fail> {
     for (room, want) in [(3, Ok(())), (2, Err(WriteFault))] {
         let mut sink = WriterSink::over(Clogging { room });
         assert_eq!(rt; write_all(&mut sink, b"abc"), want, "room {room}");

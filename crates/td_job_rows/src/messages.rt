@@ -28,6 +28,12 @@ fn message_line(alloc: Global, job: &NamedJob) -> Result<String, Fail> {
     Ok(line)
 }
 
+/// The line of the made message of a number.
+fn made_line(alloc: Global, n: u32) -> Result<String, Fail> {
+    let (_, job) = make_job(alloc, n)?;
+    message_line(alloc, &job)
+}
+
 const ROWS: &[(u32, &str)] = &[
     (
         0,
@@ -54,8 +60,7 @@ const ROWS: &[(u32, &str)] = &[
 #[test]
 fn each_message_is_the_one_of_its_number(rt: HostRuntime) -> Result<(), Fail> {
     for (n, wanted) in ROWS {
-        let (_, job) = make_job(rt.alloc(), *n)?;
-        let found = message_line(rt.alloc(), &job)?;
+        let found = made_line(rt.alloc(), *n)?;
         assert_eq!(rt; found.as_str(), *wanted);
     }
     println!(rt; "{} rows", ROWS.len())?;

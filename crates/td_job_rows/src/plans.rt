@@ -69,25 +69,55 @@ fn large_value(i: u64) -> u64 {
     if is_stored { 1000000 + m } else { i }
 }
 
-// All words of a plan with half as many stores are loaded, in order.
+// So many words, each of which opens with its place.
+fn large_words(alloc: Global, count: u32) -> Result<Vec<u64>, AllocError> {
+    let mut words = Vec::new(alloc);
+    for i in 0..count {
+        words.push(i as u64)?;
+    }
+    Ok(words)
+}
+
+fn large_places(alloc: Global, count: u32) -> Result<Vec<u32>, AllocError> {
+    let mut places = Vec::new(alloc);
+    for i in 0..count {
+        places.push(i)?;
+    }
+    Ok(places)
+}
+
+// So many stores, not in the order in which they are made.
+fn large_stores(alloc: Global, count: u32) -> Result<Vec<PlannedStore>, AllocError>
+    requires some { 0 < count }
+    requires most { count ≤ 65536 }
+{
+    let mut stores = Vec::new(alloc);
+    for j in 0..count as u64 {
+        stores.push(large_store((j * 40503 % count as u64) as u32))?;
+    }
+    Ok(stores)
+}
+
+// What all words of a plan with half as many stores give, loaded in order.
+fn large_values(rt: &(impl AllocGlobal + Abort), half: u32) -> Result<Vec<u64>, Fail>
+    requires some { 0 < half }
+    requires most { half ≤ 65536 }
+{
+    let words = large_words(rt.alloc(), 2 * half)?;
+    let stores = large_stores(rt.alloc(), half)?;
+    let places = large_places(rt.alloc(), 2 * half)?;
+    assert_eq!(rt; words.len(), 2 * half as usize);
+    assert_eq!(rt; stores.len(), half as usize);
+    let mut planned = Planned::open(rt.alloc(), words.as_slice(), stores.as_slice())?;
+    Ok(loaded(rt.alloc(), &mut planned, places.as_slice())?)
+}
+
+// All words of a plan with half as many stores have their values.
 fn check_large_plan(rt: &(impl AllocGlobal + Abort), half: u32) -> Result<(), Fail>
     requires some { 0 < half }
     requires most { half ≤ 65536 }
 {
-    let mut words = Vec::new(rt.alloc());
-    let mut places = Vec::new(rt.alloc());
-    for i in 0..2 * half {
-        words.push(i as u64)?;
-        places.push(i)?;
-    }
-    let mut stores = Vec::new(rt.alloc());
-    for j in 0..half as u64 {
-        stores.push(large_store((j * 40503 % half as u64) as u32))?;
-    }
-    assert_eq!(rt; words.len(), 2 * half as usize);
-    assert_eq!(rt; stores.len(), half as usize);
-    let mut planned = Planned::open(rt.alloc(), words.as_slice(), stores.as_slice())?;
-    let values = loaded(rt.alloc(), &mut planned, places.as_slice())?;
+    let values = large_values(rt, half)?;
     assert_eq!(rt; values.len(), 2 * half as usize);
     for i in 0..2 * half {
         assert_eq!(rt; values[i as usize], large_value(i as u64), "word {i}");

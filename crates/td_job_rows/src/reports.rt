@@ -1,7 +1,8 @@
 //! Reports and error lines, also of numbers that no run comes to.
 
 use std::alloc::{AllocError, Global};
-use std::test::Fail;
+use std::process::Abort;
+use std::test::*;
 use td_core::module::{Entry, Module, NameId};
 use td_core::outcome::{Outcome, Reason, Spot, TraceFrame, Verdict};
 use td_io::{MemorySink, WriteFault};
@@ -74,6 +75,22 @@ fn rejected(reason: Reason, pos: u32) -> Verdict {
     Verdict::Reject { reason, pos }
 }
 
+/// Whether a report to a sink with room for so many bytes has this answer, and writes this.
+fn check_report(
+    rt: &(impl AllocGlobal + Abort),
+    verdict: Verdict,
+    frames: &[TraceFrame],
+    loads: &[Load],
+    room: usize,
+    answer: Result<(), WriteFault>,
+    want: &[u8],
+) -> Result<(), Fail> {
+    let (out, result) = report_of(rt.alloc(), verdict, frames, loads, room)?;
+    assert_eq!(rt; result, answer);
+    assert_eq!(rt; out.written(), want);
+    Ok(())
+}
+
 #[test]
 fn reports_stand_line_by_line(rt: HostRuntime) -> Result<(), Fail> {
     let inner = frame(IP, Spot::Field(LENGTH), 18);
@@ -138,20 +155,17 @@ fn reports_stand_line_by_line(rt: HostRuntime) -> Result<(), Fail> {
             b"reject padding 5\n".as_slice(),
         ),
     ] {
-        let (out, result) = report_of(rt.alloc(), verdict, frames, loads, 200)?;
-        assert_eq!(rt; result, Ok(()));
-        assert_eq!(rt; out.written(), want);
+        check_report(&rt, verdict, frames, loads, 200, Ok(()), want)?;
     }
-    let (out, result) = report_of(
-        rt.alloc(),
+    check_report(
+        &rt,
         rejected(Reason::Action, 4),
         &[inner],
         &[first],
         20,
-    )?;
-    assert_eq!(rt; result, Err(WriteFault));
-    assert_eq!(rt; out.written(), b"reject action 4\nfram".as_slice());
-    Ok(())
+        Err(WriteFault),
+        b"reject action 4\nfram",
+    )
 }
 
 #[test]
