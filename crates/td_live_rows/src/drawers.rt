@@ -4,6 +4,7 @@ ghost use Rattle.std.specs.Prelude.{◌≡◌};
 ghost use Rattle.td_roll.specs.Heads.{HasHead};
 
 use std::alloc::{AllocError, Global};
+use std::process::Abort;
 use std::test::Fail;
 use std::thread;
 use td_ring::ticket_seat::TicketSeat;
@@ -65,6 +66,16 @@ fn mark(drawn: &[u64], marks: &mut [bool]) -> bool {
     true
 }
 
+// Each thread drew as many numbers as it should, and none was drawn twice.
+fn check_drawn(rt: &impl Abort, alloc: Global, drawers: &[Drawer<'_>]) -> Result<(), Fail> {
+    let mut marks = vec![in alloc; false; DRAWS]?;
+    for drawer in drawers {
+        assert_eq!(rt; drawer.drawn.len(), EACH);
+        assert!(rt; mark(drawer.drawn.as_slice(), marks.as_mut_slice()));
+    }
+    Ok(())
+}
+
 #[test]
 fn eight_threads_draw_each_number_once(rt: HostRuntime) -> Result<(), Fail> {
     let alloc = rt.alloc();
@@ -76,10 +87,5 @@ fn eight_threads_draw_each_number_once(rt: HostRuntime) -> Result<(), Fail> {
         DRAWERS,
         &|_, drawer| drawer.draw_all(),
     );
-    let mut marks = vec![in alloc; false; DRAWS]?;
-    for drawer in &drawers {
-        assert_eq!(rt; drawer.drawn.len(), EACH);
-        assert!(rt; mark(drawer.drawn.as_slice(), marks.as_mut_slice()));
-    }
-    Ok(())
+    check_drawn(&rt, alloc, drawers.as_slice())
 }

@@ -6,6 +6,7 @@ ghost use Rattle.td_words.specs.History.{stores};
 
 use crate::posts::{Any, post};
 use std::alloc::{AllocError, Global};
+use std::process::Abort;
 use std::sync::Wait;
 use std::test::Fail;
 use std::thread;
@@ -165,6 +166,18 @@ fn mark(taken: &[PostName], marks: &mut [bool]) -> bool {
     true
 }
 
+// Each taker took as many posts as one poster makes, and none was taken twice.
+fn check_taken(rt: &impl Abort, alloc: Global, hands: &[Hand<'_>]) -> Result<(), Fail> {
+    let mut marks = vec![in alloc; false; POSTS]?;
+    for hand in hands {
+        if let Hand::Taker(taker) = hand {
+            assert_eq!(rt; taker.taken.len(), EACH as usize);
+            assert!(rt; mark(taker.taken.as_slice(), marks.as_mut_slice()));
+        }
+    }
+    Ok(())
+}
+
 #[test]
 fn each_post_is_taken_once_and_each_posters_in_order(rt: HostRuntime) -> Result<(), Fail> {
     let alloc = rt.alloc();
@@ -177,12 +190,5 @@ fn each_post_is_taken_once_and_each_posters_in_order(rt: HostRuntime) -> Result<
         HANDS,
         &|_, hand| hand.run(&rt, alloc),
     );
-    let mut marks = vec![in alloc; false; POSTS]?;
-    for hand in &hands {
-        if let Hand::Taker(taker) = hand {
-            assert_eq!(rt; taker.taken.len(), EACH as usize);
-            assert!(rt; mark(taker.taken.as_slice(), marks.as_mut_slice()));
-        }
-    }
-    Ok(())
+    check_taken(&rt, alloc, hands.as_slice())
 }

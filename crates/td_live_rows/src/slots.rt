@@ -2,7 +2,7 @@
 
 ghost use Rattle.std.specs.Prelude.{◌≡◌, ◌<◌};
 
-use crate::validated::{ENTRY, Ran, compile, validated};
+use crate::validated::{Compiled, ENTRY, Ran, compile, validated};
 use std::alloc::Global;
 use std::test::Fail;
 use td_core::module::Module;
@@ -88,12 +88,19 @@ fn report(alloc: Global, m: &Module, ran: &Ran) -> Option<MemorySink> {
     }
 }
 
+// The report of that validation, by a module's code.
+fn report_by(alloc: Global, compiled: &Compiled, word: u32, value: u64) -> Option<MemorySink>
+    requires { word < 3 }
+{
+    let ran = raced(alloc, &compiled.code, word, value)?;
+    report(alloc, &compiled.checked, &ran)
+}
+
 fn raced_report(alloc: Global, word: u32, value: u64) -> Option<MemorySink>
     requires { word < 3 }
 {
     let compiled = compile(alloc, GAP)?;
-    let ran = raced(alloc, &compiled.code, word, value)?;
-    report(alloc, &compiled.checked, &ran)
+    report_by(alloc, &compiled, word, value)
 }
 
 #[test]
