@@ -1,17 +1,20 @@
 //! The program `td`: it makes a source and sinks of the system's standard streams, hands them and its words to
-//! [`run_tool`], and ends with the tool's status.
+//! [`run_alone`], which waits for nobody, and where that hands on (for `host` alone) to [`run_hosted`], and ends with the
+//! status of the call that answered.
 //!
 //! `main` has no clause of its own: that it does just this is seen here and in the rows that run the built program. What
-//! `run_tool` says of the streams' bytes holds of every source and sink; those of the system tell nothing of theirs.
+//! the two calls say of the streams' bytes holds of every source and sink; those of the system tell nothing of theirs.
 #![tactic(auto)]
 
 ghost use Rattle.std.specs.Prelude.{◌≡◌, ◌*◌, IfOk, length};
 
-use std::alloc::{AllocError, Global};
+use std::alloc::{AllocError, AllocGlobal, Global};
 use std::process::ExitCode;
+use std::sync::Wait;
+use std::thread::Threads;
 use std::{env, io};
-use td_cli::{finish_out_of_memory, run_tool};
-use td_io::{ReaderSource, WriterSink};
+use td_cli::{Status, finish_out_of_memory, run_alone, run_hosted};
+use td_io::{ReaderSource, Sink, Source, WriterSink};
 use td_live::gate::OpenGate;
 use td_serving::gates::GATES_OF_EACH;
 
@@ -19,16 +22,32 @@ fn main(rt: HostRuntime) -> ExitCode {
     let mut src = ReaderSource::over(rt.stdin());
     let mut out = WriterSink::over(rt.stdout());
     let mut err = WriterSink::over(rt.stderr());
-    let Ok(gates) = open_gates(rt.alloc()) else {
-        return ExitCode::from(finish_out_of_memory(&mut err).number());
-    };
-    let status = match words(&rt) {
-        Ok(words) => run_tool(&rt, words.as_slice(), &mut src, &mut out, &mut err, gates),
-        Err(error) if error.kind() == io::ErrorKind::OutOfMemory => finish_out_of_memory(&mut err),
+    let answered = match words(&rt) {
+        Ok(words) => run_alone(rt.alloc(), words.as_slice(), &mut src, &mut out, &mut err),
+        Err(error) if error.kind() == io::ErrorKind::OutOfMemory => {
+            Some(finish_out_of_memory(&mut err))
+        }
         // A word that is no text makes the command line a wrong one, as no word does.
-        Err(_) => run_tool(&rt, &[], &mut src, &mut out, &mut err, gates),
+        Err(_) => run_alone(rt.alloc(), &[], &mut src, &mut out, &mut err),
+    };
+    let status = match answered {
+        Some(status) => status,
+        None => host(&rt, &mut src, &mut out, &mut err),
     };
     ExitCode::from(status.number())
+}
+
+// Answers `host`, whose threads no gate holds.
+fn host<R: AllocGlobal + Threads + Wait + Sync, S: Source, O: Sink, E: Sink>(
+    rt: &R,
+    src: &mut S,
+    out: &mut O,
+    err: &mut E,
+) -> Status {
+    match open_gates(rt.alloc()) {
+        Ok(gates) => run_hosted(rt, src, out, err, gates),
+        Err(_) => finish_out_of_memory(err),
+    }
 }
 
 // Gates that hold nobody, for workers and for guests.

@@ -11,13 +11,14 @@ use Rattle.td_roll.specs.Roll.{part_of}
 use Rattle.td_ring.specs.declared.post.Post.{Post}
 use Rattle.td_ring.specs.Ring.{PassState, pass_state, ring_view}
 use Rattle.td_ring.specs.Tickets.{DrawerState, drawer_state, ticket_view}
+use Rattle.td_stream.specs.Layouts.{count_in}
 use Rattle.td_posts.specs.declared.job.Step.{Step}
 use Rattle.td_posts.specs.declared.job.Step.TheVariants as step
 use Rattle.td_posts.specs.declared.mail.Mail.{Mail}
 use Rattle.td_posts.specs.declared.reply.Reply.{Reply}
 use Rattle.td_posts.specs.declared.job.HostJob.{HostJob}
 use Rattle.td_posts.specs.Posts.{mails_of, all_mails, mail_named, zeros, reply_name}
-use Rattle.td_posts.specs.Posts.{words_in}
+use Rattle.td_posts.specs.Posts.{layout_of}
 use Rattle.td_ir.specs.declared.tables.Parts.{Parts}
 use Rattle.td_vm.specs.Need.{most_need, level}
 use Rattle.td_actors.specs.Replies.{IsReplyTo, pieces, label, mail_label}
@@ -27,17 +28,17 @@ use Rattle.td_actors.specs.Replies.{IsReplyTo, pieces, label, mail_label}
 abbrev pub most_frames : Parts → ℕ
 most_frames c = most_need level c
 
--- the post is one of the job's, by its first of that name, and its room is empty and large enough, for so many frames
+-- the post is one of the job's, by its first of that name, and its room is empty and large enough, with memory for just so many frames
 pub record Fits (frames : ℕ) (job : HostJob) (p : Post) : Type 0 where
   pub mail : Mail
   pub is : mail_named p.name (all_mails 1 job.guests) ≡ Some mail
   pub made : p.made ≡ mail.made
   pub name : reply_name p.room ≡ p.name
   pub empty : p.room.loads.list ≡ []
-  pub room : words_in mail.length ≤ p.room.loads.room
+  pub room : count_in (layout_of mail) ≤ p.room.loads.room
   pub cells : p.room.cells.items ≡ zeros job.cells
   pub untold : p.room.trace.items ≡ []
-  pub trace_room : frames ≤ vec_capacity p.room.trace
+  pub trace_room : vec_capacity p.room.trace ≡ frames
 
 abbrev pub post_of : Mail → Reply → Post
 post_of m r = record { name = m.name; made = m.made; room = r }

@@ -4,17 +4,18 @@ ghost use Rattle.std.specs.Prelude.{◌≡◌, ◌+◌, ◌<◌, ◌≤◌, ◌^
 ghost use Rattle.std.specs.List.{All};
 ghost use Rattle.td_ring.specs.declared.post.Post.{Post};
 ghost use Rattle.td_ring.specs.Ring.{pass_with, did_take};
-ghost use Rattle.td_posts.specs.Posts.{all_mails, reply_name, words_in};
+ghost use Rattle.td_posts.specs.Posts.{all_mails, layout_of, reply_name};
+ghost use Rattle.td_stream.specs.Layouts.{AreWithin};
 ghost use Rattle.td_live.specs.Live.{HasLoaded};
 ghost use Rattle.td_vm.specs.Frames.{IsArmed};
-ghost use Rattle.td_actors.specs.Replies.{IsJobCode, base_in};
+ghost use Rattle.td_actors.specs.Replies.{IsJobCode, layout_in};
 ghost use Rattle.td_actors.specs.Acting.{Fits, most_frames, Answered, RanWorker};
 
 use std::sync::Wait;
 use std::thread;
 use td_core::outcome::TraceFrame;
 use td_live::gate::Gate;
-use td_live::slot::{Slot, validate_slot};
+use td_live::slot::validate_slot;
 use td_posts::job::HostJob;
 use td_posts::mail::{Mail, mail_named};
 use td_posts::reply::Reply;
@@ -24,6 +25,7 @@ use td_ring::post::Post;
 use td_ring::ring::Ring;
 use td_ring::ticket_seat::TicketSeat;
 use td_ring::tickets::Tickets;
+use td_stream::layout::Layout;
 use td_verify::verify::Verified;
 use td_vm::laws::fitting_cells_have_room;
 use td_vm::validate::Frame;
@@ -52,21 +54,24 @@ fn below_the_limit(bytes: u32)
     let _bytes = bytes;
 }
 
-/// Puts what the last validation left in a frame into room that was taken for it.
+/// Puts what the last validation left in a frame into room that was taken for it, of which no list is let grow.
 fn keep(frame: &Frame, trace: &mut Vec<TraceFrame>, cells: &mut [u64])
     requires empty { trace.old.items ≡ [] }
     requires room { frame.now.trace_room ≤ vec_capacity trace.old }
     requires cells { length cells.old ≡ length frame.now.cells }
     ensures trace { trace.new.items ≡ frame.now.trace }
     ensures cells { cells.new ≡ frame.now.cells }
+    ensures memory { vec_capacity trace.new ≡ vec_capacity trace.old }
 {
     cells.copy_from_slice(frame.cells());
-    let Ok(()) = trace.extend_from_slice(frame.trace()) else {
-        unreachable!()
-    };
+    let lines = frame.trace();
+    for line in lines {
+        trace.push_reserved(*line);
+    }
 }
 
-/// Answers a post by a validation from the worker's own seat, in the worker's frame and the post's room. It takes no memory.
+/// Answers a post by a validation from the worker's own seat, in the worker's frame and the post's room. It takes no memory, and
+/// no list of the room is let grow (that of loads can't: it only takes what it has room for).
 fn answer<G: Gate>(
     code: &Verified,
     job: &HostJob,
@@ -79,7 +84,7 @@ fn answer<G: Gate>(
 ) -> Reply
     requires own { seat.old.table ≡ shared.now.table }
     requires mails { mails.now ≡ all_mails 1 job.now.guests }
-    requires inside { All (λ m. m.base + words_in m.length ≤ shared.now.count) mails.now }
+    requires inside { All (λ m. AreWithin shared.now.count (layout_of m)) mails.now }
     requires code { IsJobCode code.now job.now }
     requires armed { IsArmed code.now frame.old }
     requires fits { Fits (most_frames code.now) job.now post }
@@ -87,7 +92,8 @@ fn answer<G: Gate>(
     ensures armed { IsArmed code.now frame.new }
     ensures name { reply_name result ≡ post.name }
     ensures answered { Answered job.now result }
-    ensures read { HasLoaded (base_in mails.now result) seat.old seat.new result.loads.list }
+    ensures read { HasLoaded (layout_in mails.now result) seat.old seat.new result.loads.list }
+    ensures memory { (vec_capacity result.trace ≡ vec_capacity post.room.trace) × (vec_capacity result.cells ≡ vec_capacity post.room.cells) }
 {
     fitting_cells_have_room();
     let Post {
@@ -107,14 +113,13 @@ fn answer<G: Gate>(
         unreachable!()
     };
     below_the_limit(mail.length);
-    let slot = Slot {
-        base: mail.base,
-        length: mail.length,
-    };
+    // That there are at most 2^32 - 1 words is what this call says.
+    let _words = shared.count();
+    let layout = Layout::words(mail.base, mail.length);
     frame.set_cells(cells.as_slice());
     let args = job.args.as_slice();
     let verdict = validate_slot(
-        code, job.entry, args, shared, seat, slot, name, frame, &mut loads, gate,
+        code, job.entry, args, shared, seat, &layout, name, frame, &mut loads, gate,
     );
     keep(frame, &mut trace, cells.as_mut_slice());
     Reply {
@@ -147,7 +152,7 @@ pub fn run_worker<J: Naming, R: Wait, G: Gate>(
 )
     requires own { (seat.old.table ≡ shared.now.table) × (pass.old.queue ≡ ring.now.queue) × (drawer.old.table ≡ tickets.now) }
     requires mails { mails.now ≡ all_mails 1 job.now.guests }
-    requires inside { All (λ m. m.base + words_in m.length ≤ shared.now.count) mails.now }
+    requires inside { All (λ m. AreWithin shared.now.count (layout_of m)) mails.now }
     requires says { (p : Post) → J.names p → Fits (most_frames code.now) job.now p }
     requires code { IsJobCode code.now job.now }
     requires armed { IsArmed code.now frame.old }

@@ -1,5 +1,5 @@
 -- A job that is run by its module's code.
-use Rattle.std.proofs.Common.{◌≡◌, ℕ, ◌<◌, List, length, subst, sym, refl, Option, Some, None}
+use Rattle.std.proofs.Common.{◌≡◌, ℕ, ◌<◌, List, length, subst, sym, refl, Option, Some, None, arith}
 use Rattle.td_core.specs.declared.module.Module.{Module}
 use Rattle.td_core.specs.declared.module.Entry.{Entry}
 use Rattle.td_core.specs.declared.module.TypeDef.{TypeDef}
@@ -21,6 +21,7 @@ use Rattle.td_job_run.specs.Runs.{IsRunBy}
 use Rattle.td_core.specs.declared.outcome.Verdict.{Verdict}
 use Rattle.td_core.specs.declared.outcome.TraceFrame.{TraceFrame}
 use Rattle.td_expr.specs.Sound.{Sound}
+use Rattle.td_stream.specs.Layouts.{plain}
 use Rattle.td_stream.specs.Loads.{Carries}
 use Rattle.td_meaning.specs.Meaning.{meaning}
 use Rattle.td_meaning.specs.Throughout.{Throughout}
@@ -58,17 +59,17 @@ job_fits law c m job args cells of inside values p q =
 
 -- a run by a module's code is meant
 pub run_is_meant : (c : Parts) (m : Module) (job : RunJob) (outcome : Outcome) (loads : List Load) (args cells words : List ℕ) (stores : List PlannedStore) → IsCodeOf c m → IsSoundJob m job → args ≡ job.args → cells ≡ job.cells
-    → IsRunBy c (record { entry = job.entry; args = args; cells = cells; length = job.length; words = words; stores = stores }) outcome loads → IsMeant m job outcome loads
+    → IsRunBy c (record { entry = job.entry; args = args; cells = cells; length = job.length; layout = None; words = words; stores = stores }) outcome loads → IsMeant m job outcome loads
 run_is_meant c m job outcome loads args cells words stores of sound p q run =
-    let R : List ℕ → List ℕ → Type 0 = λ a z. IsRunBy c (record { entry = job.entry; args = a; cells = z; length = job.length; words = words; stores = stores }) outcome loads in
+    let R : List ℕ → List ℕ → Type 0 = λ a z. IsRunBy c (record { entry = job.entry; args = a; cells = z; length = job.length; layout = None; words = words; stores = stores }) outcome loads in
     let h : R job.args job.cells = subst (λ z. R job.args z) q (subst (λ a. R a cells) p run) in
-    λ b bytes carried. h.meant m b of carried (sound b bytes carried.size)
+    λ b bytes carried. h.meant m b of carried (let size = carried.size in sound b bytes (omega (arith, size)))
 
 -- a run whose outcome is the meaning's, from lists that are alike, is meant
 pub outcome_is_meant : (m : Module) (job : RunJob) (loads : List Load) (args start left cells : List ℕ) (verdict : Verdict) (trace : List TraceFrame) → IsSoundJob m job → args ≡ job.args → start ≡ job.cells → cells ≡ left
-    → ((b : List ℕ) → Carries job.length b loads → Throughout Sound m job.entry args start b → IsBehaviorOf loads (meaning m job.entry args start b) (record { verdict = verdict; trace = trace; cells = left }))
+    → ((b : List ℕ) → Carries (plain job.length) b loads → Throughout Sound m job.entry args start b → IsBehaviorOf (plain job.length) loads (meaning m job.entry args start b) (record { verdict = verdict; trace = trace; cells = left }))
     → IsMeant m job (record { verdict = verdict; trace = trace; cells = cells }) loads
 outcome_is_meant m job loads args start left cells verdict trace sound p q r told =
-    let R : List ℕ → List ℕ → List ℕ → Type 0 = λ a s z. (b : List ℕ) → Carries job.length b loads → Throughout Sound m job.entry a s b → IsBehaviorOf loads (meaning m job.entry a s b) (record { verdict = verdict; trace = trace; cells = z }) in
+    let R : List ℕ → List ℕ → List ℕ → Type 0 = λ a s z. (b : List ℕ) → Carries (plain job.length) b loads → Throughout Sound m job.entry a s b → IsBehaviorOf (plain job.length) loads (meaning m job.entry a s b) (record { verdict = verdict; trace = trace; cells = z }) in
     let h : R job.args job.cells cells = subst (λ z. R job.args job.cells z) (sym r) (subst (λ s. R job.args s left) q (subst (λ a. R a start left) p told)) in
-    λ b bytes carried. h b carried (sound b bytes carried.size)
+    λ b bytes carried. h b carried (let size = carried.size in sound b bytes (omega (arith, size)))

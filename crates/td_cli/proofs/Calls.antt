@@ -283,9 +283,8 @@ bench_call words n status state src out err means ends good bad =
 -- `host` was handed on untouched, and then answered
 pub handed_call : {S O E : Type 0} (words : List (List ℕ)) (status : Status) (source : S → SourceState) (out : O → SinkState) (err : E → SinkState)
     (s t u : S) (o p q : O) (e f h : E) → IsHandedOn words (passage source s t) (passage out o p) (passage err e f)
-    → Answered words Host status (passage source t u) (passage out p q) (passage err f h) → CallEnds words status (passage source s u) (passage out o q) (passage err e h)
-handed_call words status source out err s t u o p q e f h handed answered =
-    let there = answered_call words Host status (passage source t u) (passage out p q) (passage err f h) handed.means answered in
+    → CallEnds words status (passage source t u) (passage out p q) (passage err f h) → CallEnds words status (passage source s u) (passage out o q) (passage err e h)
+handed_call words status source out err s t u o p q e f h handed there =
     let from_source = subst (λ x. CallEnds words status (passage source x u) (passage out p q) (passage err f h)) handed.unread there in
     let from_out = subst (λ x. CallEnds words status (passage source s u) (passage out x q) (passage err f h)) handed.no_output from_source in
     subst (λ x. CallEnds words status (passage source s u) (passage out o q) (passage err x h)) handed.no_line from_out

@@ -1,5 +1,5 @@
 -- A job that is run by its module's code.
-use Rattle.std.proofs.Common.{◌≡◌, ℕ, ◌<◌, List, length, ap, ◌∙◌, subst, sym, refl, Option, Some, None}
+use Rattle.std.proofs.Common.{◌≡◌, ℕ, ◌<◌, List, length, ap, ◌∙◌, subst, sym, refl, Option, Some, None, arith}
 use Rattle.td_core.specs.declared.module.Module.{Module}
 use Rattle.td_core.specs.declared.module.Entry.{Entry}
 use Rattle.td_core.specs.declared.module.TypeDef.{TypeDef}
@@ -42,7 +42,7 @@ job_fits law c m job of inside values =
     law c m job.entry job.args job.cells of inside (subst (λ b. AllFit b job.args) (same_args o) values.args) (subst (λ b. AllFit b job.cells) (same_cells o) values.cells)
 
 abbrev pub input_of : RunJob → Input
-input_of job = record { entry = job.entry; args = job.args; cells = job.cells; length = job.length; words = job.words; stores = job.stores }
+input_of job = record { entry = job.entry; args = job.args; cells = job.cells; length = job.length; layout = None; words = job.words; stores = job.stores }
 
 -- a run by a module's code is a run of the job
 pub run_of : (c : Parts) (m : Module) (job : RunJob) (outcome : Outcome) (loads : List Load) → IsCodeOf c m → IsSoundJob m job → IsRunBy c (input_of job) outcome loads → IsRunOf m job outcome loads
@@ -50,7 +50,7 @@ run_of c m job outcome loads of sound run = record {
   rising = run.rising;
   inside = run.inside;
   held = run.held;
-  meant = λ b bytes carried. run.meant m b of carried (sound b bytes carried.size);
+  meant = λ b bytes carried. run.meant m b of carried (sound b bytes (let size = carried.size in omega (arith, size)));
 }
 
 -- the same of lists that are the job's
@@ -58,9 +58,9 @@ pub fits_with : (c : Parts) (entry : Entry) (args args' cells cells' : List ℕ)
 fits_with c entry args args' cells cells' p q h = subst (λ x. Fits c entry args' x) (sym q) (subst (λ x. Fits c entry x cells) (sym p) h)
 
 pub run_with : (c : Parts) (job : RunJob) (outcome : Outcome) (loads : List Load) (args cells words : List ℕ) (stores : List PlannedStore) → args ≡ job.args → cells ≡ job.cells → words ≡ job.words → stores ≡ job.stores
-    → IsRunBy c (record { entry = job.entry; args = args; cells = cells; length = job.length; words = words; stores = stores }) outcome loads → IsRunBy c (input_of job) outcome loads
+    → IsRunBy c (record { entry = job.entry; args = args; cells = cells; length = job.length; layout = None; words = words; stores = stores }) outcome loads → IsRunBy c (input_of job) outcome loads
 run_with c job outcome loads args cells words stores p q r t h =
-    let make : List ℕ → List ℕ → List ℕ → List PlannedStore → Input = λ a b w z. record { entry = job.entry; args = a; cells = b; length = job.length; words = w; stores = z } in
+    let make : List ℕ → List ℕ → List ℕ → List PlannedStore → Input = λ a b w z. record { entry = job.entry; args = a; cells = b; length = job.length; layout = None; words = w; stores = z } in
     subst (λ z. IsRunBy c (make job.args job.cells job.words z) outcome loads) t
     (subst (λ z. IsRunBy c (make job.args job.cells z stores) outcome loads) r
     (subst (λ z. IsRunBy c (make job.args z words stores) outcome loads) q

@@ -1,7 +1,7 @@
 //! How a call ends once all is decided: text goes to a sink, and the status follows. Nothing here takes memory, so nothing
 //! that was decided can be told as want of it.
 
-ghost use Rattle.std.specs.Prelude.{[], MatchResult};
+ghost use Rattle.std.specs.Prelude.{[], None, MatchResult};
 ghost use Rattle.td_report.specs.Report.{report};
 ghost use Rattle.td_host_report.specs.Report.{host_report};
 ghost use Rattle.td_report.specs.Summary.{summary};
@@ -75,13 +75,14 @@ fn finish_unanswered<E: Sink>(input: &[u8], error: &InputError, err: &mut E) -> 
 
 // Ends a call with the report of a run.
 fn finish_report<O: Sink>(run: &FinishedRun, out: &mut O) -> Status
-    ensures { EndsWith Status.Done (report run.now.outcome run.now.input.module run.now.input.job.entry run.now.loads.list) (passage O.state out.old out.new) result }
+    ensures { EndsWith Status.Done (report run.now.outcome run.now.input.module run.now.input.job.entry run.now.loads.list None) (passage O.state out.old out.new) result }
 {
     match run_report(
         &run.outcome,
         &run.input.module,
         run.input.job.entry,
         &run.loads,
+        None,
         out,
     ) {
         Ok(()) => Status::Done,
@@ -97,7 +98,7 @@ pub(crate) fn finish_run<O: Sink, E: Sink>(
     err: &mut E,
 ) -> Status
     ensures { MatchResult run.now
-        (λ run. EndsWithOutput (report run.outcome run.input.module run.input.job.entry run.loads.list) (passage O.state out.old out.new) (passage E.state err.old err.new) result)
+        (λ run. EndsWithOutput (report run.outcome run.input.module run.input.job.entry run.loads.list None) (passage O.state out.old out.new) (passage E.state err.old err.new) result)
         (λ error. EndsWithLine (unanswered_status error) (unanswered_line input.now error) (passage O.state out.old out.new) (passage E.state err.old err.new) result) }
 {
     match run {

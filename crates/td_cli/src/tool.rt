@@ -127,9 +127,16 @@ fn answer_command<S: Source, O: Sink, E: Sink>(
     }
 }
 
-/// Runs the tool on a command line, of which the first word is the program's name, and waits for nobody. None: the words mean
-/// `host`, which waits, and nothing was read or written. For such words there is another answer only where there was no
-/// memory.
+/// Runs the tool on a command line, of which the first word is the program's name, and waits for nobody: it has no bound
+/// `Wait`, so that it returns is proved. None: the words mean `host`, which waits and is answered by [`run_hosted`], and nothing was
+/// read or written. For such words there is another answer only where there was no memory.
+///
+/// At `Done` of `check` the input stands for a module, of which the counts
+/// were written. At `Done` of `tidy` it stands for one too, and the canonical text of its tree was written. At `Done` of `code` and
+/// `pack` it stands for one too, and the listing, or the image, of code was written that does what the module means. At `Done` of
+/// `run` the input was answered by the report of a run in which each word of the message was loaded at most once, and whose
+/// outcome is the meaning's on every list of bytes that carries
+/// the loads. At `Done` of `bench` the counts and sums over one such run of each message were written.
 ///
 /// The words are looked at first; then the source is read to its end, or until one byte past the limit was read; then the
 /// input is answered. For `bench` nothing is read. A source that has more is taken from by at most 4,096 bytes past the limit, and never read again.
@@ -157,15 +164,25 @@ pub fn run_alone<S: Source, O: Sink, E: Sink>(
     }
 }
 
-/// Runs the tool: the call that the program makes. It hands its words and streams to [`run_alone`] and says the same of
-/// them; and it answers `host`, with the first gates of each half, sixteen for workers and then sixteen for guests. It may
-/// wait there, and what it says then holds if it returns. At `Done` of `check` the input stands for a module, of which the counts
-/// were written. At `Done` of `tidy` it stands for one too, and the canonical text of its tree was written. At `Done` of `code` and
-/// `pack` it stands for one too, and the listing, or the image, of code was written that does what the module means. At `Done` of
-/// `run` the input was answered by the report of a run in which each word of the message was loaded at most once, and whose
-/// outcome is the meaning's on every list of bytes that carries
-/// the loads. At `Done` of `host` the input was answered by the report of a list of replies by which all posts of its job are
-/// served. At `Done` of `bench` the counts and sums over one such run of each message were written.
+/// Answers `host`, for which [`run_alone`] hands on: reads the source to its end, as that says, and serves the posts of its job,
+/// with the first gates of each half, sixteen for workers and then sixteen for guests. It may wait, and what it says holds if
+/// it returns. At `Done` the input was answered by the report of a list of replies by which all posts of its job are served.
+pub fn run_hosted<
+    R: AllocGlobal + Threads + Wait + Sync,
+    S: Source,
+    O: Sink,
+    E: Sink,
+    G: Gate + Send + Drop,
+>(rt: &R, src: &mut S, out: &mut O, err: &mut E, gates: Vec<G>) -> Status
+    requires { length gates.items ≡ 2 * GATES_OF_EACH }
+    ensures { (words : List (List ℕ)) → Means words Command.Host → CallEnds words result
+        (passage S.state src.old src.new) (passage O.state out.old out.new) (passage E.state err.old err.new) }
+{
+    answer_hosted(rt, src, out, err, gates)
+}
+
+/// Runs the tool, whatever the command: [`run_alone`], and where that hands on [`run_hosted`]. It may wait for `host`; for which
+/// words it may is said by the clauses of the two, which the program calls itself.
 pub fn run_tool<
     R: AllocGlobal + Threads + Wait + Sync,
     S: Source,
@@ -179,6 +196,6 @@ pub fn run_tool<
 {
     match run_alone(rt.alloc(), words, src, out, err) {
         Some(status) => status,
-        None => answer_hosted(rt, src, out, err, gates),
+        None => run_hosted(rt, src, out, err, gates),
     }
 }

@@ -1,18 +1,21 @@
-//! What a module holds at most (own rule).
+//! What a module and its text hold at most: the one home of these eight numbers (own rule). Each is refused by td_limits, as X1 at
+//! the name of the definition in which it is passed: the first five by count, before names and types are looked at, the last three
+//! by size. The verifier refuses code past two of them; the format of images has numbers of its own.
 
-/// Definitions in a module's text.
-pub const MOST_DEFINITIONS: u32 = 1_000;
-/// Fields of a struct, of a case or of `default`.
-pub const MOST_FIELDS: usize = 256;
-/// Cases of a casetype; `default` isn't counted.
-pub const MOST_CASES: usize = 256;
-/// Value parameters of a definition.
-pub const MOST_PARAMETERS: usize = 16;
-/// Nodes of a module's text: definitions, parameters, fields, cases, enum items, statements, and nodes of expressions.
-pub const MOST_NODES: u32 = 20_000;
-/// Cells of a definition.
-pub const MOST_CELLS: usize = 64;
-/// Definitions within one another.
-pub const MOST_DEPTH: u32 = 32;
-/// The weight of a definition, which bounds how many instructions its code has.
+/// Definitions of a text: X1 `limit definitions`.
+pub const MOST_DEFINITIONS: u64 = 1_000;
+/// Fields of a struct, of a case or of `default`, and slots of an output record: X1 `limit fields`.
+pub const MOST_FIELDS: u64 = 256;
+/// Cases of a casetype, where `default` is none: X1 `limit cases`.
+pub const MOST_CASES: u64 = 256;
+/// Parameters of a struct or casetype: X1 `limit parameters`.
+pub const MOST_PARAMETERS: u64 = 16;
+/// Nodes of a text up to a definition's end, which are definitions, parameters, fields, cases, items of enums, statements, and
+/// nodes of expressions: X1 `limit nodes`.
+pub const MOST_NODES: u64 = 20_000;
+/// Cells of a definition: X1 `limit cells`.
+pub const MOST_CELLS: u64 = 64;
+/// Definitions within one another: X1 `limit depth`. Routines within one another: rule V3.
+pub const MOST_DEPTH: u64 = 32;
+/// The weight of a definition, which bounds how many instructions its code has: X1 `limit weight`. Of a routine: rule V6.
 pub const MOST_WEIGHT: u64 = 1 << 40;

@@ -4,6 +4,7 @@ use Rattle.std.specs.Prelude.{◌&&◌, nat_eq, nat_lt}
 use Rattle.std.specs.Prelude.{slice_index}
 use Rattle.std.proofs.lemmas.Option.{none-some}
 use Rattle.std.proofs.lemmas.Bool.{eqb-true, and_parts, false≢true}
+use Rattle.td_num.proofs.Equals.{three_same, two_same}
 use Rattle.td_ast.specs.declared.token.Span.{Span}
 use Rattle.td_core.specs.declared.expressions.Scalar.{Scalar}
 use Rattle.td_core.specs.declared.expressions.Scalar.TheVariants.{Truth, Eight, Sixteen, ThirtyTwo, SixtyFour}
@@ -114,12 +115,6 @@ by_parts a b env parts h k =
 
 two_types : (f : Scalar → Scalar → Scalar) (v v' w w' : Scalar) → v ≡ v' → w ≡ w' → f v w ≡ f v' w'
 two_types f v v' w w' g h = ap (λ x. f x w) g ∙ ap (f v') h
-
-two_same : (f : ℤ → ℤ → ℤ) (a a' b b' : ℤ) → a ≡ a' → b ≡ b' → f a b ≡ f a' b'
-two_same f a a' b b' g h = ap (λ x. f x b) g ∙ ap (f a') h
-
-three_same : (f : ℤ → ℤ → ℤ → ℤ) (a a' b b' c c' : ℤ) → a ≡ a' → b ≡ b' → c ≡ c' → f a b c ≡ f a' b' c'
-three_same f a a' b b' c c' g h k = ap (λ x. f x b c) g ∙ two_same (f a') b b' c c' h k
 
 computed_same : (op : Binary) (v v' w w' : Scalar) (a a' b b' : ℤ) → v ≡ v' → w ≡ w' → a ≡ a' → b ≡ b' → computed op v w a b ≡ computed op v' w' a' b'
 computed_same op v v' w w' a a' b b' g h i j =

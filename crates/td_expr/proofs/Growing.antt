@@ -1,17 +1,12 @@
 -- What holds of the values in scope holds when more values come into scope.
-use Rattle.std.proofs.Common.{◌≡◌, ℕ, Bool, true, false, refl, sym, ap, subst, ◌∙◌, List, [], ◌∷◌, ◌++◌, length, ℤ, pos}
+use Rattle.std.proofs.Common.{◌≡◌, ℕ, Bool, true, false, refl, sym, ap, subst, ◌∙◌, List, [], ◌∷◌, ◌++◌, length, pos}
 use Rattle.std.proofs.lemmas.List.{get_or_append_left}
+use Rattle.td_num.proofs.Equals.{three_same, two_same}
 use Rattle.td_core.specs.Term.{Term, number, name, complement, negation, compute, compare, both, either, choice, range_okay}
 use Rattle.td_core.specs.Types.{type_of}
 use Rattle.td_expr.specs.Value.{value_of, truth_of, complemented, negated, computed, compared, both_of, either_of, choice_of, range_okay_of, related}
 use Rattle.td_expr.specs.Facts.{Fact}
 use Rattle.td_expr.specs.Sound.{Fits, InType, Sound, Placed, Holds, AllHold, AllPlaced}
-
-two : (f : ℤ → ℤ → ℤ) (a a' b b' : ℤ) → a ≡ a' → b ≡ b' → f a b ≡ f a' b'
-two f a a' b b' g h = ap (λ x. f x b) g ∙ ap (f a') h
-
-three : (f : ℤ → ℤ → ℤ → ℤ) (a a' b b' c c' : ℤ) → a ≡ a' → b ≡ b' → c ≡ c' → f a b c ≡ f a' b' c'
-three f a a' b b' c c' g h k = ap (λ x. f x b c) g ∙ two (f a') b b' c c' h k
 
 pub value_more : (t : Term) (env more : List ℕ) → Placed (length env) t → value_of t (env ++ more) ≡ value_of t env
 value_more (number n w) env more p = refl
@@ -19,18 +14,18 @@ value_more (name i w most) env more p = ap pos (get_or_append_left env more 0 i 
 value_more (complement a) env more p = ap (complemented (type_of a)) (value_more a env more p)
 value_more (negation a) env more p = ap negated (value_more a env more p)
 value_more (compute op span a b) env more p =
-    two (computed op (type_of a) (type_of b)) (value_of a (env ++ more)) (value_of a env) (value_of b (env ++ more)) (value_of b env) (value_more a env more p.0) (value_more b env more p.1)
+    two_same (computed op (type_of a) (type_of b)) (value_of a (env ++ more)) (value_of a env) (value_of b (env ++ more)) (value_of b env) (value_more a env more p.0) (value_more b env more p.1)
 value_more (compare r a b) env more p =
-    two (compared r) (value_of a (env ++ more)) (value_of a env) (value_of b (env ++ more)) (value_of b env) (value_more a env more p.0) (value_more b env more p.1)
+    two_same (compared r) (value_of a (env ++ more)) (value_of a env) (value_of b (env ++ more)) (value_of b env) (value_more a env more p.0) (value_more b env more p.1)
 value_more (both a b) env more p =
-    two both_of (value_of a (env ++ more)) (value_of a env) (value_of b (env ++ more)) (value_of b env) (value_more a env more p.0) (value_more b env more p.1)
+    two_same both_of (value_of a (env ++ more)) (value_of a env) (value_of b (env ++ more)) (value_of b env) (value_more a env more p.0) (value_more b env more p.1)
 value_more (either a b) env more p =
-    two either_of (value_of a (env ++ more)) (value_of a env) (value_of b (env ++ more)) (value_of b env) (value_more a env more p.0) (value_more b env more p.1)
+    two_same either_of (value_of a (env ++ more)) (value_of a env) (value_of b (env ++ more)) (value_of b env) (value_more a env more p.0) (value_more b env more p.1)
 value_more (choice c a b) env more p =
-    three choice_of (value_of c (env ++ more)) (value_of c env) (value_of a (env ++ more)) (value_of a env) (value_of b (env ++ more)) (value_of b env)
+    three_same choice_of (value_of c (env ++ more)) (value_of c env) (value_of a (env ++ more)) (value_of a env) (value_of b (env ++ more)) (value_of b env)
     (value_more c env more p.0) (value_more a env more p.1.0) (value_more b env more p.1.1)
 value_more (range_okay s o a) env more p =
-    three range_okay_of (value_of s (env ++ more)) (value_of s env) (value_of o (env ++ more)) (value_of o env) (value_of a (env ++ more)) (value_of a env)
+    three_same range_okay_of (value_of s (env ++ more)) (value_of s env) (value_of o (env ++ more)) (value_of o env) (value_of a (env ++ more)) (value_of a env)
     (value_more s env more p.0) (value_more o env more p.1.0) (value_more a env more p.1.1)
 
 type_more : (t : Term) (env more : List ℕ) → Placed (length env) t → InType t env → InType t (env ++ more)

@@ -6,3 +6,4 @@ pub mod Ranging
 pub mod Admitting
 pub mod Growing
 pub mod Applying
+pub mod Scoped

@@ -1,10 +1,11 @@
 -- What a range contains, and what an operator makes of it.
 use Rattle.std.proofs.Common.{◌≡◌, ℕ, zero, suc, ◌<◌, ◌≤◌, ◌+◌, ◌-◌, ◌*◌, ◌/◌, ◌%◌, ◌^◌, Bool, true, false, cond, ltb, eqb, refl, sym, ap, subst, ◌∙◌, inl, inr, arith, List, [], ◌∷◌, ◌++◌, ℤ, pos, negsuc, Option, Some, None}
 use Rattle.std.specs.Prelude.{◌+ℤ◌, ◌-ℤ◌, ◌*ℤ◌, int_lt, bit_and, bit_or, bit_xor}
-use Rattle.std.proofs.lemmas.Bool.{ltb-true, ltb-false, le-ltb, lt-ltb, eqb-true, eq-eqb, cases_lt, cases_eq, ne_eqb, false≢true, true≢false}
+use Rattle.std.proofs.lemmas.Bool.{ltb-true, ltb-false, le-ltb, eqb-true, eq-eqb, cases_lt, cases_eq, ne_eqb, false≢true, true≢false}
 use Rattle.std.proofs.lemmas.Nat.{mul-le, and_le_l, and_le_r, or_lt, xor_lt, mod_below, shr_le}
 use Rattle.std.proofs.Math.IntN.{pos-ne-negsuc}
 use Rattle.std.proofs.Math.Nat.{div-le_self, mod-le}
+use Rattle.td_num.proofs.Equals.{minus_under}
 use Rattle.td_core.specs.declared.expressions.Scalar.{Scalar}
 use Rattle.td_core.specs.declared.expressions.Binary.{Binary}
 use Rattle.td_core.specs.declared.expressions.Binary.TheVariants.{Plus, Minus, Times, Over, Modulo, BitAnd, BitOr, BitXor, ShiftLeft, ShiftRight}
@@ -44,10 +45,6 @@ flip_true false h = refl
 pub minus_is : (a b : ℕ) → b ≤ a → pos a -ℤ pos b ≡ pos (a - b)
 minus_is a zero h = ap pos (omega arith)
 minus_is a (suc b) h = ap (λ t. cond t (negsuc (suc b - suc a)) (pos (a - suc b))) (le-ltb a (suc b) h)
-
-minus_under : (a b : ℕ) → a < b → pos a -ℤ pos b ≡ negsuc (b - suc a)
-minus_under a zero h = absurd (omega arith)
-minus_under a (suc b) h = ap (λ t. cond t (negsuc (suc b - suc a)) (pos (a - suc b))) (lt-ltb a (suc b) h)
 
 pub reaches_less : (h : ℤ) (m n : ℕ) → n ≤ m → Reaches h m → Reaches h n
 reaches_less (pos h) m n less r = omega arith

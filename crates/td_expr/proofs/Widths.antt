@@ -1,12 +1,16 @@
--- The limits of types.
-use Rattle.std.proofs.Common.{◌≡◌, ◌<◌, ◌≤◌, ◌^◌, Bool, true, false, cond, refl, arith, lit≤}
+-- The limits of types. Cited by other crates.
+use Rattle.std.proofs.Common.{◌≡◌, ◌<◌, ◌≤◌, ◌*◌, ◌^◌, Bool, true, false, cond, refl, arith, lit≤}
 use Rattle.std.specs.Prelude.{nat_le}
 use Rattle.std.proofs.Math.Nat.{pow-le-pow_right}
 use Rattle.std.proofs.lemmas.Bool.{leb-true, leb-false}
 use Rattle.std.proofs.lemmas.Nat.{pow_pos}
+use Rattle.td_num.specs.declared.number.Width.{Width}
+use Rattle.td_num.specs.declared.number.Width.TheVariants.{One, Two, Four, Eight as EightBytes}
+use Rattle.td_num.specs.Numbers.{bytes_in}
 use Rattle.td_core.specs.declared.expressions.Scalar.{Scalar}
 use Rattle.td_core.specs.declared.expressions.Scalar.TheVariants.{Truth, Eight, Sixteen, ThirtyTwo, SixtyFour}
 use Rattle.td_core.specs.Types.{bits, limit, wider}
+use Rattle.td_core.specs.Formed.{scalar_of}
 
 pub limit_pos : (w : Scalar) → 0 < limit w
 limit_pos w = pow_pos (bits w)
@@ -37,3 +41,10 @@ limit_small Eight = lit≤ tt
 limit_small Sixteen = lit≤ tt
 limit_small ThirtyTwo = lit≤ tt
 limit_small SixtyFour = lit≤ tt
+
+-- a number of so many bytes
+pub limit_of_bytes : (w : Width) → limit (scalar_of w) ≡ 2 ^ (8 * bytes_in w)
+limit_of_bytes One = refl
+limit_of_bytes Two = refl
+limit_of_bytes Four = refl
+limit_of_bytes EightBytes = refl

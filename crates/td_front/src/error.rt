@@ -1,7 +1,6 @@
 //! Why a text is no module text.
 
-use crate::line::{limit_words, rule_words, unsafe_words};
-use std::fmt;
+use crate::line::{limit_words, unsafe_words};
 use td_arith::error::ArithError;
 use td_ast::token::Span;
 use td_core::expressions::Binary;
@@ -10,53 +9,47 @@ use td_kinds::error::KindError;
 use td_lexer::LexError;
 use td_limits::{Excess, Limit};
 use td_rules::breach::Rule;
+use thiserror::Error;
 
-/// Why a text is no module text. Places are in bytes, from 0.
-#[derive(Clone, Copy, PartialEq, Eq, Debug, Drop)]
+/// Why a text is no module text. Places are in bytes, from 0. It prints the words of its error line.
+#[derive(Clone, Copy, PartialEq, Eq, Debug, Drop, Error)]
 pub enum FrontError {
     /// L1: no white space, comment or token begins with this byte, or it is a letter, a digit or `_` directly after a
     /// number.
+    #[error("bad byte")]
     BadByte { at: u32 },
     /// L2: a comment that begins here has no end.
+    #[error("open comment")]
     OpenComment { at: u32 },
     /// L3: the number that begins here is 2^64 or more.
+    #[error("number too large")]
     BigNumber { at: u32 },
     /// P1: the first token, counted from 0, up to and with which no module begins so, and where it begins; at an early
     /// end the count of the tokens and the length of the text.
+    #[error("unexpected token")]
     Unexpected { token: u32, at: u32 },
     /// P2: the 257th operator or opening parenthesis of its whole expression, or the 17th open brace of an action: its
     /// number among the tokens, and where it begins.
+    #[error("too deep")]
     Deep { token: u32, at: u32 },
     /// X1: a limit is passed in the definition with this name.
+    #[error("{}", limit_words(*limit))]
     Limit { limit: Limit, span: Span },
     /// N1 to N4, Y1 to Y4: a rule is broken there.
+    #[error("{rule}")]
     Broken { rule: Rule, span: Span },
     /// K1: an element of the byte-sized array of this field may be empty.
+    #[error("element may be empty")]
     ZeroElement { span: Span },
     /// K2: this field takes all bytes up to the end and isn't the last, or elements of its byte-sized array take them.
+    #[error("rest not last")]
     RestNotLast { span: Span },
     /// A1: what this operator computes may lie outside its type's range.
+    #[error("{}", unsafe_words(*op))]
     Unsafe { span: Span, op: Binary },
     /// There was no memory.
+    #[error("out of memory")]
     NoMemory,
-}
-
-impl fmt::Display for FrontError {
-    fn fmt<W: fmt::Write>(&self, f: &mut fmt::Formatter<W>) -> fmt::Result {
-        match self {
-            FrontError::BadByte { .. } => write!(f, "bad byte"),
-            FrontError::OpenComment { .. } => write!(f, "open comment"),
-            FrontError::BigNumber { .. } => write!(f, "number too large"),
-            FrontError::Unexpected { .. } => write!(f, "unexpected token"),
-            FrontError::Deep { .. } => write!(f, "too deep"),
-            FrontError::Limit { limit, .. } => write!(f, "{}", limit_words(*limit)),
-            FrontError::Broken { rule, .. } => write!(f, "{}", rule_words(*rule)),
-            FrontError::ZeroElement { .. } => write!(f, "element may be empty"),
-            FrontError::RestNotLast { .. } => write!(f, "rest not last"),
-            FrontError::Unsafe { op, .. } => write!(f, "{}", unsafe_words(*op)),
-            FrontError::NoMemory => write!(f, "out of memory"),
-        }
-    }
 }
 
 impl From<LexError> for FrontError {

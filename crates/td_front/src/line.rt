@@ -33,7 +33,7 @@ fn rule_code(rule: Rule) -> &'static str
 }
 
 /// The words of a rule of names, types, constants and actions.
-pub(crate) fn rule_words(rule: Rule) -> &'static str
+fn rule_words(rule: Rule) -> &'static str
     ensures { result.now ≡ rule_words rule }
 {
     match rule {

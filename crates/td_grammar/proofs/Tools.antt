@@ -1,6 +1,6 @@
 -- Lists of tokens, sets of kinds, and outcomes.
 use Rattle.std.proofs.Common.{◌≡◌, ℕ, Bool, true, false, cond, eqb, eq-eqb, List, [], ◌∷◌, ◌++◌, refl, sym, append_assoc, ◌⊎◌, inl, inr}
-use Rattle.std.proofs.lemmas.Bool.{eqb-true}
+use Rattle.std.proofs.lemmas.Bool.{eqb-true, false_from_ne_true}
 use Rattle.std.proofs.lemmas.List.{append_cancel_right}
 use Rattle.td_ast.specs.declared.token.Token.{Token}
 use Rattle.td_ast.specs.Kinds.{number_of_kind}
@@ -64,10 +64,6 @@ member_right (x ∷ xs) ys n e = by_test (eqb x n) (member_right xs ys n e)
     by_test true ih = refl
     by_test false ih = ih
 
-pub false_of : (b : Bool) → (b ≡ true → ⊥) → b ≡ false
-false_of true h = absurd (h refl)
-false_of false h = refl
-
 -- what is a member of the one is none of the other
 pub apart_at : (xs ys : List ℕ) (n : ℕ) → disjoint xs ys ≡ true → member xs n ≡ true → member ys n ≡ false
 apart_at [] ys n d e = absurd cc
@@ -85,8 +81,8 @@ comes_same set (x ∷ front) t r s = refl
 
 pub stops_left : (xs ys : List ℕ) (rest : List Token) → Stops (xs ++ ys) rest → Stops xs rest
 stops_left xs ys [] h = refl
-stops_left xs ys (t ∷ rest) h = false_of (member xs (number_of_kind t.kind)) (λ e. cc (member_left xs ys (number_of_kind t.kind) e))
+stops_left xs ys (t ∷ rest) h = false_from_ne_true (member xs (number_of_kind t.kind)) (λ e. cc (member_left xs ys (number_of_kind t.kind) e))
 
 pub stops_right : (xs ys : List ℕ) (rest : List Token) → Stops (xs ++ ys) rest → Stops ys rest
 stops_right xs ys [] h = refl
-stops_right xs ys (t ∷ rest) h = false_of (member ys (number_of_kind t.kind)) (λ e. cc (member_right xs ys (number_of_kind t.kind) e))
+stops_right xs ys (t ∷ rest) h = false_from_ne_true (member ys (number_of_kind t.kind)) (λ e. cc (member_right xs ys (number_of_kind t.kind) e))

@@ -17,10 +17,9 @@ use std::alloc::{AllocError, Global};
 use std::collections::VecDeque;
 use td_actors::actor::{Actor, Desk, Guest, Worker};
 use td_core::outcome::Verdict;
-use td_live::slot::word_count;
 use td_num::items::Items;
 use td_posts::job::{HostJob, Step};
-use td_posts::mail::Mail;
+use td_posts::mail::{Mail, word_count};
 use td_posts::name::PostName;
 use td_posts::reply::Reply;
 use td_ring::naming::Naming;
@@ -78,7 +77,7 @@ fn room_for(
     ensures room { IfOk result (λ r. words_in length ≤ r.loads.room) }
     ensures cells { IfOk result (λ r. r.cells.items ≡ zeros job.now.cells) }
     ensures untold { IfOk result (λ r. r.trace.items ≡ []) }
-    ensures trace_room { IfOk result (λ r. frames ≤ vec_capacity r.trace) }
+    ensures trace_room { IfOk result (λ r. vec_capacity r.trace ≡ frames) }
 {
     Ok(Reply {
         guest: name.guest,

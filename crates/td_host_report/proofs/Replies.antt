@@ -1,8 +1,8 @@
 -- What the lines of a host's report determine.
-use Rattle.std.proofs.Common.{◌≡◌, ◌≢◌, ℕ, ◌<◌, ◌^◌, List, [], ◌∷◌, ◌++◌, map, flat_map, refl, sym, ap, ◌∙◌, append_assoc, arith, lit<, codes, decimal}
+use Rattle.std.proofs.Common.{◌≡◌, ◌≢◌, ℕ, ◌<◌, ◌^◌, None, List, [], ◌∷◌, ◌++◌, map, flat_map, refl, sym, ap, ◌∙◌, append_assoc, arith, lit<, codes, decimal}
 use Rattle.std.proofs.lemmas.Fmt.{decimal_injective}
 use Rattle.std.proofs.lemmas.Grind.{flat_map-append}
-use Rattle.std.proofs.lemmas.List.Elements.{All-head, All-tail, All-cons}
+use Rattle.std.proofs.lemmas.List.Elements.{All-head, All-tail, All-cons, All-weaker}
 use Rattle.std.specs.List.{All}
 use Rattle.td_core.specs.declared.module.Module.{Module}
 use Rattle.td_core.specs.declared.module.Entry.{Entry}
@@ -12,7 +12,7 @@ use Rattle.td_core.specs.declared.outcome.Verdict.TheVariants.{Accept, Reject}
 use Rattle.td_core.specs.declared.outcome.TraceFrame.{TraceFrame}
 use Rattle.td_stream.specs.declared.load.Load.{Load}
 use Rattle.td_report.specs.Report.{line, report}
-use Rattle.td_report.specs.Laws.{HasWords, HasNoSpotWord, frames_of}
+use Rattle.td_report.specs.Laws.{HasWords, HasNoSpotWord, frames_of, IsOf64Bits, IsShownLoad}
 use Rattle.td_report.proofs.Cutting.{Above, above_append, cut_after, AreLines, lines_append, same_lines}
 use Rattle.td_report.proofs.Lines.{differ, decimal_above, verdict_words, frame_words, cell_words, load_words}
 use Rattle.td_report.proofs.Determining.{shown_cells, part_words, report_by_lines, parts_are_lines, all_begin, both_all, reports_determine_outcomes}
@@ -71,20 +71,23 @@ verdict_others : (v : Verdict) → Others (verdict_words v)
 verdict_others (Accept pos) e = differ 99 112 (lit< tt) e
 verdict_others (Reject reason pos) e = differ 106 112 (lit< tt) e
 
-run_others : (m : Module) (entry : Entry) (o : Outcome) (loads : List Load) → All Others (verdict_words o.verdict ∷ part_words m entry o loads)
+run_others : (m : Module) (entry : Entry) (o : Outcome) (loads : List Load) → All Others (verdict_words o.verdict ∷ part_words m entry o loads None)
 run_others m entry o loads =
     let frames = map (frame_words m) (frames_of o.verdict o.trace) in
     let cells = map (cell_words m) (shown_cells m entry o) in
-    All-cons Others (verdict_words o.verdict) (part_words m entry o loads) (verdict_others o.verdict)
-    (both_all Others frames (cells ++ map load_words loads)
+    All-cons Others (verdict_words o.verdict) (part_words m entry o loads None) (verdict_others o.verdict)
+    (both_all Others frames (cells ++ map (load_words None) loads)
     (all_begin Others (frame_words m) (λ f e. differ 97 112 (lit< tt) e) (frames_of o.verdict o.trace))
-    (both_all Others cells (map load_words loads)
+    (both_all Others cells (map (load_words None) loads)
     (all_begin Others (cell_words m) (λ c e. differ 112 116 (lit< tt) (sym e)) (shown_cells m entry o))
-    (all_begin Others load_words (λ l e. differ 97 112 (lit< tt) e) loads)))
+    (all_begin Others (load_words None) (λ l e. differ 97 112 (lit< tt) e) loads)))
+
+all_shown : (loads : List Load) → All IsOf64Bits loads → All (IsShownLoad None) loads
+all_shown loads h = All-weaker IsOf64Bits (IsShownLoad None) (λ l bits. record { bits = bits; by = tt }) loads h
 
 -- the words of all lines of a reply
 abbrev run_words : Module → Entry → Reply → List (List ℕ)
-run_words m entry r = verdict_words r.verdict ∷ part_words m entry (outcome_in r) r.loads.list
+run_words m entry r = verdict_words r.verdict ∷ part_words m entry (outcome_in r) r.loads.list None
 
 abbrev all_words : Module → Entry → List Reply → List (List ℕ)
 all_words m entry replies = flat_map (λ r. reply_words r ∷ run_words m entry r) replies
@@ -92,8 +95,8 @@ all_words m entry replies = flat_map (λ r. reply_words r ∷ run_words m entry 
 reply_by_lines : (m : Module) (entry : Entry) (r : Reply) → reply_report m entry r ≡ flat_map line (reply_words r ∷ run_words m entry r)
 unfolding reply_report
 reply_by_lines m entry r =
-    ap (λ l. l ++ report (outcome_in r) m entry r.loads.list) (reply_is r)
-    ∙ ap (λ l. line (reply_words r) ++ l) (report_by_lines m (outcome_in r) entry r.loads.list)
+    ap (λ l. l ++ report (outcome_in r) m entry r.loads.list None) (reply_is r)
+    ∙ ap (λ l. line (reply_words r) ++ l) (report_by_lines m (outcome_in r) entry r.loads.list None)
 
 host_by_lines : (m : Module) (entry : Entry) (replies : List Reply) → host_report m entry replies ≡ flat_map line (all_words m entry replies)
 host_by_lines m entry [] = refl
@@ -108,7 +111,7 @@ host_are_lines m entry [] words h = tt
 host_are_lines m entry (r ∷ replies) words h =
     let here = All-head (IsReportable m entry) r replies h in
     lines_append (reply_words r ∷ run_words m entry r) (all_words m entry replies)
-    (reply_above r here.guest here.number, parts_are_lines m entry (outcome_in r) r.loads.list words here.named here.cells here.loads)
+    (reply_above r here.guest here.number, parts_are_lines m entry (outcome_in r) r.loads.list None words here.named here.cells (all_shown r.loads.list here.loads))
     (host_are_lines m entry replies words (All-tail (IsReportable m entry) r replies h))
 
 -- ---- cut where the line of a reply begins
@@ -141,9 +144,9 @@ same_reply : (m : Module) (e f : Entry) (r q : Reply) → HasWords m → HasNoSp
     → reply_words r ≡ reply_words q → run_words m e r ≡ run_words m f q → reported_reply r ≡ reported_reply q
 same_reply m e f r q words none hr hq first rest =
     let numbers = same_numbers r q hr.guest hr.number hq.guest hq.number first in
-    let reports : report (outcome_in r) m e r.loads.list ≡ report (outcome_in q) m f q.loads.list =
-    report_by_lines m (outcome_in r) e r.loads.list ∙ ap (flat_map line) rest ∙ sym (report_by_lines m (outcome_in q) f q.loads.list) in
-    let parts = reports_determine_outcomes m (outcome_in r) (outcome_in q) e f r.loads.list q.loads.list words none hr.named hq.named hr.frames hq.frames hr.cells hq.cells hr.loads hq.loads reports in
+    let reports : report (outcome_in r) m e r.loads.list None ≡ report (outcome_in q) m f q.loads.list None =
+    report_by_lines m (outcome_in r) e r.loads.list None ∙ ap (flat_map line) rest ∙ sym (report_by_lines m (outcome_in q) f q.loads.list None) in
+    let parts = reports_determine_outcomes m (outcome_in r) (outcome_in q) e f None r.loads.list q.loads.list words none hr.named hq.named hr.frames hq.frames hr.cells hq.cells (all_shown r.loads.list hr.loads) (all_shown q.loads.list hq.loads) reports in
     let make : ℕ → ℕ → Verdict → List TraceFrame → List ℕ → List Load → ReportedReply =
     λ guest number verdict trace cells loads. record { guest = guest; number = number; outcome = record { verdict = verdict; trace = trace; cells = cells }; loads = loads } in
     ap (λ x. make x r.number r.verdict r.trace.items r.cells.items r.loads.list) numbers.0

@@ -1,4 +1,5 @@
-//! The numbers of the format of images, version 1 (own rule). docs/language/images.md has the whole format.
+//! The numbers of the format of images, version 1 (own rule). docs/language/images.md has the whole format. They are the version's own:
+//! an image of version 1 keeps them whatever the limits of a module become, which stand in td_core.
 
 /// The first four bytes as a number, the byte of least weight first: `54 44 33 49`, in ASCII `TD3I`.
 pub const MAGIC: u32 = 1_228_096_596;

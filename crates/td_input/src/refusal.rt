@@ -5,26 +5,33 @@ ghost use Rattle.td_input.specs.Causes.{of_job, of_module};
 
 use td_front::FrontError;
 use td_job::error::JobError;
+use thiserror::Error;
 
 /// Why an input is refused. That there was no memory is none of these.
-#[derive(Debug, Drop)]
+#[derive(Debug, Drop, Error)]
 pub enum Refusal {
     /// It has more than 4,194,304 bytes.
+    #[error("input too long")]
     TooLong,
     /// No line of it is exactly `%%`.
+    #[error("no job")]
     NoJob,
     /// The bytes before that line are no module text.
+    #[error(transparent)]
     BadModule(FrontError),
     /// The bytes after that line are no job for the module.
+    #[error(transparent)]
     BadJob(JobError),
 }
 
 /// Why an input has no answer.
-#[derive(Debug, Drop)]
+#[derive(Debug, Drop, Error)]
 pub enum InputError {
     /// It is refused.
+    #[error(transparent)]
     Refused(Refusal),
     /// There was no memory.
+    #[error("out of memory")]
     NoMemory,
 }
 

@@ -1,10 +1,11 @@
--- The exit from one instruction on, by that of the instructions to which it leads.
+-- The exit from one instruction on, by that of the instructions to which it leads. Cited by other crates.
 use Rattle.std.proofs.Common.{◌≡◌, ℕ, zero, suc, ◌+◌, ◌-◌, ◌<◌, ◌≤◌, Bool, true, false, cond, List, [], ◌∷◌, ◌++◌, Some, sym, refl, ap, ◌∙◌, arith, take, drop, append_assoc}
-use Rattle.std.specs.Prelude.{slice_get, slice_range, nat_eq, nat_lt}
-use Rattle.std.proofs.lemmas.List.{drop-take, drop-drop}
+use Rattle.std.specs.Prelude.{slice_get, slice_range, nat_eq}
 use Rattle.std.proofs.lemmas.Option.{slice_get_within, get_or_from_slice_get}
 use Rattle.std.proofs.Math.Seq.{drop-cons}
-use Rattle.std.proofs.lemmas.Bool.{eqb-true}
+use Rattle.std.proofs.lemmas.Bool.{eqb-true, lt-ltb}
+use Rattle.td_num.proofs.Lists.{drop_range}
+use Rattle.td_num.proofs.Equals.{below_other}
 use Rattle.td_ir.specs.declared.tables.Parts.{Parts}
 use Rattle.td_ir.specs.declared.instructions.Instr.{Instr}
 use Rattle.td_ir.specs.Tables.{routine_of, map_of, first_of, end_of}
@@ -13,7 +14,7 @@ use Rattle.td_ir.specs.Flow.{Flow, Goes, Fails, Calls, Returns, Loops, Turns, Ef
 use Rattle.td_ir.specs.Run.{Callees, frame, back, back_by, again, again_by, turns, led, follow, pick, goes, exits, places_by, entered, below, calls_of, block}
 use Rattle.td_ir.specs.RunLaws.{HasEffect, RunGoes, RunFails, RunReturns, RunTurns, RunCalls, RunLoops, AfterAfter}
 
-pick_at : (c : Parts) (message places : List ℕ) (calls : Callees) (pc : ℕ) (js : List Instr) (k : ℕ) (s : State) → pick (exits c message places calls pc js) k s ≡ pick (exits c message places calls (pc + k) (drop k js)) 0 s
+pub pick_at : (c : Parts) (message places : List ℕ) (calls : Callees) (pc : ℕ) (js : List Instr) (k : ℕ) (s : State) → pick (exits c message places calls pc js) k s ≡ pick (exits c message places calls (pc + k) (drop k js)) 0 s
 pick_at c message places calls pc [] zero s = refl
 pick_at c message places calls pc [] (suc k) s = refl
 pick_at c message places calls pc (j ∷ js) zero s =
@@ -21,11 +22,6 @@ pick_at c message places calls pc (j ∷ js) zero s =
 pick_at c message places calls pc (j ∷ js) (suc k) s =
     let e : pc + 1 + k ≡ pc + suc k = omega arith in
     pick_at c message places calls (pc + 1) js k s ∙ ap (λ p. pick (exits c message places calls p (drop k js)) 0 s) e
-
-range_later : {X : Type 0} (xs : List X) (a k to : ℕ) → a + k ≤ to → drop k (slice_range xs a to) ≡ slice_range xs (a + k) to
-range_later {X} xs a k to h =
-    let e : to - a ≡ k + (to - (a + k)) = omega arith in
-    ap (λ n. drop k (take n (drop a xs))) e ∙ drop-take k (to - (a + k)) (drop a xs) ∙ ap (λ l. take (to - (a + k)) l) (drop-drop k a xs)
 
 range_first : {X : Type 0} (xs : List X) (a to : ℕ) (x : X) → slice_get xs a ≡ Some x → a < to → slice_range xs a to ≡ x ∷ slice_range xs (a + 1) to
 range_first {X} xs a to x h l =
@@ -39,18 +35,15 @@ range_first {X} xs a to x h l =
 abbrev jump : Parts → List ℕ → ℕ → List ℕ → ℕ → ℕ → State → Exit
 jump c message n places pc t s = goes pc (exits c message places (calls_of c message n places) (pc + 1) (slice_range c.instructions (pc + 1) (end_of c n))) t s
 
-forward : (pc t : ℕ) → pc < t → nat_lt pc t ≡ true
-forward pc t h = grind arith
-
 jump_to : (c : Parts) (message : List ℕ) (n : ℕ) (places : List ℕ) (pc t : ℕ) (s : State) → pc < t → t < end_of c n → jump c message n places pc t s ≡ block c message n places t s
 jump_to c message n places pc t s h l =
     let to = end_of c n in
     let js = c.instructions in
     let e : pc + 1 + (t - (pc + 1)) ≡ t = omega arith in
     let m : pc + 1 + (t - (pc + 1)) ≤ to = omega arith in
-    ap (λ v. cond v (pick (exits c message places (calls_of c message n places) (pc + 1) (slice_range js (pc + 1) to)) (t - (pc + 1)) s) (at_once Stuck)) (forward pc t h)
+    ap (λ v. cond v (pick (exits c message places (calls_of c message n places) (pc + 1) (slice_range js (pc + 1) to)) (t - (pc + 1)) s) (at_once Stuck)) (lt-ltb pc t h)
     ∙ pick_at c message places (calls_of c message n places) (pc + 1) (slice_range js (pc + 1) to) (t - (pc + 1)) s
-    ∙ ap (λ l. pick (exits c message places (calls_of c message n places) (pc + 1 + (t - (pc + 1))) l) 0 s) (range_later js (pc + 1) (t - (pc + 1)) to m)
+    ∙ ap (λ l. pick (exits c message places (calls_of c message n places) (pc + 1 + (t - (pc + 1))) l) 0 s) (drop_range js (pc + 1) (t - (pc + 1)) to m)
     ∙ ap (λ p. pick (exits c message places (calls_of c message n places) p (slice_range js p to)) 0 s) e
 
 unfolded : (c : Parts) (message places : List ℕ) (n pc : ℕ) (s : State) (flow : Flow) (touched : List ℕ) (steps : ℕ) → HasEffect c message places n pc s flow touched steps → block c message n places pc s ≡ after touched steps (led c (calls_of c message n places) pc (jump c message n places pc) flow)
@@ -94,14 +87,11 @@ turns_same (suc k) f g behind behind' h h' s =
     branch_same _ (behind s) (again (turns k f behind) (f s)) (behind' s) (again (turns k g behind') (g s)) (h' s)
     (ap (again (turns k f behind)) (h s) ∙ again_same (turns k f behind) (turns k g behind') (λ t. turns_same k f g behind behind' h h' t) (g s).touched (g s).steps (g s).way)
 
-lower : (n k : ℕ) → n < suc k → nat_eq n k ≡ false → n < k
-lower n k h e = grind arith
-
 at_test : (c : Parts) (message : List ℕ) (k n : ℕ) (places : List ℕ) (s : State) → n < suc k → (n < k → below c message k n places s ≡ block c message n places (first_of c n) s) → (v : Bool) → nat_eq n k ≡ v → cond v (block c message k places (first_of c k) s) (below c message k n places s) ≡ block c message n places (first_of c n) s
 at_test c message k n places s h rest true e = let q : k ≡ n = sym (eqb-true n k e) in ap (λ m. block c message m places (first_of c m) s) q
-at_test c message k n places s h rest false e = rest (lower n k h e)
+at_test c message k n places s h rest false e = rest (below_other n k h e)
 
--- a lower routine, from its first instruction on
+-- a below_other routine, from its first instruction on
 below_is : (c : Parts) (message : List ℕ) (k n : ℕ) (places : List ℕ) (s : State) → n < k → below c message k n places s ≡ block c message n places (first_of c n) s
 below_is c message zero n places s h = absurd (omega arith)
 below_is c message (suc k) n places s h = at_test c message k n places s h (λ q. below_is c message k n places s q) (nat_eq n k) refl

@@ -1,3 +1,4 @@
 pub mod Begins
-mod Blocks
+pub mod Blocks
 mod Listed
+pub mod Rising

@@ -1,4 +1,4 @@
-//! Tests of what no clause of the crates on bytes, words, plans, jobs and reports says: that memory which is there suffices, that a
+//! Tests of what no clause of the crates on bytes, jobs and reports says: that memory which is there suffices, that a
 //! read or a write which fails is answered as that, and how values and errors print. Nothing stands on this crate.
 #![tactic(auto)]
 
@@ -9,8 +9,4 @@ mod jobs;
 #[cfg(test)]
 mod messages;
 #[cfg(test)]
-mod plans;
-#[cfg(test)]
 mod reports;
-#[cfg(test)]
-mod words;

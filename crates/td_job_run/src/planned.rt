@@ -1,6 +1,7 @@
 //! A run by code on words to which others store by a plan.
 
-ghost use Rattle.std.specs.Prelude.{◌≡◌, ◌*◌, ◌<◌, ◌≤◌, ◌^◌, [], length as size_of, IfOk, IsErr, IsOk};
+ghost use Rattle.std.specs.Prelude.{◌≡◌, ℕ, ◌<◌, ◌≤◌, ◌^◌, [], None, option_map, length as size_of, IfOk, IsErr, IsOk};
+ghost use Rattle.td_stream.specs.Layouts.{count_in, counted, laid, IsOver};
 ghost use Rattle.td_ir.specs.Entries.{Fits};
 ghost use Rattle.td_vm.specs.Frames.{IsArmed};
 ghost use Rattle.td_job_run.specs.Runs.{IsRunBy};
@@ -11,6 +12,7 @@ use td_core::module::Entry;
 use td_core::outcome::{Outcome, Verdict};
 use td_sched::planned::Planned;
 use td_sched::store::PlannedStore;
+use td_stream::layout::Layout;
 use td_stream::loads::Loads;
 use td_verify::verify::Verified;
 use td_vm::laws::fitting_cells_have_room;
@@ -37,28 +39,63 @@ pub struct Prepared<'a> {
     loads: Loads,
     pub ghost fresh: { words.loads ≡ [] },
     pub ghost empty: { loads.list ≡ [] },
-    pub ghost room: { size_of words.opening ≤ loads.room },
+    pub ghost room: { counted words.layout (size_of words.opening) ≤ loads.room },
+}
+
+// How many words may be loaded.
+fn words_of(layout: Option<&Layout>, all: u32) -> u32
+    ensures { result ≡ counted (option_map (λ l. l.now) layout.entry) all }
+{
+    match layout {
+        None => all,
+        Some(layout) => layout.count(),
+    }
+}
+
+// Memory with a layout or without one.
+fn opened<'a>(
+    alloc: Global,
+    words: &'a [u64],
+    stores: &[PlannedStore],
+    layout: Option<&'a Layout>,
+) -> Result<Planned<'a>, AllocError>
+    requires few { size_of words.now < 2 ^ 32 }
+    requires over { IsOver (size_of words.now) (option_map (λ l. l.now) layout) }
+    ensures opening { IfOk result (λ p. p.opening ≡ words.now) }
+    ensures stores { IfOk result (λ p. p.stores ≡ stores.now) }
+    ensures layout { IfOk result (λ p. p.layout ≡ option_map (λ l. l.now) layout.entry) }
+    ensures loads { IfOk result (λ p. p.loads ≡ []) }
+    ensures memory { words.now ≡ [] → stores.now ≡ [] → option_map (λ l. l.now) layout.entry ≡ None → IsOk result }
+{
+    match layout {
+        None => Planned::open(alloc, words, stores),
+        Some(layout) => Planned::open_over(alloc, words, stores, layout),
+    }
 }
 
 /// Takes all memory that a run takes, and loads no word. The words are lent, not copied. `AllocError`: there was no memory;
-/// never where there are neither words nor stores.
+/// never where there are neither words nor stores and no layout.
 pub fn prepare<'a>(
     alloc: Global,
     words: &'a [u64],
     stores: &[PlannedStore],
+    layout: Option<&'a Layout>,
 ) -> Result<Prepared<'a>, AllocError>
-    requires { size_of words.now < 2 ^ 32 }
+    requires few { size_of words.now < 2 ^ 32 }
+    requires over { IsOver (size_of words.now) (option_map (λ l. l.now) layout) }
     ensures opening { IfOk result (λ p. p.words.opening ≡ words.now) }
     ensures stores { IfOk result (λ p. p.words.stores ≡ stores.now) }
-    ensures memory { words.now ≡ [] → stores.now ≡ [] → IsOk result }
+    ensures layout { IfOk result (λ p. p.words.layout ≡ option_map (λ l. l.now) layout.entry) }
+    ensures memory { words.now ≡ [] → stores.now ≡ [] → option_map (λ l. l.now) layout.entry ≡ None → IsOk result }
 {
-    let loads = Loads::with_room(alloc, words.len() as u32)?;
-    let words = Planned::open(alloc, words, stores)?;
+    let count = words_of(layout, words.len() as u32);
+    let loads = Loads::with_room(alloc, count)?;
+    let words = opened(alloc, words, stores, layout)?;
     Ok(Prepared { words, loads })
 }
 
 /// Runs code once over words that were prepared, in a frame that was armed for the code, from an entry point that these arguments
-/// and cells fit, on a message of `length` bytes. The frame is left with the trace and the cells. It has no allocator and no
+/// and cells fit, on a message that lies so in the words. The frame is left with the trace and the cells. It has no allocator and no
 /// error: from the first load on nothing can stand in place of the verdict.
 pub fn run_prepared(
     code: &Verified,
@@ -66,14 +103,14 @@ pub fn run_prepared(
     entry: Entry,
     args: &[u64],
     cells: &[u64],
-    length: u32,
+    message: &Layout,
     prepared: Prepared<'_>,
 ) -> Ran
     requires armed { IsArmed code.now frame.old }
     requires fits { Fits code.now entry args.now cells.now }
-    requires room { length ≤ 8 * size_of prepared.words.opening }
-    ensures run { IsRunBy code.now
-        (record { entry = entry; args = args.now; cells = cells.now; length = length; words = prepared.entry.words.opening; stores = prepared.entry.words.stores })
+    requires room { count_in message.now ≤ counted prepared.words.layout (size_of prepared.words.opening) }
+    ensures run { (n : ℕ) → message.now ≡ laid n prepared.entry.words.layout → IsRunBy code.now
+        (record { entry = entry; args = args.now; cells = cells.now; length = n; layout = prepared.entry.words.layout; words = prepared.entry.words.opening; stores = prepared.entry.words.stores })
         (record { verdict = result.verdict; trace = frame.new.trace; cells = frame.new.cells }) result.loads.list }
     ensures armed { IsArmed code.now frame.new }
 {
@@ -83,14 +120,43 @@ pub fn run_prepared(
         mut loads,
     } = prepared;
     frame.set_cells(cells);
-    let verdict = validate_recorded(code, entry, args, length, frame, &mut words, &mut loads);
+    let verdict = validate_recorded(code, entry, args, message, frame, &mut words, &mut loads);
     Ran { verdict, loads }
 }
 
+// Runs code over prepared words on a message of `length` bytes that has a layout or none.
+fn run_laid(
+    code: &Verified,
+    frame: &mut Frame,
+    entry: Entry,
+    args: &[u64],
+    cells: &[u64],
+    length: u32,
+    layout: Option<&Layout>,
+    prepared: Prepared<'_>,
+) -> Ran
+    requires armed { IsArmed code.now frame.old }
+    requires fits { Fits code.now entry args.now cells.now }
+    requires same { prepared.words.layout ≡ option_map (λ l. l.now) layout }
+    requires room { count_in (laid length (option_map (λ l. l.now) layout)) ≤ counted prepared.words.layout (size_of prepared.words.opening) }
+    ensures run { IsRunBy code.now
+        (record { entry = entry; args = args.now; cells = cells.now; length = length; layout = prepared.entry.words.layout; words = prepared.entry.words.opening; stores = prepared.entry.words.stores })
+        (record { verdict = result.verdict; trace = frame.new.trace; cells = frame.new.cells }) result.loads.list }
+    ensures armed { IsArmed code.now frame.new }
+{
+    match layout {
+        None => {
+            let message = Layout::plain(length);
+            run_prepared(code, frame, entry, args, cells, &message, prepared)
+        }
+        Some(message) => run_prepared(code, frame, entry, args, cells, message, prepared),
+    }
+}
+
 /// Runs code once, in a frame that was armed for it, from an entry point that these arguments and cells fit, on a message of
-/// `length` bytes, while others store to its words by a plan. The frame is left with the trace and the cells. `AllocError`: there
-/// was no memory; never where there are neither words nor stores. That comes of `prepare`, which loads no word; `run_prepared`,
-/// which follows, takes none, so want of memory never hides an outcome.
+/// `length` bytes, by a layout or at the front of the words, while others store to the words by a plan. The frame is left with the
+/// trace and the cells. `AllocError`: there was no memory; never where there are neither words nor stores and no layout. That comes of
+/// `prepare`, which loads no word; `run_prepared`, which follows, takes none, so want of memory never hides an outcome.
 pub fn run_in_frame(
     alloc: Global,
     code: &Verified,
@@ -99,22 +165,24 @@ pub fn run_in_frame(
     args: &[u64],
     cells: &[u64],
     length: u32,
+    layout: Option<&Layout>,
     words: &[u64],
     stores: &[PlannedStore],
 ) -> Result<Ran, AllocError>
     requires armed { IsArmed code.now frame.old }
     requires fits { Fits code.now entry args.now cells.now }
     requires many { size_of words.now < 2 ^ 32 }
-    requires room { length ≤ 8 * size_of words.now }
+    requires room { count_in (laid length (option_map (λ l. l.now) layout)) ≤ counted (option_map (λ l. l.now) layout) (size_of words.now) }
+    requires over { IsOver (size_of words.now) (option_map (λ l. l.now) layout) }
     ensures run { IfOk result (λ ran. IsRunBy code.now
-        (record { entry = entry; args = args.now; cells = cells.now; length = length; words = words.now; stores = stores.now })
+        (record { entry = entry; args = args.now; cells = cells.now; length = length; layout = option_map (λ l. l.now) layout.entry; words = words.now; stores = stores.now })
         (record { verdict = ran.verdict; trace = frame.new.trace; cells = frame.new.cells }) ran.loads.list) }
     ensures armed { IsArmed code.now frame.new }
     ensures untouched { IsErr result → frame.new ≡ frame.old }
-    ensures memory { words.now ≡ [] → stores.now ≡ [] → IsOk result }
+    ensures memory { words.now ≡ [] → stores.now ≡ [] → option_map (λ l. l.now) layout.entry ≡ None → IsOk result }
 {
-    let prepared = prepare(alloc, words, stores)?;
-    Ok(run_prepared(code, frame, entry, args, cells, length, prepared))
+    let prepared = prepare(alloc, words, stores, layout)?;
+    Ok(run_laid(code, frame, entry, args, cells, length, layout, prepared))
 }
 
 /// Runs code once as `run_in_frame` does, in a frame of its own.
@@ -125,19 +193,21 @@ pub fn run_planned(
     args: &[u64],
     cells: &[u64],
     length: u32,
+    layout: Option<&Layout>,
     words: &[u64],
     stores: &[PlannedStore],
 ) -> Result<Run, AllocError>
     requires fits { Fits code.now entry args.now cells.now }
     requires many { size_of words.now < 2 ^ 32 }
-    requires room { length ≤ 8 * size_of words.now }
+    requires room { count_in (laid length (option_map (λ l. l.now) layout)) ≤ counted (option_map (λ l. l.now) layout) (size_of words.now) }
+    requires over { IsOver (size_of words.now) (option_map (λ l. l.now) layout) }
     ensures { IfOk result (λ run. IsRunBy code.now
-        (record { entry = entry; args = args.now; cells = cells.now; length = length; words = words.now; stores = stores.now })
+        (record { entry = entry; args = args.now; cells = cells.now; length = length; layout = option_map (λ l. l.now) layout.entry; words = words.now; stores = stores.now })
         run.outcome run.loads.list) }
 {
     let mut frame = Frame::arm(alloc, code)?;
     let ran = run_in_frame(
-        alloc, code, &mut frame, entry, args, cells, length, words, stores,
+        alloc, code, &mut frame, entry, args, cells, length, layout, words, stores,
     )?;
     Ok(Run {
         outcome: frame.into_outcome(ran.verdict),

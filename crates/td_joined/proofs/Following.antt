@@ -1,7 +1,8 @@
 -- A token doesn't go on in what follows it without gluing.
 use Rattle.std.proofs.Common.{◌≡◌, ℕ, ◌+◌, ◌≤◌, ◌<◌, ◌^◌, Bool, true, false, cond, eqb, List, [], ◌∷◌, ◌++◌, length, Option, Some, None, refl, sym, ap, subst, ◌∙◌, arith}
-use Rattle.std.specs.Prelude.{◌&&◌, ◌||◌, not, codes, nat_lt}
+use Rattle.std.specs.Prelude.{◌||◌, not, codes, nat_lt}
 use Rattle.std.proofs.lemmas.Bool.Decides.{nat_tests}
+use Rattle.std.proofs.Math.Bool.{and-false}
 use Rattle.td_num.specs.declared.number.Width.{Width}
 use Rattle.td_num.specs.declared.number.Width.TheVariants.{One, Two, Four, Eight}
 use Rattle.td_num.specs.declared.number.ByteOrder.{ByteOrder}
@@ -13,10 +14,11 @@ use Rattle.td_ast.specs.Kinds.{number_of_kind}
 use Rattle.td_lexer.specs.Bytes.{is_blank, is_letter, is_word_byte, is_marked_byte, opens, every, first_is}
 use Rattle.td_lexer.specs.Spellings.{Entry, kind_in, punctuation_of_two}
 use Rattle.td_lexer.specs.Splits.{is_comment_byte}
+use Rattle.td_lexer.proofs.Complete.{numeral_some}
 use Rattle.td_joined.specs.Pieces.{Piece, Word, Blank, LineEnd, number_spelling, type_spelling, spelling, text_of}
 use Rattle.td_joined.specs.Joining.{is_word, is_word_or_marked, there_is, joins, goes_on, glues, glues_to, IsSpellable, IsApart}
 use Rattle.td_joined.proofs.Numerals.{number_spelled}
-use Rattle.td_joined.proofs.Forms.{first_of_every, numeral_words, numeral_some, none_in}
+use Rattle.td_joined.proofs.Forms.{first_of_every, numeral_words, none_in}
 
 -- ---- bytes that join no punctuation
 
@@ -38,15 +40,11 @@ no_comment b e = grind (arith, nat_tests)
 no_colon : (b : ℕ) → is_plain b ≡ true → eqb b 58 ≡ false
 no_colon b e = grind (arith, nat_tests)
 
-and_false : (b : Bool) → (b && false) ≡ false
-and_false true = refl
-and_false false = refl
-
 plain_apart : (bytes : List ℕ) (b : ℕ) (rest : List ℕ) → is_plain b ≡ true → joins bytes (b ∷ rest) ≡ false
 plain_apart [] b rest e = refl
 plain_apart (a ∷ []) b rest e =
     let none : kind_in punctuation_of_two (a ∷ b ∷ []) ≡ None = none_in ends_plainly punctuation_of_two (a ∷ b ∷ []) refl (rw e refl) in
-    rw (none, no_comment b e, no_colon b e, and_false (eqb a 47), and_false (opens a)) refl
+    rw (none, no_comment b e, no_colon b e, and-false (eqb a 47), and-false (opens a)) refl
 plain_apart (a ∷ c ∷ bytes) b rest e = refl
 
 -- ---- blanks

@@ -1,7 +1,8 @@
 -- What a token looks like by its bytes.
 use Rattle.std.proofs.Common.{◌≡◌, ℕ, suc, ◌+◌, ◌≤◌, ◌<◌, Bool, true, false, cond, eqb, List, [], ◌∷◌, ◌++◌, length, Option, Some, None, refl, sym, ap, arith, inl, inr}
-use Rattle.std.specs.Prelude.{◌&&◌, ◌||◌, ◌⊎◌, not, codes}
+use Rattle.std.specs.Prelude.{◌||◌, ◌⊎◌, not, codes}
 use Rattle.std.proofs.lemmas.Bool.Decides.{nat_tests}
+use Rattle.std.proofs.lemmas.Bool.{and_from}
 use Rattle.td_ast.specs.declared.token.Base.{Base}
 use Rattle.td_ast.specs.declared.token.Base.TheVariants.{Decimal, Hexadecimal}
 use Rattle.td_ast.specs.declared.token.TokenKind.{TokenKind}
@@ -11,6 +12,7 @@ use Rattle.td_lexer.specs.Splits.{IsNumeral, Begins}
 use Rattle.td_lexer.specs.Splits.Begins.{keyword_begins, name_begins, number_begins, marked_begins, punctuation_begins}
 use Rattle.td_lexer.proofs.Within.{and_left, and_right}
 use Rattle.td_lexer.proofs.Sorts.{passes, kind_passes, or_else_cases, is_punctuation_byte, is_marked_shape, is_pair_shape, is_single_shape, is_word_shape, keyword_shape, marked_shape, pair_shape, single_shape}
+use Rattle.td_lexer.proofs.Complete.{numeral_some}
 
 -- ---- sorts of bytes
 
@@ -30,12 +32,9 @@ mark_in_word b e = grind (arith, nat_tests)
 pub no_punctuation : (b : ℕ) → is_word_byte b ≡ true → is_punctuation_byte b ≡ true → ⊥
 no_punctuation b e f = grind (arith, nat_tests)
 
-pub and_both : (a b : Bool) → a ≡ true → b ≡ true → (a && b) ≡ true
-and_both a b e f = rw (e, f) refl
-
 pub every_wider : (p q : ℕ → Bool) → ((b : ℕ) → p b ≡ true → q b ≡ true) → (bytes : List ℕ) → every p bytes ≡ true → every q bytes ≡ true
 every_wider p q wide [] e = refl
-every_wider p q wide (b ∷ bytes) e = and_both (q b) (every q bytes) (wide b (and_left (p b) (every p bytes) e)) (every_wider p q wide bytes (and_right (p b) (every p bytes) e))
+every_wider p q wide (b ∷ bytes) e = and_from (q b) (every q bytes) (wide b (and_left (p b) (every p bytes) e)) (every_wider p q wide bytes (and_right (p b) (every p bytes) e))
 
 pub first_of_every : (p : ℕ → Bool) (bytes : List ℕ) → 0 < length bytes → every p bytes ≡ true → first_is p bytes ≡ true
 first_of_every p [] some e = absurd (omega arith)
@@ -81,11 +80,7 @@ word_shape_form (b ∷ bytes) e all = word_form (letter_in_word b e) all
 
 pub numeral_words : (base : Base) (bytes : List ℕ) → IsNumeral base bytes → every is_word_byte bytes ≡ true
 numeral_words Decimal bytes h = every_wider is_digit is_word_byte digit_in_word bytes h.1
-numeral_words Hexadecimal bytes (mark, digits, same, is_mark, some, all) = rw same (and_both (is_word_byte mark) (every is_word_byte digits) (mark_in_word mark is_mark) (every_wider is_hexadecimal is_word_byte hexadecimal_in_word digits all))
-
-pub numeral_some : (base : Base) (bytes : List ℕ) → IsNumeral base bytes → 0 < length bytes
-numeral_some Decimal bytes h = h.0
-numeral_some Hexadecimal bytes (mark, digits, same, is_mark, some, all) = rw same (omega arith)
+numeral_words Hexadecimal bytes (mark, digits, same, is_mark, some, all) = rw same (and_from (is_word_byte mark) (every is_word_byte digits) (mark_in_word mark is_mark) (every_wider is_hexadecimal is_word_byte hexadecimal_in_word digits all))
 
 numeral_form : (base : Base) (bytes : List ℕ) → IsNumeral base bytes → Form bytes
 numeral_form base bytes h = word_form (first_of_every is_word_byte bytes (numeral_some base bytes h) (numeral_words base bytes h)) (numeral_words base bytes h)

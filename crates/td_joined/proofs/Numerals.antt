@@ -1,11 +1,12 @@
 -- The digits that are written for a number spell it.
 use Rattle.std.proofs.Common.{◌≡◌, ℕ, ◌+◌, ◌*◌, ◌<◌, ◌≤◌, ◌^◌, Bool, true, false, cond, List, [], ◌∷◌, length, refl, ap, ◌∙◌, arith}
-use Rattle.std.specs.Prelude.{◌&&◌, ◌||◌, nat_lt, nat_le}
+use Rattle.std.specs.Prelude.{◌||◌, nat_lt, nat_le}
 use Rattle.std.proofs.lemmas.Bool.Decides.{nat_tests}
 use Rattle.std.specs.Char.{digit_value as value_in_std}
 use Rattle.std.specs.Str.Parse.{AllDigits, digits_value_after}
 use Rattle.std.specs.Fmt.{digits, decimal}
 use Rattle.std.proofs.lemmas.Fmt.{digits_is_IsNumeral, decimal_is_IsNumeral}
+use Rattle.std.proofs.lemmas.Bool.{and_from}
 use Rattle.td_ast.specs.declared.token.Base.{Base}
 use Rattle.td_ast.specs.declared.token.Base.TheVariants.{Decimal, Hexadecimal}
 use Rattle.td_lexer.specs.Bytes.{is_digit, is_hexadecimal, every, digit_value, value_from}
@@ -29,13 +30,10 @@ sixteen_value c lt = grind (arith, nat_tests)
 
 -- ---- all digits
 
-and_both : (a b : Bool) → a ≡ true → b ≡ true → (a && b) ≡ true
-and_both a b e f = rw (e, f) refl
-
 module _ (radix : ℕ) (sort : ℕ → Bool) (is : (c : ℕ) → value_in_std c < radix → sort c ≡ true) (same : (c : ℕ) → value_in_std c < radix → value_in_std c ≡ digit_value c) where
   every_digit : (ds : List ℕ) → AllDigits radix ds → every sort ds ≡ true
   every_digit [] all = refl
-  every_digit (c ∷ ds) all = and_both (sort c) (every sort ds) (is c all.0) (every_digit ds all.1)
+  every_digit (c ∷ ds) all = and_from (sort c) (every sort ds) (is c all.0) (every_digit ds all.1)
 
   value_after : (n : ℕ) (ds : List ℕ) → AllDigits radix ds → value_from radix n ds ≡ digits_value_after radix n ds
   value_after n [] all = refl

@@ -1,6 +1,7 @@
 -- A token stands before bytes in which it doesn't go on.
 use Rattle.std.proofs.Common.{◌≡◌, ℕ, suc, ◌+◌, ◌≤◌, ◌<◌, ◌^◌, Bool, true, false, cond, eqb, List, [], ◌∷◌, ◌++◌, length, Option, Some, None, refl, sym, ap, subst, ◌∙◌, arith}
 use Rattle.std.specs.Prelude.{◌&&◌, ◌||◌, not, codes}
+use Rattle.std.proofs.lemmas.Bool.{or_parts}
 use Rattle.td_num.specs.declared.number.Width.{Width}
 use Rattle.td_num.specs.declared.number.Width.TheVariants.{One, Two, Four, Eight}
 use Rattle.td_num.specs.declared.number.ByteOrder.{ByteOrder}
@@ -15,10 +16,11 @@ use Rattle.td_lexer.specs.Splits.{Begins, Stands, is_comment_byte}
 use Rattle.td_lexer.specs.Splits.Begins.{keyword_begins, name_begins, number_begins, marked_begins, punctuation_begins}
 use Rattle.td_lexer.proofs.Within.{and_left, and_right}
 use Rattle.td_lexer.proofs.Sorts.{kind_passes, is_punctuation_byte, is_marked_shape, is_pair_shape, is_single_shape, not_true}
+use Rattle.td_lexer.proofs.Complete.{numeral_some}
 use Rattle.td_joined.specs.Pieces.{number_spelling, spelling, type_spelling}
 use Rattle.td_joined.specs.Joining.{there_is, joins, goes_on, IsSpellable}
 use Rattle.td_joined.proofs.Numerals.{number_spelled}
-use Rattle.td_joined.proofs.Forms.{Form, form, most, firsts, no_punctuation, first_of_every, numeral_words, numeral_some, word_shape_form}
+use Rattle.td_joined.proofs.Forms.{Form, form, most, firsts, no_punctuation, first_of_every, numeral_words, word_shape_form}
 use Rattle.td_joined.proofs.Forms.Form.{word_form, marked_form, pair_form, single_form}
 
 -- no token that begins here is longer than the bytes
@@ -141,14 +143,6 @@ pair_stands kind a b rest e mark never = stands (punctuation_begins e (λ slash.
 
 -- ---- punctuation of one byte
 
-or_left : (a b : Bool) → (a || b) ≡ false → a ≡ false
-or_left true b e = absurd cc
-or_left false b e = refl
-
-or_right : (a b : Bool) → (a || b) ≡ false → b ≡ false
-or_right true b e = absurd cc
-or_right false b e = e
-
 -- a word with a mark begins with `#`, or has a colon for its second byte
 abbrev has_mark : List ℕ → Bool
 has_mark [] = false
@@ -183,7 +177,7 @@ single_longest a rest mark never ends others after same (pair_form kind e shape)
         let first : c ≡ a = cc in
         let second : d ≡ b = cc in
         let found : kind_in punctuation_of_two (a ∷ b ∷ []) ≡ Some kind = rw (first, second) at e in
-        let none = or_left (there_is (kind_in punctuation_of_two (a ∷ b ∷ []))) ((eqb a 47 && is_comment_byte b) || (opens a && eqb b 58)) ends in
+        let none = (or_parts (there_is (kind_in punctuation_of_two (a ∷ b ∷ []))) ((eqb a 47 && is_comment_byte b) || (opens a && eqb b 58)) ends).0 in
         absurd (differ (kind_in punctuation_of_two (a ∷ b ∷ [])) found none)
       where
         differ : (o : Option TokenKind) → o ≡ Some kind → there_is o ≡ false → ⊥
@@ -197,8 +191,8 @@ divides : (a : ℕ) (rest : List ℕ) → joins (a ∷ []) rest ≡ false → a 
 divides a [] ends slash = refl
 divides a (b ∷ rest) ends slash =
     let is : a ≡ 47 = cc in
-    let others = or_right (there_is (kind_in punctuation_of_two (a ∷ b ∷ []))) ((eqb a 47 && is_comment_byte b) || (opens a && eqb b 58)) ends in
-    let comment = or_left (eqb a 47 && is_comment_byte b) (opens a && eqb b 58) others in
+    let others = (or_parts (there_is (kind_in punctuation_of_two (a ∷ b ∷ []))) ((eqb a 47 && is_comment_byte b) || (opens a && eqb b 58)) ends).1 in
+    let comment = (or_parts (eqb a 47 && is_comment_byte b) (opens a && eqb b 58) others).0 in
     rw is at comment
 
 single_stands : (kind : TokenKind) (a : ℕ) (rest : List ℕ) → punctuation_kind (a ∷ []) ≡ Some kind → is_punctuation_byte a ≡ true → eqb a 35 ≡ false → joins (a ∷ []) rest ≡ false → Stands kind (a ∷ []) rest

@@ -2,9 +2,10 @@
 use Rattle.std.proofs.Common.{◌≡◌, ℕ, suc, ◌+◌, ◌≤◌, Bool, true, false, cond, eqb, List, [], ◌∷◌, ◌++◌, length, Option, Some, None, refl, sym, ap, ◌∙◌, arith}
 use Rattle.std.specs.Prelude.{◌&&◌, codes}
 use Rattle.std.proofs.lemmas.Bool.{eqb-true}
+use Rattle.std.proofs.Math.Bool.{and-false}
 use Rattle.td_lexer.specs.Bytes.{first_is}
 use Rattle.td_lexer.specs.Scanner.{close_of, closes, one_more}
-use Rattle.td_lexer.proofs.Within.{and_left, and_right, and_false}
+use Rattle.td_lexer.proofs.Within.{and_left, and_right}
 
 -- the first end of a comment, and what is before it
 abbrev pub Closes : List ℕ → Option ℕ → Type 0
@@ -29,7 +30,7 @@ close_found [] = none
 close_found (a ∷ bytes) = by_test (closes (a ∷ bytes)) refl (close_of bytes) (close_found bytes)
   where
     here : (bs : List ℕ) → (eqb a 42 && first_is (λ b. eqb b 47) bs) ≡ true → Closes (a ∷ bs) (Some 2)
-    here [] e = absurd (cc (e, and_false (eqb a 42)))
+    here [] e = absurd (cc (e, and-false (eqb a 42)))
     here (b ∷ bs) e =
         let ea = eqb-true a 42 (and_left (eqb a 42) (eqb b 47) e) in
         let eb = eqb-true b 47 (and_right (eqb a 42) (eqb b 47) e) in

@@ -1,12 +1,13 @@
 -- The longest number at the beginning.
 use Rattle.std.proofs.Common.{◌≡◌, ℕ, suc, ◌+◌, ◌≤◌, Bool, true, false, cond, eqb, List, [], ◌∷◌, ◌++◌, length, refl, ◌∙◌, arith}
 use Rattle.std.proofs.lemmas.Bool.{eqb-false, ne_eqb}
+use Rattle.std.proofs.Math.Bool.{and-false}
 use Rattle.td_ast.specs.declared.token.Base.{Base}
 use Rattle.td_ast.specs.declared.token.Base.TheVariants.{Decimal, Hexadecimal}
 use Rattle.td_lexer.specs.Bytes.{is_digit, is_word_byte, is_hexadecimal, is_hexadecimal_mark, every, first_is, run}
 use Rattle.td_lexer.specs.Scanner.{hexadecimal_digits, number_ends, number_lexeme}
 use Rattle.td_lexer.specs.Splits.{IsNumeral}
-use Rattle.td_lexer.proofs.Within.{and_left, and_right, and_false}
+use Rattle.td_lexer.proofs.Within.{and_left, and_right}
 use Rattle.td_lexer.proofs.Runs.{run_least, run_all}
 use Rattle.td_lexer.proofs.Sorts.{digit_no_mark, digit_in_word, mark_in_word, hexadecimal_in_word, first_narrower}
 
@@ -16,7 +17,7 @@ reach bytes = cond (eqb (hexadecimal_digits bytes) 0) (run is_digit bytes) (2 + 
 
 -- no `0x` where the second byte is no mark
 no_mark : (a : ℕ) (bytes : List ℕ) → first_is is_hexadecimal_mark bytes ≡ false → hexadecimal_digits (a ∷ bytes) ≡ 0
-no_mark a bytes e = rw (e, and_false (eqb a 48)) refl
+no_mark a bytes e = rw (e, and-false (eqb a 48)) refl
 
 -- after a mark all hexadecimal digits belong to the number
 behind_mark : (mark : ℕ) (bytes : List ℕ) → is_hexadecimal_mark mark ≡ true → hexadecimal_digits (48 ∷ mark ∷ bytes) ≡ run is_hexadecimal bytes

@@ -3,6 +3,7 @@ use Rattle.std.proofs.Common.{◌≡◌, ℕ, zero, suc, ◌+◌, ◌≤◌, ◌
 use Rattle.std.specs.Prelude.{◌&&◌, ◌⊎◌, codes}
 use Rattle.std.proofs.lemmas.Bool.{eqb-true, eq-eqb, ltb-true, ltb-false}
 use Rattle.std.proofs.lemmas.List.{take-append-drop, length-take-le, length-append}
+use Rattle.std.proofs.Math.Bool.{and-false}
 use Rattle.td_ast.specs.declared.token.Base.{Base}
 use Rattle.td_ast.specs.declared.token.Base.TheVariants.{Decimal, Hexadecimal}
 use Rattle.td_ast.specs.declared.token.TokenKind.{TokenKind}
@@ -15,7 +16,7 @@ use Rattle.td_lexer.specs.Scanner.{lexeme, word_lexeme, number_lexeme, punctuati
 use Rattle.td_lexer.specs.Splits.{IsNumeral, Begins, IsPassed, IsOpenComment, IsBigNumber, GoesOn, is_comment_byte}
 use Rattle.td_lexer.specs.Splits.Begins.{keyword_begins, name_begins, number_begins, marked_begins, punctuation_begins}
 use Rattle.td_lexer.specs.Splits.IsPassed.{blank_passes, line_passes, block_passes}
-use Rattle.td_lexer.proofs.Within.{and_left, and_right, and_false, run_within, run_some, marked_within, hexadecimal_within, no_pair}
+use Rattle.td_lexer.proofs.Within.{and_left, and_right, run_within, run_some, marked_within, hexadecimal_within, no_pair}
 use Rattle.td_lexer.proofs.Runs.{run_every, run_stops}
 use Rattle.td_lexer.proofs.Closing.{Closes, close_found}
 use Rattle.td_lexer.proofs.Numeral.{numeral_within}
@@ -78,7 +79,7 @@ module _ (base : Base) (n : ℕ) (bytes : List ℕ) (le : n ≤ length bytes) (n
 
 -- `0x` and hexadecimal digits
 hexadecimal_numeral : (a : ℕ) (bytes : List ℕ) → 0 < hexadecimal_digits (a ∷ bytes) → IsNumeral Hexadecimal (take (2 + hexadecimal_digits (a ∷ bytes)) (a ∷ bytes))
-hexadecimal_numeral a [] pos = absurd (omega (arith, ap (λ (c : Bool). cond c (run is_hexadecimal []) 0) (and_false (eqb a 48))))
+hexadecimal_numeral a [] pos = absurd (omega (arith, ap (λ (c : Bool). cond c (run is_hexadecimal []) 0) (and-false (eqb a 48))))
 hexadecimal_numeral a (x ∷ bytes) pos = by_test (eqb a 48 && is_hexadecimal_mark x) refl pos
   where
     by_test : (c : Bool) → (eqb a 48 && is_hexadecimal_mark x) ≡ c → 0 < cond c (run is_hexadecimal bytes) 0 → IsNumeral Hexadecimal (take (2 + cond c (run is_hexadecimal bytes) 0) (a ∷ x ∷ bytes))
@@ -130,7 +131,7 @@ number_sound a bytes digit =
 -- ---- comments
 
 line_sound : (a : ℕ) (bytes : List ℕ) → (eqb a 47 && first_is (λ b. eqb b 47) bytes) ≡ true → Sound (a ∷ bytes) (lexemes.Trivia (2 + run is_in_line (drop 1 bytes)))
-line_sound a [] e = absurd (cc (e, and_false (eqb a 47)))
+line_sound a [] e = absurd (cc (e, and-false (eqb a 47)))
 line_sound a (b ∷ bytes) e =
     let ea = eqb-true a 47 (and_left (eqb a 47) (eqb b 47) e) in
     let eb = eqb-true b 47 (and_right (eqb a 47) (eqb b 47) e) in
@@ -139,7 +140,7 @@ line_sound a (b ∷ bytes) e =
     (codes "//" ++ take n bytes, drop n bytes, rw (ea, eb, take-append-drop n bytes) refl, omega (arith, len), line_passes (run_every is_in_line bytes) (run_stops is_in_line bytes))
 
 block_sound : (a : ℕ) (bytes : List ℕ) → (eqb a 47 && first_is (λ b. eqb b 42) bytes) ≡ true → Sound (a ∷ bytes) (closed (close_of (drop 1 bytes)))
-block_sound a [] e = absurd (cc (e, and_false (eqb a 47)))
+block_sound a [] e = absurd (cc (e, and-false (eqb a 47)))
 block_sound a (b ∷ bytes) e = by_close (close_of bytes) (close_found bytes)
   where
     opened : a ∷ b ∷ bytes ≡ 47 ∷ 42 ∷ bytes

@@ -2,6 +2,7 @@
 use Rattle.std.proofs.Common.{◌≡◌, ℕ, suc, ◌+◌, ◌≤◌, ◌<◌, Bool, true, false, cond, eqb, ltb, ◌^◌, List, [], ◌∷◌, length, take, drop, Option, Some, None, refl, arith, length-drop, length-take}
 use Rattle.std.specs.Prelude.{IfSome, ◌&&◌}
 use Rattle.std.proofs.lemmas.List.Sums.{take_while-cons}
+use Rattle.std.proofs.Math.Bool.{and-false}
 use Rattle.td_ast.specs.declared.token.TokenKind.{TokenKind}
 use Rattle.td_ast.specs.declared.token.Base.{Base}
 use Rattle.td_ast.specs.declared.token.Base.TheVariants.{Decimal, Hexadecimal}
@@ -12,14 +13,6 @@ use Rattle.td_lexer.specs.declared.lexeme.Lexeme.TheVariants as lexemes
 use Rattle.td_lexer.specs.Numerals.{numeral_value}
 use Rattle.td_lexer.specs.Scanner.{lexeme, close_of, closes, closed, one_more, word_lexeme, number_lexeme, punctuation_lexeme, number_ends, hexadecimal_digits, marked_length, marked_kind, found_or}
 use Rattle.td_lexer.specs.ScanSteps.{IsWithin}
-
-pub and_false : (b : Bool) → (b && false) ≡ false
-and_false true = refl
-and_false false = refl
-
-pub and_true : (b : Bool) → (b && true) ≡ b
-and_true true = refl
-and_true false = refl
 
 pub and_right : (b c : Bool) → (b && c) ≡ true → c ≡ true
 and_right true c e = e
@@ -44,7 +37,7 @@ ends_within n base len bytes pos le = cond_within n (first_is is_word_byte (drop
 
 -- where a first byte is of a sort there is one
 pub first_there : (c : Bool) (sort : ℕ → Bool) (bytes : List ℕ) → (c && first_is sort bytes) ≡ true → 0 < length bytes
-first_there c sort [] e = absurd (cc (e, and_false c))
+first_there c sort [] e = absurd (cc (e, and-false c))
 first_there c sort (b ∷ bytes) e = omega arith
 
 -- a comment's end has two bytes
@@ -97,7 +90,7 @@ found_within len (Some k) n other pos le h = (pos, le k refl)
 found_within len None n other pos le h = h
 
 pub no_pair : (a : ℕ) → kind_in punctuation_of_two (a ∷ []) ≡ None
-no_pair a = simp and_false
+no_pair a = simp and-false
 
 sign_within : (a : ℕ) (bytes : List ℕ) → IsWithin (suc (length bytes)) (punctuation_lexeme (a ∷ bytes))
 unfolding punctuation_lexeme

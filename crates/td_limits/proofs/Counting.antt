@@ -1,7 +1,6 @@
 -- The first of excesses, over capped numbers, and what one more definition adds.
-use Rattle.std.proofs.Common.{◌≡◌, ◌⊎◌, ℕ, suc, ◌+◌, ◌-◌, ◌^◌, ◌<◌, ◌≤◌, Bool, true, false, cond, nat_lt, List, [], ◌∷◌, ◌++◌, length, drop, get_or, Option, Some, None, is_some, refl, sym, ap, ap₂, ◌∙◌, arith}
+use Rattle.std.proofs.Common.{◌≡◌, ℕ, ◌+◌, ◌-◌, ◌^◌, ◌<◌, ◌≤◌, Bool, true, false, cond, nat_lt, List, [], ◌∷◌, ◌++◌, Option, Some, None, is_some, refl, sym, ap, ap₂, ◌∙◌, arith}
 use Rattle.std.proofs.lemmas.Bool.{ltb-true, ltb-false, lt-ltb, le-ltb}
-use Rattle.std.proofs.Math.Seq.{drop-cons}
 use Rattle.td_ast.specs.declared.token.Span.{Span}
 use Rattle.td_ast.specs.declared.definitions.Def.{Def}
 use Rattle.td_limits.specs.declared.limits.Limit.{Limit}
@@ -39,12 +38,6 @@ test_capped most n small = by (nat_lt most n) refl
 
 pub above_capped : (most n : ℕ) (l : Limit) (s : Span) → most < 2 ^ 64 - 1 → above most (capped n) l s ≡ above most n l s
 above_capped most n l s small = ap (λ (b : Bool). cond b (record { limit = l; span = s } ∷ []) []) (test_capped most n small)
-
--- what is left begins with the item of this turn
-pub split : {A : Type 0} (xs : List A) (i : ℕ) (x : A) → i < length xs → x ≡ get_or xs i x → drop i xs ≡ x ∷ drop (i + 1) xs
-split xs i x h e =
-    let later : suc i ≡ i + 1 = omega arith in
-    drop-cons xs i x h ∙ ap (λ y. y ∷ drop (suc i) xs) (sym e) ∙ ap (λ n. x ∷ drop n xs) later
 
 -- ---- one more definition by its counts
 

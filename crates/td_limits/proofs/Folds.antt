@@ -1,6 +1,6 @@
 -- Greatest numbers and nodes over the elements of a list, one by one.
-use Rattle.std.proofs.Common.{◌≡◌, ℕ, zero, suc, ◌+◌, ◌<◌, ◌≤◌, max, List, [], ◌∷◌, length, map, take, get_or, refl, sym, ap, ◌∙◌, arith}
-use Rattle.td_ast.specs.Statements.{Statement, block_of, statement_size, list_size}
+use Rattle.std.proofs.Common.{◌≡◌, ℕ, zero, suc, ◌+◌, ◌<◌, max, List, [], ◌∷◌, length, map, take, get_or, refl, ap, ◌∙◌, arith}
+use Rattle.td_ast.specs.Statements.{Statement, block_of}
 use Rattle.td_limits.specs.Excesses.{greatest}
 use Rattle.td_limits.specs.Nodes.{statement_nodes, block_nodes}
 use Rattle.td_limits.specs.Measures.{Measures}
@@ -22,12 +22,6 @@ block_suc (y ∷ ys) (suc i) x h e = let ih = block_suc ys i x (omega arith) e i
 -- a block of one statement more
 pub block_more : (xs : List Statement) (i : ℕ) (x : Statement) → i < length xs → x ≡ get_or xs i x → block_nodes (block_of (take (i + 1) xs)) ≡ block_nodes (block_of (take i xs)) + statement_nodes x
 block_more xs i x h e = let next : i + 1 ≡ suc i = omega arith in ap (λ (n : ℕ). block_nodes (block_of (take n xs))) next ∙ block_suc xs i x h e
-
--- a statement is smaller than the list it stands in
-pub below : (xs : List Statement) (i : ℕ) (x : Statement) → i < length xs → x ≡ get_or xs i x → statement_size x < list_size xs
-below [] i x h e = absurd (omega arith)
-below (y ∷ ys) zero x h e = let same : statement_size x ≡ statement_size y = ap statement_size e in omega arith
-below (y ∷ ys) (suc i) x h e = let ih = below ys i x (omega arith) e in omega arith
 
 -- a block as the list of its statements
 pub block_greatest : (known : Measures) (xs : List Statement) → block_depth known (block_of xs) ≡ greatest (map (statement_depth known) xs)

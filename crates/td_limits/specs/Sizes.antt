@@ -5,7 +5,7 @@ use Rattle.td_ast.specs.declared.definitions.Def.{Def}
 use Rattle.td_ast.specs.declared.definitions.Def.TheVariants.{Define, Enum, Alias, Struct, Casetype, Output}
 use Rattle.td_ast.specs.declared.definitions.ModuleTree.{ModuleTree}
 use Rattle.td_names.specs.Names.{declared}
-use Rattle.td_limits.specs.declared.limits.TheConstants.{MOST_CELLS, MOST_DEPTH, MOST_WEIGHT}
+use Rattle.td_core.specs.declared.limits.TheConstants.{MOST_CELLS, MOST_DEPTH, MOST_WEIGHT}
 use Rattle.td_limits.specs.declared.limits.Limit.TheVariants.{Cells, Depth, Weight}
 use Rattle.td_limits.specs.declared.limits.Excess.{Excess}
 use Rattle.td_limits.specs.declared.measures.NameSort.{NameSort}

@@ -4,14 +4,12 @@ ghost use Rattle.std.specs.Prelude.{◌≡◌, ◌+◌, length};
 ghost use Rattle.td_limits.specs.Counts.{count_cases, count_params, counts_passed, default_count, definition_counts, longest_case, most_fields};
 ghost use Rattle.td_limits.specs.Excesses.{capped, definition_name, first_excess};
 
-use crate::limits::{
-    Excess, Limit, MOST_CASES, MOST_DEFINITIONS, MOST_FIELDS, MOST_NODES, MOST_PARAMETERS,
-    excess_over,
-};
+use crate::limits::{Excess, Limit, excess_over};
 use crate::nodes::definition_nodes;
 use td_ast::definitions::{CaseTree, Def, ModuleTree};
 use td_ast::fields::FieldTree;
 use td_ast::token::Span;
+use td_core::limits::{MOST_CASES, MOST_DEFINITIONS, MOST_FIELDS, MOST_NODES, MOST_PARAMETERS};
 use td_num::items::Items;
 
 /// Where a definition's name stands.

@@ -11,9 +11,6 @@ mod sizes;
 mod weights;
 
 pub use counts::counts_passed;
-pub use limits::{
-    Excess, Limit, MOST_CASES, MOST_CELLS, MOST_DEFINITIONS, MOST_DEPTH, MOST_FIELDS, MOST_NODES,
-    MOST_PARAMETERS, MOST_WEIGHT,
-};
+pub use limits::{Excess, Limit};
 pub use measures::{Measure, NameSort};
 pub use sizes::sizes_passed;

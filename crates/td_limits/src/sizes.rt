@@ -9,11 +9,12 @@ ghost use Rattle.td_limits.specs.Sizes.{definition_sizes, items_of, member, size
 
 use crate::counts::name_span;
 use crate::depths::uses_depth;
-use crate::limits::{Excess, Limit, MOST_CELLS, MOST_DEPTH, MOST_WEIGHT, excess_over};
+use crate::limits::{Excess, Limit, excess_over};
 use crate::measures::{Measure, NameSort};
 use crate::weights::{count_cells, definition_weight};
 use std::alloc::{AllocError, Global};
 use td_ast::definitions::{Def, ItemTree, ModuleTree};
+use td_core::limits::{MOST_CELLS, MOST_DEPTH, MOST_WEIGHT};
 use td_names::table::Table;
 
 fn sort_of(definition: &Def) -> NameSort

@@ -9,8 +9,8 @@ use std::test::Fail;
 use std::thread;
 use td_core::module::Module;
 use td_live::gate::{OpenGate, PostName};
-use td_live::slot::Slot;
 use td_plain::meaning::meaning;
+use td_stream::layout::Layout;
 use td_stream::load::Load;
 use td_verify::verify::Verified;
 use td_words::seats::{GuestSeat, HostSeat, ReadSeat};
@@ -44,17 +44,16 @@ struct Reader<'a> {
 
 impl<'a> Reader<'a> {
     fn validate(&mut self, alloc: Global, code: &Verified, number: u32) -> Option<Ran> {
-        let slot = Slot {
-            base: self.base,
-            length: LENGTH,
-        };
+        // (the number of words is below 2^32, so the message has places below 2^35)
+        let _words = self.shared.count();
+        let layout = Layout::words(self.base, LENGTH);
         let name = PostName { guest: 1, number };
         validated(
             alloc,
             code,
             self.shared,
             &mut self.seat,
-            slot,
+            &layout,
             name,
             &[0],
             &mut OpenGate,

@@ -8,8 +8,8 @@ use std::test::Fail;
 use td_core::module::Module;
 use td_io::MemorySink;
 use td_live::gate::{Gate, PostName};
-use td_live::slot::Slot;
 use td_report::report::run_report;
+use td_stream::layout::Layout;
 use td_verify::verify::Verified;
 use td_words::seats::GuestSeat;
 use td_words::shared::Shared;
@@ -69,12 +69,21 @@ fn raced(alloc: Global, code: &Verified, word: u32, value: u64) -> Option<Ran>
         value,
     };
     let mut seat = shared.split_reader(&mut host);
-    let slot = Slot { base: 1, length: 9 };
+    let layout = Layout::words(1, 9);
     let name = PostName {
         guest: 1,
         number: 1,
     };
-    validated(alloc, code, &shared, &mut seat, slot, name, &[0], &mut gate)
+    validated(
+        alloc,
+        code,
+        &shared,
+        &mut seat,
+        &layout,
+        name,
+        &[0],
+        &mut gate,
+    )
 }
 
 // The report of a validation.
@@ -82,7 +91,7 @@ fn report(alloc: Global, m: &Module, ran: &Ran) -> Option<MemorySink> {
     let Ok(mut out) = MemorySink::with_room(alloc, 4096, Vec::new(alloc)) else {
         return None;
     };
-    match run_report(&ran.outcome, m, ENTRY, &ran.loads, &mut out) {
+    match run_report(&ran.outcome, m, ENTRY, &ran.loads, None, &mut out) {
         Ok(()) => Some(out),
         Err(_) => None,
     }

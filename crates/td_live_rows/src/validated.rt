@@ -1,7 +1,7 @@
 //! Validations of messages in a shared buffer, by the code of a module text.
 
-ghost use Rattle.std.specs.Prelude.{◌≡◌, ◌+◌, ◌≤◌};
-ghost use Rattle.td_posts.specs.Posts.{words_in};
+ghost use Rattle.std.specs.Prelude.{◌≡◌};
+ghost use Rattle.td_stream.specs.Layouts.{AreWithin};
 
 use std::alloc::Global;
 use td_core::module::{Entry, Module};
@@ -9,8 +9,9 @@ use td_core::outcome::Outcome;
 use td_front::check_module;
 use td_ir::entries::fits;
 use td_live::gate::{Gate, PostName};
-use td_live::slot::{Slot, validate_slot, word_count};
+use td_live::slot::validate_slot;
 use td_lower::lower::lower;
+use td_stream::layout::Layout;
 use td_stream::loads::Loads;
 use td_verify::verify::Verified;
 use td_vm::laws::fitting_cells_have_room;
@@ -49,26 +50,26 @@ pub(crate) struct Ran {
     pub(crate) loads: Loads,
 }
 
-/// Validates the message in a slot once, from these cells. None: the entry point doesn't take them, or there was no memory.
+/// Validates the message of a layout once, from these cells. None: the entry point doesn't take them, or there was no memory.
 pub(crate) fn validated<G: Gate>(
     alloc: Global,
     code: &Verified,
     shared: &Shared,
     seat: &mut ReadSeat,
-    slot: Slot,
+    layout: &Layout,
     name: PostName,
     cells: &[u64],
     gate: &mut G,
 ) -> Option<Ran>
     requires own { seat.old.table ≡ shared.now.table }
-    requires inside { slot.base + words_in slot.length ≤ shared.now.count }
+    requires inside { AreWithin shared.now.count layout.now }
     ensures own { seat.new.table ≡ shared.now.table }
 {
     if !fits(code.code(), ENTRY, &[], cells) {
         return None;
     }
     fitting_cells_have_room();
-    let Ok(mut loads) = Loads::with_room(alloc, word_count(slot.length)) else {
+    let Ok(mut loads) = Loads::with_room(alloc, layout.count()) else {
         return None;
     };
     let Ok(mut frame) = Frame::arm(alloc, code) else {
@@ -81,7 +82,7 @@ pub(crate) fn validated<G: Gate>(
         &[],
         shared,
         seat,
-        slot,
+        layout,
         name,
         &mut frame,
         &mut loads,

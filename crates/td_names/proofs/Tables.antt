@@ -1,5 +1,6 @@
 -- The entries of a map, by the bytes of their keys.
-use Rattle.std.proofs.Common.{◌≡◌, ℕ, false, cond, List, [], ◌∷◌, ◌++◌, Option, Some, None, is_some, if◌then◌else◌, refl, ap}
+use Rattle.std.proofs.Common.{◌≡◌, ℕ, false, cond, List, [], ◌∷◌, ◌++◌, Bool, true, Option, Some, None, is_some, if◌then◌else◌, refl, sym, ap}
+use Rattle.std.proofs.lemmas.List.{append-nil}
 use Rattle.std.specs.Str.{bytes_eq}
 use Rattle.std.specs.Map.{lookup}
 use Rattle.std.specs.declared.vec.Vec.{Vec}
@@ -20,3 +21,11 @@ none_there (Some x) e = cc
 
 pub declared-new : {V : Type 0} (es : List (List ℕ × V)) (name : List ℕ) (v : V) → looked_up es name ≡ None → declared es name v ≡ es ++ (name, v) ∷ []
 declared-new es name v e = ap (λ r. if is_some r then es else es ++ (name, v) ∷ []) e
+
+-- names are declared at the end. Cited by other crates
+pub declared_more : {V : Type 0} (es : List (List ℕ × V)) (name : List ℕ) (v : V) → (more : List (List ℕ × V)) × (declared es name v ≡ es ++ more)
+declared_more {V} es name v = by (is_some (looked_up es name))
+  where
+    by : (b : Bool) → (more : List (List ℕ × V)) × ((if b then es else es ++ (name, v) ∷ []) ≡ es ++ more)
+    by true = ([], sym (append-nil es))
+    by false = ((name, v) ∷ [], refl)

@@ -1,6 +1,8 @@
 //! The report of a run.
 
-ghost use Rattle.std.specs.Prelude.{◌≡◌, flat_map, codes, decimal};
+ghost use Rattle.std.specs.Prelude.{◌≡◌, ◌<◌, Some, None, flat_map, option_map, codes, decimal};
+ghost use Rattle.std.specs.List.{All};
+ghost use Rattle.td_stream.specs.Layouts.{count_in, IsNumberOf};
 ghost use Rattle.td_core.specs.Entries.{entry_definition};
 ghost use Rattle.td_io.specs.States.{Writes};
 ghost use Rattle.td_report.specs.Report.{report, reason_word, spot_word, verdict_line, frame_line, frame_lines, entry_cells, with_values, cell_line, load_line};
@@ -12,6 +14,7 @@ use td_core::entries::{entry_definition, name_bytes};
 use td_core::module::{Cell, Entry, Module};
 use td_core::outcome::{Outcome, Reason, Spot, TraceFrame, Verdict};
 use td_io::{Sink, WriteFault};
+use td_stream::layout::Layout;
 use td_stream::load::Load;
 use td_stream::loads::Loads;
 
@@ -148,20 +151,61 @@ fn write_cells<O: Sink>(
     Ok(())
 }
 
+// A load of a message word that has no layout.
 #[tactic(auto, unfolding(crate::specs::Report::load_line))]
-fn write_load<O: Sink>(out: &mut O, load: Load) -> Result<(), WriteFault>
-    ensures { Writes (O.state out.old) (O.state out.new) (load_line load) result }
+fn write_plain<O: Sink>(out: &mut O, load: Load) -> Result<(), WriteFault>
+    ensures { Writes (O.state out.old) (O.state out.new) (load_line None load) result }
 {
     let mut buffer = Buffer::new();
     let word = buffer.format(load.word).as_bytes();
     write_pieces(out, &[b"load ", word, b" ", &digits_of(load.value), b"\n"])
 }
 
-fn write_loads<O: Sink>(out: &mut O, loads: &[Load]) -> Result<(), WriteFault>
-    ensures { Writes (O.state out.old) (O.state out.new) (flat_map load_line loads.now) result }
+// A load of a message word of a layout.
+#[tactic(auto, unfolding(crate::specs::Report::load_line))]
+fn write_laid<O: Sink>(out: &mut O, layout: &Layout, load: Load) -> Result<(), WriteFault>
+    requires { load.word < count_in layout.now }
+    ensures { Writes (O.state out.old) (O.state out.new) (load_line (Some layout.now) load) result }
+{
+    let (stretch, word) = layout.word(load.word);
+    let mut first = Buffer::new();
+    let mut second = Buffer::new();
+    let stretch = first.format(stretch).as_bytes();
+    let word = second.format(word).as_bytes();
+    write_pieces(
+        out,
+        &[
+            b"load ",
+            stretch,
+            b" ",
+            word,
+            b" ",
+            &digits_of(load.value),
+            b"\n",
+        ],
+    )
+}
+
+fn write_load<O: Sink>(out: &mut O, load: Load, layout: Option<&Layout>) -> Result<(), WriteFault>
+    requires { IsNumberOf (option_map (λ l. l.now) layout) load.word }
+    ensures { Writes (O.state out.old) (O.state out.new) (load_line (option_map (λ l. l.now) layout.entry) load) result }
+{
+    match layout {
+        None => write_plain(out, load),
+        Some(layout) => write_laid(out, layout, load),
+    }
+}
+
+fn write_loads<O: Sink>(
+    out: &mut O,
+    loads: &[Load],
+    layout: Option<&Layout>,
+) -> Result<(), WriteFault>
+    requires { All (λ l. IsNumberOf (option_map (λ l. l.now) layout) l.word) loads.now }
+    ensures { Writes (O.state out.old) (O.state out.new) (flat_map (load_line (option_map (λ l. l.now) layout.entry)) loads.now) result }
 {
     for load in loads {
-        write_load(out, *load)?;
+        write_load(out, *load, layout)?;
     }
     Ok(())
 }
@@ -176,16 +220,18 @@ pub fn report_of_parts<O: Sink>(
     trace: &[TraceFrame],
     cells: &[u64],
     loads: &[Load],
+    layout: Option<&Layout>,
     m: &Module,
     entry: Entry,
     out: &mut O,
 ) -> Result<(), WriteFault>
-    ensures { Writes (O.state out.old) (O.state out.new) (report (record { verdict = verdict; trace = trace.now; cells = cells.now }) m.now entry loads.now) result }
+    requires { All (λ l. IsNumberOf (option_map (λ l. l.now) layout) l.word) loads.now }
+    ensures { Writes (O.state out.old) (O.state out.new) (report (record { verdict = verdict; trace = trace.now; cells = cells.now }) m.now entry loads.now (option_map (λ l. l.now) layout.entry)) result }
 {
     write_verdict(out, verdict)?;
     write_trace(out, m, verdict, trace)?;
     write_cells(out, m, cells_of(m, entry), cells)?;
-    write_loads(out, loads)
+    write_loads(out, loads, layout)
 }
 
 /// Writes the report of a run: how it ended, the frames of its failure by the names of the module, the cells of the entry
@@ -197,15 +243,18 @@ pub fn run_report<O: Sink>(
     m: &Module,
     entry: Entry,
     loads: &Loads,
+    layout: Option<&Layout>,
     out: &mut O,
 ) -> Result<(), WriteFault>
-    ensures { Writes (O.state out.old) (O.state out.new) (report outcome.now m.now entry loads.now.list) result }
+    requires { All (λ l. IsNumberOf (option_map (λ l. l.now) layout) l.word) loads.now.list }
+    ensures { Writes (O.state out.old) (O.state out.new) (report outcome.now m.now entry loads.now.list (option_map (λ l. l.now) layout.entry)) result }
 {
     report_of_parts(
         outcome.verdict,
         outcome.trace.as_slice(),
         outcome.cells.as_slice(),
         loads.as_slice(),
+        layout,
         m,
         entry,
         out,

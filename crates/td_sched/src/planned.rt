@@ -1,5 +1,8 @@
 //! Plain memory to which others store by a plan.
-ghost use Rattle.std.specs.Prelude.{◌≡◌, ℕ, ◌<◌, ◌≤◌, ◌^◌, [], length, IfOk, IsOk, OnOk};
+ghost use Rattle.std.specs.Prelude.{◌≡◌, ℕ, ◌+◌, ◌<◌, ◌≤◌, ◌^◌, List, [], Some, None, length, take, option_map, IfOk, IsOk, OnOk};
+ghost use Rattle.std.specs.List.{All};
+ghost use Rattle.td_stream.specs.Layouts.{named, counted, AreWithin, IsOver};
+ghost use Rattle.td_sched.specs.declared.store.PlannedStore.{PlannedStore};
 ghost use Rattle.td_sched.specs.Plan.{numbered, to_word};
 ghost use Rattle.td_sched.specs.Invariant.{NeverFalls};
 
@@ -8,36 +11,42 @@ use crate::store::PlannedStore;
 use std::alloc::{AllocError, Global};
 use std::marker::Model;
 use std::snapshot::Snapshot;
+use td_stream::layout::Layout;
 use td_stream::load::Load;
 use td_stream::words::Words;
 
 /// Words of 64 bits to which the stores of a plan are made, each right before its load. The words themselves are lent and stay
 /// as they are: what a word holds is looked up among the stores to it. A contract sees the opening words, the stores as they
-/// were given, and the loads made so far.
+/// were given, how the message lies in the words, and the loads made so far.
 #[derive(Drop)]
 pub struct Planned<'a> {
     words: &'a [u64],
     given: Snapshot<Vec<PlannedStore>>,
     /// The stores by rising word, those to one word by rising number, those of one number in the order in which they were given.
     stores: Vec<PlannedStore>,
-    /// The place of the first of them that isn't to a word before the next load's.
+    /// How the message lies in the words; without it a load's number is that of its word.
+    layout: Option<&'a Layout>,
+    /// The stretch of the word that was loaded last, from which the next one's is looked for.
+    near: u32,
+    /// The place of the first of them that isn't to a word before `ahead`, or an earlier one.
     next: usize,
-    /// With room for one load of each word, so that a load takes no memory.
+    ahead: u32,
+    /// With room for one load of each message word, so that a load takes no memory.
     loads: Vec<Load>,
 }
 
 impl<'a> Model for Planned<'a> {
-    ghost use Rattle.std.specs.Prelude.{vec_capacity};
+    ghost use Rattle.std.specs.Prelude.{vec_capacity, option_map};
     ghost use Rattle.td_sched.specs.View.{PlannedView};
     ghost use Rattle.td_sched.specs.Invariant.{PlannedInvariant};
 
     ghost Value = { PlannedView };
 
     ghost view = { λ p.
-        record { opening = p.words.now; stores = p.given.value.items; loads = p.loads.items } };
+        record { opening = p.words.now; stores = p.given.value.items; layout = option_map (λ l. l.now) p.layout; loads = p.loads.items } };
 
     ghost invariant = { λ p. PlannedInvariant p.words.now p.given.value.items
-        p.stores.items p.next p.loads.items (vec_capacity p.loads) };
+        p.stores.items (option_map (λ l. l.now) p.layout) p.next p.ahead (vec_capacity p.loads) };
 }
 
 // A vector of the same elements. `AllocError`: there was no memory for it; never where there are no elements.
@@ -75,6 +84,38 @@ fn sort_by_word(stores: &mut Vec<PlannedStore>) -> Result<(), AllocError>
     Ok(())
 }
 
+// The stretch, looked for from one that was near, and the word of the buffer that a number names.
+fn word_named(layout: Option<&Layout>, near: u32, number: u32) -> (u32, u32)
+    requires { number < counted (option_map (λ l. l.now) layout) (number + 1) }
+    ensures { result.1 ≡ named (option_map (λ l. l.now) layout.entry) number }
+{
+    match layout {
+        None => (near, number),
+        Some(layout) => layout.word_from(near, number),
+    }
+}
+
+// How many words may be loaded.
+fn words_of(layout: Option<&Layout>, all: u32) -> u32
+    ensures { result ≡ counted (option_map (λ l. l.now) layout.entry) all }
+{
+    match layout {
+        None => all,
+        Some(layout) => layout.count(),
+    }
+}
+
+// A place of the stores before which all are to words before this one, where those before `next` are to words before `ahead`.
+fn first_for(next: usize, ahead: u32, word: u32) -> usize
+    ensures reached { result ≤ next }
+    ensures early { (stores : List PlannedStore) → All (λ s. s.word < ahead) (take next stores) → All (λ s. s.word < word) (take result stores) }
+{
+    if word < ahead {
+        return 0;
+    }
+    next
+}
+
 impl<'a> Planned<'a> {
     /// Memory that opens with these words, of which there are fewer than 2^32, and to which these stores are made as
     /// loads come: by rising number, and within one number in the order given here. A store to a word that isn't
@@ -88,31 +129,70 @@ impl<'a> Planned<'a> {
         requires { length words.now < 2 ^ 32 }
         ensures opening { IfOk result (λ p. p.opening ≡ words.now) }
         ensures stores { IfOk result (λ p. p.stores ≡ stores.now) }
+        ensures layout { IfOk result (λ p. p.layout ≡ None) }
         ensures loads { IfOk result (λ p. p.loads ≡ []) }
         ensures memory { words.now ≡ [] → stores.now ≡ [] → IsOk result }
+    {
+        Planned::open_by(alloc, words, stores, None)
+    }
+
+    /// The same, of a message that lies so in the words: a load's number is that of a message word.
+    pub fn open_over(
+        alloc: Global,
+        words: &'a [u64],
+        stores: &[PlannedStore],
+        layout: &'a Layout,
+    ) -> Result<Planned<'a>, AllocError>
+        requires short { length words.now < 2 ^ 32 }
+        requires within { AreWithin (length words.now) layout.now }
+        ensures opening { IfOk result (λ p. p.opening ≡ words.now) }
+        ensures stores { IfOk result (λ p. p.stores ≡ stores.now) }
+        ensures layout { IfOk result (λ p. p.layout ≡ Some layout.now) }
+        ensures loads { IfOk result (λ p. p.loads ≡ []) }
+    {
+        Planned::open_by(alloc, words, stores, Some(layout))
+    }
+
+    // Memory with a layout or without one.
+    fn open_by(
+        alloc: Global,
+        words: &'a [u64],
+        stores: &[PlannedStore],
+        layout: Option<&'a Layout>,
+    ) -> Result<Planned<'a>, AllocError>
+        requires short { length words.now < 2 ^ 32 }
+        requires over { IsOver (length words.now) (option_map (λ l. l.now) layout) }
+        ensures opening { IfOk result (λ p. p.opening ≡ words.now) }
+        ensures stores { IfOk result (λ p. p.stores ≡ stores.now) }
+        ensures layout { IfOk result (λ p. p.layout ≡ option_map (λ l. l.now) layout.entry) }
+        ensures loads { IfOk result (λ p. p.loads ≡ []) }
+        ensures memory { words.now ≡ [] → stores.now ≡ [] → option_map (λ l. l.now) layout.entry ≡ None → IsOk result }
     {
         let mut stores = copied(alloc, stores)?;
         let given = Snapshot::of(&stores);
         sort_by_number(&mut stores)?;
         sort_by_word(&mut stores)?;
-        let loads = Vec::with_capacity(alloc, words.len())?;
+        let count = words_of(layout, words.len() as u32);
+        let loads = Vec::with_capacity(alloc, count as usize)?;
         Ok(Planned {
             words,
             given,
             stores,
+            layout,
+            near: 0,
             next: 0,
+            ahead: 0,
             loads,
         })
     }
 }
 
 impl<'a> Words for Planned<'a> {
-    ghost use Rattle.std.specs.Prelude.{length};
-    ghost use Rattle.td_sched.specs.View.{PlannedReaches, reaches_itself, reaches_on};
+    ghost use Rattle.td_sched.specs.View.{PlannedReaches, reaches_itself, reaches_on, same_size, size_of};
 
     ghost loads = { λ p. p.loads };
 
-    ghost size = { λ p. length p.opening };
+    ghost size = { size_of };
 
     ghost reaches = { PlannedReaches };
 
@@ -120,16 +200,20 @@ impl<'a> Words for Planned<'a> {
 
     ghost reaches_on = { reaches_on };
 
-    ghost same_size = { λ v w p i. length (p.opening i) };
+    ghost same_size = { same_size };
 
     fn count(&self) -> u32 {
-        self.words.len() as u32
+        words_of(self.layout, self.words.len() as u32)
     }
 
     fn load(&mut self, i: u32) -> u64 {
         let number = self.loads.len() as u64;
-        let held = word_at(self.words, self.stores.as_slice(), self.next, i, number);
+        let (near, word) = word_named(self.layout, self.near, i);
+        let from = first_for(self.next, self.ahead, word);
+        let held = word_at(self.words, self.stores.as_slice(), from, word, number);
+        self.near = near;
         self.next = held.next;
+        self.ahead = word + 1;
         self.loads.push_reserved(Load {
             word: i,
             value: held.value,

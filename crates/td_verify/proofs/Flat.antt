@@ -1,4 +1,4 @@
--- Windows and loops stand as they may after an instruction that breaks neither V1 nor V4.
+-- Windows and loops stand as they may after an instruction that breaks neither V1 nor V4. Cited by other crates.
 use Rattle.std.proofs.Common.{◌≡◌, ℕ, ◌+◌, List, [], ◌∷◌, Option, Some, None, true, false, refl, sym, subst, add-one}
 use Rattle.td_verify.specs.declared.shape.Shape.{Shape}
 use Rattle.td_verify.specs.declared.shape.Shape.TheVariants.{Straight, Jump, Branch, Call, Return, Fail, While, Again, Open, Close}

@@ -1,8 +1,8 @@
 mod Chain
-mod Flat
+pub mod Flat
 mod Marking
-mod Same
-mod Sums
-mod Safety
+pub mod Same
+pub mod Sums
+pub mod Safety
 mod Loops
 mod Tops

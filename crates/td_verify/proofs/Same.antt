@@ -1,4 +1,4 @@
--- Two tellings of the routines so far, and what instructions break by them.
+-- Two tellings of the routines so far, and what instructions break by them. Cited by other crates.
 use Rattle.std.proofs.Common.{◌≡◌, ℕ, zero, suc, ◌+◌, ◌-◌, ◌≤◌, ◌⊎◌, ⊎_elim, inl, inr, ◌↔◌, ◌≢◌, List, [], ◌∷◌, ◌++◌, length, Bool, true, Option, refl, sym, ap, subst, ◌∙◌, arith, length-append, slice_index, slice_index_or}
 use Rattle.td_verify.specs.declared.shape.Shape.{Shape}
 use Rattle.td_verify.specs.declared.shape.Shape.TheVariants.{Straight, Jump, Branch, Call, Return, Fail, While, Again, Open, Close}

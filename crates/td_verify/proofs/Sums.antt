@@ -1,4 +1,4 @@
--- Weights and depths, one instruction on.
+-- Weights and depths, one instruction on. Cited by other crates.
 use Rattle.std.proofs.Common.{◌≡◌, ℕ, zero, suc, ◌+◌, ◌-◌, ◌*◌, ◌^◌, ◌≤◌, max, List, [], ◌∷◌, Bool, true, false, cond, map, Option, refl, sym, ap, subst, ◌∙◌, arith, slice_index, slice_index_or}
 use Rattle.td_verify.specs.Shape.{shape, shapes_of}
 use Rattle.td_ir.specs.Tables.{instruction_of}

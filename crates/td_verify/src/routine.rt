@@ -17,10 +17,8 @@ use crate::rule::{Breach, Rule};
 use crate::rules::{calls_well, cost, depth_of, keeps_nesting, keeps_target};
 use crate::shape::Shape;
 use crate::ways::mark;
+use td_core::limits::MOST_WEIGHT;
 use td_ir::tables::Parts;
-
-/// The greatest weight of a routine.
-const MOST_WEIGHT: u64 = 1 << 40;
 
 /// What is known of the whole code, and of the routines so far.
 #[derive(Clone, Copy)]

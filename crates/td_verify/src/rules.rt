@@ -13,9 +13,7 @@ use crate::bracket::{self, Innermost};
 use crate::contexts::{context, read};
 use crate::shape::Shape;
 use crate::ways::mark;
-
-/// Calls stand in at most so many routines within one another.
-const MOST_DEPTH: u64 = 32;
+use td_core::limits::MOST_DEPTH;
 
 fn same_bracket(a: bracket::Bracket, b: bracket::Bracket) -> bool
     ensures { IsTrue result ↔ (a ≡ b) }

@@ -5,13 +5,22 @@ use Rattle.td_ir.specs.declared.tables.Parts.{Parts}
 use Rattle.td_ir.specs.Tables.{first_of}
 use Rattle.td_vm.specs.Need.{most_need, most_entry_cells, registers, cells, level}
 
--- a table of where routines begin, how many registers, places, frames and cells there is room for, the cells, and the frames of the last failure
+-- how many registers, places of cells, cells and frames the lists of a frame have memory for, whatever they hold
+pub record FrameMemory : Type 0 where
+  pub registers : ℕ
+  pub places : ℕ
+  pub cells : ℕ
+  pub trace : ℕ
+
+-- a table of where routines begin, how many registers, places, frames and cells there is room for, the memory of these lists, the
+-- cells, and the frames of the last failure
 pub record FrameView : Type 0 where
   pub begins : List ℕ
   pub register_room : ℕ
   pub place_room : ℕ
   pub trace_room : ℕ
   pub cell_room : ℕ
+  pub memory : FrameMemory
   pub cells : List ℕ
   pub trace : List TraceFrame
 
@@ -20,10 +29,15 @@ pub record AreBegins (c : Parts) (begins : List ℕ) : Type 0 where
   pub count : length begins ≡ length c.routines + 1
   pub each : (n : ℕ) → n ≤ length c.routines → slice_index begins n ≡ first_of c n
 
--- a frame has the room that this code needs, and no more
+-- what this code needs
+abbrev pub memory_for : Parts → FrameMemory
+memory_for c = record { registers = most_need (registers c) c; places = most_need (cells c) c; cells = most_entry_cells c; trace = most_need level c }
+
+-- a frame has the room that this code needs, and no more; and its lists have memory for just that, so none of them was ever let grow
 pub record IsArmed (c : Parts) (f : FrameView) : Type 0 where
   pub begins : AreBegins c f.begins
   pub register_room : f.register_room ≡ most_need (registers c) c
   pub place_room : f.place_room ≡ most_need (cells c) c
   pub trace_room : f.trace_room ≡ most_need level c
   pub cell_room : f.cell_room ≡ most_entry_cells c
+  pub memory : f.memory ≡ memory_for c

@@ -1,6 +1,6 @@
 //! Runs a routine from outside.
 
-ghost use Rattle.std.specs.Prelude.{◌≡◌, ◌+◌, ◌*◌, ◌≤◌, length};
+ghost use Rattle.std.specs.Prelude.{◌≡◌, ◌+◌, ◌*◌, ◌≤◌, length, vec_capacity};
 ghost use Rattle.td_num.specs.Numbers.{places_from};
 ghost use Rattle.td_ir.specs.Tables.{routine_of};
 ghost use Rattle.td_ir.specs.Run.{run_routine};
@@ -50,6 +50,7 @@ pub fn run_entry<W: Words, L: Ledger>(
     ensures later { Later W.loads W.reaches stream.old stream.new }
     ensures whole { IsStream W.loads W.size stream.new }
     ensures trace_room { length trace.new.frames.items ≡ length trace.old.frames.items }
+    ensures trace_memory { vec_capacity trace.new.frames ≡ vec_capacity trace.old.frames }
     ensures frames { trace.new.count ≤ length trace.new.frames.items }
     ensures no_turn { NotTurned result }
     ensures none { WhenReturned result (trace.new.count ≡ 0) }

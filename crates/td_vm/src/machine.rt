@@ -1,6 +1,6 @@
 //! Runs a routine.
 
-ghost use Rattle.std.specs.Prelude.{◌≡◌, ℕ, suc, ◌+◌, ◌-◌, ◌*◌, ◌<◌, ◌≤◌, true, false, List, [], ◌∷◌, ◌++◌, length, replicate};
+ghost use Rattle.std.specs.Prelude.{◌≡◌, ℕ, suc, ◌+◌, ◌-◌, ◌*◌, ◌<◌, ◌≤◌, true, false, List, [], ◌∷◌, ◌++◌, length, replicate, vec_capacity};
 ghost use Rattle.td_core.specs.Outcome as outcomes;
 ghost use Rattle.td_ir.specs.WellFormed.{IsCode};
 ghost use Rattle.td_ir.specs.Tables.{routine_of, map_of, lengths_of, first_of};
@@ -53,6 +53,7 @@ fn push_frame(trace: &mut TraceRoom, parts: &Parts, site: u32, start: u32, reaso
     ensures frames { frames_of trace.new ≡ frames_of trace.old ++ outcomes.frame_at (place_of_site parts.now site start) reason ∷ [] }
     ensures count { trace.new.count ≡ trace.old.count + 1 }
     ensures kept { length trace.new.frames.items ≡ length trace.old.frames.items }
+    ensures memory { vec_capacity trace.new.frames ≡ vec_capacity trace.old.frames }
 {
     trace.frames[trace.count] = frame_at(parts, site, start, reason);
     trace.count += 1;
@@ -118,6 +119,7 @@ pub fn run_block<W: Words, L: Ledger>(
     ensures outer { act.new.outer ≤ act.old.outer }
     ensures traced { Traced result trace.new (room_below level env.now.parts.now n + 1) }
     ensures trace_room { length trace.new.frames.items ≡ length trace.old.frames.items }
+    ensures trace_memory { vec_capacity trace.new.frames ≡ vec_capacity trace.old.frames }
     ensures outside { WhenReturned result (looped env.now.parts.now first ≡ false) }
     ensures inside { WhenTurned result (looped env.now.parts.now first ≡ true) }
     ensures idle_turn { WhenTurned result (position stream.old ≡ position stream.new → IdleTurn env.now.parts.now n first) }
@@ -237,6 +239,7 @@ fn run_turns<W: Words, L: Ledger>(
     ensures outer { act.new.outer ≤ act.old.outer }
     ensures traced { Traced result trace.new (room_below level env.now.parts.now n + 1) }
     ensures trace_room { length trace.new.frames.items ≡ length trace.old.frames.items }
+    ensures trace_memory { vec_capacity trace.new.frames ≡ vec_capacity trace.old.frames }
     ensures no_return { NotReturned result }
     ensures end { WhenTurned result (end_of stream.new ≡ end_of stream.old) }
     ensures cost { steps.new ≤ steps.old
@@ -295,6 +298,7 @@ fn call<W: Words, L: Ledger>(
     ensures end { end_of stream.new ≡ end_of stream.old }
     ensures traced { Traced result trace.new (room_below level env.now.parts.now n) }
     ensures trace_room { length trace.new.frames.items ≡ length trace.old.frames.items }
+    ensures trace_memory { vec_capacity trace.new.frames ≡ vec_capacity trace.old.frames }
     ensures no_turn { NotTurned result }
     ensures idle { WhenReturned result (position stream.old ≡ position stream.new → MayBeEmpty (shapes_of env.now.parts.now) (lengths_of env.now.parts.now) (suc m) m) }
     ensures cost { steps.new ≤ steps.old + weight env.now.parts.now m * (position stream.new - position stream.old + 1) }

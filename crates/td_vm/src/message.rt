@@ -1,8 +1,9 @@
 //! Runs a routine over a message.
 
-ghost use Rattle.std.specs.Prelude.{◌≡◌, ℕ, ◌+◌, ◌*◌, ◌≤◌, List, [], length, take};
+ghost use Rattle.std.specs.Prelude.{◌≡◌, ℕ, ◌+◌, ◌*◌, ◌≤◌, List, [], length, take, vec_capacity};
 ghost use Rattle.td_ir.specs.Tables.{routine_of};
 ghost use Rattle.td_ir.specs.Run.{run_routine};
+ghost use Rattle.td_stream.specs.Layouts.{length_in, count_in};
 ghost use Rattle.td_stream.specs.Loads.{Carries, Inside, IsRising};
 ghost use Rattle.td_vm.specs.Exits.{frames_of};
 ghost use Rattle.td_vm.specs.Outcomes.{IsRun, weight};
@@ -14,15 +15,16 @@ use std::sync::ledger::Ledger;
 use td_core::outcome::Verdict;
 use td_step::activation::{Env, Left, TraceRoom};
 use td_step::steps::Steps;
+use td_stream::layout::Layout;
 use td_stream::stream::Stream;
 use td_stream::words::Words;
 
-/// Runs routine n over a message of `size` bytes in words of which none was loaded.
+/// Runs routine n over a message that lies so in words of which none was loaded.
 pub fn run_message<W: Words, L: Ledger>(
     env: &Env<'_>,
     n: usize,
     args: &[u64],
-    size: u32,
+    layout: &Layout,
     spare_places: &mut [usize],
     spare: &mut [u64],
     cells: &mut [u64],
@@ -34,19 +36,20 @@ pub fn run_message<W: Words, L: Ledger>(
     requires cells { length cells.old ≡ cells_in env.now.parts.now n }
     requires empty { trace.old.count ≡ 0 }
     requires args { length args.now ≡ (routine_of env.now.parts.now n).params }
-    requires words { size ≤ 8 * W.size words.old }
+    requires words { count_in layout.now ≤ W.size words.old }
     requires fresh { W.loads words.old ≡ [] }
     ensures reaches { W.reaches words.old words.new }
     ensures rising { IsRising (W.loads words.new) }
-    ensures within { Inside size (W.loads words.new) }
+    ensures within { Inside layout.now (W.loads words.new) }
     ensures trace_room { length trace.new.frames.items ≡ length trace.old.frames.items }
+    ensures trace_memory { vec_capacity trace.new.frames ≡ vec_capacity trace.old.frames }
     ensures frames { trace.new.count ≤ length trace.new.frames.items }
-    ensures cost { steps.new ≤ steps.old + weight env.now.parts.now n * (size + 1) }
-    ensures run { (b : List ℕ) → Carries size b (W.loads words.new)
-        → IsRun (W.loads words.new) (run_routine env.now.parts.now n args.now cells.old b)
+    ensures cost { steps.new ≤ steps.old + weight env.now.parts.now n * (length_in layout.now + 1) }
+    ensures run { (b : List ℕ) → Carries layout.now b (W.loads words.new)
+        → IsRun layout.now (W.loads words.new) (run_routine env.now.parts.now n args.now cells.old b)
         (record { verdict = result; trace = frames_of trace.new; cells = cells.new }) steps.old steps.new }
 {
-    let mut stream = Stream::over(words, size);
+    let mut stream = Stream::over(words, layout);
     match run_entry(
         env,
         n,
@@ -69,7 +72,7 @@ pub fn run_front<W: Words, L: Ledger>(
     env: &Env<'_>,
     n: usize,
     args: &[u64],
-    size: u32,
+    layout: &Layout,
     spare_places: &mut [usize],
     spare: &mut [u64],
     all: &mut [u64],
@@ -82,16 +85,17 @@ pub fn run_front<W: Words, L: Ledger>(
     requires args { length args.now ≡ (routine_of env.now.parts.now n).params }
     requires cell_room { count ≤ length all.old }
     requires cells { count ≡ cells_in env.now.parts.now n }
-    requires words { size ≤ 8 * W.size words.old }
+    requires words { count_in layout.now ≤ W.size words.old }
     requires fresh { W.loads words.old ≡ [] }
     ensures reaches { W.reaches words.old words.new }
     ensures rising { IsRising (W.loads words.new) }
-    ensures within { Inside size (W.loads words.new) }
+    ensures within { Inside layout.now (W.loads words.new) }
     ensures trace_room { length trace.new.frames.items ≡ length trace.old.frames.items }
+    ensures trace_memory { vec_capacity trace.new.frames ≡ vec_capacity trace.old.frames }
     ensures frames { trace.new.count ≤ length trace.new.frames.items }
-    ensures cost { steps.new ≤ steps.old + weight env.now.parts.now n * (size + 1) }
-    ensures run { (b : List ℕ) → Carries size b (W.loads words.new)
-        → IsRun (W.loads words.new) (run_routine env.now.parts.now n args.now (take count all.old) b)
+    ensures cost { steps.new ≤ steps.old + weight env.now.parts.now n * (length_in layout.now + 1) }
+    ensures run { (b : List ℕ) → Carries layout.now b (W.loads words.new)
+        → IsRun layout.now (W.loads words.new) (run_routine env.now.parts.now n args.now (take count all.old) b)
         (record { verdict = result; trace = frames_of trace.new; cells = take count all.new }) steps.old steps.new }
 {
     trace.count = 0;
@@ -100,7 +104,7 @@ pub fn run_front<W: Words, L: Ledger>(
         env,
         n,
         args,
-        size,
+        layout,
         spare_places,
         spare,
         mine,

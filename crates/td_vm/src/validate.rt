@@ -1,9 +1,10 @@
 //! Validates messages by verified code, in room that was taken before.
 
-ghost use Rattle.std.specs.Prelude.{◌≡◌, ℕ, ◌+◌, ◌*◌, ◌≤◌, List, [], length as size_of, take, IfOk};
+ghost use Rattle.std.specs.Prelude.{◌≡◌, ℕ, ◌+◌, ◌*◌, ◌≤◌, List, [], length as size_of, take, IfOk, vec_capacity};
 ghost use Rattle.td_ir.specs.declared.tables.Parts as tables;
 ghost use Rattle.td_ir.specs.Entries.{Fits};
 ghost use Rattle.td_ir.specs.Run.{run};
+ghost use Rattle.td_stream.specs.Layouts.{length_in, count_in};
 ghost use Rattle.td_stream.specs.Loads.{Carries, Inside, IsRising};
 ghost use Rattle.td_vm.specs.Frames.{IsArmed};
 ghost use Rattle.td_vm.specs.Machine.{IsRunnable};
@@ -21,12 +22,13 @@ use td_num::items::Items;
 use td_step::activation::{Env, TraceRoom};
 use td_step::steps::Steps;
 use td_step::tables::entry_at;
+use td_stream::layout::Layout;
 use td_stream::words::Words;
 use td_verify::laws::sound_code_is_safe;
 use td_verify::verify::Verified;
 
 /// Room for validations by one code, with the cells that the next one begins with and those and the trace that the last
-/// one left. A contract sees how much room there is, the cells and the trace.
+/// one left. A contract sees how much room there is, how much memory its lists have, the cells and the trace.
 #[derive(Drop)]
 pub struct Frame {
     begins: Vec<usize>,
@@ -39,7 +41,7 @@ pub struct Frame {
 }
 
 impl Model for Frame {
-    ghost use Rattle.std.specs.Prelude.{◌≤◌, length, take};
+    ghost use Rattle.std.specs.Prelude.{◌≤◌, length, take, vec_capacity};
     ghost use Rattle.td_vm.specs.Frames.{FrameView};
     ghost use Rattle.td_vm.specs.Exits.{frames_of};
 
@@ -51,6 +53,12 @@ impl Model for Frame {
       place_room = length f.places.items;
       trace_room = length f.trace.frames.items;
       cell_room = length f.cells.items;
+      memory = record {
+        registers = vec_capacity f.registers;
+        places = vec_capacity f.places;
+        cells = vec_capacity f.cells;
+        trace = vec_capacity f.trace.frames;
+      };
       cells = take f.count f.cells.items;
       trace = frames_of f.trace;
     } };
@@ -65,6 +73,18 @@ fn runnable(code: &Verified) -> &Parts
 {
     sound_code_is_safe();
     code.code().parts()
+}
+
+// A list of so many equal elements, with memory for just these. `AllocError`: there was none.
+fn filled<T: Copy>(alloc: Global, element: T, count: usize) -> Result<Vec<T>, AllocError>
+    ensures count { IfOk result (λ list. size_of list.items ≡ count) }
+    ensures memory { IfOk result (λ list. vec_capacity list ≡ count) }
+{
+    let mut list = Vec::with_capacity(alloc, count)?;
+    for _ in 0..count {
+        list.push_reserved(element);
+    }
+    Ok(list)
 }
 
 // Puts values at the front of the cells.
@@ -107,12 +127,12 @@ impl Frame {
         };
         Ok(Frame {
             begins,
-            registers: vec![in alloc; 0; registers as usize]?,
-            places: vec![in alloc; 0; places as usize]?,
-            cells: vec![in alloc; 0; most_cells(parts) as usize]?,
+            registers: filled(alloc, 0, registers as usize)?,
+            places: filled(alloc, 0, places as usize)?,
+            cells: filled(alloc, 0, most_cells(parts) as usize)?,
             count: 0,
             trace: TraceRoom {
-                frames: vec![in alloc; empty; levels as usize]?,
+                frames: filled(alloc, empty, levels as usize)?,
                 count: 0,
             },
         })
@@ -166,7 +186,7 @@ impl Frame {
     }
 }
 
-/// Validates a message of `length` bytes, in words of which none was loaded, from an entry point of verified code on. The
+/// Validates a message that lies so in words of which none was loaded, from an entry point of verified code on. The
 /// frame was armed for this code, and the arguments and the frame's cells fit the entry point (`td_ir::entries::fits`). It
 /// takes no memory and waits for nobody. Words are loaded only where a byte of them is looked at, in rising order, each at
 /// most once; the verdict, and the frame's trace and cells, are those of `run` on each message that carries these loads, and
@@ -175,22 +195,22 @@ pub fn validate<W: Words, L: Ledger>(
     code: &Verified,
     entry: Entry,
     args: &[u64],
-    length: u32,
+    layout: &Layout,
     frame: &mut Frame,
     words: &mut W,
     steps: &mut Steps<L>,
 ) -> Verdict
     requires armed { IsArmed code.now frame.old }
     requires fits { Fits code.now entry args.now frame.old.cells }
-    requires room { length ≤ 8 * W.size words.old }
+    requires room { count_in layout.now ≤ W.size words.old }
     requires fresh { W.loads words.old ≡ [] }
     ensures reaches { W.reaches words.old words.new }
     ensures rising { IsRising (W.loads words.new) }
-    ensures within { Inside length (W.loads words.new) }
-    ensures run { (b : List ℕ) → Carries length b (W.loads words.new)
-        → IsRun (W.loads words.new) (run code.now entry args.now frame.old.cells b)
+    ensures within { Inside layout.now (W.loads words.new) }
+    ensures run { (b : List ℕ) → Carries layout.now b (W.loads words.new)
+        → IsRun layout.now (W.loads words.new) (run code.now entry args.now frame.old.cells b)
         (record { verdict = result; trace = frame.new.trace; cells = frame.new.cells }) steps.old steps.new }
-    ensures cost { steps.new ≤ steps.old + entry_weight code.now entry * (length + 1) }
+    ensures cost { steps.new ≤ steps.old + entry_weight code.now entry * (length_in layout.now + 1) }
     ensures cell_count { size_of frame.new.cells ≡ size_of frame.old.cells }
     ensures armed { IsArmed code.now frame.new }
 {
@@ -204,7 +224,7 @@ pub fn validate<W: Words, L: Ledger>(
         &env,
         point.routine as usize,
         args,
-        length,
+        layout,
         frame.places.as_mut_slice(),
         frame.registers.as_mut_slice(),
         frame.cells.as_mut_slice(),

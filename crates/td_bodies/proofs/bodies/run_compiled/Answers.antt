@@ -1,3 +1,4 @@
+use Rattle.std.proofs.Common.{None}
 use Rattle.std.proofs.lemmas.Result.{IfOk-weaker}
 use Rattle.td_job_run.specs.Runs.{IsRunBy}
 use Rattle.td_bodies.specs.Meant.{IsMeant}
@@ -21,7 +22,7 @@ returns c =
     let words = c.as_slice-words.result.now in
     let stores = c.as_slice-stores.result.now in
     IfOk-weaker c.run_planned.result
-    (λ run. IsRunBy code (record { entry = job.entry; args = args; cells = cells; length = job.length; words = words; stores = stores }) run.outcome run.loads.list)
+    (λ run. IsRunBy code (record { entry = job.entry; args = args; cells = cells; length = job.length; layout = None; words = words; stores = stores }) run.outcome run.loads.list)
     (λ run. IsMeant m job run.outcome run.loads.list)
     (λ run h. run_is_meant code m job run.outcome run.loads.list args cells words stores c.in_ok-code.ensures.code c.requires.sound c.as_slice-args.ensures c.as_slice-cells.ensures h)
     c.run_planned.ensures

@@ -1,5 +1,11 @@
 use Rattle.std.proofs.Common.{◌≡◌, ℕ, List, ◌++◌, length, take, drop, subst, ◌∙◌}
 use Rattle.std.proofs.Math.Seq.{take-append_seam}
+use Rattle.td_stream.specs.declared.stretch.Stretch.{Stretch}
+use Rattle.td_stream.specs.Loads.{Carries}
+use Rattle.td_expr.specs.Sound.{Sound}
+use Rattle.td_meaning.specs.Meaning.{meaning}
+use Rattle.td_meaning.specs.Throughout.{Throughout}
+use Rattle.td_leaves.specs.Outcomes.{IsBehaviorOf}
 use Rattle.td_bodies.proofs.Jobs.{outcome_is_meant}
 use Rattle.td_bodies.proofs.bodies.run_direct.Goals as goal
 
@@ -9,8 +15,17 @@ lent n xs ys e = subst (λ k. take k (xs ++ drop (length xs) ys) ≡ xs) e (take
 
 pub returns : goal.returns
 returns c =
+    let m = c.args.m.now in
+    let job = c.args.job.now in
+    let start = c.as_mut_slice.result.now in
+    let args = c.as_slice-args.result.now in
+    let loads = c.validate_recorded.new.loads.list in
     let left = c.validate_recorded.new.cells in
     let own = c.in_ok-cells.cells in
-    outcome_is_meant c.args.m.now c.args.job.now c.validate_recorded.new.loads.list c.as_slice-args.result.now c.as_mut_slice.result.now left c.of.result c.in_ok-verdict.verdict c.validate_recorded.new.trace
+    let behavior =
+    subst (λ (l : List Stretch). (b : List ℕ) → Carries l b loads → Throughout Sound m job.entry args start b
+    → IsBehaviorOf l loads (meaning m job.entry args start b) (record { verdict = c.in_ok-verdict.verdict; trace = c.validate_recorded.new.trace; cells = left }))
+    c.plain-layout.ensures.layout c.in_ok-verdict.ensures.behavior in
+    outcome_is_meant m job loads args start left c.of.result c.in_ok-verdict.verdict c.validate_recorded.new.trace
     c.requires.sound c.as_slice-args.ensures (c.as_mut_slice.ensures.value ∙ c.in_ok-cells.ensures.items ∙ c.as_slice-2.ensures)
-    (c.of.ensures ∙ lent own.len left own.items (c.validate_recorded.auto.cells ∙ c.as_mut_slice.ensures.len)) c.in_ok-verdict.ensures.behavior
+    (c.of.ensures ∙ lent own.len left own.items (c.validate_recorded.auto.cells ∙ c.as_mut_slice.ensures.len)) behavior

@@ -1,4 +1,4 @@
-use Rattle.std.proofs.Common.{◌≡◌, ℕ, List, sym, ap, ◌∙◌}
+use Rattle.std.proofs.Common.{◌≡◌, ℕ, None, List, sym, ap, ◌∙◌}
 use Rattle.td_core.specs.declared.outcome.TraceFrame.{TraceFrame}
 use Rattle.td_core.specs.declared.outcome.Outcome.{Outcome}
 use Rattle.td_stream.specs.declared.load.Load.{Load}
@@ -12,7 +12,7 @@ pub returns-in_err-write_reply_line : goal.returns-in_err-write_reply_line
 unfolding reply_report
 returns-in_err-write_reply_line g c =
     let r = c.args.reply.now in
-    writes_stopped (report (outcome_in r) c.args.m.now c.args.entry r.loads.list) c.from_residual.result c.from_residual.ensures.0 c.in_err-write_reply_line.ensures
+    writes_stopped (report (outcome_in r) c.args.m.now c.args.entry r.loads.list None) c.from_residual.result c.from_residual.ensures.0 c.in_err-write_reply_line.ensures
 
 pub returns : goal.returns
 unfolding reply_report
@@ -24,8 +24,8 @@ returns g c =
     let trace : c.as_slice.result.now ≡ r.trace.items = c.as_slice.ensures.value in
     let cells : c.deref.result.now ≡ r.cells.items = c.deref.ensures.value in
     let loads : c.as_slice-2.result.now ≡ r.loads.list = c.as_slice-2.ensures in
-    let same : report (outcome_in r) m e r.loads.list ≡ report (outcome c.as_slice.result.now c.deref.result.now) m e c.as_slice-2.result.now =
-    ap (λ t. report (outcome t r.cells.items) m e r.loads.list) (sym trace)
-    ∙ ap (λ v. report (outcome c.as_slice.result.now v) m e r.loads.list) (sym cells)
-    ∙ ap (λ (l : List Load). report (outcome c.as_slice.result.now c.deref.result.now) m e l) (sym loads) in
+    let same : report (outcome_in r) m e r.loads.list None ≡ report (outcome c.as_slice.result.now c.deref.result.now) m e c.as_slice-2.result.now None =
+    ap (λ t. report (outcome t r.cells.items) m e r.loads.list None) (sym trace)
+    ∙ ap (λ v. report (outcome c.as_slice.result.now v) m e r.loads.list None) (sym cells)
+    ∙ ap (λ (l : List Load). report (outcome c.as_slice.result.now c.deref.result.now) m e l None) (sym loads) in
     writes_both c.in_ok-write_reply_line.ensures (writes_as same c.report_of_parts.ensures)

@@ -1,5 +1,8 @@
-use Rattle.std.proofs.Common.{◌≡◌, ℕ, List, [], refl, subst, ◌∙◌}
+use Rattle.std.proofs.Common.{◌≡◌, ℕ, Option, Some, None, List, [], refl, ap, subst, ◌∙◌}
 use Rattle.td_stream.specs.declared.load.Load.{Load}
+use Rattle.td_stream.specs.declared.stretch.Stretch.{Stretch}
+use Rattle.td_stream.specs.Layouts.{laid}
+use Rattle.td_stream.specs.Loads.{IsRising, Inside, Carries, buffered}
 use Rattle.td_sched.specs.declared.store.PlannedStore.{PlannedStore}
 use Rattle.td_sched.specs.Plan.{ArePlanned}
 use Rattle.td_sched.specs.View.{PlannedView, PlannedReaches}
@@ -12,38 +15,42 @@ use Rattle.td_meaning.specs.Throughout.{Throughout}
 use Rattle.td_leaves.specs.Outcomes.{IsBehaviorOf}
 use Rattle.td_ir.specs.declared.tables.Parts.{Parts}
 use Rattle.td_ir.specs.Run.{run}
+use Rattle.td_lowered.specs.CodeRun.{IsCodeOf}
 use Rattle.td_vm.specs.Outcomes.{IsRun}
+use Rattle.td_job_run.specs.Runs.{IsRunBy}
 use Rattle.td_job_run.proofs.planned.run_prepared.Goals as goal
 
 -- memory that was opened on a plan gave loads of that plan
-held : (v w : PlannedView) (opening : List ℕ) (stores : List PlannedStore) (loads : List Load)
-    → PlannedReaches v w → v.opening ≡ opening → v.stores ≡ stores → v.loads ≡ [] → w.loads ≡ loads → ArePlanned opening stores 0 loads
-held v w opening stores loads plays same given fresh recorded =
-    let start : ArePlanned v.opening v.stores 0 v.loads = rw fresh tt in
+held : (v w : PlannedView) (loads : List Load) → PlannedReaches v w → v.loads ≡ [] → w.loads ≡ loads → ArePlanned v.opening v.stores 0 (buffered v.layout loads)
+held v w loads plays fresh recorded =
+    let none : buffered v.layout v.loads ≡ [] = ap (buffered v.layout) fresh ∙ nothing v.layout in
+    let start : ArePlanned v.opening v.stores 0 (buffered v.layout v.loads) = rw none tt in
     let end = plays.planned start in
-    let P : List ℕ → Type 0 = λ o. ArePlanned o stores 0 loads in
-    let Q : List PlannedStore → Type 0 = λ s. ArePlanned w.opening s 0 loads in
-    let R : List Load → Type 0 = λ l. ArePlanned w.opening w.stores 0 l in
-    subst P (plays.opening ∙ same) (subst Q (plays.stores ∙ given) (subst R recorded end))
+    subst (λ (x : List ℕ × List PlannedStore × Option (List Stretch) × List Load). ArePlanned x.0 x.1 0 (buffered x.2 x.3)) (λ i. (plays.opening i, plays.stores i, plays.layout i, recorded i)) end
+  where
+    nothing : (o : Option (List Stretch)) → buffered o [] ≡ []
+    nothing None = refl
+    nothing (Some layout) = refl
 
--- the same meant from cells that were set
-meant_from : (m : Module) (entry : Entry) (args b : List ℕ) (loads : List Load) (outcome : Outcome) (cells cells' : List ℕ) → cells' ≡ cells
-    → (Throughout Sound m entry args cells' b → IsBehaviorOf loads (meaning m entry args cells' b) outcome) → Throughout Sound m entry args cells b → IsBehaviorOf loads (meaning m entry args cells b) outcome
-meant_from m entry args b loads outcome cells cells' e h = subst (λ x. Throughout Sound m entry args x b → IsBehaviorOf loads (meaning m entry args x b) outcome) e h
-
--- the same run from cells that were set
-ran_from : (p : Parts) (entry : Entry) (args b : List ℕ) (loads : List Load) (outcome : Outcome) (cells cells' : List ℕ) → cells' ≡ cells
-    → IsRun loads (run p entry args cells' b) outcome 0 (run p entry args cells' b).steps → IsRun loads (run p entry args cells b) outcome 0 (run p entry args cells b).steps
-ran_from p entry args b loads outcome cells cells' e h = subst (λ x. IsRun loads (run p entry args x b) outcome 0 (run p entry args x b).steps) e h
+-- the same run, and the same meant, of cells that were set and of a layout by another name
+moved : (p : Parts) (entry : Entry) (args : List ℕ) (n : ℕ) (o : Option (List Stretch)) (words : List ℕ) (stores : List PlannedStore) (loads : List Load) (outcome : Outcome) (cells cells' : List ℕ) (layout : List Stretch) → cells' ≡ cells → layout ≡ laid n o
+    → IsRising loads → Inside layout loads → ArePlanned words stores 0 (buffered o loads)
+    → ((b : List ℕ) → Carries layout b loads → IsRun layout loads (run p entry args cells' b) outcome 0 (run p entry args cells' b).steps)
+    → ((m : Module) (b : List ℕ) → IsCodeOf p m → Carries layout b loads → Throughout Sound m entry args cells' b → IsBehaviorOf layout loads (meaning m entry args cells' b) outcome)
+    → IsRunBy p (record { entry = entry; args = args; cells = cells; length = n; layout = o; words = words; stores = stores }) outcome loads
+moved p entry args n o words stores loads outcome cells cells' layout same at rising inside planned ran meant =
+    let R : List ℕ × List Stretch → Type 0 = λ x. Inside x.1 loads
+    × ((b : List ℕ) → Carries x.1 b loads → IsRun x.1 loads (run p entry args x.0 b) outcome 0 (run p entry args x.0 b).steps)
+    × ((m : Module) (b : List ℕ) → IsCodeOf p m → Carries x.1 b loads → Throughout Sound m entry args x.0 b → IsBehaviorOf x.1 loads (meaning m entry args x.0 b) outcome) in
+    let now : R (cells, laid n o) = subst R (λ i. (same i, at i)) (inside, ran, meant) in
+    record { rising = rising; inside = now.0; held = planned; ran = now.1; meant = now.2 }
 
 pub returns-clause-run : goal.returns-clause-run
-returns-clause-run c =
+returns-clause-run c = λ n at.
     let done = c.validate_recorded-verdict.ensures in
     let p = c.args.prepared in
-    record {
-      rising = done.rising;
-      inside = done.inside;
-      held = held p.words c.validate_recorded-verdict.new.words p.words.opening p.words.stores c.validate_recorded-verdict.new.loads.list done.reaches refl refl p.fresh done.loads;
-      ran = λ b carries. ran_from c.args.code.now c.args.entry c.args.args.now b c.validate_recorded-verdict.new.loads.list (record { verdict = c.validate_recorded-verdict.result; trace = c.validate_recorded-verdict.new.frame.trace; cells = c.validate_recorded-verdict.new.frame.cells }) c.args.cells.now c.set_cells.new.self.cells c.set_cells.ensures.cells (done.run b carries);
-      meant = λ m b of carries sound. meant_from m c.args.entry c.args.args.now b c.validate_recorded-verdict.new.loads.list (record { verdict = c.validate_recorded-verdict.result; trace = c.validate_recorded-verdict.new.frame.trace; cells = c.validate_recorded-verdict.new.frame.cells }) c.args.cells.now c.set_cells.new.self.cells c.set_cells.ensures.cells (done.behavior m b of carries) sound;
-    }
+    let loads = c.validate_recorded-verdict.new.loads.list in
+    moved c.args.code.now c.args.entry c.args.args.now n p.words.layout p.words.opening p.words.stores loads
+    (record { verdict = c.validate_recorded-verdict.result; trace = c.validate_recorded-verdict.new.frame.trace; cells = c.validate_recorded-verdict.new.frame.cells })
+    c.args.cells.now c.set_cells.new.self.cells c.args.message.now c.set_cells.ensures.cells at
+    done.rising done.inside (held p.words c.validate_recorded-verdict.new.words loads done.reaches p.fresh done.loads) done.run done.behavior

@@ -1,4 +1,4 @@
-use Rattle.std.proofs.Common.{◌≡◌, sum, map, take, length}
+use Rattle.std.proofs.Common.{◌≡◌, map, take, length}
 use Rattle.td_limits.specs.Excesses.{greatest}
 use Rattle.td_limits.proofs.counts.longest_case.Given as goal
 

@@ -1,13 +1,14 @@
 use Rattle.std.proofs.Common.{◌∙◌, ap, sym, map, List, arith}
-use Rattle.td_ast.specs.Statements.{Statement, block_of}
+use Rattle.td_ast.specs.Statements.{Statement}
+use Rattle.td_ast.proofs.Sizes.{statement_below}
 use Rattle.td_limits.specs.Excesses.{greatest}
 use Rattle.td_limits.specs.Depths.{statement_depth}
-use Rattle.td_limits.proofs.Folds.{below, greatest_more, block_greatest}
+use Rattle.td_limits.proofs.Folds.{greatest_more, block_greatest}
 use Rattle.td_limits.proofs.depths.+block.Goals as goal
 
 pub statements_depth-statement_depth-requires : goal.statements_depth-statement_depth-requires
 statements_depth-statement_depth-requires t c =
-    let small = below c.args.statements.now c.loop-statement.statement-index c.statement-item.result (omega arith) c.statement-item.is in
+    let small = statement_below c.args.statements.now c.loop-statement.statement-index c.statement-item.result (omega arith) c.statement-item.is in
     (omega arith, tt)
 
 pub statements_depth-loop-statement-preserved : goal.statements_depth-loop-statement-preserved

@@ -1,4 +1,4 @@
-use Rattle.std.proofs.Common.{◌≡◌, sum, map, take, length}
+use Rattle.std.proofs.Common.{◌≡◌, map, take}
 use Rattle.td_limits.specs.Excesses.{greatest}
 use Rattle.td_limits.specs.Depths.{field_depth}
 use Rattle.td_limits.proofs.depths.fields_depth.Given as goal

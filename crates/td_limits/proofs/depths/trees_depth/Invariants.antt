@@ -1,4 +1,4 @@
-use Rattle.std.proofs.Common.{◌≡◌, sum, map, take, length}
+use Rattle.std.proofs.Common.{◌≡◌, map, take}
 use Rattle.td_limits.specs.Excesses.{greatest}
 use Rattle.td_limits.specs.Depths.{tree_depth}
 use Rattle.td_limits.proofs.depths.trees_depth.Given as goal

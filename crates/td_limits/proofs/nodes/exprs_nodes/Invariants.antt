@@ -1,4 +1,4 @@
-use Rattle.std.proofs.Common.{◌≡◌, sum, map, take, length}
+use Rattle.std.proofs.Common.{◌≡◌, sum, map, take}
 use Rattle.td_limits.specs.Excesses.{capped}
 use Rattle.td_ast.specs.Trees.{tree_size}
 use Rattle.td_limits.proofs.nodes.exprs_nodes.Given as goal

@@ -1,4 +1,4 @@
-use Rattle.std.proofs.Common.{◌≡◌, sum, map, take, length}
+use Rattle.std.proofs.Common.{◌≡◌, sum, map, take}
 use Rattle.td_limits.specs.Excesses.{capped}
 use Rattle.std.proofs.Common.{◌+◌}
 use Rattle.td_limits.specs.Nodes.{inner_nodes}

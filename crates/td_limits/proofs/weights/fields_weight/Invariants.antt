@@ -1,4 +1,4 @@
-use Rattle.std.proofs.Common.{◌≡◌, sum, map, take, length}
+use Rattle.std.proofs.Common.{◌≡◌, sum, map, take}
 use Rattle.td_limits.specs.Excesses.{capped}
 use Rattle.td_limits.specs.Weights.{field_weight}
 use Rattle.td_limits.proofs.weights.fields_weight.Given as goal

@@ -8,15 +8,13 @@ use Rattle.td_verify.specs.Brackets.{shape_at, opened, and_then, innermost}
 use Rattle.td_verify.specs.Contexts.{innermost_at, AreContexts}
 use Rattle.td_verify.proofs.Chain.{outer_is}
 use Rattle.td_verify.proofs.contexts.fill.Goals as goal
+use Rattle.td_verify.proofs.Flat.{next_opened}
 
 more : (s : List Shape) (contexts : List Innermost) (n : ℕ) (v : Innermost) → AreContexts s contexts n → n < length contexts → v ≡ innermost (opened s n) → AreContexts s (slice_set contexts n v) (n + 1)
 more s contexts n v are l e = λ p h. ⊎_elim
     (λ (same : p ≡ n). subst (λ x. innermost_at (slice_set contexts n v) x ≡ innermost (opened s x)) (sym same) (get_or-set_same contexts n v Broken l ∙ e))
     (λ (other : (p ≡ n) → ⊥). get_or-set_other contexts n p v Broken other ∙ are p (omega (arith, other)))
     (cases_eq p n)
-
-next_opened : (s : List Shape) (p : ℕ) → opened s (p + 1) ≡ and_then p (shape_at s p) (opened s p)
-next_opened s p = rw add-one refl
 
 pub loop-at-preserved : goal.loop-at-preserved
 loop-at-preserved c =

@@ -9,7 +9,8 @@ use Rattle.td_verify.specs.declared.shape.Shape.TheVariants.{Call, While}
 use Rattle.td_verify.specs.Shape.{shape, shapes_of}
 use Rattle.td_verify.specs.Brackets.{in_loop, window_bytes}
 use Rattle.td_verify.specs.Safe.{before}
-use Rattle.td_stream.specs.StreamInvariant.{position, end_of}
+use Rattle.td_stream.specs.Layouts.{length_in}
+use Rattle.td_stream.specs.StreamInvariant.{position, end_of, length_of}
 use Rattle.td_step.specs.Stepping.{state_of, more, Passes, Ends}
 use Rattle.td_step.proofs.Stretches.{later_trans, later_self, ran_self, ran_weaker}
 use Rattle.td_vm.specs.Exits.{frames_of, exit_by}
@@ -35,6 +36,7 @@ run_block-steps-init g t c =
       window = c.requires.window;
       outer = omega arith;
       frames = refl;
+      memory = refl;
       kind = refl;
       fixed = λ h. refl;
       end = λ h. refl;
@@ -79,6 +81,7 @@ run_block-steps-preserved-in-Goes g t c =
       window = e.window;
       outer = omega (arith, i.outer, e.outer);
       frames = i.frames;
+      memory = i.memory;
       kind = k.looped ∙ i.kind;
       fixed = λ h. k.fixed (i.kind ∙ h) ∙ i.fixed h;
       end = λ h. end_kept C n pc q (shape I) (position s) (end_of s) (end_of u) safe i.place at e.leads.0 e.leads.1 e.end (i.kind ∙ h) ∙ i.end h;
@@ -99,6 +102,7 @@ run_turns-turns-init g t c = record {
   window = c.requires.window;
   outer = omega arith;
   frames = refl;
+  memory = refl;
   end = refl;
   cost = omega arith;
   same = (suc (end_of c.args.stream.now - position c.args.stream.now), omega arith, ran_self c.args.stream.now c.args.steps.now _ (λ b behind. after_none _));
@@ -332,6 +336,7 @@ run_block-steps-preserved-in-Returned g t c =
     let still : end_of u ≡ end_of s = subst (λ x. Ends (shape x) (position s) (end_of s) (end_of u)) e.leads e.end in
     let none : c.step.new.steps ≤ c.tick.new.self + 0 * (position u - position s) = subst (λ x. c.step.new.steps ≤ c.tick.new.self + more (shape x) * (position u - position s)) e.leads e.cost in
     let room = room_kept c.args.env.now n c.args.places.now c.steps.spare_places c.call.new.spare_places c.steps.regs c.step.new.regs c.steps.spare c.call.new.spare c.steps.cells c.call.new.cells c.steps.trace c.call.new.trace i.room c.call.auto.spare_places c.step.auto.regs c.call.auto.spare (c.call.auto.cells ∙ c.step.auto.cells) f.traced f.trace_room in
+    let long : length_of v ≡ length_of u = ap length_in f.later.layout in
     let later1 = later_trans g.met.W.Words.reaches_on s0 s u i.later e.later in
     let U : State = state_of c.step.new.regs c.step.new.cells c.step.new.act u in
     record {
@@ -341,9 +346,10 @@ run_block-steps-preserved-in-Returned g t c =
       under = c.requires.stretch.closed (pc + 1) o.1 (λ h. o.2 ∙ i.fixed h);
       later = later_trans g.met.W.Words.reaches_on s0 u v later1 f.later;
       whole = f.whole;
-      window = record { around = omega (arith, f.end, e.window.around); within = omega (arith, e.window.within, f.later.length) };
+      window = record { around = omega (arith, f.end, e.window.around); within = omega (arith, e.window.within, long) };
       outer = omega (arith, i.outer, e.outer);
       frames = f.trace_room ∙ i.frames;
+      memory = f.trace_memory ∙ i.memory;
       kind = ap in_loop o.2 ∙ i.kind;
       fixed = λ h. o.2 ∙ i.fixed h;
       end = λ h. f.end ∙ still ∙ i.end h;
@@ -464,6 +470,7 @@ run_block-steps-preserved g t c =
       window = f.window;
       outer = omega (arith, i.outer, e.outer, f.outer);
       frames = f.trace_room ∙ i.frames;
+      memory = f.trace_memory ∙ i.memory;
       kind = ap in_loop w.same ∙ i.kind;
       fixed = λ h. w.same ∙ i.fixed h;
       end = λ h. f.end ∙ still ∙ i.end h;
@@ -565,6 +572,7 @@ run_turns-turns-preserved g t c =
       window = e.window;
       outer = omega (arith, i.outer, e.outer);
       frames = e.trace_room ∙ i.frames;
+      memory = e.trace_memory ∙ i.memory;
       end = e.end ∙ i.end;
       cost = let x = spend_turn c.args.steps.now c.turns.steps c.run_block.new.steps D (position s - position s0) (position v - position s) (position v - position s0) i.cost spent (omega (arith, moved)) (omega (arith, i.later.pos, e.later.pos)) in omega (arith, x, c.tick.ensures);
       same = (
@@ -636,3 +644,12 @@ call-set_registers-requires g t c =
     let l : m < length C.routines = omega (arith, c.requires.callee.lower, c.requires.room.routine) in
     let count = ap length c.arguments.ensures ∙ length_registers c.args.regs.now c.args.first c.routine_at-routine.result.params in
     omega (arith, count, ap (λ x. x.params) is, ap (λ x. x.registers) is, (c.requires.room.runnable.code.routines m l).room, c.split_at_mut-mine.ensures.front_len)
+
+pub call-returns-clause-later : goal.call-returns-clause-later
+call-returns-clause-later g t c = later_trans g.met.W.Words.reaches_on c.args.stream.now c.run_block-left.new.stream c.widen.new.self c.run_block-left.ensures.later c.widen.ensures.later
+
+pub call-returns-clause-no_turn : goal.call-returns-clause-no_turn
+call-returns-clause-no_turn g t c =
+    let m = c.args.m in
+    let l : m < length c.args.env.now.parts.now.routines = omega (arith, c.requires.callee.lower, c.requires.room.routine) in
+    no_turn c.args.env.now.parts.now m _ c.run_block-left.result c.requires.room.runnable l (c.requires.room.begins.each m (omega (arith, l))) c.run_block-left.ensures.inside

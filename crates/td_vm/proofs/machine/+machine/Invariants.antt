@@ -1,4 +1,4 @@
-use Rattle.std.proofs.Common.{◌≡◌, ℕ, suc, ◌+◌, ◌-◌, ◌*◌, ◌<◌, ◌≤◌, length, true}
+use Rattle.std.proofs.Common.{◌≡◌, ℕ, suc, ◌+◌, ◌-◌, ◌*◌, ◌<◌, ◌≤◌, length, true, vec_capacity}
 use Rattle.td_ir.specs.Tables.{first_of, end_of as end_at}
 use Rattle.td_ir.specs.State.{State, Exit, after}
 use Rattle.td_ir.specs.Run.{turns, block}
@@ -31,6 +31,7 @@ invariant-run_block-steps g l = record {
   window : InWindow l.act l.stream;
   outer : l.act.outer ≤ l.fn.act.outer;
   frames : length l.trace.frames.items ≡ length l.fn.trace.frames.items;
+  memory : vec_capacity l.trace.frames ≡ vec_capacity l.fn.trace.frames;
   kind : looped l.env.parts.now l.pc ≡ looped l.env.parts.now l.first;
   fixed : looped l.env.parts.now l.first ≡ true → opened (shapes_of l.env.parts.now) l.pc ≡ opened (shapes_of l.env.parts.now) l.first;
   end : looped l.env.parts.now l.first ≡ true → end_of l.stream ≡ end_of l.fn.stream;
@@ -52,6 +53,7 @@ invariant-run_turns-turns g l = record {
   window : InWindow l.act l.stream;
   outer : l.act.outer ≤ l.fn.act.outer;
   frames : length l.trace.frames.items ≡ length l.fn.trace.frames.items;
+  memory : vec_capacity l.trace.frames ≡ vec_capacity l.fn.trace.frames;
   end : end_of l.stream ≡ end_of l.fn.stream;
   cost : l.steps ≤ l.fn.steps + (before l.env.parts.now l.n l.to - before l.env.parts.now l.n (l.at + 1) + 1) * (position l.stream - position l.fn.stream);
   same : (k : ℕ) × (end_of l.stream - position l.stream < k) × (Ran g.W.Words.loads l.fn.stream l.stream l.fn.steps l.steps (λ b touched taken. (behind : State → Exit) → turns (suc (end_of l.fn.stream - position l.fn.stream)) (block l.env.parts.now b l.n l.places (l.at + 1)) behind (state_of l.fn.regs l.fn.cells l.fn.act l.fn.stream) ≡ after touched taken (turns k (block l.env.parts.now b l.n l.places (l.at + 1)) behind (state_of l.regs l.cells l.act l.stream))));

@@ -14,8 +14,13 @@ returns-clause-armed c =
     let fourth : c.most_cells.result ≡ most_entry_cells C = c.most_cells.ensures ∙ ap most_entry_cells same in
     record {
       begins = subst (λ (x : Parts). AreBegins x c.in_ok-begins.begins.items) same c.in_ok-begins.ensures;
-      register_room = omega (arith, c.in_ok-vec.field-0.ok.0, c.in_ok-vec.ensures.len, first);
-      place_room = omega (arith, c.in_ok-vec-2.field-0.ok.0, c.in_ok-vec-2.ensures.len, second);
-      trace_room = omega (arith, c.in_ok-vec-4.field-0.ok.0, c.in_ok-vec-4.ensures.len, third);
-      cell_room = omega (arith, c.in_ok-vec-3.field-0.ok.0, c.in_ok-vec-3.ensures.len, fourth);
+      register_room = c.in_ok-filled.ensures.count ∙ first;
+      place_room = c.in_ok-filled-2.ensures.count ∙ second;
+      trace_room = c.in_ok-filled-4.ensures.count ∙ third;
+      cell_room = c.in_ok-filled-3.ensures.count ∙ fourth;
+      memory = let r = c.in_ok-filled.ensures.memory ∙ first in
+          let p = c.in_ok-filled-2.ensures.memory ∙ second in
+          let k = c.in_ok-filled-3.ensures.memory ∙ fourth in
+          let t = c.in_ok-filled-4.ensures.memory ∙ third in
+          λ i. record { registers = r i; places = p i; cells = k i; trace = t i };
     }

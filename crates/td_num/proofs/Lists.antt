@@ -1,0 +1,66 @@
+-- What holds of each item of a list, and what stands at a place of it. Cited by other crates.
+use Rattle.std.proofs.Common.{◌≡◌, ℕ, zero, suc, ◌+◌, ◌-◌, ◌<◌, ◌≤◌, List, [], ◌∷◌, ◌++◌, length, take, drop, get_or, slice_index_or, Some, refl, sym, ap, subst, ◌∙◌, arith}
+use Rattle.std.specs.Prelude.{slice_get, slice_range}
+use Rattle.std.specs.List.{Contains}
+use Rattle.std.proofs.lemmas.List.{drop_more, drop-take, drop-drop}
+use Rattle.std.proofs.lemmas.Option.{none-some, same_Some}
+use Rattle.td_num.specs.Lists.{Each}
+
+-- there is an item at each place
+pub got : {A : Type 0} (xs : List A) (n : ℕ) → n < length xs → (x : A) × (slice_get xs n ≡ Some x)
+got [] n h = absurd (omega (arith, h))
+got (x ∷ xs) zero h = (x, refl)
+got (x ∷ xs) (suc n) h = got xs n (omega (arith, h))
+
+pub each_at : {A : Type 0} (P : A → Type 0) (xs : List A) (n : ℕ) (x : A) → Each P xs → slice_get xs n ≡ Some x → P x
+each_at P [] n x h e = absurd (none-some x e)
+each_at P (y ∷ xs) zero x h e = subst P (same_Some y x e) h.0
+each_at P (y ∷ xs) (suc n) x h e = each_at P xs n x h.1 e
+
+pub each_index : {A : Type 0} (P : A → Type 0) (xs : List A) (d : A) (n : ℕ) → Each P xs → n < length xs → P (slice_index_or xs n d)
+each_index P [] d n e h = absurd (omega (arith, h))
+each_index P (x ∷ xs) d zero e h = e.0
+each_index P (x ∷ xs) d (suc n) e h = each_index P xs d n e.1 (omega (arith, h))
+
+-- what holds at each place holds of each item
+pub each_by : {A : Type 0} (P : A → Type 0) (xs : List A) (d : A) → ((k : ℕ) → k < length xs → P (slice_index_or xs k d)) → Each P xs
+each_by P [] d h = tt
+each_by P (x ∷ xs) d h = (h 0 (omega arith), each_by P xs d (λ k lt. h (suc k) (omega (arith, lt))))
+
+pub each_map : {A : Type 0} (P Q : A → Type 0) (xs : List A) → ((x : A) → P x → Q x) → Each P xs → Each Q xs
+each_map P Q [] f h = tt
+each_map P Q (x ∷ xs) f h = (f x h.0, each_map P Q xs f h.1)
+
+pub each_append : {A : Type 0} (P : A → Type 0) (xs ys : List A) → Each P xs → Each P ys → Each P (xs ++ ys)
+each_append P [] ys h k = k
+each_append P (x ∷ xs) ys h k = (h.0, each_append P xs ys h.1 k)
+
+pub each_push : {A : Type 0} (P : A → Type 0) (xs : List A) (y : A) → Each P xs → P y → Each P (xs ++ y ∷ [])
+each_push P xs y h p = each_append P xs (y ∷ []) h (p, tt)
+
+pub each_among : {A : Type 0} (P : A → Type 0) (xs : List A) (x : A) → Each P xs → Contains xs x → P x
+each_among P [] x h (k, lt, e) = absurd (omega (arith, lt))
+each_among P (y ∷ ys) x h (zero, lt, e) = subst P e h.0
+each_among P (y ∷ ys) x h (suc k, lt, e) = each_among P ys x h.1 (k, omega (arith, lt), e)
+
+pub all_among : {A : Type 0} (P : A → Type 0) (xs ys : List A) → Each P xs → Each (Contains xs) ys → Each P ys
+all_among P xs [] h c = tt
+all_among P xs (y ∷ ys) h c = (each_among P xs y h c.0, all_among P xs ys h c.1)
+
+-- what is left of a list begins with the item of this turn
+pub drop_next : {A : Type 0} (xs : List A) (i : ℕ) (x : A) → i < length xs → x ≡ get_or xs i x → drop i xs ≡ x ∷ drop (i + 1) xs
+drop_next xs i x h e = drop_more xs i x h ∙ ap (λ y. y ∷ drop (i + 1) xs) (sym e)
+
+pub drop_range : {X : Type 0} (xs : List X) (a k to : ℕ) → a + k ≤ to → drop k (slice_range xs a to) ≡ slice_range xs (a + k) to
+drop_range {X} xs a k to h =
+    let e : to - a ≡ k + (to - (a + k)) = omega arith in
+    ap (λ n. drop k (take n (drop a xs))) e ∙ drop-take k (to - (a + k)) (drop a xs) ∙ ap (λ l. take (to - (a + k)) l) (drop-drop k a xs)
+
+-- parts of nothing
+pub left_none : {A : Type 0} (xs ys : List A) → xs ++ ys ≡ [] → xs ≡ []
+left_none [] ys h = refl
+left_none (x ∷ xs) ys h = absurd cc
+
+pub right_none : {A : Type 0} (xs ys : List A) → xs ++ ys ≡ [] → ys ≡ []
+right_none [] ys h = h
+right_none (x ∷ xs) ys h = absurd cc
