@@ -1,0 +1,180 @@
+"""The C that td-c writes, compiled and called: each load of a word goes through a function that keeps it, and that stores as other
+threads would."""
+
+import ctypes
+import os
+import shutil
+import subprocess
+
+from codes import NO_FIELD
+from program import TOP
+
+# td-c promises that these compilers say nothing with these flags; the last ones it keeps without a promise.
+COMPILERS = ("cc", "gcc", "clang")
+FLAGS = ["-std=c11", "-Wall", "-Wextra", "-Werror", "-Wpedantic", "-Wshadow", "-Wconversion"]
+# What C leaves undefined ends the check.
+SANITIZED = ["-fsanitize=undefined", "-fsanitize-undefined-trap-on-error"]
+REASONS = ("accept", "notenough", "impossible", "listsize", "action", "constraint", "padding")
+MOST_LOADS = 131_072
+MOST_FRAMES = 32
+NUMBERS = {0: ctypes.c_uint32, 8: ctypes.c_uint8, 16: ctypes.c_uint16, 32: ctypes.c_uint32, 64: ctypes.c_uint64}
+
+HOOK = "#include <stdint.h>\nuint64_t test_load(const uint64_t *word);\n#define TD_LOAD(word) test_load(word)\n"
+LOADS = """
+#include <stddef.h>
+#include <stdint.h>
+#include <stdlib.h>
+static uint64_t *words, count, loads, due, overwrites, stores;
+static const uint64_t *plan;
+uint64_t loaded[%d][2];
+void test_begin(uint64_t *w, uint64_t c, uint64_t o, const uint64_t *p, uint64_t s)
+{
+    words = w, count = c, overwrites = o, plan = p, stores = s, loads = 0, due = 0;
+}
+uint64_t test_loads(void) { return loads; }
+uint64_t test_load(const uint64_t *word)
+{
+    size_t at = (size_t)(word - words);
+    uint64_t value;
+    if (at >= count || loads == sizeof loaded / sizeof *loaded)
+        abort();
+    for (; due < stores && plan[3 * due] <= loads; due++)
+        words[plan[3 * due + 1]] = plan[3 * due + 2];
+    value = words[at];
+    loaded[loads][0] = at;
+    loaded[loads++][1] = value;
+    if (overwrites)
+        words[at] = ~value;
+    return value;
+}
+""" % MOST_LOADS
+
+
+class Frame(ctypes.Structure):
+    _fields_ = [("type", ctypes.c_char_p), ("field", ctypes.c_char_p), ("start", ctypes.c_uint32)]
+
+
+class Outcome(ctypes.Structure):
+    _fields_ = [
+        ("reason", ctypes.c_int),
+        ("position", ctypes.c_uint32),
+        ("count", ctypes.c_uint32),
+        ("frame", Frame * MOST_FRAMES),
+    ]
+
+
+def compilers():
+    """The compilers that are there, each by its own program, and the names of those that aren't."""
+    found, missing = {}, []
+    for name in COMPILERS:
+        path = shutil.which(name)
+        if path is None:
+            missing.append(name)
+        else:
+            found.setdefault(os.path.realpath(path), name)
+    return list(found.values()), missing
+
+
+def td_c(folder, name, image):
+    """Writes an image as NAME.c and NAME.h of a folder; what td-c complains of, or an empty text."""
+    path = os.path.join(folder, name + ".image")
+    with open(path, "wb") as file:
+        file.write(image)
+    ended = subprocess.run([os.path.join(TOP, "td-c"), path, os.path.join(folder, name)], capture_output=True, check=False)
+    return "" if ended.returncode == 0 and not ended.stdout else "status %d: %s" % (ended.returncode, ended.stderr.decode())
+
+
+def compiled(compiler, words):
+    """What a compiler complains of; an empty text where it doesn't."""
+    ended = subprocess.run([compiler, *words], capture_output=True, check=False)
+    said = ended.stderr.decode(errors="replace")
+    return said or ("status %d" % ended.returncode if ended.returncode else "")
+
+
+class Validator:
+    """The functions of an image's C, in a library that is loaded here. `is_watched`: loads are kept, and stores are made."""
+
+    def __init__(self, folder, name, code, compiler, is_watched):
+        self.code, self.name, self.is_watched = code, name, is_watched
+        base = os.path.join(folder, name)
+        library = "%s.%s.%d.so" % (base, compiler, is_watched)
+        words = [*FLAGS, "-O1" if is_watched else "-O2", "-fPIC", "-shared", base + ".c", "-o", library]
+        if is_watched:
+            for end, text in ((".hook.h", HOOK), (".loads.c", LOADS)):
+                with open(base + end, "w", encoding="ascii") as file:
+                    file.write(text)
+            words += [*SANITIZED, "-include", base + ".hook.h", base + ".loads.c"]
+        self.complaint = compiled(compiler, words)
+        self.library = None if self.complaint else ctypes.CDLL(library)
+
+    def watch(self, words, length, overwrites, stores):
+        numbers = [number for store in sorted(stores, key=lambda store: store[0]) for number in store]
+        self.plan = (ctypes.c_uint64 * max(1, len(numbers)))(*numbers)
+        sizes = map(ctypes.c_uint64, (-(-length // 8), overwrites, len(stores)))
+        count, overwrites, stores = sizes
+        self.library.test_begin(words, count, overwrites, self.plan, stores)
+
+    def loads(self):
+        if not self.is_watched:
+            return None
+        self.library.test_loads.restype = ctypes.c_uint64
+        loaded = (ctypes.c_uint64 * 2 * MOST_LOADS).in_dll(self.library, "loaded")
+        return [(loaded[k][0], loaded[k][1]) for k in range(self.library.test_loads())]
+
+    def run(self, entry, arguments, cells, memory, length, overwrites=False, stores=()):
+        """How a run ends: verdict, position, frames, cells and loads."""
+        routine, params, own_cells = self.code.entries[entry]
+        padded = memory + bytes(-len(memory) % 8)
+        words = (ctypes.c_uint64 * max(1, len(padded) // 8)).from_buffer_copy(padded or bytes(8))
+        records = {}
+        for number, (name, field, bits) in enumerate(own_cells):
+            key = number if field == NO_FIELD else "of %d" % name
+            records.setdefault(key, []).append((number, bits))
+        structs = []
+        for members in records.values():
+            kind = type("Record", (ctypes.Structure,), {"_fields_": [("n%d" % number, NUMBERS[bits]) for number, bits in members]})
+            structs.append(kind(*[cells[number] for number, _ in members]))
+        outcome = Outcome(reason=-1)
+        given = [NUMBERS[bits](value) for (_, bits), value in zip(params, arguments)] + [ctypes.byref(struct) for struct in structs]
+        call = getattr(self.library, "%s_validate_%s" % (self.name, self.code.name(self.code.routines[routine][0])))
+        call.restype = ctypes.c_bool
+        if self.is_watched:
+            self.watch(words, length, overwrites, stores)
+        accepted = call(ctypes.byref(words), ctypes.c_uint32(length), *given, ctypes.byref(outcome))
+        left = {name: getattr(struct, name) for struct in structs for name, _ in struct._fields_}
+        frames = [outcome.frame[k] for k in range(outcome.count)]
+        return Ended(
+            REASONS[outcome.reason] if accepted == (outcome.reason == 0) else "two verdicts",
+            outcome.position,
+            [(frame.type.decode(), frame.field.decode(), frame.start) for frame in frames],
+            [left["n%d" % number] for number in range(len(own_cells))],
+            self.loads(),
+        )
+
+
+class Ended:
+    """How a run ended."""
+
+    def __init__(self, reason, position, frames, cells, loads):
+        self.reason, self.position, self.frames, self.cells, self.loads = reason, position, frames, cells, loads
+
+    def without_loads(self):
+        return self.reason, self.position, self.frames, self.cells
+
+    def report(self, code, entry):
+        """The report that `td run` writes of such a run."""
+        verdict = self.reason if self.reason == "accept" else "reject " + self.reason
+        lines = ["%s %d" % (verdict, self.position)]
+        lines += ["frame %s.%s %d" % frame for frame in self.frames]
+        for (name, field, _), value in zip(code.entries[entry][2], self.cells):
+            lines.append("out %s%s %d" % (code.name(name), "" if field == NO_FIELD else "." + code.name(field), value))
+        return lines + ["load %d %016x" % load for load in self.loads]
+
+    def line(self, code):
+        """The line that td_code_try writes of it, in numbers."""
+        verdict = "accept" if self.reason == "accept" else "reject %d" % (REASONS.index(self.reason) - 1)
+        words = ["%s %d" % (verdict, self.position)]
+        for ty, field, start in self.frames:
+            spot = field if field in ("where", "switch") else code.names.index(field.encode())
+            words.append("f %d %s %d %d" % (code.names.index(ty.encode()), spot, REASONS.index(self.reason) - 1, start))
+        return " ".join(words + ["c %d" % cell for cell in self.cells] + ["l %d %d" % load for load in self.loads])

@@ -1,0 +1,302 @@
+"""Help on J1 to J8, Z1 and Z2: jobs, and inputs as a whole. With the job itself it says what stands there."""
+
+import difflib
+import json
+import re
+
+from reference.answers import module_of
+from reference.errors import ModuleError
+from reference.jobs import HEXADECIMAL
+
+from ..places import escaped, place_of
+
+MESSAGE = 1_048_576
+RUN_FIELDS = ("entry", "args", "cells", "bytes", "length", "stores")
+HOST_FIELDS = ("entry", "args", "buffer", "workers", "guests")
+GUEST_FIELDS = ("script",)
+# The form of each field, and an example.
+FORMS = {
+    "entry": ("a text, the name of an entry point", '"entry":"P"'),
+    "args": ("a list of whole numbers below 2^64, one for each value parameter", '"args":[4,0]'),
+    "args[i]": ("a whole number below 2^64 in digits alone: no quotes, sign, point or exponent", '"args":[4,0]'),
+    "cells": ("a list of whole numbers, one for each cell; it may be left out", '"cells":[0,0]'),
+    "cells[i]": ("a whole number below 2^64 in digits alone: no quotes, sign, point or exponent", '"cells":[0,0]'),
+    "bytes": ("a text of hexadecimal digits", '"bytes":"01000003"'),
+    "length": ("a whole number of bytes, in digits alone", '"length":4'),
+    "stores": ("a list; it may be left out", '"stores":[[1,0,"0100000400000000"]]'),
+    "stores[i]": ("a list of two whole numbers and a text, [before, word, text]", '[1,0,"0100000400000000"]'),
+    "buffer": ("a text of hexadecimal digits", '"buffer":"0100000300000000"'),
+    "workers": ("a whole number, 1 to 16", '"workers":2'),
+    "guests": ("a list of 1 to 16 objects", '"guests":[{"script":[["post",0,4]]}]'),
+    "guests[i]": ("an object with the field `script` alone", '{"script":[["post",0,4]]}'),
+    "guests[i].script": ("a list of steps", '"script":[["store",0,"0100000300000000"],["post",0,4]]'),
+    "guests[i].script[i]": ('`["store", word, text]` or `["post", base, length]`', '["post",0,4]'),
+}
+STEP = re.compile(r"\[(\d+)\]|([^.\[\]]+)")
+
+
+def known_of(text):
+    for one in [text] if text.endswith(b"\n") else [text, text + b"\n"]:
+        try:
+            return module_of(one)[1]
+        except ModuleError:
+            continue
+    return None
+
+
+def form_of(path):
+    return re.sub(r"\[\d+\]", "[i]", path)
+
+
+def at_path(job, path):
+    """What stands in a job at a path; (False, None) where nothing does."""
+    value = job
+    for index, name in STEP.findall(path):
+        try:
+            value = value[int(index)] if index else value[name]
+        except (KeyError, IndexError, TypeError):
+            return False, None
+    return True, value
+
+
+def shown(value):
+    """A value of a job, shortened."""
+    text = json.dumps(value)
+    return escaped((text if len(text) <= 60 else text[:57] + " ..").encode())
+
+
+class Job:
+    """A job as far as it can be read, and the types of its entry point."""
+
+    def __init__(self, known, text):
+        self.known, self.text, self.value, self.fault = known, text, None, None
+        if text is not None:
+            try:
+                self.value = json.loads(text.decode("utf-8"))
+            except (ValueError, RecursionError) as fault:
+                self.fault = fault
+        self.entry = None
+        if known is not None and isinstance(self.value, dict):
+            self.entry = next((known.types[n] for n in known.entries if known.types[n].name == self.value.get("entry")), None)
+
+    def entries(self):
+        """The entry points that are meant: that of the job, or else all."""
+        if self.entry is not None:
+            return [self.entry]
+        return [self.known.types[number] for number in self.known.entries] if self.known is not None else []
+
+    def is_host(self):
+        return isinstance(self.value, dict) and bool({"guests", "buffer", "workers"} & set(self.value))
+
+
+def values_wanted(made):
+    return ["%s (%d bits)" % (parameter.name, parameter.bits) for parameter in made.parameters if not parameter.mutable]
+
+
+def cells_wanted(made):
+    return ["%s%s (%s)" % (name, "" if field is None else "." + field, "%d bits" % bits if bits else "a pointer, below 2^32") for name, field, bits in made.cells]
+
+
+def wanted_line(made, which):
+    wanted = values_wanted(made) if which == "args" else cells_wanted(made)
+    what = ("value parameter" if which == "args" else "cell") + ("" if len(wanted) == 1 else "s")
+    return "`%s` has %s %s%s." % (made.name, len(wanted) or "no", what, ": " + ", ".join(wanted) if wanted else "")
+
+
+def example_of(made, is_host):
+    """A job that is whole, for an entry point."""
+    job = {"entry": made.name}
+    if values_wanted(made):
+        job["args"] = [0] * len(values_wanted(made))
+    if is_host:
+        job.update(buffer="0000000000000000", workers=1, guests=[{"script": [["post", 0, 8]]}])
+    else:
+        job.update(bytes="0000000000000000", length=8)
+    return "mend: a whole job: `%s`; its bytes are those of a file by `xxd -p FILE | tr -d '\\n'`, or of td-job." % json.dumps(job, separators=(",", ":"))
+
+
+def no_json(job):
+    if job.fault is not None:
+        if isinstance(job.fault, json.JSONDecodeError):
+            place = place_of(job.text, len(job.fault.doc[: job.fault.pos].encode()))
+            return ["The job isn't JSON at %s: %s." % (place, job.fault.msg.rstrip(":")), "mend: put it right there: numbers have no leading zero, texts double quotes, and no comma stands before `}` or `]`."]
+        return ["The job isn't JSON: %s." % escaped(str(job.fault).encode()), "mend: save it as UTF-8, with at most 127 brackets and braces open at once."]
+    more = "" if job.text is None else " Another reader of JSON takes it: look for more than 127 open brackets, a lone surrogate or a number past all size."
+    lines = ["What follows the line `%%` must be one whole JSON object, in UTF-8." + more]
+    return lines + [example_of(made, False) for made in job.entries()[:1]]
+
+
+def fields_of(path):
+    """The fields that an object has in which a path ends, and the path's last name."""
+    if re.match(r"guests\[\d+\]\.", path):
+        return GUEST_FIELDS, path.split(".", 1)[1]
+    return tuple(dict.fromkeys(RUN_FIELDS + HOST_FIELDS)), path
+
+
+def field_wrong(job, path):
+    form = form_of(path)
+    if form not in FORMS:
+        known, name = fields_of(path)
+        if job.is_host() or job.value is not None:
+            known = GUEST_FIELDS if known == GUEST_FIELDS else HOST_FIELDS if job.is_host() else RUN_FIELDS
+        near = difflib.get_close_matches(name.lower(), known, 1, 0.6)
+        lines = ["A job has no field `%s`: its fields are %s." % (escaped(name.encode("utf-8", "surrogateescape")), ", ".join("`%s`" % field for field in known))]
+        return lines + ["mend: write `%s`." % near[0] if near else "mend: take the field out."]
+    wanted, example = FORMS[form]
+    lines = ["`%s` is %s: %s." % (path, wanted, "as `%s`" % example)]
+    if job.text is not None and job.fault is None:
+        if not isinstance(job.value, dict):
+            lines.append("The job isn't an object, so it has no fields.")
+        else:
+            there, value = at_path(job.value, path)
+            lines.append("There stands `%s`." % shown(value) if there else "The job doesn't have it.")
+    if form in ("args", "cells"):
+        lines += [wanted_line(made, form) for made in job.entries()]
+    if form == "length" and isinstance(job.value, dict) and isinstance(job.value.get("bytes"), str) and "length" not in job.value:
+        return lines + ['mend: write `"length":%d`, all of its bytes; `td-run` fills it in.' % (len(job.value["bytes"]) // 2)]
+    return lines + (["mend: write it as the example does, outside of quotes." if form == "length" else "mend: write it as the example does."] if not job.entries() else [example_of(job.entries()[0], job.is_host() or form.startswith(("guests", "workers", "buffer")))])
+
+
+def no_entry(job):
+    names = [made.name for made in job.entries()]
+    lines = []
+    if isinstance(job.value, dict):
+        lines.append("No entry point is named `%s`." % escaped(str(job.value.get("entry")).encode("utf-8", "surrogateescape")))
+    if job.known is None:
+        return lines + ["mend: write the name that stands after the `}` of an `entrypoint` definition."]
+    if not names:
+        return lines + ["The module has no entry point.", "mend: write `entrypoint` before the `typedef` or `casetype` of the type that is to be run."]
+    lines.append("The module's entry points: %s." % ", ".join("`%s`" % name for name in names))
+    near = difflib.get_close_matches(str(job.value.get("entry")).lstrip("_"), names, 1, 0.4) if isinstance(job.value, dict) else names[:1]
+    return lines + ['mend: write `"entry":"%s"`, the name after the `}` and not the one after `struct`.' % (near or names)[0]]
+
+
+def wrong_values(job, path):
+    which, _, index = path.partition("[")
+    lines = [wanted_line(made, which) for made in job.entries()]
+    if index:
+        number = int(index.rstrip("]"))
+        for made in job.entries():
+            wanted = values_wanted(made) if which == "args" else cells_wanted(made)
+            bits = [p.bits for p in made.parameters if not p.mutable] if which == "args" else [bits or 32 for _, _, bits in made.cells]
+            if number < len(bits):
+                there, value = at_path(job.value, path) if isinstance(job.value, dict) else (False, None)
+                given = "; the job gives %s" % shown(value) if there else ""
+                lines.append("`%s` is for %s: at most %d%s." % (path, wanted[number], 2 ** bits[number] - 1, given))
+        return lines + ["mend: give a number that fits, or let the parameter be wider."]
+    there, value = at_path(job.value, which) if isinstance(job.value, dict) else (False, None)
+    if there and isinstance(value, list):
+        lines.append("The job gives %d." % len(value))
+    zeros = [0] * len(values_wanted(job.entries()[0]) if which == "args" else job.entries()[0].cells) if job.entries() else []
+    if zeros:
+        return lines + ['mend: write one number for each, in this order: `"%s":%s`.' % (which, json.dumps(zeros, separators=(",", ":")))]
+    return lines + ["mend: leave `%s` out." % which]
+
+
+def text_at(job, path):
+    """The text of digits at a path: a field's, a store's or a step's."""
+    there, value = at_path(job.value, path) if isinstance(job.value, dict) else (False, None)
+    if there and isinstance(value, list):
+        value = value[2] if len(value) == 3 else None
+    return value if isinstance(value, str) else None
+
+
+def no_digits(job, path):
+    is_word = path not in ("bytes", "buffer")
+    count = "exactly 16 hexadecimal digits, the word's 8 bytes in memory order" if is_word else "an even number of hexadecimal digits, two for each byte in the order of memory"
+    lines = ["The text of `%s` is %s; white space and `0x` are none." % (path, count)]
+    text = text_at(job, path)
+    if text is not None:
+        bad = next((at for at, char in enumerate(text) if char not in HEXADECIMAL), None)
+        if bad is not None:
+            lines.append("Character %d of it, from 0, is `%s`." % (bad, escaped(text[bad].encode("utf-8", "surrogateescape"))))
+        lines.append("It has %d characters." % len(text))
+        digits = "".join(char for char in text.removeprefix("0x") if char in HEXADECIMAL)
+        if is_word and digits and len(digits) <= 16:
+            return lines + ['mend: fill it up: `"%s"`.' % digits.ljust(16, "0")]
+    return lines + ["mend: write each byte as two digits: `xxd -p FILE | tr -d '\\n'` prints a file so, and `td-run --bytes FILE` takes it as it is."]
+
+
+def no_word(job, path):
+    lines = ["The store of `%s` is to a word that isn't there. Words are numbered from 0, and have 8 bytes." % path]
+    if isinstance(job.value, dict):
+        is_host = path.startswith("guests")
+        length = job.value.get("length") if not is_host else len(job.value.get("buffer", "")) // 2
+        there, store = at_path(job.value, path)
+        if isinstance(length, int) and there and isinstance(store, list) and len(store) == 3:
+            words = -(-length // 8)
+            what = "the buffer" if is_host else "the message"
+            lines.append("The store is to word %s; %s of %d bytes has %s." % (store[1], what, length, "words 0 to %d" % (words - 1) if words else "none"))
+            return lines + ["mend: store to a word below %d, or make %s longer." % (words, what) if words else "mend: make %s longer, or take the store out." % what]
+    return lines + ["mend: store to a word below the length / 8, rounded up; `bytes` past the message's `length` don't count."]
+
+
+def too_long(job, path):
+    if path == "length":
+        lines = ["The message is longer than the bytes that are given."]
+        if isinstance(job.value, dict) and isinstance(job.value.get("bytes"), str):
+            given = len(job.value["bytes"]) // 2
+            lines.append("`length` is %s, and `bytes` has %d." % (shown(job.value.get("length")), given))
+            return lines + ['mend: write `"length":%d`, or give more bytes.' % given]
+        return lines + ["mend: give more bytes, or a smaller length."]
+    lines = ["The message that is posted at `%s` passes the end of the buffer, whose last word is filled with zero bytes." % path]
+    there, step = at_path(job.value, path) if isinstance(job.value, dict) else (False, None)
+    if there and isinstance(job.value.get("buffer"), str) and isinstance(step, list) and len(step) == 3:
+        words = -(-(len(job.value["buffer"]) // 2) // 8)
+        lines.append("It begins at word %s and has %s bytes; the buffer has %d words, %d bytes." % (step[1], step[2], words, 8 * words))
+    return lines + ["mend: post fewer bytes, from a lower word, or make the buffer longer: base and length are `[\"post\", word, bytes]`."]
+
+
+def past_a_limit(job, path):
+    limits = {
+        "length": ("A message has at most 1,048,576 bytes.", "validate the messages of a buffer one by one."),
+        "stores": ("A job has at most 65,536 stores, a host job as many of all its guests.", "give several jobs."),
+        "workers": ("A host job has 1 to 16 workers.", 'write `"workers":2`.'),
+        "guests": ("A host job has 1 to 16 guests.", 'write at least one: `"guests":[{"script":[["post",0,4]]}]`.'),
+        "posts": ("All guests post at most 4,096 messages.", "give several jobs."),
+        "words": ("All messages that are posted have at most 1,048,576 words, each counted as often as it is posted.", "give several jobs."),
+    }
+    said, mend = limits.get(path, ("A message that is posted has at most 1,048,576 bytes.", "post it in parts, each validated alone."))
+    lines = [said]
+    if isinstance(job.value, dict):
+        there, value = at_path(job.value, path)
+        if there:
+            lines.append("The job has %s." % (len(value) if isinstance(value, list) and path in ("stores", "guests") else shown(value)))
+    return lines + ["mend: " + mend]
+
+
+def input_as_a_whole(code, text):
+    if code == "Z1":
+        return ["An input has at most 4,194,304 bytes, the module, the line `%%%%` and the job together; the module alone has %d." % len(text),
+                "mend: shorten the module's comments, or the message: two hexadecimal digits stand for one byte."]  # fmt: skip
+    near = [number for number, line in enumerate(text.split(b"\n"), 1) if line.strip() == b"%%"]
+    lines = ["No line of the input is exactly `%%`."]
+    if near:
+        return lines + ["Line %d has white space beside it, which makes it another line." % near[0], "mend: write `%%` alone, with a line feed alone behind it."]
+    return lines + ["mend: write the module, a line `%%`, and the job; `td-run MODULE JOB` joins two files so."]
+
+
+STEP_PATH = r"guests\[\d{1,5}\]\.script\[\d{1,9}\]"
+# The paths that each code has.
+PATHS = {
+    "J1": "job",
+    "J2": ".*",
+    "J3": "entry",
+    "J4": r"(args|cells)(\[\d{1,5}\])?",
+    "J5": r"bytes|buffer|stores\[\d{1,5}\]|" + STEP_PATH,
+    "J6": r"stores\[\d{1,5}\]|" + STEP_PATH,
+    "J7": "length|" + STEP_PATH,
+    "J8": "length|stores|workers|guests|posts|words|" + STEP_PATH,
+}
+BY_CODE = {"J2": field_wrong, "J4": wrong_values, "J5": no_digits, "J6": no_word, "J7": too_long, "J8": past_a_limit}
+
+
+def help_of(text, code, path, job_text):
+    if code in ("Z1", "Z2"):
+        return input_as_a_whole(code, text)
+    if code not in PATHS or not re.fullmatch(PATHS[code], path, re.DOTALL):
+        return []
+    job = Job(known_of(text), job_text)
+    if code == "J1":
+        return no_json(job)
+    return no_entry(job) if code == "J3" else BY_CODE[code](job, path)

@@ -1,0 +1,131 @@
+"""A message field by field: the second reading's run, which keeps a row for each field that it reaches."""
+
+from types import SimpleNamespace as Row
+
+from reference import runs
+from reference.scopes import bits_of
+
+# Of an array, or of what takes the rest, so many bytes are shown.
+MOST_BYTES = 12
+
+
+class Fields(runs.Run):
+    """A run that keeps rows: depth, first byte, the byte after the last (None where it failed), type, name, and for the note the
+    field and the values that were read."""
+
+    def __init__(self, types, memory):
+        super().__init__(types, memory)
+        # In an array of elements of a type: its name, and how many elements were begun.
+        self.depth, self.rows, self.array_name, self.count = -1, [], None, 0
+
+    def row(self, start, kind, name):
+        self.rows.append(Row(depth=self.depth, start=start, end=None, kind=kind, name=name, field=None, values=[]))
+        return self.rows[-1]
+
+    def definition(self, number, values, cells, places, start, end):
+        element, held = None, (self.array_name, self.count)
+        if self.array_name is not None:
+            element = self.row(start, self.types[number].name, "%s[%d]" % held)
+        self.array_name, self.depth = None, self.depth + 1
+        try:
+            after = super().definition(number, values, cells, places, start, end)
+        finally:
+            self.array_name, self.count, self.depth = held[0], held[1] + 1, self.depth - 1
+        if element is not None:
+            element.end = after
+        return after
+
+    def type_name(self, element):
+        if element.kind == "named":
+            return self.types[element.number].name
+        return element.base if element.kind in ("number", "enum") else element.kind
+
+    def field(self, field, later, level, values, cells, places, start, end):
+        element, form = field.element, field.extent[0]
+        before = len(values)
+        row = self.row(start, self.type_name(element) + ("" if form == "once" else "[]"), " ".join(part.name for part in field.parts))
+        row.field = field
+        is_list = form == "bytes" and element.kind == "named"
+        held = self.array_name, self.count
+        self.array_name, self.count, self.depth = field.parts[0].name if is_list else None, 0, self.depth + is_list
+        try:
+            row.end = super().field(field, later, level, values, cells, places, start, end)
+        finally:
+            row.values = values[before:]
+            self.array_name, self.count, self.depth = held[0], held[1], self.depth - is_list
+        return row.end
+
+
+class Told:
+    """The bytes of the message as they are shown: of a word that was loaded those of the load, else those that the job gives."""
+
+    def __init__(self, words, loaded, length):
+        self.loaded, self.length = loaded, length
+        self.bytes = b"".join(loaded.get(place, word).to_bytes(8, "little") for place, word in enumerate(words))[:length]
+
+    def state(self, is_read, start, after):
+        if is_read:
+            return "read"
+        whole = all(word in self.loaded for word in range(start // 8, -(-after // 8)))
+        return "in a loaded word" if whole else "not loaded"
+
+
+def note(row, told):
+    """The values of a field's parts, or its bytes, and whether it was read."""
+    if row.field is None:
+        return ""
+    element, form, start = row.field.element, row.field.extent[0], row.start
+    is_number = form == "once" and element.kind in ("number", "enum")
+    after = row.end
+    if after is None:
+        width = bits_of(element.base) // 8 if is_number else 0
+        after = start + width if start + width <= told.length else start
+    if after == start or (element.kind == "named" and form != "zeroterm"):
+        return ""
+    if is_number:
+        is_read = bool(row.values) and row.values[0] is not None
+        raw = int.from_bytes(told.bytes[start:after], "big" if element.base.endswith("BE") else "little")
+        return "= %s  %s" % (" ".join(number_of(part, raw) for part in row.field.parts), told.state(is_read, start, after))
+    shown = told.bytes[start : min(after, start + MOST_BYTES)].hex(" ") + (" .." if after - start > MOST_BYTES else "")
+    return "= %s  %s" % (shown, told.state(form == "zeroterm" or element.kind in ("enum", "all_zeros"), start, after))
+
+
+def number_of(part, raw):
+    value = raw if part.width is None else raw >> part.low & 2**part.width - 1
+    return str(value) if value < 10 else "%d (0x%x)" % (value, value)
+
+
+def rows_of(known, job):
+    """The rows of a run with their notes, and its report."""
+    number, arguments, cells, length, words, stores = job
+    memory = runs.Memory(words, stores)
+    shown = Fields(known.types, memory)
+    frames = []
+    try:
+        verdict = "accept %d" % shown.definition(number, arguments, cells, list(range(len(cells))), 0, length)
+    except runs.Rejected as failed:
+        verdict = "reject %s %d" % (failed.reason, failed.position)
+        frames = ["frame %s.%s %d" % frame for frame in failed.frames]
+    lines = [verdict] + frames
+    for (name, field, _), value in zip(known.types[number].cells, cells):
+        lines.append("out %s%s %d" % (name, "" if field is None else "." + field, value))
+    lines += ["load %d %016x" % load for load in memory.loaded.items()]
+    told = Told(words, memory.loaded, length)
+    for row in shown.rows:
+        row.note = note(row, told)
+    failed = [row for row in shown.rows if row.end is None]
+    if failed:
+        failed[-1].note = ("%s  <-- it failed here" % failed[-1].note).strip()
+    return shown.rows, "".join(line + "\n" for line in lines)
+
+
+def left_of(row):
+    size = "" if row.end is None else row.end - row.start
+    return "%6d %5s  %s%s %s" % (row.start, size, "  " * row.depth, row.kind, row.name)
+
+
+def table(rows, verdict):
+    """The rows as text, and the verdict."""
+    widest = max([len(left_of(row)) for row in rows], default=0)
+    lines = ["%6s %5s  %s" % ("byte", "bytes", "type and name")]
+    return lines + [("%-*s  %s" % (widest, left_of(row), row.note)).rstrip() for row in rows] + [verdict]

@@ -1,0 +1,157 @@
+"""Reports and error lines of td, read strictly, as values that JSON spells (docs/report-json.md)."""
+
+import re
+
+LARGEST = 2**64 - 1
+NUMBER = re.compile(r"0|[1-9][0-9]*")
+NAME = r"[A-Za-z_][A-Za-z0-9_]*"
+SITE = re.compile(r"(%s)\.(%s)" % (NAME, NAME))
+CELL = re.compile(r"%s(\.%s)?" % (NAME, NAME))
+VALUE = re.compile(r"[0-9a-f]{16}")
+REASONS = ("notenough", "constraint", "impossible", "listsize", "action", "padding")
+MODULE_ERROR = re.compile(r"error ([A-Z][0-9]) ([0-9]+):([0-9]+) (.+)")
+INPUT_ERROR = re.compile(r"error (Z[0-9]) (.+)")
+# A name in a job is printed raw, and may have line feeds or be empty.
+JOB_ERROR = re.compile(r"error (J[0-9])(?: (.*))?", re.DOTALL)
+OTHER_ERROR = re.compile(r"error (read|memory)")
+COUNTS = re.compile(r"ok definitions ([0-9]+) entries ([0-9]+)")
+
+
+class NoReport(Exception):
+    """Why a text is no report: a line's number, from 1, and the words."""
+
+
+def number(text, line):
+    if not NUMBER.fullmatch(text) or int(text) > LARGEST:
+        raise NoReport(line, "`%s` isn't a number" % text)
+    return int(text)
+
+
+class Lines:
+    """The lines of a report, taken one by one."""
+
+    def __init__(self, lines):
+        self.lines, self.at = lines, 0
+
+    def words(self, kind, count):
+        """The words after the kind of the next line, where it is of this kind and has so many; None where it is of another."""
+        if self.at == len(self.lines) or self.lines[self.at].split(" ")[0] != kind:
+            return None
+        words = self.lines[self.at].split(" ")[1:]
+        self.at += 1
+        if len(words) != count:
+            raise NoReport(self.at, "a line `%s` has %d words behind it" % (kind, count))
+        return words
+
+    def number(self, text):
+        return number(text, self.at)
+
+    def wrong(self, words):
+        raise NoReport(self.at, words)
+
+
+def verdict_of(lines):
+    accepted = lines.words("accept", 1)
+    if accepted:
+        return {"verdict": "accept", "position": lines.number(accepted[0])}
+    rejected = lines.words("reject", 2)
+    if not rejected:
+        raise NoReport(lines.at + 1, "`accept` or `reject` is missing")
+    if rejected[0] not in REASONS:
+        lines.wrong("`%s` is no reason" % rejected[0])
+    return {"verdict": "reject", "reason": rejected[0], "position": lines.number(rejected[1])}
+
+
+def frames_of(lines):
+    found = []
+    while words := lines.words("frame", 2):
+        site = SITE.fullmatch(words[0])
+        if not site:
+            lines.wrong("`%s` is no TYPE.FIELD" % words[0])
+        found.append({"type": site[1], "field": site[2], "start": lines.number(words[1])})
+    return found
+
+
+def cells_of(lines):
+    found = []
+    while words := lines.words("out", 2):
+        if not CELL.fullmatch(words[0]):
+            lines.wrong("`%s` is no name of a cell" % words[0])
+        found.append({"name": words[0], "value": lines.number(words[1])})
+    return found
+
+
+def loads_of(lines):
+    found = []
+    while words := lines.words("load", 2):
+        load = {"word": lines.number(words[0]), "value": words[1]}
+        if not VALUE.fullmatch(words[1]):
+            lines.wrong("`%s` isn't 16 lower-case hexadecimal digits" % words[1])
+        if found and found[-1]["word"] >= load["word"]:
+            lines.wrong("word %d is loaded after word %d: loaded words rise" % (load["word"], found[-1]["word"]))
+        found.append(load)
+    return found
+
+
+def run_of(lines):
+    """The lines of one run."""
+    run = verdict_of(lines)
+    frames = frames_of(lines)
+    if (run["verdict"] == "reject") != bool(frames):
+        raise NoReport(lines.at + 1, "a rejection has frames, and nothing else has")
+    if frames:
+        run["frames"] = frames
+    return {**run, "out": cells_of(lines), "loads": loads_of(lines)}
+
+
+def replies_of(lines):
+    found = []
+    while words := lines.words("reply", 2):
+        reply = {"guest": lines.number(words[0]), "number": lines.number(words[1])}
+        before = (found[-1]["guest"], found[-1]["number"]) if found else (0, 0)
+        now = reply["guest"], reply["number"]
+        if now not in ((before[0], before[1] + 1), (max(before[0] + 1, now[0]), 1)) or now[0] > 16 or before == (0, 0) and now[1] != 1:
+            lines.wrong("reply %d %d doesn't follow %d %d: replies stand by guest and number, from 1" % (now + before))
+        found.append({**reply, **run_of(lines)})
+    return found
+
+
+def error_of(text):
+    """The value of an error line; None where it is none."""
+    module, whole = MODULE_ERROR.fullmatch(text), INPUT_ERROR.fullmatch(text)
+    job, other = JOB_ERROR.fullmatch(text), OTHER_ERROR.fullmatch(text)
+    if module and module[1][0] not in "JZ":
+        error = {"code": module[1], "line": number(module[2], 1), "column": number(module[3], 1), "words": module[4]}
+    elif whole:
+        error = {"code": whole[1], "words": whole[2]}
+    elif job:
+        error = {"code": job[1], "path": job[2] or ""}
+    elif other:
+        error = {"words": other[1]}
+    else:
+        return None
+    return {"kind": "error", "error": error}
+
+
+def value_of(written):
+    """What a report or an error line says."""
+    try:
+        text = written.decode("utf-8")
+    except UnicodeDecodeError:
+        raise NoReport(1, "it isn't UTF-8") from None
+    if not text.endswith("\n"):
+        raise NoReport(text.count("\n") + 1, "the last line isn't ended: it was cut short, or nothing was written")
+    error = error_of(text[:-1])
+    if error:
+        return error
+    lines = Lines(text[:-1].split("\n"))
+    counts = COUNTS.fullmatch(text[:-1])
+    if counts:
+        return {"kind": "check", "definitions": number(counts[1], 1), "entries": number(counts[2], 1)}
+    if lines.lines[0].startswith("reply "):
+        value = {"kind": "host", "replies": replies_of(lines)}
+    else:
+        value = {"kind": "run", **run_of(lines)}
+    if lines.at < len(lines.lines):
+        raise NoReport(lines.at + 1, "this line has no place here")
+    return value

@@ -1,0 +1,96 @@
+"""Running the program on a module and a job: what td-run, td-fields and td-test share."""
+
+import json
+import os
+import subprocess
+
+from . import TOP
+
+MESSAGE = 1_048_576
+HEXADECIMAL = set("0123456789abcdefABCDEF")
+
+
+class Wrong(Exception):
+    """What is printed to standard error, and the status."""
+
+    def __init__(self, said, status=2):
+        super().__init__(said)
+        self.status = status
+
+
+def usage_of(document):
+    """The lines of a script's head that say how it is called."""
+    return document[document.index("usage:") :].split("\n\n")[0]
+
+
+def read(name, path, usage):
+    try:
+        with open(path, "rb") as file:
+            return file.read()
+    except OSError:
+        raise Wrong("%s: can't read the file '%s'\n%s" % (name, path, usage)) from None
+
+
+def joined(module, job):
+    """An input of `run`: the module as its file has it, ended by a line feed; the marker; the job."""
+    return module + (b"" if not module or module.endswith(b"\n") else b"\n") + b"%%\n" + job
+
+
+def fields_of(job):
+    """The fields of a job; None where it is no JSON object, which the program then says."""
+    try:
+        value = json.loads(job.decode("utf-8"))
+    except (ValueError, RecursionError):
+        return None
+    return value if isinstance(value, dict) else None
+
+
+def is_bytes(text):
+    return isinstance(text, str) and len(text) % 2 == 0 and set(text) <= HEXADECIMAL
+
+
+def filled(name, job, data=None, path=None):
+    """The job with the bytes of a file, where there is one, and with the length of its bytes where it has none. All else stays as it is
+    written."""
+    fields, more = fields_of(job), {}
+    if data is not None:
+        if fields is None:
+            raise Wrong("%s: the job isn't a JSON object, so the bytes of '%s' have no place in it" % (name, path))
+        if "bytes" in fields:
+            raise Wrong("%s: the job has `bytes` of its own, so those of '%s' have no place in it" % (name, path))
+        if len(data) > MESSAGE:
+            said = "%s: the file '%s' has %d bytes, and a message at most 1,048,576: `td-job --skip N --length N` takes a part of it"
+            raise Wrong(said % (name, path, len(data)))
+        more["bytes"] = data.hex()
+    if fields is not None and "length" not in fields and is_bytes(more.get("bytes", fields.get("bytes"))):
+        more["length"] = len(more.get("bytes", fields.get("bytes"))) // 2
+    if not more:
+        return job
+    opening = job.index(b"{") + 1
+    text = ",".join("%s:%s" % (json.dumps(field), json.dumps(value)) for field, value in more.items())
+    return job[:opening] + text.encode() + (b"," if fields else b"") + job[opening:]
+
+
+def program():
+    return os.environ.get("TD", os.path.join(TOP, "td"))
+
+
+def run(name, words, text, capture=True):
+    """Runs the program; its standard error is ours where `capture` is False or the output alone is captured."""
+    try:
+        return subprocess.run([program(), *words], input=text, stdout=subprocess.PIPE if capture else None, check=False)
+    except OSError:
+        raise Wrong("%s: can't start the program '%s'" % (name, program()), 127) from None
+
+
+def run_apart(name, words, text):
+    """Runs the program; both of its outputs are kept."""
+    try:
+        return subprocess.run([program(), *words], input=text, capture_output=True, check=False)
+    except OSError:
+        raise Wrong("%s: can't start the program '%s'" % (name, program()), 127) from None
+
+
+def status(code):
+    """The status of a program that a signal ended is that of a shell."""
+    return 128 - code if code < 0 else code

@@ -1,0 +1,105 @@
+"""Traces of what guests store, as lines (docs/tools.md has the format), and what of them a job can say."""
+
+import re
+
+from .running import Wrong
+
+MOST_GUESTS, MOST_STORES, MOST_POSTS, MESSAGE = 16, 65_536, 4_096, 1_048_576
+NUMBER = re.compile(r"0|[1-9][0-9]{0,18}")
+MEMORY_ORDER = re.compile(r"[0-9a-fA-F]{16}")
+AS_NUMBER = re.compile(r"0[xX][0-9a-fA-F]{1,16}")
+FORMS = "`GUEST store WORD VALUE`, `GUEST post WORD LENGTH` or `load`"
+
+
+class Step:
+    """A line of a trace: its number, its guest, its verb (`store`, `post`, `load`), the word, and the value's digits or the length."""
+
+    def __init__(self, line, guest, verb, word, value):
+        self.line, self.guest, self.verb, self.word, self.value = line, guest, verb, word, value
+
+
+def digits_of(text):
+    """The 16 digits of a value in memory order; None where it is none. `0x..` is a number, whose byte of least weight lies first."""
+    if MEMORY_ORDER.fullmatch(text):
+        return text
+    if AS_NUMBER.fullmatch(text):
+        return int(text, 16).to_bytes(8, "little").hex()
+    return None
+
+
+def step_of(words, line, wrong):
+    if words == ["load"]:
+        return Step(line, None, "load", None, None)
+    if len(words) != 4 or words[1] not in ("store", "post"):
+        raise wrong(line, "is none of %s" % FORMS)
+    guest, verb, word, value = words
+    if not NUMBER.fullmatch(guest) or not 1 <= int(guest) <= MOST_GUESTS:
+        raise wrong(line, "`%s` is no guest: they are numbered from 1 to %d" % (guest, MOST_GUESTS))
+    if not NUMBER.fullmatch(word):
+        raise wrong(line, "`%s` is no word: words of 8 bytes are numbered from 0" % word)
+    if verb == "store":
+        digits = digits_of(value)
+        if digits is None:
+            raise wrong(line, "`%s` is no value: 16 hexadecimal digits in memory order, or a number that begins with 0x" % value)
+        return Step(line, int(guest), verb, int(word), digits)
+    if not NUMBER.fullmatch(value) or int(value) > MESSAGE:
+        raise wrong(line, "`%s` is no length of a message: at most 1,048,576 bytes" % value)
+    return Step(line, int(guest), verb, int(word), int(value))
+
+
+def steps_of(name, path, data):
+    """The steps of a trace. Empty lines, and what stands behind a `#`, are left out."""
+
+    def wrong(line, words):
+        return Wrong("%s: the trace '%s', line %d: %s" % (name, path, line, words))
+
+    try:
+        text = data.decode("ascii")
+    except UnicodeDecodeError as error:
+        raise wrong(data[: error.start].count(b"\n") + 1, "a byte that isn't ASCII") from None
+    steps = []
+    for line, row in enumerate(text.split("\n"), 1):
+        words = row.split("#")[0].split()
+        if words:
+            steps.append(step_of(words, line, wrong))
+    stores = [step for step in steps if step.verb == "store"]
+    if len(stores) > MOST_STORES:
+        raise wrong(stores[MOST_STORES].line, "this is store number 65,537, and a job has at most 65,536")
+    return steps
+
+
+def stores_of(name, path, steps, words):
+    """The stores of a run job: those before the first `load` come before load 0, and so on. Which guest made them isn't said there."""
+    stores, before = [], 0
+    for step in steps:
+        if step.verb == "load":
+            before += 1
+        elif step.verb == "post":
+            said = "%s: the trace '%s', line %d: a run job has one message, and no posts: take --host, or the line out"
+            raise Wrong(said % (name, path, step.line))
+        elif step.word >= words:
+            said = "%s: the trace '%s', line %d: the message has %d words, and no word %d"
+            raise Wrong(said % (name, path, step.line, words, step.word))
+        else:
+            stores.append([before, step.word, step.value])
+    return stores
+
+
+def guests_of(name, path, steps, words):
+    """The guests of a host job, each with the script of its steps in their order."""
+    scripts = [[] for _ in range(max([step.guest or 0 for step in steps], default=0))]
+    for step in steps:
+        place = (name, path, step.line)
+        if step.verb == "load":
+            raise Wrong("%s: the trace '%s', line %d: when a host's workers load isn't said in a job: take the line out" % place)
+        count = -(-step.value // 8) if step.verb == "post" else 1
+        if step.word + count > words:
+            said = "%s: the trace '%s', line %d: the buffer has %d words, and no word %d"
+            raise Wrong(said % (*place, words, step.word + count - 1))
+        scripts[step.guest - 1].append([step.verb, step.word, step.value])
+    posts = [step for step in steps if step.verb == "post"]
+    if not posts:
+        raise Wrong("%s: the trace '%s' posts no message: a line `1 post 0 LENGTH` posts one that begins at word 0" % (name, path))
+    if len(posts) > MOST_POSTS:
+        raise Wrong("%s: the trace '%s', line %d: this is post number 4,097, and a job has at most 4,096" % (name, path, posts[MOST_POSTS].line))
+    return [{"script": script} for script in scripts]
