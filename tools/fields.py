@@ -59,14 +59,15 @@ class Fields(runs.Run):
 class Told:
     """The bytes of the message as they are shown: of a word that was loaded those of the load, else those that the job gives."""
 
-    def __init__(self, words, loaded, length):
-        self.loaded, self.length = loaded, length
-        self.bytes = b"".join(loaded.get(place, word).to_bytes(8, "little") for place, word in enumerate(words))[:length]
+    def __init__(self, layout, words, loaded):
+        self.layout, self.loaded, self.length = layout, loaded, layout.length
+        held = [loaded.get(number, words[word]) for number, (_, word) in enumerate(layout.words)]
+        self.bytes = bytes(held[number] >> 8 * byte & 255 for number, byte in map(layout.where, range(layout.length)))
 
     def state(self, is_read, start, after):
         if is_read:
             return "read"
-        whole = all(word in self.loaded for word in range(start // 8, -(-after // 8)))
+        whole = all(self.layout.where(place)[0] in self.loaded for place in range(start, after))
         return "in a loaded word" if whole else "not loaded"
 
 
@@ -97,26 +98,25 @@ def number_of(part, raw):
 
 def rows_of(known, job):
     """The rows of a run with their notes, and its report."""
-    number, arguments, cells, length, words, stores = job
-    memory = runs.Memory(words, stores)
+    number, arguments, cells, layout, words, stores = job
+    memory = runs.Memory(layout, words, stores)
     shown = Fields(known.types, memory)
     frames = []
     try:
-        verdict = "accept %d" % shown.definition(number, arguments, cells, list(range(len(cells))), 0, length)
+        verdict = "accept %d" % shown.definition(number, arguments, cells, list(range(len(cells))), 0, layout.length)
     except runs.Rejected as failed:
         verdict = "reject %s %d" % (failed.reason, failed.position)
         frames = ["frame %s.%s %d" % frame for frame in failed.frames]
     lines = [verdict] + frames
     for (name, field, _), value in zip(known.types[number].cells, cells):
         lines.append("out %s%s %d" % (name, "" if field is None else "." + field, value))
-    lines += ["load %d %016x" % load for load in memory.loaded.items()]
-    told = Told(words, memory.loaded, length)
+    told = Told(layout, words, memory.loaded)
     for row in shown.rows:
         row.note = note(row, told)
     failed = [row for row in shown.rows if row.end is None]
     if failed:
         failed[-1].note = ("%s  <-- it failed here" % failed[-1].note).strip()
-    return shown.rows, "".join(line + "\n" for line in lines)
+    return shown.rows, "".join(line + "\n" for line in lines) + memory.lines()
 
 
 def left_of(row):

@@ -8,6 +8,7 @@ NAME = r"[A-Za-z_][A-Za-z0-9_]*"
 SITE = re.compile(r"(%s)\.(%s)" % (NAME, NAME))
 CELL = re.compile(r"%s(\.%s)?" % (NAME, NAME))
 VALUE = re.compile(r"[0-9a-f]{16}")
+MOST_STRETCHES = 64
 REASONS = ("notenough", "constraint", "impossible", "listsize", "action", "padding")
 MODULE_ERROR = re.compile(r"error ([A-Z][0-9]) ([0-9]+):([0-9]+) (.+)")
 INPUT_ERROR = re.compile(r"error (Z[0-9]) (.+)")
@@ -33,14 +34,14 @@ class Lines:
     def __init__(self, lines):
         self.lines, self.at = lines, 0
 
-    def words(self, kind, count):
+    def words(self, kind, *counts):
         """The words after the kind of the next line, where it is of this kind and has so many; None where it is of another."""
         if self.at == len(self.lines) or self.lines[self.at].split(" ")[0] != kind:
             return None
         words = self.lines[self.at].split(" ")[1:]
         self.at += 1
-        if len(words) != count:
-            raise NoReport(self.at, "a line `%s` has %d words behind it" % (kind, count))
+        if len(words) not in counts:
+            raise NoReport(self.at, "a line `%s` has %s words behind it" % (kind, " or ".join(map(str, counts))))
         return words
 
     def number(self, text):
@@ -81,14 +82,26 @@ def cells_of(lines):
     return found
 
 
+def load_of(lines, words):
+    """A load: of a message of stretches with the number of the stretch."""
+    *numbers, value = words
+    numbers = [lines.number(word) for word in numbers]
+    if len(numbers) == 2 and numbers[0] >= MOST_STRETCHES:
+        lines.wrong("a message has no stretch %d: at most %d, from 0" % (numbers[0], MOST_STRETCHES))
+    if not VALUE.fullmatch(value):
+        lines.wrong("`%s` isn't 16 lower-case hexadecimal digits" % value)
+    return {**dict(zip(("stretch", "word")[-len(numbers) :], numbers)), "value": value}
+
+
 def loads_of(lines):
     found = []
-    while words := lines.words("load", 2):
-        load = {"word": lines.number(words[0]), "value": words[1]}
-        if not VALUE.fullmatch(words[1]):
-            lines.wrong("`%s` isn't 16 lower-case hexadecimal digits" % words[1])
-        if found and found[-1]["word"] >= load["word"]:
-            lines.wrong("word %d is loaded after word %d: loaded words rise" % (load["word"], found[-1]["word"]))
+    while words := lines.words("load", *((2, 3) if not found else (2 + ("stretch" in found[0]),))):
+        load = load_of(lines, words)
+        before = found[-1] if found else None
+        if before and before["word"] >= load["word"] and before.get("stretch") == load.get("stretch"):
+            lines.wrong("word %d is loaded after word %d: loaded words rise" % (load["word"], before["word"]))
+        if before and before.get("stretch", 0) > load.get("stretch", 0):
+            lines.wrong("stretch %d is loaded after stretch %d: stretches rise" % (load["stretch"], before["stretch"]))
         found.append(load)
     return found
 

@@ -49,21 +49,28 @@ def is_bytes(text):
     return isinstance(text, str) and len(text) % 2 == 0 and set(text) <= HEXADECIMAL
 
 
+def length_of(fields, content):
+    """The length of a message: that of its bytes, or of its stretches together where they can be read."""
+    stretches = fields.get("stretches")
+    is_list = isinstance(stretches, list) and all(isinstance(pair, list) and len(pair) == 2 and type(pair[1]) is int for pair in stretches)
+    return sum(size for _, size in stretches) if is_list else len(content) // 2
+
+
 def filled(name, job, data=None, path=None):
-    """The job with the bytes of a file, where there is one, and with the length of its bytes where it has none. All else stays as it is
-    written."""
+    """The job with the bytes of a file, where there is one, and with the length of its message where it has none. All else stays as it
+    is written."""
     fields, more = fields_of(job), {}
     if data is not None:
         if fields is None:
             raise Wrong("%s: the job isn't a JSON object, so the bytes of '%s' have no place in it" % (name, path))
         if "bytes" in fields:
             raise Wrong("%s: the job has `bytes` of its own, so those of '%s' have no place in it" % (name, path))
-        if len(data) > MESSAGE:
+        if len(data) > MESSAGE and "stretches" not in fields:
             said = "%s: the file '%s' has %d bytes, and a message at most 1,048,576: `td-job --skip N --length N` takes a part of it"
             raise Wrong(said % (name, path, len(data)))
         more["bytes"] = data.hex()
     if fields is not None and "length" not in fields and is_bytes(more.get("bytes", fields.get("bytes"))):
-        more["length"] = len(more.get("bytes", fields.get("bytes"))) // 2
+        more["length"] = length_of(fields, more.get("bytes", fields.get("bytes")))
     if not more:
         return job
     opening = job.index(b"{") + 1

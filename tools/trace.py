@@ -4,15 +4,17 @@ import re
 
 from .running import Wrong
 
-MOST_GUESTS, MOST_STORES, MOST_POSTS, MESSAGE = 16, 65_536, 4_096, 1_048_576
+MOST_GUESTS, MOST_STORES, MOST_POSTS, MESSAGE, MOST_STRETCHES = 16, 65_536, 4_096, 1_048_576, 64
 NUMBER = re.compile(r"0|[1-9][0-9]{0,18}")
 MEMORY_ORDER = re.compile(r"[0-9a-fA-F]{16}")
 AS_NUMBER = re.compile(r"0[xX][0-9a-fA-F]{1,16}")
-FORMS = "`GUEST store WORD VALUE`, `GUEST post WORD LENGTH` or `load`"
+STRETCH = re.compile(r"(0|[1-9][0-9]{0,18}),(0|[1-9][0-9]{0,18})")
+FORMS = "`GUEST store WORD VALUE`, `GUEST post WORD LENGTH`, `GUEST post PLACE,SIZE ..` or `load`"
 
 
 class Step:
-    """A line of a trace: its number, its guest, its verb (`store`, `post`, `load`), the word, and the value's digits or the length."""
+    """A line of a trace: its number, its guest, its verb (`store`, `post`, `load`), the word, and the value's digits or the length. Of a
+    post of stretches the word is None, and these stand in the place of the length."""
 
     def __init__(self, line, guest, verb, word, value):
         self.line, self.guest, self.verb, self.word, self.value = line, guest, verb, word, value
@@ -30,11 +32,14 @@ def digits_of(text):
 def step_of(words, line, wrong):
     if words == ["load"]:
         return Step(line, None, "load", None, None)
-    if len(words) != 4 or words[1] not in ("store", "post"):
+    is_listed = len(words) > 2 and words[1] == "post" and all(map(STRETCH.fullmatch, words[2:]))
+    if not is_listed and (len(words) != 4 or words[1] not in ("store", "post")):
         raise wrong(line, "is none of %s" % FORMS)
-    guest, verb, word, value = words
+    guest, verb, word, value = words if not is_listed else (*words[:2], None, words[2:])
     if not NUMBER.fullmatch(guest) or not 1 <= int(guest) <= MOST_GUESTS:
         raise wrong(line, "`%s` is no guest: they are numbered from 1 to %d" % (guest, MOST_GUESTS))
+    if is_listed:
+        return Step(line, int(guest), verb, None, stretches_of(value, line, wrong))
     if not NUMBER.fullmatch(word):
         raise wrong(line, "`%s` is no word: words of 8 bytes are numbered from 0" % word)
     if verb == "store":
@@ -45,6 +50,13 @@ def step_of(words, line, wrong):
     if not NUMBER.fullmatch(value) or int(value) > MESSAGE:
         raise wrong(line, "`%s` is no length of a message: at most 1,048,576 bytes" % value)
     return Step(line, int(guest), verb, int(word), int(value))
+
+
+def stretches_of(texts, line, wrong):
+    found = [[int(number) for number in STRETCH.fullmatch(text).groups()] for text in texts]
+    if len(found) > MOST_STRETCHES or sum(size for _, size in found) > MESSAGE:
+        raise wrong(line, "a message has at most %d stretches and 1,048,576 bytes" % MOST_STRETCHES)
+    return found
 
 
 def steps_of(name, path, data):
@@ -68,8 +80,9 @@ def steps_of(name, path, data):
     return steps
 
 
-def stores_of(name, path, steps, words):
-    """The stores of a run job: those before the first `load` come before load 0, and so on. Which guest made them isn't said there."""
+def stores_of(name, path, steps, words, what="the message"):
+    """The stores of a run job: those before the first `load` come before load 0, and so on. Which guest made them isn't said there.
+    `what` has so many words."""
     stores, before = [], 0
     for step in steps:
         if step.verb == "load":
@@ -78,8 +91,8 @@ def stores_of(name, path, steps, words):
             said = "%s: the trace '%s', line %d: a run job has one message, and no posts: take --host, or the line out"
             raise Wrong(said % (name, path, step.line))
         elif step.word >= words:
-            said = "%s: the trace '%s', line %d: the message has %d words, and no word %d"
-            raise Wrong(said % (name, path, step.line, words, step.word))
+            said = "%s: the trace '%s', line %d: %s has %d words, and no word %d"
+            raise Wrong(said % (name, path, step.line, what, words, step.word))
         else:
             stores.append([before, step.word, step.value])
     return stores
@@ -92,6 +105,12 @@ def guests_of(name, path, steps, words):
         place = (name, path, step.line)
         if step.verb == "load":
             raise Wrong("%s: the trace '%s', line %d: when a host's workers load isn't said in a job: take the line out" % place)
+        if step.word is None:
+            past = [stretch for stretch in step.value if sum(stretch) > 8 * words]
+            if past:
+                raise Wrong("%s: the trace '%s', line %d: the buffer has %d bytes, and `%d,%d` passes them" % (*place, 8 * words, *past[0]))
+            scripts[step.guest - 1].append([step.verb, step.value])
+            continue
         count = -(-step.value // 8) if step.verb == "post" else 1
         if step.word + count > words:
             said = "%s: the trace '%s', line %d: the buffer has %d words, and no word %d"

@@ -272,6 +272,27 @@ class Maker:
         text = self.digits(16) if self.chance(0.5) else self.content(8)[:16]
         return [self.pick([0, 0, 1, 1, 2, 3, 2**64 - 1]), word, text if self.chance(0.99) else text[1:]]
 
+    def cut(self, length):
+        """The length in pieces, of which some are empty."""
+        count = self.pick([1, 2, 2, 3, 3, 4, 6]) if length else self.pick([0, 1, 2])
+        places = sorted(self.pick([0, length, self.random.randrange(length + 1)]) for _ in range(count - 1))
+        return [after - before for before, after in zip([0, *places], [*places, length])] if count else []
+
+    def stretches(self, length, given):
+        """Stretches of a message of this length in so many bytes: in any order, of any alignment, some over each other."""
+        sizes = self.cut(length)
+        ends = given if self.chance(0.97) else given + 2
+        found = [[self.random.randrange(max(0, ends - size) + 1), size] for size in sizes]
+        if self.chance(0.3):
+            # The pieces of a message that lies in one piece.
+            found = [[sum(sizes[:number]), size] for number, size in enumerate(sizes)]
+        if self.chance(0.02):
+            found += [[self.pick([0, given]), 0]] * (self.pick([63, 64, 65]) - len(found))
+        if found and self.chance(0.02):
+            number = self.random.randrange(len(found))
+            found[number] = self.pick([[], found[number][:1], found[number] + [0], [found[number][0], 2**64], [2**64 - 1, 0], None, 7, "00"])
+        return found
+
     def job(self):
         entry = self.pick(self.entries) if self.entries and self.chance(0.97) else self.pick(["Q", "", "p"])
         count = self.pick([0, 1, 2, 3, 4, 7, 8, 9, 10, 15, 16, 17, 20, 24, 31, 33, 48, 64])
@@ -282,12 +303,17 @@ class Maker:
             job["args"] = [self.pick([0, 1, 2, 3, 5, 100, 255] + [256, 2**64] * self.chance(0.05)) for _ in values]
         if self.chance(0.1):
             job["cells"] = [self.pick([0, 1, 7, 300])] * self.pick([0, 1, 2])
+        words = -(-length // 8)
+        if self.chance(0.3):
+            job["stretches"] = self.stretches(length, count)
+            job["length"] += self.pick([1, 2**32]) * self.chance(0.02)
+            words = -(-count // 8)
         if self.chance(0.5):
-            job["stores"] = [self.store(-(-length // 8)) for _ in range(self.random.randrange(6))]
+            job["stores"] = [self.store(words) for _ in range(self.random.randrange(6))]
         if self.chance(0.02):
             del job[self.pick(sorted(job))]
         if self.chance(0.03):
-            name = self.pick(["bytes", "length", "entry", "stores", "args", "cells", "zz", "A", "é", ""])
+            name = self.pick(["bytes", "length", "entry", "stretches", "stores", "args", "cells", "zz", "A", "é", ""])
             job[name] = self.pick(OTHER_VALUES)
         if self.chance(0.03):
             job["length"] = self.pick([count + 1, 2**32 + count, 2**64 - 1, count])
@@ -296,6 +322,13 @@ class Maker:
             place = self.random.randrange(len(text))
             text = text[:place] + self.pick(["", "}", '"', ",", "[", " ", "x", "\n"]) + text[place + 1 :]
         return text
+
+    def post_list(self, length, given):
+        """Stretches of a post; nearly always within the buffer."""
+        found = self.stretches(min(length, given), given)
+        if self.chance(0.9):
+            found = [stretch for stretch in found if isinstance(stretch, list) and len(stretch) == 2 and sum(stretch) <= given][:64]
+        return found
 
     def script(self, words):
         """Stores to a few words of the buffer, and messages in it, of which many overlap."""
@@ -309,9 +342,9 @@ class Maker:
                 base = self.random.randrange(words + 1)
                 length = max(0, self.pick([8 * (words - base), 8 * (words - base), 24, 16, 9, 8, 4, 2, 1, 0]) - self.pick([0, 0, 1, 5]))
                 length = min(length, 8 * (words - base)) if self.chance(0.998) else length + self.pick([1, 8, 2**32, 2**63])
-                steps.append(["post", base, length])
+                steps.append(["post", base, length] if self.chance(0.7) else ["post", self.post_list(length, 8 * words)])
             if self.chance(0.002):
-                steps[-1] = self.pick([steps[-1][:2], steps[-1] + [0], ["stor", 0, "0" * 16], ["post", 0, "0"], "post", [0, 0, 0], {}])
+                steps[-1] = self.pick([steps[-1][:2], steps[-1] + [0], ["stor", 0, "0" * 16], ["post", 0, "0"], "post", [0, 0, 0], {}, ["post", [0]], ["post", {}]])
         return steps
 
     def host_job(self, most):

@@ -14,13 +14,37 @@ def planned(half):
     return stores, values
 
 
+def stores_of(stores):
+    return ",".join('[%d,%d,"%s"]' % (load, word, value.to_bytes(8, "little").hex()) for load, word, value in stores)
+
+
+def message_of(bytes_of_message):
+    return "typedef struct _E { UINT64 x { true }; } E; entrypoint typedef struct _P { E e[:byte-size %d]; } P;" % bytes_of_message
+
+
+def stretches_input(words, times):
+    """A message that is a memory of so many words, so many times over, all of which are loaded, while before each second load others store
+    to a word; and the report."""
+    loads = words * times
+    stores, memory, report = [], [0] * words, "accept %d\n" % (8 * loads)
+    for load in range(loads):
+        if load % 2 == 0:
+            stores.append((load, 7 * (load // 2) % words, load // 2 + 1))
+            memory[stores[-1][1]] = stores[-1][2]
+        report += "load %d %d %016x\n" % (load // words, load % words, memory[load % words])
+    stretches = ",".join(["[0,%d]" % (8 * words)] * times)
+    given = 8 * loads, "00" * (8 * words), stretches, stores_of(stores)
+    job = '{"entry":"P","length":%d,"bytes":"%s","stretches":[%s],"stores":[%s]}' % given
+    return ("%s\n%%%%\n%s\n" % (message_of(8 * loads), job)).encode(), report
+
+
 def plan_input(half):
     """A message whose words all are loaded while others store by such a plan, which isn't given in its order; and the report."""
     stores, values = planned(half)
     given = [stores[m * 40_501 % half] for m in range(half)]
-    listed = ",".join('[%d,%d,"%s"]' % (load, word, value.to_bytes(8, "little").hex()) for load, word, value in given)
+    listed = stores_of(given)
     content = b"".join(word.to_bytes(8, "little") for word in range(2 * half)).hex()
-    module = "typedef struct _E { UINT64 x { true }; } E; entrypoint typedef struct _P { E e[:byte-size %d]; } P;" % (16 * half)
+    module = message_of(16 * half)
     job = '{"entry":"P","length":%d,"bytes":"%s","stores":[%s]}' % (16 * half, content, listed)
     report = "accept %d\n" % (16 * half) + "".join("load %d %016x\n" % load for load in enumerate(values))
     return ("%s\n%%%%\n%s\n" % (module, job)).encode(), report

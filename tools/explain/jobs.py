@@ -11,7 +11,7 @@ from reference.jobs import HEXADECIMAL
 from ..places import escaped, place_of
 
 MESSAGE = 1_048_576
-RUN_FIELDS = ("entry", "args", "cells", "bytes", "length", "stores")
+RUN_FIELDS = ("entry", "args", "cells", "bytes", "length", "stretches", "stores")
 HOST_FIELDS = ("entry", "args", "buffer", "workers", "guests")
 GUEST_FIELDS = ("script",)
 # The form of each field, and an example.
@@ -23,6 +23,8 @@ FORMS = {
     "cells[i]": ("a whole number below 2^64 in digits alone: no quotes, sign, point or exponent", '"cells":[0,0]'),
     "bytes": ("a text of hexadecimal digits", '"bytes":"01000003"'),
     "length": ("a whole number of bytes, in digits alone", '"length":4'),
+    "stretches": ("a list of up to 64 stretches; it may be left out", '"stretches":[[3,2],[0,2]]'),
+    "stretches[i]": ("a list of two whole numbers, [place, size], both in bytes of `bytes`", "[3,2]"),
     "stores": ("a list; it may be left out", '"stores":[[1,0,"0100000400000000"]]'),
     "stores[i]": ("a list of two whole numbers and a text, [before, word, text]", '[1,0,"0100000400000000"]'),
     "buffer": ("a text of hexadecimal digits", '"buffer":"0100000300000000"'),
@@ -30,7 +32,7 @@ FORMS = {
     "guests": ("a list of 1 to 16 objects", '"guests":[{"script":[["post",0,4]]}]'),
     "guests[i]": ("an object with the field `script` alone", '{"script":[["post",0,4]]}'),
     "guests[i].script": ("a list of steps", '"script":[["store",0,"0100000300000000"],["post",0,4]]'),
-    "guests[i].script[i]": ('`["store", word, text]` or `["post", base, length]`', '["post",0,4]'),
+    "guests[i].script[i]": ('`["store", word, text]`, `["post", base, length]` or `["post", list]`, a list of `[place, size]`', '["post",0,4]'),
 }
 STEP = re.compile(r"\[(\d+)\]|([^.\[\]]+)")
 
@@ -217,21 +219,55 @@ def no_digits(job, path):
     return lines + ["mend: write each byte as two digits: `xxd -p FILE | tr -d '\\n'` prints a file so, and `td-run --bytes FILE` takes it as it is."]
 
 
+def bytes_with_words(job, is_host):
+    """How many bytes have the words that may be stored to, None where that can't be told; and whose they are."""
+    field = "buffer" if is_host else "bytes" if "stretches" in job.value else None
+    if field is None:
+        return job.value.get("length"), "the message"
+    text = job.value.get(field)
+    return len(text) // 2 if isinstance(text, str) else None, "the buffer" if is_host else "the text of `bytes`"
+
+
 def no_word(job, path):
     lines = ["The store of `%s` is to a word that isn't there. Words are numbered from 0, and have 8 bytes." % path]
     if isinstance(job.value, dict):
-        is_host = path.startswith("guests")
-        length = job.value.get("length") if not is_host else len(job.value.get("buffer", "")) // 2
+        length, what = bytes_with_words(job, path.startswith("guests"))
         there, store = at_path(job.value, path)
         if isinstance(length, int) and there and isinstance(store, list) and len(store) == 3:
             words = -(-length // 8)
-            what = "the buffer" if is_host else "the message"
             lines.append("The store is to word %s; %s of %d bytes has %s." % (store[1], what, length, "words 0 to %d" % (words - 1) if words else "none"))
             return lines + ["mend: store to a word below %d, or make %s longer." % (words, what) if words else "mend: make %s longer, or take the store out." % what]
-    return lines + ["mend: store to a word below the length / 8, rounded up; `bytes` past the message's `length` don't count."]
+    return lines + ["mend: store to a word below the length / 8, rounded up; `bytes` past the message's `length` don't count. Beside `stretches` all of `bytes` does."]
+
+
+def numbers_of(value):
+    """The stretches of a list; None where it isn't one of pairs of numbers."""
+    is_list = isinstance(value, list) and all(isinstance(pair, list) and len(pair) == 2 and all(type(k) is int for k in pair) for pair in value)
+    return value if is_list else None
+
+
+def past_stretches(job, path):
+    """A stretch that passes the bytes given, or sizes that have another sum."""
+    value = job.value if isinstance(job.value, dict) else {}
+    given = len(value["bytes"]) // 2 if isinstance(value.get("bytes"), str) else None
+    if path != "stretches":
+        lines = ["The stretch passes the bytes that are given: its place and its size together are at most their number, also where it is empty."]
+        there, stretch = at_path(value, path)
+        if there and numbers_of([stretch]) and given is not None:
+            lines.append("It begins at byte %d and has %d bytes, so it ends at byte %d; `bytes` has %d." % (*stretch, sum(stretch), given))
+        return lines + ["mend: give more bytes, or a smaller stretch: each is `[place, size]`, both counted in bytes."]
+    lines = ["The sizes of the stretches don't add up to `length`."]
+    stretches = numbers_of(value.get("stretches"))
+    if stretches is not None:
+        total = sum(size for _, size in stretches)
+        lines.append("They have %d bytes together, and `length` is %s." % (total, shown(value.get("length"))))
+        return lines + ['mend: write `"length":%d`; `td-run` fills it in where it is left out.' % total]
+    return lines + ["mend: write the length that they have together."]
 
 
 def too_long(job, path):
+    if path.startswith("stretches"):
+        return past_stretches(job, path)
     if path == "length":
         lines = ["The message is longer than the bytes that are given."]
         if isinstance(job.value, dict) and isinstance(job.value.get("bytes"), str):
@@ -244,24 +280,31 @@ def too_long(job, path):
     if there and isinstance(job.value.get("buffer"), str) and isinstance(step, list) and len(step) == 3:
         words = -(-(len(job.value["buffer"]) // 2) // 8)
         lines.append("It begins at word %s and has %s bytes; the buffer has %d words, %d bytes." % (step[1], step[2], words, 8 * words))
+    if there and isinstance(job.value.get("buffer"), str) and isinstance(step, list) and len(step) == 2 and numbers_of(step[1]):
+        most = 8 * -(-(len(job.value["buffer"]) // 2) // 8)
+        past = next(([number, *pair] for number, pair in enumerate(step[1]) if sum(pair) > most), None)
+        if past:
+            lines.append("Stretch %d of it, from 0, begins at byte %d and has %d bytes; the buffer has %d." % (*past, most))
+            return lines + ["mend: post shorter stretches, from lower places, or make the buffer longer: each is `[place, size]`, in bytes."]
     return lines + ["mend: post fewer bytes, from a lower word, or make the buffer longer: base and length are `[\"post\", word, bytes]`."]
 
 
 def past_a_limit(job, path):
     limits = {
         "length": ("A message has at most 1,048,576 bytes.", "validate the messages of a buffer one by one."),
+        "stretches": ("A message has at most 64 stretches, empty ones too.", "take the empty ones out, and join those that lie behind each other."),
         "stores": ("A job has at most 65,536 stores, a host job as many of all its guests.", "give several jobs."),
         "workers": ("A host job has 1 to 16 workers.", 'write `"workers":2`.'),
         "guests": ("A host job has 1 to 16 guests.", 'write at least one: `"guests":[{"script":[["post",0,4]]}]`.'),
         "posts": ("All guests post at most 4,096 messages.", "give several jobs."),
         "words": ("All messages that are posted have at most 1,048,576 words, each counted as often as it is posted.", "give several jobs."),
     }
-    said, mend = limits.get(path, ("A message that is posted has at most 1,048,576 bytes.", "post it in parts, each validated alone."))
+    said, mend = limits.get(path, ("A message that is posted has at most 1,048,576 bytes, and 64 stretches.", "post it in parts, each validated alone."))
     lines = [said]
     if isinstance(job.value, dict):
         there, value = at_path(job.value, path)
         if there:
-            lines.append("The job has %s." % (len(value) if isinstance(value, list) and path in ("stores", "guests") else shown(value)))
+            lines.append("The job has %s." % (len(value) if isinstance(value, list) and path in ("stretches", "stores", "guests") else shown(value)))
     return lines + ["mend: " + mend]
 
 
@@ -285,8 +328,8 @@ PATHS = {
     "J4": r"(args|cells)(\[\d{1,5}\])?",
     "J5": r"bytes|buffer|stores\[\d{1,5}\]|" + STEP_PATH,
     "J6": r"stores\[\d{1,5}\]|" + STEP_PATH,
-    "J7": "length|" + STEP_PATH,
-    "J8": "length|stores|workers|guests|posts|words|" + STEP_PATH,
+    "J7": r"length|stretches(\[\d{1,5}\])?|" + STEP_PATH,
+    "J8": "length|stretches|stores|workers|guests|posts|words|" + STEP_PATH,
 }
 BY_CODE = {"J2": field_wrong, "J4": wrong_values, "J5": no_digits, "J6": no_word, "J7": too_long, "J8": past_a_limit}
 

@@ -4,6 +4,7 @@ import sys
 import threading
 
 from .errors import JobError, ModuleError
+from .hosts import Wrong, host_job_of, judge
 from .jobs import job_of
 from .rules import elaborated
 from .runs import Memory, run
@@ -27,12 +28,12 @@ def module_of(text):
 
 
 def report_of(known, job):
-    number, arguments, cells, length, words, stores = job
-    memory = Memory(words, stores)
-    lines = run(known.types, number, arguments, cells, length, memory)
+    number, arguments, cells, layout, words, stores = job
+    memory = Memory(layout, words, stores)
+    lines = run(known.types, number, arguments, cells, memory)
     for (name, field, _), value in zip(known.types[number].cells, cells):
         lines += "out %s%s %d\n" % (name, "" if field is None else "." + field, value)
-    return lines + "".join("load %d %016x\n" % load for load in memory.loaded.items())
+    return lines + memory.lines()
 
 
 def parts_of(text):
@@ -62,19 +63,37 @@ def checked(text):
     return 0, b"ok definitions %d entries %d\n" % (len(trees), len(known.entries)), b""
 
 
-def reported(text):
+def of_input(text, answered):
+    """What is answered to the module and the job of an input, or what refuses it."""
     parts = parts_of(text)
     if parts is None:
         return 1, b"", b"error Z2 no job\n"
     try:
         known = module_of(parts[0])[1]
-        report = report_of(known, job_of(parts[1], known))
+        return answered(known, parts[1])
     except ModuleError as error:
         return refusal(parts[0], error)
     except JobError as error:
         line = " ".join(["error", error.code] + [error.path] * (error.path != ""))
         return 1, b"", line.encode() + b"\n"
-    return 0, report.encode(), b""
+
+
+def reported(text):
+    return of_input(text, lambda known, job: (0, report_of(known, job_of(job, known)).encode(), b""))
+
+
+def hosted(text, report):
+    """Whether a report can be what `td host` writes: the status 0, and else 3 with what is wrong; or what refuses the input."""
+
+    def judged(known, job):
+        job = host_job_of(job, known)
+        try:
+            judge(known, job, report.decode())
+        except Wrong as wrong:
+            return 3, b"", b"%s\n" % str(wrong).encode()
+        return 0, b"", b""
+
+    return of_input(text, judged)
 
 
 def answer(text, command="run"):

@@ -8,11 +8,13 @@ from .jobs import (
     check_names,
     entry_of,
     is_digits,
+    is_stretch,
     is_whole,
     object_of,
     require,
     words_of,
 )
+from .layouts import STRETCHES_LIMIT, Layout, at_word
 from .runs import Memory, run
 
 FIELDS = {"entry", "args", "buffer", "workers", "guests"}
@@ -24,30 +26,66 @@ WORDS_LIMIT = 1_048_576
 
 class HostJob:
     """An entry point's type, its arguments, the words of the buffer, the number of workers, and the guests' scripts: lists
-    of `("store", word, value)` and `("post", base, length)`."""
+    of `("store", word, value)` and `("post", layout)`."""
 
     def __init__(self, entry, arguments, words, workers, scripts):
         self.entry, self.arguments, self.words, self.workers, self.scripts = entry, arguments, words, workers, scripts
 
     def posts(self):
-        """The guest, the number, the first word and the length of each post, in the order of a report."""
+        """The guest, the number, the layout, and how many stores the guest made before it, of each post in the order of a report."""
         for guest, script in enumerate(self.scripts, 1):
-            messages = [step[1:] for step in script if step[0] == "post"]
-            for number, (base, length) in enumerate(messages, 1):
-                yield guest, number, base, length
+            number, made = 0, 0
+            for step in script:
+                if step[0] == "store":
+                    made += 1
+                else:
+                    number += 1
+                    yield guest, number, step[1], made
 
-    def values_of(self, word):
-        """What can be loaded of a word of the buffer."""
-        stores = [step for script in self.scripts for step in script if step[0] == "store"]
-        return {self.words[word]} | {value for _, at, value in stores if at == word}
+    def values_of(self, word, made):
+        """What a load of a word of the buffer may give where each guest has made at least so many stores: events, each a value, the guest
+        that stores it and its number among the guest's stores; the opening value's guest is 0."""
+        opening, found = [(self.words[word], 0, 0)], []
+        for guest, script in enumerate(self.scripts, 1):
+            stores = [step for step in script if step[0] == "store"]
+            events = [(value, guest, at) for at, (_, to, value) in enumerate(stores, 1) if to == word]
+            # Of a guest's stores that were made the last one alone can still stand, and the opening value can't.
+            over = [at for _, _, at in events if at <= made.get(guest, 0)]
+            opening = [] if over else opening
+            found += [event for event in events if not over or event[2] >= over[-1]]
+        return opening + found
 
 
-def words_in(length):
-    return -(-length // 8)
+def stands_in_turn(events, values):
+    """Whether loads of one word, one after the other, may give these values: in some order of all scripts' steps."""
+
+    def follows(done, last, left):
+        if not left:
+            return True
+        for event in events:
+            value, guest, at = event
+            # What stands there still; else a store that comes later, by its guest's script. The opening word comes first alone.
+            is_later = last is None or (guest and at > done.get(guest, 0))
+            if value == left[0] and (event == last or is_later) and follows({**done, guest: at}, event, left[1:]):
+                return True
+        return False
+
+    return follows({}, None, values)
+
+
+def scatter_of(stretches, path, words):
+    require(isinstance(stretches, list) and all(map(is_stretch, stretches)), "J2", path)
+    require(all(sum(stretch) <= 8 * words for stretch in stretches), "J7", path)
+    require(len(stretches) <= STRETCHES_LIMIT, "J8", path)
+    require(sum(size for _, size in stretches) <= MESSAGE_LIMIT, "J8", path)
+    return Layout(stretches)
 
 
 def step_of(step, path, words):
-    require(isinstance(step, list) and len(step) == 3, "J2", path)
+    require(isinstance(step, list) and len(step) in (2, 3), "J2", path)
+    if len(step) == 2:
+        require(step[0] == "post", "J2", path)
+        return "post", scatter_of(step[1], path, words)
     verb, first, second = step
     if verb == "store":
         require(is_whole(first) and isinstance(second, str), "J2", path)
@@ -55,9 +93,9 @@ def step_of(step, path, words):
         require(first < words, "J6", path)
         return verb, first, int.from_bytes(bytes.fromhex(second), "little")
     require(verb == "post" and is_whole(first) and is_whole(second), "J2", path)
-    require(first + words_in(second) <= words, "J7", path)
+    require(first + -(-second // 8) <= words, "J7", path)
     require(second <= MESSAGE_LIMIT, "J8", path)
-    return verb, first, second
+    return verb, at_word(first, second)
 
 
 def script_of(guest, path, words):
@@ -86,7 +124,7 @@ def host_job_of(text, known):
     posts = [step for step in steps if step[0] == "post"]
     require(len(posts) <= POSTS_LIMIT, "J8", "posts")
     require(len(steps) - len(posts) <= STORES_LIMIT, "J8", "stores")
-    require(sum(words_in(length) for _, _, length in posts) <= WORDS_LIMIT, "J8", "words")
+    require(sum(len(layout.words) for _, layout in posts) <= WORDS_LIMIT, "J8", "words")
     return HostJob(entry, arguments, words, workers, scripts)
 
 
@@ -97,13 +135,14 @@ class Wrong(Exception):
 class Told(Memory):
     """A message of which only the loads that a report tells are known."""
 
-    def __init__(self, loads):
-        super().__init__(dict(loads), [])
+    def __init__(self, layout, loads):
+        super().__init__(layout, [], [])
+        self.told = dict(loads)
 
-    def load(self, place):
-        if place not in self.words:
-            raise Wrong("word %d is read, but wasn't loaded" % place)
-        return super().load(place)
+    def load(self, number):
+        if number not in self.told:
+            raise Wrong("message word %d is read, but wasn't loaded" % number)
+        return self.loaded.setdefault(number, self.told[number])
 
 
 def replies_of(report):
@@ -120,37 +159,56 @@ def replies_of(report):
     return replies
 
 
-def loads_of(lines):
-    loads = [line.split() for line in lines if line.startswith("load ")]
-    return [(int(word), int(value, 16)) for _, word, value in loads]
+def loads_of(layout, lines):
+    """The loads that lines tell of a message of this layout: the number of the message word, None where it has no such word, and
+    the value."""
+    loads = [line.split()[1:] for line in lines if line.startswith("load ")]
+    return [(layout.number_of([int(word) for word in words]), int(value, 16)) for *words, value in loads]
 
 
-def run_lines(known, job, length, loads):
+def run_lines(known, job, layout, loads):
     """The lines of the run's report of a message that carries these loads."""
     cells = [0] * len(known.types[job.entry].cells)
-    memory = Told(loads)
-    lines = run(known.types, job.entry, job.arguments, cells, length, memory)
+    memory = Told(layout, loads)
+    lines = run(known.types, job.entry, job.arguments, cells, memory)
     for (name, field, _), value in zip(known.types[job.entry].cells, cells):
         lines += "out %s%s %d\n" % (name, "" if field is None else "." + field, value)
-    return lines + "".join("load %d %016x\n" % (word, memory.loaded[word]) for word, _ in loads if word in memory.loaded)
+    return lines + memory.lines()
+
+
+def judge_loads(job, guest, made, layout, loads):
+    """Whether the loads for a post that the guest made after so many stores fit an order of all stores, as far as is told by one load
+    after the other: who loads what a guest stored finds the guest's stores before it made, and so from there on."""
+    numbers = [number for number, _ in loads]
+    if None in numbers or numbers != sorted(set(numbers)):
+        raise Wrong("the loaded words don't rise within the message")
+    given, least = {}, {guest: made}
+    for number, value in loads:
+        word = layout.buffer_word(number)
+        events = [event for event in job.values_of(word, least) if event[0] == value]
+        if not events:
+            raise Wrong("%016x can't stand in word %d then" % (value, word))
+        by = events[0][1]
+        if by and all(event[1] == by for event in events):
+            least[by] = max(least.get(by, 0), min(at for _, _, at in events))
+        given.setdefault(word, []).append(value)
+    for word, values in given.items():
+        if len(values) > 1 and not stands_in_turn(job.values_of(word, {guest: made}), values):
+            raise Wrong("no order of the stores has %s in word %d, one after the other" % (", ".join("%016x" % value for value in values), word))
 
 
 def judge(known, job, report):
-    """Raises `Wrong` where this can't be the report of the job: another reply than one for each post, a load of what never
-    stood in its word, words that don't rise, or another run than that of a message that carries the loads."""
+    """Raises `Wrong` where this can't be the report of the job: another reply than one for each post, a load of what can't stand in its
+    word then, words that don't rise, loads of one word that fit no order of the stores, or another run than that of a message that
+    carries the loads."""
     posts, replies = list(job.posts()), replies_of(report)
     if [name for name, _ in replies] != [(guest, number) for guest, number, _, _ in posts]:
         raise Wrong("the replies aren't the posts'")
-    for (guest, number, base, length), (_, lines) in zip(posts, replies):
-        name, loads = "reply %d %d: " % (guest, number), loads_of(lines)
-        words = [word for word, _ in loads]
-        if words != sorted(set(words)) or any(word >= words_in(length) for word in words):
-            raise Wrong(name + "the loaded words don't rise within the message")
-        for word, value in loads:
-            if value not in job.values_of(base + word):
-                raise Wrong(name + "%016x never stood in word %d" % (value, base + word))
+    for (guest, number, layout, made), (_, lines) in zip(posts, replies):
+        name, loads = "reply %d %d: " % (guest, number), loads_of(layout, lines)
         try:
-            wanted = run_lines(known, job, length, loads)
+            judge_loads(job, guest, made, layout, loads)
+            wanted = run_lines(known, job, layout, loads)
         except Wrong as wrong:
             raise Wrong(name + str(wrong)) from None
         if "".join(lines) != wanted:

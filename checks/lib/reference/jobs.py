@@ -1,13 +1,15 @@
 """Jobs: which fields, in which order, and what each must be."""
 
 import json
+import math
 
 from .errors import JobError
+from .layouts import STRETCHES_LIMIT, Layout, plain
 
 HEXADECIMAL = set("0123456789abcdefABCDEF")
 MESSAGE_LIMIT = 1_048_576
 STORES_LIMIT = 65_536
-FIELDS = {"entry", "args", "cells", "bytes", "length", "stores"}
+FIELDS = {"entry", "args", "cells", "bytes", "length", "stretches", "stores"}
 
 
 def is_whole(value):
@@ -19,8 +21,16 @@ def is_digits(text, count=None):
     return even and set(text) <= HEXADECIMAL
 
 
+def finite(spelling):
+    """A number with a sign, a point or an exponent, or of 2^64 and more: one past the range of doubles is no JSON to `serde_json`."""
+    value = float(spelling)
+    if math.isinf(value):
+        raise ValueError
+    return value
+
+
 def whole_or_float(spelling):
-    return float(spelling) if spelling.startswith("-") or int(spelling) >= 2**64 else int(spelling)
+    return finite(spelling) if spelling.startswith("-") or int(spelling) >= 2**64 else int(spelling)
 
 
 def refuse_constant(_):
@@ -61,7 +71,7 @@ def stores_of(job, words):
 def object_of(text):
     """The fields of a job; none where it is another value than an object."""
     try:
-        job = json.loads(text.decode("utf-8"), parse_int=whole_or_float, parse_constant=refuse_constant)
+        job = json.loads(text.decode("utf-8"), parse_int=whole_or_float, parse_float=finite, parse_constant=refuse_constant)
     except ValueError:
         raise JobError("J1", "job") from None
     return job if isinstance(job, dict) else {}
@@ -92,23 +102,49 @@ def words_of(memory):
     return [int.from_bytes(memory[i : i + 8], "little") for i in range(0, len(memory), 8)]
 
 
+def is_stretch(value):
+    return isinstance(value, list) and len(value) == 2 and all(map(is_whole, value))
+
+
+def stretches_of(job, given, length):
+    """The stretches of a message of this length in so many bytes."""
+    stretches = job["stretches"]
+    require(isinstance(stretches, list), "J2", "stretches")
+    require(len(stretches) <= STRETCHES_LIMIT, "J8", "stretches")
+    for index, stretch in enumerate(stretches):
+        path = "stretches[%d]" % index
+        require(is_stretch(stretch), "J2", path)
+        require(sum(stretch) <= given, "J7", path)
+    require(sum(size for _, size in stretches) == length, "J7", "stretches")
+    return Layout(stretches)
+
+
+def layout_of(job, given):
+    """The message in so many bytes, and how many of their words may be stored to."""
+    length, is_listed = job.get("length"), "stretches" in job
+    require(is_whole(length), "J2", "length")
+    require(is_listed or length <= given, "J7", "length")
+    require(length <= MESSAGE_LIMIT, "J8", "length")
+    if is_listed:
+        return stretches_of(job, given, length), -(-given // 8)
+    layout = plain(length)
+    return layout, len(layout.words)
+
+
 def check_names(value, fields, path="%s"):
     others = sorted(set(value) - fields, key=str.encode)
     require(not others, "J2", path % others[0] if others else "")
 
 
 def job_of(text, known):
-    """The entry point's type, its arguments and cells, the message's length, the words of memory, and the stores."""
+    """The entry point's type, its arguments and cells, the message's layout, the words of memory, and the stores."""
     job = object_of(text)
     entry = entry_of(job, known)
     made = known.types[entry]
     arguments = arguments_of(job, made)
     cells = numbers_of(job, "cells", [2 ** (bits or 32) for _, _, bits in made.cells], True)
     memory = bytes_of(job, "bytes")
-    length = job.get("length")
-    require(is_whole(length), "J2", "length")
-    require(length <= len(memory), "J7", "length")
-    require(length <= MESSAGE_LIMIT, "J8", "length")
-    stores = stores_of(job, -(-length // 8))
+    layout, words = layout_of(job, len(memory))
+    stores = stores_of(job, words)
     check_names(job, FIELDS)
-    return entry, arguments, cells, length, words_of(memory), stores
+    return entry, arguments, cells, layout, words_of(memory), stores

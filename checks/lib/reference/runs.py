@@ -7,20 +7,26 @@ from .values import value_of
 
 
 class Memory:
-    """Words to which others store by a plan, and the loads made."""
+    """A message in words to which others store by a plan, and the loads made of it, by the number of the message word."""
 
-    def __init__(self, words, stores):
-        self.words, self.stores, self.loaded = words, stores, {}
+    def __init__(self, layout, words, stores):
+        self.layout, self.words, self.stores, self.loaded = layout, words, stores, {}
 
-    def load(self, place):
-        if place not in self.loaded:
-            due = [s for s in self.stores if s[0] <= len(self.loaded) and s[1] == place]
+    def load(self, number):
+        if number not in self.loaded:
+            word = self.layout.buffer_word(number)
+            due = [s for s in self.stores if s[0] <= len(self.loaded) and s[1] == word]
             due.sort(key=lambda s: s[0])
-            self.loaded[place] = due[-1][2] if due else self.words[place]
-        return self.loaded[place]
+            self.loaded[number] = due[-1][2] if due else self.words[word]
+        return self.loaded[number]
 
     def byte(self, place):
-        return self.load(place // 8) >> 8 * (place % 8) & 255
+        number, byte = self.layout.where(place)
+        return self.load(number) >> 8 * byte & 255
+
+    def lines(self):
+        """The lines of the loads, in their order."""
+        return "".join(self.layout.load_line(*load) for load in self.loaded.items())
 
     def number(self, place, base):
         width, is_big = NUMBER_TYPES[base]
@@ -100,13 +106,13 @@ class Run:
 
     def field(self, field, later, level, values, cells, places, start, end):
         element, (form, size) = field.element, field.extent
-        own = range(level, level + len(field.parts))
         number, position = None, start
         if form == "once" and element.kind in ("number", "enum"):
             width = bits_of(element.base) // 8
             if start + width > end:
                 fails("notenough")
-            read = element.kind == "enum" or any(part.refinement is not None for part in field.parts) or any(k in later for k in own)
+            is_named = any(level + number in names for number, names in enumerate(later))
+            read = is_named or element.kind == "enum" or any(part.refinement is not None for part in field.parts)
             number = self.memory.number(start, element.base) if read else None
             if element.kind == "enum" and number not in element.values:
                 fails("constraint")
@@ -210,22 +216,24 @@ class Run:
 
 
 def later_levels(fields):
-    """For each field the levels that its own action and later fields name."""
+    """For each part of each field the levels that its own action, later parts and later fields name. The part's position has the
+    level behind it in its own action, which is that of the next part."""
     found, later = [], set()
     for field in reversed(fields):
+        parts = []
         for part in reversed(field.parts):
             later = later | block_levels(part.action)
-        found.append(later)
-        later = later | field_levels(field)
-        for part in field.parts:
+            parts.append(later)
             later = later | levels_in(part.refinement)
+        found.append(parts[::-1])
+        later = later | field_levels(field)
     return found[::-1]
 
 
-def run(types, number, values, cells, length, memory):
+def run(types, number, values, cells, memory):
     """The verdict's line and the frames' lines; `cells` are left as actions wrote them."""
     try:
-        position = Run(types, memory).definition(number, values, cells, list(range(len(cells))), 0, length)
+        position = Run(types, memory).definition(number, values, cells, list(range(len(cells))), 0, memory.layout.length)
     except Rejected as failed:
         position = failed.position
         frames = "".join("frame %s.%s %d\n" % frame for frame in failed.frames)

@@ -17,8 +17,7 @@ use Rattle.td_posts.specs.declared.job.Step.TheVariants as step
 use Rattle.td_posts.specs.declared.mail.Mail.{Mail}
 use Rattle.td_posts.specs.declared.reply.Reply.{Reply}
 use Rattle.td_posts.specs.declared.job.HostJob.{HostJob}
-use Rattle.td_posts.specs.Posts.{mails_of, all_mails, mail_named, zeros, reply_name}
-use Rattle.td_posts.specs.Posts.{layout_of}
+use Rattle.td_posts.specs.Posts.{mails_of, all_mails, mail_named, list_of, layout_of, zeros, reply_name}
 use Rattle.td_ir.specs.declared.tables.Parts.{Parts}
 use Rattle.td_vm.specs.Need.{most_need, level}
 use Rattle.td_actors.specs.Replies.{IsReplyTo, pieces, label, mail_label}
@@ -34,6 +33,7 @@ pub record Fits (frames : ℕ) (job : HostJob) (p : Post) : Type 0 where
   pub is : mail_named p.name (all_mails 1 job.guests) ≡ Some mail
   pub made : p.made ≡ mail.made
   pub name : reply_name p.room ≡ p.name
+  pub layout : p.room.layout ≡ list_of mail
   pub empty : p.room.loads.list ≡ []
   pub room : count_in (layout_of mail) ≤ p.room.loads.room
   pub cells : p.room.cells.items ≡ zeros job.cells
@@ -55,12 +55,14 @@ unfoldable pub acts_of : List Step → List Access
 acts_of [] = []
 acts_of (step.Store word value ∷ steps) = access.Store word value ∷ acts_of steps
 acts_of (step.Post base length ∷ steps) = acts_of steps
+acts_of (step.Scatter layout ∷ steps) = acts_of steps
 
 -- each word that is stored to is in the buffer
 unfoldable pub StoresInside : ℕ → List Step → Type 0
 StoresInside count [] = Unit {0}
 StoresInside count (step.Store word value ∷ steps) = (word < count) × StoresInside count steps
 StoresInside count (step.Post base length ∷ steps) = StoresInside count steps
+StoresInside count (step.Scatter layout ∷ steps) = StoresInside count steps
 
 -- the seat has the number n, is a guest's, and made these steps
 abbrev pub guest_seat : TableId → List ℕ → ℕ → List Access → SeatState

@@ -1,6 +1,7 @@
 //! Workers, which take posts and answer them.
 
-ghost use Rattle.std.specs.Prelude.{◌≡◌, ◌+◌, ◌<◌, ◌≤◌, ◌^◌, [], length, vec_capacity};
+ghost use Rattle.std.specs.Prelude.{◌≡◌, ◌+◌, ◌≤◌, [], length, None, vec_capacity};
+ghost use Rattle.std.specs.Option.{unwrap_or};
 ghost use Rattle.std.specs.List.{All};
 ghost use Rattle.td_ring.specs.declared.post.Post.{Post};
 ghost use Rattle.td_ring.specs.Ring.{pass_with, did_take};
@@ -11,6 +12,7 @@ ghost use Rattle.td_vm.specs.Frames.{IsArmed};
 ghost use Rattle.td_actors.specs.Replies.{IsJobCode, layout_in};
 ghost use Rattle.td_actors.specs.Acting.{Fits, most_frames, Answered, RanWorker};
 
+use crate::actor::{Desk, Worker};
 use std::sync::Wait;
 use std::thread;
 use td_core::outcome::TraceFrame;
@@ -23,8 +25,7 @@ use td_ring::naming::Naming;
 use td_ring::passes::TakePass;
 use td_ring::post::Post;
 use td_ring::ring::Ring;
-use td_ring::ticket_seat::TicketSeat;
-use td_ring::tickets::Tickets;
+use td_stream::laws::message_is_short;
 use td_stream::layout::Layout;
 use td_verify::verify::Verified;
 use td_vm::laws::fitting_cells_have_room;
@@ -47,13 +48,6 @@ fn take<J: Naming, R: Wait>(rt: &R, ring: &Ring<J>, pass: &mut TakePass) -> Post
     unreachable!()
 }
 
-/// Says of a number of bytes that it is below 2^32, as its type has it; a proof needs that as a clause.
-fn below_the_limit(bytes: u32)
-    ensures { bytes < 2 ^ 32 }
-{
-    let _bytes = bytes;
-}
-
 /// Puts what the last validation left in a frame into room that was taken for it, of which no list is let grow.
 fn keep(frame: &Frame, trace: &mut Vec<TraceFrame>, cells: &mut [u64])
     requires empty { trace.old.items ≡ [] }
@@ -67,6 +61,29 @@ fn keep(frame: &Frame, trace: &mut Vec<TraceFrame>, cells: &mut [u64])
     let lines = frame.trace();
     for line in lines {
         trace.push_reserved(*line);
+    }
+}
+
+/// How the message of a post lies that has no list of stretches. Takes no memory.
+fn at_word(shared: &Shared, mail: &Mail) -> Layout
+    requires { AreWithin shared.now.count (layout_of mail.now) }
+    ensures { mail.now.layout ≡ None → result ≡ layout_of mail.now }
+{
+    if mail.layout.is_some() {
+        return Layout::plain(0);
+    }
+    // That there are at most 2^32 - 1 words is what this call says.
+    let _words = shared.count();
+    Layout::words(mail.base, mail.length)
+}
+
+/// A list of stretches where there is one, and this layout otherwise.
+fn list_or<'a>(list: &'a Option<Layout>, otherwise: &'a Layout) -> &'a Layout
+    ensures { result.now ≡ unwrap_or list.now otherwise.now }
+{
+    match list {
+        Some(layout) => layout,
+        None => otherwise,
     }
 }
 
@@ -104,6 +121,7 @@ fn answer<G: Gate>(
     let Reply {
         guest: _,
         number: _,
+        layout,
         verdict: _,
         mut trace,
         mut cells,
@@ -112,19 +130,19 @@ fn answer<G: Gate>(
     let Some(mail) = mail_named(mails, name) else {
         unreachable!()
     };
-    below_the_limit(mail.length);
-    // That there are at most 2^32 - 1 words is what this call says.
-    let _words = shared.count();
-    let layout = Layout::words(mail.base, mail.length);
+    let single = at_word(shared, mail);
+    let laid = list_or(&layout, &single);
+    message_is_short(laid);
     frame.set_cells(cells.as_slice());
     let args = job.args.as_slice();
     let verdict = validate_slot(
-        code, job.entry, args, shared, seat, &layout, name, frame, &mut loads, gate,
+        code, job.entry, args, shared, seat, laid, name, frame, &mut loads, gate,
     );
     keep(frame, &mut trace, cells.as_mut_slice());
     Reply {
         guest: name.guest,
         number: name.number,
+        layout,
         verdict,
         trace,
         cells,
@@ -135,39 +153,43 @@ fn answer<G: Gate>(
 /// Draws tickets, and for each that is below the count of posts takes a post and answers it; the first that isn't ends it, and
 /// so does a reply to as many posts as there are. It takes no memory: the frame was armed for the code, and there is room for
 /// a reply to each post.
-pub fn run_worker<J: Naming, R: Wait, G: Gate>(
-    rt: &R,
-    shared: &Shared,
-    ring: &Ring<J>,
-    tickets: &Tickets,
-    code: &Verified,
-    job: &HostJob,
-    mails: &[Mail],
-    seat: &mut ReadSeat,
-    pass: &mut TakePass,
-    drawer: &mut TicketSeat,
-    frame: &mut Frame,
-    replies: &mut Vec<Reply>,
-    gate: &mut G,
-)
-    requires own { (seat.old.table ≡ shared.now.table) × (pass.old.queue ≡ ring.now.queue) × (drawer.old.table ≡ tickets.now) }
-    requires mails { mails.now ≡ all_mails 1 job.now.guests }
-    requires inside { All (λ m. AreWithin shared.now.count (layout_of m)) mails.now }
-    requires says { (p : Post) → J.names p → Fits (most_frames code.now) job.now p }
-    requires code { IsJobCode code.now job.now }
-    requires armed { IsArmed code.now frame.old }
-    requires empty { replies.old.items ≡ [] }
-    requires room { length mails.now ≤ vec_capacity replies.old }
-    ensures { RanWorker job.now (length mails.now) seat.old seat.new pass.old pass.new drawer.old drawer.new replies.new.items }
+pub fn run_worker<J: Naming, R: Wait, G: Gate>(rt: &R, desk: &Desk<J>, worker: &mut Worker<G>)
+    requires own { (worker.old.seat.table ≡ desk.now.shared.table) × (worker.old.pass.queue ≡ desk.now.ring.queue) × (worker.old.drawer.table ≡ desk.now.tickets) }
+    requires mails { desk.now.mails.items ≡ all_mails 1 desk.now.job.guests }
+    requires inside { All (λ m. AreWithin desk.now.shared.count (layout_of m)) desk.now.mails.items }
+    requires says { (p : Post) → J.names p → Fits (most_frames desk.now.code) desk.now.job p }
+    requires code { IsJobCode desk.now.code desk.now.job }
+    requires armed { IsArmed desk.now.code worker.old.frame }
+    requires empty { worker.old.replies.items ≡ [] }
+    requires room { length desk.now.mails.items ≤ vec_capacity worker.old.replies }
+    ensures { RanWorker desk.now.job (length desk.now.mails.items) worker.old.seat worker.new.seat worker.old.pass worker.new.pass worker.old.drawer worker.new.drawer worker.new.replies.items }
 {
+    let Worker {
+        seat,
+        pass,
+        drawer,
+        frame,
+        replies,
+        gate,
+    } = worker;
+    let mails = desk.mails.as_slice();
     let count = mails.len() as u64;
     while replies.len() < mails.len() {
-        if tickets.draw(drawer) >= count {
+        if desk.tickets.draw(drawer) >= count {
             return;
         }
-        let post = take(rt, ring, pass);
+        let post = take(rt, &desk.ring, pass);
         let name = post.name;
-        let reply = answer(code, job, mails, shared, seat, frame, post, gate);
+        let reply = answer(
+            &desk.code,
+            &desk.job,
+            mails,
+            &desk.shared,
+            seat,
+            frame,
+            post,
+            gate,
+        );
         replies.push_reserved(reply);
         gate.after_reply(name);
     }

@@ -1,5 +1,5 @@
 -- A job that is run by its module's code.
-use Rattle.std.proofs.Common.{◌≡◌, ℕ, ◌<◌, List, length, subst, sym, refl, Option, Some, None, arith}
+use Rattle.std.proofs.Common.{◌≡◌, ℕ, ◌<◌, ◌≤◌, List, length, ◌∙◌, subst, sym, refl, Option, Some, None}
 use Rattle.td_core.specs.declared.module.Module.{Module}
 use Rattle.td_core.specs.declared.module.Entry.{Entry}
 use Rattle.td_core.specs.declared.module.TypeDef.{TypeDef}
@@ -9,7 +9,7 @@ use Rattle.td_core.specs.Formed.{AllFit, params_at, cells_at}
 use Rattle.td_stream.specs.declared.load.Load.{Load}
 use Rattle.td_front.specs.Checked.{IsChecked}
 use Rattle.td_job.specs.declared.run_job.RunJob.{RunJob}
-use Rattle.td_job.specs.Jobs.{HasValues}
+use Rattle.td_job.specs.Jobs.{HasRoom, HasValues}
 use Rattle.td_job.specs.Values.{args_bounds, cells_bounds}
 use Rattle.td_input.specs.Inputs.{IsSoundJob}
 use Rattle.td_sched.specs.declared.store.PlannedStore.{PlannedStore}
@@ -17,12 +17,15 @@ use Rattle.td_ir.specs.declared.tables.Parts.{Parts}
 use Rattle.td_ir.specs.Entries.{Fits}
 use Rattle.td_lower.specs.Code.{IsLowerable}
 use Rattle.td_lowered.specs.CodeRun.{IsCodeOf, ArgumentsFit}
-use Rattle.td_job_run.specs.Runs.{IsRunBy}
+use Rattle.td_job_run.specs.Runs.{Input, IsRunBy}
 use Rattle.td_core.specs.declared.outcome.Verdict.{Verdict}
 use Rattle.td_core.specs.declared.outcome.TraceFrame.{TraceFrame}
 use Rattle.td_expr.specs.Sound.{Sound}
-use Rattle.td_stream.specs.Layouts.{plain}
-use Rattle.td_stream.specs.Loads.{Carries}
+use Rattle.std.specs.List.{All}
+use Rattle.std.proofs.lemmas.List.Elements.{All-weaker}
+use Rattle.td_stream.specs.declared.stretch.Stretch.{Stretch}
+use Rattle.td_stream.specs.Layouts.{count_in, counted, laid, plain, IsNumberOf, IsOver}
+use Rattle.td_stream.specs.Loads.{Inside, Carries}
 use Rattle.td_meaning.specs.Meaning.{meaning}
 use Rattle.td_meaning.specs.Throughout.{Throughout}
 use Rattle.td_leaves.specs.Outcomes.{IsBehaviorOf}
@@ -57,19 +60,44 @@ job_fits law c m job args cells of inside values p q =
     let h : Fits c job.entry job.args job.cells = law c m job.entry job.args job.cells of inside (subst (λ b. AllFit b job.args) (same_args o) values.args) (subst (λ b. AllFit b job.cells) (same_cells o) values.cells) in
     subst (λ x. Fits c job.entry args x) (sym q) (subst (λ x. Fits c job.entry x job.cells) (sym p) h)
 
+-- the message lies in words that are the job's, by a layout that is
+pub ends_with : (job : RunJob) (layout : Option (List Stretch)) (words : List ℕ) → layout ≡ job.layout → words ≡ job.words → HasRoom job → count_in (laid job.length layout) ≤ counted layout (length words)
+ends_with job layout words p q room =
+    subst (λ (l : Option (List Stretch)). count_in (laid job.length l) ≤ counted l (length words)) (sym p)
+    (subst (λ (w : List ℕ). count_in (laid job.length job.layout) ≤ counted job.layout (length w)) (sym q) room.ends)
+
+pub over_with : (job : RunJob) (layout : Option (List Stretch)) (words : List ℕ) → layout ≡ job.layout → words ≡ job.words → HasRoom job → IsOver (length words) layout
+over_with job layout words p q room =
+    subst (λ (l : Option (List Stretch)). IsOver (length words) l) (sym p) (subst (λ (w : List ℕ). IsOver (length w) job.layout) (sym q) room.over)
+
+abbrev pub input_by : RunJob → List ℕ → List ℕ → List ℕ → List PlannedStore → Option (List Stretch) → Input
+input_by job args cells words stores layout = record { entry = job.entry; args = args; cells = cells; length = job.length; layout = layout; words = words; stores = stores }
+
 -- a run by a module's code is meant
-pub run_is_meant : (c : Parts) (m : Module) (job : RunJob) (outcome : Outcome) (loads : List Load) (args cells words : List ℕ) (stores : List PlannedStore) → IsCodeOf c m → IsSoundJob m job → args ≡ job.args → cells ≡ job.cells
-    → IsRunBy c (record { entry = job.entry; args = args; cells = cells; length = job.length; layout = None; words = words; stores = stores }) outcome loads → IsMeant m job outcome loads
-run_is_meant c m job outcome loads args cells words stores of sound p q run =
-    let R : List ℕ → List ℕ → Type 0 = λ a z. IsRunBy c (record { entry = job.entry; args = a; cells = z; length = job.length; layout = None; words = words; stores = stores }) outcome loads in
-    let h : R job.args job.cells = subst (λ z. R job.args z) q (subst (λ a. R a cells) p run) in
-    λ b bytes carried. h.meant m b of carried (let size = carried.size in sound b bytes (omega (arith, size)))
+pub run_is_meant : (c : Parts) (m : Module) (job : RunJob) (outcome : Outcome) (loads : List Load) (args cells words : List ℕ) (stores : List PlannedStore) (layout : Option (List Stretch)) → IsCodeOf c m → IsSoundJob m job → HasRoom job
+    → args ≡ job.args → cells ≡ job.cells → layout ≡ job.layout → IsRunBy c (input_by job args cells words stores layout) outcome loads → IsMeant m job outcome loads
+run_is_meant c m job outcome loads args cells words stores layout of sound room p q r run =
+    let R : List ℕ → List ℕ → Option (List Stretch) → Type 0 = λ a z l. IsRunBy c (input_by job a z words stores l) outcome loads in
+    let h : R job.args job.cells job.layout = subst (λ l. R job.args job.cells l) r (subst (λ z. R job.args z layout) q (subst (λ a. R a cells layout) p run)) in
+    λ b bytes carried. h.meant m b of carried (sound b bytes (carried.size ∙ room.long))
+
+-- and its loads are of words of the message
+pub run_is_inside : (c : Parts) (job : RunJob) (outcome : Outcome) (loads : List Load) (args cells words : List ℕ) (stores : List PlannedStore) (layout : Option (List Stretch)) → layout ≡ job.layout
+    → IsRunBy c (input_by job args cells words stores layout) outcome loads → Inside (laid job.length job.layout) loads
+run_is_inside c job outcome loads args cells words stores layout r run = subst (λ (l : Option (List Stretch)). Inside (laid job.length l) loads) r run.inside
+
+-- each load of a run is of a word that its report can name
+pub numbered : (n : ℕ) (layout : Option (List Stretch)) (loads : List Load) → Inside (laid n layout) loads → All (λ (l : Load). IsNumberOf layout l.word) loads
+numbered n None loads h = All-weaker (λ (l : Load). l.word < count_in (plain n)) (λ (l : Load). Unit {0}) (λ l inside. tt) loads h
+numbered n (Some layout) loads h = h
 
 -- a run whose outcome is the meaning's, from lists that are alike, is meant
-pub outcome_is_meant : (m : Module) (job : RunJob) (loads : List Load) (args start left cells : List ℕ) (verdict : Verdict) (trace : List TraceFrame) → IsSoundJob m job → args ≡ job.args → start ≡ job.cells → cells ≡ left
-    → ((b : List ℕ) → Carries (plain job.length) b loads → Throughout Sound m job.entry args start b → IsBehaviorOf (plain job.length) loads (meaning m job.entry args start b) (record { verdict = verdict; trace = trace; cells = left }))
+pub outcome_is_meant : (m : Module) (job : RunJob) (loads : List Load) (args start left cells : List ℕ) (verdict : Verdict) (trace : List TraceFrame) (layout : List Stretch) → IsSoundJob m job → HasRoom job
+    → layout ≡ laid job.length job.layout → args ≡ job.args → start ≡ job.cells → cells ≡ left
+    → ((b : List ℕ) → Carries layout b loads → Throughout Sound m job.entry args start b → IsBehaviorOf layout loads (meaning m job.entry args start b) (record { verdict = verdict; trace = trace; cells = left }))
     → IsMeant m job (record { verdict = verdict; trace = trace; cells = cells }) loads
-outcome_is_meant m job loads args start left cells verdict trace sound p q r told =
-    let R : List ℕ → List ℕ → List ℕ → Type 0 = λ a s z. (b : List ℕ) → Carries (plain job.length) b loads → Throughout Sound m job.entry a s b → IsBehaviorOf (plain job.length) loads (meaning m job.entry a s b) (record { verdict = verdict; trace = trace; cells = z }) in
-    let h : R job.args job.cells cells = subst (λ z. R job.args job.cells z) (sym r) (subst (λ s. R job.args s left) q (subst (λ a. R a start left) p told)) in
-    λ b bytes carried. h b carried (let size = carried.size in sound b bytes (omega (arith, size)))
+outcome_is_meant m job loads args start left cells verdict trace layout sound room o p q r told =
+    let R : List ℕ → List ℕ → List ℕ → List Stretch → Type 0 = λ a s z l. (b : List ℕ) → Carries l b loads → Throughout Sound m job.entry a s b → IsBehaviorOf l loads (meaning m job.entry a s b) (record { verdict = verdict; trace = trace; cells = z }) in
+    let h : R job.args job.cells cells (laid job.length job.layout) =
+    subst (λ l. R job.args job.cells cells l) o (subst (λ z. R job.args job.cells z layout) (sym r) (subst (λ s. R job.args s left layout) q (subst (λ a. R a start left layout) p told))) in
+    λ b bytes carried. h b carried (sound b bytes (carried.size ∙ room.long))

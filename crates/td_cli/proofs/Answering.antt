@@ -1,6 +1,6 @@
 -- An input has one answer, and none where it is refused.
 use Rattle.std.proofs.Common.{◌≡◌, ℕ, ◌<◌, ◌≤◌, List, length, Result, Ok, sym, ap, ap₂, subst, ◌∙◌, arith}
-use Rattle.std.specs.Prelude.{◌↔◌, None}
+use Rattle.std.specs.Prelude.{◌↔◌}
 use Rattle.td_core.specs.declared.module.Module.{Module}
 use Rattle.td_core.specs.declared.outcome.Outcome.{Outcome}
 use Rattle.td_stream.specs.declared.load.Load.{Load}
@@ -44,10 +44,10 @@ use Rattle.td_input.proofs.Inputs.{Kind, Faults, text_there, job_there, nothing_
 
 -- ---- reports
 
-one_run : RunsAreOne → SomeCarry → (m : Module) (job : RunJob) (o p : Outcome) (l k : List Load) → IsRunOf m job o l → IsRunOf m job p k → report o m job.entry l None ≡ report p m job.entry k None
+one_run : RunsAreOne → SomeCarry → (m : Module) (job : RunJob) (o p : Outcome) (l k : List Load) → IsRunOf m job o l → IsRunOf m job p k → report o m job.entry l job.layout ≡ report p m job.entry k job.layout
 one_run one some m job o p l k h g =
     let same = same_run one some m job o p l k h g in
-    ap₂ (λ (x : Outcome) (y : List Load). report x m job.entry y None) same.0 same.1
+    ap₂ (λ (x : Outcome) (y : List Load). report x m job.entry y job.layout) same.0 same.1
 
 one_report : OneModuleEach → OneJobEach → RunsAreOne → SomeCarry → (input a b : List ℕ) → IsReport input a → IsReport input b → a ≡ b
 one_report modules jobs one some input a b h g =
@@ -61,7 +61,7 @@ one_report modules jobs one some input a b h g =
     let M : Module → Type 0 = λ x. IsRunOf x h.job h.outcome h.loads in
     let R : RunJob → Type 0 = λ x. IsRunOf g.m x h.outcome h.loads in
     let moved : IsRunOf g.m g.job h.outcome h.loads = subst R job (subst M m h.run) in
-    h.text_is ∙ ap₂ (λ (x : Module) (y : RunJob). report h.outcome x y.entry h.loads None) m job
+    h.text_is ∙ ap₂ (λ (x : Module) (y : RunJob). report h.outcome x y.entry h.loads y.layout) m job
     ∙ one_run one some g.m g.job h.outcome g.outcome h.loads g.loads moved g.run ∙ sym g.text_is
 
 one_summary : OneModuleEach → (input a b : List ℕ) → IsSummary input a → IsSummary input b → a ≡ b

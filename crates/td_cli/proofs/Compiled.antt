@@ -1,5 +1,5 @@
 -- A job that is run by its module's code.
-use Rattle.std.proofs.Common.{◌≡◌, ℕ, ◌<◌, List, length, ap, ◌∙◌, subst, sym, refl, Option, Some, None, arith}
+use Rattle.std.proofs.Common.{◌≡◌, ℕ, ◌<◌, ◌≤◌, List, length, ap, ◌∙◌, subst, sym, refl, Option, Some, None, arith}
 use Rattle.td_core.specs.declared.module.Module.{Module}
 use Rattle.td_core.specs.declared.module.Entry.{Entry}
 use Rattle.td_core.specs.declared.module.TypeDef.{TypeDef}
@@ -9,7 +9,9 @@ use Rattle.td_core.specs.Formed.{AllFit, params_at, cells_at}
 use Rattle.td_stream.specs.declared.load.Load.{Load}
 use Rattle.td_sched.specs.declared.store.PlannedStore.{PlannedStore}
 use Rattle.td_job.specs.declared.run_job.RunJob.{RunJob}
-use Rattle.td_job.specs.Jobs.{HasValues}
+use Rattle.td_stream.specs.declared.stretch.Stretch.{Stretch}
+use Rattle.td_stream.specs.Layouts.{count_in, counted, laid, IsOver}
+use Rattle.td_job.specs.Jobs.{HasRoom, HasValues}
 use Rattle.td_job.specs.Values.{args_bounds, cells_bounds}
 use Rattle.td_input.specs.Inputs.{IsSoundJob}
 use Rattle.td_ir.specs.declared.tables.Parts.{Parts}
@@ -42,36 +44,47 @@ job_fits law c m job of inside values =
     law c m job.entry job.args job.cells of inside (subst (λ b. AllFit b job.args) (same_args o) values.args) (subst (λ b. AllFit b job.cells) (same_cells o) values.cells)
 
 abbrev pub input_of : RunJob → Input
-input_of job = record { entry = job.entry; args = job.args; cells = job.cells; length = job.length; layout = None; words = job.words; stores = job.stores }
+input_of job = record { entry = job.entry; args = job.args; cells = job.cells; length = job.length; layout = job.layout; words = job.words; stores = job.stores }
 
 -- a run by a module's code is a run of the job
-pub run_of : (c : Parts) (m : Module) (job : RunJob) (outcome : Outcome) (loads : List Load) → IsCodeOf c m → IsSoundJob m job → IsRunBy c (input_of job) outcome loads → IsRunOf m job outcome loads
-run_of c m job outcome loads of sound run = record {
+pub run_of : (c : Parts) (m : Module) (job : RunJob) (outcome : Outcome) (loads : List Load) → IsCodeOf c m → IsSoundJob m job → HasRoom job → IsRunBy c (input_of job) outcome loads → IsRunOf m job outcome loads
+run_of c m job outcome loads of sound room run = record {
   rising = run.rising;
   inside = run.inside;
   held = run.held;
-  meant = λ b bytes carried. run.meant m b of carried (sound b bytes (let size = carried.size in omega (arith, size)));
+  meant = λ b bytes carried. run.meant m b of carried (sound b bytes (carried.size ∙ room.long));
 }
 
 -- the same of lists that are the job's
 pub fits_with : (c : Parts) (entry : Entry) (args args' cells cells' : List ℕ) → args' ≡ args → cells' ≡ cells → Fits c entry args cells → Fits c entry args' cells'
 fits_with c entry args args' cells cells' p q h = subst (λ x. Fits c entry args' x) (sym q) (subst (λ x. Fits c entry x cells) (sym p) h)
 
-pub run_with : (c : Parts) (job : RunJob) (outcome : Outcome) (loads : List Load) (args cells words : List ℕ) (stores : List PlannedStore) → args ≡ job.args → cells ≡ job.cells → words ≡ job.words → stores ≡ job.stores
-    → IsRunBy c (record { entry = job.entry; args = args; cells = cells; length = job.length; layout = None; words = words; stores = stores }) outcome loads → IsRunBy c (input_of job) outcome loads
-run_with c job outcome loads args cells words stores p q r t h =
-    let make : List ℕ → List ℕ → List ℕ → List PlannedStore → Input = λ a b w z. record { entry = job.entry; args = a; cells = b; length = job.length; layout = None; words = w; stores = z } in
-    subst (λ z. IsRunBy c (make job.args job.cells job.words z) outcome loads) t
-    (subst (λ z. IsRunBy c (make job.args job.cells z stores) outcome loads) r
-    (subst (λ z. IsRunBy c (make job.args z words stores) outcome loads) q
-    (subst (λ z. IsRunBy c (make z cells words stores) outcome loads) p h)))
+pub run_with : (c : Parts) (job : RunJob) (outcome : Outcome) (loads : List Load) (args cells words : List ℕ) (stores : List PlannedStore) (layout : Option (List Stretch)) → args ≡ job.args → cells ≡ job.cells → words ≡ job.words → stores ≡ job.stores → layout ≡ job.layout
+    → IsRunBy c (record { entry = job.entry; args = args; cells = cells; length = job.length; layout = layout; words = words; stores = stores }) outcome loads → IsRunBy c (input_of job) outcome loads
+run_with c job outcome loads args cells words stores layout p q r t u h =
+    let make : List ℕ → List ℕ → List ℕ → List PlannedStore → Option (List Stretch) → Input = λ a b w z l. record { entry = job.entry; args = a; cells = b; length = job.length; layout = l; words = w; stores = z } in
+    subst (λ z. IsRunBy c (make job.args job.cells job.words job.stores z) outcome loads) u
+    (subst (λ z. IsRunBy c (make job.args job.cells job.words z layout) outcome loads) t
+    (subst (λ z. IsRunBy c (make job.args job.cells z stores layout) outcome loads) r
+    (subst (λ z. IsRunBy c (make job.args z words stores layout) outcome loads) q
+    (subst (λ z. IsRunBy c (make z cells words stores layout) outcome loads) p h))))
+
+-- the message lies in words that are the job's, by a layout that is
+pub ends_with : (job : RunJob) (layout : Option (List Stretch)) (words : List ℕ) → layout ≡ job.layout → words ≡ job.words → HasRoom job → count_in (laid job.length layout) ≤ counted layout (length words)
+ends_with job layout words p q room =
+    subst (λ (l : Option (List Stretch)). count_in (laid job.length l) ≤ counted l (length words)) (sym p)
+    (subst (λ (w : List ℕ). count_in (laid job.length job.layout) ≤ counted job.layout (length w)) (sym q) room.ends)
+
+pub over_with : (job : RunJob) (layout : Option (List Stretch)) (words : List ℕ) → layout ≡ job.layout → words ≡ job.words → HasRoom job → IsOver (length words) layout
+over_with job layout words p q room =
+    subst (λ (l : Option (List Stretch)). IsOver (length words) l) (sym p) (subst (λ (w : List ℕ). IsOver (length w) job.layout) (sym q) room.over)
 
 -- a run by the code of a message's module is a run of the message
 pub has_run : (k : ℕ) (c : Parts) (m : Module) (message : NamedJob) (job : RunJob) (verdict : Verdict) (trace : List TraceFrame) (cells : List ℕ) (loads : List Load)
-    → IsModuleText (text_of (format_of k)) m → IsMessage k message → IsNamedJob m message job → IsCodeOf c m → IsSoundJob m job
+    → IsModuleText (text_of (format_of k)) m → IsMessage k message → IsNamedJob m message job → IsCodeOf c m → IsSoundJob m job → HasRoom job
     → IsRunBy c (input_of job) (record { verdict = verdict; trace = trace; cells = cells }) loads → HasRun k verdict loads
-has_run k c m message job verdict trace cells loads text made is of sound run = record {
+has_run k c m message job verdict trace cells loads text made is of sound room run = record {
   trace = trace;
   cells = cells;
-  is = message_run k m message job (record { outcome = record { verdict = verdict; trace = trace; cells = cells }; loads = loads }) text made is (run_of c m job (record { verdict = verdict; trace = trace; cells = cells }) loads of sound run);
+  is = message_run k m message job (record { outcome = record { verdict = verdict; trace = trace; cells = cells }; loads = loads }) text made is (run_of c m job (record { verdict = verdict; trace = trace; cells = cells }) loads of sound room run);
 }

@@ -1,7 +1,6 @@
 -- Equal reports of one module are of equal runs.
-use Rattle.std.proofs.Common.{◌≡◌, ℕ, List, None, sym, ap, ◌∙◌, subst, arith}
-use Rattle.std.proofs.lemmas.List.Elements.{All-weaker}
-use Rattle.td_stream.specs.Layouts.{plain}
+use Rattle.std.proofs.Common.{◌≡◌, ℕ, List, Option, sym, ap, ◌∙◌, subst}
+use Rattle.td_stream.specs.declared.stretch.Stretch.{Stretch}
 use Rattle.std.specs.List.{All}
 use Rattle.td_core.specs.declared.module.Module.{Module}
 use Rattle.td_core.specs.declared.outcome.Outcome.{Outcome}
@@ -9,10 +8,10 @@ use Rattle.td_stream.specs.declared.load.Load.{Load}
 use Rattle.td_front.specs.Checked.{IsChecked}
 use Rattle.td_front.specs.Laws.{ModulesAreChecked}
 use Rattle.td_job.specs.declared.run_job.RunJob.{RunJob}
-use Rattle.td_report.specs.Laws.{IsOf64Bits, IsShownLoad, ReportsDetermineOutcomes}
+use Rattle.td_report.specs.Laws.{IsShownLoad, shown_loads, ReportsDetermineOutcomes, ShownLoadsAreOne}
 use Rattle.td_report.specs.Report.{report}
 use Rattle.td_told.specs.Laws.{IsSized, JobsAreSized, ModulesHaveWords, IsTold, RunsAreTold, LoadsAreTold}
-use Rattle.td_cli.specs.Run.{IsRunOf}
+use Rattle.td_cli.specs.Run.{message_of, IsRunOf}
 use Rattle.td_cli.specs.Answers.{IsReport}
 use Rattle.td_input.specs.Marker.{text_part, job_part}
 use Rattle.td_cli.specs.Laws.{ReportsDetermineRuns}
@@ -27,12 +26,13 @@ pub record Below : Type 0 where
   pub loads : LoadsAreTold
   pub carry : SomeCarry
   pub determine : ReportsDetermineOutcomes
+  pub one : ShownLoadsAreOne
 
 run_told : Below → (m : Module) (job : RunJob) (o : Outcome) (loads : List Load) → IsChecked m → IsSized m job → IsRunOf m job o loads → IsTold m job.entry o
 run_told below m job o loads c s h =
-    let message = below.carry (plain job.length) loads h.rising in
+    let message = below.carry (message_of job) loads h.rising in
     let bytes = bytes_of message.0 message.2 in
-    subst (IsTold m job.entry) (h.meant message.0 bytes message.1).same (below.runs m job message.0 c s bytes (let size = message.1.size in omega (arith, size)))
+    subst (IsTold m job.entry) (h.meant message.0 bytes message.1).same (below.runs m job message.0 c s bytes (message.1.size ∙ s.long))
 
 module _ (below : Below) (input text : List ℕ) (a : IsReport input text) where
   is_checked : IsChecked a.m
@@ -44,14 +44,21 @@ module _ (below : Below) (input text : List ℕ) (a : IsReport input text) where
   told : IsTold a.m a.job.entry a.outcome
   told = run_told below a.m a.job a.outcome a.loads is_checked is_sized a.run
 
-  small : All (IsShownLoad None) a.loads
-  small = All-weaker IsOf64Bits (IsShownLoad None) (λ l bits. record { bits = bits; by = tt }) a.loads (below.loads a.m a.job a.loads is_sized a.run.inside a.run.held)
+  shown : All (IsShownLoad a.job.layout) a.loads
+  shown = below.loads a.m a.job a.loads is_sized a.run.inside a.run.held
 
 pub reports_determine_runs : Below → ReportsDetermineRuns
 reports_determine_runs below one other text a b same =
     let words = below.words a.m (is_checked below one text a) in
     let first = told below one text a in
     let second : IsTold a.m b.job.entry b.outcome = subst (λ m. IsTold m b.job.entry b.outcome) (sym same) (told below other text b) in
-    let equal : report a.outcome a.m a.job.entry a.loads None ≡ report b.outcome a.m b.job.entry b.loads None = sym a.text_is ∙ b.text_is ∙ ap (λ m. report b.outcome m b.job.entry b.loads None) (sym same) in
-    below.determine a.m a.outcome b.outcome a.job.entry b.job.entry None a.loads b.loads words.0 words.1
-    first.named second.named first.frames second.frames first.cells second.cells (small below one text a) (small below other text b) equal
+    let equal : report a.outcome a.m a.job.entry a.loads a.job.layout ≡ report b.outcome a.m b.job.entry b.loads b.job.layout = sym a.text_is ∙ b.text_is ∙ ap (λ m. report b.outcome m b.job.entry b.loads b.job.layout) (sym same) in
+    let one_shown = shown below one text a in
+    let other_shown = shown below other text b in
+    let parts =
+    below.determine a.m a.outcome b.outcome a.job.entry b.job.entry a.job.layout b.job.layout a.loads b.loads words.0 words.1
+    first.named second.named first.frames second.frames first.cells second.cells one_shown other_shown equal in
+    let alike = λ (over : a.job.layout ≡ b.job.layout).
+    below.one a.job.layout a.loads b.loads one_shown (subst (λ (l : Option (List Stretch)). All (IsShownLoad l) b.loads) (sym over) other_shown)
+    (parts.3 ∙ ap (λ (l : Option (List Stretch)). shown_loads l b.loads) (sym over)) in
+    (parts.0, parts.1, parts.2, parts.3, alike)

@@ -3,6 +3,7 @@ use Rattle.std.specs.Prelude.{◌≡◌, ◌⊎◌, ℕ, List}
 use Rattle.td_command.specs.declared.command.Command.{Command}
 use Rattle.td_command.specs.declared.command.Command.TheVariants.{Host}
 use Rattle.td_input.specs.declared.refusal.Refusal.{Refusal}
+use Rattle.td_report.specs.Laws.{shown_loads}
 use Rattle.td_cli.specs.Answers.{Answers, Admits, Refuses, IsReport}
 
 -- the command answers without others that run at the same time: each but `host`
@@ -31,9 +32,10 @@ NeverBoth = (command : Command) (input : List ℕ) (refusal : Refusal) → Admit
 abbrev pub AlwaysOne : Type 0
 AlwaysOne = (command : Command) (input : List ℕ) → Admits command input ⊎ ((refusal : Refusal) × Refuses command input refusal)
 
--- runs of one module (as those of inputs with one module text are) whose reports are equal have equal verdicts, traces,
--- cells and loads
+-- runs of one module (as those of inputs with one module text are) whose reports are equal have equal verdicts, traces and cells,
+-- and loads of which a report says the same, which are equal where the jobs have one layout, or none
 abbrev pub ReportsDetermineRuns : Type 0
 ReportsDetermineRuns =
     (one other text : List ℕ) (a : IsReport one text) (b : IsReport other text) → a.m ≡ b.m →
-    (a.outcome.verdict ≡ b.outcome.verdict) × (a.outcome.trace ≡ b.outcome.trace) × (a.outcome.cells ≡ b.outcome.cells) × (a.loads ≡ b.loads)
+    (a.outcome.verdict ≡ b.outcome.verdict) × (a.outcome.trace ≡ b.outcome.trace) × (a.outcome.cells ≡ b.outcome.cells)
+    × (shown_loads a.job.layout a.loads ≡ shown_loads b.job.layout b.loads) × (a.job.layout ≡ b.job.layout → a.loads ≡ b.loads)

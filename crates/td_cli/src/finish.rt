@@ -1,9 +1,11 @@
 //! How a call ends once all is decided: text goes to a sink, and the status follows. Nothing here takes memory, so nothing
 //! that was decided can be told as want of it.
 
-ghost use Rattle.std.specs.Prelude.{[], None, MatchResult};
+ghost use Rattle.std.specs.Prelude.{[], IfOk, MatchResult};
+ghost use Rattle.std.specs.List.{All};
+ghost use Rattle.td_stream.specs.Layouts.{IsNumberOf};
 ghost use Rattle.td_report.specs.Report.{report};
-ghost use Rattle.td_host_report.specs.Report.{host_report};
+ghost use Rattle.td_host_report.specs.Report.{host_report, HasMessageWords};
 ghost use Rattle.td_report.specs.Summary.{summary};
 ghost use Rattle.td_cli.specs.Totals.{totals_text};
 ghost use Rattle.td_cli.specs.Ends.{passage};
@@ -75,14 +77,15 @@ fn finish_unanswered<E: Sink>(input: &[u8], error: &InputError, err: &mut E) -> 
 
 // Ends a call with the report of a run.
 fn finish_report<O: Sink>(run: &FinishedRun, out: &mut O) -> Status
-    ensures { EndsWith Status.Done (report run.now.outcome run.now.input.module run.now.input.job.entry run.now.loads.list None) (passage O.state out.old out.new) result }
+    requires { All (λ l. IsNumberOf run.now.input.job.layout l.word) run.now.loads.list }
+    ensures { EndsWith Status.Done (report run.now.outcome run.now.input.module run.now.input.job.entry run.now.loads.list run.now.input.job.layout) (passage O.state out.old out.new) result }
 {
     match run_report(
         &run.outcome,
         &run.input.module,
         run.input.job.entry,
         &run.loads,
-        None,
+        run.input.job.layout.as_ref(),
         out,
     ) {
         Ok(()) => Status::Done,
@@ -97,8 +100,9 @@ pub(crate) fn finish_run<O: Sink, E: Sink>(
     out: &mut O,
     err: &mut E,
 ) -> Status
+    requires { IfOk run.now (λ run. All (λ l. IsNumberOf run.input.job.layout l.word) run.loads.list) }
     ensures { MatchResult run.now
-        (λ run. EndsWithOutput (report run.outcome run.input.module run.input.job.entry run.loads.list None) (passage O.state out.old out.new) (passage E.state err.old err.new) result)
+        (λ run. EndsWithOutput (report run.outcome run.input.module run.input.job.entry run.loads.list run.input.job.layout) (passage O.state out.old out.new) (passage E.state err.old err.new) result)
         (λ error. EndsWithLine (unanswered_status error) (unanswered_line input.now error) (passage O.state out.old out.new) (passage E.state err.old err.new) result) }
 {
     match run {
@@ -109,6 +113,7 @@ pub(crate) fn finish_run<O: Sink, E: Sink>(
 
 // Ends a call with the report of a host.
 fn finish_replies<O: Sink>(served: &ServedInput, out: &mut O) -> Status
+    requires { All HasMessageWords served.now.replies }
     ensures { EndsWith Status.Done (host_report served.now.module served.now.entry served.now.replies) (passage O.state out.old out.new) result }
 {
     match host_report(&served.module, served.entry, served.replies.as_slice(), out) {
@@ -124,6 +129,7 @@ pub(crate) fn finish_host<O: Sink, E: Sink>(
     out: &mut O,
     err: &mut E,
 ) -> Status
+    requires { IfOk served.now (λ s. All HasMessageWords s.replies) }
     ensures { MatchResult served.now
         (λ s. EndsWithOutput (host_report s.module s.entry s.replies) (passage O.state out.old out.new) (passage E.state err.old err.new) result)
         (λ error. EndsWithLine (unanswered_status error) (unanswered_line input.now error) (passage O.state out.old out.new) (passage E.state err.old err.new) result) }

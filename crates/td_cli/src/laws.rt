@@ -9,7 +9,7 @@ use td_grammar::laws::one_tree;
 use td_host_job::laws as host_jobs;
 use td_job::laws as jobs;
 use td_lexer::tokens_are_the_splitting;
-use td_report::laws::reports_determine_outcomes;
+use td_report::laws::{reports_determine_outcomes, shown_loads_are_one};
 use td_runs::laws::runs_are_one;
 use td_stream::laws::some_message_carries;
 use td_told::laws::{jobs_are_sized, loads_are_told, modules_have_words, runs_are_told};
@@ -52,8 +52,8 @@ pub fn admitted_or_refused()
     jobs::named_job_or_fault();
 }
 
-/// Two runs of one module whose reports are equal have equal verdicts, traces, cells and loads: what is said of a run can
-/// be read off its report.
+/// Two runs of one module whose reports are equal have equal verdicts, traces and cells, and loads of which a report says the same,
+/// which are equal where their jobs have one layout, or none: what is said of a run can be read off its report.
 pub fn reports_determine_runs()
     ensures { ReportsDetermineRuns }
 {
@@ -64,4 +64,5 @@ pub fn reports_determine_runs()
     loads_are_told();
     some_message_carries();
     reports_determine_outcomes();
+    shown_loads_are_one();
 }

@@ -14,7 +14,7 @@ use Rattle.td_posts.specs.declared.job.Step.TheVariants as step
 use Rattle.td_posts.specs.declared.mail.Mail.{Mail}
 use Rattle.td_posts.specs.declared.reply.Reply.{Reply}
 use Rattle.td_posts.specs.declared.job.HostJob.{HostJob}
-use Rattle.td_posts.specs.Posts.{mail, post_name, mails_from, mails_of, all_mails}
+use Rattle.td_posts.specs.Posts.{post_name, mails_from, mails_of, all_mails}
 use Rattle.td_actors.specs.declared.actor.Actor.{Actor}
 use Rattle.td_actors.specs.declared.actor.Actor.TheVariants as kind
 use Rattle.td_actors.specs.declared.actor.Worker.{Worker}
@@ -22,6 +22,7 @@ use Rattle.td_actors.specs.declared.actor.Guest.{Guest}
 use Rattle.td_vm.specs.Frames.{IsArmed}
 use Rattle.td_actors.specs.Actors.{Service}
 use Rattle.td_actors.specs.Acting.{RoomsFor, StoresInside, post_of}
+use Rattle.td_actors.proofs.Posting.{Posting, mail_by, mails_post}
 use Rattle.td_host.specs.Gathered.{FreshWorker, FreshWorkers, FreshGuest, FreshGuests, WorkersSeated, GuestsSeated, Armed, host_at, posts_at, takes_at, draws_at}
 
 append_nil : {A : Type 0} (xs : List A) → xs ++ [] ≡ xs
@@ -45,10 +46,10 @@ module _ (guest : ℕ) (whole : List Step) (before : List Mail) where
       counted = let c = p.counted in let d = ap length e in omega arith;
     }
 
-    pub lists_post : (b l : ℕ) (mails' : List Mail) → rest ≡ step.Post b l ∷ rest' → mails' ≡ mails ++ mail (post_name guest (number + 1)) made b l ∷ [] → Listing guest whole before mails' rest' (number + 1) made
-    unfolding mails_from
-    lists_post b l mails' e f = record {
-      is = ap (λ x. x ++ mails_from guest (number + 1 + 1) made rest') f ∙ (append_assoc mails (mail (post_name guest (number + 1)) made b l ∷ []) (mails_from guest (number + 1 + 1) made rest') ∙ (ap (λ x. mails ++ mails_from guest (number + 1) made x) (sym e) ∙ p.is));
+    pub lists_post : (s : Step) (mails' : List Mail) → Posting s → rest ≡ s ∷ rest' → mails' ≡ mails ++ mail_by (post_name guest (number + 1)) made s ∷ [] → Listing guest whole before mails' rest' (number + 1) made
+    lists_post s mails' posting e f = record {
+      is = ap (λ x. x ++ mails_from guest (number + 1 + 1) made rest') f ∙ (append_assoc mails (mail_by (post_name guest (number + 1)) made s ∷ []) (mails_from guest (number + 1 + 1) made rest')
+          ∙ (ap (λ x. mails ++ x) (sym (ap (mails_from guest (number + 1) made) e ∙ mails_post guest (number + 1) made s rest' posting)) ∙ p.is));
       counted = let c = p.counted in let d = ap length e in omega arith;
     }
 
@@ -104,17 +105,18 @@ module _ (names : Post → Type 0) (P : Mail → Type 0) (guest : ℕ) (whole : 
       counted = let c = p.counted in let d = ap length e in omega arith;
     }
 
-    pub rooms_post : (b l : ℕ) (r : Reply) (rooms' : List Reply) → rest ≡ step.Post b l ∷ rest' → rooms' ≡ rooms ++ r ∷ []
-        → ((m : Mail) → P m → m.name ≡ post_name guest (number + 1) → m.length ≡ l → names (post_of m r)) → Rooming names P guest whole rooms' rest' (number + 1)
-    unfolding mails_from RoomsFor
-    rooms_post b l r rooms' e f fits =
-        let m : Mail = mail (post_name guest (number + 1)) p.made b l in
+    pub rooms_post : (s : Step) (r : Reply) (rooms' : List Reply) → Posting s → rest ≡ s ∷ rest' → rooms' ≡ rooms ++ r ∷ []
+        → ((made : ℕ) → P (mail_by (post_name guest (number + 1)) made s) → names (post_of (mail_by (post_name guest (number + 1)) made s) r)) → Rooming names P guest whole rooms' rest' (number + 1)
+    unfolding RoomsFor
+    rooms_post s r rooms' posting e f fits =
+        let m : Mail = mail_by (post_name guest (number + 1)) p.made s in
         let ms = mails_from guest (number + 1 + 1) p.made rest' in
-        let met : All P (m ∷ ms) = subst (λ x. All P (mails_from guest (number + 1) p.made x)) e p.met in
+        let is : mails_from guest (number + 1) p.made rest ≡ m ∷ ms = ap (mails_from guest (number + 1) p.made) e ∙ mails_post guest (number + 1) p.made s rest' posting in
+        let met : All P (m ∷ ms) = subst (All P) is p.met in
         record {
           made = p.made;
           more = λ tail h. subst (RoomsFor names (mails_of guest whole)) (sym (ap (λ x. x ++ tail) f ∙ append_assoc rooms (r ∷ []) tail))
-              (p.more (r ∷ tail) (subst (λ x. RoomsFor names (mails_from guest (number + 1) p.made x) (r ∷ tail)) (sym e) (fits m (met 0 m (omega arith)) refl refl, h)));
+              (p.more (r ∷ tail) (subst (λ (x : List Mail). RoomsFor names x (r ∷ tail)) (sym is) (fits p.made (met 0 m (omega arith)), h)));
           met = λ k d lt. met (suc k) d (omega arith);
           counted = let c = p.counted in let d = ap length e in omega arith;
         }

@@ -16,6 +16,7 @@ unfolding mails_from stores_of
 steps_are g n made [] = refl
 steps_are g n made (step.Store w v ∷ s) = let e = steps_are g n (made + 1) s in omega arith
 steps_are g n made (step.Post b l ∷ s) = let e = steps_are g (n + 1) made s in omega arith
+steps_are g n made (step.Scatter l ∷ s) = let e = steps_are g (n + 1) made s in omega arith
 
 short : (p q g : ℕ) (ss : List (List Step)) → p + q < 2 ^ 32 → length (all_mails g ss) ≤ p → length (all_stores ss) ≤ q → All (λ (s : List Step). length s < 2 ^ 32) ss
 unfolding all_mails all_stores
@@ -44,6 +45,7 @@ module _ (count : ℕ) where
   stores_in [] a = tt
   stores_in (step.Store w v ∷ s) a = (All-head Below (w, v) (stores_of s) a, stores_in s (All-tail Below (w, v) (stores_of s) a))
   stores_in (step.Post b l ∷ s) a = stores_in s a
+  stores_in (step.Scatter l ∷ s) a = stores_in s a
 
   all_in : (ss : List (List Step)) → All Below (all_stores ss) → All (StoresInside count) ss
   unfolding all_stores

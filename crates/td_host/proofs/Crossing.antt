@@ -22,7 +22,8 @@ use Rattle.td_core.proofs.module.Param.TheSendSync as param
 use Rattle.td_core.proofs.module.Cell.TheSendSync as cell
 use Rattle.td_core.proofs.module.Entry.TheSendSync as entry
 use Rattle.td_posts.proofs.job.Step.TheSendSync as step
-use Rattle.td_posts.proofs.mail.Mail.TheSendSync as mail
+use Rattle.td_posts.proofs.name.PostName.TheSendSync as post_name
+use Rattle.td_posts.specs.contracts.mail.Mail as mail
 use Rattle.td_core.specs.contracts.expressions.CoreExpr as expr
 use Rattle.td_core.specs.contracts.actions.Action as action
 use Rattle.td_core.specs.contracts.module.Element as element
@@ -41,7 +42,7 @@ use Rattle.td_ring.proofs.tickets.Tickets.TheSendSync as tickets
 use Rattle.td_verify.proofs.verify.Verified.TheSendSync as verified
 use Rattle.td_actors.specs.contracts.actor.Desk as desk
 
-pub ruleset leaves = (known.crosses, known.sync, step.the_sync, step.the_field_sync, mail.the_sync, mail.the_field_sync, span.the_field_sync, span.the_sync, number_type.the_field_sync, number_type.the_sync, items.the_sync, text.the_sync, scalar.the_field_sync, scalar.the_sync, binary.the_field_sync, binary.the_sync, relation.the_field_sync, relation.the_sync, name_id.the_field_sync, name_id.the_sync, bits.the_field_sync, bits.the_sync, param.the_field_sync, param.the_sync, cell.the_field_sync, cell.the_sync, entry.the_field_sync, entry.the_sync)
+pub ruleset leaves = (known.crosses, known.sync, step.the_sync, step.the_field_sync, post_name.the_sync, post_name.the_field_sync, span.the_field_sync, span.the_sync, number_type.the_field_sync, number_type.the_sync, items.the_sync, text.the_sync, scalar.the_field_sync, scalar.the_sync, binary.the_field_sync, binary.the_sync, relation.the_field_sync, relation.the_sync, name_id.the_field_sync, name_id.the_sync, bits.the_field_sync, bits.the_sync, param.the_field_sync, param.the_sync, cell.the_field_sync, cell.the_sync, entry.the_field_sync, entry.the_sync)
 
 pub expr_sync : IsSync expr.the_row
 expr_sync = search (sendable, leaves, expressions.crosses) depth 12
@@ -73,11 +74,14 @@ definition_sync = declared_sync definition.the_type (search (sendable, leaves, a
 pub module_sync : IsSync all.the_row
 module_sync = declared_sync all.the_type (search (sendable, leaves, as_row_sync, definition_sync) depth 12)
 
+pub mail_sync : IsSync mail.the_row
+mail_sync = declared_sync mail.the_type (search (sendable, leaves, as_row_sync) depth 12)
+
 pub host_job_sync : IsSync host_job.the_row
 host_job_sync = declared_sync host_job.the_type (search (sendable, leaves, as_row_sync, module_sync) depth 12)
 
 pub desk_sync : (J : RattleType) (N : Ghosts J.Denot) → IsSync (desk.the_row J N)
-desk_sync J N = declared_sync (desk.the_type J N) (search (sendable, leaves, as_row_sync, shared.the_sync, ring.the_sync, tickets.the_sync, verified.the_sync, host_job_sync) depth 12)
+desk_sync J N = declared_sync (desk.the_type J N) (search (sendable, leaves, as_row_sync, shared.the_sync, ring.the_sync, tickets.the_sync, verified.the_sync, host_job_sync, mail_sync) depth 12)
 
 -- a closure that captured two things
 pub tuple_sync : (ν : Sym) (A B : RattleType) → IsSync A → IsSync B → IsSync (TupleAt ν (A ∷ B ∷ []))

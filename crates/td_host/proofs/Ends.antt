@@ -43,12 +43,14 @@ unfolding acts_of stores_of
 stores_acts [] = refl
 stores_acts (step.Store w v ∷ steps) = ap (λ l. (w, v) ∷ l) (stores_acts steps)
 stores_acts (step.Post b l ∷ steps) = stores_acts steps
+stores_acts (step.Scatter l ∷ steps) = stores_acts steps
 
 loads_acts : (script : List Step) → loads (acts_of script) ≡ []
 unfolding acts_of
 loads_acts [] = refl
 loads_acts (step.Store w v ∷ steps) = loads_acts steps
 loads_acts (step.Post b l ∷ steps) = loads_acts steps
+loads_acts (step.Scatter l ∷ steps) = loads_acts steps
 
 pub owned-append : {A : Type 0} (ps qs : List (Part A)) → owned (ps ++ qs) ≡ owned ps ++ owned qs
 unfolding owned

@@ -10,7 +10,7 @@ use Rattle.td_posts.specs.declared.job.Step.TheVariants as step
 use Rattle.td_posts.specs.declared.mail.Mail.{Mail}
 use Rattle.td_posts.specs.declared.reply.Reply.{Reply}
 use Rattle.td_posts.specs.declared.job.HostJob.{HostJob}
-use Rattle.td_posts.specs.Posts.{mail, post_name, mails_from, mails_of, all_mails, mail_named, same_name, reply_name}
+use Rattle.td_posts.specs.Posts.{mail, scattered, post_name, mails_from, mails_of, all_mails, mail_named, same_name, reply_name}
 use Rattle.td_actors.specs.Replies.{IsReplyTo}
 use Rattle.td_host.specs.Served.{RepliesTo}
 use Rattle.td_actors.specs.Acting.{Answered}
@@ -57,22 +57,28 @@ rises-append (x ∷ xs) ys r s b =
 abbrev Of : ℕ → ℕ → Mail → Type 0
 Of g n m = (m.name.guest ≡ g) × (n ≤ m.name.number)
 
+of_next : (g n made : ℕ) (steps : List Step) (m : Mail) → m.name ≡ post_name g n → All (Of g (n + 1)) (mails_from g (n + 1) made steps) → All (Of g n) (m ∷ mails_from g (n + 1) made steps)
+of_next g n made steps m is later =
+    All-cons (Of g n) m (mails_from g (n + 1) made steps) (ap (λ (x : PostName). x.guest) is, (let e = ap (λ (x : PostName). x.number) is in omega arith))
+    (All-weaker (Of g (n + 1)) (Of g n) (λ y x. (x.0, (let h = x.1 in omega arith))) (mails_from g (n + 1) made steps) later)
+
 of_guest : (g n made : ℕ) (steps : List Step) → All (Of g n) (mails_from g n made steps)
 unfolding mails_from
 of_guest g n made [] = All-nil (Of g n)
 of_guest g n made (step.Store w v ∷ steps) = of_guest g n (made + 1) steps
-of_guest g n made (step.Post b l ∷ steps) =
-    All-cons (Of g n) (mail (post_name g n) made b l) (mails_from g (n + 1) made steps) (refl, omega arith)
-    (All-weaker (Of g (n + 1)) (Of g n) (λ m x. (x.0, (let h = x.1 in omega arith))) (mails_from g (n + 1) made steps) (of_guest g (n + 1) made steps))
+of_guest g n made (step.Post b l ∷ steps) = of_next g n made steps (mail (post_name g n) made b l) refl (of_guest g (n + 1) made steps)
+of_guest g n made (step.Scatter l ∷ steps) = of_next g n made steps (scattered (post_name g n) made l) refl (of_guest g (n + 1) made steps)
+
+before_later : (g n made : ℕ) (steps : List Step) → All (λ (x : Mail). Before (post_name g n) x.name) (mails_from g (n + 1) made steps)
+before_later g n made steps =
+    All-weaker (Of g (n + 1)) (λ (x : Mail). Before (post_name g n) x.name) (λ m x. inr (sym x.0, (let h = x.1 in omega arith))) (mails_from g (n + 1) made steps) (of_guest g (n + 1) made steps)
 
 rises_guest : (g n made : ℕ) (steps : List Step) → Rises (mails_from g n made steps)
 unfolding mails_from Rises
 rises_guest g n made [] = tt
 rises_guest g n made (step.Store w v ∷ steps) = rises_guest g n (made + 1) steps
-rises_guest g n made (step.Post b l ∷ steps) = (
-  All-weaker (Of g (n + 1)) (λ (x : Mail). Before (post_name g n) x.name) (λ m x. inr (sym x.0, (let h = x.1 in omega arith))) (mails_from g (n + 1) made steps) (of_guest g (n + 1) made steps),
-  rises_guest g (n + 1) made steps,
-)
+rises_guest g n made (step.Post b l ∷ steps) = (before_later g n made steps, rises_guest g (n + 1) made steps)
+rises_guest g n made (step.Scatter l ∷ steps) = (before_later g n made steps, rises_guest g (n + 1) made steps)
 
 abbrev From : ℕ → Mail → Type 0
 From g m = g ≤ m.name.guest

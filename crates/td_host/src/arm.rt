@@ -1,9 +1,10 @@
 //! Takes all room for a job, and makes what acts in it.
 
-ghost use Rattle.std.specs.Prelude.{◌≡◌, ◌+◌, ◌-◌, ◌*◌, ◌<◌, ◌≤◌, ◌^◌, [], ◌++◌, length, vec_capacity, IfOk, OnOk, Some};
+ghost use Rattle.std.specs.Prelude.{◌≡◌, ◌+◌, ◌-◌, ◌*◌, ◌<◌, ◌≤◌, ◌^◌, [], ◌++◌, length, vec_capacity, IfOk, OnOk, None, Some};
 ghost use Rattle.std.specs.List.{All};
 ghost use Rattle.td_ring.specs.declared.post.Post.{Post};
-ghost use Rattle.td_posts.specs.Posts.{mails_of, all_mails, mail_named, words_in, zeros, reply_name};
+ghost use Rattle.td_stream.specs.Layouts.{count_in};
+ghost use Rattle.td_posts.specs.Posts.{mails_of, all_mails, mail_named, scattered, zeros, reply_name};
 ghost use Rattle.td_posts.specs.Servable.{IsServable};
 ghost use Rattle.td_posts.specs.declared.limits.TheConstants.{MOST_WORKERS, MOST_POSTS};
 ghost use Rattle.td_actors.specs.Acting.{Fits, most_frames, RoomsFor};
@@ -12,9 +13,11 @@ ghost use Rattle.td_actors.specs.Actors.{service_at};
 ghost use Rattle.td_host.specs.Gathered.{IsBounded, host_at, posts_at, takes_at, draws_at, WorkersSeated, GuestsSeated};
 
 use crate::gather::Heads;
+use crate::script::copied_script;
 use crate::serve::Crew;
 use std::alloc::{AllocError, Global};
 use std::collections::VecDeque;
+use std::snapshot::Snapshot;
 use td_actors::actor::{Actor, Desk, Guest, Worker};
 use td_core::outcome::Verdict;
 use td_num::items::Items;
@@ -23,9 +26,23 @@ use td_posts::mail::{Mail, word_count};
 use td_posts::name::PostName;
 use td_posts::reply::Reply;
 use td_ring::naming::Naming;
+use td_stream::layout::Layout;
 use td_stream::loads::Loads;
 use td_verify::verify::Verified;
 use td_vm::validate::Frame;
+
+/// The post of a message that lies in these stretches. Takes no memory.
+fn scattered(name: PostName, made: u32, layout: &Layout) -> Mail
+    ensures { result ≡ scattered name made layout.now }
+{
+    Mail {
+        name,
+        made,
+        base: 0,
+        length: layout.length(),
+        layout: Some(Snapshot::of(layout)),
+    }
+}
 
 /// The posts of a guest's script.
 fn add_mails(guest: u32, script: &[Step], mails: &mut Vec<Mail>) -> Result<(), AllocError>
@@ -35,16 +52,21 @@ fn add_mails(guest: u32, script: &[Step], mails: &mut Vec<Mail>) -> Result<(), A
     let mut number = 0;
     let mut made = 0;
     for step in script {
-        match *step {
-            Step::Store { word: _, value: _ } => made += 1,
+        match step {
+            Step::Store { .. } => made += 1,
             Step::Post { base, length } => {
                 number += 1;
                 mails.push(Mail {
                     name: PostName { guest, number },
                     made,
-                    base,
-                    length,
+                    base: *base,
+                    length: *length,
+                    layout: None,
                 })?;
+            }
+            Step::Scatter { layout } => {
+                number += 1;
+                mails.push(scattered(PostName { guest, number }, made, layout))?;
             }
         }
     }
@@ -64,17 +86,18 @@ pub(crate) fn mails_of_all(alloc: Global, guests: &[Items<Step>]) -> Result<Vec<
     Ok(mails)
 }
 
-/// Room for the reply to a post of a message of `length` bytes, whose failure has so many frames at most.
+/// Room for the reply to a post of a message of so many words that lies at a word, whose failure has so many frames at most.
 fn room_for(
     alloc: Global,
     job: &HostJob,
     frames: usize,
     name: PostName,
-    length: u32,
+    words: u32,
 ) -> Result<Reply, AllocError>
     ensures name { IfOk result (λ r. reply_name r ≡ name) }
+    ensures at_word { IfOk result (λ r. r.layout ≡ None) }
     ensures empty { IfOk result (λ r. r.loads.list ≡ []) }
-    ensures room { IfOk result (λ r. words_in length ≤ r.loads.room) }
+    ensures room { IfOk result (λ r. words ≤ r.loads.room) }
     ensures cells { IfOk result (λ r. r.cells.items ≡ zeros job.now.cells) }
     ensures untold { IfOk result (λ r. r.trace.items ≡ []) }
     ensures trace_room { IfOk result (λ r. vec_capacity r.trace ≡ frames) }
@@ -82,11 +105,33 @@ fn room_for(
     Ok(Reply {
         guest: name.guest,
         number: name.number,
+        layout: None,
         verdict: Verdict::Accept { pos: 0 },
         trace: Vec::with_capacity(alloc, frames)?,
         cells: vec![in alloc; 0; job.cells as usize]?,
-        loads: Loads::with_room(alloc, word_count(length))?,
+        loads: Loads::with_room(alloc, words)?,
     })
+}
+
+/// Room for the reply to a post of a message that lies in these stretches, of which it has a copy.
+fn scatter_room(
+    alloc: Global,
+    job: &HostJob,
+    frames: usize,
+    name: PostName,
+    layout: &Layout,
+) -> Result<Reply, AllocError>
+    ensures name { IfOk result (λ r. reply_name r ≡ name) }
+    ensures layout { IfOk result (λ r. r.layout ≡ Some layout.now) }
+    ensures empty { IfOk result (λ r. r.loads.list ≡ []) }
+    ensures room { IfOk result (λ r. count_in layout.now ≤ r.loads.room) }
+    ensures cells { IfOk result (λ r. r.cells.items ≡ zeros job.now.cells) }
+    ensures untold { IfOk result (λ r. r.trace.items ≡ []) }
+    ensures trace_room { IfOk result (λ r. vec_capacity r.trace ≡ frames) }
+{
+    let mut room = room_for(alloc, job, frames, name, layout.count())?;
+    room.layout = Some(layout.copied(alloc)?);
+    Ok(room)
 }
 
 /// A room for each post of a guest's script.
@@ -105,12 +150,18 @@ fn rooms_for<J: Naming>(
     let mut rooms = VecDeque::new(alloc);
     let mut number = 0;
     for step in script {
-        match *step {
-            Step::Store { word: _, value: _ } => {}
+        match step {
+            Step::Store { .. } => {}
             Step::Post { base: _, length } => {
                 number += 1;
                 let name = PostName { guest, number };
-                rooms.push_back(room_for(alloc, job, frames, name, length)?)?;
+                let words = word_count(*length);
+                rooms.push_back(room_for(alloc, job, frames, name, words)?)?;
+            }
+            Step::Scatter { layout } => {
+                number += 1;
+                let name = PostName { guest, number };
+                rooms.push_back(scatter_room(alloc, job, frames, name, layout)?)?;
             }
         }
     }
@@ -171,7 +222,7 @@ fn seat_guests<J: Naming, G: Drop>(
         n += 1;
         let guest = Guest {
             number: n as u32,
-            script: Items::copy_of(alloc, script)?,
+            script: copied_script(alloc, script)?,
             seat: desk.shared.split_guest(&mut heads.seat),
             pass: desk.ring.split_post(&mut heads.posts),
             rooms: rooms_for::<J>(alloc, &desk.job, frames, n as u32, script)?,

@@ -9,5 +9,6 @@ pub mod desk;
 pub mod gather;
 pub mod host;
 pub mod order;
+mod script;
 pub mod serve;
 pub mod serving;

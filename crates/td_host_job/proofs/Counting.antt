@@ -8,9 +8,9 @@ use Rattle.serde_json.specs.View.{view, items_view}
 use Rattle.serde_json.specs.declared.value.Value.{Value}
 use Rattle.td_job.specs.Jobs.{spelled_word}
 use Rattle.td_posts.specs.declared.job.Step.{Step}
-use Rattle.td_posts.specs.declared.job.Step.TheVariants.{Store, Post}
+use Rattle.td_posts.specs.declared.job.Step.TheVariants.{Store}
 use Rattle.td_host_job.specs.declared.totals.Total.{Total}
-use Rattle.td_host_job.specs.Steps.{spelled_step, store_with, store_in, post_in, step_in, each_step}
+use Rattle.td_host_job.specs.Steps.{spelled_step, store_with, store_in, step_in, each_step}
 use Rattle.td_host_job.specs.Guests.{given_script, each_script}
 use Rattle.td_host_job.specs.Totals.{weight, total}
 
@@ -26,9 +26,6 @@ store_counts what word value n text same h = alone what (Store word value) n h �
 
 pub no_store_counts : (what : Total) (word : ℕ) (text : List ℕ) → None ≡ spelled_word text → 0 ≡ sum_by (weight what) (store_in word text)
 no_store_counts what word text same = ap (λ v. sum_by (weight what) (store_with word v)) same
-
-pub post_counts : (what : Total) (base size n : ℕ) → n ≡ weight what (Post base size) → n ≡ sum_by (weight what) (post_in base size)
-post_counts what base size n h = alone what (Post base size) n h
 
 -- what the steps from a place on count
 abbrev pub steps_from : Total → List Value → ℕ → ℕ
@@ -59,6 +56,10 @@ no_guests what values i h = at_drop_all (λ vs. total what (each_script (items_v
 -- one more part of a sum that stops at the most
 pub one_more : (most sum after one rest whole : ℕ) → after ≡ min (sum + one) most → whole ≡ one + rest → min (after + rest) most ≡ min (sum + whole) most
 one_more most sum after one rest whole added parts = omega arith
+
+-- the same of a part that itself stops there
+pub one_part_more : (most sum after part one rest whole : ℕ) → after ≡ min (sum + part) most → part ≡ min one most → whole ≡ one + rest → min (after + rest) most ≡ min (sum + whole) most
+one_part_more most sum after part one rest whole added stops parts = omega arith
 
 -- and its end
 pub at_end : (most sum rest : ℕ) → sum ≤ most → rest ≡ 0 → sum ≡ min (sum + rest) most

@@ -13,13 +13,13 @@ use Rattle.td_posts.specs.declared.limits.TheConstants.{MOST_GUESTS}
 use Rattle.td_host_job.specs.Steps.{step_parts}
 use Rattle.td_host_job.specs.Guests.{guests_faults, each_guest_faults}
 
--- a list of another length than three has no parts
-pub other_count : (values : List Value) → (length values ≡ 3 → ⊥) → None ≡ step_parts (items_view values)
-other_count [] h = refl
-other_count (a ∷ []) h = refl
-other_count (a ∷ b ∷ []) h = refl
-other_count (a ∷ b ∷ c ∷ []) h = absurd (h refl)
-other_count (a ∷ b ∷ c ∷ d ∷ values) h = refl
+-- a list of another length than two or three has no parts
+pub other_count : (values : List Value) → (length values ≡ 2 → ⊥) → (length values ≡ 3 → ⊥) → None ≡ step_parts (items_view values)
+other_count [] two three = refl
+other_count (a ∷ []) two three = refl
+other_count (a ∷ b ∷ []) two three = absurd (two refl)
+other_count (a ∷ b ∷ c ∷ []) two three = absurd (three refl)
+other_count (a ∷ b ∷ c ∷ d ∷ values) two three = refl
 
 -- so many guests are none or too many
 abbrev pub past_limit : ℕ → Bool

@@ -26,7 +26,9 @@ use Rattle.td_job.specs.Jobs.{IsEntry, bytes_faults, spelled_bytes, first_unknow
 use Rattle.td_posts.specs.declared.job.HostJob.{HostJob}
 use Rattle.td_posts.specs.declared.mail.Mail.{Mail}
 use Rattle.td_posts.specs.declared.limits.TheConstants.{MOST_GUESTS, MOST_POSTS}
-use Rattle.td_posts.specs.Posts.{words_in}
+use Rattle.td_stream.specs.declared.layout.TheConstants.{MOST_STRETCHES}
+use Rattle.td_stream.specs.Layouts.{length_in}
+use Rattle.td_posts.specs.Posts.{words_in, layout_of}
 use Rattle.td_posts.specs.Servable.{job_mails}
 use Rattle.td_host_job.specs.Guests.{listed_in, workers_faults, guests_faults, given_guests, BeginsWithName}
 use Rattle.td_host_job.specs.Totals.{totals_faults}
@@ -98,9 +100,13 @@ pub record HasHostValues (m : Module) (j : HostJob) : Type 0 where
   pub args : AllFit (args_bounds (entry_definition m j.entry.number)) j.args
   pub cells : j.cells ≡ length (cells_bounds (entry_definition m j.entry.number))
 
--- no message has more than a MiB
+-- a message of at most a MiB, and of few stretches
+pub record IsShort (mail : Mail) : Type 0 where
+  pub bytes : length_in (layout_of mail) ≤ MOST_BYTES
+  pub stretches : length (layout_of mail) ≤ MOST_STRETCHES
+
 abbrev pub HasShortMessages : HostJob → Type 0
-HasShortMessages j = All (λ (mail : Mail). mail.length ≤ MOST_BYTES) (job_mails j)
+HasShortMessages j = All IsShort (job_mails j)
 
 -- its entry point is the module's, with a value for each parameter; its messages are short, and its guests and posts few
 pub record KeepsLimits (m : Module) (j : HostJob) : Type 0 where

@@ -1,4 +1,5 @@
 pub mod Steps
+pub mod Scatter
 pub mod Guests
 pub mod Totals
 pub mod HostJobs

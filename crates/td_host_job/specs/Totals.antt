@@ -9,9 +9,10 @@ use Rattle.td_job.specs.declared.error.JobRule.TheVariants as rule
 use Rattle.td_job.specs.declared.error.Path.TheVariants as path
 use Rattle.td_job.specs.Fields.{fault_if}
 use Rattle.td_posts.specs.declared.job.Step.{Step}
-use Rattle.td_posts.specs.declared.job.Step.TheVariants.{Store, Post}
+use Rattle.td_posts.specs.declared.job.Step.TheVariants.{Store, Post, Scatter}
 use Rattle.td_posts.specs.declared.limits.TheConstants.{MOST_POSTS, MOST_STORES, MOST_MESSAGE_WORDS}
 use Rattle.td_posts.specs.Posts.{words_in}
+use Rattle.td_stream.specs.Layouts.{count_in}
 use Rattle.td_host_job.specs.declared.totals.Total.{Total}
 use Rattle.td_host_job.specs.declared.totals.Total.TheVariants.{Posts, Stores, Words}
 
@@ -19,10 +20,13 @@ use Rattle.td_host_job.specs.declared.totals.Total.TheVariants.{Posts, Stores, W
 abbrev pub weight : Total → Step → ℕ
 weight Posts (Store word value) = 0
 weight Posts (Post base length) = 1
+weight Posts (Scatter layout) = 1
 weight Stores (Store word value) = 1
 weight Stores (Post base length) = 0
+weight Stores (Scatter layout) = 0
 weight Words (Store word value) = 0
 weight Words (Post base length) = words_in length
+weight Words (Scatter layout) = count_in layout
 
 abbrev pub most_of : Total → ℕ
 most_of Posts = MOST_POSTS

@@ -7,5 +7,6 @@ mod fields;
 mod guests;
 pub mod host_job;
 pub mod laws;
+mod scatter;
 mod steps;
 mod totals;

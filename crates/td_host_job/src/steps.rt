@@ -3,9 +3,10 @@
 ghost use Rattle.std.specs.Prelude.{◌≡◌, ◌≢◌, [], ◌∷◌, ◌⊎◌, Err, OnOk, IfOk, IfErr, option_map};
 ghost use Rattle.serde_json.specs.View.{view, items_view};
 ghost use Rattle.td_job.specs.Fields.{IsFirst, whole};
-ghost use Rattle.serde_json.specs.Find.{as_str};
-ghost use Rattle.td_host_job.specs.Steps.{spelled_as, spelled_store, spelled_post, spelled_step, store_faults, post_faults, step_faults, step_in, store_in, post_in, each_step, each_step_faults};
+ghost use Rattle.serde_json.specs.Find.{as_array, as_str};
+ghost use Rattle.td_host_job.specs.Steps.{spelled_as, spelled_store, spelled_post, spelled_scatter, by_verb, by_list, spelled_step, store_faults, post_faults, step_faults, step_in, store_in, post_in, each_step, each_step_faults};
 
+use crate::scatter::{are_stretches, check_scatter, scatter_of};
 use serde_json::Value;
 use std::alloc::Global;
 use td_job::checks::MOST_BYTES;
@@ -19,6 +20,8 @@ use td_posts::job::Step;
 pub(crate) enum Spelled<'a> {
     Store { word: u64, text: &'a str },
     Post { base: u64, length: u64 },
+    /// A post of the message whose stretches these values spell.
+    Scatter { stretches: &'a [Value] },
 }
 
 /// A store by the parts after its verb. None: they are no whole number and a text.
@@ -41,13 +44,33 @@ fn spelled_post<'a>(base: &Value, length: &Value) -> Option<Spelled<'a>>
     })
 }
 
-/// A step. None: the value is no list of exactly a verb and its two parts.
-pub(crate) fn spelled_step(value: &Value) -> Option<Spelled<'_>>
-    ensures { option_map spelled_as result ≡ spelled_step (view value.now) }
+/// A post of a message by the list of its stretches. None: it is no list, or one of its values is no stretch.
+fn spelled_scatter(list: &Value) -> Option<Spelled<'_>>
+    ensures { option_map spelled_as result ≡ spelled_scatter (as_array (view list.now)) }
 {
-    let [verb, first, second] = value.as_array()?.as_slice() else {
-        return None;
-    };
+    let stretches = list.as_array()?.as_slice();
+    if are_stretches(stretches) {
+        Some(Spelled::Scatter { stretches })
+    } else {
+        None
+    }
+}
+
+/// A step by its verb and its list. None: it is no post, or none by this list.
+fn spelled_by_list<'a>(verb: &Value, list: &'a Value) -> Option<Spelled<'a>>
+    ensures { option_map spelled_as result ≡ by_list (as_str (view verb.now)) (view list.now) }
+{
+    if verb.as_str()? == "post" {
+        spelled_scatter(list)
+    } else {
+        None
+    }
+}
+
+/// A step by its verb and its two parts. None: there is no such verb, or its parts have another form.
+fn spelled_by_verb<'a>(verb: &Value, first: &Value, second: &'a Value) -> Option<Spelled<'a>>
+    ensures { option_map spelled_as result ≡ by_verb (as_str (view verb.now)) (view first.now) (view second.now) }
+{
     let verb = verb.as_str()?;
     if verb == "store" {
         spelled_store(first, second)
@@ -55,6 +78,17 @@ pub(crate) fn spelled_step(value: &Value) -> Option<Spelled<'_>>
         spelled_post(first, second)
     } else {
         None
+    }
+}
+
+/// A step. None: the value is no list of exactly a verb and its two parts, or of `post` and a list of stretches.
+pub(crate) fn spelled_step(value: &Value) -> Option<Spelled<'_>>
+    ensures { option_map spelled_as result ≡ spelled_step (view value.now) }
+{
+    match value.as_array()?.as_slice() {
+        [verb, list] => spelled_by_list(verb, list),
+        [verb, first, second] => spelled_by_verb(verb, first, second),
+        _ => None,
     }
 }
 
@@ -97,19 +131,47 @@ fn post_of(base: u64, length: u64, place: Path, words: u32) -> Result<Step, JobE
     }
 }
 
-/// A step of a guest's script, for a buffer of so many words. J2: it has another form. J5: a store's text is not 16
+/// Tests a step of a guest's script, for a buffer of so many words. J2: it has another form. J5: a store's text is not 16
 /// hexadecimal digits. J6: a store's word is none of the buffer's. J7: a message passes the end of the buffer. J8: it has
-/// more than 1,048,576 bytes.
-fn step_of(value: &Value, guest: usize, index: usize, words: u32) -> Result<Step, JobError>
-    ensures ok { IfOk result (λ s. (step_faults words (Path.Step guest index) (spelled_step (view value.now)) ≡ []) × (step_in (spelled_step (view value.now)) ≡ s ∷ [])) }
+/// more than 1,048,576 bytes, or more than 64 stretches. Takes no memory.
+fn check_step(value: &Value, guest: usize, index: usize, words: u32) -> Result<(), JobError>
+    ensures ok { OnOk result (step_faults words (Path.Step guest index) (spelled_step (view value.now)) ≡ []) }
     ensures err { IfErr result (IsFirst (step_faults words (Path.Step guest index) (spelled_step (view value.now)))) }
     ensures broken { IfErr result (λ e. e ≢ JobError.NoMemory) }
 {
     let place = Path::Step { guest, index };
     match spelled_step(value) {
         None => Err(JobRule::Form.at(place)),
+        Some(Spelled::Store { word, text }) => {
+            store_of(word, text, place, words)?;
+            Ok(())
+        }
+        Some(Spelled::Post { base, length }) => {
+            post_of(base, length, place, words)?;
+            Ok(())
+        }
+        Some(Spelled::Scatter { stretches }) => check_scatter(stretches, place, words),
+    }
+}
+
+/// A step of a guest's script, for a buffer of so many words. J2, J5 to J8: as `check_step`. `NoMemory`: there is no fault, and
+/// there was no memory for the step.
+fn step_of(
+    alloc: Global,
+    value: &Value,
+    guest: usize,
+    index: usize,
+    words: u32,
+) -> Result<Step, JobError>
+    ensures ok { IfOk result (λ s. (step_faults words (Path.Step guest index) (spelled_step (view value.now)) ≡ []) × (step_in (spelled_step (view value.now)) ≡ s ∷ [])) }
+    ensures err { IfErr result (λ e. (e ≡ JobError.NoMemory) ⊎ IsFirst (step_faults words (Path.Step guest index) (spelled_step (view value.now))) e) }
+{
+    let place = Path::Step { guest, index };
+    match spelled_step(value) {
+        None => Err(JobRule::Form.at(place)),
         Some(Spelled::Store { word, text }) => store_of(word, text, place, words),
         Some(Spelled::Post { base, length }) => post_of(base, length, place, words),
+        Some(Spelled::Scatter { stretches }) => scatter_of(alloc, stretches, place, words),
     }
 }
 
@@ -120,7 +182,7 @@ pub(crate) fn check_each_step(values: &[Value], guest: usize, words: u32) -> Res
     ensures broken { IfErr result (λ e. e ≢ JobError.NoMemory) }
 {
     for (index, value) in values.iter().enumerate() {
-        step_of(value, guest, index, words)?;
+        check_step(value, guest, index, words)?;
     }
     Ok(())
 }
@@ -140,7 +202,7 @@ pub(crate) fn steps_of(
     check_each_step(values, guest, words)?;
     let mut steps = Items::new(alloc);
     for (index, value) in values.iter().enumerate() {
-        let step = step_of(value, guest, index, words)?;
+        let step = step_of(alloc, value, guest, index, words)?;
         steps.push(step)?;
     }
     Ok(steps)

@@ -5,11 +5,13 @@ ghost use Rattle.std.specs.List.{sum_by};
 ghost use Rattle.serde_json.specs.View.{view, items_view};
 ghost use Rattle.td_job.specs.Fields.{IsFirst};
 ghost use Rattle.td_posts.specs.declared.job.Step.TheVariants as step;
+ghost use Rattle.td_job.specs.Stretches.{each_stretch};
 ghost use Rattle.td_host_job.specs.Steps.{spelled_step, step_in, store_in, each_step};
 ghost use Rattle.td_host_job.specs.Guests.{given_script, each_script};
 ghost use Rattle.td_host_job.specs.Totals.{weight, most_of, key_of, total, total_fault, totals_faults};
 
 use crate::guests::listed;
+use crate::scatter::Measure;
 use crate::steps::{Spelled, spelled_step};
 use serde_json::Value;
 use td_job::error::{JobError, JobRule, Key, Path};
@@ -46,6 +48,17 @@ impl Total {
         }
     }
 
+    /// By how much a post of the message counts whose stretches these values spell; at most 2^64 - 1.
+    fn of_scatter(self, stretches: &[Value]) -> u64
+        ensures { result ≡ min (weight self (step.Scatter (each_stretch (items_view stretches.now)))) (2 ^ 64 - 1) }
+    {
+        match self {
+            Total::Posts => 1,
+            Total::Stores => 0,
+            Total::Words => Measure::Words.over(stretches),
+        }
+    }
+
     /// By how much a store of this text counts; a text that is no word is no store.
     fn of_text(self, text: &str) -> u64
         ensures { (word : ℕ) → result ≡ sum_by (weight self) (store_in word text.now) }
@@ -56,14 +69,15 @@ impl Total {
         }
     }
 
-    /// By how much the step that a value spells counts; one that spells none counts nothing.
+    /// By how much the step that a value spells counts, at most 2^64 - 1; one that spells none counts nothing.
     fn of_step(self, value: &Value) -> u64
-        ensures { result ≡ sum_by (weight self) (step_in (spelled_step (view value.now))) }
+        ensures { result ≡ min (sum_by (weight self) (step_in (spelled_step (view value.now)))) (2 ^ 64 - 1) }
     {
         match spelled_step(value) {
             None => 0,
             Some(Spelled::Store { text, .. }) => self.of_text(text),
             Some(Spelled::Post { length, .. }) => self.of_post(length),
+            Some(Spelled::Scatter { stretches }) => self.of_scatter(stretches),
         }
     }
 

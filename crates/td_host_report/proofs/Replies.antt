@@ -1,8 +1,8 @@
 -- What the lines of a host's report determine.
-use Rattle.std.proofs.Common.{◌≡◌, ◌≢◌, ℕ, ◌<◌, ◌^◌, None, List, [], ◌∷◌, ◌++◌, map, flat_map, refl, sym, ap, ◌∙◌, append_assoc, arith, lit<, codes, decimal}
+use Rattle.std.proofs.Common.{◌≡◌, ◌≢◌, ℕ, ◌<◌, ◌^◌, Option, List, [], ◌∷◌, ◌++◌, map, flat_map, refl, sym, ap, ◌∙◌, append_assoc, arith, lit<, codes, decimal}
 use Rattle.std.proofs.lemmas.Fmt.{decimal_injective}
 use Rattle.std.proofs.lemmas.Grind.{flat_map-append}
-use Rattle.std.proofs.lemmas.List.Elements.{All-head, All-tail, All-cons, All-weaker}
+use Rattle.std.proofs.lemmas.List.Elements.{All-head, All-tail, All-cons}
 use Rattle.std.specs.List.{All}
 use Rattle.td_core.specs.declared.module.Module.{Module}
 use Rattle.td_core.specs.declared.module.Entry.{Entry}
@@ -12,7 +12,8 @@ use Rattle.td_core.specs.declared.outcome.Verdict.TheVariants.{Accept, Reject}
 use Rattle.td_core.specs.declared.outcome.TraceFrame.{TraceFrame}
 use Rattle.td_stream.specs.declared.load.Load.{Load}
 use Rattle.td_report.specs.Report.{line, report}
-use Rattle.td_report.specs.Laws.{HasWords, HasNoSpotWord, frames_of, IsOf64Bits, IsShownLoad}
+use Rattle.td_stream.specs.declared.stretch.Stretch.{Stretch}
+use Rattle.td_report.specs.Laws.{HasWords, HasNoSpotWord, frames_of, ShownLoad, shown_loads}
 use Rattle.td_report.proofs.Cutting.{Above, above_append, cut_after, AreLines, lines_append, same_lines}
 use Rattle.td_report.proofs.Lines.{differ, decimal_above, verdict_words, frame_words, cell_words, load_words}
 use Rattle.td_report.proofs.Determining.{shown_cells, part_words, report_by_lines, parts_are_lines, all_begin, both_all, reports_determine_outcomes}
@@ -71,23 +72,20 @@ verdict_others : (v : Verdict) → Others (verdict_words v)
 verdict_others (Accept pos) e = differ 99 112 (lit< tt) e
 verdict_others (Reject reason pos) e = differ 106 112 (lit< tt) e
 
-run_others : (m : Module) (entry : Entry) (o : Outcome) (loads : List Load) → All Others (verdict_words o.verdict ∷ part_words m entry o loads None)
-run_others m entry o loads =
+run_others : (m : Module) (entry : Entry) (o : Outcome) (loads : List Load) (layout : Option (List Stretch)) → All Others (verdict_words o.verdict ∷ part_words m entry o loads layout)
+run_others m entry o loads layout =
     let frames = map (frame_words m) (frames_of o.verdict o.trace) in
     let cells = map (cell_words m) (shown_cells m entry o) in
-    All-cons Others (verdict_words o.verdict) (part_words m entry o loads None) (verdict_others o.verdict)
-    (both_all Others frames (cells ++ map (load_words None) loads)
+    All-cons Others (verdict_words o.verdict) (part_words m entry o loads layout) (verdict_others o.verdict)
+    (both_all Others frames (cells ++ map (load_words layout) loads)
     (all_begin Others (frame_words m) (λ f e. differ 97 112 (lit< tt) e) (frames_of o.verdict o.trace))
-    (both_all Others cells (map (load_words None) loads)
+    (both_all Others cells (map (load_words layout) loads)
     (all_begin Others (cell_words m) (λ c e. differ 112 116 (lit< tt) (sym e)) (shown_cells m entry o))
-    (all_begin Others (load_words None) (λ l e. differ 97 112 (lit< tt) e) loads)))
-
-all_shown : (loads : List Load) → All IsOf64Bits loads → All (IsShownLoad None) loads
-all_shown loads h = All-weaker IsOf64Bits (IsShownLoad None) (λ l bits. record { bits = bits; by = tt }) loads h
+    (all_begin Others (load_words layout) (λ l e. differ 97 112 (lit< tt) e) loads)))
 
 -- the words of all lines of a reply
 abbrev run_words : Module → Entry → Reply → List (List ℕ)
-run_words m entry r = verdict_words r.verdict ∷ part_words m entry (outcome_in r) r.loads.list None
+run_words m entry r = verdict_words r.verdict ∷ part_words m entry (outcome_in r) r.loads.list r.layout
 
 abbrev all_words : Module → Entry → List Reply → List (List ℕ)
 all_words m entry replies = flat_map (λ r. reply_words r ∷ run_words m entry r) replies
@@ -95,8 +93,8 @@ all_words m entry replies = flat_map (λ r. reply_words r ∷ run_words m entry 
 reply_by_lines : (m : Module) (entry : Entry) (r : Reply) → reply_report m entry r ≡ flat_map line (reply_words r ∷ run_words m entry r)
 unfolding reply_report
 reply_by_lines m entry r =
-    ap (λ l. l ++ report (outcome_in r) m entry r.loads.list None) (reply_is r)
-    ∙ ap (λ l. line (reply_words r) ++ l) (report_by_lines m (outcome_in r) entry r.loads.list None)
+    ap (λ l. l ++ report (outcome_in r) m entry r.loads.list r.layout) (reply_is r)
+    ∙ ap (λ l. line (reply_words r) ++ l) (report_by_lines m (outcome_in r) entry r.loads.list r.layout)
 
 host_by_lines : (m : Module) (entry : Entry) (replies : List Reply) → host_report m entry replies ≡ flat_map line (all_words m entry replies)
 host_by_lines m entry [] = refl
@@ -111,7 +109,7 @@ host_are_lines m entry [] words h = tt
 host_are_lines m entry (r ∷ replies) words h =
     let here = All-head (IsReportable m entry) r replies h in
     lines_append (reply_words r ∷ run_words m entry r) (all_words m entry replies)
-    (reply_above r here.guest here.number, parts_are_lines m entry (outcome_in r) r.loads.list None words here.named here.cells (all_shown r.loads.list here.loads))
+    (reply_above r here.guest here.number, parts_are_lines m entry (outcome_in r) r.loads.list r.layout words here.named here.cells here.loads)
     (host_are_lines m entry replies words (All-tail (IsReportable m entry) r replies h))
 
 -- ---- cut where the line of a reply begins
@@ -144,16 +142,18 @@ same_reply : (m : Module) (e f : Entry) (r q : Reply) → HasWords m → HasNoSp
     → reply_words r ≡ reply_words q → run_words m e r ≡ run_words m f q → reported_reply r ≡ reported_reply q
 same_reply m e f r q words none hr hq first rest =
     let numbers = same_numbers r q hr.guest hr.number hq.guest hq.number first in
-    let reports : report (outcome_in r) m e r.loads.list None ≡ report (outcome_in q) m f q.loads.list None =
-    report_by_lines m (outcome_in r) e r.loads.list None ∙ ap (flat_map line) rest ∙ sym (report_by_lines m (outcome_in q) f q.loads.list None) in
-    let parts = reports_determine_outcomes m (outcome_in r) (outcome_in q) e f None r.loads.list q.loads.list words none hr.named hq.named hr.frames hq.frames hr.cells hq.cells (all_shown r.loads.list hr.loads) (all_shown q.loads.list hq.loads) reports in
-    let make : ℕ → ℕ → Verdict → List TraceFrame → List ℕ → List Load → ReportedReply =
+    let reports : report (outcome_in r) m e r.loads.list r.layout ≡ report (outcome_in q) m f q.loads.list q.layout =
+    report_by_lines m (outcome_in r) e r.loads.list r.layout ∙ ap (flat_map line) rest ∙ sym (report_by_lines m (outcome_in q) f q.loads.list q.layout) in
+    let parts =
+    reports_determine_outcomes m (outcome_in r) (outcome_in q) e f r.layout q.layout r.loads.list q.loads.list words none hr.named hq.named hr.frames hq.frames hr.cells hq.cells hr.loads hq.loads reports in
+    let make : ℕ → ℕ → Verdict → List TraceFrame → List ℕ → List ShownLoad → ReportedReply =
     λ guest number verdict trace cells loads. record { guest = guest; number = number; outcome = record { verdict = verdict; trace = trace; cells = cells }; loads = loads } in
-    ap (λ x. make x r.number r.verdict r.trace.items r.cells.items r.loads.list) numbers.0
-    ∙ ap (λ x. make q.guest x r.verdict r.trace.items r.cells.items r.loads.list) numbers.1
-    ∙ ap (λ x. make q.guest q.number x r.trace.items r.cells.items r.loads.list) parts.0
-    ∙ ap (λ x. make q.guest q.number q.verdict x r.cells.items r.loads.list) parts.1
-    ∙ ap (λ x. make q.guest q.number q.verdict q.trace.items x r.loads.list) parts.2
+    let shown = shown_loads r.layout r.loads.list in
+    ap (λ x. make x r.number r.verdict r.trace.items r.cells.items shown) numbers.0
+    ∙ ap (λ x. make q.guest x r.verdict r.trace.items r.cells.items shown) numbers.1
+    ∙ ap (λ x. make q.guest q.number x r.trace.items r.cells.items shown) parts.0
+    ∙ ap (λ x. make q.guest q.number q.verdict x r.cells.items shown) parts.1
+    ∙ ap (λ x. make q.guest q.number q.verdict q.trace.items x shown) parts.2
     ∙ ap (λ x. make q.guest q.number q.verdict q.trace.items q.cells.items x) parts.3
 
 same_replies : (m : Module) (e f : Entry) (rs qs : List Reply) → HasWords m → HasNoSpotWord m → All (IsReportable m e) rs → All (IsReportable m f) qs
@@ -168,7 +168,7 @@ same_replies m e f (r ∷ rs) (q ∷ qs) words none hr hq same =
     let later : run_words m e r ++ all_words m e rs ≡ run_words m f q ++ all_words m f qs = cc in
     let parts =
     cut_seam (run_words m e r) (all_words m e rs) (run_words m f q) (all_words m f qs)
-    (run_others m e (outcome_in r) r.loads.list) (seam m e rs) (run_others m f (outcome_in q) q.loads.list) (seam m f qs) later in
+    (run_others m e (outcome_in r) r.loads.list r.layout) (seam m e rs) (run_others m f (outcome_in q) q.loads.list q.layout) (seam m f qs) later in
     let here = same_reply m e f r q words none (All-head R r rs hr) (All-head Q q qs hq) first parts.0 in
     let rest = same_replies m e f rs qs words none (All-tail R r rs hr) (All-tail Q q qs hq) parts.1 in
     cc

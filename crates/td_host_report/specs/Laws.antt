@@ -1,24 +1,23 @@
--- What the report of a host determines: equal reports are of equal replies.
+-- What the report of a host determines: equal reports are of replies of which it says the same.
 use Rattle.std.specs.Prelude.{◌≡◌, ℕ, ◌<◌, ◌^◌, List, map}
 use Rattle.std.specs.List.{All}
 use Rattle.td_core.specs.declared.module.Module.{Module}
 use Rattle.td_core.specs.declared.module.Entry.{Entry}
 use Rattle.td_core.specs.declared.outcome.Outcome.{Outcome}
-use Rattle.td_stream.specs.declared.load.Load.{Load}
-use Rattle.td_report.specs.Laws.{HasWords, HasNoSpotWord, IsNamedOutcome, HasFrames, HasCells, IsOf64Bits}
+use Rattle.td_report.specs.Laws.{HasWords, HasNoSpotWord, IsNamedOutcome, HasFrames, HasCells, IsShownLoad, ShownLoad, shown_loads}
 use Rattle.td_posts.specs.declared.reply.Reply.{Reply}
 use Rattle.td_posts.specs.Posts.{outcome_in}
 use Rattle.td_host_report.specs.Report.{host_report}
 
--- what a report says of a reply: all of it
+-- what a report says of a reply: all of it, each load by what is said of it
 pub record ReportedReply : Type 0 where
   pub guest : ℕ
   pub number : ℕ
   pub outcome : Outcome
-  pub loads : List Load
+  pub loads : List ShownLoad
 
 abbrev pub reported_reply : Reply → ReportedReply
-reported_reply r = record { guest = r.guest; number = r.number; outcome = outcome_in r; loads = r.loads.list }
+reported_reply r = record { guest = r.guest; number = r.number; outcome = outcome_in r; loads = shown_loads r.layout r.loads.list }
 
 -- a reply of the entry point's cells and the module's names, within 64 bits
 pub record IsReportable (m : Module) (entry : Entry) (r : Reply) : Type 0 where
@@ -27,9 +26,10 @@ pub record IsReportable (m : Module) (entry : Entry) (r : Reply) : Type 0 where
   pub named : IsNamedOutcome m (outcome_in r)
   pub frames : HasFrames r.verdict r.trace.items
   pub cells : HasCells m entry (outcome_in r)
-  pub loads : All IsOf64Bits r.loads.list
+  pub loads : All (IsShownLoad r.layout) r.loads.list
 
--- where no field is named `where` or `switch`, equal reports are of equal replies
+-- where no field is named `where` or `switch`, equal reports are of replies with equal guests, numbers and outcomes, and with loads of
+-- which a report says the same
 abbrev pub HostReportsDetermineReplies : Type 0
 HostReportsDetermineReplies =
     (m : Module) (e f : Entry) (rs qs : List Reply) → HasWords m → HasNoSpotWord m → All (IsReportable m e) rs → All (IsReportable m f) qs

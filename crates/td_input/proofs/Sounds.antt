@@ -1,5 +1,5 @@
 -- In a module that was checked, each expression that a run of a good job evaluates lies in its type's range.
-use Rattle.std.proofs.Common.{◌≡◌, ℕ, zero, suc, ◌<◌, ◌^◌, List, [], ◌∷◌, length, Option, Some, None, slice_get, subst, sym, ap, ◌∙◌, refl, arith}
+use Rattle.std.proofs.Common.{◌≡◌, ℕ, zero, suc, ◌<◌, ◌^◌, List, [], ◌∷◌, length, Option, Some, None, slice_get, subst, sym, refl, arith}
 use Rattle.td_num.specs.Lists.{AreBytes, Each}
 use Rattle.td_core.specs.declared.module.Module.{Module}
 use Rattle.td_core.specs.declared.module.TypeDef.{TypeDef}

@@ -1,8 +1,9 @@
 //! The module and the run job of an input, or why it has none.
 
-ghost use Rattle.std.specs.Prelude.{◌≡◌, ◌<◌, ◌≤◌, ◌^◌, ◌-◌, ◌*◌, ℕ, Err, length, IfOk, IfErr, IsErr, IsErrOf};
+ghost use Rattle.std.specs.Prelude.{◌≡◌, ◌<◌, ◌^◌, ◌-◌, ℕ, Err, length, IfOk, IfErr, IsErr, IsErrOf};
 ghost use Rattle.td_core.specs.declared.module.Module.{Module};
 ghost use Rattle.td_job.specs.declared.run_job.RunJob.{RunJob};
+ghost use Rattle.td_job.specs.Jobs.{HasRoom};
 ghost use Rattle.td_input.specs.declared.refusal.Refusal.{Refusal};
 ghost use Rattle.td_input.specs.Causes.{HasCause, HasParts};
 ghost use Rattle.td_input.specs.Marker.{IsMarker};
@@ -32,8 +33,7 @@ pub struct RunInput {
 pub fn parse_run_input(alloc: Global, input: &[u8]) -> Result<RunInput, InputError>
     requires { length input.now < 2 ^ 32 - 1 }
     ensures input { IfOk result (λ given. IsRunInput input.now given.module given.job) }
-    ensures many { IfOk result (λ given. length given.job.words < 2 ^ 32) }
-    ensures room { IfOk result (λ given. given.job.length ≤ 8 * length given.job.words) }
+    ensures room { IfOk result (λ given. HasRoom given.job) }
     ensures cause { IfErr result (HasCause (RefusesRun input.now)) }
     ensures sound { IfOk result (λ given. IsSoundJob given.module given.job) }
     ensures complete { (m : Module) (job : RunJob) → IsRunInput input.now m job → IfErr result (λ e. e ≡ InputError.NoMemory) }

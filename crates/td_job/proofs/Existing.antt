@@ -22,8 +22,9 @@ use Rattle.td_job.specs.declared.error.JobRule.TheVariants as rule
 use Rattle.td_job.specs.declared.error.JobError.TheVariants.{Fault}
 use Rattle.td_job.specs.declared.run_job.RunJob.{RunJob}
 use Rattle.td_job.specs.Fields.{Reads, text_of}
+use Rattle.td_job.specs.Stretches.{given_layout}
 use Rattle.td_job.specs.Values.{given_args, given_cells}
-use Rattle.td_job.specs.Jobs.{given_bytes, given_stores, message_words, spelled_bytes, bytes_or_none, EntryFault, IsEntry, FirstFaultOf, later_faults, length_faults, IsJob, IsRunJob, RefusedJobOf, RefusedJob}
+use Rattle.td_job.specs.Jobs.{given_bytes, given_stores, job_words, spelled_bytes, bytes_or_none, EntryFault, IsEntry, FirstFaultOf, later_faults, length_faults, IsJob, IsRunJob, RefusedJobOf, RefusedJob}
 use Rattle.td_job.proofs.Bytes.{AreBytes, filled}
 use Rattle.td_job.proofs.Numbers.{both_empty}
 use Rattle.td_job.proofs.Unique.{Later}
@@ -100,9 +101,9 @@ entry_or_fault m (Some name) =
       | inr none ↦ inr (Fault rule.NoEntry (path.Whole key.Entry), (refl, λ n less h. none n h.0 h))
     ]
 
-has_length : (given : ℕ) (number : Option ℕ) → length_faults given number ≡ [] → (n : ℕ) × (number ≡ Some n)
-has_length given None h = absurd (cc)
-has_length given (Some n) h = (n, refl)
+has_length : (stretches : Option Data) (given : ℕ) (number : Option ℕ) → length_faults stretches given number ≡ [] → (n : ℕ) × (number ≡ Some n)
+has_length stretches given None h = absurd (cc)
+has_length stretches given (Some n) h = (n, refl)
 
 faultless_job : (m : Module) (job : Data) (entry : Entry) → IsEntry m (text_of key.Entry job) entry → later_faults (entry_definition m entry.number) job ≡ []
     → (j : RunJob) × IsJob m job j
@@ -110,11 +111,12 @@ faultless_job m job entry named faultless =
     let d = entry_definition m entry.number in
     let names = both_empty _ _ faultless in
     let stores = both_empty _ _ names.0 in
-    let length = both_empty _ _ stores.0 in
-    let number = has_length _ _ length.1 in
-    let words = filled (given_bytes job) (message_words job) (spelled_small (text_of key.Bytes job)) in (
-      record { entry = entry; args = given_args d job; cells = given_cells d job; words = words.0; length = number.0; stores = given_stores job },
-      record { named = named; faultless = faultless; args = refl; cells = refl; filled = words.1; as_long = number.1; stored = refl },
+    let stretches = both_empty _ _ stores.0 in
+    let length = both_empty _ _ stretches.0 in
+    let number = has_length _ _ _ length.1 in
+    let words = filled (given_bytes job) (job_words job) (spelled_small (text_of key.Bytes job)) in (
+      record { entry = entry; args = given_args d job; cells = given_cells d job; words = words.0; length = number.0; layout = given_layout job; stores = given_stores job },
+      record { named = named; faultless = faultless; args = refl; cells = refl; filled = words.1; as_long = number.1; layout = refl; stored = refl },
     )
 
 by_faults : (later : Later) (m : Module) (job : Data) (J : Type 0) → (entry : Entry) → IsEntry m (text_of key.Entry job) entry

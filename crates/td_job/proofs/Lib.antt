@@ -4,6 +4,7 @@ pub mod Elements
 pub mod Existing
 pub mod Members
 pub mod Numbers
+pub mod Scattered
 pub mod Tested
 pub mod Texts
 pub mod Unique

@@ -25,7 +25,8 @@ use Rattle.td_job.specs.Jobs.{IsEntry, HasRoom, HasValues}
 use Rattle.td_job.specs.Named.{each_number_faults, number_faults, each_word_faults, named_faults, FirstNamedFault, IsNamedJob}
 use Rattle.td_job.proofs.Numbers.{both_empty, not_over, drop_get, drop_next}
 use Rattle.td_job.proofs.Existing.{entry_or_fault as entry_or_fault_of}
-use Rattle.td_job.proofs.Unique.{one_entry, one_entry_fault, entry_or_fault, one_first, named_within}
+use Rattle.td_job.proofs.Scattered.{Lies, lies}
+use Rattle.td_job.proofs.Unique.{same_jobs, one_entry, one_entry_fault, entry_or_fault, one_first, named_within}
 
 -- ---- lists of faults
 
@@ -148,8 +149,8 @@ stores_inside words i (s ∷ stores) h =
 -- ---- a job without a fault
 
 pub has_room : (m : Module) (entry : Entry) (job : NamedJob) (j : RunJob) → length job.words ≡ (job.length + 7) / 8 → named_faults m entry job ≡ []
-    → j.words ≡ job.words → j.length ≡ job.length → j.stores ≡ job.stores → HasRoom j
-has_room m entry job j sized h words as_long stored =
+    → j.words ≡ job.words → j.length ≡ job.length → j.layout ≡ None → j.stores ≡ job.stores → HasRoom j
+has_room m entry job j sized h words as_long layout stored =
     let stores = both_empty _ _ h in
     let length_is = both_empty _ _ stores.0 in
     let short = not_over (nat_lt MOST_BYTES job.length) (Fault rule.Limit (path.Whole key.Length)) length_is.1 in
@@ -157,11 +158,14 @@ has_room m entry job j sized h words as_long stored =
     let each = both_empty _ _ stores.1 in
     let inside = stores_inside (length job.words) 0 job.stores each.1 in
     let count : length j.words ≡ (job.length + 7) / 8 = ap length words ∙ sized in
+    let there = subst (Lies j.length (length j.words)) (sym layout) (lies j.length j.length (length j.words) None refl (omega (arith, count, as_long))) in
     let P : List ℕ → Type 0 = λ ws. All (λ (s : PlannedStore). s.word < length ws) j.stores in
     let Q : List PlannedStore → Type 0 = λ ss. All (λ (s : PlannedStore). s.word < length job.words) ss in
     record {
       words = omega (arith, count, limit);
-      ends = omega (arith, count, as_long);
+      over = there.over;
+      ends = there.ends;
+      long = there.long;
       limit = omega (arith, limit, as_long);
       stores = subst P (sym words) (subst Q (sym stored) inside);
     }
@@ -185,13 +189,7 @@ entry_within m name entry h = named_within m (Some name) entry h
 pub one_named_job : (m : Module) (job : NamedJob) (a b : RunJob) → IsNamedJob m job a → IsNamedJob m job b → a ≡ b
 one_named_job m job a b ha hb =
     let entry = one_entry m (Some job.entry) a.entry b.entry ha.named hb.named in
-    let make : Entry → List ℕ → List ℕ → List ℕ → ℕ → List PlannedStore → RunJob = λ entry args cells words length stores. record { entry = entry; args = args; cells = cells; words = words; length = length; stores = stores } in
-    ap (λ x. make x a.args a.cells a.words a.length a.stores) entry
-    ∙ ap (λ x. make b.entry x a.cells a.words a.length a.stores) (ha.args ∙ sym hb.args)
-    ∙ ap (λ x. make b.entry b.args x a.words a.length a.stores) (ha.cells ∙ sym hb.cells)
-    ∙ ap (λ x. make b.entry b.args b.cells x a.length a.stores) (ha.words ∙ sym hb.words)
-    ∙ ap (λ x. make b.entry b.args b.cells b.words x a.stores) (ha.as_long ∙ sym hb.as_long)
-    ∙ ap (λ x. make b.entry b.args b.cells b.words b.length x) (ha.stored ∙ sym hb.stored)
+    same_jobs a b entry (ha.args ∙ sym hb.args) (ha.cells ∙ sym hb.cells) (ha.words ∙ sym hb.words) (ha.as_long ∙ sym hb.as_long) (ha.layout ∙ sym hb.layout) (ha.stored ∙ sym hb.stored)
 
 pub one_named_fault : (m : Module) (job : NamedJob) (a b : JobError) → FirstNamedFault m job a → FirstNamedFault m job b → a ≡ b
 one_named_fault m job a b (inl ha) (inl hb) = one_entry_fault m (Some job.entry) a b ha hb
@@ -214,7 +212,10 @@ named_or_fault m job j e h (inr wrong) =
 by_named_faults : (m : Module) (job : NamedJob) (entry : Entry) → IsEntry m (Some job.entry) entry → (faults : List JobError) → named_faults m entry job ≡ faults
     → ((j : RunJob) × IsNamedJob m job j) ⊎ ((e : JobError) × FirstNamedFault m job e)
 by_named_faults m job entry named [] h =
-    inl (record { entry = entry; args = job.args; cells = job.cells; words = job.words; length = job.length; stores = job.stores }, record { named = named; faultless = h; args = refl; cells = refl; words = refl; as_long = refl; stored = refl })
+    inl (
+      record { entry = entry; args = job.args; cells = job.cells; words = job.words; length = job.length; layout = None; stores = job.stores },
+      record { named = named; faultless = h; args = refl; cells = refl; words = refl; as_long = refl; layout = refl; stored = refl },
+    )
 by_named_faults m job entry named (e ∷ others) h = inr (e, inr (entry, named, record { others = others; is = h }))
 
 pub always_one_named : (m : Module) (job : NamedJob) → ((j : RunJob) × IsNamedJob m job j) ⊎ ((e : JobError) × FirstNamedFault m job e)

@@ -11,26 +11,28 @@ use Rattle.td_job.specs.declared.error.Key.TheVariants as key
 use Rattle.td_job.specs.declared.error.Path.TheVariants as path
 use Rattle.td_job.specs.Fields.{IsFirst, field_of, number_of, text_of}
 use Rattle.td_job.specs.Values.{args_bounds, args_faults, cells_bounds, cells_faults}
-use Rattle.td_job.specs.Jobs.{bytes_faults, first_unknown, FirstFault, given_bytes, HasGoodFields, later_faults, length_faults, message_words, run_keys, stores_faults, unknown_faults}
+use Rattle.td_job.specs.Stretches.{stretches_faults}
+use Rattle.td_job.specs.Jobs.{bytes_faults, first_unknown, FirstFault, BeginsWell, EndsWell, given_bytes, job_words, later_faults, length_faults, run_keys, stores_faults, unknown_faults}
 
 -- of no faults none is the first
 pub memory_alone : (faults : List JobError) (e : JobError) → faults ≡ [] → (e ≡ NoMemory) ⊎ IsFirst faults e → e ≡ NoMemory
 memory_alone faults e none (inl memory) = memory
 memory_alone faults e none (inr first) = let is = first.is in absurd (cc)
 
-last_of : (a b c d e f : List JobError) → a ≡ [] → b ≡ [] → c ≡ [] → d ≡ [] → e ≡ [] → a ++ b ++ c ++ d ++ e ++ f ≡ f
-last_of a b c d e f ha hb hc hd he = rw (ha, hb, hc, hd, he) refl
+last_of : (a b c d e f g : List JobError) → a ≡ [] → b ≡ [] → c ≡ [] → d ≡ [] → e ≡ [] → f ≡ [] → a ++ b ++ c ++ d ++ e ++ f ++ g ≡ g
+last_of a b c d e f g ha hb hc hd he hf = rw (ha, hb, hc, hd, he, hf) refl
 
-module _ (m : Module) (job : Data) (entry : Entry) (good : HasGoodFields m job entry) where
+module _ (m : Module) (job : Data) (entry : Entry) (begins : BeginsWell m job entry) (ends : EndsWell job) where
   -- its faults are those of fields of other names
   unknown_alone : later_faults (entry_definition m entry.number) job ≡ unknown_faults path.Unknown (first_unknown run_keys (as_object job))
   unknown_alone =
       last_of (args_faults (args_bounds (entry_definition m entry.number)) (field_of key.Args job)) (cells_faults (cells_bounds (entry_definition m entry.number)) (field_of key.Cells job))
-      (bytes_faults key.Bytes (text_of key.Bytes job)) (length_faults (length (given_bytes job)) (number_of key.Length job)) (stores_faults (message_words job) (field_of key.Stores job))
-      (unknown_faults path.Unknown (first_unknown run_keys (as_object job))) good.args good.cells good.bytes good.within good.stores
+      (bytes_faults key.Bytes (text_of key.Bytes job)) (length_faults (field_of key.Stretches job) (length (given_bytes job)) (number_of key.Length job))
+      (stretches_faults (length (given_bytes job)) (number_of key.Length job) (field_of key.Stretches job)) (stores_faults (job_words job) (field_of key.Stores job))
+      (unknown_faults path.Unknown (first_unknown run_keys (as_object job))) begins.args begins.cells begins.bytes begins.within ends.stretches ends.stores
 
   pub unknown_first : (e : JobError) → IsFirst (unknown_faults path.Unknown (first_unknown run_keys (as_object job))) e → FirstFault m job e
-  unknown_first e first = inr (entry, good.named, record { others = first.others; is = unknown_alone ∙ first.is })
+  unknown_first e first = inr (entry, begins.named, record { others = first.others; is = unknown_alone ∙ first.is })
 
   pub none_unknown : unknown_faults path.Unknown (first_unknown run_keys (as_object job)) ≡ [] → later_faults (entry_definition m entry.number) job ≡ []
   none_unknown none = unknown_alone ∙ none

@@ -8,6 +8,7 @@ use Rattle.td_core.specs.declared.module.Entry.{Entry}
 use Rattle.td_core.specs.declared.module.TypeDef.{TypeDef}
 use Rattle.td_core.specs.Entries.{IsFirstNamed, entry_definition}
 use Rattle.td_sched.specs.declared.store.PlannedStore.{PlannedStore}
+use Rattle.td_stream.specs.declared.stretch.Stretch.{Stretch}
 use Rattle.td_job.specs.declared.error.Key.TheVariants as key
 use Rattle.td_job.specs.declared.error.JobError.{JobError}
 use Rattle.td_job.specs.declared.error.JobError.TheVariants.{NoMemory}
@@ -15,7 +16,7 @@ use Rattle.td_job.specs.declared.run_job.RunJob.{RunJob}
 use Rattle.td_core.specs.Formed.{AllFit}
 use Rattle.td_job.specs.Fields.{Reads, text_of, field_of, IsFirst}
 use Rattle.td_job.specs.Values.{args_bounds, cells_bounds, given_args, given_cells}
-use Rattle.td_job.specs.Jobs.{given_bytes, message_words, EntryFault, IsEntry, FirstFaultOf, later_faults, IsJob, IsRunJob, RefusedJobOf, RefusedJob, HasValues}
+use Rattle.td_job.specs.Jobs.{given_bytes, job_words, EntryFault, IsEntry, FirstFaultOf, later_faults, IsJob, IsRunJob, RefusedJobOf, RefusedJob, HasValues}
 use Rattle.td_job.proofs.Bytes.{filled_once}
 use Rattle.td_job.proofs.Numbers.{both_empty, args_fit, cells_fit}
 
@@ -65,23 +66,30 @@ faultless_or_fault later m job entry e named none (inr wrong) =
     let some = first.is in
     absurd (cc)
 
+-- jobs with the same parts are the same
+pub same_jobs : (a b : RunJob) → a.entry ≡ b.entry → a.args ≡ b.args → a.cells ≡ b.cells → a.words ≡ b.words → a.length ≡ b.length → a.layout ≡ b.layout → a.stores ≡ b.stores → a ≡ b
+same_jobs a b entry args cells words length layout stores =
+    let make : Entry → List ℕ → List ℕ → List ℕ → ℕ → Option (List Stretch) → List PlannedStore → RunJob = λ entry args cells words length layout stores.
+    record { entry = entry; args = args; cells = cells; words = words; length = length; layout = layout; stores = stores } in
+    ap (λ x. make x a.args a.cells a.words a.length a.layout a.stores) entry
+    ∙ ap (λ x. make b.entry x a.cells a.words a.length a.layout a.stores) args
+    ∙ ap (λ x. make b.entry b.args x a.words a.length a.layout a.stores) cells
+    ∙ ap (λ x. make b.entry b.args b.cells x a.length a.layout a.stores) words
+    ∙ ap (λ x. make b.entry b.args b.cells b.words x a.layout a.stores) length
+    ∙ ap (λ x. make b.entry b.args b.cells b.words b.length x a.stores) layout
+    ∙ ap (λ x. make b.entry b.args b.cells b.words b.length b.layout x) stores
+
 one_job : (m : Module) (job : Data) (a b : RunJob) → IsJob m job a → IsJob m job b → a ≡ b
 one_job m job a b ha hb =
     let entry = one_entry m (text_of key.Entry job) a.entry b.entry ha.named hb.named in
     let args = ha.args ∙ ap (λ (e : Entry). given_args (entry_definition m e.number) job) entry ∙ sym hb.args in
     let cells = ha.cells ∙ ap (λ (e : Entry). given_cells (entry_definition m e.number) job) entry ∙ sym hb.cells in
-    let words = filled_once (given_bytes job) (message_words job) a.words b.words ha.filled hb.filled in
+    let words = filled_once (given_bytes job) (job_words job) a.words b.words ha.filled hb.filled in
     let la = ha.as_long in
     let lb = hb.as_long in
     let length : a.length ≡ b.length = cc in
     let stores = ha.stored ∙ sym hb.stored in
-    let make : Entry → List ℕ → List ℕ → List ℕ → ℕ → List PlannedStore → RunJob = λ entry args cells words length stores. record { entry = entry; args = args; cells = cells; words = words; length = length; stores = stores } in
-    ap (λ x. make x a.args a.cells a.words a.length a.stores) entry
-    ∙ ap (λ x. make b.entry x a.cells a.words a.length a.stores) args
-    ∙ ap (λ x. make b.entry b.args x a.words a.length a.stores) cells
-    ∙ ap (λ x. make b.entry b.args b.cells x a.length a.stores) words
-    ∙ ap (λ x. make b.entry b.args b.cells b.words x a.stores) length
-    ∙ ap (λ x. make b.entry b.args b.cells b.words b.length x) stores
+    same_jobs a b entry args cells words length (ha.layout ∙ sym hb.layout) stores
 
 pub one_value : (bytes : List ℕ) (a b : Data) → Reads bytes a → Reads bytes b → a ≡ b
 one_value bytes a b ha hb = let ia = ha.1 in let ib = hb.1 in cc
@@ -144,7 +152,8 @@ values m job j h =
     let d = entry_definition m j.entry.number in
     let names = both_empty _ _ h.faultless in
     let stores = both_empty _ _ names.0 in
-    let length = both_empty _ _ stores.0 in
+    let stretches = both_empty _ _ stores.0 in
+    let length = both_empty _ _ stretches.0 in
     let bytes = both_empty _ _ length.0 in
     let lists = both_empty _ _ bytes.0 in
     record {

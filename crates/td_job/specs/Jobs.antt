@@ -1,10 +1,10 @@
 -- What a run job is, and what is wrong with one (own rule).
 --
--- A run job is a JSON object with the fields `entry`, `args`, `cells`, `bytes`, `length` and `stores`. Its faults stand
--- in that order, each field looked at for all that can be wrong with it (a list first for its length, and then element
--- by element), and then the fields of other names; at one place the lower code stands first. The answer is the first
--- fault. A job that is no object has no field.
-use Rattle.std.specs.Prelude.{◌≡◌, ℕ, ◌+◌, ◌*◌, ◌/◌, ◌<◌, ◌≤◌, ◌^◌, List, [], ◌∷◌, ◌++◌, length, Bool, false, ◌||◌, nat_lt, nat_le, if◌then◌else◌, bytes_eq, Option, Some, None, option_and_then, Result, Ok, Err, ◌⊎◌}
+-- A run job is a JSON object with the fields `entry`, `args`, `cells`, `bytes`, `length`, `stretches` and `stores`. Its faults
+-- stand in that order, each field looked at for all that can be wrong with it (a list first for its length, then element by element,
+-- and stretches then for their sum), and then the fields of other names; else at one place the lower code stands first. The answer
+-- is the first fault. A job that is no object has no field.
+use Rattle.std.specs.Prelude.{◌≡◌, ℕ, ◌+◌, ◌<◌, ◌≤◌, ◌^◌, List, [], ◌∷◌, ◌++◌, length, Bool, false, ◌||◌, nat_lt, nat_le, if◌then◌else◌, bytes_eq, Option, Some, None, option_and_then, Result, Ok, Err, ◌⊎◌}
 use Rattle.std.specs.List.{All}
 use Rattle.serde_json.specs.Data.{Data, Items, no_items, item, Members, no_members, member}
 use Rattle.serde_json.specs.Events.{items_len}
@@ -17,6 +17,7 @@ use Rattle.td_core.specs.declared.module.TypeDef.{TypeDef}
 use Rattle.td_core.specs.Entries.{IsEntryNamed, IsFirstNamed, entry_definition}
 use Rattle.td_core.specs.Formed.{AllFit}
 use Rattle.td_num.specs.Numbers.{rising_at}
+use Rattle.td_stream.specs.Layouts.{length_in, count_in, laid, counted, IsOver}
 use Rattle.td_sched.specs.declared.store.PlannedStore.{PlannedStore}
 use Rattle.td_job.specs.declared.error.Key.{Key}
 use Rattle.td_job.specs.declared.error.Key.TheVariants as key
@@ -30,6 +31,7 @@ use Rattle.td_job.specs.declared.checks.TheConstants.{MOST_BYTES}
 use Rattle.td_job.specs.declared.stores.TheConstants.{MOST_STORES}
 use Rattle.td_job.specs.Errors.{key_name}
 use Rattle.td_job.specs.Fields.{Reads, field_of, text_of, whole, number_of, fault_if, fault_if_none, IsFirst}
+use Rattle.td_job.specs.Stretches.{is_past, words_by, stretches_faults, given_layout}
 use Rattle.td_job.specs.Values.{args_bounds, cells_bounds, args_faults, cells_faults, given_args, given_cells}
 use Rattle.td_job.specs.Words.{IsFilled}
 
@@ -64,19 +66,14 @@ spelled_bytes (Some text) = bytes_or_none (decode_of text)
 abbrev pub given_bytes : Data → List ℕ
 given_bytes job = spelled_bytes (text_of key.Bytes job)
 
--- `length` is a whole number (J2), at most that of the bytes given (J7) and at most a MiB (J8)
-abbrev pub length_faults : ℕ → Option ℕ → List JobError
-length_faults given None = Fault rule.Form (path.Whole key.Length) ∷ []
-length_faults given (Some n) = fault_if (nat_lt given n) (Fault rule.PastBytes (path.Whole key.Length)) ++ fault_if (nat_lt MOST_BYTES n) (Fault rule.Limit (path.Whole key.Length))
+-- `length` is a whole number (J2), where there are no stretches at most that of the bytes given (J7), and at most a MiB (J8)
+abbrev pub length_faults : Option Data → ℕ → Option ℕ → List JobError
+length_faults stretches given None = Fault rule.Form (path.Whole key.Length) ∷ []
+length_faults stretches given (Some n) = fault_if (is_past stretches given n) (Fault rule.PastBytes (path.Whole key.Length)) ++ fault_if (nat_lt MOST_BYTES n) (Fault rule.Limit (path.Whole key.Length))
 
--- The message's words are those with a byte of it: an eighth of its length in bytes, rounded up. Without a length there
--- are none.
-abbrev pub words_of : Option ℕ → ℕ
-words_of None = 0
-words_of (Some n) = (n + 7) / 8
-
-abbrev pub message_words : Data → ℕ
-message_words job = words_of (number_of key.Length job)
+-- how many words a job has
+abbrev pub job_words : Data → ℕ
+job_words job = words_by (field_of key.Stretches job) (length (given_bytes job)) (number_of key.Length job)
 
 -- a store as a job spells it: the number of the load before which it is made, from 0, the word's number, from 0, and
 -- the word's bytes as hexadecimal digits
@@ -112,7 +109,7 @@ word_in (Err e) = None
 abbrev pub spelled_word : List ℕ → Option ℕ
 spelled_word text = word_in (decode_sized text 8)
 
--- An element of `stores` is such a list (J2) with the digits of a word (J5) and the number of a word of the message
+-- An element of `stores` is such a list (J2) with the digits of a word (J5) and the number of a word of the job
 -- (J6).
 abbrev pub store_faults : ℕ → Path → Option Spelled → List JobError
 store_faults words place None = Fault rule.Form place ∷ []
@@ -173,7 +170,7 @@ unknown_faults place (Some name) = Fault rule.Form (place name) ∷ []
 
 -- the fields of a run job
 abbrev pub run_keys : List Key
-run_keys = key.Entry ∷ key.Args ∷ key.Cells ∷ key.Bytes ∷ key.Length ∷ key.Stores ∷ []
+run_keys = key.Entry ∷ key.Args ∷ key.Cells ∷ key.Bytes ∷ key.Length ∷ key.Stretches ∷ key.Stores ∷ []
 
 -- the faults of a job after those of `entry`, whose definition this is
 abbrev pub later_faults : Option TypeDef → Data → List JobError
@@ -181,18 +178,23 @@ later_faults d job =
     args_faults (args_bounds d) (field_of key.Args job)
     ++ cells_faults (cells_bounds d) (field_of key.Cells job)
     ++ bytes_faults key.Bytes (text_of key.Bytes job)
-    ++ length_faults (length (given_bytes job)) (number_of key.Length job)
-    ++ stores_faults (message_words job) (field_of key.Stores job)
+    ++ length_faults (field_of key.Stretches job) (length (given_bytes job)) (number_of key.Length job)
+    ++ stretches_faults (length (given_bytes job)) (number_of key.Length job) (field_of key.Stretches job)
+    ++ stores_faults (job_words job) (field_of key.Stores job)
     ++ unknown_faults path.Unknown (first_unknown run_keys (as_object job))
 
--- none of the fields of a run job has a fault, and this is its entry point
-pub record HasGoodFields (m : Module) (job : Data) (entry : Entry) : Type 0 where
+-- the first fields of a run job, up to `length`, have no fault, and this is its entry point
+pub record BeginsWell (m : Module) (job : Data) (entry : Entry) : Type 0 where
   pub named : IsEntry m (text_of key.Entry job) entry
   pub args : args_faults (args_bounds (entry_definition m entry.number)) (field_of key.Args job) ≡ []
   pub cells : cells_faults (cells_bounds (entry_definition m entry.number)) (field_of key.Cells job) ≡ []
   pub bytes : bytes_faults key.Bytes (text_of key.Bytes job) ≡ []
-  pub within : length_faults (length (given_bytes job)) (number_of key.Length job) ≡ []
-  pub stores : stores_faults (message_words job) (field_of key.Stores job) ≡ []
+  pub within : length_faults (field_of key.Stretches job) (length (given_bytes job)) (number_of key.Length job) ≡ []
+
+-- nor have the fields after them, those of other names apart
+pub record EndsWell (job : Data) : Type 0 where
+  pub stretches : stretches_faults (length (given_bytes job)) (number_of key.Length job) (field_of key.Stretches job) ≡ []
+  pub stores : stores_faults (job_words job) (field_of key.Stores job) ≡ []
 
 -- the first fault of a job whose faults after those of `entry` are these
 abbrev pub FirstFaultOf : (Option TypeDef → Data → List JobError) → Module → Data → JobError → Type 0
@@ -203,10 +205,12 @@ FirstFaultOf later m job e =
 abbrev pub FirstFault : Module → Data → JobError → Type 0
 FirstFault = FirstFaultOf later_faults
 
--- memory may be lacking for a job: it has no fault, fields of other names apart
+-- memory may be lacking for a job: its first fields have no fault, and then it has none, fields of other names apart, or its
+-- stretches are of too many bytes for any memory
 pub record MayLackMemory (m : Module) (job : Data) : Type 0 where
   pub entry : Entry
-  pub good : HasGoodFields m job entry
+  pub begins : BeginsWell m job entry
+  pub rest : EndsWell job ⊎ (2 ^ 32 ≤ length (given_bytes job))
 
 -- the run job that a job without a fault is
 pub record IsJob (m : Module) (job : Data) (j : RunJob) : Type 0 where
@@ -214,19 +218,22 @@ pub record IsJob (m : Module) (job : Data) (j : RunJob) : Type 0 where
   pub faultless : later_faults (entry_definition m j.entry.number) job ≡ []
   pub args : j.args ≡ given_args (entry_definition m j.entry.number) job
   pub cells : j.cells ≡ given_cells (entry_definition m j.entry.number) job
-  pub filled : IsFilled (given_bytes job) (message_words job) j.words
+  pub filled : IsFilled (given_bytes job) (job_words job) j.words
   pub as_long : number_of key.Length job ≡ Some j.length
+  pub layout : j.layout ≡ given_layout job
   pub stored : j.stores ≡ given_stores job
 
 -- the run job that the bytes stand for
 abbrev pub IsRunJob : List ℕ → Module → RunJob → Type 0
 IsRunJob bytes m j = (job : Data) × Reads bytes job × IsJob m job j
 
--- the words are numbered by 32 bits, the message ends within them and below the limit, and each store's word is one of
--- them
+-- the words are numbered by 32 bits, each stretch is within them, and the message, which is as long as said, has at most that
+-- many words and is below the limit; and each store's word is one of them
 pub record HasRoom (j : RunJob) : Type 0 where
   pub words : length j.words < 2 ^ 32
-  pub ends : j.length ≤ 8 * length j.words
+  pub over : IsOver (length j.words) j.layout
+  pub ends : count_in (laid j.length j.layout) ≤ counted j.layout (length j.words)
+  pub long : length_in (laid j.length j.layout) ≡ j.length
   pub limit : j.length ≤ MOST_BYTES
   pub stores : All (λ (s : PlannedStore). s.word < length j.words) j.stores
 

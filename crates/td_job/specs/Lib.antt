@@ -5,5 +5,6 @@ pub mod Named
 pub mod Parts
 pub mod Laws
 pub mod Slots
+pub mod Stretches
 pub mod Values
 pub mod Words

@@ -1,15 +1,16 @@
 //! The fields of a job, each looked at for all that can be wrong with it.
 
-ghost use Rattle.std.specs.Prelude.{◌≡◌, ◌≢◌, ◌<◌, ◌≤◌, ◌%◌, ◌&&◌, [], ◌⊎◌, length, nat_eq, IsOk, IfOk, IfErr, OnOk, IsSomeAnd, Some, option_map};
+ghost use Rattle.std.specs.Prelude.{◌≡◌, ◌≢◌, ◌<◌, ◌%◌, ◌&&◌, [], ◌⊎◌, length, nat_eq, IsOk, IfOk, IfErr, OnOk, IsSomeAnd, Some, option_map};
 ghost use Rattle.std.specs.List.{list_all};
 ghost use Rattle.hex.specs.Hex.{decode_of, is_hex_digit};
 ghost use Rattle.serde_json.specs.Find.{as_object};
 ghost use Rattle.serde_json.specs.View.{view};
-ghost use Rattle.td_job.specs.Fields.{text_of, number_of, IsFirst};
+ghost use Rattle.td_job.specs.Fields.{field_of, text_of, number_of, IsFirst};
 ghost use Rattle.td_job.specs.Jobs.{EntryFault, IsEntry, bytes_faults, bytes_or_none, digit_faults, spelled_bytes, length_faults, is_known, first_unknown, unknown_faults};
 
 use crate::error::{JobError, JobRule, Key, Path};
 use crate::json::{number_of, text_of};
+use crate::stretches::is_past;
 use hex::FromHexError;
 use serde_json::Value;
 use std::alloc::Global;
@@ -114,18 +115,17 @@ pub fn count_of(job: &Value, key: Key) -> Result<usize, JobError>
     }
 }
 
-/// The length of the message, in bytes, of those given. J2: `length` is missing or no whole number. J7: it passes the
+/// The length of the message, in bytes. J2: `length` is missing or no whole number. J7: there are no stretches, and it passes the
 /// bytes given. J8: it passes 1,048,576. Takes no memory.
 pub(crate) fn length_of(job: &Value, given: usize) -> Result<u32, JobError>
-    ensures ok { IfOk result (λ n. (length_faults given (number_of Key.Length (view job.now)) ≡ []) × (number_of Key.Length (view job.now) ≡ Some n)) }
-    ensures within { IfOk result (λ n. (n ≤ given) × (n ≤ MOST_BYTES)) }
-    ensures err { IfErr result (λ e. IsFirst (length_faults given (number_of Key.Length (view job.now))) e) }
+    ensures ok { IfOk result (λ n. (length_faults (field_of Key.Stretches (view job.now)) given (number_of Key.Length (view job.now)) ≡ []) × (number_of Key.Length (view job.now) ≡ Some n)) }
+    ensures err { IfErr result (λ e. IsFirst (length_faults (field_of Key.Stretches (view job.now)) given (number_of Key.Length (view job.now))) e) }
     ensures broken { IfErr result (λ e. e ≢ JobError.NoMemory) }
 {
     let Some(bytes) = number_of(job, Key::Length) else {
         return Err(JobRule::Form.at(Path::Whole(Key::Length)));
     };
-    if bytes > given as u64 {
+    if is_past(job, given, bytes) {
         Err(JobRule::PastBytes.at(Path::Whole(Key::Length)))
     } else if bytes > MOST_BYTES {
         Err(JobRule::Limit.at(Path::Whole(Key::Length)))

@@ -23,6 +23,8 @@ pub enum Key {
     Bytes,
     /// How many bytes the message has.
     Length,
+    /// The stretches of the bytes that are the message.
+    Stretches,
     /// What others store to the words, and when; and the total of the stores of all guests.
     Stores,
     /// The bytes that the guests' messages lie in, as hexadecimal digits.
@@ -50,6 +52,7 @@ impl Key {
             Key::Cells => "cells",
             Key::Bytes => "bytes",
             Key::Length => "length",
+            Key::Stretches => "stretches",
             Key::Stores => "stores",
             Key::Buffer => "buffer",
             Key::Workers => "workers",
@@ -74,9 +77,10 @@ pub enum JobRule {
     Values,
     /// A text is not an even number of hexadecimal digits, or a store's is not 16.
     Digits,
-    /// A store's word is none of the message's, or of the buffer's.
+    /// A store's word is none of the job's, or of the buffer's.
     NoWord,
-    /// The message is longer than the bytes given, or a post's passes the end of the buffer.
+    /// The message is longer than the bytes given, a stretch passes their end, the stretches are not as long as the message, or a
+    /// post's passes the end of the buffer.
     PastBytes,
     /// A limit is passed.
     Limit,

@@ -11,5 +11,6 @@ pub mod laws;
 pub mod named;
 pub mod run_job;
 pub mod stores;
+pub mod stretches;
 pub mod values;
 pub mod words;

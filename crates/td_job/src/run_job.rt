@@ -1,15 +1,16 @@
 //! Run jobs.
 
-ghost use Rattle.std.specs.Prelude.{◌≡◌, ◌≢◌, ◌⊎◌, ◌≤◌, ◌<◌, length, Some, IfOk, IfErr, MatchResult};
+ghost use Rattle.std.specs.Prelude.{◌≡◌, ◌⊎◌, ◌+◌, ◌*◌, ◌<◌, length, Err, Some, IfOk, IfErr, MatchResult};
 ghost use Rattle.serde_json.specs.View.{view};
-ghost use Rattle.td_job.specs.declared.checks.TheConstants.{MOST_BYTES};
-ghost use Rattle.td_job.specs.Fields.{number_of};
-ghost use Rattle.td_job.specs.Jobs.{given_bytes, IsJob, IsRunJob, HasGoodFields, HasRoom, HasValues, MayLackMemory, FirstFault, RefusedJob};
+ghost use Rattle.td_job.specs.Fields.{number_of, text_of, IsFirst};
+ghost use Rattle.td_job.specs.Jobs.{bytes_faults, given_bytes, job_words, BeginsWell, EndsWell, IsJob, IsRunJob, HasRoom, HasValues, MayLackMemory, FirstFault, RefusedJob};
+ghost use Rattle.td_job.specs.Words.{IsFilled};
 
 use crate::checks::{bytes_of, check_names, count_of, entry_of, length_of};
 use crate::error::{JobError, Key};
 use crate::json::read_json;
 use crate::stores::{check_stores, stores_of};
+use crate::stretches::{check_stretches, layout_of};
 use crate::values::{cells_of, check_args, check_cells, definition_of, params_of, values_of};
 use crate::words::fill_words;
 use serde_json::Value;
@@ -17,6 +18,7 @@ use std::alloc::Global;
 use td_core::module::{Entry, Module};
 use td_num::items::Items;
 use td_sched::store::PlannedStore;
+use td_stream::layout::Layout;
 
 /// A message to validate, and from where.
 #[derive(Drop)]
@@ -27,10 +29,13 @@ pub struct RunJob {
     pub args: Items<u64>,
     /// The value that each of its cells begins with.
     pub cells: Items<u64>,
-    /// The words with a byte of the message, each of eight bytes, that of least weight first.
+    /// The words with a byte of the message, or where it has a layout with any byte given, each of eight bytes, that of least weight
+    /// first.
     pub words: Items<u64>,
-    /// How many bytes of them the message has.
+    /// How many bytes the message has.
     pub length: u32,
+    /// How the message lies in the words; none where it is their first bytes.
+    pub layout: Option<Layout>,
     /// What others store to the words, and before which load, in the order given.
     pub stores: Items<PlannedStore>,
 }
@@ -42,17 +47,32 @@ const FIELDS: &[Key] = &[
     Key::Cells,
     Key::Bytes,
     Key::Length,
+    Key::Stretches,
     Key::Stores,
 ];
 
-/// Tests the fields of a job, those of other names apart, and gives its entry point and the length of its message. J2 to J8:
-/// the first fault of these. Takes no memory.
-fn check_fields(job: &Value, m: &Module) -> Result<(Entry, u32), JobError>
-    ensures good { IfOk result (λ x. HasGoodFields m.now (view job.now) x.0) }
-    ensures as_long { IfOk result (λ x. number_of Key.Length (view job.now) ≡ Some x.1) }
-    ensures within { IfOk result (λ x. (x.1 ≤ length (given_bytes (view job.now))) × (x.1 ≤ MOST_BYTES)) }
-    ensures err { IfErr result (λ e. FirstFault m.now (view job.now) e) }
-    ensures broken { IfErr result (λ e. e ≢ JobError.NoMemory) }
+/// What the fields of a job were found to say before any memory was taken.
+#[derive(Clone, Copy)]
+struct Tested {
+    entry: Entry,
+    /// How many bytes are given.
+    given: usize,
+    /// How many bytes the message has.
+    length: u32,
+    /// How many words the job has.
+    words: u32,
+}
+
+/// Tests the fields of a job, those of other names apart. J2 to J8: the first fault of these. `NoMemory`: there are stretches, and
+/// 2^32 bytes or more. Takes no memory.
+fn check_fields(job: &Value, m: &Module) -> Result<Tested, JobError>
+    ensures begins { IfOk result (λ x. BeginsWell m.now (view job.now) x.entry) }
+    ensures ends { IfOk result (λ _. EndsWell (view job.now)) }
+    ensures given { IfOk result (λ x. length (given_bytes (view job.now)) ≡ x.given) }
+    ensures as_long { IfOk result (λ x. number_of Key.Length (view job.now) ≡ Some x.length) }
+    ensures words { IfOk result (λ x. job_words (view job.now) ≡ x.words) }
+    ensures err { IfErr result (λ e. (e ≡ JobError.NoMemory) ⊎ FirstFault m.now (view job.now) e) }
+    ensures memory { result ≡ Err JobError.NoMemory → MayLackMemory m.now (view job.now) }
 {
     let entry = entry_of(job, m)?;
     let definition = definition_of(m, entry);
@@ -60,8 +80,25 @@ fn check_fields(job: &Value, m: &Module) -> Result<(Entry, u32), JobError>
     check_cells(job, cells_of(definition))?;
     let given = count_of(job, Key::Bytes)?;
     let length = length_of(job, given)?;
-    check_stores(job, length.div_ceil(8))?;
-    Ok((entry, length))
+    let words = check_stretches(job, given, length)?;
+    check_stores(job, words)?;
+    Ok(Tested {
+        entry,
+        given,
+        length,
+        words,
+    })
+}
+
+/// The first words that the bytes of a job fill, this many.
+fn words_of(alloc: Global, job: &Value, count: u32) -> Result<Items<u64>, JobError>
+    requires { 8 * count < length (given_bytes (view job.now)) + 8 }
+    ensures ok { IfOk result (λ words. IsFilled (given_bytes (view job.now)) count words) }
+    ensures err { IfErr result (λ e. (e ≡ JobError.NoMemory) ⊎ IsFirst (bytes_faults Key.Bytes (text_of Key.Bytes (view job.now))) e) }
+{
+    let bytes = bytes_of(alloc, job, Key::Bytes)?;
+    let words = fill_words(alloc, bytes.as_slice(), count)?;
+    Ok(words)
 }
 
 /// The run job of a parsed text, or its first fault. All that is decided without memory is decided before any is taken.
@@ -71,19 +108,20 @@ fn job_of(alloc: Global, job: &Value, m: &Module) -> Result<RunJob, JobError>
     ensures err { IfErr result (λ e. (e ≡ JobError.NoMemory) ⊎ FirstFault m.now (view job.now) e) }
     ensures memory { result ≡ Err JobError.NoMemory → MayLackMemory m.now (view job.now) }
 {
-    let (entry, length) = check_fields(job, m)?;
+    let tested = check_fields(job, m)?;
     check_names(alloc, job, FIELDS)?;
-    let definition = definition_of(m, entry);
+    let definition = definition_of(m, tested.entry);
     let (params, cells) = (params_of(definition), cells_of(definition));
-    let bytes = bytes_of(alloc, job, Key::Bytes)?;
-    let stores = stores_of(alloc, job, length.div_ceil(8))?;
-    let words = fill_words(alloc, bytes.as_slice(), length.div_ceil(8))?;
+    let layout = layout_of(alloc, job, tested.given, tested.length)?;
+    let stores = stores_of(alloc, job, tested.words)?;
+    let words = words_of(alloc, job, tested.words)?;
     Ok(RunJob {
-        entry,
+        entry: tested.entry,
         args: values_of(alloc, job, Key::Args, params)?,
         cells: values_of(alloc, job, Key::Cells, cells)?,
         words,
-        length,
+        length: tested.length,
+        layout,
         stores,
     })
 }

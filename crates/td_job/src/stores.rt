@@ -49,8 +49,8 @@ pub fn word_of(text: &str) -> Option<u64>
     Some(load_le(&bytes, Width::Eight))
 }
 
-/// The store of an element of the list, at a message of so many words. J2: the element has another form. J5: its text
-/// is not 16 hexadecimal digits. J6: its word is none of the message's. Takes no memory.
+/// The store of an element of the list, of a job of so many words. J2: the element has another form. J5: its text
+/// is not 16 hexadecimal digits. J6: its word is none of the job's. Takes no memory.
 fn store_of(value: &Value, index: usize, words: u32) -> Result<PlannedStore, JobError>
     ensures ok { IfOk result (λ s. (store_faults words (Path.Element Key.Stores index) (spelled_store (view value.now)) ≡ []) × (store_of (spelled_store (view value.now)) ≡ s ∷ [])) }
     ensures inside { IfOk result (λ s. s.word < words) }
@@ -77,7 +77,7 @@ fn store_of(value: &Value, index: usize, words: u32) -> Result<PlannedStore, Job
     })
 }
 
-/// Tests the elements of a list one by one, as stores to a message of so many words.
+/// Tests the elements of a list one by one, as stores of a job of so many words.
 fn check_each_store(values: &[Value], words: u32) -> Result<(), JobError>
     ensures ok { OnOk result (each_store_faults words 0 (items_view values.now) ≡ []) }
     ensures err { IfErr result (λ e. IsFirst (each_store_faults words 0 (items_view values.now)) e) }
@@ -89,7 +89,7 @@ fn check_each_store(values: &[Value], words: u32) -> Result<(), JobError>
     Ok(())
 }
 
-/// The stores of a list's elements, at a message of so many words, or the first fault of these.
+/// The stores of a list's elements, of a job of so many words, or the first fault of these.
 fn each_store(alloc: Global, values: &[Value], words: u32) -> Result<Items<PlannedStore>, JobError>
     ensures ok { IfOk result (λ stores. (each_store_faults words 0 (items_view values.now) ≡ []) × (stores ≡ each_store (items_view values.now))) }
     ensures inside { IfOk result (λ stores. All (λ s. s.word < words) stores) }
@@ -124,8 +124,8 @@ fn listed_stores(job: &Value) -> Result<&[Value], JobError>
     }
 }
 
-/// Tests the stores that a job makes to a message of so many words. J2: `stores` is no list, or an element has another
-/// form. J5: an element's text is not 16 hexadecimal digits. J6: its word is none of the message's. J8: the list has more
+/// Tests the stores that a job of so many words makes. J2: `stores` is no list, or an element has another
+/// form. J5: an element's text is not 16 hexadecimal digits. J6: its word is none of the job's. J8: the list has more
 /// than 65,536 elements. Takes no memory.
 pub(crate) fn check_stores(job: &Value, words: u32) -> Result<(), JobError>
     ensures ok { OnOk result (stores_faults words (field_of Key.Stores (view job.now)) ≡ []) }
@@ -136,7 +136,7 @@ pub(crate) fn check_stores(job: &Value, words: u32) -> Result<(), JobError>
     check_each_store(values, words)
 }
 
-/// The stores that a job makes to a message of so many words, in the order given. J2 to J8: as `check_stores`.
+/// The stores that a job of so many words makes, in the order given. J2 to J8: as `check_stores`.
 pub(crate) fn stores_of(
     alloc: Global,
     job: &Value,

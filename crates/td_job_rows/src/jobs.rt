@@ -46,7 +46,8 @@ fn named_module(alloc: Global) -> Result<Module, AllocError> {
     })
 }
 
-/// An entry point's place, the arguments, cells and words, the length, and each store.
+/// An entry point's place, the arguments, cells and words, the length, each message word by its stretch and its word, where the
+/// job has a layout, and each store.
 fn job_line(alloc: Global, job: &RunJob) -> Result<String, AllocError> {
     let entry = job.entry.number;
     let args = job.args.as_slice();
@@ -54,6 +55,13 @@ fn job_line(alloc: Global, job: &RunJob) -> Result<String, AllocError> {
     let words = job.words.as_slice();
     let length = job.length;
     let mut line = format!(in alloc; "{entry} {args:?} {cells:?} {words:?} {length}")?;
+    if let Some(layout) = &job.layout {
+        for number in 0..layout.count() {
+            let (stretch, word) = layout.word(number);
+            let part = format!(in alloc; " word {stretch} {word}")?;
+            line.push_str(part.as_str())?;
+        }
+    }
     for store in job.stores.as_slice() {
         let before = store.before;
         let word = store.word;
@@ -82,6 +90,10 @@ const ROWS: &[(&[u8], &str)] = &[
     (
         b"{\"entry\":\"Q\",\"args\":[0],\"bytes\":\"\",\"length\":0}",
         "1 [0] [0] [] 0",
+    ),
+    (
+        b"{\"entry\":\"P\",\"bytes\":\"010000000000008007\",\"length\":12,\"stretches\":[[6,3],[4,0],[0,9]],\"stores\":[[1,1,\"0100000000000080\"]]}",
+        "0 [] [] [9223372036854775809, 7] 12 word 0 0 word 0 1 word 2 0 word 2 1 store 1 1 8000000000000001",
     ),
     (b"{\"entry\":\"Q\",\"args\":[65536]}", "J4 args[0]"),
     (

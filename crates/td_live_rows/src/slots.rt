@@ -1,15 +1,19 @@
 //! A message whose words a guest stores to between two of its loads.
 
-ghost use Rattle.std.specs.Prelude.{◌≡◌, ◌<◌};
+ghost use Rattle.std.specs.Prelude.{◌≡◌, ◌<◌, ◌^◌, length};
+ghost use Rattle.td_stream.specs.Layouts.{AreWithin};
 
 use crate::validated::{Compiled, ENTRY, Ran, compile, validated};
 use std::alloc::Global;
 use std::test::Fail;
 use td_core::module::Module;
+use td_core::outcome::{Reason, Verdict};
 use td_io::MemorySink;
 use td_live::gate::{Gate, PostName};
 use td_report::report::run_report;
 use td_stream::layout::Layout;
+use td_stream::load::Load;
+use td_stream::stretch::Stretch;
 use td_verify::verify::Verified;
 use td_words::seats::GuestSeat;
 use td_words::shared::Shared;
@@ -17,6 +21,10 @@ use td_words::shared::Shared;
 /// A message of nine bytes, of which the first and the last are tested: both its words are loaded, and none twice.
 const GAP: &[u8] =
     b"entrypoint typedef struct _V(mutable UINT8 *got) { UINT8 x { x <= 10 } {:act *got = x;}; UINT8 gap[7]; UINT8 z { z == 0 }; } V;";
+
+/// A message of two fields, which are tested for one value.
+const PAIR: &[u8] =
+    b"entrypoint typedef struct _X { UINT16 a { a == 0x2211 }; UINT16 b { b == 0x2211 }; } X;";
 
 // The word to which a guest stores before load 1, what it stores, and the report.
 const ROWS: &[(u32, u64, &str)] = &[
@@ -55,11 +63,21 @@ impl<'a> Gate for StoresMeanwhile<'a> {
     fn before_step(&mut self, _guest: u32, _step: u32) {}
 }
 
-// Validates the message in the words 1 and 2 of three, to one of which a value is stored before load 1.
-fn raced(alloc: Global, code: &Verified, word: u32, value: u64) -> Option<Ran>
-    requires { word < 3 }
+// Validates the message that lies so in a buffer of these words, to one of which a value is stored before load 1.
+fn raced(
+    alloc: Global,
+    code: &Verified,
+    words: &[u64],
+    layout: &Layout,
+    cells: &[u64],
+    word: u32,
+    value: u64,
+) -> Option<Ran>
+    requires few { length words.now < 2 ^ 32 }
+    requires inside { AreWithin (length words.now) layout.now }
+    requires stored { word < length words.now }
 {
-    let Ok((shared, mut host)) = Shared::open(alloc, &[9, 5, 0]) else {
+    let Ok((shared, mut host)) = Shared::open(alloc, words) else {
         return None;
     };
     let mut gate = StoresMeanwhile {
@@ -69,20 +87,12 @@ fn raced(alloc: Global, code: &Verified, word: u32, value: u64) -> Option<Ran>
         value,
     };
     let mut seat = shared.split_reader(&mut host);
-    let layout = Layout::words(1, 9);
     let name = PostName {
         guest: 1,
         number: 1,
     };
     validated(
-        alloc,
-        code,
-        &shared,
-        &mut seat,
-        &layout,
-        name,
-        &[0],
-        &mut gate,
+        alloc, code, &shared, &mut seat, layout, name, cells, &mut gate,
     )
 }
 
@@ -97,11 +107,20 @@ fn report(alloc: Global, m: &Module, ran: &Ran) -> Option<MemorySink> {
     }
 }
 
-// The report of that validation, by a module's code.
+// The report of a validation of the message in the words 1 and 2 of three, by a module's code.
 fn report_by(alloc: Global, compiled: &Compiled, word: u32, value: u64) -> Option<MemorySink>
     requires { word < 3 }
 {
-    let ran = raced(alloc, &compiled.code, word, value)?;
+    let layout = Layout::words(1, 9);
+    let ran = raced(
+        alloc,
+        &compiled.code,
+        &[9, 5, 0],
+        &layout,
+        &[0],
+        word,
+        value,
+    )?;
     report(alloc, &compiled.checked, &ran)
 }
 
@@ -122,5 +141,47 @@ fn a_store_counts_where_its_word_is_still_to_be_loaded(rt: HostRuntime) -> Resul
         }
     }
     println!(rt; "{} rows", ROWS.len())?;
+    Ok(())
+}
+
+// Validates a message of which both fields are the bytes 3 and 4 of the one word that there is; before load 1 these become others.
+fn raced_pair(alloc: Global) -> Option<Ran> {
+    let compiled = compile(alloc, PAIR)?;
+    let both = Stretch { place: 3, size: 2 };
+    let Ok(layout) = Layout::of(alloc, &[both, both]) else {
+        return None;
+    };
+    raced(
+        alloc,
+        &compiled.code,
+        &[0x0022_1100_0000],
+        &layout,
+        &[],
+        0,
+        0x0044_3300_0000,
+    )
+}
+
+#[test]
+fn a_word_in_two_stretches_is_loaded_once_for_each(rt: HostRuntime) -> Result<(), Fail> {
+    let Some(ran) = raced_pair(rt.alloc()) else {
+        return Err(Fail::new("not validated"));
+    };
+    let loads = [
+        Load {
+            word: 0,
+            value: 0x0022_1100_0000,
+        },
+        Load {
+            word: 1,
+            value: 0x0044_3300_0000,
+        },
+    ];
+    let rejected = Verdict::Reject {
+        reason: Reason::Constraint,
+        pos: 2,
+    };
+    assert_eq!(rt; ran.loads.as_slice(), loads.as_slice());
+    assert_eq!(rt; ran.outcome.verdict, rejected);
     Ok(())
 }

@@ -2,14 +2,17 @@
 
 use td_core::module::{Entry, Module};
 use td_num::items::Items;
+use td_stream::layout::Layout;
 
 /// A step of a guest's script.
-#[derive(Clone, Copy, PartialEq, Eq)]
+#[derive(Drop)]
 pub enum Step {
     /// Stores a value to a word of the buffer; words are counted from 0.
     Store { word: u32, value: u64 },
     /// Posts a message of `length` bytes, the first of which is the buffer's word `base`'s byte of least weight.
     Post { base: u32, length: u32 },
+    /// Posts a message that lies in these stretches of the buffer, their places and sizes in bytes.
+    Scatter { layout: Layout },
 }
 
 /// A job for a host: guests store to one buffer and post messages that lie in it, and workers validate them meanwhile.

@@ -1,6 +1,7 @@
 //! Replies to posts.
 
 use td_core::outcome::{TraceFrame, Verdict};
+use td_stream::layout::Layout;
 use td_stream::loads::Loads;
 
 /// The reply to a post: how the validation of its message ended, and what was loaded of it. Before the validation it is
@@ -10,6 +11,8 @@ pub struct Reply {
     /// The guest that posted the message, and which of its posts it is, both counted from 1.
     pub guest: u32,
     pub number: u32,
+    /// The post's list of stretches; none where its message lies at a word.
+    pub layout: Option<Layout>,
     pub verdict: Verdict,
     /// The frames of its failure; none where it accepts.
     pub trace: Vec<TraceFrame>,

@@ -1,6 +1,6 @@
 -- A number below 16^n is determined by its n hexadecimal digits.
 use Rattle.std.proofs.Common.{◌≡◌, ℕ, zero, suc, ◌+◌, ◌*◌, ◌/◌, ◌%◌, ◌^◌, ◌<◌, Bool, true, false, refl, sym, ap, ◌∙◌, arith, inl, inr}
-use Rattle.std.specs.Prelude.{◌&&◌, ◌==◌, nat_lt, if◌then◌else◌, ◌-◌}
+use Rattle.std.specs.Prelude.{length, ◌&&◌, ◌==◌, nat_lt, if◌then◌else◌, ◌-◌}
 use Rattle.std.proofs.lemmas.Bool.{cases_lt}
 use Rattle.std.proofs.lemmas.Bool.Decides.{nat_tests}
 use Rattle.std.proofs.Math.Nat.{div-div-eq-div-mul}
@@ -56,6 +56,12 @@ pub hex_above : (n value : ℕ) → Above 10 (hex_digits n value)
 unfolding hex_digits
 hex_above zero value = tt
 hex_above (suc n) value = (digit_above (value / 16 ^ n % 16) (omega arith), hex_above n value)
+
+-- as many digits as are asked for
+pub hex_length : (n value : ℕ) → length (hex_digits n value) ≡ n
+unfolding hex_digits
+hex_length zero value = refl
+hex_length (suc n) value = ap suc (hex_length n value)
 
 digits_at : (n v w : ℕ) → hex_digits n v ≡ hex_digits n w → (k : ℕ) → k < n → v / 16 ^ k % 16 ≡ w / 16 ^ k % 16
 unfolding hex_digits

@@ -5,4 +5,5 @@ pub mod Digits
 pub mod Hexadecimals
 pub mod Lines
 pub mod Parts
+pub mod Shown
 pub mod Zipped

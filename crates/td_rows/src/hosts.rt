@@ -14,6 +14,7 @@ use td_input::host::parse_host_input;
 use td_io::{MemorySink, MemorySource};
 use td_posts::name::PostName;
 use td_serving::gates::gates_of;
+use td_serving::laws::served_have_message_words;
 use td_serving::serving::job_code;
 
 /// A message of two loads, which one guest posts twice before it stores to its first word what that holds.
@@ -77,6 +78,7 @@ fn host_answer<R: AllocGlobal + Threads + Wait + Sync + Abort>(
     until: PostName,
     out: &mut MemorySink,
 ) -> Result<(), Fail> {
+    served_have_message_words();
     let alloc = rt.alloc();
     let gates = gates_at(alloc, rt, notes, places, until)?;
     let Ok(given) = parse_host_input(alloc, OWN_WORDS.as_bytes()) else {

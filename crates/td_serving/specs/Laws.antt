@@ -3,8 +3,11 @@ use Rattle.std.specs.Prelude.{◌≡◌, List, ℕ, map}
 use Rattle.std.specs.List.{All}
 use Rattle.td_core.specs.declared.module.Module.{Module}
 use Rattle.td_core.specs.declared.module.Entry.{Entry}
+use Rattle.td_posts.specs.declared.job.HostJob.{HostJob}
 use Rattle.td_posts.specs.declared.reply.Reply.{Reply}
+use Rattle.td_host.specs.Hosts.{IsServedJob}
 use Rattle.td_report.specs.Laws.{HasWords, HasNoSpotWord}
+use Rattle.td_host_report.specs.Report.{HasMessageWords}
 use Rattle.td_host_report.specs.Laws.{IsReportable, reported_reply}
 use Rattle.td_serving.specs.Serving.{IsServedInput, IsHostReport}
 
@@ -18,8 +21,12 @@ pub record AreReportable (m : Module) (entry : Entry) (replies : List Reply) : T
 abbrev pub ServedAreReportable : Type 0
 ServedAreReportable = (input : List ℕ) (m : Module) (entry : Entry) (replies : List Reply) → IsServedInput input m entry replies → AreReportable m entry replies
 
--- served inputs of one module (as those with one module text are) whose reports are equal have equal replies: of each the
--- guest, the number, the verdict, the trace, the cells and the loads
+-- served inputs of one module (as those with one module text are) whose reports are equal have replies of which the same is said: of
+-- each the guest, the number, the verdict, the trace, the cells, and the loads as they are shown
 abbrev pub HostReportsDetermineServed : Type 0
 HostReportsDetermineServed =
     (one other text : List ℕ) (a : IsHostReport one text) (b : IsHostReport other text) → a.m ≡ b.m → map reported_reply a.replies ≡ map reported_reply b.replies
+
+-- the loads of each reply to a served job are of words of its message, so a report can name them
+abbrev pub ServedHaveMessageWords : Type 0
+ServedHaveMessageWords = (job : HostJob) (replies : List Reply) → IsServedJob job replies → All HasMessageWords replies

@@ -1,6 +1,6 @@
 //! Laws of served inputs and their reports. They do nothing when they are called.
 
-ghost use Rattle.td_serving.specs.Laws.{HostReportsDetermineServed, ServedAreReportable};
+ghost use Rattle.td_serving.specs.Laws.{HostReportsDetermineServed, ServedAreReportable, ServedHaveMessageWords};
 
 use td_front::laws::modules_are_checked;
 use td_host_report::laws::host_reports_determine_replies;
@@ -19,11 +19,16 @@ pub fn served_are_reportable()
     some_message_carries();
 }
 
-/// Two served inputs of one module whose reports are equal have equal replies: what is said of a reply can be read off the
-/// report.
+/// Two served inputs of one module whose reports are equal have replies with equal guests, numbers and outcomes, and with loads
+/// of which a report says the same: what is said of a reply can be read off the report.
 pub fn host_reports_determine_served()
     ensures { HostReportsDetermineServed }
 {
     served_are_reportable();
     host_reports_determine_replies();
 }
+
+/// The loads of each reply to a served job are of words of its message, so that a report can name their stretches.
+pub fn served_have_message_words()
+    ensures { ServedHaveMessageWords }
+{}

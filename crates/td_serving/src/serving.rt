@@ -1,6 +1,7 @@
 //! The replies to an input's job.
 
 ghost use Rattle.std.specs.Prelude.{◌≡◌, ◌<◌, ◌^◌, ◌-◌, ◌*◌, ℕ, length, IfOk, IfErr, IsErr, IsErrOf};
+ghost use Rattle.std.specs.List.{All};
 ghost use Rattle.td_core.specs.declared.module.Module.{Module};
 ghost use Rattle.td_posts.specs.declared.job.HostJob.{HostJob};
 ghost use Rattle.td_input.specs.declared.refusal.Refusal.{Refusal};
@@ -9,9 +10,11 @@ ghost use Rattle.td_front.specs.Checked.{IsChecked};
 ghost use Rattle.td_input.specs.Inputs.{IsHostInput, RefusesHost, IsSoundHost, FitsEntry};
 ghost use Rattle.td_input.specs.Marker.{IsMarker};
 ghost use Rattle.td_actors.specs.Replies.{IsJobCode};
+ghost use Rattle.td_host_report.specs.Report.{HasMessageWords};
 ghost use Rattle.td_serving.specs.Serving.{IsServedInput};
 
 use crate::gates::{GATES_OF_EACH, gates_of};
+use crate::laws::served_have_message_words;
 use std::alloc::{AllocError, AllocGlobal, Global};
 use std::sync::Wait;
 use std::thread::Threads;
@@ -59,11 +62,13 @@ pub fn serve_input<R: AllocGlobal + Threads + Wait + Sync, G: Gate + Send + Drop
     requires short { length input.now < 2 ^ 32 - 1 }
     requires gates { length gates.items ≡ 2 * GATES_OF_EACH }
     ensures served { IfOk result (λ s. IsServedInput input.now s.module s.entry s.replies) }
+    ensures words { IfOk result (λ s. All HasMessageWords s.replies) }
     ensures cause { IfErr result (HasCause (RefusesHost input.now)) }
     ensures complete { (m : Module) (job : HostJob) → IsHostInput input.now m job → IfErr result (λ e. e ≡ InputError.NoMemory) }
     ensures refused { (refusal : Refusal) → RefusesHost input.now refusal → IsErr result }
     ensures no_job { ((n : ℕ) → IsMarker input.now n → ⊥) → IsErrOf result (InputError.Refused Refusal.NoJob) }
 {
+    served_have_message_words();
     let given = parse_host_input(rt.alloc(), input)?;
     let Ok(code) = job_code(rt.alloc(), &given) else {
         return Err(InputError::NoMemory);

@@ -1,9 +1,8 @@
 -- Words and stores of a host job are of 64 bits, and what its messages' outcomes tell.
-use Rattle.std.proofs.Common.{◌≡◌, ℕ, ◌<◌, ◌≤◌, ◌^◌, List, [], ◌∷◌, length, Option, Some, None, refl, sym, subst, arith}
+use Rattle.std.proofs.Common.{◌≡◌, ℕ, ◌<◌, ◌^◌, List, [], ◌∷◌, length, Option, Some, None, refl, sym, subst, arith}
 use Rattle.std.specs.List.{All}
 use Rattle.std.proofs.lemmas.List.Elements.{All-nil, All-cons, All-head, All-tail, All-append, All-from_get_or}
 use Rattle.serde_json.specs.Data.{Items, no_items, item}
-use Rattle.td_core.specs.declared.module.Module.{Module}
 use Rattle.td_core.specs.Formed.{Bound, AllFit}
 use Rattle.td_core.specs.Entries.{entry_definition}
 use Rattle.td_sched.specs.declared.store.PlannedStore.{PlannedStore}
@@ -11,16 +10,18 @@ use Rattle.td_job.specs.declared.error.Key.TheVariants as key
 use Rattle.td_job.specs.declared.run_job.RunJob.{RunJob}
 use Rattle.td_job.specs.Values.{cells_bounds}
 use Rattle.td_job.specs.Jobs.{spelled_word}
-use Rattle.td_posts.specs.declared.job.HostJob.{HostJob}
 use Rattle.td_posts.specs.declared.job.Step.{Step}
-use Rattle.td_posts.specs.declared.job.Step.TheVariants.{Store, Post}
-use Rattle.td_posts.specs.Posts.{stores_of, zeros}
-use Rattle.td_host_job.specs.Steps.{SpelledStep, SpelledStore, SpelledPost, spelled_step, store_with, step_in, each_step}
+use Rattle.td_posts.specs.declared.job.Step.TheVariants.{Store, Post, Scatter}
+use Rattle.td_posts.specs.declared.mail.Mail.{Mail}
+use Rattle.td_posts.specs.Posts.{list_of, all_mails, stores_of, zeros}
+use Rattle.td_host_job.specs.Steps.{SpelledStep, SpelledStore, SpelledPost, SpelledScatter, spelled_step, store_with, step_in, each_step}
 use Rattle.td_host_job.specs.Guests.{listed_in, listed_steps, given_script, each_script, listed_scripts}
-use Rattle.td_host_job.specs.HostJobs.{IsHost}
+use Rattle.td_host_job.specs.HostJobs.{IsHost, IsShort}
 use Rattle.td_host_job.specs.Laws.{HostJobsKeepLimits}
-use Rattle.td_told.specs.Laws.{IsSized, StoresSmall, IsHostSized, HostJobsAreSized, RunsAreTold, RepliesAreTold}
+use Rattle.td_told.specs.Laws.{AreSized, IsSized, StoresSmall, HostJobsAreSized, RunsAreTold, RepliesAreTold}
 use Rattle.td_told.proofs.Jobs.{word_small}
+use Rattle.td_told.proofs.Posts.{posts_sized}
+use Rattle.td_told.proofs.Reading.{read_small}
 use Rattle.td_told.proofs.Told.{index_small}
 
 -- ---- stores
@@ -28,6 +29,7 @@ use Rattle.td_told.proofs.Told.{index_small}
 abbrev SmallStep : Step → Type 0
 SmallStep (Store word value) = value < 2 ^ 64
 SmallStep (Post base size) = Unit {0}
+SmallStep (Scatter layout) = Unit {0}
 
 abbrev SmallScript : List Step → Type 0
 SmallScript steps = All SmallStep steps
@@ -40,6 +42,7 @@ step_small (Some (SpelledStore word text)) = by (spelled_word text) refl
     by None e = All-nil SmallStep
     by (Some v) e = All-cons SmallStep (Store word v) [] (word_small text v e) (All-nil SmallStep)
 step_small (Some (SpelledPost base size)) = All-cons SmallStep (Post base size) [] tt (All-nil SmallStep)
+step_small (Some (SpelledScatter layout)) = All-cons SmallStep (Scatter layout) [] tt (All-nil SmallStep)
 
 steps_small : (values : Items) → SmallScript (each_step values)
 steps_small no_items = All-nil SmallStep
@@ -55,6 +58,7 @@ stores_small [] h = All-nil (λ (s : ℕ × ℕ). s.1 < 2 ^ 64)
 stores_small (Store word value ∷ steps) h =
     All-cons (λ (s : ℕ × ℕ). s.1 < 2 ^ 64) (word, value) (stores_of steps) (All-head SmallStep (Store word value) steps h) (stores_small steps (All-tail SmallStep (Store word value) steps h))
 stores_small (Post base size ∷ steps) h = stores_small steps (All-tail SmallStep (Post base size) steps h)
+stores_small (Scatter layout ∷ steps) h = stores_small steps (All-tail SmallStep (Scatter layout) steps h)
 
 scripts_small : (values : Items) → All StoresSmall (each_script values)
 scripts_small no_items = All-nil StoresSmall
@@ -70,8 +74,12 @@ guests_small (Some values) = scripts_small values
 pub host_jobs_are_sized : HostJobsKeepLimits → HostJobsAreSized
 host_jobs_are_sized keep bytes m j h =
     let host : IsHost m h.0 j = h.2 in
+    let kept = keep bytes m j h in
+    let S : List (List Step) → Type 0 = λ guests. All IsShort (all_mails 1 guests) in
+    let M : List (List Step) → Type 0 = λ guests. All (λ (mail : Mail). AreSized (list_of mail)) (all_mails 1 guests) in
     record {
-      kept = keep bytes m j h;
+      kept = kept;
+      stretches = subst M (sym host.scripted) (posts_sized h.0 (read_small bytes h.0 h.1) (subst S host.scripted kept.short));
       words = λ i. index_small j.words i (All-from_get_or (λ (word : ℕ). word < 2 ^ 64) j.words 0 host.filled.fits);
       stores = subst (All StoresSmall) (sym host.scripted) (guests_small (listed_in key.Guests h.0));
     }
@@ -87,11 +95,13 @@ pub replies_are_told : RunsAreTold → RepliesAreTold
 replies_are_told runs m j message checked s bytes short =
     let bounds = cells_bounds (entry_definition m j.entry.number) in
     let cells : AllFit bounds (zeros j.cells) = subst (λ n. AllFit bounds (zeros n)) (sym s.kept.values.cells) (zeros_fit bounds) in
-    let run : RunJob = record { entry = j.entry; args = j.args; cells = zeros j.cells; words = []; length = length message; stores = [] } in
+    let run : RunJob = record { entry = j.entry; args = j.args; cells = zeros j.cells; words = []; length = length message; layout = None; stores = [] } in
     let sized : IsSized m run = record {
       entry = s.kept.values.entry;
       values = record { args = s.kept.values.args; cells = cells };
+      long = omega arith;
       limit = short;
+      stretches = tt;
       words = All-nil (λ (word : ℕ). word < 2 ^ 64);
       stores = All-nil (λ (p : PlannedStore). p.value < 2 ^ 64);
     } in

@@ -1,8 +1,8 @@
 -- Words and stores of a job are of 64 bits, and its numbers fit.
-use Rattle.std.proofs.Common.{◌≡◌, ℕ, ◌%◌, ◌/◌, ◌^◌, ◌<◌, ◌≤◌, Bool, true, false, ◌==◌, nat_lt, List, [], length, Option, Some, None, Result, Ok, Err, refl, sym, subst, arith}
-use Rattle.std.specs.Prelude.{if◌then◌else◌, option_and_then}
+use Rattle.std.proofs.Common.{◌≡◌, ℕ, ◌%◌, ◌/◌, ◌^◌, ◌<◌, ◌≤◌, Bool, true, false, ◌==◌, nat_lt, List, [], length, length-append, Option, Some, None, Result, Ok, Err, refl, sym, subst, arith, option_map}
+use Rattle.std.specs.Prelude.{if◌then◌else◌, option_and_then, IfSome}
 use Rattle.std.specs.List.{All}
-use Rattle.std.proofs.lemmas.Bool.{ltb-false}
+use Rattle.std.proofs.lemmas.Bool.Decides.{nat_tests}
 use Rattle.std.proofs.lemmas.Option.{same_Some, none-some}
 use Rattle.std.proofs.lemmas.List.Elements.{All-nil, All-cons, All-append, All-from_get_or}
 use Rattle.hex.specs.Hex.{decode_pairs, decode_sized}
@@ -10,19 +10,28 @@ use Rattle.hex.proofs.HexLemmas.{decode_pairs-ok}
 use Rattle.hex.specs.declared.error.FromHexError.{FromHexError}
 use Rattle.hex.specs.declared.error.FromHexError.TheVariants.{OddLength, InvalidStringLength}
 use Rattle.serde_json.specs.Data.{Data, Items, no_items, item}
+use Rattle.serde_json.specs.Events.{items_len}
 use Rattle.serde_json.specs.Find.{as_array}
+use Rattle.td_stream.specs.declared.layout.TheConstants.{MOST_STRETCHES}
+use Rattle.td_stream.specs.declared.stretch.Stretch.{Stretch}
 use Rattle.td_core.specs.declared.module.Module.{Module}
 use Rattle.td_sched.specs.declared.store.PlannedStore.{PlannedStore}
 use Rattle.td_job.specs.declared.error.Key.TheVariants as key
-use Rattle.td_job.specs.declared.error.JobError.{JobError}
 use Rattle.td_job.specs.declared.run_job.RunJob.{RunJob}
 use Rattle.td_num.specs.Numbers.{rising_at}
-use Rattle.td_job.specs.Fields.{field_of, number_of, fault_if}
-use Rattle.td_job.specs.Jobs.{length_faults, Spelled, spelled_store, word_in, spelled_word, store_with, store_of, each_store, listed_stores, IsJob, IsRunJob}
-use Rattle.td_told.specs.Laws.{IsSized, JobsAreSized}
+use Rattle.td_job.specs.Fields.{Reads, field_of, number_of}
+use Rattle.td_job.specs.declared.error.JobError.TheVariants.{Fault}
+use Rattle.td_job.specs.declared.error.JobRule.TheVariants as rule
+use Rattle.td_job.specs.declared.error.Path.TheVariants as path
+use Rattle.td_job.specs.Values.{or_zero}
+use Rattle.td_job.specs.Stretches.{spelled_stretch, stretch_of, each_stretch, layout_faults, stretches_faults, layout_of}
+use Rattle.td_job.specs.Jobs.{length_faults, given_bytes, Spelled, spelled_store, word_in, spelled_word, store_with, store_of, each_store, listed_stores, IsJob, IsRunJob}
+use Rattle.td_told.specs.Laws.{AreSized, IsSized, JobsAreSized}
 use Rattle.td_job.proofs.Bytes.{AreBytes, rising_small}
-use Rattle.td_job.proofs.Numbers.{both_empty}
+use Rattle.td_job.proofs.Numbers.{both_empty, not_over}
+use Rattle.td_job.proofs.Scattered.{short, lies_there}
 use Rattle.td_job.proofs.Unique.{within, all_fit}
+use Rattle.td_told.proofs.Reading.{Small, SmallItems, read_small, field_small, list_small, stretches_low}
 
 -- ---- stores
 
@@ -41,47 +50,71 @@ word_small text v e = by (decode_sized text 8) refl e
     by (Err x) f h = absurd (none-some v h)
     by (Ok bytes) f h = omega (arith, rising_small bytes (decoded_small text 8 bytes f) 0 8, same_Some (rising_at bytes 0 8) v h)
 
-abbrev Small : PlannedStore → Type 0
-Small s = s.value < 2 ^ 64
+abbrev SmallStore : PlannedStore → Type 0
+SmallStore s = s.value < 2 ^ 64
 
-store_small : (o : Option Spelled) → All Small (store_of o)
-store_small None = All-nil Small
+store_small : (o : Option Spelled) → All SmallStore (store_of o)
+store_small None = All-nil SmallStore
 store_small (Some s) = by (spelled_word s.text) refl
   where
-    by : (o : Option ℕ) → spelled_word s.text ≡ o → All Small (store_with s o)
-    by None e = All-nil Small
-    by (Some v) e = All-cons Small (record { before = s.before; word = s.word; value = v }) [] (word_small s.text v e) (All-nil Small)
+    by : (o : Option ℕ) → spelled_word s.text ≡ o → All SmallStore (store_with s o)
+    by None e = All-nil SmallStore
+    by (Some v) e = All-cons SmallStore (record { before = s.before; word = s.word; value = v }) [] (word_small s.text v e) (All-nil SmallStore)
 
-each_small : (values : Items) → All Small (each_store values)
-each_small no_items = All-nil Small
-each_small (item value values) = All-append Small (store_of (spelled_store value)) (each_store values) (store_small (spelled_store value)) (each_small values)
+each_small : (values : Items) → All SmallStore (each_store values)
+each_small no_items = All-nil SmallStore
+each_small (item value values) = All-append SmallStore (store_of (spelled_store value)) (each_store values) (store_small (spelled_store value)) (each_small values)
 
-listed_small : (o : Option Items) → All Small (listed_stores o)
-listed_small None = All-nil Small
+listed_small : (o : Option Items) → All SmallStore (listed_stores o)
+listed_small None = All-nil SmallStore
 listed_small (Some values) = each_small values
 
--- ---- the length
+-- ---- stretches
 
-length_small : (given n : ℕ) (o : Option ℕ) → o ≡ Some n → length_faults given o ≡ [] → n ≤ 1048576
-length_small given n None e h = absurd (none-some n e)
-length_small given n (Some k) e h = by (nat_lt 1048576 k) refl _ (both_empty _ _ h).1
-  where
-    by : (b : Bool) → nat_lt 1048576 k ≡ b → (x : JobError) → fault_if b x ≡ [] → n ≤ 1048576
-    by true f x h = absurd cc
-    by false f x h = omega (arith, ltb-false 1048576 k f, same_Some k n e)
+few_of : (o : Option Stretch) → length (stretch_of o) ≤ 1
+few_of None = omega arith
+few_of (Some s) = omega arith
 
-sized : (bytes : List ℕ) (m : Module) (job : Data) (j : RunJob) → IsRunJob bytes m j → IsJob m job j → IsSized m j
-sized bytes m job j run h =
+few_each : (values : Items) → length (each_stretch values) ≤ items_len values
+few_each no_items = omega arith
+few_each (item value values) =
+    let here = few_of (spelled_stretch value) in
+    let more = few_each values in
+    let both = length-append (stretch_of (spelled_stretch value)) (each_stretch values) in
+    omega (arith, here, more, both)
+
+layout_sized : (given n : ℕ) (o : Option Items) → IfSome o SmallItems → layout_faults given n o ≡ [] → AreSized (option_map each_stretch o)
+layout_sized given n None small h = tt
+layout_sized given n (Some values) small h =
+    let sum = both_empty _ _ h in
+    let each = both_empty _ _ sum.0 in
+    let many : nat_lt MOST_STRETCHES (items_len values) ≡ false = not_over _ (Fault rule.Limit (path.Whole key.Stretches)) each.0 in
+    let few : items_len values ≤ MOST_STRETCHES = grind (arith, nat_tests, many) in
+    let here = few_each values in
+    record { few = omega (arith, here, few); places = stretches_low values small }
+
+stretches_sized : (given : ℕ) (n : Option ℕ) (o : Option Data) → IfSome o Small → stretches_faults given n o ≡ [] → AreSized (layout_of o)
+stretches_sized given n None small h = tt
+stretches_sized given n (Some value) small h = layout_sized given (or_zero n) (as_array value) (list_small value small) h
+
+sized : (bytes : List ℕ) (m : Module) (job : Data) (j : RunJob) → Reads bytes job → IsRunJob bytes m j → IsJob m job j → IsSized m j
+sized bytes m job j reads run h =
     let names = both_empty _ _ h.faultless in
     let stores = both_empty _ _ names.0 in
-    let bounds = both_empty _ _ stores.0 in
+    let stretches = both_empty _ _ stores.0 in
+    let lengths = both_empty _ _ stretches.0 in
+    let field = field_of key.Stretches job in
+    let given = length (given_bytes job) in
+    let there = lies_there m job j h in
     record {
       entry = within bytes m (Ok j) run;
       values = all_fit bytes m (Ok j) run;
-      limit = length_small _ j.length (number_of key.Length job) h.as_long bounds.1;
+      long = there.long;
+      limit = short field given j.length (subst (λ (n : Option ℕ). length_faults field given n ≡ []) h.as_long lengths.1);
+      stretches = subst AreSized (sym h.layout) (stretches_sized given (number_of key.Length job) field (field_small key.Stretches job (read_small bytes job reads)) stretches.1);
       words = All-from_get_or (λ word. word < 2 ^ 64) j.words 0 h.filled.fits;
-      stores = subst (All Small) (sym h.stored) (listed_small (option_and_then as_array (field_of key.Stores job)));
+      stores = subst (All SmallStore) (sym h.stored) (listed_small (option_and_then as_array (field_of key.Stores job)));
     }
 
 pub jobs_are_sized : JobsAreSized
-jobs_are_sized bytes m j h = sized bytes m h.0 j h h.2
+jobs_are_sized bytes m j h = sized bytes m h.0 j h.1 h h.2

@@ -7,14 +7,14 @@ use td_endings::laws::endings_are_within;
 use td_host_job::laws::jobs_keep_limits;
 use td_meaning::laws::{frames_are_named, rejections_are_framed};
 
-/// Of each run job the entry point is one of the module's, values fit their parameters and cells, the message isn't too
-/// long, and words and stores are of 64 bits.
+/// Of each run job the entry point is one of the module's, values fit their parameters and cells, the message is as long as
+/// said and not too long, its stretches are few and at places of 64 bits, and words and stores are of 64 bits.
 pub fn jobs_are_sized()
     ensures { JobsAreSized }
 {}
 
 /// Each host job keeps its limits (the entry point is one of the module's, values fit, messages, guests and posts are no more
-/// than a job may have), and its words and stores are of 64 bits.
+/// than a job may have), its posts' stretches are few and at places of 64 bits, and its words and stores are of 64 bits.
 pub fn host_jobs_are_sized()
     ensures { HostJobsAreSized }
 {
@@ -43,7 +43,7 @@ pub fn replies_are_told()
     runs_are_told();
 }
 
-/// The loads of a good job are of words and values of 64 bits.
+/// The loads of a good job are of words and values of 64 bits, their stretches included where it has a layout.
 pub fn loads_are_told()
     ensures { LoadsAreTold }
 {}

@@ -12,4 +12,5 @@ returns c =
       loads = c.loads_are_told.ensures;
       carry = c.some_message_carries.ensures;
       determine = c.reports_determine_outcomes.ensures;
+      one = c.shown_loads_are_one.ensures;
     })

@@ -1,20 +1,16 @@
-use Rattle.std.proofs.Common.{rules, ◌≡◌, List, [], ◌∷◌, ◌+◌, drop, ◌∙◌, arith, true, false}
-use Rattle.std.specs.Prelude.{slice_index_or}
+use Rattle.std.proofs.Common.{rules, ◌≡◌, List, [], ◌∷◌, ◌+◌, drop, ◌∙◌, arith, true, false, sym, ap}
 use Rattle.std.proofs.lemmas.List.{drop_more, drop_all}
 use Rattle.td_posts.specs.declared.mail.Mail.{Mail}
 use Rattle.td_posts.specs.Posts.{same_name}
 use Rattle.td_posts.proofs.Named.{named_over, named_here, named_later}
 use Rattle.td_posts.proofs.mail.mail_named.Goals as goal
 
-abbrev none : Mail
-none = record { name = record { guest = 0; number = 0 }; made = 0; base = 0; length = 0 }
-
 pub returns-then-has_name : goal.returns-then-has_name
 returns-then-has_name c =
     let n = c.loop-mail.mail-index in
     let mails : List Mail = c.args.mails.now in
-    let m : Mail = slice_index_or mails n none in
-    let e : drop n mails ≡ m ∷ drop (n + 1) mails = drop_more mails n none c.loop-mail-test.true in
+    let m : Mail = c.mail-item.result in
+    let e : drop n mails ≡ m ∷ drop (n + 1) mails = drop_more mails n m c.loop-mail-test.true ∙ ap (λ (x : Mail). x ∷ drop (n + 1) mails) (sym c.mail-item.is) in
     let t : same_name m.name c.args.name ≡ true = search rules in
     c.loop-mail.invariant ∙ named_here c.args.name (drop n mails) (drop (n + 1) mails) m e t
 
@@ -22,8 +18,8 @@ pub loop-mail-preserved : goal.loop-mail-preserved
 loop-mail-preserved c =
     let n = c.loop-mail.mail-index in
     let mails : List Mail = c.args.mails.now in
-    let m : Mail = slice_index_or mails n none in
-    let e : drop n mails ≡ m ∷ drop (n + 1) mails = drop_more mails n none c.loop-mail-test.true in
+    let m : Mail = c.mail-item.result in
+    let e : drop n mails ≡ m ∷ drop (n + 1) mails = drop_more mails n m c.loop-mail-test.true ∙ ap (λ (x : Mail). x ∷ drop (n + 1) mails) (sym c.mail-item.is) in
     let t : same_name m.name c.args.name ≡ false = search rules in
     c.loop-mail.invariant ∙ named_later c.args.name (drop n mails) (drop (n + 1) mails) m e t
 
