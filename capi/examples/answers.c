@@ -1,0 +1,134 @@
+/* Every answer once, and what a code tells of itself: answers RNDIS_IMAGE. Each line is what was asked and what was answered. */
+#include "common.h"
+
+static uint64_t words[8];
+static int wrong;
+
+static void row(const char *what, int32_t wanted, int32_t found) {
+  printf("%s: %d\n", what, found);
+  if (wanted != found) {
+    printf("  wanted %d\n", wanted);
+    wrong++;
+  }
+}
+
+static td_call asked(uint32_t entry) {
+  td_call call = {0};
+  call.entry = entry;
+  call.length = 48;
+  call.arg_count = 1;
+  call.args[0] = 48;
+  call.cell_count = 5;
+  return call;
+}
+
+static void tables(td_session *s, uint32_t entry) {
+  td_entry_point point = {0};
+  td_part part = {0};
+  row("an entry point", TD_DONE, td_describe(s, entry, &point));
+  printf("entry %s\n", name_of(s, point.name));
+  for (size_t i = 0; i < point.param_count; i++) {
+    row("a parameter", TD_DONE, td_param(s, entry, i, &part));
+    printf("param %s %u\n", name_of(s, part.name), part.bytes);
+  }
+  for (size_t i = 0; i < point.cell_count; i++) {
+    row("a cell", TD_DONE, td_cell(s, entry, i, &part));
+    printf("cell %s.%s %u%s\n", name_of(s, part.name), part.has_field ? name_of(s, part.field) : "", part.bytes, part.is_place ? " place" : "");
+  }
+  row("a parameter too many", TD_MISSING, td_param(s, entry, point.param_count, &part));
+  row("a cell too many", TD_MISSING, td_cell(s, entry, point.cell_count, &part));
+  row("an entry point too many", TD_MISSING, td_describe(s, 99, &point));
+}
+
+static void validations(td_session *s, uint32_t entry) {
+  td_call call = asked(entry);
+  words[0] = 1 | (uint64_t)48 << 32;
+  words[1] = 36 | (uint64_t)4 << 32;
+  row("a whole message", TD_ACCEPTED, td_validate(s, words, 8, &call));
+  printf("position %u reason %s data %llu of %llu\n", call.position, td_reason_word(call.reason), (unsigned long long)call.cells[3], (unsigned long long)call.cells[4]);
+  td_frame_row frame = {0};
+  row("a frame where it accepted", TD_MISSING, td_frame(s, 0, &frame));
+  call = asked(entry);
+  words[1]++; /* data that begin a byte later, and would end after the message */
+  row("a broken message", TD_REJECTED, td_validate(s, words, 8, &call));
+  printf("position %u reason %s\n", call.position, td_reason_word(call.reason));
+  for (size_t i = 0; i < call.frame_count; i++) {
+    row("a frame", TD_DONE, td_frame(s, i, &frame));
+    printf("frame %s.%s %u\n", name_of(s, frame.kind), frame.spot == TD_FIELD ? name_of(s, frame.field) : frame.spot == TD_WHERE ? "where" : "switch", frame.start);
+  }
+  row("a frame too many", TD_MISSING, td_frame(s, call.frame_count, &frame));
+}
+
+static void wrong_uses(td_session *s, uint32_t entry) {
+  td_session none = {0};
+  td_call call = asked(entry);
+  uint32_t number = 0;
+  row("a closed handle", TD_CLOSED, td_validate(&none, words, 8, &call));
+  row("no name of a closed handle", TD_CLOSED, td_entry(&none, "A", 1, &number));
+  row("no other session of a closed handle", TD_CLOSED, td_again(&none, &(td_session){0}));
+  row("no such entry point", TD_MISSING, td_entry(s, "NOWHERE", 7, &number));
+  call.entry = 77;
+  row("an entry point's number that the code hasn't", TD_MISSING, td_validate(s, words, 8, &call));
+  call = asked(entry);
+  call.arg_count = 0;
+  row("too few arguments", TD_UNFIT, td_validate(s, words, 8, &call));
+  call.arg_count = 17;
+  row("more arguments than a call has room for", TD_UNFIT, td_validate(s, words, 8, &call));
+  call = asked(entry);
+  call.cell_count = 0xffffffff;
+  row("more cells than a call has room for", TD_UNFIT, td_validate(s, words, 8, &call));
+  call = asked(entry);
+  call.args[0] = (uint64_t)1 << 32;
+  row("an argument that is too wide", TD_UNFIT, td_validate(s, words, 8, &call));
+  call = asked(entry);
+  row("a message that is longer than the words", TD_PAST, td_validate(s, words, 5, &call));
+  call.place = 0xffffffff;
+  row("a message that begins after the words", TD_PAST, td_validate(s, words, 8, &call));
+  call = asked(entry);
+  row("no words, and a message", TD_PAST, td_validate(s, 0, 0, &call));
+  row("null words", TD_POINTER, td_validate(s, 0, 8, &call));
+  row("words that aren't aligned", TD_POINTER, td_validate(s, (const uint64_t *)((const char *)words + 4), 6, &call));
+  row("a null call", TD_POINTER, td_validate(s, words, 8, 0));
+  row("a null handle", TD_POINTER, td_validate(0, words, 8, &call));
+  row("a null name", TD_POINTER, td_entry(s, 0, 0, &number));
+  row("a session beside itself", TD_POINTER, td_again(s, s));
+}
+
+static void images(uint8_t *bytes, size_t size) {
+  static td_session s; /* a handle keeps its slot, so handles are kept */
+  td_fault fault = {0};
+  row("a cut image", TD_I3, td_open(&s, bytes, size - 3, &fault));
+  row("where it ends", (int32_t)(size - 3), (int32_t)fault.place);
+  row("bytes behind an image", TD_I5, td_open(&s, bytes, size + 1, &fault));
+  row("where they begin", (int32_t)size, (int32_t)fault.place);
+  bytes[0] ^= 1;
+  row("no image", TD_I1, td_open(&s, bytes, size, &fault));
+  bytes[0] ^= 1;
+  bytes[4] ^= 7;
+  row("another version", TD_I2, td_open(&s, bytes, size, &fault));
+  bytes[4] ^= 7;
+  row("null bytes", TD_POINTER, td_open(&s, 0, size, &fault));
+  row("an image", TD_DONE, td_open(&s, bytes, size, &fault));
+  row("the image again, into the same handle", TD_DONE, td_open(&s, bytes, size, &fault));
+  td_close(&s);
+  td_close(&s);
+  row("a handle that was closed twice", TD_CLOSED, td_entry(&s, "RNDIS", 5, &(uint32_t){0}));
+  row("a closed handle that is opened again", TD_DONE, td_open(&s, bytes, size, &fault));
+  td_close(&s);
+}
+
+int main(int argc, char **argv) {
+  if (argc != 2) stop("usage: answers RNDIS_IMAGE", 0);
+  static uint8_t bytes[1 << 22];
+  size_t size = image_of(argv[1], bytes, sizeof bytes);
+  static td_session s;
+  open_image(&s, argv[1]);
+  uint32_t entry = entry_of(&s, "RNDIS");
+  tables(&s, entry);
+  validations(&s, entry);
+  wrong_uses(&s, entry);
+  images(bytes, size);
+  td_close(&s);
+  printf("wrong %d\n", wrong);
+  return wrong != 0;
+}

@@ -1,0 +1,77 @@
+/* Each allocation refused in turn: refused RNDIS_IMAGE. A call that is refused memory answers TD_NO_MEMORY, and nothing but the slots of handles is
+   left behind it. The program brings its own heap (in place of heap.c), which counts blocks. */
+#include "common.h"
+
+typedef struct { uint64_t is_ok; void *at; } block;
+static long allocations, refused_at, blocks;
+static char nothing;
+
+static block take(void *old, size_t size) {
+  if (++allocations == refused_at) return (block){0, &nothing};
+  void *at = realloc(old, size ? size : 16);
+  if (!at) return (block){0, &nothing};
+  blocks += !old;
+  return (block){1, at};
+}
+
+block rattle_alloc(size_t size, size_t align) {
+  (void)align;
+  return take(0, size);
+}
+
+block rattle_realloc(void *at, size_t old_size, size_t new_size, size_t align) {
+  (void)old_size;
+  (void)align;
+  return take(at, new_size);
+}
+
+void rattle_dealloc(void *at, size_t size) {
+  (void)size;
+  blocks--;
+  free(at);
+}
+
+static uint64_t words[8] = {1 | (uint64_t)48 << 32, 36 | (uint64_t)4 << 32};
+static uint8_t bytes[1 << 22];
+static size_t size;
+
+/* Opens, takes a second session, validates by both, and closes them. The first answer that isn't TD_DONE. */
+static int32_t round_of(td_session *s, td_session *other) {
+  td_fault fault = {0};
+  int32_t code = td_open(s, bytes, size, &fault);
+  if (!code) code = td_again(s, other);
+  td_call call = {0};
+  call.entry = code ? 0 : entry_of(s, "RNDIS");
+  call.length = 48;
+  call.arg_count = 1;
+  call.args[0] = 48;
+  call.cell_count = 5;
+  long before = allocations;
+  if (!code) code = td_validate(other, words, 8, &call);
+  if (allocations != before) stop("a validation took memory", allocations - before);
+  static const td_stretch parts[2] = {{0, 20}, {20, 28}};
+  if (!code) code = td_validate_parts(s, words, 8, parts, 2, &call);
+  td_close(other);
+  td_close(s);
+  return code;
+}
+
+int main(int argc, char **argv) {
+  if (argc != 2) stop("usage: refused RNDIS_IMAGE", 0);
+  size = image_of(argv[1], bytes, sizeof bytes);
+  static td_session s, other;
+  if (round_of(&s, &other)) stop("the first round", 0);
+  long slots = blocks, most = allocations, tried = 0;
+  if (slots != 2) stop("blocks that were left", slots);
+  for (refused_at = 1; refused_at <= most; refused_at++) {
+    allocations = 0;
+    int32_t code = round_of(&s, &other);
+    tried += code == TD_NO_MEMORY;
+    if (code && code != TD_NO_MEMORY) stop("an answer for want of memory", code);
+    if (blocks != slots) stop("blocks that were left", blocks - slots);
+  }
+  refused_at = 0;
+  if (round_of(&s, &other)) stop("the last round", 0);
+  printf("refused %ld of %ld allocations\n", tried, most);
+  return tried == 0;
+}

@@ -1,0 +1,145 @@
+/* Two processes over one file that both have mapped: one stores messages without end, whole ones and broken ones, and the other validates
+   them where they lie. two_processes RNDIS_IMAGE VIRTIO_NET_IMAGE FILE SECONDS. The RNDIS message begins at a word, the other
+   one at byte 5 of one. Whatever is accepted was tested on the very values that were loaded: the cells are never wrong. */
+#define _GNU_SOURCE
+#include "common.h"
+#include <fcntl.h>
+#include <stdatomic.h>
+#include <sys/mman.h>
+#include <sys/wait.h>
+#include <time.h>
+#include <unistd.h>
+
+enum { RNDIS_BYTES = 512, NET_BYTES = 70, NET_PLACE = RNDIS_BYTES + 5, WORDS = 80 };
+enum { CHECKSUM_AND_SEGMENTS = 0x3801, MOST_WAITED = 60 };
+
+typedef struct {
+  _Atomic uint64_t words[WORDS];
+  _Atomic int is_over;
+  _Atomic unsigned rounds; /* of the process that stores */
+} memory;
+
+static memory *mapped(const char *path) {
+  int file = open(path, O_RDWR | O_CREAT, 0600);
+  if (file < 0 || ftruncate(file, sizeof(memory))) stop(path, file);
+  void *at = mmap(0, sizeof(memory), PROT_READ | PROT_WRITE, MAP_SHARED, file, 0);
+  if (at == MAP_FAILED) stop("mmap", 0);
+  close(file);
+  return at;
+}
+
+/* Stores bytes from a place on, word by word, each word by one atomic store. */
+static void put(memory *m, size_t place, const uint8_t *bytes, size_t size) {
+  for (size_t word = place / 8; word <= (place + size - 1) / 8; word++) {
+    uint64_t value = atomic_load_explicit(&m->words[word], memory_order_relaxed);
+    uint8_t *b = (uint8_t *)&value;
+    for (size_t k = 0; k < 8; k++)
+      if (8 * word + k >= place && 8 * word + k < place + size) b[k] = bytes[8 * word + k - place];
+    atomic_store_explicit(&m->words[word], value, memory_order_relaxed);
+  }
+}
+
+static void put_rndis(memory *m, unsigned n) {
+  uint32_t head[11] = {1, RNDIS_BYTES, 36, RNDIS_BYTES - 44};
+  if (n % 4 == 1) head[0] = 7;
+  if (n % 4 == 2) head[1] = 0xffffffff;
+  if (n % 4 == 3) head[3]++;
+  put(m, 0, (const uint8_t *)head, sizeof head);
+}
+
+static void put_net(memory *m, unsigned n) {
+  uint8_t head[12] = {1, 1, 54, 0, 0xa8, 5, 34, 0, 16, 0, 0, 0};
+  if (n % 3 == 1) head[8] = 44; /* the checksum would lie after the packet */
+  if (n % 3 == 2) head[10] = 1;
+  put(m, NET_PLACE, head, sizeof head);
+}
+
+static void store_without_end(const char *path) {
+  memory *m = mapped(path);
+  for (unsigned n = 0; !atomic_load(&m->is_over); n++) {
+    put_rndis(m, n);
+    put_net(m, n / 2);
+    atomic_store(&m->rounds, n);
+  }
+  _exit(0);
+}
+
+typedef struct { unsigned long accepted, rejected, wrong; } tally;
+
+static int32_t validate(td_session *s, memory *m, td_call *call, uint32_t place, uint32_t length, uint32_t cells) {
+  call->place = place;
+  call->length = length;
+  call->cell_count = cells;
+  memset(call->cells, 0, sizeof(uint64_t) * cells);
+  int32_t code = td_validate(s, (const uint64_t *)m->words, WORDS, call);
+  if (code != TD_ACCEPTED && code != TD_REJECTED) stop("td_validate", code);
+  return code;
+}
+
+static void count(tally *t, int32_t code, int is_wrong) {
+  if (code == TD_REJECTED) {
+    t->rejected++;
+    return;
+  }
+  t->accepted++;
+  t->wrong += is_wrong != 0;
+}
+
+/* Cells: Type, Length, RequestId, Data, DataLength. */
+static void take_rndis(td_session *s, memory *m, uint32_t entry, tally *t) {
+  static td_call call;
+  call.entry = entry;
+  call.arg_count = 1;
+  call.args[0] = RNDIS_BYTES;
+  int32_t code = validate(s, m, &call, 0, RNDIS_BYTES, 5);
+  const uint64_t *c = call.cells;
+  count(t, code, c[0] != 1 || c[1] > RNDIS_BYTES || c[3] + c[4] > c[1]);
+}
+
+/* Cells: NeedsChecksum, ChecksumStart, ChecksumOffset, GsoType, Ecn, GsoSize, Packet. */
+static void take_net(td_session *s, memory *m, uint32_t entry, tally *t) {
+  static td_call call;
+  call.entry = entry;
+  call.arg_count = 2;
+  call.args[0] = NET_BYTES;
+  call.args[1] = CHECKSUM_AND_SEGMENTS;
+  int32_t code = validate(s, m, &call, NET_PLACE, NET_BYTES, 7);
+  const uint64_t *c = call.cells;
+  count(t, code, (c[0] && c[1] + c[2] + 2 > NET_BYTES - 12) || c[6] != 12);
+}
+
+static void say(const char *name, const tally *t) {
+  printf("%s accepted %lu rejected %lu wrong %lu\n", name, t->accepted, t->rejected, t->wrong);
+}
+
+int main(int argc, char **argv) {
+  if (argc != 5) stop("usage: two_processes RNDIS_IMAGE VIRTIO_NET_IMAGE FILE SECONDS", 0);
+  static td_session rndis, net; /* a handle keeps its slot, so handles are kept */
+  open_image(&rndis, argv[1]);
+  open_image(&net, argv[2]);
+  uint32_t rndis_entry = entry_of(&rndis, "RNDIS"), net_entry = entry_of(&net, "VIRTIO_NET");
+  memory *m = mapped(argv[3]);
+  atomic_store(&m->is_over, 0);
+  atomic_store(&m->rounds, 0);
+  put_rndis(m, 0);
+  put_net(m, 0);
+  pid_t child = fork();
+  if (child < 0) stop("fork", child);
+  if (!child) store_without_end(argv[3]);
+  tally of_rndis = {0}, of_net = {0};
+  time_t end = time(0) + atoi(argv[4]) + 1;
+  /* On a busy machine it is waited for the other process to have stored some. */
+  while (time(0) < end || (atomic_load(&m->rounds) < 1000 && time(0) < end + MOST_WAITED))
+    for (int i = 0; i < 1000; i++) {
+      take_rndis(&rndis, m, rndis_entry, &of_rndis);
+      take_net(&net, m, net_entry, &of_net);
+    }
+  atomic_store(&m->is_over, 1);
+  int status = 0;
+  if (waitpid(child, &status, 0) != child || status) stop("the other process", status);
+  say("rndis", &of_rndis);
+  say("virtio_net", &of_net);
+  td_close(&rndis);
+  td_close(&net);
+  return of_rndis.wrong || of_net.wrong;
+}

@@ -1,0 +1,31 @@
+/* The heap of libtd_c.a: three functions over malloc, realloc and free. A program that has its own heap, or none, links its own three in
+   their place (examples/arena.c). A block of `size` bytes is aligned to `align`, which is at most 16; a size of 0 is
+   answered with a block, too. */
+#include <stddef.h>
+#include <stdint.h>
+#include <stdlib.h>
+
+/* 1 and the block, or 0 and any address but null. */
+typedef struct { uint64_t is_ok; void *at; } td_block;
+
+td_block rattle_alloc(size_t size, size_t align);
+td_block rattle_realloc(void *at, size_t old_size, size_t new_size, size_t align);
+void rattle_dealloc(void *at, size_t size);
+
+static char nothing;
+
+static td_block answer(void *at) {
+  return at ? (td_block){1, at} : (td_block){0, &nothing};
+}
+
+td_block rattle_alloc(size_t size, size_t align) { return answer(malloc(size ? size : align)); }
+
+td_block rattle_realloc(void *at, size_t old_size, size_t new_size, size_t align) {
+  (void)old_size;
+  return answer(realloc(at, new_size ? new_size : align));
+}
+
+void rattle_dealloc(void *at, size_t size) {
+  (void)size;
+  free(at);
+}

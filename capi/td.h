@@ -1,0 +1,175 @@
+/* td.h: messages in memory that others keep storing to, validated by verified code.
+
+   A session is opened once, from an image (`td pack <MODULE >IMAGE`). From then on only td_again and td_validate_parts
+   ask for memory, and no call waits for anybody. Each 64-bit word of a message is loaded at most once, by one atomic load, and only where a
+   byte of it is looked at; nothing is expected of what a load gives. docs/c-library.md says what a program owes, and
+   what is proved. Each function but td_close answers a td_code. */
+#ifndef TD_H
+#define TD_H
+#include <stdbool.h>
+#include <stddef.h>
+#include <stdint.h>
+#ifdef __cplusplus
+extern "C" {
+#endif
+
+typedef enum {
+  TD_ACCEPTED = 0,  /* td_validate; elsewhere 0 is TD_DONE */
+  TD_DONE = 0,
+  TD_REJECTED = 1,  /* td_validate: position and reason are in the call, the frames by td_frame */
+  TD_UNFIT = 2,     /* arguments or cells are more or fewer than the entry point's, or one is too wide; nothing was loaded */
+  TD_CLOSED = 3,    /* the handle holds no session */
+  TD_NO_MEMORY = 4,
+  TD_MISSING = 5,   /* the code has no such entry point, parameter, cell or name, or the last failure no such frame */
+  TD_PAST = 6,      /* the message doesn't lie within the words; nothing was loaded */
+  TD_POINTER = 7,   /* a pointer is null, or that of the words isn't aligned to 8 */
+  TD_TOO_MUCH = 8,  /* a message of more than 64 stretches, or of 2^32 bytes and more; nothing was loaded */
+  TD_I1 = 11,       /* the bytes are no image */
+  TD_I2 = 12,       /* unknown version */
+  TD_I3 = 13,       /* the image is too short: the place is its length */
+  TD_I4 = 14,       /* the field that begins at the place has a value that isn't allowed */
+  TD_I5 = 15,       /* bytes behind the image, from the place on */
+  TD_I6 = 16        /* the verifier refuses the code: the place is the instruction's, the rule 1 to 7 for V1 to V7 */
+} td_code;
+
+typedef enum {
+  TD_NOT_ENOUGH = 0, TD_IMPOSSIBLE = 1, TD_LIST_SIZE = 2, TD_ACTION = 3, TD_CONSTRAINT = 4, TD_PADDING = 5, TD_NO_REASON = 6
+} td_reason;
+
+typedef enum { TD_FIELD = 0, TD_WHERE = 1, TD_SWITCH = 2 } td_spot;
+
+/* A session: one verified code, which sessions share, and room for one validation at a time. A handle is all zero
+   before its first call (`td_session s = {0};`). Never look in it, and never copy one that was opened. One call at a time;
+   another thread may use it once it has it by a lock, a thread's start or join, or a sequentially consistent atomic.
+   For threads side by side, td_again makes a session for each. */
+typedef struct { void *at; bool full; } td_session;
+
+/* Why bytes are no image. */
+typedef struct { uint64_t place; uint32_t rule; } td_fault;
+
+typedef struct { uint32_t name, unused; uint64_t param_count, cell_count; } td_entry_point;
+/* A parameter or a cell. For a cell that is a field of an output record has_field is 1 and field the number of its name. is_place is 1
+   where it is a place in the message. */
+typedef struct { uint32_t name, has_field, field, bytes, is_place; } td_part;
+/* A type that encloses a failure: the numbers of its name and of the field's (where spot is TD_FIELD), the byte at which that
+   began, and why. */
+typedef struct { uint32_t kind, spot, field, start, reason; } td_frame_row;
+
+typedef struct {
+  uint32_t entry;                  /* in: the entry point's number, by td_entry */
+  uint32_t place, length;          /* in: the message's first byte in the words, and how many bytes it has */
+  uint32_t arg_count, cell_count;  /* in: as many as the entry point has parameters and cells */
+  uint32_t position, reason;       /* out, where the answer is TD_ACCEPTED or TD_REJECTED */
+  uint32_t unused;
+  uint64_t frame_count;            /* out, likewise */
+  uint64_t args[16];               /* in */
+  uint64_t cells[64];              /* in and out: as the validation left them, where it rejected, too */
+} td_call;
+
+typedef struct { const uint64_t *at; size_t count; } td_words;
+
+/* Bytes of the words that stand one after the other. */
+typedef struct { uint32_t place, size; } td_stretch;
+
+/* The exports. A program calls the functions below in their place. */
+int32_t td_c_open(td_session *s, bool full, const uint8_t *image, size_t size, td_fault *fault);
+int32_t td_c_again(td_session *s, bool full, td_session *other, bool other_full);
+void td_c_close(td_session *s, bool full);
+int32_t td_c_entry(td_session *s, bool full, const uint8_t *name, size_t size, uint32_t *number);
+int32_t td_c_describe(td_session *s, bool full, uint32_t entry, td_entry_point *told);
+int32_t td_c_param(td_session *s, bool full, uint32_t entry, size_t place, td_part *told);
+int32_t td_c_cell(td_session *s, bool full, uint32_t entry, size_t place, td_part *told);
+int32_t td_c_frame(td_session *s, bool full, size_t place, td_frame_row *told);
+int32_t td_c_name(td_session *s, bool full, uint32_t number, uint8_t *bytes, size_t room, uint64_t *size);
+int32_t td_c_validate(td_session *s, bool full, td_call *call, td_words *words, size_t count);
+int32_t td_c_validate_parts(td_session *s, bool full, td_call *call, const td_stretch *parts, size_t part_count, td_words *words,
+                            size_t count);
+
+/* Reads an image, verifies its code and takes room for validations. Where this is done, what the handle held is freed; else
+   the handle is as before, and the fault says where the bytes are no image (TD_I3 to TD_I6). The bytes are the caller's
+   alone while this runs: an image of a guest is copied first. */
+static inline int32_t td_open(td_session *s, const void *image, size_t size, td_fault *fault) {
+  if (!s || !image || !fault) return TD_POINTER;
+  return td_c_open(s, s->full, (const uint8_t *)image, size, fault);
+}
+
+/* Another session by the same code, with room of its own. */
+static inline int32_t td_again(td_session *s, td_session *other) {
+  if (!s || !other || s == other) return TD_POINTER;
+  return td_c_again(s, s->full, other, other->full);
+}
+
+/* Frees the room, and the code with its last session. The handle may be opened again. */
+static inline void td_close(td_session *s) {
+  if (s) td_c_close(s, s->full);
+}
+
+/* The number of the first entry point of this name. */
+static inline int32_t td_entry(td_session *s, const char *name, size_t size, uint32_t *number) {
+  if (!s || !name || !number) return TD_POINTER;
+  return td_c_entry(s, s->full, (const uint8_t *)name, size, number);
+}
+
+/* What an entry point has. Entry points are numbered from 0; TD_MISSING ends them. */
+static inline int32_t td_describe(td_session *s, uint32_t entry, td_entry_point *told) {
+  if (!s || !told) return TD_POINTER;
+  return td_c_describe(s, s->full, entry, told);
+}
+
+static inline int32_t td_param(td_session *s, uint32_t entry, size_t place, td_part *told) {
+  if (!s || !told) return TD_POINTER;
+  return td_c_param(s, s->full, entry, place, told);
+}
+
+static inline int32_t td_cell(td_session *s, uint32_t entry, size_t place, td_part *told) {
+  if (!s || !told) return TD_POINTER;
+  return td_c_cell(s, s->full, entry, place, told);
+}
+
+/* A frame of the last failure; place 0 is the innermost. */
+static inline int32_t td_frame(td_session *s, size_t place, td_frame_row *told) {
+  if (!s || !told) return TD_POINTER;
+  return td_c_frame(s, s->full, place, told);
+}
+
+/* As many bytes of a name as there is room for, and how many it has. No zero is put behind them. */
+static inline int32_t td_name(td_session *s, uint32_t number, char *bytes, size_t room, uint64_t *size) {
+  if (!s || !bytes || !size) return TD_POINTER;
+  return td_c_name(s, s->full, number, (uint8_t *)bytes, room, size);
+}
+
+/* Validates the message that begins at byte call->place of `count` words. The words are mapped until this returns; whoever
+   touches them meanwhile does so by atomic operations, or from another process, device or machine. No pointer to them is
+   kept. */
+static inline int32_t td_validate(td_session *s, const uint64_t *words, size_t count, td_call *call) {
+  if (!s || !call || (!words && count) || (uintptr_t)words % 8) return TD_POINTER;
+  td_words w = {words, count};
+  return td_c_validate(s, s->full, call, &w, count);
+}
+
+/* The same for a message whose bytes are these stretches of the words, one after the other (a scatter list); call->place and
+   call->length aren't looked at. Memory for the list of stretches is taken before the first load, and given back. */
+static inline int32_t td_validate_parts(td_session *s, const uint64_t *words, size_t count, const td_stretch *parts,
+                                        size_t part_count, td_call *call) {
+  if (!s || !call || !parts || (!words && count) || (uintptr_t)words % 8) return TD_POINTER;
+  td_words w = {words, count};
+  return td_c_validate_parts(s, s->full, call, parts, part_count, &w, count);
+}
+
+/* The word for a reason in reports. */
+static inline const char *td_reason_word(uint32_t reason) {
+  switch (reason) {
+    case TD_NOT_ENOUGH: return "notenough";
+    case TD_IMPOSSIBLE: return "impossible";
+    case TD_LIST_SIZE: return "listsize";
+    case TD_ACTION: return "action";
+    case TD_CONSTRAINT: return "constraint";
+    case TD_PADDING: return "padding";
+    default: return "none";
+  }
+}
+
+#ifdef __cplusplus
+}
+#endif
+#endif

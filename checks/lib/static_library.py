@@ -1,0 +1,37 @@
+"""Builds a crate that is a static library over the libraries that stand in the tree. (`rt lib` would prove each library below anew
+after `rt ci`, which leaves no mark beside them of what they were made from. The crate itself is proved by this call, too.)"""
+
+import os
+import subprocess
+import sys
+
+from program import TOP
+
+# The kit's own way from a line of crates.txt to a call of its compiler.
+COMPILE = """
+import os, sys
+sys.path.insert(0, os.path.join(sys.argv[1], "bin"))
+import rtlib
+os.chdir(sys.argv[2])
+crate = next(it for it in rtlib.crates_below(sys.argv[2]) if it.name == sys.argv[3])
+lacking = [it.name for it in crate.below() if not os.path.isfile(it.rlib + "/format")]
+if lacking:
+    sys.exit("not built yet: " + " ".join(lacking))
+sys.exit(crate.compile(["--jobs", "1"], "out/lib" + crate.name + ".a"))
+"""
+
+
+def build(name, limit):
+    """Builds out/libNAME.a in the crate's folder, and answers its path; else the program ends with what was said."""
+    folder = os.path.join(TOP, "crates", name)
+    os.makedirs(os.path.join(folder, "out"), exist_ok=True)
+    try:
+        page = subprocess.run(["rt", "doc"], stdout=subprocess.PIPE, check=True, timeout=limit).stdout.decode().strip()
+    except (OSError, subprocess.SubprocessError) as error:
+        sys.exit("static library: rt isn't there: %s" % error)
+    words = [sys.executable, "-c", COMPILE, os.path.dirname(page), TOP, name]
+    run = subprocess.run(words, stdout=subprocess.PIPE, stderr=subprocess.STDOUT, check=False, timeout=limit)
+    library = os.path.join(folder, "out", "lib%s.a" % name)
+    if run.returncode or not os.path.isfile(library):
+        sys.exit("static library: %s isn't built: %s" % (name, run.stdout.decode(errors="replace")[-500:]))
+    return library

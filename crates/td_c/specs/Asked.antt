@@ -1,0 +1,67 @@
+-- What C asks, and what it is answered.
+use Rattle.std.specs.Prelude.{◌≡◌, ℕ, ◌<◌, ◌≤◌, ◌↔◌, List, [], ◌∷◌, length, take, Some, Result, IfOk, IfErr, IsOk}
+use Rattle.td_core.specs.declared.module.Entry.{Entry}
+use Rattle.td_core.specs.declared.outcome.TraceFrame.{TraceFrame}
+use Rattle.td_core.specs.declared.outcome.Verdict.{Verdict}
+use Rattle.td_stream.specs.declared.load.Load.{Load}
+use Rattle.td_stream.specs.declared.stretch.Stretch.{Stretch}
+use Rattle.td_stream.specs.Layouts.{AreWithin}
+use Rattle.td_stream.specs.Loads.{buffered}
+use Rattle.td_ir.specs.declared.tables.Parts.{Parts}
+use Rattle.td_ir.specs.Entries.{Fits}
+use Rattle.td_session.specs.Validated.{IsValidated}
+use Rattle.td_c.specs.declared.answers.Refusal.{Refusal}
+use Rattle.td_c.specs.declared.answers.Refusal.TheVariants.{Past, NoEntry, Unfit}
+use Rattle.td_c.specs.declared.call.TdCall.{TdCall}
+use Rattle.td_c.specs.Numbers.{position_told, reason_told}
+
+abbrev pub entry_asked : TdCall → Entry
+entry_asked call = record { number = call.entry }
+
+abbrev pub args_of : TdCall → List ℕ
+args_of call = take call.arg_count call.args
+
+abbrev pub cells_of : TdCall → List ℕ
+cells_of call = take call.cell_count call.cells
+
+-- the message where it is one stretch
+abbrev pub layout_of : TdCall → List Stretch
+layout_of call = (record { place = call.place; size = call.length }) ∷ []
+
+-- what isn't answered is as before
+abbrev pub SameQuestion : TdCall → TdCall → Type 0
+SameQuestion a b = (b.entry ≡ a.entry) × (b.place ≡ a.place) × (b.length ≡ a.length) × (b.arg_count ≡ a.arg_count) × (b.cell_count ≡ a.cell_count) × (b.args ≡ a.args)
+
+-- what is asked can be validated: the message lies within so many words, and arguments and cells fit the entry point
+pub record IsAsked (c : Parts) (asked : TdCall) (layout : List Stretch) (count : ℕ) : Type 0 where
+  pub inside : AreWithin count layout
+  pub args : asked.arg_count ≤ 16
+  pub cells : asked.cell_count ≤ 64
+  pub fits : Fits c (entry_asked asked) (args_of asked) (cells_of asked)
+
+-- why it can't
+abbrev pub IsCause : Parts → TdCall → List Stretch → ℕ → Refusal → Type 0
+IsCause c asked layout count Past = AreWithin count layout → ⊥
+IsCause c asked layout count NoEntry = AreWithin count layout × (length c.entries ≤ asked.entry)
+IsCause c asked layout count Unfit = AreWithin count layout × (asked.entry < length c.entries) × (IsAsked c asked layout count → ⊥)
+
+-- position, reason and count of frames are those of a verdict with this trace
+pub record IsTold (v : Verdict) (trace : List TraceFrame) (after : TdCall) : Type 0 where
+  pub position : after.position ≡ position_told v
+  pub reason : after.reason ≡ reason_told v
+  pub frames : after.frame_count ≡ length trace
+
+-- this answer was found, with these loads of the message's words, and these of the memory's
+pub record HasAnswered (c : Parts) (trace : List TraceFrame) (answer : Result Verdict Refusal) (loads made : List Load) (asked after : TdCall)
+    (layout : List Stretch) (count : ℕ) : Type 0 where
+  -- a verdict is found just where what is asked can be validated
+  pub asked_well : IsOk answer ↔ IsAsked c asked layout count
+  -- the verdict is that of the code's run
+  pub validated : IfOk answer (λ v. IsValidated c (entry_asked asked) (args_of asked) (cells_of asked) layout loads
+      (record { verdict = v; trace = trace; cells = cells_of after }))
+  pub told : IfOk answer (λ v. IsTold v trace after)
+  -- else nothing was loaded
+  pub refused : IfErr answer (λ r. IsCause c asked layout count r)
+  pub unloaded : IfErr answer (λ r. loads ≡ [])
+  -- the loads of the memory are those of the message, each by its word of the memory
+  pub loaded : made ≡ buffered (Some layout) loads

@@ -1,0 +1,26 @@
+-- Why bytes are no image, as the numbers that C is given.
+use Rattle.std.specs.Prelude.{◌≡◌, ℕ, ℤ, pos, List}
+use Rattle.td_ir.specs.declared.tables.Parts.{Parts}
+use Rattle.td_verify.specs.declared.rule.Rule.{Rule}
+use Rattle.td_verify.specs.declared.rule.Rule.TheVariants as rules
+use Rattle.td_image.specs.declared.error.ImageError.TheVariants as errors
+use Rattle.td_image.specs.Answer.{IsImage, IsBreach, IsRefused}
+use Rattle.td_c.specs.declared.images.TdFault.{TdFault}
+
+abbrev pub rule_number : Rule → ℕ
+rule_number rules.Target = 1
+rule_number rules.Register = 2
+rule_number rules.Depth = 3
+rule_number rules.Loop = 4
+rule_number rules.Table = 5
+rule_number rules.Weight = 6
+rule_number rules.Operand = 7
+
+-- each code is answered only where its cause holds of the bytes
+pub record IsFault (code : ℤ) (fault : TdFault) (bytes : List ℕ) : Type 0 where
+  pub magic : code ≡ pos 11 → IsRefused bytes errors.Magic
+  pub version : code ≡ pos 12 → IsRefused bytes errors.Version
+  pub short : code ≡ pos 13 → IsRefused bytes (errors.Short fault.place)
+  pub field : code ≡ pos 14 → IsRefused bytes (errors.Field fault.place)
+  pub rest : code ≡ pos 15 → IsRefused bytes (errors.Rest fault.place)
+  pub refused : code ≡ pos 16 → (p : Parts) × (rule : Rule) × IsImage p bytes × IsBreach p (record { rule = rule; at = fault.place }) × (fault.rule ≡ rule_number rule)

@@ -1,0 +1,16 @@
+-- Messages that are several stretches of the words.
+use Rattle.std.specs.Prelude.{◌≡◌, ℤ, pos, ◌≤◌, ◌^◌, ◌⊎◌, List, length, map}
+use Rattle.td_stream.specs.declared.stretch.Stretch.{Stretch}
+use Rattle.td_stream.specs.Layouts.{length_in}
+use Rattle.td_c.specs.declared.parts.TdStretch.{TdStretch}
+
+abbrev pub stretch_told : TdStretch → Stretch
+stretch_told s = record { place = s.place; size = s.size }
+
+abbrev pub stretches_told : List TdStretch → List Stretch
+stretches_told parts = map stretch_told parts
+
+-- the number of an answer to stretches that have no layout: they are no message, or there was no memory
+pub record IsTooMuch (parts : List TdStretch) (code : ℤ) : Type 0 where
+  pub which : (code ≡ pos 4) ⊎ (code ≡ pos 8)
+  pub cause : code ≡ pos 8 → length parts ≤ 64 → 2 ^ 32 ≤ length_in (stretches_told parts)

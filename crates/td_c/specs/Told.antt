@@ -1,0 +1,67 @@
+-- What C is told of a code's tables, and of the last failure.
+use Rattle.std.specs.Prelude.{◌≡◌, ℕ, ◌<◌, ◌^◌, List, length, min, take, slice_get, IsSomeAnd, Option, Some, None}
+use Rattle.std.specs.Arc.{arc_value}
+use Rattle.td_num.specs.Numbers.{bytes_in}
+use Rattle.td_core.specs.declared.module.NameId.{NameId}
+use Rattle.td_core.specs.declared.module.Param.{Param}
+use Rattle.td_core.specs.declared.module.Cell.{Cell}
+use Rattle.td_core.specs.declared.module.CellKind.{CellKind}
+use Rattle.td_core.specs.declared.module.CellKind.TheVariants.{Number, Pointer}
+use Rattle.td_ir.specs.Tables.{entry_of, routine_of, param_of, cell_of}
+use Rattle.td_ir.specs.Entries.{IsEntryNamed, IsFirstNamed}
+use Rattle.td_session.specs.declared.session.Session.{Session}
+use Rattle.td_c.specs.declared.answers.TdFrame.{TdFrame}
+use Rattle.td_c.specs.declared.handle.Slot.{Slot}
+use Rattle.td_c.specs.declared.tables.TdEntry.{TdEntry}
+use Rattle.td_c.specs.declared.tables.TdPart.{TdPart}
+use Rattle.td_c.specs.Numbers.{frame_told}
+
+-- the first entry point of a name
+abbrev pub IsFound : Slot → List ℕ → ℕ → Type 0
+IsFound slot name number = IsSomeAnd slot.session (λ s. IsFirstNamed (arc_value s.code) name (record { number = number }))
+
+-- no entry point that a number of 32 bits names has this name
+abbrev pub IsLost : Slot → List ℕ → Type 0
+IsLost slot name = IsSomeAnd slot.session (λ s. (n : ℕ) → n < 2 ^ 32 → IsEntryNamed (arc_value s.code) name n → ⊥)
+
+abbrev pub param_told : Param → TdPart
+param_told p = record { name = p.name.number; has_field = 0; field = 0; bytes = bytes_in p.width; is_place = 0 }
+
+-- 1 and the field's number, where there is one
+abbrev pub field_told : Option NameId → ℕ × ℕ
+field_told (Some name) = (1, name.number)
+field_told None = (0, 0)
+
+-- how many bytes, and 1 for a place in the message
+abbrev pub kind_told : CellKind → ℕ × ℕ
+kind_told (Number width) = (bytes_in width, 0)
+kind_told Pointer = (4, 1)
+
+abbrev pub cell_told : Cell → TdPart
+cell_told c = record { name = c.name.number; has_field = (field_told c.field).0; field = (field_told c.field).1; bytes = (kind_told c.kind).0; is_place = (kind_told c.kind).1 }
+
+pub record IsEntry (s : Session) (number : ℕ) (told : TdEntry) : Type 0 where
+  pub there : number < length (arc_value s.code).entries
+  pub name : told.name ≡ (routine_of (arc_value s.code) (entry_of (arc_value s.code) number).routine).name.number
+  pub params : told.param_count ≡ length (entry_of (arc_value s.code) number).params
+  pub cells : told.cell_count ≡ length (entry_of (arc_value s.code) number).cells
+
+abbrev pub HasEntry : Slot → ℕ → TdEntry → Type 0
+HasEntry slot number told = IsSomeAnd slot.session (λ s. IsEntry s number told)
+
+-- the parameter, cell or frame that stands at this place
+abbrev pub HasParam : Slot → ℕ → ℕ → TdPart → Type 0
+HasParam slot number place told = IsSomeAnd slot.session (λ s. (place < length (entry_of (arc_value s.code) number).params)
+    × (told ≡ param_told (param_of (entry_of (arc_value s.code) number).params place)))
+
+abbrev pub HasCell : Slot → ℕ → ℕ → TdPart → Type 0
+HasCell slot number place told = IsSomeAnd slot.session (λ s. (place < length (entry_of (arc_value s.code) number).cells)
+    × (told ≡ cell_told (cell_of (entry_of (arc_value s.code) number).cells place)))
+
+abbrev pub HasFrame : Slot → ℕ → TdFrame → Type 0
+HasFrame slot place told = IsSomeAnd slot.session (λ s. IsSomeAnd (slice_get s.frame.trace place) (λ f. told ≡ frame_told f))
+
+-- a name's size, and as many of its bytes as there is room for
+abbrev pub HasName : Slot → ℕ → List ℕ → ℕ → Type 0
+HasName slot number bytes size = IsSomeAnd slot.session (λ s. IsSomeAnd (slice_get (arc_value s.code).names number) (λ text.
+    (size ≡ length text) × (take (min (length text) (length bytes)) bytes ≡ take (min (length text) (length bytes)) text)))

@@ -1,0 +1,183 @@
+//! A validation that C asks for, and its answer.
+
+ghost use Rattle.std.specs.Prelude.{◌≡◌, ◌≤◌, ◌↔◌, [], Some, IsTrue, IfSome, IsSome, IsNone, take, length as size_of};
+ghost use Rattle.std.specs.Arc.{arc_value};
+ghost use Rattle.td_stream.specs.Layouts.{AreWithin};
+ghost use Rattle.td_stream.specs.Loads.{buffered};
+ghost use Rattle.td_ir.specs.Entries.{Fits};
+ghost use Rattle.td_session.specs.Validated.{IsValidated};
+ghost use Rattle.td_c.specs.Asked.{HasAnswered, SameQuestion, entry_asked, args_of, cells_of};
+ghost use Rattle.td_c.specs.Numbers.{position_told, reason_told};
+
+use crate::answers::{Answer, Refusal, reason_of};
+use td_core::module::Entry;
+use td_core::outcome::Verdict;
+use td_foreign::{ForeignWords, Made, TdWords};
+use td_session::session::Session;
+use td_stream::layout::Layout;
+
+/// What is asked, and what is answered.
+#[repr(C)]
+pub struct TdCall {
+    /// The entry point's number.
+    pub entry: u32,
+    /// The byte of the words at which the message begins, and how many bytes it has.
+    pub place: u32,
+    pub length: u32,
+    pub arg_count: u32,
+    pub cell_count: u32,
+    /// The position of the verdict, and the reason of a rejection (6: it accepts).
+    pub position: u32,
+    pub reason: u32,
+    pub unused: u32,
+    /// How many frames the failure has.
+    pub frame_count: u64,
+    pub args: [u64; 16],
+    /// They begin as they are, and are left as the validation left them.
+    pub cells: [u64; 64],
+}
+
+// Validates a message that lies so within the words, and gives the words back.
+fn run_session(
+    session: &mut Session,
+    entry: Entry,
+    args: &[u64],
+    cells: &mut [u64],
+    layout: &Layout,
+    words: TdWords,
+) -> (Option<Verdict>, Made, TdWords)
+    requires inside { AreWithin words.count layout.now }
+    requires fresh { words.made ≡ [] }
+    ensures code { arc_value session.new.code ≡ arc_value session.old.code }
+    ensures fits { IsSome result.0 ↔ Fits (arc_value session.old.code) entry args.now cells.old }
+    ensures validated { IfSome result.0 (λ v. IsValidated (arc_value session.old.code) entry args.now cells.old layout.now result.1
+        (record { verdict = v; trace = session.new.frame.trace; cells = cells.new })) }
+    ensures unloaded { IsNone result.0 → result.1 ≡ [] }
+    ensures loaded { result.2.made ≡ buffered (Some layout.now) result.1 }
+    ensures cells { size_of cells.new ≡ size_of cells.old }
+{
+    let mut memory = ForeignWords::over(words, layout);
+    let verdict = session.validate(entry, args, cells, layout, &mut memory);
+    let (words, made) = memory.end();
+    (verdict, made, words)
+}
+
+// The same, of the first so many arguments and cells.
+fn run_front(
+    session: &mut Session,
+    entry: Entry,
+    args: &[u64],
+    arg_count: usize,
+    cells: &mut [u64],
+    cell_count: usize,
+    layout: &Layout,
+    words: TdWords,
+) -> (Option<Verdict>, Made, TdWords)
+    requires inside { AreWithin words.count layout.now }
+    requires fresh { words.made ≡ [] }
+    requires args { arg_count ≤ size_of args.now }
+    requires cells { cell_count ≤ size_of cells.old }
+    ensures code { arc_value session.new.code ≡ arc_value session.old.code }
+    ensures fits { IsSome result.0 ↔ Fits (arc_value session.old.code) entry (take arg_count args.now) (take cell_count cells.old) }
+    ensures validated { IfSome result.0 (λ v. IsValidated (arc_value session.old.code) entry (take arg_count args.now) (take cell_count cells.old) layout.now result.1
+        (record { verdict = v; trace = session.new.frame.trace; cells = take cell_count cells.new })) }
+    ensures unloaded { IsNone result.0 → result.1 ≡ [] }
+    ensures loaded { result.2.made ≡ buffered (Some layout.now) result.1 }
+    ensures size { size_of cells.new ≡ size_of cells.old }
+{
+    let (mine, _) = args.split_at(arg_count);
+    let (front, _) = cells.split_at_mut(cell_count);
+    let (verdict, made, words) = run_session(session, entry, mine, front, layout, words);
+    (verdict, made, words)
+}
+
+// The same, of arguments and cells that there is room for in a call.
+fn run_call(
+    session: &mut Session,
+    call: &mut TdCall,
+    layout: &Layout,
+    words: TdWords,
+) -> (Option<Verdict>, Made, TdWords)
+    requires inside { AreWithin words.count layout.now }
+    requires fresh { words.made ≡ [] }
+    requires args { call.old.arg_count ≤ 16 }
+    requires cells { call.old.cell_count ≤ 64 }
+    ensures code { arc_value session.new.code ≡ arc_value session.old.code }
+    ensures fits { IsSome result.0 ↔ Fits (arc_value session.old.code) (entry_asked call.old) (args_of call.old) (cells_of call.old) }
+    ensures validated { IfSome result.0 (λ v. IsValidated (arc_value session.old.code) (entry_asked call.old) (args_of call.old) (cells_of call.old) layout.now result.1
+        (record { verdict = v; trace = session.new.frame.trace; cells = cells_of call.new })) }
+    ensures unloaded { IsNone result.0 → result.1 ≡ [] }
+    ensures loaded { result.2.made ≡ buffered (Some layout.now) result.1 }
+    ensures same { SameQuestion call.old call.new }
+{
+    let entry = Entry { number: call.entry };
+    let args = &call.args[..];
+    let arg_count = call.arg_count as usize;
+    let cell_count = call.cell_count as usize;
+    let cells = &mut call.cells[..];
+    let (verdict, made, words) = run_front(
+        session, entry, args, arg_count, cells, cell_count, layout, words,
+    );
+    (verdict, made, words)
+}
+
+fn told(verdict: Verdict) -> (u32, u32)
+    ensures { (result.0 ≡ position_told verdict) × (result.1 ≡ reason_told verdict) }
+{
+    match verdict {
+        Verdict::Accept { pos } => (pos, 6),
+        Verdict::Reject { reason, pos } => (pos, reason_of(reason)),
+    }
+}
+
+/// Validates a message that lies so within the words, and gives the words back.
+pub(crate) fn validate(
+    session: &mut Session,
+    call: &mut TdCall,
+    layout: &Layout,
+    words: TdWords,
+) -> (Answer, Made, TdWords)
+    requires inside { AreWithin words.count layout.now }
+    requires fresh { words.made ≡ [] }
+    ensures code { arc_value session.new.code ≡ arc_value session.old.code }
+    ensures answered { HasAnswered (arc_value session.old.code) session.new.frame.trace result.0 result.1 result.2.made call.old call.new layout.now words.count }
+{
+    if (call.entry as usize) >= session.entry_count() {
+        return (Err(Refusal::NoEntry), Made::new(), words);
+    }
+    if call.arg_count > 16 || call.cell_count > 64 {
+        return (Err(Refusal::Unfit), Made::new(), words);
+    }
+    let (verdict, made, words) = run_call(session, call, layout, words);
+    match verdict {
+        Some(verdict) => {
+            let (position, reason) = told(verdict);
+            call.position = position;
+            call.reason = reason;
+            call.frame_count = session.trace().len() as u64;
+            (Ok(verdict), made, words)
+        }
+        None => (Err(Refusal::Unfit), made, words),
+    }
+}
+
+/// Validates a message that lies so, where it is within the words.
+pub(crate) fn validate_within(
+    session: &mut Session,
+    call: &mut TdCall,
+    layout: &Layout,
+    inside: bool,
+    words: TdWords,
+    count: usize,
+) -> (Answer, Made, TdWords)
+    requires inside { IsTrue inside ↔ AreWithin count layout.now }
+    requires count { words.count ≡ count }
+    requires fresh { words.made ≡ [] }
+    ensures code { arc_value session.new.code ≡ arc_value session.old.code }
+    ensures answered { HasAnswered (arc_value session.old.code) session.new.frame.trace result.0 result.1 result.2.made call.old call.new layout.now count }
+{
+    if !inside {
+        return (Err(Refusal::Past), Made::new(), words);
+    }
+    validate(session, call, layout, words)
+}

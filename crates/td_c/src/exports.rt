@@ -1,0 +1,208 @@
+//! What C calls to open, share and close a session, and to validate.
+
+ghost use Rattle.std.specs.Prelude.{◌≡◌, ◌⊎◌, ◌↔◌, [], IsTrue, IfOk, IfErr, pos, true, false};
+ghost use Rattle.td_stream.specs.Layouts.{AreWithin};
+ghost use Rattle.td_c.specs.Kept.{HoldsImage, SameCode, Holds, IsAnswered, IsClosed, IsCopy};
+ghost use Rattle.td_c.specs.Asked as asked;
+ghost use Rattle.td_c.specs.Parts.{stretches_told, IsTooMuch};
+ghost use Rattle.td_c.specs.Images.{IsFault};
+
+use crate::answers::{CLOSED, DONE, NO_MEMORY, Refusal, number_of};
+use crate::call::{TdCall, validate_within};
+use crate::handle::{Slot, TdSession};
+use crate::images::{TdFault, code_of};
+use crate::parts::{TdStretch, is_within, layout_of};
+use std::alloc::Global;
+use std::mem;
+use td_foreign::{Made, TdWords};
+use td_session::session::Session;
+use td_stream::layout::Layout;
+
+// Puts a session into a handle's slot; one that has no slot yet gets one.
+fn put(alloc: Global, handle: &mut TdSession, full: bool, session: Session) -> i32
+    requires { handle.old.full ≡ full }
+    ensures held { result ≡ pos 0 → (handle.new.full ≡ true) × Holds handle.new.value session }
+    ensures memory { (result ≡ pos 0 → ⊥) → result ≡ pos 4 }
+{
+    if full {
+        let slot = handle.take();
+        slot.session = Some(session);
+        handle.put(slot);
+        return DONE;
+    }
+    let Ok(held) = Box::new(
+        alloc,
+        Slot {
+            session: Some(session),
+            answer: Err(Refusal::Unfit),
+            made: Made::new(),
+        },
+    ) else {
+        return NO_MEMORY;
+    };
+    handle.put(Box::leak(held));
+    DONE
+}
+
+/// Reads an image, verifies its code and takes room for validations. What the handle held before is freed.
+#[unsafe(no_mangle)]
+pub extern "C" fn td_c_open(
+    alloc: Global,
+    handle: &mut TdSession,
+    full: bool,
+    image: &[u8],
+    fault: &mut TdFault,
+) -> i32
+    requires { handle.old.full ≡ full }
+    // Where it is done, the handle holds the code of which the bytes are the image.
+    ensures opened { result ≡ pos 0 → (handle.new.full ≡ true) × HoldsImage handle.new.value image.now }
+    // Else the code says why the bytes are no image, or there was no memory.
+    ensures refused { IsFault result fault.new image.now }
+{
+    match Session::read(alloc, image) {
+        Ok(session) => put(alloc, handle, full, session),
+        Err(error) => code_of(error, fault),
+    }
+}
+
+fn again(alloc: Global, slot: &Slot) -> Result<Session, i32>
+    ensures copy { IfOk result (λ s. IsCopy slot.now s) }
+    ensures code { IfErr result (λ code. code ≡ pos 0 → ⊥) }
+{
+    match &slot.session {
+        Some(session) => match session.again(alloc) {
+            Ok(made) => Ok(made),
+            Err(_) => Err(NO_MEMORY),
+        },
+        None => Err(CLOSED),
+    }
+}
+
+/// Another session by the same code, for another thread.
+#[unsafe(no_mangle)]
+pub extern "C" fn td_c_again(
+    alloc: Global,
+    handle: &mut TdSession,
+    full: bool,
+    other: &mut TdSession,
+    other_full: bool,
+) -> i32
+    requires handle { handle.old.full ≡ full }
+    requires other { other.old.full ≡ other_full }
+    ensures kept { full ≡ true → (handle.new.full ≡ true) × (handle.new.value ≡ handle.old.value) }
+    ensures again { result ≡ pos 0 → (full ≡ true) × (other.new.full ≡ true) × SameCode handle.old.value other.new.value }
+{
+    if !full {
+        return CLOSED;
+    }
+    let slot = handle.take();
+    let made = again(alloc, slot);
+    handle.put(slot);
+    match made {
+        Ok(session) => put(alloc, other, other_full, session),
+        Err(code) => code,
+    }
+}
+
+/// Frees a session, but for its slot.
+#[unsafe(no_mangle)]
+pub extern "C" fn td_c_close(handle: &mut TdSession, full: bool)
+    requires { handle.old.full ≡ full }
+    ensures { full ≡ true → (handle.new.full ≡ true) × IsClosed handle.new.value }
+{
+    if full {
+        let slot = handle.take();
+        slot.session = None;
+        handle.put(slot);
+    }
+}
+
+// Validates by the slot's session a message that lies so, where it is within the words; the slot keeps the answer and the loads.
+fn validate_in(
+    slot: &mut Slot,
+    call: &mut TdCall,
+    layout: &Layout,
+    inside: bool,
+    words: TdWords,
+    count: usize,
+) -> (i32, TdWords)
+    requires inside { IsTrue inside ↔ AreWithin count layout.now }
+    requires count { words.count ≡ count }
+    requires fresh { words.made ≡ [] }
+    ensures { IsAnswered slot.old slot.new call.old call.new layout.now count result.1.made result.0 }
+{
+    let Some(session) = &mut slot.session else {
+        return (CLOSED, words);
+    };
+    let (answer, made, words) = validate_within(session, call, layout, inside, words, count);
+    slot.answer = answer;
+    slot.made = made;
+    (number_of(answer), words)
+}
+
+/// Validates a message that is one stretch of the words: each word is loaded at most once, in rising order, by one atomic load. Takes no
+/// memory, and waits for nobody.
+#[unsafe(no_mangle)]
+pub extern "C" fn td_c_validate(
+    handle: &mut TdSession,
+    full: bool,
+    call: &mut TdCall,
+    words: &mut TdWords,
+    count: usize,
+) -> i32
+    requires handle { handle.old.full ≡ full }
+    requires words { words.old.count ≡ count }
+    requires fresh { words.old.made ≡ [] }
+    ensures closed { full ≡ false → result ≡ pos 3 }
+    ensures open { full ≡ true → handle.new.full ≡ true }
+    // The answer is that of the code's run on every byte list that carries the loads, and the loads are all that were made.
+    ensures answered { full ≡ true → IsAnswered handle.old.value handle.new.value call.old call.new (asked.layout_of call.old) count words.new.made result }
+{
+    if !full {
+        return CLOSED;
+    }
+    let slot = handle.take();
+    let memory = mem::replace(words, TdWords::none());
+    let layout = Layout::one(call.place, call.length);
+    let inside = is_within(call.place, call.length, count);
+    let (code, memory) = validate_in(slot, call, &layout, inside, memory, count);
+    *words = memory;
+    handle.put(slot);
+    code
+}
+
+/// The same for a message that is these stretches of the words, one after the other; the place and length of the call aren't
+/// looked at. Takes memory for the list of stretches before the first load, and gives it back.
+#[unsafe(no_mangle)]
+pub extern "C" fn td_c_validate_parts(
+    alloc: Global,
+    handle: &mut TdSession,
+    full: bool,
+    call: &mut TdCall,
+    parts: &[TdStretch],
+    words: &mut TdWords,
+    count: usize,
+) -> i32
+    requires handle { handle.old.full ≡ full }
+    requires words { words.old.count ≡ count }
+    requires fresh { words.old.made ≡ [] }
+    ensures closed { full ≡ false → result ≡ pos 3 }
+    ensures open { full ≡ true → handle.new.full ≡ true }
+    // Either the stretches have no layout, and nothing was loaded, or the answer is that of the code's run.
+    ensures answered { full ≡ true → IsTooMuch parts.now result × (words.new.made ≡ []) × (handle.new.value ≡ handle.old.value)
+        ⊎ IsAnswered handle.old.value handle.new.value call.old call.new (stretches_told parts.now) count words.new.made result }
+{
+    if !full {
+        return CLOSED;
+    }
+    let (layout, inside) = match layout_of(alloc, parts, count) {
+        Ok(found) => found,
+        Err(code) => return code,
+    };
+    let slot = handle.take();
+    let memory = mem::replace(words, TdWords::none());
+    let (code, memory) = validate_in(slot, call, &layout, inside, memory, count);
+    *words = memory;
+    handle.put(slot);
+    code
+}

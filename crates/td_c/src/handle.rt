@@ -1,0 +1,78 @@
+//! A session as C holds it.
+
+ghost use Rattle.std.specs.Prelude.{◌≡◌, true, false};
+ghost use Rattle.td_c.specs.Handle.{handle_owns, slot_coded};
+ghost use Rattle.td_c.specs.declared.handle.Slot.{Slot as kept};
+
+use crate::answers::Answer;
+use std::marker::Model;
+use std::{mem, ptr};
+use td_foreign::Made;
+use td_session::session::Session;
+
+/// Where a session stands, or none, with what the last validation found: its answer, and the loads that it made. Its place is
+/// never freed, and is used again.
+#[derive(Drop)]
+pub struct Slot {
+    pub session: Option<Session>,
+    pub answer: Answer,
+    // A list that has no bytes.
+    pub made: Made,
+}
+
+/// A slot, or none. C sets all of it to zero before the first call, and never looks in.
+#[repr(C)]
+#[derive(Drop)]
+pub struct TdSession {
+    at: *mut u8,
+    full: bool,
+    // What the slot holds, where there is one.
+    pub ghost value: { kept } by { slot_coded },
+}
+
+impl Model for TdSession {
+    ghost also_owns = { λ h. handle_owns h.at h.full h.value };
+}
+
+impl TdSession {
+    fn none() -> TdSession
+        ensures { result.full ≡ false }
+    {
+        TdSession {
+            at: ptr::null_mut(),
+            full: false,
+        }
+    }
+
+    fn some(slot: &'static mut Slot) -> TdSession
+        ensures { (result.full ≡ true) × (result.value ≡ slot.old) }
+    {
+        TdSession {
+            at: slot as *mut Slot as *mut u8,
+            full: true,
+        }
+    }
+
+    unsafe fn reach(self) -> &'static mut Slot
+        requires { self.full ≡ true }
+        ensures { result.now ≡ self.value }
+    {
+        let TdSession { at, full: _ } = self;
+        &mut *(at as *mut Slot)
+    }
+
+    /// Puts a slot there, where none is.
+    pub(crate) fn put(&mut self, slot: &'static mut Slot)
+        ensures { (self.new.full ≡ true) × (self.new.value ≡ slot.old) }
+    {
+        *self = TdSession::some(slot);
+    }
+
+    /// Takes the slot that is there.
+    pub(crate) fn take(&mut self) -> &'static mut Slot
+        requires { self.old.full ≡ true }
+        ensures { result.now ≡ self.old.value }
+    {
+        unsafe { mem::replace(self, TdSession::none()).reach() }
+    }
+}

@@ -1,0 +1,11 @@
+//! Exports for C: an image is read, verified and kept behind a handle, and messages in memory that others store to are validated by
+//! its code. capi/td.h is the header, and docs/c-library.md says what C owes.
+#![tactic(auto)]
+
+mod answers;
+mod call;
+mod exports;
+mod handle;
+mod images;
+mod parts;
+mod tables;

@@ -1,0 +1,305 @@
+//! What C calls to find entry points, names, parameters, cells and frames.
+
+ghost use Rattle.std.specs.Prelude.{◌≡◌, pos, true};
+ghost use Rattle.td_c.specs.Told.{IsFound, IsLost, HasParam, HasCell, HasFrame, HasEntry, HasName, param_told, field_told, kind_told, cell_told};
+
+use crate::answers::{CLOSED, DONE, MISSING, TdFrame, frame_of};
+use crate::handle::{Slot, TdSession};
+use td_core::module::{Cell, CellKind, Entry, NameId, Param};
+use td_num::number::byte_count;
+
+/// An entry point: the number of its name, and how many parameters and cells it has.
+#[repr(C)]
+#[derive(Clone, Copy)]
+pub struct TdEntry {
+    pub name: u32,
+    pub unused: u32,
+    pub param_count: u64,
+    pub cell_count: u64,
+}
+
+/// A parameter or a cell: the number of its name; for a field of an output record 1 and the number of the field's name; how many bytes its number has, and 1 where it
+/// is a place in the message.
+#[repr(C)]
+#[derive(Clone, Copy)]
+pub struct TdPart {
+    pub name: u32,
+    pub has_field: u32,
+    pub field: u32,
+    pub bytes: u32,
+    pub is_place: u32,
+}
+
+fn param_of(param: Param) -> TdPart
+    ensures { result ≡ param_told param }
+{
+    TdPart {
+        name: param.name.number,
+        has_field: 0,
+        field: 0,
+        bytes: byte_count(param.width),
+        is_place: 0,
+    }
+}
+
+fn field_of(field: Option<NameId>) -> (u32, u32)
+    ensures { result ≡ field_told field }
+{
+    match field {
+        Some(name) => (1, name.number),
+        None => (0, 0),
+    }
+}
+
+fn kind_of(kind: CellKind) -> (u32, u32)
+    ensures { result ≡ kind_told kind }
+{
+    match kind {
+        CellKind::Number(width) => (byte_count(width), 0),
+        CellKind::Pointer => (4, 1),
+    }
+}
+
+fn cell_of(cell: Cell) -> TdPart
+    ensures { result ≡ cell_told cell }
+{
+    let (has_field, field) = field_of(cell.field);
+    let (bytes, is_place) = kind_of(cell.kind);
+    TdPart {
+        name: cell.name.number,
+        has_field,
+        field,
+        bytes,
+        is_place,
+    }
+}
+
+fn find_entry(slot: &Slot, name: &[u8], number: &mut u32) -> i32
+    ensures found { result ≡ pos 0 → IsFound slot.now name.now number.new }
+    ensures missing { result ≡ pos 5 → IsLost slot.now name.now }
+{
+    let Some(session) = &slot.session else {
+        return CLOSED;
+    };
+    match session.entry(name) {
+        Some(entry) => {
+            *number = entry.number;
+            DONE
+        }
+        None => MISSING,
+    }
+}
+
+/// The number of the first entry point of this name. Takes no memory.
+#[unsafe(no_mangle)]
+pub extern "C" fn td_c_entry(
+    handle: &mut TdSession,
+    full: bool,
+    name: &[u8],
+    number: &mut u32,
+) -> i32
+    requires { handle.old.full ≡ full }
+    ensures kept { full ≡ true → (handle.new.full ≡ true) × (handle.new.value ≡ handle.old.value) }
+    ensures found { full ≡ true → result ≡ pos 0 → IsFound handle.old.value name.now number.new }
+    ensures missing { full ≡ true → result ≡ pos 5 → IsLost handle.old.value name.now }
+{
+    if !full {
+        return CLOSED;
+    }
+    let slot = handle.take();
+    let code = find_entry(slot, name, number);
+    handle.put(slot);
+    code
+}
+
+fn describe(slot: &Slot, number: u32, told: &mut TdEntry) -> i32
+    ensures described { result ≡ pos 0 → HasEntry slot.now number told.new }
+{
+    let Some(session) = &slot.session else {
+        return CLOSED;
+    };
+    let entry = Entry { number };
+    let (Some(name), Some(params), Some(cells)) = (
+        session.entry_name(entry),
+        session.params(entry),
+        session.cells(entry),
+    ) else {
+        return MISSING;
+    };
+    *told = TdEntry {
+        name: name.number,
+        unused: 0,
+        param_count: params.len() as u64,
+        cell_count: cells.len() as u64,
+    };
+    DONE
+}
+
+/// What an entry point has.
+#[unsafe(no_mangle)]
+pub extern "C" fn td_c_describe(
+    handle: &mut TdSession,
+    full: bool,
+    number: u32,
+    told: &mut TdEntry,
+) -> i32
+    requires { handle.old.full ≡ full }
+    ensures kept { full ≡ true → (handle.new.full ≡ true) × (handle.new.value ≡ handle.old.value) }
+    ensures described { full ≡ true → result ≡ pos 0 → HasEntry handle.old.value number told.new }
+{
+    if !full {
+        return CLOSED;
+    }
+    let slot = handle.take();
+    let code = describe(slot, number, told);
+    handle.put(slot);
+    code
+}
+
+fn param_at(slot: &Slot, number: u32, place: usize, told: &mut TdPart) -> i32
+    ensures param { result ≡ pos 0 → HasParam slot.now number place told.new }
+{
+    let Some(session) = &slot.session else {
+        return CLOSED;
+    };
+    let Some(params) = session.params(Entry { number }) else {
+        return MISSING;
+    };
+    if place >= params.len() {
+        return MISSING;
+    }
+    *told = param_of(params[place]);
+    DONE
+}
+
+/// A parameter of an entry point, by its place.
+#[unsafe(no_mangle)]
+pub extern "C" fn td_c_param(
+    handle: &mut TdSession,
+    full: bool,
+    number: u32,
+    place: usize,
+    told: &mut TdPart,
+) -> i32
+    requires { handle.old.full ≡ full }
+    ensures kept { full ≡ true → (handle.new.full ≡ true) × (handle.new.value ≡ handle.old.value) }
+    ensures param { full ≡ true → result ≡ pos 0 → HasParam handle.old.value number place told.new }
+{
+    if !full {
+        return CLOSED;
+    }
+    let slot = handle.take();
+    let code = param_at(slot, number, place, told);
+    handle.put(slot);
+    code
+}
+
+fn cell_at(slot: &Slot, number: u32, place: usize, told: &mut TdPart) -> i32
+    ensures cell { result ≡ pos 0 → HasCell slot.now number place told.new }
+{
+    let Some(session) = &slot.session else {
+        return CLOSED;
+    };
+    let Some(cells) = session.cells(Entry { number }) else {
+        return MISSING;
+    };
+    if place >= cells.len() {
+        return MISSING;
+    }
+    *told = cell_of(cells[place]);
+    DONE
+}
+
+/// A cell of an entry point, by its place.
+#[unsafe(no_mangle)]
+pub extern "C" fn td_c_cell(
+    handle: &mut TdSession,
+    full: bool,
+    number: u32,
+    place: usize,
+    told: &mut TdPart,
+) -> i32
+    requires { handle.old.full ≡ full }
+    ensures kept { full ≡ true → (handle.new.full ≡ true) × (handle.new.value ≡ handle.old.value) }
+    ensures cell { full ≡ true → result ≡ pos 0 → HasCell handle.old.value number place told.new }
+{
+    if !full {
+        return CLOSED;
+    }
+    let slot = handle.take();
+    let code = cell_at(slot, number, place, told);
+    handle.put(slot);
+    code
+}
+
+fn frame_at(slot: &Slot, place: usize, told: &mut TdFrame) -> i32
+    ensures frame { result ≡ pos 0 → HasFrame slot.now place told.new }
+{
+    let Some(session) = &slot.session else {
+        return CLOSED;
+    };
+    let trace = session.trace();
+    if place >= trace.len() {
+        return MISSING;
+    }
+    *told = frame_of(&trace[place]);
+    DONE
+}
+
+/// A frame of the last failure, by its place: 0 is the innermost.
+#[unsafe(no_mangle)]
+pub extern "C" fn td_c_frame(
+    handle: &mut TdSession,
+    full: bool,
+    place: usize,
+    told: &mut TdFrame,
+) -> i32
+    requires { handle.old.full ≡ full }
+    ensures kept { full ≡ true → (handle.new.full ≡ true) × (handle.new.value ≡ handle.old.value) }
+    ensures frame { full ≡ true → result ≡ pos 0 → HasFrame handle.old.value place told.new }
+{
+    if !full {
+        return CLOSED;
+    }
+    let slot = handle.take();
+    let code = frame_at(slot, place, told);
+    handle.put(slot);
+    code
+}
+
+fn name_of(slot: &Slot, number: u32, bytes: &mut [u8], size: &mut u64) -> i32
+    ensures name { result ≡ pos 0 → HasName slot.now number bytes.new size.new }
+{
+    let Some(session) = &slot.session else {
+        return CLOSED;
+    };
+    let Some(text) = session.name(NameId { number }) else {
+        return MISSING;
+    };
+    let count = text.len().min(bytes.len());
+    bytes[..count].copy_from_slice(&text[..count]);
+    *size = text.len() as u64;
+    DONE
+}
+
+/// Writes as much of a name as there is room for, and its length.
+#[unsafe(no_mangle)]
+pub extern "C" fn td_c_name(
+    handle: &mut TdSession,
+    full: bool,
+    number: u32,
+    bytes: &mut [u8],
+    size: &mut u64,
+) -> i32
+    requires { handle.old.full ≡ full }
+    ensures kept { full ≡ true → (handle.new.full ≡ true) × (handle.new.value ≡ handle.old.value) }
+    ensures name { full ≡ true → result ≡ pos 0 → HasName handle.old.value number bytes.new size.new }
+{
+    if !full {
+        return CLOSED;
+    }
+    let slot = handle.take();
+    let code = name_of(slot, number, bytes, size);
+    handle.put(slot);
+    code
+}

@@ -1,0 +1,11 @@
+//! Messages in memory that a C program hands over, and to which anyone may store. The layer above rests on one promise: each load that
+//! is told is one atomic load of the word of the memory that the layout gives it, and there are no other loads.
+#![tactic(auto)]
+
+mod foreign;
+mod made;
+mod memory;
+
+pub use foreign::ForeignWords;
+pub use made::{Made, Trail};
+pub use memory::TdWords;

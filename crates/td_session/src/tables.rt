@@ -1,0 +1,72 @@
+//! What a session's code says of its entry points: names, parameters and cells.
+
+ghost use Rattle.std.specs.Prelude.{◌≡◌, ◌<◌, ◌↔◌, Some, IfSome, IsSome, length, slice_get};
+ghost use Rattle.std.specs.Arc.{arc_value};
+ghost use Rattle.td_ir.specs.Tables.{entry_of, routine_of};
+
+use crate::session::Session;
+use td_core::module::{Cell, Entry, NameId, Param};
+use td_step::tables::entry_at;
+
+impl Session {
+    /// The name of this number. Takes no memory. None: the code has no such name.
+    pub fn name(&self, id: NameId) -> Option<&[u8]>
+        ensures there { IsSome result ↔ (id.number < length (arc_value self.now.code).names) }
+        ensures name { IfSome result (λ text. slice_get (arc_value self.now.code).names id.number ≡ Some text.now) }
+    {
+        let parts = self.parts();
+        match parts.names.as_slice().get(id.number as usize) {
+            Some(text) => Some(text.as_slice()),
+            None => None,
+        }
+    }
+
+    /// How many entry points the code has.
+    pub fn entry_count(&self) -> usize
+        ensures { result ≡ length (arc_value self.now.code).entries }
+    {
+        self.parts().entries.len()
+    }
+
+    /// The name of an entry point: that of its routine. None: the code has no such entry point.
+    pub fn entry_name(&self, entry: Entry) -> Option<NameId>
+        ensures { IfSome result (λ id. id ≡ (routine_of (arc_value self.now.code) (entry_of (arc_value self.now.code) entry.number).routine).name) }
+    {
+        let parts = self.parts();
+        if (entry.number as usize) >= parts.entries.len() {
+            return None;
+        }
+        let point = entry_at(parts, entry.number as usize);
+        let place = point.routine as usize;
+        if place >= parts.routines.len() {
+            return None;
+        }
+        Some(td_step::tables::routine_at(parts, place).name)
+    }
+
+    /// The parameters of an entry point, with their names and widths. None: the code has no such entry point.
+    pub fn params(&self, entry: Entry) -> Option<&[Param]>
+        ensures there { IsSome result ↔ (entry.number < length (arc_value self.now.code).entries) }
+        ensures params { IfSome result (λ list. list.now ≡ (entry_of (arc_value self.now.code) entry.number).params) }
+    {
+        let parts = self.parts();
+        if (entry.number as usize) >= parts.entries.len() {
+            return None;
+        }
+        let point = entry_at(parts, entry.number as usize);
+        Some(point.params.as_slice())
+    }
+
+    /// The cells of an entry point, with their names and kinds. None: the code has no such entry point.
+    pub fn cells(&self, entry: Entry) -> Option<&[Cell]>
+        ensures there { IsSome result ↔ (entry.number < length (arc_value self.now.code).entries) }
+        ensures cells { IfSome result (λ list. list.now ≡ (entry_of (arc_value self.now.code) entry.number).cells) }
+    {
+        let parts = self.parts();
+        if (entry.number as usize) >= parts.entries.len() {
+            return None;
+        }
+        let point = entry_at(parts, entry.number as usize);
+        Some(point.cells.as_slice())
+    }
+}
