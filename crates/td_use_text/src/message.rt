@@ -1,0 +1,141 @@
+//! From a message to its report.
+
+ghost use Rattle.std.specs.Prelude.{◌≡◌, ◌<◌, ◌^◌, [], Err, length, IfOk, OnOk};
+ghost use Rattle.td_lowered.specs.CodeRun.{IsCodeOf};
+ghost use Rattle.td_coding.specs.Coding.{DoesWhatItMeans};
+ghost use Rattle.td_vm.specs.Frames.{IsArmed};
+ghost use Rattle.td_use_text.specs.declared.message.MessageError.{MessageError};
+ghost use Rattle.td_use_text.specs.Reports.{Begins, IsRunOf, Reports};
+
+use crate::text::Compiled;
+use std::alloc::{AllocError, Global};
+use td_compiled::compiled::validate_recorded;
+use td_core::module::Entry;
+use td_core::outcome::Verdict;
+use td_io::{Sink, WriteFault};
+use td_job::words::fill_words;
+use td_lowered::laws::arguments_fit;
+use td_report::report::report_of_parts;
+use td_sched::laws::loads_are_planned;
+use td_sched::planned::Planned;
+use td_stream::laws::{plain_carries, plain_message};
+use td_stream::layout::Layout;
+use td_stream::loads::Loads;
+use td_vm::laws::fitting_cells_have_room;
+use td_vm::validate::Frame;
+use thiserror::Error;
+
+/// Why there is no report, or not all of it.
+#[derive(Debug, Drop, Error)]
+pub enum MessageError {
+    #[error("out of memory")]
+    NoMemory,
+    #[error("the report couldn't be written")]
+    Write,
+}
+
+impl From<AllocError> for MessageError {
+    ghost use Rattle.std.specs.Prelude.{◌≡◌};
+    ghost use Rattle.td_use_text.specs.declared.message.MessageError.TheVariants.{NoMemory};
+
+    ghost from_gives = { λ _ e. e ≡ NoMemory };
+
+    fn from(_: AllocError) -> MessageError {
+        MessageError::NoMemory
+    }
+}
+
+impl From<WriteFault> for MessageError {
+    ghost use Rattle.std.specs.Prelude.{◌≡◌};
+    ghost use Rattle.td_use_text.specs.declared.message.MessageError.TheVariants.{Write};
+
+    ghost from_gives = { λ _ e. e ≡ Write };
+
+    fn from(_: WriteFault) -> MessageError {
+        MessageError::Write
+    }
+}
+
+/// A verdict, and the loads on which it rests.
+#[derive(Drop)]
+pub struct Ran {
+    pub verdict: Verdict,
+    pub loads: Loads,
+}
+
+// Validates a message in words to which nobody stores. The frame is left with the trace and the cells.
+fn validated(
+    alloc: Global,
+    compiled: &Compiled,
+    entry: Entry,
+    cells: &[u64],
+    message: &[u8],
+    frame: &mut Frame,
+) -> Result<Ran, AllocError>
+    requires code { IsCodeOf compiled.now.code compiled.now.module }
+    requires means { DoesWhatItMeans compiled.now.code compiled.now.module }
+    requires entry { entry.number < length compiled.now.module.entries }
+    requires begins { Begins compiled.now.module entry cells.now }
+    requires armed { IsArmed compiled.now.code frame.old }
+    requires short { length message.now < 2 ^ 32 }
+    ensures armed { IsArmed compiled.now.code frame.new }
+    ensures run { IfOk result (λ ran. IsRunOf compiled.now.module entry cells.now message.now ran.loads.list
+        (record { verdict = ran.verdict; trace = frame.new.trace; cells = frame.new.cells })) }
+{
+    arguments_fit();
+    fitting_cells_have_room();
+    loads_are_planned();
+    plain_message();
+    plain_carries();
+    let length = message.len() as u32;
+    let layout = Layout::plain(length);
+    let words = fill_words(alloc, message, layout.count())?;
+    let mut planned = Planned::open(alloc, words.as_slice(), &[])?;
+    let mut loads = Loads::with_room(alloc, layout.count())?;
+    frame.set_cells(cells);
+    let verdict = validate_recorded(
+        &compiled.code,
+        entry,
+        &[],
+        &layout,
+        frame,
+        &mut planned,
+        &mut loads,
+    );
+    Ok(Ran { verdict, loads })
+}
+
+/// Validates a message from an entry point on, and writes the report. The frame was armed for the code, and serves the next message.
+/// `NoMemory`: there was no memory, and nothing was written; `Write`: a write failed, and a prefix of the report was written.
+pub fn report_message<O: Sink>(
+    alloc: Global,
+    compiled: &Compiled,
+    entry: Entry,
+    cells: &[u64],
+    message: &[u8],
+    frame: &mut Frame,
+    out: &mut O,
+) -> Result<(), MessageError>
+    requires code { IsCodeOf compiled.now.code compiled.now.module }
+    requires means { DoesWhatItMeans compiled.now.code compiled.now.module }
+    requires entry { entry.number < length compiled.now.module.entries }
+    requires begins { Begins compiled.now.module entry cells.now }
+    requires armed { IsArmed compiled.now.code frame.old }
+    requires short { length message.now < 2 ^ 32 }
+    ensures armed { IsArmed compiled.now.code frame.new }
+    ensures written { OnOk result (Reports compiled.now.module entry cells.now message.now (O.state out.old) (O.state out.new)) }
+    ensures nothing { result ≡ Err MessageError.NoMemory → O.state out.new ≡ O.state out.old }
+{
+    let ran = validated(alloc, compiled, entry, cells, message, frame)?;
+    report_of_parts(
+        ran.verdict,
+        frame.trace(),
+        frame.cells(),
+        ran.loads.as_slice(),
+        None,
+        &compiled.module,
+        entry,
+        out,
+    )?;
+    Ok(())
+}

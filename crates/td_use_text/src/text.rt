@@ -1,0 +1,50 @@
+//! From a text to code.
+
+ghost use Rattle.std.specs.Prelude.{◌≡◌, ◌<◌, ◌-◌, ◌^◌, ◌⊎◌, length, IfOk, IfErr, IfSome};
+ghost use Rattle.td_front.specs.Checked.{IsChecked};
+ghost use Rattle.td_front.specs.ModuleText.{IsModuleText, RefusedBy};
+ghost use Rattle.td_lowered.specs.CodeRun.{IsCodeOf};
+ghost use Rattle.td_coding.specs.Coding.{DoesWhatItMeans};
+ghost use Rattle.td_use_text.specs.Reports.{Begins};
+
+use std::alloc::{AllocError, Global};
+use td_coding::code_of;
+use td_core::entries::entry_definition;
+use td_core::module::{Entry, Module};
+use td_front::{FrontError, check_module};
+use td_verify::verify::Verified;
+
+/// A module and its code.
+#[derive(Drop)]
+pub struct Compiled {
+    pub module: Module,
+    pub code: Verified,
+}
+
+/// The module for which a text stands, and its code. An error is the refusal of the text, or that there was no memory.
+pub fn compile(alloc: Global, text: &[u8]) -> Result<Compiled, FrontError>
+    requires { length text.now < 2 ^ 32 - 1 }
+    ensures module { IfOk result (λ made. IsModuleText text.now made.module) }
+    ensures code { IfOk result (λ made. IsCodeOf made.code made.module) }
+    ensures means { IfOk result (λ made. DoesWhatItMeans made.code made.module) }
+    ensures refused { IfErr result (λ e. (e ≡ FrontError.NoMemory) ⊎ RefusedBy text.now e) }
+{
+    let module = check_module(alloc, text)?;
+    match code_of(alloc, &module) {
+        Ok(code) => Ok(Compiled { module, code }),
+        Err(_) => Err(FrontError::NoMemory),
+    }
+}
+
+/// The cells with which a validation begins: a zero for each that the entry point has. None: it has no definition, or takes
+/// arguments. `AllocError`: there was no memory for them.
+pub fn zeros(alloc: Global, m: &Module, entry: Entry) -> Result<Option<Vec<u64>>, AllocError>
+    ensures { IfOk result (λ found. IfSome found (λ cells. Begins m.now entry cells.items)) }
+{
+    match entry_definition(m, entry) {
+        Some(definition) if definition.params.len() == 0 => {
+            Ok(Some(vec![in alloc; 0; definition.cells.len()]?))
+        }
+        _ => Ok(None),
+    }
+}
