@@ -21,6 +21,8 @@ use Rattle.td_acceptance.specs.Nesting.{Level, Outside, InWindow, InLoop, IsPlai
 use Rattle.td_acceptance.proofs.Levels.{IsLevel}
 use Rattle.td_acceptance.proofs.Through.{through, shape_is, opened_after, opened_plain, opened_guard, opened_window, in_window_level, in_loop_level}
 use Rattle.td_acceptance.proofs.Fine.{split, single, not_idle}
+use Rattle.td_num.proofs.Equals.{equal_itself as is_there}
+use Rattle.td_num.proofs.Truths.{eq_is as is_here, or_right as right_so, or_cases as either, or_left as left_so}
 
 -- an instruction at a place leads no further than to a place, or to an exit, and is no Return
 abbrev pub IsHeld : Parts → (m x : ℕ) (v : Bool) → ℕ → Type 0
@@ -138,12 +140,6 @@ pub record Kept (c : Parts) (E : ℕ → Type 0) (p e : ℕ) : Type 0 where
   pub within : (a : ℕ) → set a ≡ true → (p ≤ a) × (a < e)
   pub quiet : (a : ℕ) → set a ≡ true → shape_at (shapes_of c) a ≡ s.Return → ⊥
 
-is_here : (a p : ℕ) → nat_eq a p ≡ true → a ≡ p
-is_here a p h = grind (arith, nat_tests)
-
-is_there : (p : ℕ) → nat_eq p p ≡ true
-is_there p = grind (arith, nat_tests)
-
 -- one instruction that takes a byte, or fails
 only : (c : Parts) (E : ℕ → Type 0) (p : ℕ) (j : Instr) → instruction_of c p ≡ j → ((q : ℕ) → Leads p (shape j) q → IsIdle E (opened (shapes_of c) p) (shape j) → ⊥) → (shape j ≡ s.Return → ⊥) → Kept c E p (p + 1)
 only c E p j e stays quiet = record {
@@ -166,18 +162,6 @@ inside_is p m a h = (grind (arith, nat_tests), grind (arith, nat_tests))
 
 inside_so : (p m a : ℕ) → p ≤ a → a < m → inside p m a ≡ true
 inside_so p m a h k = grind (arith, nat_tests)
-
-either : (x y : Bool) → (x || y) ≡ true → (x ≡ true) ⊎ (y ≡ true)
-either true y h = inl refl
-either false y h = inr h
-
-left_so : (x y : Bool) → x ≡ true → (x || y) ≡ true
-left_so true y h = refl
-left_so false y h = absurd (cc)
-
-right_so : (x y : Bool) → y ≡ true → (x || y) ≡ true
-right_so true y h = refl
-right_so false y h = h
 
 -- instructions that are held to where a set begins, before it
 join : (c : Parts) (E : ℕ → Type 0) (p m e x : ℕ) → p ≤ m → m ≤ e → ((a : ℕ) → p ≤ a → a < m → IsHeld c m x false a) → Kept c E m e → Kept c E p e

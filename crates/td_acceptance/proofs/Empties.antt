@@ -18,6 +18,7 @@ use Rattle.td_acceptance.proofs.Blocked.{IsBlocked}
 use Rattle.td_acceptance.proofs.Through.{through}
 use Rattle.td_acceptance.proofs.Busy.{busy_routine}
 use Rattle.td_acceptance.proofs.Sound.{blocks_sound}
+use Rattle.td_num.proofs.Truths.{false_by as decided}
 
 takes_more : (E F : ℕ → Type 0) (j : Shape) → ((m : ℕ) → F m → E m) → Takes E j → Takes F j
 takes_more E F (s.Straight b w) h t = t
@@ -70,10 +71,6 @@ begins_open c blocks depth busy b zero h = refl
 begins_open c blocks depth busy b (suc n) h =
     subst (λ x. opened (shapes_of c) x ≡ Some []) (ends_at c blocks depth busy b n (omega arith))
     (through c (NotBusy busy n) (blocks n) Outside false (begin (lengths_of c) n) 0 [] (b.stands n (omega arith)) (b.nests n (omega arith)) tt (begins_open c blocks depth busy b n (omega arith)))
-
-decided : (x : Bool) → (x ≡ true → ⊥) → x ≡ false
-decided true h = absurd (h refl)
-decided false h = refl
 
 no_empty : (c : Parts) (blocks : ℕ → Block) (depth : ℕ → ℕ) (busy : ℕ → Bool) → AreBlocks c blocks depth busy → (n : ℕ) → n ≤ length c.routines → (m : ℕ) → MayBeEmpty (shapes_of c) (lengths_of c) n m → NotBusy busy n m
 no_empty c blocks depth busy b zero h m w = λ lt. absurd (omega arith)

@@ -1,7 +1,6 @@
 -- Each instruction of a block keeps the rules.
 use Rattle.std.proofs.Common.{◌≡◌, ℕ, ◌+◌, ◌-◌, ◌<◌, ◌≤◌, ⊎_elim, inl, inr, List, [], ◌∷◌, Option, Some, Bool, true, false, nat_eq, refl, sym, ap, subst, ◌∙◌, arith}
 use Rattle.std.proofs.lemmas.Bool.{cases_lt}
-use Rattle.std.proofs.lemmas.Bool.Decides.{nat_tests}
 use Rattle.td_ir.specs.declared.tables.Parts.{Parts}
 use Rattle.td_ir.specs.declared.instructions.Instr.{Instr}
 use Rattle.td_ir.specs.declared.instructions.Instr.TheVariants as i
@@ -22,6 +21,8 @@ use Rattle.td_acceptance.specs.Nesting.{Level, Outside, InWindow, InLoop, IsPlai
 use Rattle.td_acceptance.proofs.Levels.{IsLevel}
 use Rattle.td_acceptance.proofs.Blocked.{IsFine, IsFollowed, IsExit}
 use Rattle.td_acceptance.proofs.Through.{through, shape_is, opened_after, opened_plain, opened_stop, opened_guard, opened_window, outside_is, in_window_level, in_loop_level}
+use Rattle.td_num.proofs.Equals.{equal_itself as here_is}
+use Rattle.td_num.proofs.Truths.{eq_is as only_here}
 
 -- places one after the other
 pub split : (p m e : ℕ) (P : ℕ → Type 0) → ((q : ℕ) → p ≤ q → q < m → P q) → ((q : ℕ) → m ≤ q → q < e → P q) → (q : ℕ) → p ≤ q → q < e → P q
@@ -149,12 +150,6 @@ not_idle E o (s.Again x) t d = t
 not_idle E o (s.Open k) t d = t
 not_idle E o s.Close t d = t
 
-only_here : (a p : ℕ) → nat_eq a p ≡ true → a ≡ p
-only_here a p h = grind (arith, nat_tests)
-
-here_is : (p : ℕ) → nat_eq p p ≡ true
-here_is p = grind (arith, nat_tests)
-
 busy_from : (c : Parts) (E : ℕ → Type 0) (p t : ℕ) (j : Instr) → instruction_of c p ≡ j → Takes E (shape j) → p < t → IdleWay (shapes_of c) E p t → ⊥
 busy_from c E p t j e takes lt w =
     let there = w (λ q. nat_eq q p)
@@ -201,11 +196,11 @@ no_exit : (c : Parts) (end q x : ℕ) (bs : List Bracket) → false ≡ true →
 no_exit c end q x bs e = absurd (cc)
 
 fine_guard : (c : Parts) (E : ℕ → Type 0) (depth : ℕ → ℕ) (n end p : ℕ) (g : Bool) (r t : ℕ) → instruction_of c p ≡ guard g r t → p < t → t < end → opened (shapes_of c) t ≡ opened (shapes_of c) p → r < (routine_of c n).registers → IsFine c E depth n end p
-fine_guard c E depth n end p true r t e a b o h = fine_at c E depth n end p (i.JumpIf r t) e (record { later = a; within = b; same = o }) (λ z. absurd (omega (arith, z))) tt (λ z. absurd (omega (arith, z))) tt (record { registers = h; tables = tt; operands = tt; calls = tt })
-fine_guard c E depth n end p false r t e a b o h = fine_at c E depth n end p (i.JumpUnless r t) e (record { later = a; within = b; same = o }) (λ z. absurd (omega (arith, z))) tt (λ z. absurd (omega (arith, z))) tt (record { registers = h; tables = tt; operands = tt; calls = tt })
+fine_guard c E depth n end p true r t e a b o h = fine_at c E depth n end p (i.JumpIf r t) e (record { later = a; within = b; same = o }) (λ z. absurd (omega (arith, z))) tt (λ z. absurd (omega (arith, z))) tt (record { registers = h; tables = (tt, tt); operands = tt; calls = tt })
+fine_guard c E depth n end p false r t e a b o h = fine_at c E depth n end p (i.JumpUnless r t) e (record { later = a; within = b; same = o }) (λ z. absurd (omega (arith, z))) tt (λ z. absurd (omega (arith, z))) tt (record { registers = h; tables = (tt, tt); operands = tt; calls = tt })
 
 bare : (c : Parts) (depth : ℕ → ℕ) (n t : ℕ) → IsFit c depth n (i.Jump t)
-bare c depth n t = record { registers = tt; tables = tt; operands = tt; calls = tt }
+bare c depth n t = record { registers = tt; tables = (tt, tt); operands = tt; calls = tt }
 
 open_stands : (bs : List Bracket) (l : Level) (j : Shape) → IsOpen j → l ≡ Outside → IsLevel l bs → StandsWell (Some bs) j
 open_stands bs l (s.Open k) h e le = (none_outside bs l e le).0
@@ -321,9 +316,9 @@ fine c E depth n end (Loop body rest) l v p x bs st ne fi le o fo ex =
     let stands : StandsWell (Some bs) (s.While (m + 1)) = window_stands bs (subst (λ y. IsLevel y bs) ne.0 le) in
     split p (p + 1) e (IsFine c E depth n end)
     (single p (IsFine c E depth n end) (fine_at c E depth n end p (i.While (m + 1)) st.0 (record { later = omega arith; within = omega (arith, lt); again = again; own = own }) (λ z. absurd (omega (arith, z, lt))) (stand c p bs (s.While (m + 1)) o stands) (λ z. absurd (omega (arith, z, lt)))
-    (λ w. busy_body c E body (p + 1) x ne.1 st.1 (subst (IdleWay (shapes_of c) E (p + 1)) back w)) (record { registers = tt; tables = tt; operands = tt; calls = tt })))
+    (λ w. busy_body c E body (p + 1) x ne.1 st.1 (subst (IdleWay (shapes_of c) E (p + 1)) back w)) (record { registers = tt; tables = (tt, tt); operands = tt; calls = tt })))
     (split (p + 1) m e (IsFine c E depth n end)
     (fine c E depth n end body InLoop false (p + 1) x (Looping p ∷ bs) st.1 ne.2 fi.0 ll ow (inl (omega (arith, lt))) (no_exit c end m x (Looping p ∷ bs)))
     (split m (m + 1) e (IsFine c E depth n end)
-    (single m (IsFine c E depth n end) (fine_at c E depth n end m (i.Again p) st.2 (ap innermost om) (λ z. absurd (omega (arith, z, lt))) tt (λ z. absurd (omega (arith, z, lt))) tt (record { registers = tt; tables = tt; operands = tt; calls = tt })))
+    (single m (IsFine c E depth n end) (fine_at c E depth n end m (i.Again p) st.2 (ap innermost om) (λ z. absurd (omega (arith, z, lt))) tt (λ z. absurd (omega (arith, z, lt))) tt (record { registers = tt; tables = (tt, tt); operands = tt; calls = tt })))
     (λ q a z. fine c E depth n end rest l v (m + 1) x bs st.3 ne.3 fi.1 le od fo' (exit_at c end e (m + 1 + size rest) x bs v (omega arith) ex) q a (omega arith))))

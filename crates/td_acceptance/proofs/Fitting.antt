@@ -1,5 +1,5 @@
 -- What the tables have for a checked module's fields.
-use Rattle.std.proofs.Common.{◌≡◌, ℕ, zero, suc, ◌+◌, ◌*◌, ◌<◌, ◌≤◌, max, List, [], ◌∷◌, ◌++◌, Bool, true, false, ◌&&◌, nat_eq, nat_lt, length, slice_get, Option, Some, None, refl, sym, ap, subst, ◌∙◌, arith}
+use Rattle.std.proofs.Common.{◌≡◌, ℕ, zero, suc, ◌+◌, ◌*◌, ◌<◌, ◌≤◌, max, List, [], ◌∷◌, ◌++◌, Bool, true, false, ◌&&◌, nat_eq, nat_lt, length, slice_get, Option, Some, None, refl, sym, subst, ◌∙◌, arith}
 use Rattle.std.proofs.lemmas.Bool.Decides.{nat_tests}
 use Rattle.td_num.specs.Numbers.{bytes_in}
 use Rattle.td_num.specs.declared.number.Width.{Width}
@@ -34,6 +34,7 @@ use Rattle.td_blocks.specs.Lowered.{parts_in}
 use Rattle.td_blocks.specs.Tabled.{Mapped, FieldsSited, DefaultSited, CasesSited, BodySited}
 use Rattle.td_blocks.specs.Tops.{deed_cells, option_cells, parts_cells}
 use Rattle.td_acceptance.proofs.Fit.{BitsFit, ElementFits, ArrayFits, FieldsFit, DefaultFits, CasesFit, BodyFits}
+use Rattle.td_core.proofs.Found.{cells_mapped as owned}
 
 -- cells that are named are there
 taken : (cells : List Bound) (k : ℕ) (w : Scalar) → Takes (slice_get cells k) w → k < length cells
@@ -63,12 +64,6 @@ pub parts_within : (cells : List Bound) (element : Element) (extent : Extent) (s
 parts_within cells element extent scope [] h = omega arith
 parts_within cells element extent scope (p ∷ ps) h =
     let x = action_within cells _ p.action h.1.0 in let y = parts_within cells element extent (scope ++ part_bound element extent p.bits ∷ []) ps h.1.1 in omega (arith, x, y)
-
-owned : (cells cs : List Bound) (own : List ℕ) → AreCellsFormed cells cs own → length own ≡ length cs
-owned cells [] [] h = refl
-owned cells [] (k ∷ ks) h = absurd h
-owned cells (b ∷ bs) [] h = absurd h
-owned cells (b ∷ bs) (k ∷ ks) h = ap suc (owned cells bs ks h.1)
 
 own_below : (cells cs : List Bound) (own : List ℕ) → AreCellsFormed cells cs own → AreBelow (length cells) own
 own_below cells [] [] h j l = absurd (omega (arith, l))

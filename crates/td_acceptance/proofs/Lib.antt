@@ -1,7 +1,6 @@
 mod Levels
 mod Blocked
 mod Fit
-mod Verifier
 mod Through
 mod Fine
 mod Weighing
@@ -12,8 +11,8 @@ mod Sound
 mod Empties
 mod Lowered
 mod Goods
-mod Measured
+pub mod Measured
 mod Least
 mod Fitting
-mod Modules
+pub mod Modules
 mod Operands

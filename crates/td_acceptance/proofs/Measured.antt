@@ -1,4 +1,4 @@
--- What is written for a definition's fields weighs no more than the definition.
+-- What is written for a definition's fields weighs no more than the definition. Cited by other crates.
 use Rattle.std.proofs.Common.{◌≡◌, ℕ, zero, suc, ◌+◌, ◌-◌, ◌*◌, ◌^◌, ◌<◌, ◌≤◌, List, [], ◌∷◌, Bool, true, false, cond, nat_lt, length, Option, Some, None, refl, arith}
 use Rattle.td_num.specs.Lists.{Each}
 use Rattle.td_core.specs.declared.expressions.Binary.{Binary as Operator}
@@ -27,7 +27,7 @@ use Rattle.td_blocks.specs.Lowered.{computed_of, compared_of, mask_of, expr_of, 
 use Rattle.td_blocks.specs.Placed.{ElementPlaced, ElementsPlaced, OnePlaced, ShapePlaced, FieldsPlaced, DefaultPlaced, CasesPlaced, BodyPlaced}
 use Rattle.td_acceptance.specs.Weights.{nodes, all_nodes, act_nodes, inner_weight, weight_of, cases_weight, body_weight}
 
-computed_nodes : (op : Operator) (mask : ℕ) (a b : Expr) → nodes (computed_of op mask a b) ≡ 1 + (nodes a + nodes b)
+pub computed_nodes : (op : Operator) (mask : ℕ) (a b : Expr) → nodes (computed_of op mask a b) ≡ 1 + (nodes a + nodes b)
 computed_nodes Plus mask a b = refl
 computed_nodes Minus mask a b = refl
 computed_nodes Times mask a b = refl
@@ -39,7 +39,7 @@ computed_nodes BitXor mask a b = refl
 computed_nodes ShiftLeftOp mask a b = refl
 computed_nodes ShiftRight mask a b = refl
 
-compared_nodes : (r : Relation) (a b : Expr) → nodes (compared_of r a b) ≡ 1 + (nodes a + nodes b)
+pub compared_nodes : (r : Relation) (a b : Expr) → nodes (compared_of r a b) ≡ 1 + (nodes a + nodes b)
 compared_nodes Equal a b = refl
 compared_nodes NotEqual a b = refl
 compared_nodes Less a b = refl
@@ -47,7 +47,7 @@ compared_nodes LessEqual a b = refl
 compared_nodes Greater a b = omega arith
 compared_nodes GreaterEqual a b = omega arith
 
-nodes_are : (e : Term) → nodes (expr_of e) ≡ measure e
+pub nodes_are : (e : Term) → nodes (expr_of e) ≡ measure e
 nodes_are (number n w) = refl
 nodes_are (name i w most) = refl
 nodes_are (complement a) = let x = nodes_are a in omega (arith, x)
@@ -59,11 +59,11 @@ nodes_are (either a b) = let x = nodes_are a in let y = nodes_are b in omega (ar
 nodes_are (choice c a b) = let x = nodes_are c in let y = nodes_are a in let z = nodes_are b in omega (arith, x, y, z)
 nodes_are (range_okay s o a) = let x = nodes_are s in let y = nodes_are o in let z = nodes_are a in omega (arith, x, y, z)
 
-all_are : (es : List Term) → all_nodes (exprs_of es) ≡ terms_nodes es
+pub all_are : (es : List Term) → all_nodes (exprs_of es) ≡ terms_nodes es
 all_are [] = refl
 all_are (e ∷ es) = let x = nodes_are e in let y = all_are es in omega (arith, x, y)
 
-acts_are : (L : ℕ) (d : Deed) → act_nodes (action_of L d) ≡ deed_nodes d
+pub acts_are : (L : ℕ) (d : Deed) → act_nodes (action_of L d) ≡ deed_nodes d
 acts_are L done = refl
 acts_are L (set cell e then) = let x = nodes_are e in let y = acts_are L then in omega (arith, x, y)
 acts_are L (keep cell then) = let y = acts_are (suc L) then in omega (arith, y)
@@ -72,7 +72,7 @@ acts_are L (answer e) = let x = nodes_are e in omega (arith, x)
 acts_are L give_up = refl
 
 -- of an element's arguments
-args_are : (element : Element) → all_nodes (arguments element) ≡ element_nodes element
+pub args_are : (element : Element) → all_nodes (arguments element) ≡ element_nodes element
 args_are (NumberElement type) = refl
 args_are (ListedElement base v) = refl
 args_are (NamedElement d args own) = all_are args

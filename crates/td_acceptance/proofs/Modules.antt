@@ -1,5 +1,5 @@
--- The verifier accepts the code of a module.
-use Rattle.std.proofs.Common.{◌≡◌, ℕ, zero, suc, ◌+◌, ◌-◌, ◌<◌, ◌≤◌, max, List, [], ◌∷◌, Bool, true, false, nat_eq, nat_lt, length, map, slice_get, Option, Some, None, refl, sym, ap, subst, ◌∙◌, arith}
+-- The verifier accepts the code of a module. Cited by other crates.
+use Rattle.std.proofs.Common.{◌≡◌, ℕ, zero, suc, ◌+◌, ◌-◌, ◌<◌, ◌≤◌, max, List, [], ◌∷◌, Bool, true, nat_lt, length, map, slice_get, Option, Some, None, refl, sym, ap, subst, ◌∙◌, arith}
 use Rattle.std.proofs.lemmas.Bool.Decides.{nat_tests}
 use Rattle.td_num.specs.Lists.{Each}
 use Rattle.td_core.specs.declared.kind.Kind.{Kind}
@@ -35,17 +35,9 @@ use Rattle.td_acceptance.proofs.Measured.{definition_light}
 use Rattle.td_acceptance.proofs.Least.{definition_more}
 use Rattle.td_acceptance.proofs.Fitting.{body_fits, has_parts, none_first, none_then}
 use Rattle.td_acceptance.proofs.Lowered.{lowered_sound, routine_light}
-
--- of lists
-got : {A : Type 0} (xs : List A) (n : ℕ) → n < length xs → (x : A) × (slice_get xs n ≡ Some x)
-got [] n h = absurd (omega arith)
-got (x ∷ xs) zero h = (x, refl)
-got (x ∷ xs) (suc n) h = got xs n (omega arith)
-
-pub each_at : {A : Type 0} (P : A → Type 0) (xs : List A) (n : ℕ) (x : A) → Each P xs → slice_get xs n ≡ Some x → P x
-each_at P [] n x e h = absurd (cc)
-each_at P (y ∷ ys) zero x e h = (let same : y ≡ x = cc in subst P same e.0)
-each_at P (y ∷ ys) (suc n) x e h = each_at P ys n x e.1 h
+use Rattle.td_num.proofs.Equals.{equal_itself as alike, unequal_below as unlike}
+use Rattle.td_num.proofs.Lists.{got, each_at}
+use Rattle.td_kinds.proofs.Listing.{below_last as at_kinds}
 
 fields_have : (count : ℕ) (fs : List Field) → Each (IsFieldWhole count) fs → Each (λ f. HasParts f.parts) fs
 fields_have count [] h = tt
@@ -71,12 +63,6 @@ no_faults kinds (x ∷ xs) (suc n) d e h = no_faults kinds xs n d (none_then (bo
 pub mapped : {A B : Type 0} (f : A → B) (xs : List A) → length (map f xs) ≡ length xs
 mapped f [] = refl
 mapped f (x ∷ xs) = ap suc (mapped f xs)
-
-unlike : (j k : ℕ) → j < k → nat_eq j k ≡ false
-unlike j k h = grind (arith, nat_tests)
-
-alike : (n : ℕ) → nat_eq n n ≡ true
-alike n = grind (arith, nat_tests)
 
 -- what is told of a definition by those below it
 lower_by : (of : (ℕ → ℕ) → Option TypeDef → ℕ) (ds : List TypeDef) (n k j : ℕ) → j < n → below_by of ds (n + k) j ≡ below_by of ds n j
@@ -109,10 +95,6 @@ lower_kinds ds n (suc k) j h =
     ap (λ x. kinds_below ds x j) e
     ∙ (ap (λ b. pick_kind b (definition_kind (kinds_below ds (n + k)) (slice_get ds (n + k))) (kinds_below ds (n + k) j)) (unlike j (n + k) (omega arith)) ∙ lower_kinds ds n k j h)
 
-at_kinds : (ds : List TypeDef) (n : ℕ) → kinds_below ds (suc n) n ≡ definition_kind (kinds_below ds n) (slice_get ds n)
-unfolding kinds_below
-at_kinds ds n = ap (λ b. pick_kind b (definition_kind (kinds_below ds n) (slice_get ds n)) (kinds_below ds n n)) (alike n)
-
 whole_kinds : (ds : List TypeDef) (n : ℕ) → n < length ds → kinds_below ds (length ds) n ≡ definition_kind (kinds_below ds n) (slice_get ds n)
 whole_kinds ds n h =
     let e : length ds ≡ suc n + (length ds - suc n) = omega arith in
@@ -124,11 +106,11 @@ same_kinds ds n j h l =
     ap (λ x. kinds_below ds x j) e ∙ lower_kinds ds n (length ds - n) j l
 
 -- sites of earlier definitions stand before
-sites_up : (ds : List TypeDef) (n k : ℕ) → first_site ds n ≤ first_site ds (n + k)
+pub sites_up : (ds : List TypeDef) (n k : ℕ) → first_site ds n ≤ first_site ds (n + k)
 sites_up ds n zero = (let e : n + 0 ≡ n = omega arith in subst (λ x. first_site ds n ≤ first_site ds x) (sym e) (omega arith))
 sites_up ds n (suc k) = (let e : n + suc k ≡ suc (n + k) = omega arith in let h = sites_up ds n k in subst (λ x. first_site ds n ≤ first_site ds x) (sym e) (omega (arith, h)))
 
-last_site : (ds : List TypeDef) (n : ℕ) (d : TypeDef) → n < length ds → slice_get ds n ≡ Some d → first_site ds n + 2 + body_parts d.body ≤ first_site ds (length ds)
+pub last_site : (ds : List TypeDef) (n : ℕ) (d : TypeDef) → n < length ds → slice_get ds n ≡ Some d → first_site ds n + 2 + body_parts d.body ≤ first_site ds (length ds)
 last_site ds n d h e =
     let k : suc n + (length ds - suc n) ≡ length ds = omega arith in
     let u : first_site ds (suc n) ≤ first_site ds (length ds) = subst (λ x. first_site ds (suc n) ≤ first_site ds x) k (sites_up ds (suc n) (length ds - suc n)) in
@@ -196,11 +178,11 @@ module _ (c : Parts) (units : ℕ → ℕ) (m : Module) (a : IsAdmissible m) (l 
       let x = got m.definitions n h in
       let d = x.0 in
       let w = placed_at n d h x.1 in
-      let u = last_site m.definitions n d h x.1 in
-      let v = q.sites in
+      let s : first_site m.definitions (suc n) ≡ first_site m.definitions n + (2 + body_parts d.body) = ap (λ o. first_site m.definitions n + sites_in o) x.1 in
       subst (GoodBody c depth busy n) (sym (body_is n d x.1))
-      (good_definition c depth busy n (units n) (params_of m.definitions) q.maps (λ j k. l.params j (omega (arith, h, k))) w.room m.definitions (first_site m.definitions n) d w.guard w.inside
-      (fits_at n d h x.1) (have_at n d x.1) (omega (arith, u, v)))
+      (good_definition c depth busy n (units n) (params_of m.definitions) q.maps (λ j k. l.params j (omega (arith, h, k))) w.room
+      (first_site m.definitions n) (first_site m.definitions (suc n)) (λ k. q.sites n k h) m.definitions (first_site m.definitions n) d w.guard w.inside
+      (fits_at n d h x.1) (have_at n d x.1) (omega arith, omega (arith, s)))
 
   weight_at : (n : ℕ) → n < length m.definitions → body_weight (weight_of m.definitions) (bodies n) ≤ weight_of m.definitions n
   weight_at n h =

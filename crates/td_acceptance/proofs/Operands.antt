@@ -16,7 +16,8 @@ use Rattle.td_blocks.specs.Tops.{fields_cells, default_cells, cases_cells, body_
 use Rattle.td_acceptance.proofs.Fit.{BitsFit}
 use Rattle.td_acceptance.specs.Modules.{IsAdmissible}
 use Rattle.td_acceptance.proofs.Fitting.{parts_within, parts_fit}
-use Rattle.td_acceptance.proofs.Modules.{each_at, mapped}
+use Rattle.td_acceptance.proofs.Modules.{mapped}
+use Rattle.td_num.proofs.Lists.{each_at}
 
 fields_within : (ds : List TypeDef) (n : ℕ) (cells scope : List Bound) (fs : List Field) → AreFieldsFormed ds n cells scope fs → fields_cells fs ≤ length cells
 fields_within ds n cells scope [] h = omega arith

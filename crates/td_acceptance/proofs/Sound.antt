@@ -14,15 +14,15 @@ use Rattle.td_ir.specs.Tables.{begin}
 use Rattle.td_verify.specs.Rules.{CallsWell, weigh, deepest}
 use Rattle.td_verify.specs.Verify.{IsIn, Keeps, depths, weights}
 use Rattle.td_ir.proofs.Begins.{begin_next}
-use Rattle.td_acceptance.proofs.Verifier.{length_depths}
-use Rattle.td_acceptance.proofs.Verifier.{weigh_up}
-use Rattle.td_acceptance.proofs.Verifier.{shape_there}
 use Rattle.td_blocks.specs.Block.{Block, size}
 use Rattle.td_acceptance.specs.Nesting.{Outside, CallsBelow}
 use Rattle.td_acceptance.proofs.Blocked.{IsFine, IsBlocked}
 use Rattle.td_acceptance.proofs.Through.{through}
 use Rattle.td_acceptance.proofs.Fine.{fine}
 use Rattle.td_acceptance.proofs.Weighing.{weighs, w_at, deepest_less, pushed_depth}
+use Rattle.td_verify.proofs.Sums.{shape_there}
+use Rattle.td_verify.proofs.Safety.{weigh_up}
+use Rattle.td_verify.proofs.Same.{length_depths}
 
 ends_at : (c : Parts) (blocks : ℕ → Block) (depth : ℕ → ℕ) → IsBlocked c blocks depth → (n : ℕ) → n < length c.routines → begin (lengths_of c) n + size (blocks n) ≡ begin (lengths_of c) (suc n)
 ends_at c blocks depth b n h = let e = begin_next c n in let z = b.sizes n h in omega (arith, e, z)

@@ -11,11 +11,11 @@ use Rattle.td_verify.specs.Shape.{shapes_of}
 use Rattle.td_verify.specs.declared.bracket.Bracket.{Bracket}
 use Rattle.td_verify.specs.declared.bracket.Bracket.TheVariants.{Window as Opened, Loop as Looping}
 use Rattle.td_verify.specs.Brackets.{shape_at, opened, and_then}
-use Rattle.td_acceptance.proofs.Verifier.{next_opened}
-use Rattle.td_acceptance.proofs.Verifier.{shape_there}
 use Rattle.td_blocks.specs.Block.{Block, Done, Then, Stop, Leave, Guard, Scope, Window, Loop, size, guard, Stands}
 use Rattle.td_acceptance.specs.Nesting.{Level, Outside, InWindow, InLoop, IsPlain, IsStop, IsOpen, Nests}
 use Rattle.td_acceptance.proofs.Levels.{IsLevel}
+use Rattle.td_verify.proofs.Flat.{next_opened}
+use Rattle.td_verify.proofs.Sums.{shape_there}
 
 pub shape_is : (c : Parts) (p : ℕ) (j : Instr) → instruction_of c p ≡ j → shape_at (shapes_of c) p ≡ shape j
 shape_is c p j e = shape_there c p ∙ ap shape e

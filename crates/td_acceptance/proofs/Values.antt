@@ -1,5 +1,5 @@
 -- Expressions, arguments and actions in blocks.
-use Rattle.std.proofs.Common.{ℕ, ◌+◌, ◌*◌, ◌<◌, ◌≤◌, inl, inr, List, [], ◌∷◌, Bool, true, false, length, refl, arith}
+use Rattle.std.proofs.Common.{ℕ, ◌+◌, ◌*◌, ◌<◌, ◌≤◌, inl, inr, List, [], ◌∷◌, Bool, true, false, refl, arith}
 use Rattle.td_ir.specs.declared.tables.Parts.{Parts}
 use Rattle.td_ir.specs.declared.instructions.Instr.TheVariants as i
 use Rattle.td_ir.specs.Tables.{routine_of}
@@ -8,7 +8,7 @@ use Rattle.td_acceptance.specs.Nesting.{Level, Nests, Ends, IsFit, Fits, IsCalm,
 use Rattle.td_blocks.specs.Constructs.{Expr, Lit, Slot, Binary, Not, Complement, ShiftLeft, Both, Either, Choice, Range, value, values, tested, Action, Finish, Assign, Read, If, Return, Abort, acts}
 use Rattle.td_acceptance.specs.Weights.{nodes, all_nodes, act_nodes}
 use Rattle.td_blocks.specs.Placed.{Reaches}
-use Rattle.td_acceptance.specs.Good.{AllReach, Does}
+use Rattle.td_acceptance.specs.Good.{IsSiteOf, AllReach, Does}
 
 pub nests_value : (E : ℕ → Type 0) (l : Level) (v : Bool) (t : ℕ) (e : Expr) (k : Block) → Nests E l v k → Nests E l v (value t e k)
 nests_value E l v t (Lit n) k h = (tt, h)
@@ -59,10 +59,10 @@ busy_value E t (Choice c a b) k h = busy_value E t c _ ((calm_value t a Leave tt
 busy_value E t (Range size offset access) k h = busy_value E t size _ (busy_value E (t + 1) offset _ (busy_value E (t + 2) access _ (inr (inr (inr (inr h))))))
 
 pub fit_const : (c : Parts) (depth : ℕ → ℕ) (n t k : ℕ) → t < (routine_of c n).registers → IsFit c depth n (i.Const t k)
-fit_const c depth n t k h = record { registers = h; tables = tt; operands = tt; calls = tt }
+fit_const c depth n t k h = record { registers = h; tables = (tt, tt); operands = tt; calls = tt }
 
 pub fit_op : (c : Parts) (depth : ℕ → ℕ) (n t a op b : ℕ) → t < (routine_of c n).registers → a < (routine_of c n).registers → b < (routine_of c n).registers → op ≤ 13 → IsFit c depth n (i.Op t op a b)
-fit_op c depth n t a op b h k l m = record { registers = (h, k, l); tables = tt; operands = m; calls = tt }
+fit_op c depth n t a op b h k l m = record { registers = (h, k, l); tables = (tt, tt); operands = m; calls = tt }
 
 pub fits_value : (c : Parts) (depth : ℕ → ℕ) (n t : ℕ) (e : Expr) (k : Block) → Reaches (routine_of c n).registers t e → Fits c depth n k → Fits c depth n (value t e k)
 fits_value c depth n t (Lit x) k r h = (fit_const c depth n t x r, h)
@@ -151,10 +151,10 @@ nests_tested E l v t e reason site k h = nests_value E l v t e _ (tt, h)
 pub busy_tested : (E : ℕ → Type 0) (t : ℕ) (e : Expr) (reason site : ℕ) (k : Block) → Busy E k → Busy E (tested t e reason site k)
 busy_tested E t e reason site k h = busy_value E t e _ (inl refl, h)
 
-pub fit_fail : (c : Parts) (depth : ℕ → ℕ) (n reason site : ℕ) → reason ≤ 5 → site < length c.sites → IsFit c depth n (i.Fail reason site)
+pub fit_fail : (c : Parts) (depth : ℕ → ℕ) (n reason site : ℕ) → reason ≤ 5 → IsSiteOf c n site → IsFit c depth n (i.Fail reason site)
 fit_fail c depth n reason site h k = record { registers = tt; tables = k; operands = h; calls = tt }
 
-pub fits_tested : (c : Parts) (depth : ℕ → ℕ) (n t : ℕ) (e : Expr) (reason site : ℕ) (k : Block) → t < (routine_of c n).registers → Reaches (routine_of c n).registers t e → reason ≤ 5 → site < length c.sites → Fits c depth n k → Fits c depth n (tested t e reason site k)
+pub fits_tested : (c : Parts) (depth : ℕ → ℕ) (n t : ℕ) (e : Expr) (reason site : ℕ) (k : Block) → t < (routine_of c n).registers → Reaches (routine_of c n).registers t e → reason ≤ 5 → IsSiteOf c n site → Fits c depth n k → Fits c depth n (tested t e reason site k)
 fits_tested c depth n t e reason site k t_in r m named h = fits_value c depth n t e _ r (t_in, fit_fail c depth n reason site m named, h)
 
 pub weight_tested : (ws : List ℕ) (t : ℕ) (e : Expr) (reason site : ℕ) (k : Block) → weight ws false (tested t e reason site k) ≤ 2 + (8 * nodes e + weight ws false k)
@@ -178,10 +178,10 @@ calm_acts t site (If e one other more) k h = calm_value t e _ (calm_acts (t + 1)
 calm_acts t site (Return e) k h = calm_value t e _ (refl, tt)
 calm_acts t site Abort k h = refl
 
-pub fits_acts : (c : Parts) (depth : ℕ → ℕ) (n t site : ℕ) (a : Action) (k : Block) → Does (routine_of c n).registers (routine_of c n).cells t a → site < length c.sites → Fits c depth n k → Fits c depth n (acts t site a k)
+pub fits_acts : (c : Parts) (depth : ℕ → ℕ) (n t site : ℕ) (a : Action) (k : Block) → Does (routine_of c n).registers (routine_of c n).cells t a → IsSiteOf c n site → Fits c depth n k → Fits c depth n (acts t site a k)
 fits_acts c depth n t site Finish k d s h = h
-fits_acts c depth n t site (Assign cell e more) k d s h = fits_value c depth n t e _ d.2 (record { registers = d.0; tables = d.1; operands = tt; calls = tt }, fits_acts c depth n t site more k d.3 s h)
-fits_acts c depth n t site (Read slot cell more) k d s h = (record { registers = d.0; tables = d.1; operands = tt; calls = tt }, fits_acts c depth n t site more k d.2 s h)
+fits_acts c depth n t site (Assign cell e more) k d s h = fits_value c depth n t e _ d.2 (record { registers = d.0; tables = (d.1, tt); operands = tt; calls = tt }, fits_acts c depth n t site more k d.3 s h)
+fits_acts c depth n t site (Read slot cell more) k d s h = (record { registers = d.0; tables = (d.1, tt); operands = tt; calls = tt }, fits_acts c depth n t site more k d.2 s h)
 fits_acts c depth n t site (If e one other more) k d s h =
     fits_value c depth n t e _ d.1 (d.0, fits_acts c depth n (t + 1) site one Done d.2 s tt, (d.0, fits_acts c depth n (t + 1) site other Done d.3 s tt, fits_acts c depth n t site more k d.4 s h))
 fits_acts c depth n t site (Return e) k d s h = fits_tested c depth n t e 3 site Leave d.0 d.1 (omega arith) s tt

@@ -13,11 +13,11 @@ use Rattle.td_verify.specs.declared.bracket.Bracket.TheVariants.{Window as Opene
 use Rattle.td_verify.specs.Brackets.{shape_at, opened}
 use Rattle.td_verify.specs.Rules.{own_weight, counts_twice, cost, weigh, deepest, calls_deep}
 use Rattle.td_verify.specs.Brackets.{in_loop}
-use Rattle.td_acceptance.proofs.Verifier.{weigh_next}
 use Rattle.td_blocks.specs.Block.{Block, Done, Then, Stop, Leave, Guard, Scope, Window, Loop, size, guard, Stands}
 use Rattle.td_acceptance.specs.Nesting.{Level, Outside, InWindow, InLoop, IsPlain, IsStop, Nests, twice, weight, CallsBelow}
 use Rattle.td_acceptance.proofs.Levels.{IsLevel, is_looping}
 use Rattle.td_acceptance.proofs.Through.{through, shape_is, opened_after, opened_plain, opened_guard, opened_window, in_window_level, in_loop_level}
+use Rattle.td_verify.proofs.Sums.{weigh_next}
 
 loop_is : (l : Level) (bs : List Bracket) → IsLevel l bs → in_loop (Some bs) ≡ is_looping l
 loop_is Outside [] h = refl

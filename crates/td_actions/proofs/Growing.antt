@@ -1,4 +1,4 @@
--- The scope inside a block begins with the scope around it.
+-- The scope inside a block begins with the scope around it. Cited by other crates.
 use Rattle.std.proofs.Common.{◌≡◌, ℕ, Bool, true, false, if◌then◌else◌, List, [], ◌∷◌, ◌++◌, length, take, is_some, refl, sym, ap, ◌∙◌, append_assoc}
 use Rattle.std.proofs.lemmas.List.{append-nil}
 use Rattle.td_ast.specs.Statements.{Statement, Store, StoreField, Var, If, IfElse, Return, Abort, Statements, End, More}
@@ -33,7 +33,7 @@ further s t u h k = record {
   this = k.this ∙ h.this;
 }
 
-declared_more : (es : List (List ℕ × Local)) (name : List ℕ) (l : Local) → (more : List (List ℕ × Local)) × (declared es name l ≡ es ++ more)
+pub declared_more : (es : List (List ℕ × Local)) (name : List ℕ) (l : Local) → (more : List (List ℕ × Local)) × (declared es name l ≡ es ++ more)
 declared_more es name l = by (is_some (looked_up es name))
   where
     by : (b : Bool) → (more : List (List ℕ × Local)) × ((if b then es else es ++ (name, l) ∷ []) ≡ es ++ more)
@@ -70,7 +70,7 @@ grows : (k : Known) (s : Scope) (b : Statements) → Grows s (block_scope k s b)
 grows k s End = same s
 grows k s (More x rest) = further s (scope_after k s x) (block_scope k (scope_after k s x) rest) (grows_after k s x) (grows k (scope_after k s x) rest)
 
-take_all : {A : Type 0} (xs ys : List A) → take (length xs) (xs ++ ys) ≡ xs
+pub take_all : {A : Type 0} (xs ys : List A) → take (length xs) (xs ++ ys) ≡ xs
 take_all [] ys = refl
 take_all (x ∷ xs) ys = ap (λ t. x ∷ t) (take_all xs ys)
 

@@ -1,18 +1,8 @@
 -- What one turn of a loop over a list leaves to the rest.
-use Rattle.std.proofs.Common.{◌≡◌, ℕ, zero, suc, ◌+◌, ◌<◌, ◌≤◌, List, [], ◌∷◌, length, drop, get_or, sym, subst, ap, ◌∙◌, arith}
-use Rattle.std.proofs.Math.Seq.{drop-cons}
-use Rattle.std.proofs.Math.ListN.{drop_of_length-le}
+use Rattle.std.proofs.Common.{◌≡◌, ℕ, zero, suc, ◌+◌, ◌<◌, ◌≤◌, List, [], ◌∷◌, length, drop, get_or, sym, subst, ap, arith}
 use Rattle.td_ast.specs.Statements.{Statement, End, More, block_of, statement_size, list_size}
-
--- what is left begins with the item of this turn
-pub split : {A : Type 0} (xs : List A) (i : ℕ) (x : A) → i < length xs → x ≡ get_or xs i x → drop i xs ≡ x ∷ drop (i + 1) xs
-split xs i x h e =
-    let later : suc i ≡ i + 1 = omega arith in
-    drop-cons xs i x h ∙ ap (λ y. y ∷ drop (suc i) xs) (sym e) ∙ ap (λ n. x ∷ drop n xs) later
-
--- nothing is left
-pub done : {A : Type 0} (xs : List A) (i : ℕ) → length xs ≤ i → drop i xs ≡ []
-done xs i h = drop_of_length-le xs h
+use Rattle.td_num.proofs.Truths.{all_dropped as done}
+use Rattle.td_num.proofs.Lists.{drop_next as split}
 
 -- the same of a block
 pub split_block : (xs : List Statement) (i : ℕ) (x : Statement) → i < length xs → x ≡ get_or xs i x → block_of (drop i xs) ≡ More x (block_of (drop (i + 1) xs))

@@ -19,7 +19,8 @@ use td_core::outcome::TraceFrame;
 use td_live::gate::Gate;
 use td_live::slot::validate_slot;
 use td_posts::job::HostJob;
-use td_posts::mail::{Mail, mail_named};
+use td_posts::laws::each_mail_is_named;
+use td_posts::mail::{Mail, mail_of};
 use td_posts::reply::Reply;
 use td_ring::naming::Naming;
 use td_ring::passes::TakePass;
@@ -112,6 +113,7 @@ fn answer<G: Gate>(
     ensures read { HasLoaded (layout_in mails.now result) seat.old seat.new result.loads.list }
     ensures memory { (vec_capacity result.trace ≡ vec_capacity post.room.trace) × (vec_capacity result.cells ≡ vec_capacity post.room.cells) }
 {
+    each_mail_is_named();
     fitting_cells_have_room();
     let Post {
         name,
@@ -127,7 +129,7 @@ fn answer<G: Gate>(
         mut cells,
         mut loads,
     } = room;
-    let Some(mail) = mail_named(mails, name) else {
+    let Some(mail) = mail_of(mails, name) else {
         unreachable!()
     };
     let single = at_word(shared, mail);

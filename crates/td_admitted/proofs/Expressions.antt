@@ -11,7 +11,7 @@ use Rattle.td_ast.specs.Trees as tree
 use Rattle.td_ast.specs.Statements.{Statement, Store, StoreField, Var, If, IfElse, Return, Abort, Statements, End, More, block_of}
 use Rattle.td_limits.specs.Nodes as text
 use Rattle.td_core.specs.declared.expressions.Scalar.{Scalar}
-use Rattle.td_core.specs.Term.{Term, number, name, complement, negation, compute, compare, both, either, choice, range_okay, measure, Deed, set}
+use Rattle.td_core.specs.Term.{Term, number, measure, Deed, set}
 use Rattle.td_core.specs.Types.{bits, limit, type_of, wider}
 use Rattle.td_core.specs.Weights.{option_nodes, deed_nodes, action_nodes}
 use Rattle.td_core.specs.Formed.{scalar_of}
@@ -30,20 +30,9 @@ use Rattle.td_rules.specs.declared.known.Scope.{Scope}
 use Rattle.td_rules.specs.Known.{found_in}
 use Rattle.td_rules.specs.Sorts.{operation, narrowest, literal_type, sort_of, size_named, literal_of, found_core, start_core, size_core, truth_core, beside, unary_core, operation_core, range_core, core_of, option_core}
 use Rattle.td_rules.specs.Actions.{stored_cell, stored_slot, scope_after, inside, set_core, read_core, statement_core, block_core, action_core}
+use Rattle.td_core.proofs.Nodes.{some_node}
 
 -- ---- expressions
-
-some_node : (e : Term) → 1 ≤ measure e
-some_node (number n w) = omega arith
-some_node (name i w most) = omega arith
-some_node (complement a) = omega arith
-some_node (negation a) = omega arith
-some_node (compute op s a b) = omega arith
-some_node (compare r a b) = omega arith
-some_node (both a b) = omega arith
-some_node (either a b) = omega arith
-some_node (choice c a b) = omega arith
-some_node (range_okay s o a) = omega arith
 
 literal_node : (n : ℕ) (w : Scalar) → measure (literal_of n w) ≡ 1
 literal_node n w = by (nat_lt n (limit w))

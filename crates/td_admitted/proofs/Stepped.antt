@@ -1,5 +1,5 @@
 -- The steps of arrays are the sizes of their elements.
-use Rattle.std.proofs.Common.{◌≡◌, ℕ, List, [], ◌∷◌, ◌++◌, refl, sym, subst, Option, Some, None}
+use Rattle.std.proofs.Common.{◌≡◌, ℕ, List, [], ◌∷◌, refl, sym, subst, Option, Some, None}
 use Rattle.td_num.specs.Numbers.{bytes_in}
 use Rattle.td_num.specs.declared.number.Width.{Width}
 use Rattle.td_num.specs.declared.number.Width.TheVariants.{One, Two, Four, Eight}
@@ -16,11 +16,9 @@ use Rattle.td_core.specs.Term.{Term}
 use Rattle.td_core.specs.declared.module.Element.{Element}
 use Rattle.td_core.specs.declared.module.Element.TheVariants as element
 use Rattle.td_core.specs.declared.module.TypeDef.{TypeDef}
-use Rattle.td_core.specs.declared.module.Module.{Module}
 use Rattle.td_core.specs.WellFormed.{OfSome, EachField}
 use Rattle.td_kinds.specs.Kinds.{constant_size, exactly}
 use Rattle.td_sizes.specs.Sizes.{IsStepOf, HasSteps, IsFieldStepped}
-use Rattle.td_rules.specs.declared.fields.FlatField.{FlatField}
 use Rattle.td_rules.specs.declared.known.Known.{Known}
 use Rattle.td_rules.specs.declared.known.Scope.{Scope}
 use Rattle.td_rules.specs.Known.{nothing_known}
@@ -32,8 +30,9 @@ use Rattle.td_rules.specs.Enums.{next_value, item_value, with_item, items_after,
 use Rattle.td_rules.specs.Casetypes.{cases_core, default_core}
 use Rattle.td_rules.specs.Definitions.{struct_head, struct_scope, struct_core, casetype_head, casetype_core, after, known_after}
 use Rattle.td_rules.specs.Modules.{names_of, module_of}
-use Rattle.td_rules.proofs.Whole.{each_append, gathered_each}
+use Rattle.td_rules.proofs.Whole.{gathered_each}
 use Rattle.td_admitted.specs.Laws.{StepsAreSizes}
+use Rattle.td_num.proofs.Lists.{each_append}
 
 step_is : (k : Known) (e : Element) → IsStepOf e (step_of k e)
 step_is k (element.Number t) = by t.width

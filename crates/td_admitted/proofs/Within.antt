@@ -1,9 +1,7 @@
 -- The limits of a text are limits of its module.
-use Rattle.std.proofs.Common.{◌≡◌, ℕ, ◌+◌, ◌≤◌, Bool, true, false, cond, List, [], ◌∷◌, ◌++◌, length, map, Option, Some, None, refl, sym, subst, arith, nat_lt, length-append}
-use Rattle.std.proofs.lemmas.Bool.{ltb-false}
+use Rattle.std.proofs.Common.{◌≡◌, ℕ, ◌+◌, ◌≤◌, Bool, List, [], ◌∷◌, ◌++◌, length, map, Option, Some, None, refl, sym, subst, arith, length-append}
 use Rattle.std.proofs.lemmas.List.{length-map}
 use Rattle.td_num.specs.Lists.{Each}
-use Rattle.td_ast.specs.declared.token.Span.{Span}
 use Rattle.td_ast.specs.declared.definitions.ItemTree.{ItemTree}
 use Rattle.td_ast.specs.declared.definitions.Def.{Def}
 use Rattle.td_ast.specs.declared.definitions.Def.TheVariants.{Define, Enum, Alias, Struct, Casetype, Output}
@@ -11,9 +9,7 @@ use Rattle.td_ast.specs.declared.definitions.ModuleTree.{ModuleTree}
 use Rattle.td_ast.specs.declared.names.PlainTree.{PlainTree}
 use Rattle.td_ast.specs.declared.names.PlainTree.TheVariants as plain
 use Rattle.td_names.specs.Names.{looked_up, declared}
-use Rattle.td_limits.specs.declared.limits.Limit.{Limit}
 use Rattle.td_limits.specs.declared.limits.Limit.TheVariants as limit
-use Rattle.td_limits.specs.declared.limits.Excess.{Excess}
 use Rattle.td_limits.specs.declared.measures.Measure.{Measure}
 use Rattle.td_limits.specs.Excesses.{above, first_excess, definition_name}
 use Rattle.td_limits.specs.Measures.{Measures}
@@ -43,27 +39,18 @@ use Rattle.td_admitted.proofs.Fields.{total_append}
 use Rattle.td_admitted.proofs.Below.{last, most}
 use Rattle.td_admitted.proofs.Linked.{AreLinked, IsMeasured, slots_last, linked_definition, linked_record, linked_name, type_deep, type_heavy, type_there}
 use Rattle.td_admitted.proofs.Definitions.{IsSmaller, struct_smaller, casetype_smaller}
+use Rattle.td_num.proofs.Lists.{each_append}
+use Rattle.td_limits.proofs.Counting.{none_both, above_none as not_above}
 
 -- ---- limits that aren't passed
 
-none_both : (xs ys : List Excess) → first_excess (xs ++ ys) ≡ None → (first_excess xs ≡ None) × (first_excess ys ≡ None)
-none_both [] ys h = (refl, h)
-none_both (x ∷ xs) ys h = absurd cc
-
-not_above : (n m : ℕ) (l : Limit) (s : Span) → first_excess (above n m l s) ≡ None → m ≤ n
-not_above n m l s h = by (nat_lt n m) refl h
-  where
-    by : (b : Bool) → nat_lt n m ≡ b → first_excess (cond b (record { limit = l; span = s } ∷ []) []) ≡ None → m ≤ n
-    by true e k = absurd cc
-    by false e k = ltb-false n m e
-
 -- a definition of the tree that passes no limit, as the n-th and with so many nodes up to its end
 record DefWithin (n total : ℕ) (known : Measures) (d : Def) : Type 0 where
-  definitions : n ≤ 1000
+  definitions : n ≤ 4000
   fields : most_fields d ≤ 256
   cases : count_cases d ≤ 256
   params : count_params d ≤ 16
-  nodes : total ≤ 20000
+  nodes : total ≤ 60000
   cells : weights.count_cells known d ≤ 64
   depth : 1 + uses_depth known d ≤ 32
   weight : weights.definition_weight known d ≤ 1099511627776
@@ -72,18 +59,19 @@ def_within : (n nodes : ℕ) (known : Measures) (d : Def) → first_excess (defi
     → first_excess (definition_sizes (weights.count_cells known d) (measure_of known d) d) ≡ None → DefWithin n nodes known d
 def_within n nodes known d c z =
     let s = (definition_name d).span in
-    let c1 = none_both (above 1000 n limit.Definitions s) _ c in
+    let c1 = none_both (above 4000 n limit.Definitions s) _ c in
     let c2 = none_both (above 256 (most_fields d) limit.Fields s) _ c1.1 in
     let c3 = none_both (above 256 (count_cases d) limit.Cases s) _ c2.1 in
     let c4 = none_both (above 16 (count_params d) limit.Parameters s) _ c3.1 in
+    let c5 = none_both (above 60000 nodes limit.Nodes s) _ c4.1 in
     let z1 = none_both (above 64 (weights.count_cells known d) limit.Cells s) _ z in
     let z2 = none_both (above 32 (1 + uses_depth known d) limit.Depth s) _ z1.1 in
     record {
-      definitions = not_above 1000 n limit.Definitions s c1.0;
+      definitions = not_above 4000 n limit.Definitions s c1.0;
       fields = not_above 256 (most_fields d) limit.Fields s c2.0;
       cases = not_above 256 (count_cases d) limit.Cases s c3.0;
       params = not_above 16 (count_params d) limit.Parameters s c4.0;
-      nodes = not_above 20000 nodes limit.Nodes s c4.1;
+      nodes = not_above 60000 nodes limit.Nodes s c5.0;
       cells = not_above 64 (weights.count_cells known d) limit.Cells s z1.0;
       depth = not_above 32 (1 + uses_depth known d) limit.Depth s z2.0;
       weight = not_above 1099511627776 (weights.definition_weight known d) limit.Weight s z2.1;
@@ -98,10 +86,6 @@ record KnownWithin (k : Known) (known : Measures) (total : ℕ) : Type 0 where
   depths : (n : ℕ) → depth_of k.definitions n ≤ 32
   weights : (n : ℕ) → weight_of k.definitions n ≤ 1099511627776
   linked : AreLinked k.definitions k.records k.globals known
-
-each_append : {A : Type 0} (P : A → Type 0) (xs ys : List A) → Each P xs → Each P ys → Each P (xs ++ ys)
-each_append P [] ys h g = g
-each_append P (x ∷ xs) ys h g = (h.0, each_append P xs ys h.1 g)
 
 -- items
 record SameTypes (a b : Known) : Type 0 where
@@ -256,13 +240,13 @@ count_after names k (Output d) = refl
 
 record IsAllWithin (k : Known) : Type 0 where
   few : length k.definitions ≤ k.count
-  count : k.count ≤ 1000
+  count : k.count ≤ 4000
   each : Each DefinitionWithin k.definitions
-  nodes : definitions_nodes k.definitions ≤ 20000
+  nodes : definitions_nodes k.definitions ≤ 60000
   depths : (n : ℕ) → depth_of k.definitions n ≤ 32
   weights : (n : ℕ) → weight_of k.definitions n ≤ 1099511627776
 
-all_within : (names : List (List ℕ)) (k : Known) (known : Measures) (nodes : ℕ) (ds : List Def) → KnownWithin k known nodes → k.count ≤ 1000 → nodes ≤ 20000
+all_within : (names : List (List ℕ)) (k : Known) (known : Measures) (nodes : ℕ) (ds : List Def) → KnownWithin k known nodes → k.count ≤ 4000 → nodes ≤ 60000
     → first_excess (count_excesses k.count nodes ds) ≡ None → first_excess (size_excesses known ds) ≡ None → IsAllWithin (known_after names k ds)
 all_within names k known nodes [] h count few c z = record { few = h.few; count = count; each = h.each; nodes = omega (arith, h.nodes, few); depths = h.depths; weights = h.weights }
 all_within names k known nodes (d ∷ ds) h count few c z =
@@ -290,7 +274,7 @@ modules_are_within t m h s =
     subst IsWithin (sym s.1) (record { written = w.count; definitions = w.few; each = w.each })
 
 pub nodes_are_within : NodesAreWithin
-nodes_are_within t m h s = subst (λ x. definitions_nodes x.definitions ≤ 20000) (sym s.1) (tree_within t h).nodes
+nodes_are_within t m h s = subst (λ x. definitions_nodes x.definitions ≤ 60000) (sym s.1) (tree_within t h).nodes
 
 pub depths_are_within : DepthsAreWithin
 depths_are_within t m h s = subst (λ x. (n : ℕ) → depth_of x.definitions n ≤ 32) (sym s.1) (tree_within t h).depths

@@ -1,3 +1,4 @@
+-- Cited by other crates.
 -- In an admitted module each expression that the meaning evaluates is sound.
 use Rattle.std.proofs.Common.{◌≡◌, ℕ, zero, suc, ◌+◌, ◌<◌, List, [], ◌∷◌, ◌++◌, length, refl, sym, subst, arith, Some, None, slice_get, length-append, append_assoc}
 use Rattle.std.proofs.lemmas.Option.{none-some, same_Some, slice_get_within}
@@ -13,7 +14,7 @@ use Rattle.td_arith.specs.Laws.{EvaluatedIsSound}
 use Rattle.td_arith.proofs.Fitting.{Stand, fit_length}
 use Rattle.td_arith.proofs.Definitions.{all_good}
 
-each_safe : (ds : List TypeDef) (n : ℕ) (d : TypeDef) → definitions_unsafe ds ≡ None → slice_get ds n ≡ Some d → definition_unsafe d ≡ None
+pub each_safe : (ds : List TypeDef) (n : ℕ) (d : TypeDef) → definitions_unsafe ds ≡ None → slice_get ds n ≡ Some d → definition_unsafe d ≡ None
 each_safe [] n d u e = absurd (none-some d e)
 each_safe (x ∷ ds) zero d u e =
     let h = neither (definition_unsafe x) (definitions_unsafe ds) u in
@@ -25,7 +26,7 @@ at_end [] b after = refl
 at_end (x ∷ before) b after = at_end before b after
 
 -- each cell stands for itself
-stand_after : (before bs : List Bound) → Stand (before ++ bs) bs (places_from (length before) (length bs))
+pub stand_after : (before bs : List Bound) → Stand (before ++ bs) bs (places_from (length before) (length bs))
 stand_after before [] = tt
 stand_after before (b ∷ bs) =
     let count : length (before ++ b ∷ []) ≡ length before + 1 = length-append before (b ∷ []) in

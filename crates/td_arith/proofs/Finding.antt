@@ -1,5 +1,5 @@
 -- The first of what was found and what is left.
-use Rattle.std.proofs.Common.{◌≡◌, ℕ, suc, ◌+◌, ◌<◌, List, ◌∷◌, length, get_or, drop, drop-cons, add-one, refl, sym, ap, ◌∙◌, Option, Some, None}
+use Rattle.std.proofs.Common.{◌≡◌, ℕ, ◌+◌, ◌<◌, List, length, get_or, drop, refl, sym, ap, ◌∙◌, Option, Some, None}
 use Rattle.td_core.specs.Term.{Term}
 use Rattle.td_core.specs.declared.module.Part.{Part}
 use Rattle.td_core.specs.declared.module.Field.{Field}
@@ -9,6 +9,7 @@ use Rattle.td_expr.specs.declared.safety.Unsafe.{Unsafe}
 use Rattle.td_expr.specs.Facts.{Fact}
 use Rattle.td_expr.specs.Safe.{first, first_unsafe}
 use Rattle.td_arith.specs.SafeModule.{known_after, list_unsafe, part_unsafe, parts_unsafe, known_after_parts, field_unsafe, fields_unsafe, cases_unsafe, definition_unsafe, definitions_unsafe}
+use Rattle.td_num.proofs.Lists.{drop_next as next}
 
 pub first_assoc : (a b c : Option Unsafe) → first (first a b) c ≡ first a (first b c)
 first_assoc None b c = refl
@@ -17,9 +18,6 @@ first_assoc (Some u) b c = refl
 pub first_none : (a : Option Unsafe) → first a None ≡ a
 first_none None = refl
 first_none (Some u) = refl
-
-pub next : {A : Type 0} (xs : List A) (i : ℕ) (x : A) → i < length xs → x ≡ get_or xs i x → drop i xs ≡ x ∷ drop (i + 1) xs
-next xs i x low is = drop-cons xs i x low ∙ ap (λ y. y ∷ drop (suc i) xs) (sym is) ∙ ap (λ j. x ∷ drop j xs) (sym (add-one i))
 
 -- one more was looked at
 pub found_more : (found own more here rest whole : Option Unsafe) → more ≡ first found own → own ≡ here → first found (first here rest) ≡ whole → first more rest ≡ whole

@@ -1,3 +1,4 @@
+-- Cited by other crates.
 -- Numbers within bounds.
 use Rattle.std.proofs.Common.{◌≡◌, ℕ, zero, suc, ◌≤◌, List, [], ◌∷◌, ◌++◌, length, refl, sym, ap, ◌∙◌, subst, Some, slice_get, slice_index, slice_set}
 use Rattle.std.proofs.lemmas.Option.{none-some, same_Some}

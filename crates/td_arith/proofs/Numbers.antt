@@ -1,10 +1,10 @@
+-- Cited by other crates.
 -- The numbers that fields bring into scope.
-use Rattle.std.proofs.Common.{◌≡◌, ℕ, zero, suc, ◌+◌, ◌-◌, ◌*◌, ◌/◌, ◌^◌, ◌<◌, ◌≤◌, List, slice_index, refl, sym, ap, ◌∙◌, arith, lit<, Option, Some, None}
-use Rattle.std.proofs.Math.Nat.{mul-suc, mul-le-mul_right, mul_assoc, mul_comm, div-le_self, mod-le}
-use Rattle.std.proofs.lemmas.Nat.{pow-add, pow_pos, mod_below}
+use Rattle.std.proofs.Common.{◌≡◌, ℕ, zero, suc, ◌+◌, ◌-◌, ◌*◌, ◌/◌, ◌^◌, ◌<◌, ◌≤◌, List, slice_index, sym, ap, ◌∙◌, arith, lit<, Option, Some, None}
+use Rattle.std.proofs.Math.Nat.{mul-le-mul_right, mul_assoc, mul_comm, div-le_self, mod-le}
+use Rattle.std.proofs.lemmas.Nat.{pow_pos, mod_below}
 use Rattle.td_num.specs.Numbers.{bytes_in, rising_at, falling_on, ordered_at, number_at}
 use Rattle.td_num.specs.declared.number.Width.{Width}
-use Rattle.td_num.specs.declared.number.Width.TheVariants.{One, Two, Four, Eight}
 use Rattle.td_num.specs.declared.number.ByteOrder.{ByteOrder}
 use Rattle.td_num.specs.declared.number.ByteOrder.TheVariants.{LittleEndian, BigEndian}
 use Rattle.td_num.specs.declared.number.NumberType.{NumberType}
@@ -17,9 +17,8 @@ use Rattle.td_core.specs.declared.module.Bits.{Bits}
 use Rattle.td_core.specs.Types.{limit}
 use Rattle.td_core.specs.Formed.{scalar_of, bits_bound, part_bound}
 use Rattle.td_meaning.specs.Meaning.{bits_of, field_number}
-
-power : (k : ℕ) → 2 ^ (8 * suc k) ≡ 256 * 2 ^ (8 * k)
-power k = rw mul-suc (rw pow-add (omega arith))
+use Rattle.td_num.proofs.Digits.{power_of_bytes as power}
+use Rattle.td_expr.proofs.Widths.{limit_of_bytes as limit_is}
 
 rising_small : (bytes : List ℕ) → AreBytes bytes → (p w : ℕ) → rising_at bytes p w < 2 ^ (8 * w)
 rising_small bytes small p zero = lit< tt
@@ -46,23 +45,17 @@ ordered_small : (bytes : List ℕ) → AreBytes bytes → (o : ByteOrder) (p w :
 ordered_small bytes small LittleEndian p w = rising_small bytes small p w
 ordered_small bytes small BigEndian p w = omega (arith, falling_small bytes small 0 p w)
 
-limit_is : (w : Width) → limit (scalar_of w) ≡ 2 ^ (8 * bytes_in w)
-limit_is One = refl
-limit_is Two = refl
-limit_is Four = refl
-limit_is Eight = refl
-
 number_small : (bytes : List ℕ) → AreBytes bytes → (type : NumberType) (p : ℕ) → number_at type bytes p ≤ limit (scalar_of type.width) - 1
 number_small bytes small type p =
     let h = ordered_small bytes small type.order p (bytes_in type.width) in
     let e = limit_is type.width in
     omega (arith, h, e)
 
-bits_small : (width : Width) (bits : Option Bits) (n : ℕ) → n ≤ limit (scalar_of width) - 1 → bits_of bits n ≤ (bits_bound width bits).most
+pub bits_small : (width : Width) (bits : Option Bits) (n : ℕ) → n ≤ limit (scalar_of width) - 1 → bits_of bits n ≤ (bits_bound width bits).most
 bits_small width None n h = h
 bits_small width (Some bits) n h = let below = mod_below (n / 2 ^ bits.low) (2 ^ bits.width) (pow_pos bits.width) in omega (arith, below)
 
-no_bits : (bits : Option Bits) → bits_of bits 0 ≤ 0
+pub no_bits : (bits : Option Bits) → bits_of bits 0 ≤ 0
 no_bits None = omega arith
 no_bits (Some bits) = omega (arith, mod-le (0 / 2 ^ bits.low) (2 ^ bits.width), div-le_self 0 (2 ^ bits.low))
 

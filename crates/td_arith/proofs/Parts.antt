@@ -1,3 +1,4 @@
+-- Cited by other crates.
 -- Each expression of the parts of a field is sound.
 use Rattle.std.proofs.Common.{◌≡◌, ℕ, ◌^◌, ◌<◌, ◌≤◌, true, List, [], ◌∷◌, ◌++◌, refl, ◌∙◌, arith, Option, Some, None}
 use Rattle.td_core.specs.Term.{Term, Deed}
@@ -43,7 +44,7 @@ ended_fits all (On cells) start q h = (refl, h)
 ended_fits all (Returned value cells) start q h = on_demanded ActionFails value start q cells (λ r cells. (r ≡ q) × AllFit all cells) (λ t. (refl, h))
 ended_fits all (Aborted cells) start q h = tt
 
-action_sound : (all bounds : List Bound) (places : List ℕ) (scope : List Bound) (facts : List Fact) (env : List ℕ) (action : Option Deed) (start q : ℕ) (cells : List ℕ)
+pub action_sound : (all bounds : List Bound) (places : List ℕ) (scope : List Bound) (facts : List Fact) (env : List ℕ) (action : Option Deed) (start q : ℕ) (cells : List ℕ)
     → Stand all bounds places → IsActionFormed bounds scope action → State scope facts env → action_unsafe facts action ≡ None → start < 2 ^ 32 → AllFit all cells
     → OnAction Sound action env places start cells × OnEnding (acted action env places start q cells).ending (λ r cells. (r ≡ q) × AllFit all cells)
 action_sound all bounds places scope facts env None start q cells st form s u low f = (tt, (refl, f))

@@ -1,3 +1,4 @@
+-- Cited by other crates.
 -- Each expression that a field's shape evaluates is sound, and a field ends before the end.
 use Rattle.std.proofs.Common.{◌≡◌, ℕ, zero, suc, ◌+◌, ◌-◌, ◌/◌, ◌^◌, ◌<◌, ◌≤◌, Bool, true, false, cond, min, List, [], ◌∷◌, length, map, refl, sym, ap, subst, arith, Option, Some, None, slice_get, slice_index, nat_eq}
 use Rattle.std.proofs.lemmas.Option.{none-some, same_Some}
@@ -32,7 +33,7 @@ IsGood message params cells sense through =
     (all : List Bound) (args places more : List ℕ) (p end : ℕ) → AllFit params args → Stand all cells places → AllFit all more → p ≤ end → end < 2 ^ 32
     → through args places more message p end × OnEnding (sense args places more message p end).ending (Between all p end)
 
-args_fit : (scope : List Bound) (facts : List Fact) (env : List ℕ) (bs : List Bound) (args : List Term) → AreArgsFormed scope bs args → State scope facts env → list_unsafe facts args ≡ None
+pub args_fit : (scope : List Bound) (facts : List Fact) (env : List ℕ) (bs : List Bound) (args : List Term) → AreArgsFormed scope bs args → State scope facts env → list_unsafe facts args ≡ None
     → OnAll Sound args env × AllFit bs (values args env)
 args_fit scope facts env [] [] form s u = (tt, tt)
 args_fit scope facts env [] (e ∷ es) form s u = absurd form
@@ -43,7 +44,7 @@ args_fit scope facts env (b ∷ bs) (e ∷ es) form s u =
     let rest = args_fit scope facts env bs es form.1.1 s h.1 in
     ((g, rest.0), (number_fits env e b.most g form.1.0, rest.1))
 
-cells_stand : (all bounds : List Bound) (places : List ℕ) (bs : List Bound) (own : List ℕ) → AreCellsFormed bounds bs own → Stand all bounds places → Stand all bs (map (slice_index places) own)
+pub cells_stand : (all bounds : List Bound) (places : List ℕ) (bs : List Bound) (own : List ℕ) → AreCellsFormed bounds bs own → Stand all bounds places → Stand all bs (map (slice_index places) own)
 cells_stand all bounds places [] [] form st = tt
 cells_stand all bounds places [] (k ∷ ks) form st = absurd form
 cells_stand all bounds places (b ∷ bs) [] form st = absurd form

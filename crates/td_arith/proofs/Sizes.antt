@@ -4,7 +4,6 @@ use Rattle.std.proofs.lemmas.Bool.{eqb-true, leb-true}
 use Rattle.std.proofs.lemmas.Option.{none-some, same_Some}
 use Rattle.std.proofs.Math.Nat.{div-mul-le_self, mul-le-mul_right}
 use Rattle.td_num.specs.Numbers.{bytes_in, number_at, places_from}
-use Rattle.td_num.specs.declared.number.NumberType.{NumberType}
 use Rattle.td_num.specs.Lists.{is_among}
 use Rattle.td_core.specs.Term.{Term, Deed}
 use Rattle.td_core.specs.declared.module.NameId.{NameId}
@@ -27,11 +26,12 @@ use Rattle.td_core.specs.declared.kind.Kind.{Kind}
 use Rattle.td_kinds.specs.Kinds.{up_to, exactly, at_least, on_both, joined, element_kind, sized_kind, field_kind, fields_kind, default_kind, spanned_with, cases_kind, body_kind, definition_kind, kinds_below, pick_kind}
 use Rattle.td_meaning.specs.Doing.{Effect, On, Returned, Aborted, doing, natural_of, is_true}
 use Rattle.td_meaning.specs.Naming.{is_needed}
-use Rattle.td_meaning.specs.Meaning.{Sense, values, values_of, taken, demanded, is_nonzero, byte_type, zeros_end, first_where, one_more, numbers_at, element_meaning, elements, divides, equals, zero_end, element_up_to_zero, shape_meaning, refined, ended, acted, checked, parts_meaning, bits_of, field_number, number_places, extended, field_place, where_place, first_name, fields_meaning, case_for, chosen_meaning, body_meaning, definition_meaning, below, pick}
+use Rattle.td_meaning.specs.Meaning.{Sense, values, values_of, taken, demanded, is_nonzero, byte_type, zeros_end, first_where, numbers_at, element_meaning, elements, divides, equals, zero_end, element_up_to_zero, shape_meaning, refined, ended, acted, checked, parts_meaning, bits_of, field_number, number_places, extended, field_place, where_place, first_name, fields_meaning, case_for, chosen_meaning, body_meaning, definition_meaning, below, pick}
 use Rattle.td_meaning.specs.Throughout.{OnEnding}
 use Rattle.td_kinds.specs.KindRules.{kinds_of}
 use Rattle.td_arith.specs.Sizes.{UpTo, Sized, SizesHold, ElementsMoveOn}
 use Rattle.td_meaning.proofs.Ending.{on_then, on_map, on_within, on_demanded}
+use Rattle.td_meaning.proofs.Filling.{found_below, count_of, on_accepted}
 
 abbrev IsSized : Kind → Sense → Type 0
 IsSized k sense = (args places cells message : List ℕ) (p end : ℕ) → p ≤ end → OnEnding (sense args places cells message p end).ending (Sized k p end)
@@ -109,22 +109,6 @@ sized_bytes size env p end q cells e le = by (constant_of size) refl
         let v : natural_of size env ≡ c = ap natural (constant_is size c env f) in
         let g : q ≡ p + c = e ∙ ap (λ x. p + x) v in
         (omega (arith, g), (le, most c g (nat_le c (2 ^ 32))))
-
-found_below : (test : ℕ → Bool) (xs : List ℕ) (k : ℕ) → first_where test xs ≡ Some k → k < length xs
-found_below test [] k e = absurd (none-some k e)
-found_below test (x ∷ xs) k e = by (found_below test xs) (test x) (first_where test xs) refl e
-  where
-    by : ((j : ℕ) → first_where test xs ≡ Some j → j < length xs) → (b : Bool) (o : Option ℕ) → first_where test xs ≡ o → cond b (Some 0) (one_more o) ≡ Some k → k < length (x ∷ xs)
-    by later true o h e = let z : 0 ≡ k = same_Some 0 k e in omega (arith, z)
-    by later false None h e = absurd (none-some k e)
-    by later false (Some j) h e =
-        let z : suc j ≡ k = same_Some (suc j) k e in
-        let rest = later j h in
-        omega (arith, z, rest)
-
-count_of : (type : NumberType) (message : List ℕ) (p m : ℕ) → length (numbers_at type message p m) ≡ m
-count_of type message p zero = refl
-count_of type message p (suc m) = ap suc (count_of type message (p + bytes_in type.width) m)
 
 zero_sized : (first : Option ℕ) (w bound end p : ℕ) (cells : List ℕ) → ((k : ℕ) → first ≡ Some k → k < min bound ((end - p) / w)) → p ≤ end
     → OnEnding (zero_end first w bound ((end - p) / w) p cells).ending (Sized (at_least w) p end)
@@ -345,9 +329,6 @@ all_sized sets ds (suc n) j = by (nat_eq j n) (definition_sized sets (kinds_belo
 
 pub sizes_hold : SizesHold
 sizes_hold m j args places cells message p end le = all_sized m.listed m.definitions (length m.definitions) j args places cells message p end le
-
-on_accepted : (o : Ending) (q : ℕ) (more : List ℕ) (P : ℕ → List ℕ → Type 0) → OnEnding o P → o ≡ Accepted q more → P q more
-on_accepted o q more P h is = let H : OnEnding (Accepted q more) P = subst (λ x. OnEnding x P) is h in H
 
 pub elements_move_on : ElementsMoveOn
 elements_move_on m element env places message start end least =

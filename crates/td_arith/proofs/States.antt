@@ -1,6 +1,6 @@
+-- Cited by other crates.
 -- What is known where an expression stands: the values in scope are within bounds, and the facts are of them and hold.
 use Rattle.std.proofs.Common.{◌≡◌, ℕ, suc, ◌+◌, ◌≤◌, Bool, true, false, List, [], ◌∷◌, ◌++◌, length, sym, subst, arith, None, length-append}
-use Rattle.std.proofs.lemmas.Option.{slice_get_within}
 use Rattle.td_core.specs.Term.{Term, number, name, complement, negation, compute, compare, both, either, choice, range_okay}
 use Rattle.td_core.specs.Types.{limit, type_of}
 use Rattle.td_expr.specs.Value.{value_of}
@@ -13,6 +13,7 @@ use Rattle.td_expr.proofs.Admitting.{admitted_is_sound}
 use Rattle.td_meaning.specs.Doing.{natural_of, is_true}
 use Rattle.td_core.specs.Formed.{Bound, AllFit, IsScoped}
 use Rattle.td_arith.proofs.Fitting.{get_fits, fit_length, fit_push}
+use Rattle.td_expr.proofs.Scoped.{scoped_placed as placed}
 
 pub known : (scope : List Bound) (env : List ℕ) (t : Term) → AllFit scope env → IsScoped scope t → Known t env
 known scope env (number n w) h s = s
@@ -25,18 +26,6 @@ known scope env (both a b) h s = (known scope env a h s.0, known scope env b h s
 known scope env (either a b) h s = (known scope env a h s.0, known scope env b h s.1)
 known scope env (choice c a b) h s = (known scope env c h s.0, (known scope env a h s.1.0, known scope env b h s.1.1))
 known scope env (range_okay c a b) h s = (known scope env c h s.0, (known scope env a h s.1.0, known scope env b h s.1.1))
-
-pub placed : (scope : List Bound) (t : Term) → IsScoped scope t → Placed (length scope) t
-placed scope (number n w) s = tt
-placed scope (name i w most) s = slice_get_within scope i (record { type = w; most = most }) s.0
-placed scope (complement a) s = placed scope a s
-placed scope (negation a) s = placed scope a s
-placed scope (compute op sp a b) s = (placed scope a s.0, placed scope b s.1)
-placed scope (compare r a b) s = (placed scope a s.0, placed scope b s.1)
-placed scope (both a b) s = (placed scope a s.0, placed scope b s.1)
-placed scope (either a b) s = (placed scope a s.0, placed scope b s.1)
-placed scope (choice c a b) s = (placed scope c s.0, (placed scope a s.1.0, placed scope b s.1.1))
-placed scope (range_okay c a b) s = (placed scope c s.0, (placed scope a s.1.0, placed scope b s.1.1))
 
 placed_append : (n : ℕ) (fs gs : List Fact) → AllPlaced n fs → AllPlaced n gs → AllPlaced n (fs ++ gs)
 placed_append n [] gs h k = k

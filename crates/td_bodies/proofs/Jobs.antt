@@ -1,16 +1,13 @@
 -- A job that is run by its module's code.
-use Rattle.std.proofs.Common.{◌≡◌, ℕ, ◌<◌, ◌≤◌, List, length, ◌∙◌, subst, sym, refl, Option, Some, None}
+use Rattle.std.proofs.Common.{◌≡◌, ℕ, ◌<◌, ◌≤◌, List, length, ◌∙◌, subst, sym, Option, Some, None}
 use Rattle.td_core.specs.declared.module.Module.{Module}
-use Rattle.td_core.specs.declared.module.Entry.{Entry}
-use Rattle.td_core.specs.declared.module.TypeDef.{TypeDef}
 use Rattle.td_core.specs.declared.outcome.Outcome.{Outcome}
 use Rattle.td_core.specs.Entries.{entry_definition}
-use Rattle.td_core.specs.Formed.{AllFit, params_at, cells_at}
+use Rattle.td_core.specs.Formed.{AllFit}
 use Rattle.td_stream.specs.declared.load.Load.{Load}
 use Rattle.td_front.specs.Checked.{IsChecked}
 use Rattle.td_job.specs.declared.run_job.RunJob.{RunJob}
 use Rattle.td_job.specs.Jobs.{HasRoom, HasValues}
-use Rattle.td_job.specs.Values.{args_bounds, cells_bounds}
 use Rattle.td_input.specs.Inputs.{IsSoundJob}
 use Rattle.td_sched.specs.declared.store.PlannedStore.{PlannedStore}
 use Rattle.td_ir.specs.declared.tables.Parts.{Parts}
@@ -26,10 +23,10 @@ use Rattle.std.proofs.lemmas.List.Elements.{All-weaker}
 use Rattle.td_stream.specs.declared.stretch.Stretch.{Stretch}
 use Rattle.td_stream.specs.Layouts.{count_in, counted, laid, plain, IsNumberOf, IsOver}
 use Rattle.td_stream.specs.Loads.{Inside, Carries}
-use Rattle.td_meaning.specs.Meaning.{meaning}
 use Rattle.td_meaning.specs.Throughout.{Throughout}
-use Rattle.td_leaves.specs.Outcomes.{IsBehaviorOf}
-use Rattle.td_bodies.specs.Meant.{IsMeant}
+use Rattle.td_leaves.specs.Outcomes.{IsMeant}
+use Rattle.td_bodies.specs.Meant.{IsJobMeant}
+use Rattle.td_input.proofs.Sounds.{same_args, same_cells}
 
 -- what lowering asks of a module holds of a checked one
 pub lowerable : (m : Module) → IsChecked m → IsLowerable m
@@ -43,14 +40,6 @@ lowerable m h = record {
   depth = h.depth;
   weight = h.weight;
 }
-
-same_args : (o : Option TypeDef) → args_bounds o ≡ params_at o
-same_args None = refl
-same_args (Some d) = refl
-
-same_cells : (o : Option TypeDef) → cells_bounds o ≡ cells_at o
-same_cells None = refl
-same_cells (Some d) = refl
 
 -- a job's values, and lists that are alike, fit its entry point's code
 pub job_fits : ArgumentsFit → (c : Parts) (m : Module) (job : RunJob) (args cells : List ℕ) → IsCodeOf c m → job.entry.number < length m.entries → HasValues m job
@@ -75,7 +64,7 @@ input_by job args cells words stores layout = record { entry = job.entry; args =
 
 -- a run by a module's code is meant
 pub run_is_meant : (c : Parts) (m : Module) (job : RunJob) (outcome : Outcome) (loads : List Load) (args cells words : List ℕ) (stores : List PlannedStore) (layout : Option (List Stretch)) → IsCodeOf c m → IsSoundJob m job → HasRoom job
-    → args ≡ job.args → cells ≡ job.cells → layout ≡ job.layout → IsRunBy c (input_by job args cells words stores layout) outcome loads → IsMeant m job outcome loads
+    → args ≡ job.args → cells ≡ job.cells → layout ≡ job.layout → IsRunBy c (input_by job args cells words stores layout) outcome loads → IsJobMeant m job outcome loads
 run_is_meant c m job outcome loads args cells words stores layout of sound room p q r run =
     let R : List ℕ → List ℕ → Option (List Stretch) → Type 0 = λ a z l. IsRunBy c (input_by job a z words stores l) outcome loads in
     let h : R job.args job.cells job.layout = subst (λ l. R job.args job.cells l) r (subst (λ z. R job.args z layout) q (subst (λ a. R a cells layout) p run)) in
@@ -94,10 +83,10 @@ numbered n (Some layout) loads h = h
 -- a run whose outcome is the meaning's, from lists that are alike, is meant
 pub outcome_is_meant : (m : Module) (job : RunJob) (loads : List Load) (args start left cells : List ℕ) (verdict : Verdict) (trace : List TraceFrame) (layout : List Stretch) → IsSoundJob m job → HasRoom job
     → layout ≡ laid job.length job.layout → args ≡ job.args → start ≡ job.cells → cells ≡ left
-    → ((b : List ℕ) → Carries layout b loads → Throughout Sound m job.entry args start b → IsBehaviorOf layout loads (meaning m job.entry args start b) (record { verdict = verdict; trace = trace; cells = left }))
-    → IsMeant m job (record { verdict = verdict; trace = trace; cells = cells }) loads
+    → ((b : List ℕ) → Carries layout b loads → Throughout Sound m job.entry args start b → IsMeant layout m job.entry args start b loads (record { verdict = verdict; trace = trace; cells = left }))
+    → IsJobMeant m job (record { verdict = verdict; trace = trace; cells = cells }) loads
 outcome_is_meant m job loads args start left cells verdict trace layout sound room o p q r told =
-    let R : List ℕ → List ℕ → List ℕ → List Stretch → Type 0 = λ a s z l. (b : List ℕ) → Carries l b loads → Throughout Sound m job.entry a s b → IsBehaviorOf l loads (meaning m job.entry a s b) (record { verdict = verdict; trace = trace; cells = z }) in
+    let R : List ℕ → List ℕ → List ℕ → List Stretch → Type 0 = λ a s z l. (b : List ℕ) → Carries l b loads → Throughout Sound m job.entry a s b → IsMeant l m job.entry a s b loads (record { verdict = verdict; trace = trace; cells = z }) in
     let h : R job.args job.cells cells (laid job.length job.layout) =
     subst (λ l. R job.args job.cells cells l) o (subst (λ z. R job.args job.cells z layout) (sym r) (subst (λ s. R job.args s left layout) q (subst (λ a. R a start left layout) p told))) in
     λ b bytes carried. h b carried (sound b bytes (carried.size ∙ room.long))

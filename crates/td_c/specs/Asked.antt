@@ -8,6 +8,8 @@ use Rattle.td_stream.specs.declared.stretch.Stretch.{Stretch}
 use Rattle.td_stream.specs.Layouts.{AreWithin}
 use Rattle.td_stream.specs.Loads.{buffered}
 use Rattle.td_ir.specs.declared.tables.Parts.{Parts}
+use Rattle.td_foreign.specs.declared.noted.TdLoad.{TdLoad}
+use Rattle.td_foreign.specs.Noted.{AreRows}
 use Rattle.td_ir.specs.Entries.{Fits}
 use Rattle.td_session.specs.Validated.{IsValidated}
 use Rattle.td_c.specs.declared.answers.Refusal.{Refusal}
@@ -45,23 +47,26 @@ IsCause c asked layout count Past = AreWithin count layout → ⊥
 IsCause c asked layout count NoEntry = AreWithin count layout × (length c.entries ≤ asked.entry)
 IsCause c asked layout count Unfit = AreWithin count layout × (asked.entry < length c.entries) × (IsAsked c asked layout count → ⊥)
 
--- position, reason and count of frames are those of a verdict with this trace
-pub record IsTold (v : Verdict) (trace : List TraceFrame) (after : TdCall) : Type 0 where
+-- position, reason, count of frames and count of loads are those of a verdict with this trace and these loads
+pub record IsTold (v : Verdict) (trace : List TraceFrame) (loads : List Load) (after : TdCall) : Type 0 where
   pub position : after.position ≡ position_told v
   pub reason : after.reason ≡ reason_told v
   pub frames : after.frame_count ≡ length trace
+  pub counted : after.load_count ≡ length loads
 
--- this answer was found, with these loads of the message's words, and these of the memory's
-pub record HasAnswered (c : Parts) (trace : List TraceFrame) (answer : Result Verdict Refusal) (loads made : List Load) (asked after : TdCall)
-    (layout : List Stretch) (count : ℕ) : Type 0 where
+-- this answer was found, with these loads of the message's words, these of the memory's, and these rows
+pub record HasAnswered (c : Parts) (trace : List TraceFrame) (answer : Result Verdict Refusal) (loads made : List Load) (rows : List TdLoad)
+    (asked after : TdCall) (layout : List Stretch) (count : ℕ) : Type 0 where
   -- a verdict is found just where what is asked can be validated
   pub asked_well : IsOk answer ↔ IsAsked c asked layout count
   -- the verdict is that of the code's run
   pub validated : IfOk answer (λ v. IsValidated c (entry_asked asked) (args_of asked) (cells_of asked) layout loads
       (record { verdict = v; trace = trace; cells = cells_of after }))
-  pub told : IfOk answer (λ v. IsTold v trace after)
+  pub told : IfOk answer (λ v. IsTold v trace loads after)
   -- else nothing was loaded
   pub refused : IfErr answer (λ r. IsCause c asked layout count r)
   pub unloaded : IfErr answer (λ r. loads ≡ [])
   -- the loads of the memory are those of the message, each by its word of the memory
   pub loaded : made ≡ buffered (Some layout) loads
+  -- the rows begin with these loads, as far as there is room for them
+  pub noted : AreRows layout loads rows

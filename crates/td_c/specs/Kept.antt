@@ -6,6 +6,7 @@ use Rattle.std.specs.Arc.{arc_value}
 use Rattle.td_image.specs.Answer.{IsImage}
 use Rattle.td_stream.specs.declared.load.Load.{Load}
 use Rattle.td_stream.specs.declared.stretch.Stretch.{Stretch}
+use Rattle.td_foreign.specs.declared.noted.TdLoad.{TdLoad}
 use Rattle.td_session.specs.declared.session.Session.{Session}
 use Rattle.td_c.specs.declared.handle.Slot.{Slot}
 use Rattle.td_c.specs.declared.call.TdCall.{TdCall}
@@ -30,15 +31,15 @@ code_stays (Some s) None = ⊥
 abbrev pub SameCode : Slot → Slot → Type 0
 SameCode a b = code_stays a.session b.session
 
-abbrev pub answered_by : Option Session → Option Session → Slot → TdCall → TdCall → List Stretch → ℕ → List Load → ℤ → Type 0
-answered_by (Some s) (Some t) slot asked after layout count made number =
-    HasAnswered (arc_value s.code) t.frame.trace slot.answer slot.made made asked after layout count × (number ≡ answer_number slot.answer)
-answered_by None t slot asked after layout count made number = number ≡ pos 3
-answered_by (Some s) None slot asked after layout count made number = ⊥
+abbrev pub answered_by : Option Session → Option Session → Slot → TdCall → TdCall → List Stretch → ℕ → List Load → List TdLoad → ℤ → Type 0
+answered_by (Some s) (Some t) slot asked after layout count made rows number =
+    HasAnswered (arc_value s.code) t.frame.trace slot.answer slot.made made rows asked after layout count × (number ≡ answer_number slot.answer)
+answered_by None t slot asked after layout count made rows number = number ≡ pos 3
+answered_by (Some s) None slot asked after layout count made rows number = ⊥
 
 -- a validation by the session of the first slot was answered by this number, and left the second slot
-abbrev pub IsAnswered : Slot → Slot → TdCall → TdCall → List Stretch → ℕ → List Load → ℤ → Type 0
-IsAnswered a b asked after layout count made number = answered_by a.session b.session b asked after layout count made number
+abbrev pub IsAnswered : Slot → Slot → TdCall → TdCall → List Stretch → ℕ → List Load → List TdLoad → ℤ → Type 0
+IsAnswered a b asked after layout count made rows number = answered_by a.session b.session b asked after layout count made rows number
 
 -- the slot holds no session
 abbrev pub IsClosed : Slot → Type 0

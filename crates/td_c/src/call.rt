@@ -2,9 +2,10 @@
 
 ghost use Rattle.std.specs.Prelude.{◌≡◌, ◌≤◌, ◌↔◌, [], Some, IsTrue, IfSome, IsSome, IsNone, take, length as size_of};
 ghost use Rattle.std.specs.Arc.{arc_value};
-ghost use Rattle.td_stream.specs.Layouts.{AreWithin};
+ghost use Rattle.td_stream.specs.Layouts.{AreWithin, count_in};
 ghost use Rattle.td_stream.specs.Loads.{buffered};
 ghost use Rattle.td_ir.specs.Entries.{Fits};
+ghost use Rattle.td_foreign.specs.Noted.{IsNoted};
 ghost use Rattle.td_session.specs.Validated.{IsValidated};
 ghost use Rattle.td_c.specs.Asked.{HasAnswered, SameQuestion, entry_asked, args_of, cells_of};
 ghost use Rattle.td_c.specs.Numbers.{position_told, reason_told};
@@ -12,9 +13,10 @@ ghost use Rattle.td_c.specs.Numbers.{position_told, reason_told};
 use crate::answers::{Answer, Refusal, reason_of};
 use td_core::module::Entry;
 use td_core::outcome::Verdict;
-use td_foreign::{ForeignWords, Made, TdWords};
+use td_foreign::{ForeignWords, Made, NotedWords, TdLoad, TdWords};
 use td_session::session::Session;
 use td_stream::layout::Layout;
+use td_stream::words::Words;
 
 /// What is asked, and what is answered.
 #[repr(C)]
@@ -32,9 +34,46 @@ pub struct TdCall {
     pub unused: u32,
     /// How many frames the failure has.
     pub frame_count: u64,
+    /// How many loads were made.
+    pub load_count: u64,
     pub args: [u64; 16],
     /// They begin as they are, and are left as the validation left them.
     pub cells: [u64; 64],
+}
+
+// What a validation found, the loads that it made, and how many, and the words again.
+#[derive(Drop)]
+struct Run {
+    verdict: Option<Verdict>,
+    made: Made,
+    count: u64,
+    words: TdWords,
+}
+
+// Validates a message that lies so in the words, and notes the loads: the verdict, and how many they are.
+fn run_noted<W: Words>(
+    session: &mut Session,
+    entry: Entry,
+    args: &[u64],
+    cells: &mut [u64],
+    layout: &Layout,
+    words: &mut W,
+    rows: &mut [TdLoad],
+) -> (Option<Verdict>, u64)
+    requires message { W.size words.old ≡ count_in layout.now }
+    requires fresh { W.loads words.old ≡ [] }
+    ensures code { arc_value session.new.code ≡ arc_value session.old.code }
+    ensures fits { IsSome result.0 ↔ Fits (arc_value session.old.code) entry args.now cells.old }
+    ensures validated { IfSome result.0 (λ v. IsValidated (arc_value session.old.code) entry args.now cells.old layout.now (W.loads words.new)
+        (record { verdict = v; trace = session.new.frame.trace; cells = cells.new })) }
+    ensures reaches { W.reaches words.old words.new }
+    ensures unloaded { IsNone result.0 → W.loads words.new ≡ [] }
+    ensures noted { IsNoted layout.now (W.loads words.new) result.1 rows.new }
+    ensures cells { size_of cells.new ≡ size_of cells.old }
+{
+    let mut noted = NotedWords::over(words, layout, rows);
+    let verdict = session.validate(entry, args, cells, layout, &mut noted);
+    (verdict, noted.load_count())
 }
 
 // Validates a message that lies so within the words, and gives the words back.
@@ -45,21 +84,28 @@ fn run_session(
     cells: &mut [u64],
     layout: &Layout,
     words: TdWords,
-) -> (Option<Verdict>, Made, TdWords)
+    rows: &mut [TdLoad],
+) -> Run
     requires inside { AreWithin words.count layout.now }
     requires fresh { words.made ≡ [] }
     ensures code { arc_value session.new.code ≡ arc_value session.old.code }
-    ensures fits { IsSome result.0 ↔ Fits (arc_value session.old.code) entry args.now cells.old }
-    ensures validated { IfSome result.0 (λ v. IsValidated (arc_value session.old.code) entry args.now cells.old layout.now result.1
+    ensures fits { IsSome result.verdict ↔ Fits (arc_value session.old.code) entry args.now cells.old }
+    ensures validated { IfSome result.verdict (λ v. IsValidated (arc_value session.old.code) entry args.now cells.old layout.now result.made
         (record { verdict = v; trace = session.new.frame.trace; cells = cells.new })) }
-    ensures unloaded { IsNone result.0 → result.1 ≡ [] }
-    ensures loaded { result.2.made ≡ buffered (Some layout.now) result.1 }
+    ensures unloaded { IsNone result.verdict → result.made ≡ [] }
+    ensures loaded { result.words.made ≡ buffered (Some layout.now) result.made }
+    ensures noted { IsNoted layout.now result.made result.count rows.new }
     ensures cells { size_of cells.new ≡ size_of cells.old }
 {
     let mut memory = ForeignWords::over(words, layout);
-    let verdict = session.validate(entry, args, cells, layout, &mut memory);
+    let (verdict, count) = run_noted(session, entry, args, cells, layout, &mut memory, rows);
     let (words, made) = memory.end();
-    (verdict, made, words)
+    Run {
+        verdict,
+        made,
+        count,
+        words,
+    }
 }
 
 // The same, of the first so many arguments and cells.
@@ -72,23 +118,24 @@ fn run_front(
     cell_count: usize,
     layout: &Layout,
     words: TdWords,
-) -> (Option<Verdict>, Made, TdWords)
+    rows: &mut [TdLoad],
+) -> Run
     requires inside { AreWithin words.count layout.now }
     requires fresh { words.made ≡ [] }
     requires args { arg_count ≤ size_of args.now }
     requires cells { cell_count ≤ size_of cells.old }
     ensures code { arc_value session.new.code ≡ arc_value session.old.code }
-    ensures fits { IsSome result.0 ↔ Fits (arc_value session.old.code) entry (take arg_count args.now) (take cell_count cells.old) }
-    ensures validated { IfSome result.0 (λ v. IsValidated (arc_value session.old.code) entry (take arg_count args.now) (take cell_count cells.old) layout.now result.1
+    ensures fits { IsSome result.verdict ↔ Fits (arc_value session.old.code) entry (take arg_count args.now) (take cell_count cells.old) }
+    ensures validated { IfSome result.verdict (λ v. IsValidated (arc_value session.old.code) entry (take arg_count args.now) (take cell_count cells.old) layout.now result.made
         (record { verdict = v; trace = session.new.frame.trace; cells = take cell_count cells.new })) }
-    ensures unloaded { IsNone result.0 → result.1 ≡ [] }
-    ensures loaded { result.2.made ≡ buffered (Some layout.now) result.1 }
+    ensures unloaded { IsNone result.verdict → result.made ≡ [] }
+    ensures loaded { result.words.made ≡ buffered (Some layout.now) result.made }
+    ensures noted { IsNoted layout.now result.made result.count rows.new }
     ensures size { size_of cells.new ≡ size_of cells.old }
 {
     let (mine, _) = args.split_at(arg_count);
     let (front, _) = cells.split_at_mut(cell_count);
-    let (verdict, made, words) = run_session(session, entry, mine, front, layout, words);
-    (verdict, made, words)
+    run_session(session, entry, mine, front, layout, words, rows)
 }
 
 // The same, of arguments and cells that there is room for in a call.
@@ -97,17 +144,19 @@ fn run_call(
     call: &mut TdCall,
     layout: &Layout,
     words: TdWords,
-) -> (Option<Verdict>, Made, TdWords)
+    rows: &mut [TdLoad],
+) -> Run
     requires inside { AreWithin words.count layout.now }
     requires fresh { words.made ≡ [] }
     requires args { call.old.arg_count ≤ 16 }
     requires cells { call.old.cell_count ≤ 64 }
     ensures code { arc_value session.new.code ≡ arc_value session.old.code }
-    ensures fits { IsSome result.0 ↔ Fits (arc_value session.old.code) (entry_asked call.old) (args_of call.old) (cells_of call.old) }
-    ensures validated { IfSome result.0 (λ v. IsValidated (arc_value session.old.code) (entry_asked call.old) (args_of call.old) (cells_of call.old) layout.now result.1
+    ensures fits { IsSome result.verdict ↔ Fits (arc_value session.old.code) (entry_asked call.old) (args_of call.old) (cells_of call.old) }
+    ensures validated { IfSome result.verdict (λ v. IsValidated (arc_value session.old.code) (entry_asked call.old) (args_of call.old) (cells_of call.old) layout.now result.made
         (record { verdict = v; trace = session.new.frame.trace; cells = cells_of call.new })) }
-    ensures unloaded { IsNone result.0 → result.1 ≡ [] }
-    ensures loaded { result.2.made ≡ buffered (Some layout.now) result.1 }
+    ensures unloaded { IsNone result.verdict → result.made ≡ [] }
+    ensures loaded { result.words.made ≡ buffered (Some layout.now) result.made }
+    ensures noted { IsNoted layout.now result.made result.count rows.new }
     ensures same { SameQuestion call.old call.new }
 {
     let entry = Entry { number: call.entry };
@@ -115,10 +164,9 @@ fn run_call(
     let arg_count = call.arg_count as usize;
     let cell_count = call.cell_count as usize;
     let cells = &mut call.cells[..];
-    let (verdict, made, words) = run_front(
-        session, entry, args, arg_count, cells, cell_count, layout, words,
-    );
-    (verdict, made, words)
+    run_front(
+        session, entry, args, arg_count, cells, cell_count, layout, words, rows,
+    )
 }
 
 fn told(verdict: Verdict) -> (u32, u32)
@@ -136,11 +184,12 @@ pub(crate) fn validate(
     call: &mut TdCall,
     layout: &Layout,
     words: TdWords,
+    rows: &mut [TdLoad],
 ) -> (Answer, Made, TdWords)
     requires inside { AreWithin words.count layout.now }
     requires fresh { words.made ≡ [] }
     ensures code { arc_value session.new.code ≡ arc_value session.old.code }
-    ensures answered { HasAnswered (arc_value session.old.code) session.new.frame.trace result.0 result.1 result.2.made call.old call.new layout.now words.count }
+    ensures answered { HasAnswered (arc_value session.old.code) session.new.frame.trace result.0 result.1 result.2.made rows.new call.old call.new layout.now words.count }
 {
     if (call.entry as usize) >= session.entry_count() {
         return (Err(Refusal::NoEntry), Made::new(), words);
@@ -148,13 +197,19 @@ pub(crate) fn validate(
     if call.arg_count > 16 || call.cell_count > 64 {
         return (Err(Refusal::Unfit), Made::new(), words);
     }
-    let (verdict, made, words) = run_call(session, call, layout, words);
+    let Run {
+        verdict,
+        made,
+        count,
+        words,
+    } = run_call(session, call, layout, words, rows);
     match verdict {
         Some(verdict) => {
             let (position, reason) = told(verdict);
             call.position = position;
             call.reason = reason;
             call.frame_count = session.trace().len() as u64;
+            call.load_count = count;
             (Ok(verdict), made, words)
         }
         None => (Err(Refusal::Unfit), made, words),
@@ -169,15 +224,16 @@ pub(crate) fn validate_within(
     inside: bool,
     words: TdWords,
     count: usize,
+    rows: &mut [TdLoad],
 ) -> (Answer, Made, TdWords)
     requires inside { IsTrue inside ↔ AreWithin count layout.now }
     requires count { words.count ≡ count }
     requires fresh { words.made ≡ [] }
     ensures code { arc_value session.new.code ≡ arc_value session.old.code }
-    ensures answered { HasAnswered (arc_value session.old.code) session.new.frame.trace result.0 result.1 result.2.made call.old call.new layout.now count }
+    ensures answered { HasAnswered (arc_value session.old.code) session.new.frame.trace result.0 result.1 result.2.made rows.new call.old call.new layout.now count }
 {
     if !inside {
         return (Err(Refusal::Past), Made::new(), words);
     }
-    validate(session, call, layout, words)
+    validate(session, call, layout, words, rows)
 }

@@ -14,7 +14,7 @@ use crate::images::{TdFault, code_of};
 use crate::parts::{TdStretch, is_within, layout_of};
 use std::alloc::Global;
 use std::mem;
-use td_foreign::{Made, TdWords};
+use td_foreign::{Made, TdLoad, TdWords};
 use td_session::session::Session;
 use td_stream::layout::Layout;
 
@@ -125,23 +125,24 @@ fn validate_in(
     inside: bool,
     words: TdWords,
     count: usize,
+    rows: &mut [TdLoad],
 ) -> (i32, TdWords)
     requires inside { IsTrue inside ↔ AreWithin count layout.now }
     requires count { words.count ≡ count }
     requires fresh { words.made ≡ [] }
-    ensures { IsAnswered slot.old slot.new call.old call.new layout.now count result.1.made result.0 }
+    ensures { IsAnswered slot.old slot.new call.old call.new layout.now count result.1.made rows.new result.0 }
 {
     let Some(session) = &mut slot.session else {
         return (CLOSED, words);
     };
-    let (answer, made, words) = validate_within(session, call, layout, inside, words, count);
+    let (answer, made, words) = validate_within(session, call, layout, inside, words, count, rows);
     slot.answer = answer;
     slot.made = made;
     (number_of(answer), words)
 }
 
-/// Validates a message that is one stretch of the words: each word is loaded at most once, in rising order, by one atomic load. Takes no
-/// memory, and waits for nobody.
+/// Validates a message that is one stretch of the words: each word is loaded at most once, in rising order, by one atomic load. The loads are
+/// written into the rows, as far as there is room. Takes no memory, and waits for nobody.
 #[unsafe(no_mangle)]
 pub extern "C" fn td_c_validate(
     handle: &mut TdSession,
@@ -149,14 +150,16 @@ pub extern "C" fn td_c_validate(
     call: &mut TdCall,
     words: &mut TdWords,
     count: usize,
+    rows: &mut [TdLoad],
 ) -> i32
     requires handle { handle.old.full ≡ full }
     requires words { words.old.count ≡ count }
     requires fresh { words.old.made ≡ [] }
     ensures closed { full ≡ false → result ≡ pos 3 }
     ensures open { full ≡ true → handle.new.full ≡ true }
-    // The answer is that of the code's run on every byte list that carries the loads, and the loads are all that were made.
-    ensures answered { full ≡ true → IsAnswered handle.old.value handle.new.value call.old call.new (asked.layout_of call.old) count words.new.made result }
+    // The answer is that of the code's run on every byte list that carries the loads, and the loads are all that were made; the rows are
+    // these loads.
+    ensures answered { full ≡ true → IsAnswered handle.old.value handle.new.value call.old call.new (asked.layout_of call.old) count words.new.made rows.new result }
 {
     if !full {
         return CLOSED;
@@ -165,7 +168,7 @@ pub extern "C" fn td_c_validate(
     let memory = mem::replace(words, TdWords::none());
     let layout = Layout::one(call.place, call.length);
     let inside = is_within(call.place, call.length, count);
-    let (code, memory) = validate_in(slot, call, &layout, inside, memory, count);
+    let (code, memory) = validate_in(slot, call, &layout, inside, memory, count, rows);
     *words = memory;
     handle.put(slot);
     code
@@ -182,6 +185,7 @@ pub extern "C" fn td_c_validate_parts(
     parts: &[TdStretch],
     words: &mut TdWords,
     count: usize,
+    rows: &mut [TdLoad],
 ) -> i32
     requires handle { handle.old.full ≡ full }
     requires words { words.old.count ≡ count }
@@ -190,7 +194,7 @@ pub extern "C" fn td_c_validate_parts(
     ensures open { full ≡ true → handle.new.full ≡ true }
     // Either the stretches have no layout, and nothing was loaded, or the answer is that of the code's run.
     ensures answered { full ≡ true → IsTooMuch parts.now result × (words.new.made ≡ []) × (handle.new.value ≡ handle.old.value)
-        ⊎ IsAnswered handle.old.value handle.new.value call.old call.new (stretches_told parts.now) count words.new.made result }
+        ⊎ IsAnswered handle.old.value handle.new.value call.old call.new (stretches_told parts.now) count words.new.made rows.new result }
 {
     if !full {
         return CLOSED;
@@ -201,7 +205,7 @@ pub extern "C" fn td_c_validate_parts(
     };
     let slot = handle.take();
     let memory = mem::replace(words, TdWords::none());
-    let (code, memory) = validate_in(slot, call, &layout, inside, memory, count);
+    let (code, memory) = validate_in(slot, call, &layout, inside, memory, count, rows);
     *words = memory;
     handle.put(slot);
     code

@@ -1,11 +1,10 @@
 -- An input has one answer, and none where it is refused.
-use Rattle.std.proofs.Common.{◌≡◌, ℕ, ◌<◌, ◌≤◌, List, length, Result, Ok, sym, ap, ap₂, subst, ◌∙◌, arith}
+use Rattle.std.proofs.Common.{◌≡◌, ℕ, ◌<◌, ◌≤◌, List, length, None, Result, Ok, sym, ap, ap₂, subst, ◌∙◌, arith}
 use Rattle.std.specs.Prelude.{◌↔◌}
 use Rattle.td_core.specs.declared.module.Module.{Module}
 use Rattle.td_core.specs.declared.outcome.Outcome.{Outcome}
 use Rattle.td_stream.specs.declared.load.Load.{Load}
 use Rattle.td_runs.specs.Runs.{RunsAreOne}
-use Rattle.td_front.specs.declared.error.FrontError.{FrontError}
 use Rattle.td_ast.specs.declared.token.Token.{Token}
 use Rattle.td_ast.specs.declared.definitions.ModuleTree.{ModuleTree}
 use Rattle.td_lexer.specs.declared.error.LexError.{LexError}
@@ -14,7 +13,7 @@ use Rattle.td_lexer.specs.Splits.{Splits}
 use Rattle.td_grammar.specs.Definitions.{module_text}
 use Rattle.td_grammar.specs.Laws.{OneTree}
 use Rattle.td_layout.specs.Definitions.{canonical_text}
-use Rattle.td_front.specs.ModuleText.{SpellsTree, IsModuleText, RefusedBy}
+use Rattle.td_front.specs.ModuleText.{SpellsTree, IsModuleText}
 use Rattle.td_front.specs.Laws.{OneModuleEach, NeverBoth as NeverBothTexts}
 use Rattle.td_job.specs.declared.run_job.RunJob.{RunJob}
 use Rattle.td_job.specs.declared.error.JobError.{JobError}
@@ -28,14 +27,12 @@ use Rattle.td_coding.specs.Coding.{IsListing, IsPacked}
 use Rattle.td_coding.specs.Laws.{OneListing, OnePacked}
 use Rattle.td_report.specs.Report.{report}
 use Rattle.td_report.specs.Summary.{summary}
-use Rattle.td_command.specs.declared.command.Command.{Command}
 use Rattle.td_command.specs.declared.command.Command.TheVariants.{Check, Tidy, Run, Host, Code, Pack, Bench}
 use Rattle.td_input.specs.declared.refusal.Refusal.{Refusal}
 use Rattle.td_input.specs.declared.refusal.Refusal.TheVariants.{TooLong, NoJob, BadModule, BadJob}
 use Rattle.td_cli.specs.declared.tool.TheConstants.{INPUT_LIMIT}
 use Rattle.td_cli.specs.Run.{IsRunOf}
-use Rattle.td_cli.specs.Answers.{IsReport, IsSummary, IsTidy, Answers, Admits, Refuses}
-use Rattle.td_input.specs.Inputs.{IsRunInput, RefusesRun}
+use Rattle.td_cli.specs.Answers.{IsReport, IsSummary, IsTidy}
 use Rattle.td_input.specs.Marker.{text_part, job_part}
 use Rattle.td_cli.specs.Laws.{OneAnswer, AnsweredIsAdmitted, NeverBoth}
 use Rattle.td_cli.proofs.OneRun.{SomeCarry, same_run}
@@ -44,10 +41,10 @@ use Rattle.td_input.proofs.Inputs.{Kind, Faults, text_there, job_there, nothing_
 
 -- ---- reports
 
-one_run : RunsAreOne → SomeCarry → (m : Module) (job : RunJob) (o p : Outcome) (l k : List Load) → IsRunOf m job o l → IsRunOf m job p k → report o m job.entry l job.layout ≡ report p m job.entry k job.layout
+one_run : RunsAreOne → SomeCarry → (m : Module) (job : RunJob) (o p : Outcome) (l k : List Load) → IsRunOf m job o l → IsRunOf m job p k → report o m job.entry l job.layout None ≡ report p m job.entry k job.layout None
 one_run one some m job o p l k h g =
     let same = same_run one some m job o p l k h g in
-    ap₂ (λ (x : Outcome) (y : List Load). report x m job.entry y job.layout) same.0 same.1
+    ap₂ (λ (x : Outcome) (y : List Load). report x m job.entry y job.layout None) same.0 same.1
 
 one_report : OneModuleEach → OneJobEach → RunsAreOne → SomeCarry → (input a b : List ℕ) → IsReport input a → IsReport input b → a ≡ b
 one_report modules jobs one some input a b h g =
@@ -61,7 +58,7 @@ one_report modules jobs one some input a b h g =
     let M : Module → Type 0 = λ x. IsRunOf x h.job h.outcome h.loads in
     let R : RunJob → Type 0 = λ x. IsRunOf g.m x h.outcome h.loads in
     let moved : IsRunOf g.m g.job h.outcome h.loads = subst R job (subst M m h.run) in
-    h.text_is ∙ ap₂ (λ (x : Module) (y : RunJob). report h.outcome x y.entry h.loads y.layout) m job
+    h.text_is ∙ ap₂ (λ (x : Module) (y : RunJob). report h.outcome x y.entry h.loads y.layout None) m job
     ∙ one_run one some g.m g.job h.outcome g.outcome h.loads g.loads moved g.run ∙ sym g.text_is
 
 one_summary : OneModuleEach → (input a b : List ℕ) → IsSummary input a → IsSummary input b → a ≡ b

@@ -1,5 +1,5 @@
 -- How a call ends, from how its words were understood, its source was read and its input was answered.
-use Rattle.std.proofs.Common.{◌≡◌, ◌≢◌, inl, inr, ℕ, zero, suc, ◌+◌, ◌<◌, ◌≤◌, List, [], ◌∷◌, length, Option, Some, None, Result, Ok, Err, refl, sym, subst, ap, slice_index, ◌∙◌, arith}
+use Rattle.std.proofs.Common.{◌≡◌, ◌≢◌, inl, inr, ℕ, zero, suc, ◌+◌, ◌<◌, ◌≤◌, List, [], ◌∷◌, length, Option, Some, None, Result, Ok, Err, refl, sym, subst, ◌∙◌, arith}
 use Rattle.std.specs.Io.KnownBytes.{IsAtEnd}
 use Rattle.td_io.specs.declared.reading.ReadError.{ReadError}
 use Rattle.td_io.specs.declared.reading.ReadError.TheVariants as reading
@@ -185,9 +185,6 @@ unread_good command left reading.NoMemory input err result reads told admits lon
 
 pub ok_no_error : {T E : Type 0} (x : T) (e : E) → (let r : Result T E = Ok x in r ≡ Err e) → ⊥
 ok_no_error x e same = cc
-
-pub same_error : {T E : Type 0} (a b : E) → (let r : Result T E = Err a in r ≡ Err b) → a ≡ b
-same_error a b same = cc
 
 -- ---- the input that a source tells
 

@@ -1,18 +1,16 @@
 -- A job that is run by its module's code.
-use Rattle.std.proofs.Common.{◌≡◌, ℕ, ◌<◌, ◌≤◌, List, length, ap, ◌∙◌, subst, sym, refl, Option, Some, None, arith}
+use Rattle.std.proofs.Common.{◌≡◌, ℕ, ◌<◌, ◌≤◌, List, length, ◌∙◌, subst, sym, Option}
 use Rattle.td_core.specs.declared.module.Module.{Module}
 use Rattle.td_core.specs.declared.module.Entry.{Entry}
-use Rattle.td_core.specs.declared.module.TypeDef.{TypeDef}
 use Rattle.td_core.specs.declared.outcome.Outcome.{Outcome}
 use Rattle.td_core.specs.Entries.{entry_definition}
-use Rattle.td_core.specs.Formed.{AllFit, params_at, cells_at}
+use Rattle.td_core.specs.Formed.{AllFit}
 use Rattle.td_stream.specs.declared.load.Load.{Load}
 use Rattle.td_sched.specs.declared.store.PlannedStore.{PlannedStore}
 use Rattle.td_job.specs.declared.run_job.RunJob.{RunJob}
 use Rattle.td_stream.specs.declared.stretch.Stretch.{Stretch}
 use Rattle.td_stream.specs.Layouts.{count_in, counted, laid, IsOver}
 use Rattle.td_job.specs.Jobs.{HasRoom, HasValues}
-use Rattle.td_job.specs.Values.{args_bounds, cells_bounds}
 use Rattle.td_input.specs.Inputs.{IsSoundJob}
 use Rattle.td_ir.specs.declared.tables.Parts.{Parts}
 use Rattle.td_ir.specs.Entries.{Fits}
@@ -28,14 +26,7 @@ use Rattle.td_gen.specs.Message.{format_of, IsMessage}
 use Rattle.td_cli.specs.Benching.{HasRun}
 use Rattle.td_cli.proofs.Benches.{message_run}
 use Rattle.td_cli.specs.Run.{IsRunOf}
-
-same_args : (o : Option TypeDef) → args_bounds o ≡ params_at o
-same_args None = refl
-same_args (Some d) = refl
-
-same_cells : (o : Option TypeDef) → cells_bounds o ≡ cells_at o
-same_cells None = refl
-same_cells (Some d) = refl
+use Rattle.td_input.proofs.Sounds.{same_args, same_cells}
 
 -- a job's values fit its entry point's code
 pub job_fits : ArgumentsFit → (c : Parts) (m : Module) (job : RunJob) → IsCodeOf c m → job.entry.number < length m.entries → HasValues m job → Fits c job.entry job.args job.cells

@@ -1,5 +1,5 @@
 -- Equal reports of one module are of equal runs.
-use Rattle.std.proofs.Common.{◌≡◌, ℕ, List, Option, sym, ap, ◌∙◌, subst}
+use Rattle.std.proofs.Common.{◌≡◌, ℕ, List, Option, None, sym, ap, ◌∙◌, subst}
 use Rattle.td_stream.specs.declared.stretch.Stretch.{Stretch}
 use Rattle.std.specs.List.{All}
 use Rattle.td_core.specs.declared.module.Module.{Module}
@@ -15,7 +15,8 @@ use Rattle.td_cli.specs.Run.{message_of, IsRunOf}
 use Rattle.td_cli.specs.Answers.{IsReport}
 use Rattle.td_input.specs.Marker.{text_part, job_part}
 use Rattle.td_cli.specs.Laws.{ReportsDetermineRuns}
-use Rattle.td_cli.proofs.OneRun.{SomeCarry, bytes_of}
+use Rattle.td_cli.proofs.OneRun.{SomeCarry}
+use Rattle.td_num.proofs.Digits.{are_bytes as bytes_of}
 
 -- what the crates below say
 pub record Below : Type 0 where
@@ -52,12 +53,12 @@ reports_determine_runs below one other text a b same =
     let words = below.words a.m (is_checked below one text a) in
     let first = told below one text a in
     let second : IsTold a.m b.job.entry b.outcome = subst (λ m. IsTold m b.job.entry b.outcome) (sym same) (told below other text b) in
-    let equal : report a.outcome a.m a.job.entry a.loads a.job.layout ≡ report b.outcome a.m b.job.entry b.loads b.job.layout = sym a.text_is ∙ b.text_is ∙ ap (λ m. report b.outcome m b.job.entry b.loads b.job.layout) (sym same) in
+    let equal : report a.outcome a.m a.job.entry a.loads a.job.layout None ≡ report b.outcome a.m b.job.entry b.loads b.job.layout None = sym a.text_is ∙ b.text_is ∙ ap (λ m. report b.outcome m b.job.entry b.loads b.job.layout None) (sym same) in
     let one_shown = shown below one text a in
     let other_shown = shown below other text b in
     let parts =
-    below.determine a.m a.outcome b.outcome a.job.entry b.job.entry a.job.layout b.job.layout a.loads b.loads words.0 words.1
-    first.named second.named first.frames second.frames first.cells second.cells one_shown other_shown equal in
+    below.determine a.m a.outcome b.outcome a.job.entry b.job.entry a.job.layout b.job.layout None None a.loads b.loads words.0 words.1
+    first.named second.named first.frames second.frames first.cells second.cells one_shown other_shown tt tt equal in
     let alike = λ (over : a.job.layout ≡ b.job.layout).
     below.one a.job.layout a.loads b.loads one_shown (subst (λ (l : Option (List Stretch)). All (IsShownLoad l) b.loads) (sym over) other_shown)
     (parts.3 ∙ ap (λ (l : Option (List Stretch)). shown_loads l b.loads) (sym over)) in

@@ -1,7 +1,7 @@
 //! How a call ends once all is decided: text goes to a sink, and the status follows. Nothing here takes memory, so nothing
 //! that was decided can be told as want of it.
 
-ghost use Rattle.std.specs.Prelude.{[], IfOk, MatchResult};
+ghost use Rattle.std.specs.Prelude.{[], None, IfOk, MatchResult};
 ghost use Rattle.std.specs.List.{All};
 ghost use Rattle.td_stream.specs.Layouts.{IsNumberOf};
 ghost use Rattle.td_report.specs.Report.{report};
@@ -78,7 +78,7 @@ fn finish_unanswered<E: Sink>(input: &[u8], error: &InputError, err: &mut E) -> 
 // Ends a call with the report of a run.
 fn finish_report<O: Sink>(run: &FinishedRun, out: &mut O) -> Status
     requires { All (λ l. IsNumberOf run.now.input.job.layout l.word) run.now.loads.list }
-    ensures { EndsWith Status.Done (report run.now.outcome run.now.input.module run.now.input.job.entry run.now.loads.list run.now.input.job.layout) (passage O.state out.old out.new) result }
+    ensures { EndsWith Status.Done (report run.now.outcome run.now.input.module run.now.input.job.entry run.now.loads.list run.now.input.job.layout None) (passage O.state out.old out.new) result }
 {
     match run_report(
         &run.outcome,
@@ -86,6 +86,7 @@ fn finish_report<O: Sink>(run: &FinishedRun, out: &mut O) -> Status
         run.input.job.entry,
         &run.loads,
         run.input.job.layout.as_ref(),
+        None,
         out,
     ) {
         Ok(()) => Status::Done,
@@ -102,7 +103,7 @@ pub(crate) fn finish_run<O: Sink, E: Sink>(
 ) -> Status
     requires { IfOk run.now (λ run. All (λ l. IsNumberOf run.input.job.layout l.word) run.loads.list) }
     ensures { MatchResult run.now
-        (λ run. EndsWithOutput (report run.outcome run.input.module run.input.job.entry run.loads.list run.input.job.layout) (passage O.state out.old out.new) (passage E.state err.old err.new) result)
+        (λ run. EndsWithOutput (report run.outcome run.input.module run.input.job.entry run.loads.list run.input.job.layout None) (passage O.state out.old out.new) (passage E.state err.old err.new) result)
         (λ error. EndsWithLine (unanswered_status error) (unanswered_line input.now error) (passage O.state out.old out.new) (passage E.state err.old err.new) result) }
 {
     match run {

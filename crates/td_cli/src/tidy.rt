@@ -1,10 +1,8 @@
 //! The command `tidy`: the canonical text of a module text that is accepted.
 
 ghost use Rattle.std.specs.Prelude.{◌≡◌, ◌≢◌, ◌<◌, ◌≤◌, ◌-◌, ◌^◌, length, IfOk, IfErr, IsErr};
-ghost use Rattle.td_ast.specs.declared.definitions.ModuleTree.{ModuleTree};
 ghost use Rattle.td_core.specs.declared.module.Module.{Module};
-ghost use Rattle.td_front.specs.ModuleText.{IsModuleText, SpellsTree};
-ghost use Rattle.td_layout.specs.Definitions.{canonical_text};
+ghost use Rattle.td_front.specs.ModuleText.{IsModuleText};
 ghost use Rattle.td_input.specs.declared.refusal.Refusal.{Refusal};
 ghost use Rattle.td_command.specs.declared.command.Command.TheVariants as commands;
 ghost use Rattle.td_cli.specs.Answers.{Admits, IsTidy, Refuses, RefusesCheck};
@@ -16,37 +14,11 @@ use crate::finish::finish_tidy;
 use crate::status::Status;
 use crate::tool::INPUT_LIMIT;
 use std::alloc::{AllocError, Global};
-use td_ast::definitions::ModuleTree;
-use td_front::check_module;
+use td_front::check_tree;
 use td_input::refusal::{InputError, of_module};
 use td_io::Sink;
-use td_lexer::lex;
 use td_num::text::Text;
-use td_parser::parse;
 use td_print::print;
-
-// The tree of a text that is a module. `AllocError`: out of memory; nothing else keeps such a text from having its tree.
-fn tree_of(alloc: Global, input: &[u8]) -> Result<ModuleTree, AllocError>
-    requires { length input.now < 2 ^ 32 - 1 }
-    ensures { (tree : ModuleTree) → SpellsTree input.now tree → IfOk result (λ found. found ≡ tree) }
-{
-    let Ok(tokens) = lex(alloc, input) else {
-        return Err(AllocError);
-    };
-    match parse(alloc, tokens.as_slice()) {
-        Ok(tree) => Ok(tree),
-        Err(_) => Err(AllocError),
-    }
-}
-
-// The canonical text of a text that is a module. `AllocError`: out of memory.
-fn canonical_text(alloc: Global, input: &[u8]) -> Result<Text, AllocError>
-    requires { length input.now < 2 ^ 32 - 1 }
-    ensures { (tree : ModuleTree) → SpellsTree input.now tree → IfOk result (λ text. text ≡ canonical_text tree) }
-{
-    let tree = tree_of(alloc, input)?;
-    print(alloc, &tree)
-}
 
 // The canonical text of the module for which an input stands.
 fn tidy_input(alloc: Global, input: &[u8]) -> Result<Text, InputError>
@@ -56,11 +28,11 @@ fn tidy_input(alloc: Global, input: &[u8]) -> Result<Text, InputError>
     ensures complete { (m : Module) → IsModuleText input.now m → IfErr result (λ e. e ≡ InputError.NoMemory) }
     ensures refused { (refusal : Refusal) → RefusesCheck input.now refusal → IsErr result }
 {
-    match check_module(alloc, input) {
+    match check_tree(alloc, input) {
         Err(error) => Err(of_module(error)),
-        Ok(_) => match canonical_text(alloc, input) {
+        Ok(checked) => match print(alloc, &checked.tree) {
             Ok(text) => Ok(text),
-            Err(_) => Err(InputError::NoMemory),
+            Err(AllocError) => Err(InputError::NoMemory),
         },
     }
 }

@@ -25,6 +25,7 @@ fn put_error(error: ImageError, out: &mut String) -> Result<(), AllocError> {
     }
 }
 
+// Code of version 1 was turned when it was read, so its image is another one when it is written.
 fn put_again(
     alloc: Global,
     code: &Verified,
@@ -35,8 +36,14 @@ fn put_again(
     out.push_str(if again.as_slice() == bytes {
         "ok"
     } else {
-        "differs"
+        "turned"
     })
+}
+
+fn put_written(alloc: Global, code: &Verified, out: &mut String) -> Result<(), AllocError> {
+    let again = write_image(alloc, code)?;
+    let digits = hex::encode(alloc, again.as_slice())?;
+    out.push_str(digits.as_str())
 }
 
 fn put_listing(alloc: Global, code: &Verified, out: &mut String) -> Result<(), AllocError> {
@@ -66,9 +73,12 @@ fn put_answer_of_code(
     if let Some(name) = words.strip_prefix("entry ") {
         return put_entry(code, name, out);
     }
-    match words.strip_prefix("run ") {
-        Some(runs) => put_runs(alloc, code, runs, out),
-        None => put_listing(alloc, code, out),
+    if let Some(runs) = words.strip_prefix("run ") {
+        return put_runs(alloc, code, runs, out);
+    }
+    match words {
+        "written" => put_written(alloc, code, out),
+        _ => put_listing(alloc, code, out),
     }
 }
 

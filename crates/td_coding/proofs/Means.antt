@@ -1,6 +1,6 @@
 -- Lowered code does what a checked module means.
-use Rattle.std.proofs.Common.{◌≡◌, ℕ, zero, suc, ◌<◌, ◌^◌, List, [], ◌∷◌, length, Option, Some, Result, Ok, Err, IfOk, slice_get, subst, refl, arith}
-use Rattle.td_num.specs.Lists.{AreBytes, Each}
+use Rattle.std.proofs.Common.{◌≡◌, ℕ, ◌<◌, ◌^◌, List, length, Option, Some, Result, Ok, Err, IfOk, subst}
+use Rattle.td_num.specs.Lists.{AreBytes}
 use Rattle.td_core.specs.declared.module.Module.{Module}
 use Rattle.td_core.specs.declared.module.TypeDef.{TypeDef}
 use Rattle.td_core.specs.declared.module.Entry.{Entry}
@@ -14,6 +14,8 @@ use Rattle.td_ir.specs.declared.tables.Parts.{Parts}
 use Rattle.td_lowered.specs.CodeRun.{IsCodeOf, ArgumentsFit}
 use Rattle.td_lower.specs.Code.{IsLowerable, MeansModule}
 use Rattle.td_coding.specs.Coding.{DoesWhatItMeans}
+use Rattle.td_num.proofs.Lists.{got, each_at}
+use Rattle.td_core.proofs.Found.{entry_found as entry_of}
 
 pub lowerable : (m : Module) → IsChecked m → IsLowerable m
 lowerable m h = record {
@@ -26,19 +28,6 @@ lowerable m h = record {
   depth = h.depth;
   weight = h.weight;
 }
-
-got : {A : Type 0} (xs : List A) (n : ℕ) → n < length xs → (x : A) × (slice_get xs n ≡ Some x)
-got [] n h = absurd (omega arith)
-got (x ∷ xs) zero h = (x, refl)
-got (x ∷ xs) (suc n) h = got xs n (omega arith)
-
-each_at : {A : Type 0} (P : A → Type 0) (xs : List A) (n : ℕ) (x : A) → Each P xs → slice_get xs n ≡ Some x → P x
-each_at P [] n x each e = cc
-each_at P (y ∷ ys) zero x each e = let same : y ≡ x = cc in subst P same each.0
-each_at P (y ∷ ys) (suc n) x each e = each_at P ys n x each.1 e
-
-entry_of : (m : Module) (n place : ℕ) (d : TypeDef) → slice_get m.entries n ≡ Some place → slice_get m.definitions place ≡ Some d → entry_definition m n ≡ Some d
-entry_of m n place d e f = rw e f
 
 -- each expression that the meaning evaluates lies in its type's range, whatever the message's bytes are
 sound_values : (m : Module) (entry : Entry) (args cells : List ℕ) → EvaluatedIsSound → IsChecked m → entry.number < length m.entries

@@ -1,6 +1,5 @@
 -- The code of a module is one: its definition says each table, but for the sets, and numbers that rise are one list.
-use Rattle.std.proofs.Common.{◌≡◌, ℕ, suc, ◌<◌, ◌≤◌, Bool, true, false, ◌||◌, nat_eq, List, [], ◌∷◌, length, slice_index_or, refl, sym, ap, ap₂, subst, ◌∙◌, arith, true≢false}
-use Rattle.std.proofs.lemmas.Bool.Decides.{nat_tests}
+use Rattle.std.proofs.Common.{◌≡◌, ℕ, suc, ◌≤◌, Bool, true, false, ◌||◌, nat_eq, List, [], ◌∷◌, length, slice_index_or, refl, sym, ap, ap₂, subst, ◌∙◌, arith, true≢false}
 use Rattle.td_num.specs.Lists.{is_among}
 use Rattle.td_core.specs.declared.module.Module.{Module}
 use Rattle.td_ir.specs.declared.tables.Parts.{Parts}
@@ -8,31 +7,17 @@ use Rattle.td_ir.specs.Listing.{listing}
 use Rattle.td_ir.specs.WellFormed.{Rises}
 use Rattle.td_lower.specs.Sets.{IsSetOf, AreSetsOf}
 use Rattle.td_lower.specs.Code.{IsWritten}
+use Rattle.td_image.specs.Answer as images
 use Rattle.td_image.specs.Image.{image}
 use Rattle.td_coding.specs.Laws.{CodeIsOne, OneListing, OnePacked}
+use Rattle.td_num.proofs.Equals.{equal_itself as itself}
+use Rattle.td_num.proofs.Truths.{eq_is as same_is}
+use Rattle.td_ir.proofs.Rising.{rises_on, rises_above as above}
 
 -- ---- numbers that rise
 
-same_is : (x y : ℕ) → nat_eq x y ≡ true → x ≡ y
-same_is x y e = grind (arith, nat_tests)
-
-itself : (x : ℕ) → nat_eq x x ≡ true
-itself x = grind (arith, nat_tests)
-
 first_in : (x : ℕ) (xs : List ℕ) → is_among (x ∷ xs) x ≡ true
 first_in x xs = ap (λ b. b || is_among xs x) (itself x)
-
-rises_on : (x : ℕ) (xs : List ℕ) → Rises (x ∷ xs) → Rises xs
-rises_on x xs h j l = h (suc j) (omega (arith, l))
-
--- what is among numbers that rise is above the number before them
-above : (x n : ℕ) (xs : List ℕ) → Rises (x ∷ xs) → is_among xs n ≡ true → x < n
-above x n [] h a = absurd cc
-above x n (y ∷ ys) h a = by (nat_eq n y) refl a (above y n ys (rises_on x (y ∷ ys) h))
-  where
-    by : (b : Bool) → nat_eq n y ≡ b → (b || is_among ys n) ≡ true → (is_among ys n ≡ true → y < n) → x < n
-    by true e g more = let s = same_is n y e in let first : x < y = h 0 (omega arith) in omega (arith, s, first)
-    by false e g more = let first : x < y = h 0 (omega arith) in let k = more g in omega (arith, first, k)
 
 at_least : (x n : ℕ) (xs : List ℕ) → Rises (x ∷ xs) → is_among (x ∷ xs) n ≡ true → x ≤ n
 at_least x n xs h a = by (nat_eq n x) refl a
@@ -118,4 +103,4 @@ pub one_listing : OneListing
 one_listing m a b h g = h.2 ∙ ap listing (one_code h.0 g.0 m h.1 g.1) ∙ sym g.2
 
 pub one_packed : OnePacked
-one_packed m a b h g = h.image_is.1 ∙ ap (λ (p : Parts). image.bytes p) (one_code h.code g.code m h.of g.of) ∙ sym g.image_is.1
+one_packed m a b h g = h.image_is.1 ∙ ap (λ (p : Parts). image.bytes (images.written p)) (one_code h.code g.code m h.of g.of) ∙ sym g.image_is.1

@@ -1,5 +1,5 @@
 -- The bytes that the format gives a module's code are its image, and are read as that code.
-use Rattle.std.proofs.Common.{◌≡◌, ℕ, ◌<◌, ◌^◌, List, length, Result, Ok, Err}
+use Rattle.std.proofs.Common.{◌≡◌, ℕ, ◌<◌, ◌^◌, List, length, Result, Ok, Err, refl}
 use Rattle.td_core.specs.declared.module.Module.{Module}
 use Rattle.td_front.specs.Checked.{IsChecked}
 use Rattle.td_front.specs.ModuleText.{IsModuleText}
@@ -8,7 +8,8 @@ use Rattle.td_ir.specs.WellFormed.{IsCode}
 use Rattle.td_verify.specs.Verify.{IsSound}
 use Rattle.td_image.specs.declared.error.ImageError.{ImageError}
 use Rattle.td_image.specs.declared.error.ImageError.TheVariants as errors
-use Rattle.td_image.specs.Answer.{IsImage, IsAnswerFor}
+use Rattle.td_image.specs.Answer as images
+use Rattle.td_image.specs.Answer.{IsAnswerFor}
 use Rattle.td_image.specs.Image.{image}
 use Rattle.td_image.specs.Laws.{WithinHasImage}
 use Rattle.td_within.specs.Small.{IsSmall}
@@ -26,11 +27,11 @@ read_as c (Err (errors.Rest at)) sound h = h
 read_as c (Err (errors.Refused breach)) sound h = h.breaks.here (sound h.routine breach.at h.is_in breach.rule)
 
 module _ (has : WithinHasImage) (within : CodeIsWithin) (c : Parts) (m : Module) (bytes : List ℕ)
-    (checked : IsChecked m) (of : IsCodeFor c m) (code : IsCode c) (are : bytes ≡ image.bytes c) where
+    (checked : IsChecked m) (of : IsCodeFor c m) (code : IsCode c) (are : bytes ≡ image.bytes (images.written c)) where
   packed : IsSmall m → IsPacked m bytes
   packed small =
-      let own : IsImage c bytes = (has c code (within c m checked small of.written code of.sound), are) in
-      record { code = c; of = of; image_is = own; read_again = λ answer only. read_as c answer of.sound (only c own) }
+      let own : images.IsWritten c bytes = (has c code (within c m checked small of.written code of.sound), are) in
+      record { code = c; of = of; image_is = own; read_again = λ answer only. read_as c answer of.sound (only c (images.written c, own, refl)) }
 
   pub spelled : IsSpelled m bytes
   spelled = record { code = c; of = of; bytes_are = are; packed = packed }

@@ -14,6 +14,7 @@ use Rattle.td_verify.specs.Verify.{IsSound}
 use Rattle.td_lower.specs.Code.{IsWritten}
 use Rattle.td_image.specs.declared.error.ImageError.{ImageError}
 use Rattle.td_image.specs.declared.error.ImageError.TheVariants.{NoMemory}
+use Rattle.td_image.specs.Answer as images
 use Rattle.td_image.specs.Answer.{IsImage, IsAnswerFor}
 use Rattle.td_image.specs.Image.{image}
 use Rattle.td_within.specs.Small.{IsSmall}
@@ -48,16 +49,16 @@ IsReadAs c (Ok code) = code ≡ c
 IsReadAs c (Err NoMemory) = Unit {0}
 IsReadAs c (Err _) = ⊥
 
--- the bytes are the image of such code, and are read as that code again
+-- the bytes are the image of such code in the version that is written, and are read as that code again
 pub record IsPacked (m : Module) (bytes : List ℕ) : Type 0 where
   pub code : Parts
   pub of : IsCodeFor code m
-  pub image_is : IsImage code bytes
+  pub image_is : images.IsWritten code bytes
   pub read_again : (answer : Result Parts ImageError) → MayBeRead bytes answer → IsReadAs code answer
 
 -- the bytes are those that the format of images gives such code, and are its image where the module is no larger than a text's
 pub record IsSpelled (m : Module) (bytes : List ℕ) : Type 0 where
   pub code : Parts
   pub of : IsCodeFor code m
-  pub bytes_are : bytes ≡ image.bytes code
+  pub bytes_are : bytes ≡ image.bytes (images.written code)
   pub packed : IsSmall m → IsPacked m bytes

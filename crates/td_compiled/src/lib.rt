@@ -4,3 +4,5 @@
 #![tactic(auto)]
 
 pub mod compiled;
+
+pub use compiled::{validate_compiled, validate_recorded};

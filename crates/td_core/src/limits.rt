@@ -1,9 +1,9 @@
-//! What a module and its text hold at most: the one home of these eight numbers (own rule). Each is refused by td_limits, as X1 at
-//! the name of the definition in which it is passed: the first five by count, before names and types are looked at, the last three
+//! What a module and its text hold at most: the one home of these nine numbers (own rule). Each is refused by td_limits, as X1 at
+//! the name of the definition in which it is passed: the first six by count, before names and types are looked at, the last three
 //! by size. The verifier refuses code past two of them; the format of images has numbers of its own.
 
 /// Definitions of a text: X1 `limit definitions`.
-pub const MOST_DEFINITIONS: u64 = 1_000;
+pub const MOST_DEFINITIONS: u64 = 4_000;
 /// Fields of a struct, of a case or of `default`, and slots of an output record: X1 `limit fields`.
 pub const MOST_FIELDS: u64 = 256;
 /// Cases of a casetype, where `default` is none: X1 `limit cases`.
@@ -12,7 +12,10 @@ pub const MOST_CASES: u64 = 256;
 pub const MOST_PARAMETERS: u64 = 16;
 /// Nodes of a text up to a definition's end, which are definitions, parameters, fields, cases, items of enums, statements, and
 /// nodes of expressions: X1 `limit nodes`.
-pub const MOST_NODES: u64 = 20_000;
+pub const MOST_NODES: u64 = 60_000;
+/// Nodes of one action, which are its statements and the nodes of their expressions: X1 `limit action`. Passes along an action
+/// take stack for each statement.
+pub const MOST_ACTION_NODES: u64 = 20_000;
 /// Cells of a definition: X1 `limit cells`.
 pub const MOST_CELLS: u64 = 64;
 /// Definitions within one another: X1 `limit depth`. Routines within one another: rule V3.

@@ -11,3 +11,4 @@ pub mod numbers;
 pub mod parameters;
 pub mod records;
 pub mod scopes;
+pub mod slots;

@@ -2,12 +2,13 @@
 
 ghost use Rattle.std.specs.Prelude.{◌≡◌, ◌<◌, IfOk, OnErr, OnOk, is_some, length, map};
 ghost use Rattle.td_rules.specs.Breach.{first_of};
-ghost use Rattle.td_rules.specs.Known.{slots_at};
 ghost use Rattle.td_declarations.specs.Heads.{with_cell, with_all_cells};
-ghost use Rattle.td_rules.specs.Parameters.{no_head, found_width, plain_width, found_cell, cell_type, slot_kind, slot_cell, cells_of, cells_local, unread_head, value_head, cell_head, with_param, head_of, named_breaches, plain_breaches, pointee_breaches, param_name_breaches, param_breaches, params_breaches};
+ghost use Rattle.td_declarations.specs.Slots.{part_cell, record_parts};
+ghost use Rattle.td_rules.specs.Parameters.{no_head, found_width, plain_width, found_cell, cell_type, cells_of, cells_local, unread_head, value_head, cell_head, with_param, head_of, named_breaches, plain_breaches, pointee_breaches, param_name_breaches, param_breaches, params_breaches};
 
 use crate::numbers::next_place;
 use crate::scopes::{no_scope, none_taken};
+use crate::slots::{SlotCell, slot_cells_at};
 use std::alloc::{AllocError, Global};
 use td_actions::scopes::{add_local, add_value, scalar_of, take_name};
 use td_ast::names::{Name, PlainTree};
@@ -17,12 +18,12 @@ use td_core::module::{Cell, CellKind, NameId, Param};
 use td_expr::types::greatest_of;
 use td_names::names::Names;
 use td_num::items::Items;
-use td_num::number::{NumberType, Width};
+use td_num::number::Width;
 use td_rules::breach::Rule;
-use td_rules::known::{CellType, Found, Known, Local, Meaning, Parameter, Scope, Slot};
+use td_rules::known::{CellType, Found, Known, Local, Meaning, Parameter, Scope};
 use td_rules::parameters::Head;
 use td_typing::findings::Findings;
-use td_typing::look_up::{is_literal_name, look_up, slots_at};
+use td_typing::look_up::{is_literal_name, look_up};
 
 /// The head before the first parameter. Takes no memory.
 fn no_head(alloc: Global) -> Head
@@ -168,16 +169,6 @@ fn add_width(
     take_name(alloc, &mut head.taken, name)
 }
 
-/// What the cell for a slot holds.
-fn slot_kind(number: Option<NumberType>) -> CellKind
-    ensures { result ≡ slot_kind number }
-{
-    match number {
-        Some(number) => CellKind::Number(number.width),
-        None => CellKind::Pointer,
-    }
-}
-
 /// One more cell of the definition. `AllocError`: out of memory.
 fn push_cell(head: &mut Head, cell: Cell) -> Result<(), AllocError>
     ensures { OnOk result (head.new ≡ with_cell head.old cell) }
@@ -186,23 +177,17 @@ fn push_cell(head: &mut Head, cell: Cell) -> Result<(), AllocError>
     head.cells.push(cell)
 }
 
-/// A cell for each slot. `AllocError`: out of memory.
-fn push_slots(names: &Names, head: &mut Head, name: &[u8], slots: &[Slot]) -> Result<(), AllocError>
-    ensures { OnOk result (head.new ≡ with_all_cells head.old (map (slot_cell names.now name.now) slots.now)) }
+/// A cell for each slot of a parameter of that name. `AllocError`: out of memory.
+fn push_slots(head: &mut Head, name: NameId, slots: &[SlotCell]) -> Result<(), AllocError>
+    ensures { OnOk result (head.new ≡ with_all_cells head.old (map (part_cell name) slots.now)) }
 {
-    let own = NameId {
-        number: names.number(name),
-    };
     for slot in slots {
-        let field = NameId {
-            number: names.number(slot.name.as_slice()),
-        };
         push_cell(
             head,
             Cell {
-                name: own,
-                field: Some(field),
-                kind: slot_kind(slot.number),
+                name,
+                field: Some(slot.field),
+                kind: slot.kind,
             },
         )?;
     }
@@ -213,21 +198,23 @@ fn push_slots(names: &Names, head: &mut Head, name: &[u8], slots: &[Slot]) -> Re
 fn push_cells(
     names: &Names,
     known: &Known,
+    slots: &[Items<SlotCell>],
     head: &mut Head,
     name: &[u8],
     cells: CellType,
 ) -> Result<(), AllocError>
+    requires { slots.now ≡ record_parts names.now known.now }
     ensures { OnOk result (head.new ≡ with_all_cells head.old (cells_of names.now known.now name.now cells)) }
 {
+    let name = NameId {
+        number: names.number(name),
+    };
     let kind = match cells {
         CellType::Record(record) => {
-            return push_slots(names, head, name, slots_at(known, record));
+            return push_slots(head, name, slot_cells_at(slots, record));
         }
         CellType::Number(number) => CellKind::Number(number.width),
         CellType::Pointer => CellKind::Pointer,
-    };
-    let name = NameId {
-        number: names.number(name),
     };
     push_cell(
         head,
@@ -254,10 +241,12 @@ fn add_cells(
     alloc: Global,
     names: &Names,
     known: &Known,
+    slots: &[Items<SlotCell>],
     head: &mut Head,
     name: &[u8],
     cells: Option<CellType>,
 ) -> Result<(), AllocError>
+    requires { slots.now ≡ record_parts names.now known.now }
     ensures { OnOk result (head.new ≡ cell_head names.now known.now head.old name.now cells) }
 {
     let Some(cells) = cells else {
@@ -265,7 +254,7 @@ fn add_cells(
     };
     let first = next_place(head.cells.len())?;
     add_local(alloc, &mut head.scope, name, cells_local(first, cells))?;
-    push_cells(names, known, head, name, cells)?;
+    push_cells(names, known, slots, head, name, cells)?;
     head.parameters.push(Parameter::Cells(cells))?;
     take_name(alloc, &mut head.taken, name)
 }
@@ -275,9 +264,11 @@ fn add_param(
     alloc: Global,
     names: &Names,
     known: &Known,
+    slots: &[Items<SlotCell>],
     head: &mut Head,
     tree: &ParamTree,
 ) -> Result<(), AllocError>
+    requires { slots.now ≡ record_parts names.now known.now }
     ensures { OnOk result (head.new ≡ with_param names.now known.now head.old tree.now) }
 {
     match tree {
@@ -287,19 +278,30 @@ fn add_param(
         }
         ParamTree::Mutable(target, name) => {
             let cells = cell_type(known, &head.scope, target);
-            add_cells(alloc, names, known, head, name.text.as_slice(), cells)
+            add_cells(
+                alloc,
+                names,
+                known,
+                slots,
+                head,
+                name.text.as_slice(),
+                cells,
+            )
         }
     }
 }
 
-/// The parameters; their breaches are noted. `AllocError`: there is a parameter, and out of memory.
+/// The parameters, by the cells for the slots of each record that is known; their breaches are noted. `AllocError`: there is a
+/// parameter, and out of memory.
 pub fn head(
     alloc: Global,
     names: &Names,
     known: &Known,
+    slots: &[Items<SlotCell>],
     trees: &[ParamTree],
     findings: &mut Findings,
 ) -> Result<Head, AllocError>
+    requires { slots.now ≡ record_parts names.now known.now }
     ensures memory { OnErr result (0 < length trees.now) }
     ensures core { IfOk result (λ h. h ≡ head_of names.now known.now no_head trees.now) }
     ensures first { OnOk result (findings.new.first ≡ first_of findings.old.first (params_breaches names.now known.now no_head trees.now)) }
@@ -307,7 +309,7 @@ pub fn head(
     let mut head = no_head(alloc);
     for tree in trees {
         check_param(known, &head, tree, findings);
-        add_param(alloc, names, known, &mut head, tree)?;
+        add_param(alloc, names, known, slots, &mut head, tree)?;
     }
     Ok(head)
 }

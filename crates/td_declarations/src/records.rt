@@ -18,7 +18,7 @@ use td_typing::findings::Findings;
 use td_typing::look_up::is_literal_name;
 
 /// The type of the number in a slot; none for a pointer.
-fn slot_number(kind: &SlotKind) -> Option<NumberType>
+pub(crate) fn slot_number(kind: &SlotKind) -> Option<NumberType>
     ensures { result ≡ slot_number kind.now }
 {
     match kind {

@@ -1,10 +1,10 @@
 -- What is passed over without a look accepts, and changes nothing.
-use Rattle.std.proofs.Common.{◌≡◌, ℕ, zero, suc, ◌+◌, ◌<◌, ◌≤◌, Bool, true, false, Option, Some, None, List, [], ◌∷◌, ◌++◌, length, length-append, refl, sym, ap, ◌∙◌, subst, arith, inl, inr, ◌||◌}
+use Rattle.std.proofs.Common.{◌≡◌, ℕ, suc, ◌+◌, ◌<◌, ◌≤◌, Bool, true, false, Option, Some, None, List, [], ◌∷◌, ◌++◌, length, length-append, refl, sym, ap, ◌∙◌, subst, arith, inl, inr, ◌||◌}
 use Rattle.std.specs.Prelude.{slice_get, is_some, nat_eq, IfSome}
 use Rattle.std.proofs.lemmas.Bool.{cases_eq, cases_lt, eq-eqb}
 use Rattle.std.proofs.lemmas.Option.{slice_get-get_or, slice_get_past}
 use Rattle.std.proofs.lemmas.List.{get_or_append_left, get_or_push}
-use Rattle.td_core.specs.Term.{Term, Deed, number}
+use Rattle.td_core.specs.Term.{Term, number}
 use Rattle.td_core.specs.declared.expressions.Scalar.{Scalar}
 use Rattle.td_core.specs.declared.module.NameId.{NameId}
 use Rattle.td_core.specs.declared.module.Element.{Element}
@@ -13,20 +13,20 @@ use Rattle.td_core.specs.declared.module.Extent.{Extent}
 use Rattle.td_core.specs.declared.module.Extent.TheVariants.{Once, Filling, OnceFilling, UpToZero}
 use Rattle.td_core.specs.declared.module.Part.{Part}
 use Rattle.td_core.specs.declared.module.Field.{Field}
-use Rattle.td_core.specs.declared.module.Body.{Body}
 use Rattle.td_core.specs.declared.module.Body.TheVariants.{Struct}
 use Rattle.td_core.specs.declared.module.TypeDef.{TypeDef}
 use Rattle.td_core.specs.declared.module.Module.{Module}
 use Rattle.td_core.specs.declared.outcome.Reason.TheVariants.{Constraint, ListSize}
 use Rattle.td_core.specs.declared.outcome.Spot.TheVariants.{Where}
-use Rattle.td_core.specs.Outcome.{Behavior, accepted, after_reading, and_then, within}
+use Rattle.td_core.specs.Outcome.{accepted, after_reading, and_then, within}
 use Rattle.td_expr.specs.Naming.{names, deed_names}
 use Rattle.td_meaning.specs.Naming.{in_option, part_names, parts_name, element_names, extent_names, field_names, fields_name, is_needed}
-use Rattle.td_meaning.specs.Meaning.{Sense, demanded, elements, filled, filled_once, divides, equals, field_place, field_number, number_places, first_name, extended}
-use Rattle.td_meaning.specs.Machine.{value_of, is_met, below, body_fields, chosen_meaning, definition_meaning, element_meaning, shape_meaning, parts_meaning, with_part, checked, acted, fields_meaning}
+use Rattle.td_meaning.specs.Meaning.{demanded, filled, filled_once, divides, equals, field_place, field_number, number_places, first_name, extended}
+use Rattle.td_meaning.specs.Machine.{value_of, is_met, below, body_fields, chosen_meaning, definition_meaning, element_meaning, shape_meaning, parts_meaning, with_part, acted, fields_meaning}
 use Rattle.td_direct.specs.Arrays.{once_rest}
-use Rattle.td_direct.specs.Passing.{IsPassed, AreSizes, passes_all, IsShapePassed, ArePlainParts, IsQuiet, AreQuiet}
-use Rattle.td_direct.proofs.TypeLemmas.{named_by, filled_fit, once_fit, window_pass}
+use Rattle.td_direct.specs.Passing.{IsPassed, AreSizes, passes_all, IsShapePassed, ArePlainParts, AreQuiet}
+use Rattle.td_direct.proofs.TypeLemmas.{filled_fit, once_fit, window_pass}
+use Rattle.td_meaning.proofs.Filling.{named_by}
 
 -- Naming
 

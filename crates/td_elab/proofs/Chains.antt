@@ -13,10 +13,6 @@ pub on_err_always : {T E P : Type 0} (r : Result T E) → P → OnErr r P
 on_err_always (Ok x) p = tt
 on_err_always (Err e) p = p
 
-pub on_ok_then : {T E P Q : Type 0} (r : Result T E) → (P → Q) → OnOk r P → OnOk r Q
-on_ok_then (Ok x) f p = f p
-on_ok_then (Err e) f p = tt
-
 pub three : (o : Option Breach) (xs ys zs : List Breach) → first_of (first_of (first_of o xs) ys) zs ≡ first_of o (xs ++ (ys ++ zs))
 three o xs ys zs = sym (first_append (first_of o xs) ys zs) ∙ sym (first_append o xs (ys ++ zs))
 

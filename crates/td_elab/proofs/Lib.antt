@@ -1,3 +1,4 @@
 pub mod First
 pub mod Chains
 pub mod Answering
+pub mod Slots

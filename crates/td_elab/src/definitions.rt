@@ -2,18 +2,20 @@
 
 ghost use Rattle.std.specs.Prelude.{◌≡◌, ◌<◌, ◌++◌, IfOk, OnOk, OnErr, length};
 ghost use Rattle.td_core.specs.declared.module.Body.TheVariants.{Struct as StructBody};
+ghost use Rattle.td_declarations.specs.Slots.{record_parts};
 ghost use Rattle.td_rules.specs.Breach.{first_of};
 ghost use Rattle.td_rules.specs.Known.{nothing_known};
 ghost use Rattle.td_rules.specs.Sorts.{option_core};
 ghost use Rattle.td_rules.specs.ExprRules.{test_breaches};
 ghost use Rattle.td_rules.specs.Fields.{fields_breaches, fields_taken, fields_core};
+ghost use Rattle.td_rules.specs.Records.{after_record, record_breaches};
 ghost use Rattle.td_rules.specs.Casetypes.{switch_breaches, switch_taken, switch_core};
 ghost use Rattle.td_rules.specs.Definitions.{with_names, entry_more, with_type, struct_scope, struct_breaches, after_struct, casetype_breaches, after_casetype, definition_breaches, after, definitions_breaches, known_after};
 ghost use Rattle.td_elab.specs.Heads.{announced, with_definition};
 
 use crate::casetypes::switch;
 use std::alloc::{AllocError, Global};
-use td_ast::definitions::{CasetypeTree, Def, StructTree};
+use td_ast::definitions::{CasetypeTree, Def, OutputTree, StructTree};
 use td_core::expressions::CoreExpr;
 use td_core::module::{Body, NameId, TypeDef};
 use td_declarations::aliases::alias;
@@ -23,6 +25,7 @@ use td_declarations::numbers::next_place;
 use td_declarations::parameters::head;
 use td_declarations::records::record;
 use td_declarations::scopes::nothing_known;
+use td_declarations::slots::{SlotCell, slot_cells};
 use td_fields::fields::fields;
 use td_fields::leading::leading_size;
 use td_kinds::casetypes::body_kind;
@@ -144,13 +147,22 @@ fn structure(
     alloc: Global,
     names: &Names,
     known: &mut Known,
+    slots: &[Items<SlotCell>],
     tree: &StructTree,
     findings: &mut Findings,
 ) -> Result<(), AllocError>
+    requires { slots.now ≡ record_parts names.now known.old }
     ensures known { OnOk result (known.new ≡ after_struct names.now known.old tree.now) }
     ensures first { OnOk result (findings.new.first ≡ first_of findings.old.first (struct_breaches names.now known.old tree.now)) }
 {
-    let head = head(alloc, names, known, tree.head.params.as_slice(), findings)?;
+    let head = head(
+        alloc,
+        names,
+        known,
+        slots,
+        tree.head.params.as_slice(),
+        findings,
+    )?;
     let (mut scope, mut taken) = (head.scope, head.taken);
     let inner = struct_inner(alloc, names, known, &mut scope, &mut taken, tree, findings)?;
     check_global(known, &tree.name, findings);
@@ -201,13 +213,22 @@ fn casetype(
     alloc: Global,
     names: &Names,
     known: &mut Known,
+    slots: &[Items<SlotCell>],
     tree: &CasetypeTree,
     findings: &mut Findings,
 ) -> Result<(), AllocError>
+    requires { slots.now ≡ record_parts names.now known.old }
     ensures known { OnOk result (known.new ≡ after_casetype names.now known.old tree.now) }
     ensures first { OnOk result (findings.new.first ≡ first_of findings.old.first (casetype_breaches names.now known.old tree.now)) }
 {
-    let head = head(alloc, names, known, tree.head.params.as_slice(), findings)?;
+    let head = head(
+        alloc,
+        names,
+        known,
+        slots,
+        tree.head.params.as_slice(),
+        findings,
+    )?;
     let (mut scope, mut taken) = (head.scope, head.taken);
     let inner = casetype_inner(alloc, names, known, &mut scope, &mut taken, tree, findings)?;
     check_global(known, &tree.name, findings);
@@ -231,14 +252,36 @@ fn casetype(
     )
 }
 
-/// What is known after a definition; its breaches are noted. `AllocError`: out of memory.
+/// What is known after an output record, the cells for its slots too; its breaches are noted. `AllocError`: out of memory.
+fn output(
+    alloc: Global,
+    names: &Names,
+    known: &mut Known,
+    slots: &mut Items<Items<SlotCell>>,
+    tree: &OutputTree,
+    findings: &mut Findings,
+) -> Result<(), AllocError>
+    requires { slots.old ≡ record_parts names.now known.old }
+    ensures known { OnOk result (known.new ≡ after_record known.old tree.now) }
+    ensures first { OnOk result (findings.new.first ≡ first_of findings.old.first (record_breaches known.old tree.now)) }
+    ensures slots { OnOk result (slots.new ≡ record_parts names.now known.new) }
+{
+    record(alloc, known, tree, findings)?;
+    slots.push(slot_cells(alloc, names, tree.slots.as_slice())?)
+}
+
+/// What is known after a definition, the cells for the slots of each record too; its breaches are noted. `AllocError`: out of
+/// memory.
 fn definition(
     alloc: Global,
     names: &Names,
     known: &mut Known,
+    slots: &mut Items<Items<SlotCell>>,
     tree: &Def,
     findings: &mut Findings,
 ) -> Result<(), AllocError>
+    requires { slots.old ≡ record_parts names.now known.old }
+    ensures slots { OnOk result (slots.new ≡ record_parts names.now known.new) }
     ensures known { OnOk result (known.new ≡ after names.now known.old tree.now) }
     ensures first { OnOk result (findings.new.first ≡ first_of findings.old.first (definition_breaches names.now known.old tree.now)) }
 {
@@ -249,9 +292,9 @@ fn definition(
         }
         Def::Enum(d) => enumerate(alloc, known, d, findings),
         Def::Alias(d) => alias(alloc, known, d, findings),
-        Def::Struct(d) => structure(alloc, names, known, d, findings),
-        Def::Casetype(d) => casetype(alloc, names, known, d, findings),
-        Def::Output(d) => record(alloc, known, d, findings),
+        Def::Struct(d) => structure(alloc, names, known, slots.as_slice(), d, findings),
+        Def::Casetype(d) => casetype(alloc, names, known, slots.as_slice(), d, findings),
+        Def::Output(d) => output(alloc, names, known, slots, d, findings),
     }
 }
 
@@ -267,8 +310,9 @@ pub fn definitions(
     ensures memory { OnErr result (0 < length trees.now) }
 {
     let mut known = nothing_known(alloc);
+    let mut slots = Items::new(alloc);
     for tree in trees {
-        definition(alloc, names, &mut known, tree, findings)?;
+        definition(alloc, names, &mut known, &mut slots, tree, findings)?;
     }
     Ok(known)
 }

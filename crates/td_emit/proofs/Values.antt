@@ -12,18 +12,6 @@ use Rattle.td_core.specs.Term.{Deed, done, set, keep, fork, answer, give_up}
 use Rattle.td_blocks.specs.Tops.{top, deed_top}
 use Rattle.td_emit.specs.Emission.{operator_then, relation_number, is_turned}
 
-pub computed_top : (op : Binary) (mask t : ℕ) (a b : Expr) → top t (computed_of op mask a b) ≡ max (top t a) (top (t + 1) b)
-computed_top Plus mask t a b = refl
-computed_top Minus mask t a b = refl
-computed_top Times mask t a b = refl
-computed_top Over mask t a b = refl
-computed_top Modulo mask t a b = refl
-computed_top BitAnd mask t a b = refl
-computed_top BitOr mask t a b = refl
-computed_top BitXor mask t a b = refl
-computed_top ShiftLeft mask t a b = refl
-computed_top ShiftRight mask t a b = refl
-
 pub computed_value : (op : Binary) (mask t : ℕ) (a b : Expr) (k : Block) → value t (computed_of op mask a b) k ≡ value t a (value (t + 1) b (operator_then op mask t k))
 computed_value Plus mask t a b k = refl
 computed_value Minus mask t a b k = refl

@@ -4,6 +4,7 @@ use Rattle.td_ir.specs.declared.instructions.Instr.{Instr}
 use Rattle.td_ir.specs.declared.instructions.Instr.TheVariants as i
 use Rattle.td_blocks.specs.Block.{Block, Done, Then, Stop, Leave, Guard, Scope, Window, Loop, size, guard, code}
 use Rattle.td_emit.specs.Emission.{laid, Writes, Finishes}
+use Rattle.td_blocks.proofs.Laying.{code_size}
 
 at : (p q x : ℕ) (k : Block) → p ≡ q → code p x k ≡ code q x k
 at p q x k e = ap (λ n. code n x k) e
@@ -27,32 +28,6 @@ laid_leave xs x = append-nil (xs ++ i.Jump x ∷ [])
 -- one part, and then another
 pub both_written : (a b c : List Instr) (f g : Block → Block) → Writes a b f → Writes b c g → Writes a c (λ k. f (g k))
 both_written a b c f g h h' = λ x k. h' x k ∙ h x (g k)
-
-pub code_size : (p x : ℕ) (b : Block) → length (code p x b) ≡ size b
-code_size p x Done = refl
-code_size p x (Then j b) = let h = code_size (p + 1) x b in omega (arith, h)
-code_size p x (Stop j) = refl
-code_size p x Leave = refl
-code_size p x (Guard g r one rest) =
-    let h = code_size (p + 1) x one in
-    let k = code_size (p + 1 + size one) x rest in
-    let a = length-append (code (p + 1) x one) (code (p + 1 + size one) x rest) in
-    omega (arith, h, k, a)
-code_size p x (Scope body rest) =
-    let h = code_size p (p + size body) body in
-    let k = code_size (p + size body) x rest in
-    let a = length-append (code p (p + size body) body) (code (p + size body) x rest) in
-    omega (arith, h, k, a)
-code_size p x (Window j site body rest) =
-    let h = code_size (p + 1) x body in
-    let k = code_size (p + 1 + size body + 1) x rest in
-    let a = length-append (code (p + 1) x body) (i.Widen site ∷ code (p + 1 + size body + 1) x rest) in
-    omega (arith, h, k, a)
-code_size p x (Loop body rest) =
-    let h = code_size (p + 1) x body in
-    let k = code_size (p + 1 + size body + 1) x rest in
-    let a = length-append (code (p + 1) x body) (i.Again p ∷ code (p + 1 + size body + 1) x rest) in
-    omega (arith, h, k, a)
 
 set_middle : (xs zs : List Instr) (y v : Instr) → slice_set (xs ++ y ∷ zs) (length xs) v ≡ xs ++ v ∷ zs
 set_middle [] zs y v = refl

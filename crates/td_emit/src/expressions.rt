@@ -105,7 +105,7 @@ pub fn land(code: &mut Writer, place: u32, when: bool, test: u16)
 
 /// Writes the code that puts an expression's value into register `t`, with the registers above it. `AllocError`: there was
 /// no memory for it.
-#[tactic(auto, using(crate::proofs::Writing::laid_then, crate::proofs::Values::computed_top, crate::proofs::Values::computed_value, crate::proofs::Values::turned_top, crate::proofs::Values::straight_top, crate::proofs::Values::turned_value, crate::proofs::Values::straight_value, crate::proofs::Values::some_top))]
+#[tactic(auto, using(crate::proofs::Writing::laid_then, td_blocks::proofs::Heights::computed_top, crate::proofs::Values::computed_value, crate::proofs::Values::turned_top, crate::proofs::Values::straight_top, crate::proofs::Values::turned_value, crate::proofs::Values::straight_value, crate::proofs::Values::some_top))]
 pub fn write_value(code: &mut Writer, t: u16, e: &CoreExpr) -> Result<(), AllocError>
     requires { term_top t e.now ≤ 2 ^ 16 }
     ensures { OnOk result (Writes code.old code.new (value t (expr_of e.now))) }

@@ -3,9 +3,7 @@ use Rattle.std.proofs.Common.{◌≡◌, ℕ, zero, suc, ◌+◌, ◌^◌, ◌<�
 use Rattle.std.proofs.lemmas.Bool.{leb-true}
 use Rattle.td_num.specs.Lists.{Each}
 use Rattle.td_core.specs.Term.{Term, Deed, done, set, keep, fork, answer, give_up}
-use Rattle.td_core.specs.declared.expressions.Scalar.{Scalar}
-use Rattle.td_core.specs.declared.expressions.Scalar.TheVariants.{Truth, Eight, Sixteen, ThirtyTwo, SixtyFour}
-use Rattle.td_core.specs.Types.{limit, type_of}
+use Rattle.td_core.specs.Types.{type_of}
 use Rattle.td_core.specs.declared.outcome.Reason.{Reason}
 use Rattle.td_core.specs.declared.outcome.Reason.TheVariants.{NotEnough}
 use Rattle.td_core.specs.declared.outcome.TraceFrame.{TraceFrame}
@@ -17,6 +15,7 @@ use Rattle.td_meaning.specs.Doing.{Effect, On, Returned, Aborted, after, either_
 use Rattle.td_meaning.specs.Meaning.{demanded, taken}
 use Rattle.td_meaning.specs.Throughout.{OnEnding, OnEffect, OnDeed}
 use Rattle.td_endings.specs.Endings.{AreCells, IsEndingWithin}
+use Rattle.td_expr.proofs.Widths.{limit_small}
 
 -- ---- endings
 
@@ -68,13 +67,6 @@ set_count : (cells : List ℕ) (i v : ℕ) → length (slice_set cells i v) ≡ 
 set_count [] i v = refl
 set_count (c ∷ cs) zero v = refl
 set_count (c ∷ cs) (suc i) v = ap suc (set_count cs i v)
-
-limit_small : (w : Scalar) → limit w ≤ 2 ^ 64
-limit_small Truth = omega arith
-limit_small Eight = omega arith
-limit_small Sixteen = omega arith
-limit_small ThirtyTwo = omega arith
-limit_small SixtyFour = omega arith
 
 number_small : (e : Term) (env : List ℕ) → Sound e env → natural_of e env < 2 ^ 64
 number_small e env s = let lt = below_limit (type_of e) (value_of e env) (in_type e env s) in omega (arith, lt, limit_small (type_of e))

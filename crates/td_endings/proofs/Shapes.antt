@@ -1,8 +1,6 @@
 -- How what stands in a field ends.
-use Rattle.std.proofs.Common.{◌≡◌, ℕ, zero, suc, ◌+◌, ◌-◌, ◌/◌, ◌<◌, ◌≤◌, min, Bool, true, false, cond, List, [], ◌∷◌, length, map, refl, ap, subst, arith, Option, Some, None, nat_eq, nat_le, slice_index, mul-le-mul_right, div-mul-le_self}
-use Rattle.std.proofs.lemmas.Option.{none-some, same_Some}
+use Rattle.std.proofs.Common.{◌≡◌, ℕ, zero, suc, ◌+◌, ◌-◌, ◌/◌, ◌<◌, ◌≤◌, min, Bool, true, false, cond, List, map, refl, subst, arith, Option, Some, None, nat_eq, nat_le, slice_index, mul-le-mul_right, div-mul-le_self}
 use Rattle.td_num.specs.Numbers.{bytes_in, number_at, places_from}
-use Rattle.td_num.specs.declared.number.NumberType.{NumberType}
 use Rattle.td_num.specs.Lists.{is_among}
 use Rattle.td_core.specs.declared.module.Element.{Element}
 use Rattle.td_core.specs.declared.module.Element.TheVariants.{Number, Listed, Named, Unit as UnitElement, Rest, Zeros}
@@ -12,29 +10,16 @@ use Rattle.td_core.specs.declared.outcome.Reason.TheVariants.{Constraint, ListSi
 use Rattle.td_core.specs.Outcome.{Behavior, Ending, accepted, after_reading, and_then}
 use Rattle.td_expr.specs.Sound.{Sound}
 use Rattle.td_meaning.specs.Doing.{natural_of}
-use Rattle.td_meaning.specs.Meaning.{Sense, numbers_at, one_more, first_where, demanded, taken, values_of, byte_type, is_nonzero, zeros_end, values, element_meaning, elements, divides, equals, zero_end, element_up_to_zero, shape_meaning}
+use Rattle.td_meaning.specs.Meaning.{Sense, numbers_at, first_where, demanded, taken, values_of, byte_type, is_nonzero, zeros_end, values, element_meaning, elements, divides, equals, zero_end, element_up_to_zero, shape_meaning}
 use Rattle.td_meaning.specs.Throughout.{Through, OnEnding, OnElement, OnElements, OnShape}
 use Rattle.td_endings.specs.Endings.{AreCells, IsEndingWithin}
 use Rattle.td_endings.proofs.Cells.{within_more, within_then, within_demanded, within_taken, demanded_at, on_both}
+use Rattle.td_meaning.proofs.Filling.{found_below, count_of}
 
 -- a definition ends so, where what it evaluates lies in its range
 abbrev pub IsGood : ℕ → List ℕ → Sense → Through → Type 0
 IsGood count message sense through =
     (args places cells : List ℕ) (p end : ℕ) → p ≤ end → AreCells count cells → through args places cells message p end → IsEndingWithin end count (sense args places cells message p end).ending
-
--- the place of the first that passes
-found_below : (test : ℕ → Bool) (xs : List ℕ) (k : ℕ) → first_where test xs ≡ Some k → k < length xs
-found_below test [] k e = absurd (none-some k e)
-found_below test (x ∷ xs) k e = by (found_below test xs) (test x) (first_where test xs) refl e
-  where
-    by : ((j : ℕ) → first_where test xs ≡ Some j → j < length xs) → (b : Bool) (o : Option ℕ) → first_where test xs ≡ o → cond b (Some 0) (one_more o) ≡ Some k → k < length (x ∷ xs)
-    by later true o h e = let z : 0 ≡ k = same_Some 0 k e in omega (arith, z)
-    by later false None h e = absurd (none-some k e)
-    by later false (Some j) h e = let z : suc j ≡ k = same_Some (suc j) k e in omega (arith, z, later j h)
-
-count_of : (type : NumberType) (message : List ℕ) (p m : ℕ) → length (numbers_at type message p m) ≡ m
-count_of type message p zero = refl
-count_of type message p (suc m) = ap suc (count_of type message (p + bytes_in type.width) m)
 
 zeros_within : (end count p : ℕ) (message cells : List ℕ) → p ≤ end → AreCells count cells → (o : Option ℕ) → first_where is_nonzero (numbers_at byte_type message p (end - p)) ≡ o → IsEndingWithin end count (zeros_end o end p cells).ending
 zeros_within end count p message cells le small None e = (omega arith, small)

@@ -1,4 +1,4 @@
--- Operators on numbers of the machine.
+-- Operators on numbers of the machine. Cited by other crates.
 use Rattle.std.proofs.Common.{◌≡◌, ℕ, ◌<◌, ◌≤◌, ◌+◌, ◌-◌, ◌*◌, ◌/◌, ◌%◌, ◌^◌, sym, ap, ◌∙◌, subst, arith, lit≤, mul_assoc, List, pos}
 use Rattle.std.proofs.Math.Nat.{mul-mod_left, div-eq_of_lt, mod-eq_of_lt, pow-le-pow_right}
 use Rattle.std.proofs.lemmas.Nat.{pow-add}

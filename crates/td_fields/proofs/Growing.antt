@@ -1,14 +1,15 @@
 -- The scope after fields begins with the scope before them.
-use Rattle.std.proofs.Common.{◌≡◌, ℕ, Bool, true, false, if◌then◌else◌, List, [], ◌∷◌, ◌++◌, length, take, Option, Some, None, is_some, refl, sym, ap, ◌∙◌, append_assoc}
+use Rattle.std.proofs.Common.{◌≡◌, ℕ, List, [], ◌∷◌, ◌++◌, length, take, Option, Some, None, refl, sym, ap, ◌∙◌, append_assoc}
 use Rattle.std.proofs.lemmas.List.{append-nil}
 use Rattle.td_ast.specs.declared.fields.FieldTree.{FieldTree}
-use Rattle.td_names.specs.Names.{looked_up, declared}
+use Rattle.td_names.specs.Names.{declared}
 use Rattle.td_rules.specs.declared.fields.Readable.{Readable}
 use Rattle.td_rules.specs.declared.known.Local.{Local}
 use Rattle.td_rules.specs.declared.known.Known.{Known}
 use Rattle.td_rules.specs.declared.known.Scope.{Scope}
 use Rattle.td_rules.specs.Fields.{readable_of, with_readable, with_field}
 use Rattle.td_fields.specs.Scopes.{fields_scope, Grows}
+use Rattle.td_actions.proofs.Growing.{declared_more, take_all}
 
 pub same : (s : Scope) → Grows s s
 same s = record { more = []; locals = sym (append-nil s.locals); cells = refl; start = refl; this = refl }
@@ -21,13 +22,6 @@ further s t u h k = record {
   start = k.start ∙ h.start;
   this = k.this ∙ h.this;
 }
-
-declared_more : (es : List (List ℕ × Local)) (name : List ℕ) (l : Local) → (more : List (List ℕ × Local)) × (declared es name l ≡ es ++ more)
-declared_more es name l = by (is_some (looked_up es name))
-  where
-    by : (b : Bool) → (more : List (List ℕ × Local)) × ((if b then es else es ++ (name, l) ∷ []) ≡ es ++ more)
-    by true = ([], sym (append-nil es))
-    by false = ((name, l) ∷ [], refl)
 
 grows_value : (s : Scope) (x : List ℕ) (l : Local) (levels : ℕ) → Grows s (record { locals = declared s.locals x l; levels = levels; cells = s.cells; start = s.start; this = s.this })
 grows_value s x l levels =
@@ -44,10 +38,6 @@ grows_field k s f = grows_readable s f.name.text (readable_of k s f)
 pub grows : (k : Known) (s : Scope) (fs : List FieldTree) → Grows s (fields_scope k s fs)
 grows k s [] = same s
 grows k s (f ∷ fs) = further s (with_field k s f) (fields_scope k (with_field k s f) fs) (grows_field k s f) (grows k (with_field k s f) fs)
-
-take_all : {A : Type 0} (xs ys : List A) → take (length xs) (xs ++ ys) ≡ xs
-take_all [] ys = refl
-take_all (x ∷ xs) ys = ap (λ t. x ∷ t) (take_all xs ys)
 
 -- a scope that grew is cut back to what it was
 abbrev pub cut_back : Scope → Scope → Scope

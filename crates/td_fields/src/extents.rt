@@ -46,7 +46,7 @@ fn zero_ended(element: &Element, size: CoreExpr) -> Extent
 
 /// How often an element of a type stands there; the breaches are noted. `AllocError`: it is an array whose size has an
 /// operator or is `is_range_okay`, and out of memory.
-#[tactic(auto, using(crate::proofs::Steps::first_append))]
+#[tactic(auto, using(td_typing::proofs::Steps::first_append))]
 pub fn extent(
     alloc: Global,
     known: &Known,

@@ -32,7 +32,7 @@ use td_typing::findings::Findings;
 
 /// The type of a field and how often it stands there; their breaches and that of its name are noted. `AllocError`: out of
 /// memory.
-#[tactic(auto, using(crate::proofs::Steps::first_append))]
+#[tactic(auto, using(td_typing::proofs::Steps::first_append))]
 fn shape(
     alloc: Global,
     known: &Known,
@@ -80,7 +80,7 @@ fn bring(
 }
 
 /// The refinement and the action of a field that is in scope; their breaches are noted. `AllocError`: out of memory.
-#[tactic(auto, using(crate::proofs::Steps::first_append))]
+#[tactic(auto, using(td_typing::proofs::Steps::first_append))]
 fn tests(
     alloc: Global,
     known: &Known,
@@ -102,7 +102,7 @@ fn tests(
 }
 
 /// A field, which is in scope after it; its breaches are noted. `AllocError`: out of memory.
-#[tactic(auto, using(crate::proofs::Steps::first_append))]
+#[tactic(auto, using(td_typing::proofs::Steps::first_append))]
 fn field(
     alloc: Global,
     names: &Names,

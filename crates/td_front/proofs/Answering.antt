@@ -13,8 +13,10 @@ use Rattle.td_parser.specs.declared.error.ParseError.TheVariants.{Unexpected as 
 use Rattle.td_front.specs.declared.error.FrontError.{FrontError}
 use Rattle.td_front.specs.declared.error.FrontError.TheVariants.{NoMemory}
 use Rattle.td_front.specs.Errors.{of_lexing, of_parsing}
-use Rattle.td_front.specs.ModuleText.{IsModuleText, RefusedBy}
-use Rattle.td_front.specs.Laws.{OneModuleEach, OneRefusalEach, NeverBoth}
+use Rattle.td_front.specs.ModuleText.{IsModuleText, IsTextOf, RefusedBy}
+use Rattle.td_front.specs.declared.check.CheckedTree.{CheckedTree}
+use Rattle.td_front.specs.Checked.{IsChecked}
+use Rattle.td_front.specs.Laws.{OneModuleEach, OneRefusalEach, NeverBoth, ModulesAreChecked}
 
 -- there was no memory, or it is a refusal of the text
 abbrev pub Stops : List ℕ → FrontError → Type 0
@@ -49,13 +51,18 @@ of_tokens text tokens split l refused deep e is = subst (Stops text) (sym is) (b
     by NoTree r d = inl refl
 
 -- the module for which the text stands is the answer
-pub complete_from : (text : List ℕ) → OneModuleEach → NeverBoth → (r : Result Module FrontError) → IfOk r (IsModuleText text) → IfErr r (Stops text) → (m : Module) → IsModuleText text m → MatchResult r (λ found. found ≡ m) (λ e. e ≡ NoMemory)
-complete_from text one never (Ok found) stands stops m h = one text found m stands h
+pub complete_from : (text : List ℕ) → OneModuleEach → NeverBoth → (r : Result CheckedTree FrontError) → IfOk r (λ f. IsTextOf text f.tree f.module) → IfErr r (Stops text) → (m : Module) → IsModuleText text m → MatchResult r (λ found. found.module ≡ m) (λ e. e ≡ NoMemory)
+complete_from text one never (Ok found) stands stops m h = one text found.module m stands.0 h
 complete_from text one never (Err e) stands (inl p) m h = p
 complete_from text one never (Err e) stands (inr p) m h = absurd (never text m e h p)
 
 -- the refusal of the text is the answer
-pub exact_from : (text : List ℕ) → OneRefusalEach → NeverBoth → (r : Result Module FrontError) → IfOk r (IsModuleText text) → IfErr r (Stops text) → (e : FrontError) → RefusedBy text e → MatchResult r (λ m. ⊥) (λ found. (found ≡ e) ⊎ (found ≡ NoMemory))
-exact_from text one never (Ok m) stands stops e h = never text m e stands h
+pub exact_from : (text : List ℕ) → OneRefusalEach → NeverBoth → (r : Result CheckedTree FrontError) → IfOk r (λ f. IsTextOf text f.tree f.module) → IfErr r (Stops text) → (e : FrontError) → RefusedBy text e → MatchResult r (λ found. ⊥) (λ found. (found ≡ e) ⊎ (found ≡ NoMemory))
+exact_from text one never (Ok found) stands stops e h = never text found.module e stands.0 h
 exact_from text one never (Err x) stands (inl p) e h = inr p
 exact_from text one never (Err x) stands (inr p) e h = inl (one text x e p h)
+
+-- what holds of each module that a text stands for holds of the answer
+pub checked_from : (text : List ℕ) → ModulesAreChecked → (r : Result CheckedTree FrontError) → IfOk r (λ f. IsTextOf text f.tree f.module) → IfOk r (λ f. IsChecked f.module)
+checked_from text checked (Ok found) stands = checked text found.module stands.0
+checked_from text checked (Err e) stands = tt

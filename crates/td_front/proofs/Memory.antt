@@ -1,6 +1,5 @@
 -- Where memory may be lacking: a text has a token, and its tree a definition.
 use Rattle.std.proofs.Common.{◌≡◌, ℕ, ◌<◌, List, [], ◌∷◌, length, Result, Ok, Err, IsErrAnd, refl, ap, subst, arith}
-use Rattle.td_core.specs.declared.module.Module.{Module}
 use Rattle.td_ast.specs.declared.token.Token.{Token}
 use Rattle.td_ast.specs.declared.definitions.Def.{Def}
 use Rattle.td_ast.specs.declared.definitions.ModuleTree.{ModuleTree}
@@ -27,9 +26,6 @@ use Rattle.td_front.specs.Passes.{RefusesTree}
 use Rattle.td_front.specs.ModuleText.{SpellsTree}
 
 -- ---- errors
-
-pub same_error : {T E : Type 0} (a b : E) → (let r : Result T E = Err a in r ≡ Err b) → a ≡ b
-same_error a b same = cc
 
 -- an error that is handed on was told
 pub handed_on : {A B E P : Type 0} (r : Result B E) (e none : E) → IsErrAnd r (λ y. y ≡ e) → ((let s : Result A E = Err e in s ≡ Err none) → P) → r ≡ Err none → P

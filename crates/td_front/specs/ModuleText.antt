@@ -27,6 +27,10 @@ pub record IsModuleText (text : List ℕ) (m : Module) : Type 0 where
   pub admitted : IsAdmitted tree
   pub module_is : m ≡ module_of tree
 
+-- and this is its tree
+abbrev pub IsTextOf : List ℕ → ModuleTree → Module → Type 0
+IsTextOf text tree m = (stands : IsModuleText text m) × (stands.tree ≡ tree)
+
 -- where a token begins; the length of the text, where there is no token
 abbrev pub beginning_or : Option Token → ℕ → ℕ
 beginning_or (Some token) end = token.span.from

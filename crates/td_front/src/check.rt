@@ -6,7 +6,7 @@ ghost use Rattle.td_core.specs.declared.module.Module.{Module};
 ghost use Rattle.td_lexer.specs.Splits.{Splits, HasToken};
 ghost use Rattle.td_front.specs.Checked.{IsChecked};
 ghost use Rattle.td_front.specs.Errors.{of_parsing};
-ghost use Rattle.td_front.specs.ModuleText.{IsModuleText, RefusedBy, SpellsTree, beginning_of};
+ghost use Rattle.td_front.specs.ModuleText.{IsModuleText, IsTextOf, RefusedBy, SpellsTree, beginning_of};
 ghost use Rattle.td_front.specs.declared.error.FrontError.{FrontError};
 
 use crate::error::FrontError;
@@ -19,6 +19,13 @@ use td_core::module::Module;
 use td_grammar::laws::one_tree;
 use td_lexer::lex;
 use td_parser::{ParseError, parse};
+
+/// The tree that a text spells, and the module for which the tree stands.
+#[derive(Drop)]
+pub struct CheckedTree {
+    pub tree: ModuleTree,
+    pub module: Module,
+}
 
 /// The module for which a text stands.
 ///
@@ -41,21 +48,38 @@ pub fn check_module(alloc: Global, text: &[u8]) -> Result<Module, FrontError>
     // Memory runs out only where the text begins with a token, after white space and comments.
     ensures memory { result ≡ Err FrontError.NoMemory → HasToken text.now }
 {
+    match check_tree(alloc, text) {
+        Ok(checked) => Ok(checked.module),
+        Err(error) => Err(error),
+    }
+}
+
+/// The tree that a text spells, and the module for which it stands; otherwise what `check_module` answers, under the same clauses.
+pub fn check_tree(alloc: Global, text: &[u8]) -> Result<CheckedTree, FrontError>
+    requires { length text.now < 2 ^ 32 - 1 }
+    ensures stands { IfOk result (λ found. IsTextOf text.now found.tree found.module) }
+    ensures complete { (m : Module) → IsModuleText text.now m → MatchResult result (λ found. found.module ≡ m) (λ e. e ≡ FrontError.NoMemory) }
+    ensures refused { IfErr result (λ e. (e ≡ FrontError.NoMemory) ⊎ RefusedBy text.now e) }
+    ensures exact { (e : FrontError) → RefusedBy text.now e → MatchResult result (λ found. ⊥) (λ found. (found ≡ e) ⊎ (found ≡ FrontError.NoMemory)) }
+    ensures checked { IfOk result (λ found. IsChecked found.module) }
+    ensures memory { result ≡ Err FrontError.NoMemory → HasToken text.now }
+{
     one_answer_each();
     modules_are_checked();
     checked(alloc, text)
 }
 
-// The module or the refusal, of which there is but one.
-fn checked(alloc: Global, text: &[u8]) -> Result<Module, FrontError>
+// The tree and the module, or the refusal, of which there is but one.
+fn checked(alloc: Global, text: &[u8]) -> Result<CheckedTree, FrontError>
     requires { length text.now < 2 ^ 32 - 1 }
-    ensures stands { IfOk result (λ m. IsModuleText text.now m) }
+    ensures stands { IfOk result (λ found. IsTextOf text.now found.tree found.module) }
     ensures refused { IfErr result (λ e. (e ≡ FrontError.NoMemory) ⊎ RefusedBy text.now e) }
     ensures memory { result ≡ Err FrontError.NoMemory → HasToken text.now }
 {
     let tokens = tokens(alloc, text)?;
     let tree = tree(alloc, text, tokens.as_slice())?;
-    passed(alloc, text, &tree)
+    let module = passed(alloc, text, &tree)?;
+    Ok(CheckedTree { tree, module })
 }
 
 // The tokens of a text.
@@ -90,7 +114,7 @@ fn tree(alloc: Global, text: &[u8], tokens: &[Token]) -> Result<ModuleTree, Fron
 // The module of a text's tree, which passes each pass.
 fn passed(alloc: Global, text: &[u8], tree: &ModuleTree) -> Result<Module, FrontError>
     requires { SpellsTree text.now tree.now }
-    ensures stands { IfOk result (λ m. IsModuleText text.now m) }
+    ensures stands { IfOk result (λ m. IsTextOf text.now tree.now m) }
     ensures refused { IfErr result (λ e. (e ≡ FrontError.NoMemory) ⊎ RefusedBy text.now e) }
     ensures memory { result ≡ Err FrontError.NoMemory → HasToken text.now }
 {

@@ -58,6 +58,7 @@ pub(crate) fn limit_words(limit: Limit) -> &'static str
         Limit::Cases => "limit cases",
         Limit::Parameters => "limit parameters",
         Limit::Nodes => "limit nodes",
+        Limit::Action => "limit action",
         Limit::Cells => "limit cells",
         Limit::Depth => "limit depth",
         Limit::Weight => "limit weight",

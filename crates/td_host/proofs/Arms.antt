@@ -24,10 +24,7 @@ use Rattle.td_actors.specs.Actors.{Service}
 use Rattle.td_actors.specs.Acting.{RoomsFor, StoresInside, post_of}
 use Rattle.td_actors.proofs.Posting.{Posting, mail_by, mails_post}
 use Rattle.td_host.specs.Gathered.{FreshWorker, FreshWorkers, FreshGuest, FreshGuests, WorkersSeated, GuestsSeated, Armed, host_at, posts_at, takes_at, draws_at}
-
-append_nil : {A : Type 0} (xs : List A) → xs ++ [] ≡ xs
-append_nil [] = refl
-append_nil (x ∷ xs) = ap (λ l. x ∷ l) (append_nil xs)
+use Rattle.td_actors.proofs.Plays.{append_nil}
 
 -- ---- posts of a script that is gone through
 pub record Listing (guest : ℕ) (whole : List Step) (before mails : List Mail) (rest : List Step) (number made : ℕ) : Type 0 where

@@ -33,10 +33,7 @@ use Rattle.td_actors.specs.Acting.{acts_of, guest_seat, read_seat, post_pass, ta
 use Rattle.td_actors.specs.Actors.{Service, Did}
 use Rattle.td_host.specs.Gathered.{view_of, put_one, take_one, draw_one, seats_all, puts_all, takes_all, draws_all, all_replies, FreshWorkers, FreshGuests}
 use Rattle.td_host.proofs.Shares.{one_below}
-
-pub append_nil : {A : Type 0} (xs : List A) → xs ++ [] ≡ xs
-append_nil [] = refl
-append_nil (x ∷ xs) = ap (λ l. x ∷ l) (append_nil xs)
+use Rattle.td_actors.proofs.Plays.{append_nil}
 
 stores_acts : (script : List Step) → stores (acts_of script) ≡ stores_of script
 unfolding acts_of stores_of

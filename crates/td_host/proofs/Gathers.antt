@@ -17,6 +17,7 @@ use Rattle.td_posts.specs.declared.reply.Reply.{Reply}
 use Rattle.td_actors.specs.declared.actor.Actor.{Actor}
 use Rattle.td_actors.specs.declared.actor.Actor.TheVariants as kind
 use Rattle.td_host.specs.Gathered.{view_of, IsAt, put_one, take_one, draw_one, replies_of, seats_all, puts_all, takes_all, draws_all, all_replies}
+use Rattle.td_actors.proofs.Plays.{append_nil}
 
 put_keeps : (h : Option (Head Post)) (p : Option (Part Post)) → HasHead h → HasHead (part_ended h p)
 put_keeps None p e = e
@@ -27,10 +28,6 @@ draw_keeps : (h : Option (Head ℕ)) (p : Option (Part ℕ)) → HasHead h → H
 draw_keeps None p e = e
 draw_keeps (Some h) None e = e
 draw_keeps (Some h) (Some p) e = refl
-
-append_nil : {A : Type 0} (xs : List A) → xs ++ [] ≡ xs
-append_nil [] = refl
-append_nil (x ∷ xs) = ap (λ l. x ∷ l) (append_nil xs)
 
 module _ {G : Type 0} where
   no_actor : (xs : List (Actor G)) → length xs ≡ 0 → xs ≡ []

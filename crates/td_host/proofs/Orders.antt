@@ -7,12 +7,13 @@ use Rattle.std.specs.List.Sorted.{IsPermutation}
 use Rattle.std.proofs.lemmas.List.{map-append, length-map, length-take-le, take_more, drop_more, drop_all, take_all}
 use Rattle.std.proofs.lemmas.List.Elements.{All-head, All-tail}
 use Rattle.std.proofs.lemmas.List.Sums.{sum_by-cons}
-use Rattle.std.proofs.lemmas.List.Sorted.{IsPermutation-refl, IsPermutation-map, IsPermutation-swap_remove, IsPermutation-pop_more, sum_by-IsPermutation}
+use Rattle.std.proofs.lemmas.List.Sorted.{IsPermutation-map, IsPermutation-swap_remove, IsPermutation-pop_more, sum_by-IsPermutation}
 use Rattle.td_posts.specs.declared.name.PostName.{PostName}
 use Rattle.td_posts.specs.declared.mail.Mail.{Mail}
 use Rattle.td_posts.specs.declared.reply.Reply.{Reply}
 use Rattle.td_posts.specs.Posts.{same_name, reply_name}
-use Rattle.td_host.proofs.Unique.{own_name}
+use Rattle.td_actors.proofs.Plays.{append_nil}
+use Rattle.td_posts.proofs.Unique.{own_name}
 
 abbrev r_name : Reply → PostName
 r_name r = reply_name r
@@ -25,8 +26,15 @@ pub record Ordering (mails : List Mail) (found : List Reply) (i : ℕ) (replies 
   pub named : map reply_name replies ≡ map (λ (m : Mail). m.name) (take i mails)
   pub same : (f : PostName → ℕ) → sum_by f (map reply_name left) ≡ sum_by f (map (λ (m : Mail). m.name) (drop i mails))
 
-pub begins : (mails : List Mail) (found : List Reply) → ((f : PostName → ℕ) → sum_by f (map reply_name found) ≡ sum_by f (map (λ (m : Mail). m.name) mails)) → Ordering mails found 0 [] found
-begins mails found same = record { order = IsPermutation-refl found; named = refl; same = same }
+-- all are left, in another order
+pub begins : (mails : List Mail) (found left : List Reply) → ((f : PostName → ℕ) → sum_by f (map reply_name found) ≡ sum_by f (map (λ (m : Mail). m.name) mails)) → IsPermutation found left → Ordering mails found 0 [] left
+begins mails found left same moved = record {
+  order = moved;
+  named = refl;
+  same = λ f.
+      let sums : sum_by f (map reply_name left) ≡ sum_by f (map reply_name found) = sum_by-IsPermutation f (map r_name found) (map r_name left) (IsPermutation-map r_name found left moved) in
+      sums ∙ same f;
+}
 
 -- 1 for this name
 abbrev one_named : PostName → PostName → ℕ
@@ -76,10 +84,6 @@ counted mails found i replies left o le =
 no_more : (xs : List Reply) → sum_by (λ (n : PostName). 1) (map r_name xs) ≡ 0 → xs ≡ []
 no_more [] e = refl
 no_more (x ∷ xs) e = let c = sum_by-cons (λ (n : PostName). 1) (reply_name x) (map r_name xs) in absurd (omega arith)
-
-append_nil : {A : Type 0} (xs : List A) → xs ++ [] ≡ xs
-append_nil [] = refl
-append_nil (x ∷ xs) = ap (λ l. x ∷ l) (append_nil xs)
 
 pub ends : (mails : List Mail) (found : List Reply) (i : ℕ) (replies left : List Reply) → Ordering mails found i replies left → length mails ≤ i
     → (map reply_name replies ≡ map (λ (m : Mail). m.name) mails) × IsPermutation found replies

@@ -19,6 +19,7 @@ use Rattle.td_ring.specs.Laws.{AllGathered}
 use Rattle.td_ring.proofs.Shares.{all_owned}
 use Rattle.td_ring.specs.declared.view.TicketView.{TicketView}
 use Rattle.td_ring.specs.Tickets.{counted, Told as Drawn}
+use Rattle.td_actors.proofs.Plays.{append_nil}
 
 -- ---- the ring
 -- where the head's own part added nothing, the others' are all
@@ -29,10 +30,6 @@ others_own log h p t none whole = subst (λ l. IsPermutation (all_entries log) (
 no_items : {A : Type 0} (items : List A) → length items ≡ 0 → items ≡ []
 no_items [] e = refl
 no_items (x ∷ items) e = absurd (omega arith)
-
-append_nil : {A : Type 0} (xs : List A) → xs ++ [] ≡ xs
-append_nil [] = refl
-append_nil (x ∷ xs) = ap (λ l. x ∷ l) (append_nil xs)
 
 -- where as many were taken as were posted, what was taken is what was posted
 pub all_taken : (v : RingView) (items : List Post) (posts takes : Head Post) (p t : Part Post) → Settled v items

@@ -31,9 +31,10 @@ use Rattle.td_actors.specs.Acting.{Answered}
 use Rattle.td_actors.specs.Actors.{Service, Did}
 use Rattle.td_host.specs.Gathered.{view_of, seats_all, puts_all, takes_all, draws_all, all_replies, replies_of, Armed}
 use Rattle.td_host.proofs.Shares.{all_taken, drawn_all, drawn_below}
-use Rattle.td_host.proofs.Ends.{put_of, take_of, draw_of, put_parts, take_parts, draw_parts, seats_are, puts_are, takes_are, draws_are, DidAll, did_all, did_both, GuestsDone, guests_done, WorkersDone, workers_done, cons_opt, append_nil}
+use Rattle.td_host.proofs.Ends.{put_of, take_of, draw_of, put_parts, take_parts, draw_parts, seats_are, puts_are, takes_are, draws_are, DidAll, did_all, did_both, GuestsDone, guests_done, WorkersDone, workers_done, cons_opt}
 use Rattle.td_host.proofs.Unique.{replies_to}
 use Rattle.td_host.proofs.Fetching.{fetches}
+use Rattle.td_actors.proofs.Plays.{append_nil}
 
 -- what the guests posted is what the scripts have
 labels_all : (g m : ℕ) (ss : List (List Step)) (ps : List (Part Post)) → ArePosted g m ss ps → map label (owned ps) ≡ map mail_label (all_mails g ss)

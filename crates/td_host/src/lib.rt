@@ -12,3 +12,5 @@ pub mod order;
 mod script;
 pub mod serve;
 pub mod serving;
+
+pub use host::Host;

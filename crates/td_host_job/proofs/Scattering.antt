@@ -13,6 +13,7 @@ use Rattle.td_host_job.specs.Steps.{are_stretches, are_within}
 use Rattle.td_host_job.specs.declared.scatter.Measure.{Measure}
 use Rattle.td_host_job.specs.declared.scatter.Measure.TheVariants.{Stretches, Bytes, Words}
 use Rattle.td_host_job.specs.Scatter.{measured}
+use Rattle.td_num.proofs.Truths.{both_true}
 
 -- the stretches that the values from a place on spell
 abbrev pub stretches_from : List Value → ℕ → List Stretch
@@ -44,10 +45,6 @@ one_within words (Some s) layout = by (nat_le (s.place + s.size) (8 * words))
     by : (b : Bool) → (b && are_within words layout) ≡ ((b && true) && are_within words layout)
     by true = refl
     by false = refl
-
-both_true : (a b : Bool) → (a && b) ≡ true → (a ≡ true) × (b ≡ true)
-both_true true b h = (refl, h)
-both_true false b h = absurd (cc)
 
 pub all_within : (words : ℕ) (layout : List Stretch) → are_within words layout ≡ true → AreWithin words layout
 all_within words [] h = All-nil (λ (s : Stretch). s.place + s.size ≤ 8 * words)

@@ -10,3 +10,5 @@ pub mod laws;
 mod scatter;
 mod steps;
 mod totals;
+
+pub use host_job::read_host_job;

@@ -1,5 +1,5 @@
 -- What the lines of a host's report determine.
-use Rattle.std.proofs.Common.{◌≡◌, ◌≢◌, ℕ, ◌<◌, ◌^◌, Option, List, [], ◌∷◌, ◌++◌, map, flat_map, refl, sym, ap, ◌∙◌, append_assoc, arith, lit<, codes, decimal}
+use Rattle.std.proofs.Common.{◌≡◌, ◌≢◌, ℕ, ◌<◌, ◌^◌, Option, None, List, [], ◌∷◌, ◌++◌, map, flat_map, refl, sym, ap, ◌∙◌, append_assoc, arith, lit<, codes, decimal}
 use Rattle.std.proofs.lemmas.Fmt.{decimal_injective}
 use Rattle.std.proofs.lemmas.Grind.{flat_map-append}
 use Rattle.std.proofs.lemmas.List.Elements.{All-head, All-tail, All-cons}
@@ -93,8 +93,8 @@ all_words m entry replies = flat_map (λ r. reply_words r ∷ run_words m entry 
 reply_by_lines : (m : Module) (entry : Entry) (r : Reply) → reply_report m entry r ≡ flat_map line (reply_words r ∷ run_words m entry r)
 unfolding reply_report
 reply_by_lines m entry r =
-    ap (λ l. l ++ report (outcome_in r) m entry r.loads.list r.layout) (reply_is r)
-    ∙ ap (λ l. line (reply_words r) ++ l) (report_by_lines m (outcome_in r) entry r.loads.list r.layout)
+    ap (λ l. l ++ report (outcome_in r) m entry r.loads.list r.layout None) (reply_is r)
+    ∙ ap (λ l. line (reply_words r) ++ l) (report_by_lines m (outcome_in r) entry r.loads.list r.layout None)
 
 host_by_lines : (m : Module) (entry : Entry) (replies : List Reply) → host_report m entry replies ≡ flat_map line (all_words m entry replies)
 host_by_lines m entry [] = refl
@@ -142,10 +142,10 @@ same_reply : (m : Module) (e f : Entry) (r q : Reply) → HasWords m → HasNoSp
     → reply_words r ≡ reply_words q → run_words m e r ≡ run_words m f q → reported_reply r ≡ reported_reply q
 same_reply m e f r q words none hr hq first rest =
     let numbers = same_numbers r q hr.guest hr.number hq.guest hq.number first in
-    let reports : report (outcome_in r) m e r.loads.list r.layout ≡ report (outcome_in q) m f q.loads.list q.layout =
-    report_by_lines m (outcome_in r) e r.loads.list r.layout ∙ ap (flat_map line) rest ∙ sym (report_by_lines m (outcome_in q) f q.loads.list q.layout) in
+    let reports : report (outcome_in r) m e r.loads.list r.layout None ≡ report (outcome_in q) m f q.loads.list q.layout None =
+    report_by_lines m (outcome_in r) e r.loads.list r.layout None ∙ ap (flat_map line) rest ∙ sym (report_by_lines m (outcome_in q) f q.loads.list q.layout None) in
     let parts =
-    reports_determine_outcomes m (outcome_in r) (outcome_in q) e f r.layout q.layout r.loads.list q.loads.list words none hr.named hq.named hr.frames hq.frames hr.cells hq.cells hr.loads hq.loads reports in
+    reports_determine_outcomes m (outcome_in r) (outcome_in q) e f r.layout q.layout None None r.loads.list q.loads.list words none hr.named hq.named hr.frames hq.frames hr.cells hq.cells hr.loads hq.loads tt tt reports in
     let make : ℕ → ℕ → Verdict → List TraceFrame → List ℕ → List ShownLoad → ReportedReply =
     λ guest number verdict trace cells loads. record { guest = guest; number = number; outcome = record { verdict = verdict; trace = trace; cells = cells }; loads = loads } in
     let shown = shown_loads r.layout r.loads.list in

@@ -4,12 +4,13 @@ use Rattle.std.specs.Prelude.{nat_le, nat_lt, ◌==◌}
 use Rattle.std.specs.Int.{Width as Size, w16, w32}
 use Rattle.td_names.specs.Names.{is_seen, with_name}
 use Rattle.td_image.specs.declared.fault.Cause.{Cause}
-use Rattle.td_image.specs.declared.fault.Cause.TheVariants.{Magic, Version, Field}
-use Rattle.td_image.specs.declared.limits.TheConstants.{MAGIC, VERSION, MOST_ROWS, MOST_INSTRUCTIONS}
+use Rattle.td_image.specs.declared.fault.Cause.TheVariants.{Magic, Field}
+use Rattle.td_image.specs.declared.limits.TheConstants.{MAGIC}
 use Rattle.td_image.specs.declared.counts.Counts.{Counts}
 use Rattle.td_image.specs.Format.{◌>>=◌, Format, HasFront, number, text, allowed, ◌then◌, made, read_all}
 use Rattle.td_image.specs.Names.{is_name}
-use Rattle.td_image.specs.Image.{constant, header, name, counts_of, image}
+use Rattle.td_image.specs.Versions.{most_rows, most_instructions}
+use Rattle.td_image.specs.Image.{constant, version, header, name, counts_of, image}
 use Rattle.td_image.specs.Answer.{MayRunOut}
 use Rattle.td_image.proofs.Exact.{bind_ok}
 use Rattle.td_image.proofs.Whole.{header_exact, names_exact}
@@ -35,13 +36,16 @@ then_free g h G H = record {
 made_free : {A B : Type 0} (to : A → B) (from : B → A) (g : Format A) → IsFree g → IsFree (made to from g)
 made_free to from g G = record { none = G.none }
 
+version_free : IsFree version
+version_free = record { none = λ bytes out. out }
+
 header_free : IsFree header
 unfolding header
 header_free =
-    made_free _ _ _ (then_free _ _ (constant_free w32 Magic MAGIC) (λ magic. then_free _ _ (constant_free w16 Version VERSION) (λ version. then_free _ _ (constant_free w16 Field 0) (λ zeros.
-    then_free _ _ (choice_free w32 (λ n. nat_le n MOST_ROWS)) (λ names. then_free _ _ (choice_free w32 (λ n. nat_le n MOST_ROWS)) (λ sites. then_free _ _ (choice_free w32 (λ n. nat_le n MOST_ROWS)) (λ maps.
-    then_free _ _ (choice_free w32 (λ n. nat_le n MOST_ROWS)) (λ sets. then_free _ _ (choice_free w32 (λ n. nat_le n MOST_ROWS)) (λ routines. then_free _ _ (choice_free w32 (λ n. nat_le n MOST_ROWS)) (λ entries.
-    choice_free w32 (λ n. nat_le n MOST_INSTRUCTIONS && (nat_lt 0 routines || (n == 0)))))))))))))
+    made_free _ _ _ (then_free _ _ (constant_free w32 Magic MAGIC) (λ magic. then_free _ _ version_free (λ v. then_free _ _ (constant_free w16 Field 0) (λ zeros.
+    then_free _ _ (choice_free w32 (λ n. nat_le n (most_rows v))) (λ names. then_free _ _ (choice_free w32 (λ n. nat_le n (most_rows v))) (λ sites. then_free _ _ (choice_free w32 (λ n. nat_le n (most_rows v))) (λ maps.
+    then_free _ _ (choice_free w32 (λ n. nat_le n (most_rows v))) (λ sets. then_free _ _ (choice_free w32 (λ n. nat_le n (most_rows v))) (λ routines. then_free _ _ (choice_free w32 (λ n. nat_le n (most_rows v))) (λ entries.
+    choice_free w32 (λ n. nat_le n (most_instructions v) && (nat_lt 0 routines || (n == 0)))))))))))))
 
 name_free : (seen : List (List ℕ)) → IsFree (name seen)
 unfolding name
@@ -74,9 +78,9 @@ none_for_counts bytes (inl out) = elim out [
     ],
   )
 ]
-none_for_counts bytes (inr (p, (fits, same))) = (
-  counts_of p,
+none_for_counts bytes (inr (p, (s, (fits, same), is))) = (
+  counts_of s.version s.parts,
   _,
-  ap header.read same ∙ header_exact.again (counts_of p) _ fits.0,
-  λ some. first_read name with_name (length p.names) [] _ p.names _ some ((names_exact (length p.names)).again p.names _ fits.1.0),
+  ap header.read same ∙ header_exact.again (counts_of s.version s.parts) _ fits.0,
+  λ some. first_read name with_name (length s.parts.names) [] _ s.parts.names _ some ((names_exact (length s.parts.names)).again s.parts.names _ fits.1.0),
 )

@@ -1,5 +1,5 @@
 -- Parts that have an image fit together.
-use Rattle.std.proofs.Common.{◌≡◌, ℕ, zero, suc, ◌+◌, ◌-◌, ◌≤◌, ◌<◌, ◌⊎◌, inl, inr, Bool, true, false, ◌&&◌, ◌||◌, not, List, [], ◌∷◌, length, map, Option, Some, None, refl, sym, ap, subst, ◌∙◌, arith, slice_index_or}
+use Rattle.std.proofs.Common.{◌≡◌, ℕ, zero, suc, ◌+◌, ◌-◌, ◌≤◌, ◌<◌, inl, inr, Bool, true, false, ◌&&◌, ◌||◌, not, List, [], ◌∷◌, length, map, Option, Some, None, refl, sym, ap, subst, ◌∙◌, arith, slice_index_or}
 use Rattle.std.specs.Prelude.{nat_le, nat_lt, ◌==◌}
 use Rattle.std.proofs.lemmas.Bool.{eqb-true, leb-true, ltb-true}
 use Rattle.td_core.specs.declared.module.NameId.{NameId}
@@ -10,11 +10,20 @@ use Rattle.td_ir.specs.declared.tables.Site.{Site}
 use Rattle.td_ir.specs.declared.tables.Routine.{Routine}
 use Rattle.td_ir.specs.declared.tables.EntryPoint.{EntryPoint}
 use Rattle.td_ir.specs.Tables.{routine_of, site_of, entry_of, set_of, param_of, cell_of, begin}
-use Rattle.td_ir.specs.WellFormed.{IsName, IsField, IsSite, IsRoutine, IsCellNamed, IsEntry, Rises, IsCode}
+use Rattle.td_ir.specs.WellFormed.{IsName, IsField, IsRoutine, IsCellNamed, IsEntry, Rises, IsCode}
+use Rattle.td_ir.specs.Tables.{lengths_of}
 use Rattle.td_image.specs.declared.routines.Room.{Room}
-use Rattle.td_image.specs.declared.limits.TheConstants.{NO_FIELD, MOST_INSTRUCTIONS, MOST_NUMBERS}
+use Rattle.td_image.specs.declared.limits.TheConstants.{NO_FIELD}
+use Rattle.td_image.specs.declared.version.ImageVersion.{ImageVersion}
+use Rattle.td_image.specs.declared.version.ImageVersion.TheVariants.{First, Second}
+use Rattle.td_image.specs.declared.version.Spelled.{Spelled}
+use Rattle.td_image.specs.Versions.{most_numbers, most_instructions}
+use Rattle.td_image.specs.Answer.{code_in, code_of}
+use Rattle.td_turning.specs.Laws.{IsDivided, IsOldCode}
+use Rattle.td_turning.proofs.Codes.{turned_is_code}
 use Rattle.td_image.specs.Format.{Format, all_fit}
 use Rattle.td_image.specs.Image as format
+use Rattle.td_num.proofs.Truths.{or_cases as either, both_true as both}
 
 -- each of a list fits, in the state that those before it made
 module _ {S A : Type 0} (f : S → Format A) (next : S → A → S) where
@@ -24,23 +33,19 @@ module _ {S A : Type 0} (f : S → Format A) (next : S → A → S) where
   fit_at s (x ∷ xs) other zero fits lt = (s, fits.0)
   fit_at s (x ∷ xs) other (suc k) fits lt = fit_at (next s x) xs other k fits.1 (omega (arith, lt))
 
-both : (a b : Bool) → (a && b) ≡ true → (a ≡ true) × (b ≡ true)
-both true b e = (refl, e)
-both false b e = absurd cc
-
-either : (a b : Bool) → (a || b) ≡ true → (a ≡ true) ⊎ (b ≡ true)
-either true b e = inl refl
-either false b e = inr e
-
 not_or : (a b : Bool) → a ≡ true → (not a || b) ≡ true → b ≡ true
 not_or true b e f = f
 not_or false b e f = absurd cc
 
 -- ---- sites, parameters, cells
 
-site_fits : (names : ℕ) (s : Site) → (format.site names).Fits s → IsSite names s
+site_fits : (v : ImageVersion) (names routines : ℕ) (s : Site) → (format.site v names routines).Fits s → IsName names s.ty × IsName names s.field
 unfolding format.site
-site_fits names s (ty, field) = record { ty_named = ltb-true _ _ ty.1; field_named = ltb-true _ _ field.1 }
+site_fits v names routines s (ty, (field, routine)) = (ltb-true _ _ ty.1, ltb-true _ _ field.1)
+
+owner_fits : (names routines : ℕ) (s : Site) → (format.site Second names routines).Fits s → s.routine < routines
+unfolding format.site
+owner_fits names routines s (ty, (field, routine)) = ltb-true _ _ routine.1
 
 param_fits : (names : ℕ) (p : Param) → (format.param names).Fits p → IsName names p.name
 unfolding format.param
@@ -135,14 +140,52 @@ set_fits left xs (count, fits) = rising None xs fits.1
 
 -- ---- all tables
 
-pub tables_fit : (p : Parts) → format.image.Fits p → IsCode p
+abbrev pub FitsAs : ImageVersion → Parts → Type 0
+FitsAs v p = format.image.Fits (record { version = v; parts = p })
+
+old_code : (v : ImageVersion) (p : Parts) → FitsAs v p → IsOldCode p
 unfolding format.image format.header
-tables_fit p ((m, (v, (z, (n, (s, (a, (t, (r, (e, i))))))))), (names, (sites, (maps, (sets, (routines, (entries, instructions))))))) =
+old_code v p ((m, (o, (z, (n, (s, (a, (t, (r, (e, i))))))))), (names, (sites, (maps, (sets, (routines, (entries, instructions))))))) =
     let ns = length p.names in
+    let rs = length p.routines in
     record {
-      sites = λ k lt. let f = fit_at (λ (s : Unit {0}). format.site ns) (λ s x. s) tt p.sites _ k sites.1 lt in site_fits ns (site_of p k) f.1;
+      sites = λ k lt. let f = fit_at (λ (s : Unit {0}). format.site v ns rs) (λ s x. s) tt p.sites _ k sites.1 lt in site_fits v ns rs (site_of p k) f.1;
       routines = λ k lt. let f = fit_at (format.routine ns) format.after_routine _ p.routines _ k routines.1 lt in routine_fits ns f.0 (routine_of p k) f.1;
-      whole = begin_whole p.routines ∙ divided ns p.routines (length p.instructions) routines.1 (both (nat_le (length p.instructions) MOST_INSTRUCTIONS) (nat_lt 0 (length p.routines) || (length p.instructions == 0)) i.1).1;
       entries = λ k lt. let f = fit_at (λ (s : Unit {0}). format.entry ns p.routines) (λ s x. s) tt p.entries _ k entries.1 lt in entry_fits p (entry_of p k) f.1;
-      sets = λ k lt. let f = fit_at format.set (λ left x. left - length x) MOST_NUMBERS p.sets _ k sets.1 lt in set_fits f.0 (set_of p k) f.1;
+      sets = λ k lt. let f = fit_at format.set (λ left x. left - length x) (most_numbers v) p.sets _ k sets.1 lt in set_fits f.0 (set_of p k) f.1;
     }
+
+owned : (p : Parts) → FitsAs Second p → (k : ℕ) → k < length p.sites → (site_of p k).routine < length p.routines
+unfolding format.image format.header
+owned p ((m, (o, (z, (n, (s, (a, (t, (r, (e, i))))))))), (names, (sites, (maps, (sets, (routines, (entries, instructions))))))) k lt =
+    let ns = length p.names in
+    let rs = length p.routines in
+    let f = fit_at (λ (s : Unit {0}). format.site Second ns rs) (λ s x. s) tt p.sites _ k sites.1 lt in owner_fits ns rs (site_of p k) f.1
+
+counted : (v : ImageVersion) (p : Parts) → FitsAs v p → (length p.instructions ≤ most_instructions v) × (begin (lengths_of p) (length p.routines) ≡ length p.instructions)
+unfolding format.image format.header
+counted v p ((m, (o, (z, (n, (s, (a, (t, (r, (e, i))))))))), (names, (sites, (maps, (sets, (routines, (entries, instructions))))))) =
+    let b = both (nat_le (length p.instructions) (most_instructions v)) (nat_lt 0 (length p.routines) || (length p.instructions == 0)) i.1 in
+    (leb-true _ _ b.0, begin_whole p.routines ∙ divided (length p.names) p.routines (length p.instructions) routines.1 b.1)
+
+pub is_divided : (p : Parts) → FitsAs First p → IsDivided p
+is_divided p fits = let c = counted First p fits in record { whole = c.1; few = omega (arith, c.0) }
+
+pub few_routines : (p : Parts) → FitsAs First p → length p.routines ≤ 4294967295
+unfolding format.image format.header
+few_routines p ((m, (o, (z, (n, (s, (a, (t, (r, (e, i))))))))), rest) = let f = leb-true _ _ r.1 in omega (arith, f)
+
+pub fit_in : (v : ImageVersion) (p : Parts) → FitsAs v p → IsCode (code_in v p)
+fit_in First p fits = turned_is_code p (is_divided p fits) (old_code First p fits)
+fit_in Second p fits =
+    let o = old_code Second p fits in
+    record {
+      sites = λ k lt. let s = o.sites k lt in record { ty_named = s.0; field_named = s.1; of_routine = owned p fits k lt };
+      routines = o.routines;
+      whole = (counted Second p fits).1;
+      entries = o.entries;
+      sets = o.sets;
+    }
+
+pub tables_fit : (s : Spelled) → format.image.Fits s → IsCode (code_of s)
+tables_fit s fits = fit_in s.version s.parts fits

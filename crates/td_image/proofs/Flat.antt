@@ -6,7 +6,8 @@ use Rattle.std.proofs.lemmas.List.Concat.{flat_map-cons}
 use Rattle.td_ir.specs.declared.tables.Parts.{Parts}
 use Rattle.td_image.specs.declared.limits.TheConstants.{MAGIC, VERSION, MOST_NUMBERS}
 use Rattle.td_names.specs.Names.{with_name}
-use Rattle.td_image.specs.declared.counts.Counts.{Counts}
+use Rattle.td_image.specs.declared.version.ImageVersion.TheVariants.{Second}
+use Rattle.td_image.specs.Answer.{written}
 use Rattle.td_image.specs.declared.operands.Fields.{Fields}
 use Rattle.td_ir.specs.declared.tables.Site.{Site}
 use Rattle.td_ir.specs.declared.tables.Routine.{Routine}
@@ -29,9 +30,9 @@ flat f next g same s (x ∷ xs) = rw (flat_map-cons, same s x, flat f next g sam
 pub flat_times : {A : Type 0} (n : ℕ) (f : Format A) (xs : List A) → (times n f).bytes xs ≡ flat_map f.bytes xs
 flat_times n f xs = flat (λ (s : Unit {0}). f) (λ s x. s) f.bytes (λ s x. refl) tt xs
 
-pub site_same : (n : ℕ) (x : Site) → (format.site n).bytes x ≡ rows.site x
+pub site_same : (n r : ℕ) (x : Site) → (format.site Second n r).bytes x ≡ rows.site x
 unfolding format.site
-site_same n x = refl
+site_same n r x = refl
 
 pub name_same : (s : List (List ℕ)) (x : List ℕ) → (format.name s).bytes x ≡ rows.name x
 unfolding format.name
@@ -89,19 +90,19 @@ pub fields_flat : (f : Fields) → format.fields.bytes f ≡ to_le_bytes w8 f.nu
 unfolding format.fields
 fields_flat f = refl
 
-pub header_flat : (c : Counts) → format.header.bytes c ≡ to_le_bytes w32 MAGIC ++ (to_le_bytes w16 VERSION ++ (to_le_bytes w16 0 ++ (to_le_bytes w32 c.names ++ (to_le_bytes w32 c.sites ++ (to_le_bytes w32 c.maps ++ (to_le_bytes w32 c.sets
-    ++ (to_le_bytes w32 c.routines ++ (to_le_bytes w32 c.entries ++ to_le_bytes w32 c.instructions))))))))
+pub header_flat : (p : Parts) → format.header.bytes (format.counts_of Second p) ≡ to_le_bytes w32 MAGIC ++ (to_le_bytes w16 VERSION ++ (to_le_bytes w16 0 ++ (to_le_bytes w32 (length p.names) ++ (to_le_bytes w32 (length p.sites)
+    ++ (to_le_bytes w32 (length p.maps) ++ (to_le_bytes w32 (length p.sets) ++ (to_le_bytes w32 (length p.routines) ++ (to_le_bytes w32 (length p.entries) ++ to_le_bytes w32 (length p.instructions)))))))))
 unfolding format.header
-header_flat c = refl
+header_flat p = refl
 
-pub image_flat : (p : Parts) → format.image.bytes p ≡ format.header.bytes (format.counts_of p) ++ rows.tables p
+pub image_flat : (p : Parts) → format.image.bytes (written p) ≡ format.header.bytes (format.counts_of Second p) ++ rows.tables p
 unfolding format.image
 image_flat p =
     let n = flat format.name with_name rows.name name_same [] p.names in
-    let s = flat (λ (s : Unit {0}). format.site (length p.names)) (λ s x. s) rows.site (λ s x. site_same (length p.names) x) tt p.sites in
+    let s = flat (λ (s : Unit {0}). format.site Second (length p.names) (length p.routines)) (λ s x. s) rows.site (λ s x. site_same (length p.names) (length p.routines) x) tt p.sites in
     let m = flat_times (length p.maps) format.map_format p.maps in
     let t = flat format.set (λ left x. left - length x) rows.set set_same MOST_NUMBERS p.sets in
     let r = flat (format.routine (length p.names)) format.after_routine rows.routine (routine_same (length p.names)) (record { left = length p.instructions; more = length p.routines }) p.routines in
     let e = flat (λ (s : Unit {0}). format.entry (length p.names) p.routines) (λ s x. s) rows.entry (λ s x. entry_same (length p.names) p.routines x) tt p.entries in
     let i = flat_times (length p.instructions) format.instruction p.instructions in
-    ap (λ (l : List ℕ). format.header.bytes (format.counts_of p) ++ l) (joined n (joined s (joined m (joined t (joined r (joined e i))))))
+    ap (λ (l : List ℕ). format.header.bytes (format.counts_of Second p) ++ l) (joined n (joined s (joined m (joined t (joined r (joined e i))))))

@@ -1,5 +1,5 @@
 -- The format of images is exact.
-use Rattle.std.proofs.Common.{◌≡◌, ℕ, ◌-◌, ◌⊎◌, inl, inr, Bool, true, false, ◌&&◌, ◌||◌, not, if◌then◌else◌, List, [], length, Some, None, refl, sym, ap, subst, ◌∙◌}
+use Rattle.std.proofs.Common.{◌≡◌, ℕ, ◌-◌, inl, inr, Bool, true, false, ◌&&◌, ◌||◌, not, if◌then◌else◌, List, [], length, Some, None, refl, sym, ap, subst, ◌∙◌}
 use Rattle.std.specs.Prelude.{nat_le, nat_lt, ◌==◌}
 use Rattle.std.specs.Int.{Width as Size, w8, w16, w32, w64}
 use Rattle.std.proofs.lemmas.Bool.{eqb-true, leb-true}
@@ -12,16 +12,20 @@ use Rattle.td_ir.specs.declared.tables.Routine.{Routine}
 use Rattle.td_ir.specs.declared.tables.Parts.{Parts}
 use Rattle.td_image.specs.declared.fault.Cause.{Cause}
 use Rattle.td_image.specs.declared.fault.Cause.TheVariants.{Magic, Version, Field}
-use Rattle.td_image.specs.declared.limits.TheConstants.{MAGIC, VERSION, MOST_ROWS, MOST_INSTRUCTIONS, MOST_CELLS, MOST_NUMBERS, MOST_PARAMETERS, MOST_REGISTERS, NO_FIELD, LAST_KIND}
+use Rattle.td_image.specs.declared.limits.TheConstants.{MAGIC, VERSION, FIRST_VERSION, MOST_CELLS, MOST_PARAMETERS, MOST_REGISTERS, NO_FIELD, LAST_KIND}
 use Rattle.td_image.specs.declared.counts.Counts.{Counts}
+use Rattle.td_image.specs.declared.version.ImageVersion.{ImageVersion}
+use Rattle.td_image.specs.declared.version.ImageVersion.TheVariants.{First, Second}
+use Rattle.td_image.specs.Versions.{number_of, is_version, version_of, most_rows, most_numbers, most_instructions, has_owners}
 use Rattle.td_image.specs.declared.routines.Room.{Room}
 use Rattle.td_image.specs.declared.operands.Fields.{Fields}
 use Rattle.td_image.specs.Format.{Format, number, text, allowed, ◌then◌, times}
 use Rattle.td_image.specs.Instructions.{has_x, has_a, has_b, has_c, has_t, has_site, has_k, instruction_of, fields_of}
 use Rattle.td_image.specs.Names.{is_name}
-use Rattle.td_image.specs.Image.{constant, up_to, place, counted, count, header, name, names, name_place, site, map_format, rises, element, elements, set, sets, is_length, after_routine, routine, routines, is_width, bits_of, width_of, width, param, field_of, field_number, cell_field, kind_of, kind_bits, cell_kind, cell, routine_of, entry, operand, fields, instruction, counts_of, image}
-use Rattle.td_image.proofs.Exact.{IsExact, IsWide, wide8, wide16, wide32, wide64, number_exact, text_exact, allowed_exact, then_exact, made_exact, within_exact, each_exact}
+use Rattle.td_image.specs.Image.{constant, up_to, place, counted, version, count, site_routine, header, name, names, name_place, site, map_format, rises, element, elements, set, sets, is_length, after_routine, routine, routines, is_width, bits_of, width_of, width, param, field_of, field_number, cell_field, kind_of, kind_bits, cell_kind, cell, routine_of, entry, operand, fields, instruction, counts_of, image}
+use Rattle.td_image.proofs.Exact.{IsExact, IsWide, wide8, wide16, wide32, wide64, number_exact, since_exact, text_exact, allowed_exact, then_exact, made_exact, within_exact, each_exact}
 use Rattle.td_image.proofs.Twentysix.{given_back, keep, kept_by}
+use Rattle.td_num.proofs.Truths.{or_cases as either}
 
 pub constant_exact : (w : Size) (wide : IsWide w) (cause : Cause) (n : ℕ) → IsExact (constant w cause n)
 constant_exact w wide cause n = made_exact (λ k. tt) (λ u. n) (allowed cause (λ k. k == n) (number w)) (allowed_exact cause (λ k. k == n) (number w) (number_exact w wide)) (λ k fits. sym (eqb-true _ _ fits.1)) (λ u. refl)
@@ -54,9 +58,13 @@ names_exact n = each_exact name with_name name_exact n []
 pub name_place_exact : (n : ℕ) → IsExact (name_place n)
 name_place_exact n = made_exact _ _ _ (place_exact n) (λ a fits. refl) (λ b. refl)
 
-pub site_exact : (n : ℕ) → IsExact (site n)
+pub site_routine_exact : (v : ImageVersion) (routines : ℕ) → IsExact (site_routine v routines)
+site_routine_exact v routines = since_exact (has_owners v) 0 (place routines) (place_exact routines)
+
+pub site_exact : (v : ImageVersion) (n routines : ℕ) → IsExact (site v n routines)
 unfolding site
-site_exact n = made_exact _ _ _ (then_exact _ _ (name_place_exact n) (λ t. name_place_exact n)) (λ a fits. refl) (λ b. refl)
+site_exact v n routines =
+    made_exact _ _ _ (then_exact _ _ (name_place_exact n) (λ t. then_exact _ _ (name_place_exact n) (λ f. site_routine_exact v routines))) (λ a fits. refl) (λ b. refl)
 
 pub map_exact : IsExact map_format
 unfolding map_format
@@ -69,8 +77,8 @@ pub set_exact : (left : ℕ) → IsExact (set left)
 unfolding set
 set_exact left = counted_exact (up_to left) elements (up_to_exact left) elements_exact (λ n xs fits. fits.0)
 
-pub sets_exact : (n : ℕ) → IsExact (sets n)
-sets_exact n = each_exact set (λ left x. left - length x) set_exact n MOST_NUMBERS
+pub sets_exact : (v : ImageVersion) (n : ℕ) → IsExact (sets v n)
+sets_exact v n = each_exact set (λ left x. left - length x) set_exact n (most_numbers v)
 
 pub routine_exact : (names : ℕ) (room : Room) → IsExact (routine names room)
 unfolding routine
@@ -81,10 +89,6 @@ routine_exact names room =
 
 pub routines_exact : (names n instructions : ℕ) → IsExact (routines names n instructions)
 routines_exact names n instructions = each_exact (routine names) after_routine (routine_exact names) n (record { left = instructions; more = n })
-
-either : (a b : Bool) → (a || b) ≡ true → (a ≡ true) ⊎ (b ≡ true)
-either true b e = inl refl
-either false b e = inr e
 
 -- what holds of each width holds of a number that is one
 each_width : (P : ℕ → Type 0) (n : ℕ) → is_width n ≡ true → P 8 → P 16 → P 32 → P 64 → P n
@@ -180,23 +184,37 @@ fields_back f (number, (x, (a, (b, (c, (t, (s, k))))))) =
 pub instruction_exact : IsExact instruction
 instruction_exact = made_exact instruction_of fields_of fields fields_exact fields_back given_back
 
+version_by : (n : ℕ) (b : Bool) → (n == FIRST_VERSION) ≡ b → (b || (n == VERSION)) ≡ true → number_of (if b then First else Second) ≡ n
+version_by n true e h = sym (eqb-true _ _ e)
+version_by n false e h = sym (eqb-true _ _ h)
+
+version_back : (n : ℕ) → is_version n ≡ true → number_of (version_of n) ≡ n
+version_back n h = version_by n (n == FIRST_VERSION) refl h
+
+version_there : (v : ImageVersion) → version_of (number_of v) ≡ v
+version_there First = refl
+version_there Second = refl
+
+pub version_exact : IsExact version
+version_exact = made_exact version_of number_of (allowed Version is_version (number w16)) (allowed_exact Version is_version (number w16) (number_exact w16 wide16)) (λ n fits. version_back n fits.1) version_there
+
 pub header_exact : IsExact header
 unfolding header
 header_exact =
-    made_exact _ _ _ (then_exact _ _ (constant_exact w32 wide32 Magic MAGIC) (λ magic. then_exact _ _ (constant_exact w16 wide16 Version VERSION) (λ version. then_exact _ _ (constant_exact w16 wide16 Field 0) (λ zeros.
-    then_exact _ _ (up_to_exact MOST_ROWS) (λ names. then_exact _ _ (up_to_exact MOST_ROWS) (λ sites. then_exact _ _ (up_to_exact MOST_ROWS) (λ maps. then_exact _ _ (up_to_exact MOST_ROWS) (λ sets.
-    then_exact _ _ (up_to_exact MOST_ROWS) (λ routines. then_exact _ _ (up_to_exact MOST_ROWS) (λ entries. choice_exact w32 wide32 (λ n. nat_le n MOST_INSTRUCTIONS && (nat_lt 0 routines || (n == 0)))))))))))))
+    made_exact _ _ _ (then_exact _ _ (constant_exact w32 wide32 Magic MAGIC) (λ magic. then_exact _ _ version_exact (λ v. then_exact _ _ (constant_exact w16 wide16 Field 0) (λ zeros.
+    then_exact _ _ (up_to_exact (most_rows v)) (λ names. then_exact _ _ (up_to_exact (most_rows v)) (λ sites. then_exact _ _ (up_to_exact (most_rows v)) (λ maps. then_exact _ _ (up_to_exact (most_rows v)) (λ sets.
+    then_exact _ _ (up_to_exact (most_rows v)) (λ routines. then_exact _ _ (up_to_exact (most_rows v)) (λ entries. choice_exact w32 wide32 (λ n. nat_le n (most_instructions v) && (nat_lt 0 routines || (n == 0)))))))))))))
     (λ a fits. refl) (λ b. refl)
 
 pub same_counts : (c : Counts) (p : Parts) → length p.names ≡ c.names → length p.sites ≡ c.sites → length p.maps ≡ c.maps → length p.sets ≡ c.sets → length p.routines ≡ c.routines → length p.entries ≡ c.entries
-    → length p.instructions ≡ c.instructions → counts_of p ≡ c
+    → length p.instructions ≡ c.instructions → counts_of c.version p ≡ c
 same_counts c p n s m t r e i = rw (n, s, m, t, r, e, i) refl
 
 pub image_exact : IsExact image
 unfolding image
 image_exact =
-    made_exact _ _ _ (then_exact _ _ header_exact (λ c. then_exact _ _ (names_exact c.names) (λ names. then_exact _ _ (times_exact c.sites (site c.names) (site_exact c.names)) (λ sites.
-    then_exact _ _ (times_exact c.maps map_format map_exact) (λ maps. then_exact _ _ (sets_exact c.sets) (λ sets. then_exact _ _ (routines_exact c.names c.routines c.instructions) (λ routines.
+    made_exact _ _ _ (then_exact _ _ header_exact (λ c. then_exact _ _ (names_exact c.names) (λ names. then_exact _ _ (times_exact c.sites (site c.version c.names c.routines) (site_exact c.version c.names c.routines)) (λ sites.
+    then_exact _ _ (times_exact c.maps map_format map_exact) (λ maps. then_exact _ _ (sets_exact c.version c.sets) (λ sets. then_exact _ _ (routines_exact c.names c.routines c.instructions) (λ routines.
     then_exact _ _ (times_exact c.entries (entry c.names routines) (entry_exact c.names routines)) (λ entries. times_exact c.instructions instruction instruction_exact))))))))
     (λ (c, (names, (sites, (maps, (sets, (routines, (entries, instructions))))))) (h, (n, (s, (m, (t, (r, (e, i))))))).
     let p : Parts = record { names = names; sites = sites; maps = maps; sets = sets; routines = routines; entries = entries; instructions = instructions } in

@@ -1,5 +1,5 @@
 -- Tables that fit together and are within the limits have an image.
-use Rattle.std.proofs.Common.{◌≡◌, ℕ, suc, ◌-◌, ◌^◌, ◌≤◌, ◌<◌, Bool, true, false, ◌&&◌, ◌||◌, not, List, [], ◌∷◌, length, Option, Some, None, refl, sym, ap, ◌∙◌, arith, slice_index_or}
+use Rattle.std.proofs.Common.{◌≡◌, ℕ, suc, ◌-◌, ◌^◌, ◌≤◌, ◌<◌, Bool, true, false, ◌&&◌, ◌||◌, not, List, [], ◌∷◌, length, Option, Some, None, refl, sym, ap, ◌∙◌, arith}
 use Rattle.std.specs.Prelude.{nat_le, nat_lt, ◌==◌, slice_get}
 use Rattle.std.specs.Int.{w32}
 use Rattle.std.specs.Str.{bytes_eq}
@@ -30,27 +30,19 @@ use Rattle.td_image.specs.declared.operands.Fields.{Fields}
 use Rattle.td_image.specs.Format.{Format, number, all_fit}
 use Rattle.td_image.specs.Instructions.{has_x, has_a, has_b, has_c, has_t, has_site, has_k, fields_of}
 use Rattle.td_image.specs.Names.{is_name}
+use Rattle.td_image.specs.declared.version.ImageVersion.TheVariants.{Second}
+use Rattle.td_image.specs.Answer.{written}
 use Rattle.td_image.specs.Image as format
 use Rattle.td_image.specs.Within.{IsSpelled, AreApart, IsSmallMap, total, IsSmallRoutine, HasSmallOperands, IsWithinFormat}
 use Rattle.td_image.proofs.Fitting.{sum_of, begin_whole}
+use Rattle.td_num.proofs.Truths.{or_right, or_left, false_by}
+use Rattle.td_num.proofs.Lists.{each_by as each_at, each_map}
 
 -- ---- truth values
 
 and_both : (a b : Bool) → a ≡ true → b ≡ true → (a && b) ≡ true
 and_both true b e f = f
 and_both false b e f = absurd cc
-
-or_left : (a b : Bool) → a ≡ true → (a || b) ≡ true
-or_left true b e = refl
-or_left false b e = absurd cc
-
-or_right : (a b : Bool) → b ≡ true → (a || b) ≡ true
-or_right true b e = refl
-or_right false b e = e
-
-false_by : (b : Bool) → (b ≡ true → ⊥) → b ≡ false
-false_by true never = absurd (never refl)
-false_by false never = refl
 
 not_equal : (a b : ℕ) → (a ≡ b → ⊥) → (a == b) ≡ false
 not_equal a b never = false_by (a == b) (λ e. never ((Decides-eqb a b).0 e))
@@ -60,18 +52,10 @@ is_equal a b e = (Decides-eqb a b).1 e
 
 -- ---- all of a list
 
-each_fits : {A : Type 0} (g : Format A) (xs : List A) → Each g.Fits xs → all_fit (λ (s : Unit {0}). g) (λ s x. s) tt xs
+pub each_fits : {A : Type 0} (g : Format A) (xs : List A) → Each g.Fits xs → all_fit (λ (s : Unit {0}). g) (λ s x. s) tt xs
 unfolding all_fit
 each_fits g [] fits = tt
 each_fits g (x ∷ xs) fits = (fits.0, each_fits g xs fits.1)
-
-each_at : {A : Type 0} (P : A → Type 0) (xs : List A) (other : A) → ((k : ℕ) → k < length xs → P (slice_index_or xs k other)) → Each P xs
-each_at P [] other h = tt
-each_at P (x ∷ xs) other h = (h 0 (omega arith), each_at P xs other (λ k lt. h (suc k) (omega (arith, lt))))
-
-each_map : {A : Type 0} (P Q : A → Type 0) (xs : List A) → ((x : A) → P x → Q x) → Each P xs → Each Q xs
-each_map P Q [] f h = tt
-each_map P Q (x ∷ xs) f h = (f x h.0, each_map P Q xs f h.1)
 
 -- ---- names
 
@@ -108,11 +92,12 @@ names_fit seen (x ∷ xs) spelled unseen apart =
 place_fits : (names n : ℕ) → names ≤ MOST_ROWS → n < names → (format.place names).Fits n
 place_fits names n few lt = (omega (arith, few, lt), lt-ltb n names lt)
 
-site_fits : (names : ℕ) (s : Site) → names ≤ MOST_ROWS → IsSite names s → (format.site names).Fits s
+pub site_fits : (names routines : ℕ) (s : Site) → names ≤ MOST_ROWS → routines ≤ MOST_ROWS → IsSite names routines s → (format.site Second names routines).Fits s
 unfolding format.site
-site_fits names s few named = (place_fits names s.ty.number few named.ty_named, place_fits names s.field.number few named.field_named)
+site_fits names routines s few more named =
+    (place_fits names s.ty.number few named.ty_named, (place_fits names s.field.number few named.field_named, place_fits routines s.routine more named.of_routine))
 
-most_fits : (n most : ℕ) → n ≤ most → most < 2 ^ 32 → (format.up_to most).Fits n
+pub most_fits : (n most : ℕ) → n ≤ most → most < 2 ^ 32 → (format.up_to most).Fits n
 most_fits n most le few = (omega (arith, le, few), le-leb n most le)
 
 map_fits : (cells : List ℕ) → IsSmallMap cells → format.map_format.Fits cells
@@ -287,7 +272,7 @@ known (i.Get into cell) = (omega arith, refl)
 known (i.Set source cell) = (omega arith, refl)
 known i.Mark = (omega arith, refl)
 
-instruction_fits : (j : Instr) → HasSmallOperands (fields_of j) → format.instruction.Fits j
+pub instruction_fits : (j : Instr) → HasSmallOperands (fields_of j) → format.instruction.Fits j
 unfolding format.fields
 instruction_fits j small =
     let u = unused j in
@@ -302,7 +287,7 @@ count_allowed (r ∷ rs) n sum = or_left (nat_lt 0 (length (r ∷ rs))) (n == 0)
 rows_fit : (n : ℕ) → n ≤ MOST_ROWS → (format.up_to MOST_ROWS).Fits n
 rows_fit n le = most_fits n MOST_ROWS le (omega arith)
 
-header_fits : (p : Parts) → IsCode p → IsWithinFormat p → format.header.Fits (format.counts_of p)
+header_fits : (p : Parts) → IsCode p → IsWithinFormat p → format.header.Fits (format.counts_of Second p)
 unfolding format.header
 header_fits p code within =
     let sum : sum_of p.routines ≡ length p.instructions = sym (begin_whole p.routines) ∙ code.whole in
@@ -336,13 +321,14 @@ header_fits p code within =
       ),
     )
 
-pub within_fits : (p : Parts) → IsCode p → IsWithinFormat p → format.image.Fits p
+pub within_fits : (p : Parts) → IsCode p → IsWithinFormat p → format.image.Fits (written p)
 unfolding format.image
 within_fits p code within =
     let ns = length p.names in
     let sum : sum_of p.routines ≡ length p.instructions = sym (begin_whole p.routines) ∙ code.whole in
     let few : length p.instructions < 2 ^ 32 = omega (arith, within.instructions) in
-    let sites = each_at (format.site ns).Fits p.sites _ (λ k lt. site_fits ns (site_of p k) within.names (code.sites k lt)) in
+    let rs = length p.routines in
+    let sites = each_at (format.site Second ns rs).Fits p.sites _ (λ k lt. site_fits ns rs (site_of p k) within.names within.routines (code.sites k lt)) in
     let maps = each_map IsSmallMap format.map_format.Fits p.maps map_fits within.small_maps in
     let rising = each_at Rises p.sets _ (λ k lt. code.sets k lt) in
     let named = each_at (IsRoutine ns) p.routines _ (λ k lt. code.routines k lt) in
@@ -352,7 +338,7 @@ within_fits p code within =
       (
         (refl, names_fit [] p.names within.spelled (λ k name e. refl) within.apart),
         (
-          (refl, each_fits (format.site ns) p.sites sites),
+          (refl, each_fits (format.site Second ns rs) p.sites sites),
           (
             (refl, each_fits format.map_format p.maps maps),
             (

@@ -1,8 +1,8 @@
 //! Laws of images. They do nothing when they are called.
 
-ghost use Rattle.td_image.specs.Laws.{OfOneCode, OneSpelling, OneFault, NoFault, NoLonger, CutIsShort, TablesFit, WithinHasImage, NoneForCounts};
+ghost use Rattle.td_image.specs.Laws.{OfOneCode, OneSpelling, OneFault, NoFault, NoLonger, CutIsShort, TablesFit, WithinHasImage, ReadIsWritten, NoneForCounts};
 
-/// Bytes are the image of one code at most, and a code has one image at most.
+/// Bytes are the image of one code at most, and a code has one image at most in the version that is written.
 pub fn one_spelling()
     ensures of_one_code { OfOneCode }
     ensures one { OneSpelling }
@@ -34,4 +34,9 @@ pub fn code_within_the_limits_has_an_image()
 /// taken for counts alone.
 pub fn memory_is_for_rows()
     ensures { NoneForCounts }
+{}
+
+/// What is spelled in any version has an image in the version that is written.
+pub fn what_is_read_can_be_written()
+    ensures { ReadIsWritten }
 {}

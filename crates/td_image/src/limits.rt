@@ -1,18 +1,27 @@
-//! The numbers of the format of images, version 1 (own rule). docs/language/images.md has the whole format. They are the version's own:
-//! an image of version 1 keeps them whatever the limits of a module become, which stand in td_core.
+//! The numbers of the format of images: those of version 2 and, where they differ, of version 1 (own rule).
+//! docs/language/images.md has the whole format. They are the versions' own: an image of a version keeps them whatever the
+//! limits of a module become, which stand in td_core.
 
 /// The first four bytes as a number, the byte of least weight first: `54 44 33 49`, in ASCII `TD3I`.
 pub const MAGIC: u32 = 1_228_096_596;
-/// The version.
-pub const VERSION: u16 = 1;
+/// The version that is written.
+pub const VERSION: u16 = 2;
+/// The version before it, which is read too.
+pub const FIRST_VERSION: u16 = 1;
 /// Rows at most of each table but that of instructions.
-pub const MOST_ROWS: usize = 65_536;
+pub const MOST_ROWS: usize = 1_048_576;
+/// The same in version 1.
+pub const FIRST_ROWS: usize = 65_536;
 /// Instructions at most.
-pub const MOST_INSTRUCTIONS: u32 = 1_048_576;
+pub const MOST_INSTRUCTIONS: u32 = 4_194_304;
+/// The same in version 1.
+pub const FIRST_INSTRUCTIONS: u32 = 1_048_576;
 /// Cells at most in a cell map, and of a routine.
 pub const MOST_CELLS: u16 = 64;
 /// Numbers at most in all sets together.
-pub const MOST_NUMBERS: usize = 65_536;
+pub const MOST_NUMBERS: usize = 1_048_576;
+/// The same in version 1.
+pub const FIRST_NUMBERS: usize = 65_536;
 /// Parameters at most of a routine.
 pub const MOST_PARAMETERS: u16 = 16;
 /// Registers at most of a routine.

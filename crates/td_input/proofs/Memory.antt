@@ -1,5 +1,5 @@
 -- Where memory may be lacking: an input has a marker, and one of its parts is no white space.
-use Rattle.std.proofs.Common.{◌≡◌, Result, Err, refl}
+use Rattle.std.proofs.Common.{◌≡◌, refl}
 use Rattle.td_front.specs.declared.error.FrontError.{FrontError}
 use Rattle.td_front.specs.declared.error.FrontError.TheVariants as front
 use Rattle.td_job.specs.declared.error.JobError.{JobError}
@@ -7,9 +7,6 @@ use Rattle.td_job.specs.declared.error.JobError.TheVariants as jobs
 use Rattle.td_input.specs.declared.refusal.InputError.{InputError}
 use Rattle.td_input.specs.declared.refusal.InputError.TheVariants.{NoMemory}
 use Rattle.td_input.specs.Causes.{of_module, of_job}
-
-pub same_error : {T E : Type 0} (a b : E) → (let r : Result T E = Err a in r ≡ Err b) → a ≡ b
-same_error a b same = cc
 
 -- that there was no memory was told of the module text
 pub module_memory : (e : FrontError) (r : InputError) → r ≡ of_module e → r ≡ NoMemory → e ≡ front.NoMemory

@@ -1,6 +1,6 @@
--- In a module that was checked, each expression that a run of a good job evaluates lies in its type's range.
-use Rattle.std.proofs.Common.{◌≡◌, ℕ, zero, suc, ◌<◌, ◌^◌, List, [], ◌∷◌, length, Option, Some, None, slice_get, subst, sym, refl, arith}
-use Rattle.td_num.specs.Lists.{AreBytes, Each}
+-- In a module that was checked, each expression that a run of a good job evaluates lies in its type's range. Cited by other crates.
+use Rattle.std.proofs.Common.{◌≡◌, ℕ, ◌<◌, ◌^◌, List, [], ◌∷◌, length, Option, Some, None, subst, sym, refl, arith}
+use Rattle.td_num.specs.Lists.{AreBytes}
 use Rattle.td_core.specs.declared.module.Module.{Module}
 use Rattle.td_core.specs.declared.module.TypeDef.{TypeDef}
 use Rattle.td_core.specs.declared.module.Entry.{Entry}
@@ -17,28 +17,14 @@ use Rattle.td_posts.specs.declared.job.HostJob.{HostJob}
 use Rattle.td_posts.specs.Posts.{zeros}
 use Rattle.td_host_job.specs.HostJobs.{HasHostValues}
 use Rattle.td_input.specs.Inputs.{IsSoundJob, IsSoundHost, FitsEntry}
+use Rattle.td_num.proofs.Lists.{got, each_at}
+use Rattle.td_core.proofs.Found.{entry_found as entry_of}
 
--- a list has an element at each place below its length
-got : {A : Type 0} (xs : List A) (n : ℕ) → n < length xs → (x : A) × (slice_get xs n ≡ Some x)
-got [] n h = absurd (omega arith)
-got (x ∷ xs) zero h = (x, refl)
-got (x ∷ xs) (suc n) h = got xs n (omega arith)
-
--- what holds of each element holds of the one at a place
-each_at : {A : Type 0} (P : A → Type 0) (xs : List A) (n : ℕ) (x : A) → Each P xs → slice_get xs n ≡ Some x → P x
-each_at P [] n x each e = cc
-each_at P (y ∷ ys) zero x each e = let same : y ≡ x = cc in subst P same each.0
-each_at P (y ∷ ys) (suc n) x each e = each_at P ys n x each.1 e
-
--- the entry point's definition, and its place
-entry_of : (m : Module) (n place : ℕ) (d : TypeDef) → slice_get m.entries n ≡ Some place → slice_get m.definitions place ≡ Some d → entry_definition m n ≡ Some d
-entry_of m n place d e f = rw e f
-
-same_args : (o : Option TypeDef) → args_bounds o ≡ params_at o
+pub same_args : (o : Option TypeDef) → args_bounds o ≡ params_at o
 same_args None = refl
 same_args (Some d) = refl
 
-same_cells : (o : Option TypeDef) → cells_bounds o ≡ cells_at o
+pub same_cells : (o : Option TypeDef) → cells_bounds o ≡ cells_at o
 same_cells None = refl
 same_cells (Some d) = refl
 

@@ -20,6 +20,11 @@ pub record Writing : Type 0 where
   pub calls : ℕ
   pub faults : Faults
 
+-- the bytes that were written to a page, and its faults
+pub record PageView : Type 0 where
+  pub written : List ℕ
+  pub faults : Faults
+
 -- the next call is one of those that fail
 abbrev pub IsListed : List ℕ → ℕ → Type 0
 IsListed fails calls = Contains fails (next_count calls)

@@ -10,8 +10,8 @@ use Rattle.td_ir.specs.declared.tables.Parts.{Parts}
 use Rattle.td_ir.specs.declared.instructions.Instr.{Instr}
 use Rattle.td_ir.specs.Tables.{routine_of, map_of, first_of, end_of}
 use Rattle.td_ir.specs.State.{State, left, registers_from, Way, Returned, Turned, Failed, Stuck, Exit, at_once, after}
-use Rattle.td_ir.specs.Flow.{Flow, Goes, Fails, Calls, Returns, Loops, Turns, Effect, effect}
-use Rattle.td_ir.specs.Run.{Callees, frame, back, back_by, again, again_by, turns, led, follow, pick, goes, exits, places_by, entered, below, calls_of, block}
+use Rattle.td_ir.specs.Flow.{Flow, Goes, Fails, Calls, Returns, Loops, Turns}
+use Rattle.td_ir.specs.Run.{Callees, back, back_by, again, again_by, turns, led, follow, pick, goes, exits, places_by, entered, below, calls_of, block}
 use Rattle.td_ir.specs.RunLaws.{HasEffect, RunGoes, RunFails, RunReturns, RunTurns, RunCalls, RunLoops, AfterAfter}
 
 pub pick_at : (c : Parts) (message places : List ℕ) (calls : Callees) (pc : ℕ) (js : List Instr) (k : ℕ) (s : State) → pick (exits c message places calls pc js) k s ≡ pick (exits c message places calls (pc + k) (drop k js)) 0 s
@@ -71,17 +71,17 @@ back_same c site s f g h touched steps (Turned t) = refl
 back_same c site s f g h touched steps (Failed reason pos trace cells) = refl
 back_same c site s f g h touched steps Stuck = refl
 
-again_same : (f g : State → Exit) → ((t : State) → f t ≡ g t) → (touched : List ℕ) (steps : ℕ) (w : Way) → again_by f touched steps w ≡ again_by g touched steps w
+pub again_same : (f g : State → Exit) → ((t : State) → f t ≡ g t) → (touched : List ℕ) (steps : ℕ) (w : Way) → again_by f touched steps w ≡ again_by g touched steps w
 again_same f g h touched steps (Returned pos cells) = refl
 again_same f g h touched steps (Turned t) = ap (after touched (steps + 1)) (h t)
 again_same f g h touched steps (Failed reason pos trace cells) = refl
 again_same f g h touched steps Stuck = refl
 
-branch_same : (v : Bool) (x y x' y' : Exit) → x ≡ x' → y ≡ y' → cond v x y ≡ cond v x' y'
+pub branch_same : (v : Bool) (x y x' y' : Exit) → x ≡ x' → y ≡ y' → cond v x y ≡ cond v x' y'
 branch_same true x y x' y' e f = e
 branch_same false x y x' y' e f = f
 
-turns_same : (k : ℕ) (f g behind behind' : State → Exit) → ((t : State) → f t ≡ g t) → ((t : State) → behind t ≡ behind' t) → (s : State) → turns k f behind s ≡ turns k g behind' s
+pub turns_same : (k : ℕ) (f g behind behind' : State → Exit) → ((t : State) → f t ≡ g t) → ((t : State) → behind t ≡ behind' t) → (s : State) → turns k f behind s ≡ turns k g behind' s
 turns_same zero f g behind behind' h h' s = h' s
 turns_same (suc k) f g behind behind' h h' s =
     branch_same _ (behind s) (again (turns k f behind) (f s)) (behind' s) (again (turns k g behind') (g s)) (h' s)

@@ -8,9 +8,10 @@ use crate::tests_of_tables::fit_together;
 use std::marker::Model;
 use thiserror::Error;
 
-/// A table has what it may not have: an index that isn't in its table, a routine of no instructions or with fewer
-/// registers than parameters, lengths of routines that aren't the count of instructions together, an entry point with
-/// another number of parameters or cells than its routine, or a set that doesn't strictly rise.
+/// A table has what it may not have: an index that isn't in its table (the routine of a site too), a routine of no
+/// instructions or with fewer registers than parameters, lengths of routines that aren't the count of instructions
+/// together, an entry point with another number of parameters or cells than its routine, or a set that doesn't strictly
+/// rise.
 #[derive(Clone, Copy, PartialEq, Eq, Debug, Drop, Error)]
 #[error("bad table")]
 pub struct BadTable;

@@ -10,3 +10,8 @@ pub mod laws;
 pub mod listing;
 pub mod tables;
 mod tests_of_tables;
+
+pub use code::{BadTable, Code};
+pub use entries::{entry_in, fits};
+pub use instructions::Instr;
+pub use tables::{EntryPoint, Parts, Routine, Site};

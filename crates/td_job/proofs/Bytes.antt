@@ -1,18 +1,14 @@
--- The bytes of the number that bytes spell.
+-- The bytes of the number that bytes spell. Cited by other crates.
 use Rattle.std.proofs.Common.{◌≡◌, ℕ, zero, suc, ◌+◌, ◌*◌, ◌/◌, ◌%◌, ◌^◌, ◌<◌, ◌≤◌, List, length, slice_index, [], ◌∷◌, refl, sym, ap, ◌∙◌, arith, add-zero, lit<}
-use Rattle.std.proofs.Math.Nat.{mul-suc, div-div-eq-div-mul}
+use Rattle.std.proofs.Math.Nat.{div-div-eq-div-mul}
 use Rattle.std.proofs.Math.Pow.{pow_mono}
-use Rattle.std.proofs.lemmas.Nat.{pow-add}
 use Rattle.std.proofs.lemmas.Grind.{same_number_lists}
 use Rattle.td_num.specs.Numbers.{byte_of, byte_at, rising_at}
 use Rattle.td_job.specs.Words.{IsFilled}
+use Rattle.td_num.proofs.Digits.{power_of_bytes as power}
 
 abbrev pub AreBytes : List ℕ → Type 0
 AreBytes bytes = (i : ℕ) → slice_index bytes i < 256
-
--- a byte further is 256 times as much
-power : (k : ℕ) → 2 ^ (8 * suc k) ≡ 256 * 2 ^ (8 * k)
-power k = rw mul-suc (rw pow-add (omega arith))
 
 further : (word k : ℕ) → word / 2 ^ (8 * suc k) ≡ word / 256 / 2 ^ (8 * k)
 further word k = rw power (sym (div-div-eq-div-mul word 256 (2 ^ (8 * k))))
@@ -52,7 +48,7 @@ same_by_bytes (suc n) v w hv hw same =
 place_of : (i k : ℕ) → k < 8 → ((8 * i + k) / 8 ≡ i) × ((8 * i + k) % 8 ≡ k)
 place_of i k small = (omega arith, omega arith)
 
-byte_there : (words : List ℕ) (i k : ℕ) → k < 8 → byte_at words (8 * i + k) ≡ byte_of (slice_index words i) k
+pub byte_there : (words : List ℕ) (i k : ℕ) → k < 8 → byte_at words (8 * i + k) ≡ byte_of (slice_index words i) k
 byte_there words i k small = let at = place_of i k small in rw (at.0, at.1) refl
 
 -- bytes fill one list of words alone

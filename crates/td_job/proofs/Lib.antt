@@ -9,3 +9,4 @@ pub mod Tested
 pub mod Texts
 pub mod Unique
 pub mod NamedJobs
+pub mod Forms

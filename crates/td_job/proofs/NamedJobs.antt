@@ -1,5 +1,5 @@
 -- Jobs that name their entry point by text: their numbers and stores, and that each is one run job or has one first fault.
-use Rattle.std.proofs.Common.{◌≡◌, ℕ, zero, suc, ◌+◌, ◌/◌, ◌<◌, ◌≤◌, List, [], ◌∷◌, ◌++◌, length, drop, Bool, true, false, not, nat_eq, nat_lt, nat_le, option_map, slice_get, get_or, Some, None, ◌⊎◌, inl, inr, refl, sym, ap, subst, ◌∙◌, arith}
+use Rattle.std.proofs.Common.{◌≡◌, ℕ, ◌+◌, ◌/◌, ◌<◌, ◌≤◌, List, [], ◌∷◌, ◌++◌, length, drop, Bool, true, false, not, nat_eq, nat_lt, nat_le, option_map, slice_get, get_or, Some, None, ◌⊎◌, inl, inr, refl, sym, ap, subst, ◌∙◌, arith}
 use Rattle.std.specs.List.{All}
 use Rattle.std.proofs.lemmas.Bool.Decides.{nat_tests}
 use Rattle.std.proofs.lemmas.List.{at_drop_more}
@@ -27,6 +27,7 @@ use Rattle.td_job.proofs.Numbers.{both_empty, not_over, drop_get, drop_next}
 use Rattle.td_job.proofs.Existing.{entry_or_fault as entry_or_fault_of}
 use Rattle.td_job.proofs.Scattered.{Lies, lies}
 use Rattle.td_job.proofs.Unique.{same_jobs, one_entry, one_entry_fault, entry_or_fault, one_first, named_within}
+use Rattle.td_num.proofs.Truths.{all_dropped as dropped}
 
 -- ---- lists of faults
 
@@ -71,12 +72,6 @@ number_at k i most bounds numbers h slot =
 -- no slot is there for the number at a place
 pub past_slots : (k : Key) (i : ℕ) (bounds : List Bound) (numbers : List ℕ) → option_map (λ bound. bound.most) (slice_get bounds i) ≡ None → each_number_faults k i (drop i bounds) (drop i numbers) ≡ []
 past_slots k i bounds numbers slot = no_slot k i (drop i bounds) (drop i numbers) (ap (option_map (λ (bound : Bound). bound.most)) (drop_get i bounds) ∙ slot)
-
-dropped : {A : Type 0} (xs : List A) (i : ℕ) → length xs ≤ i → drop i xs ≡ []
-dropped [] zero h = refl
-dropped [] (suc i) h = refl
-dropped (x ∷ xs) zero h = absurd (omega (arith, h))
-dropped (x ∷ xs) (suc i) h = dropped xs i (omega (arith, h))
 
 -- no number is left
 pub past_numbers : (k : Key) (i : ℕ) (bounds : List Bound) (numbers : List ℕ) → length numbers ≤ i → each_number_faults k i bounds (drop i numbers) ≡ []

@@ -1,4 +1,4 @@
--- Lists of stretches, and that a job has room for its message.
+-- Lists of stretches, and that a job has room for its message. Cited by other crates.
 use Rattle.std.proofs.Common.{◌≡◌, ℕ, ◌+◌, ◌*◌, ◌<◌, ◌≤◌, ◌^◌, List, [], ◌∷◌, ◌++◌, length, length-append, Bool, true, false, not, nat_eq, nat_lt, Option, Some, None, refl, sym, ap, subst, ◌∙◌, arith, option_map}
 use Rattle.std.specs.List.{All}
 use Rattle.std.proofs.lemmas.Bool.Decides.{nat_tests}
@@ -74,7 +74,7 @@ right_sum n layout h =
     let same : nat_eq (length_in layout) n ≡ true = grind (arith, nat_tests, h) in
     right_if (nat_eq (length_in layout) n) (Fault rule.PastBytes (path.Whole key.Stretches)) same
 
-one_at_most : (o : Option Stretch) → length (stretch_of o) ≤ 1
+pub one_at_most : (o : Option Stretch) → length (stretch_of o) ≤ 1
 one_at_most None = omega arith
 one_at_most (Some s) = omega arith
 

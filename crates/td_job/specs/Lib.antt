@@ -8,3 +8,4 @@ pub mod Slots
 pub mod Stretches
 pub mod Values
 pub mod Words
+pub mod Written

@@ -84,7 +84,7 @@ fn are_digits(bytes: &[u8]) -> bool
 }
 
 /// Whether a text is an even number of hexadecimal digits, two for each byte.
-fn spells_bytes(text: &str) -> bool
+pub(crate) fn spells_bytes(text: &str) -> bool
     ensures { result ≡ (nat_eq (length text.now % 2) 0 && list_all is_hex_digit text.now) }
 {
     text.len() % 2 == 0 && are_digits(text.as_bytes())

@@ -14,3 +14,8 @@ pub mod stores;
 pub mod stretches;
 pub mod values;
 pub mod words;
+pub mod written;
+
+pub use error::{JobError, JobRule};
+pub use run_job::{RunJob, read_run_job};
+pub use words::fill_words;

@@ -3,7 +3,7 @@
 ghost use Rattle.std.specs.Prelude.{◌≡◌, ℕ, ◌<◌, ◌≤◌, ◌^◌, [], None, option_map, length as size_of, IfOk, IsErr, IsOk};
 ghost use Rattle.td_stream.specs.Layouts.{count_in, counted, laid, IsOver};
 ghost use Rattle.td_ir.specs.Entries.{Fits};
-ghost use Rattle.td_vm.specs.Frames.{IsArmed};
+ghost use Rattle.td_vm.specs.Frames.{IsArmed, outcome_in};
 ghost use Rattle.td_job_run.specs.Runs.{IsRunBy};
 
 use std::alloc::{AllocError, Global};
@@ -111,7 +111,7 @@ pub fn run_prepared(
     requires room { count_in message.now ≤ counted prepared.words.layout (size_of prepared.words.opening) }
     ensures run { (n : ℕ) → message.now ≡ laid n prepared.entry.words.layout → IsRunBy code.now
         (record { entry = entry; args = args.now; cells = cells.now; length = n; layout = prepared.entry.words.layout; words = prepared.entry.words.opening; stores = prepared.entry.words.stores })
-        (record { verdict = result.verdict; trace = frame.new.trace; cells = frame.new.cells }) result.loads.list }
+        (outcome_in frame.new result.verdict) result.loads.list }
     ensures armed { IsArmed code.now frame.new }
 {
     fitting_cells_have_room();
@@ -141,7 +141,7 @@ fn run_laid(
     requires room { count_in (laid length (option_map (λ l. l.now) layout)) ≤ counted prepared.words.layout (size_of prepared.words.opening) }
     ensures run { IsRunBy code.now
         (record { entry = entry; args = args.now; cells = cells.now; length = length; layout = prepared.entry.words.layout; words = prepared.entry.words.opening; stores = prepared.entry.words.stores })
-        (record { verdict = result.verdict; trace = frame.new.trace; cells = frame.new.cells }) result.loads.list }
+        (outcome_in frame.new result.verdict) result.loads.list }
     ensures armed { IsArmed code.now frame.new }
 {
     match layout {
@@ -176,7 +176,7 @@ pub fn run_in_frame(
     requires over { IsOver (size_of words.now) (option_map (λ l. l.now) layout) }
     ensures run { IfOk result (λ ran. IsRunBy code.now
         (record { entry = entry; args = args.now; cells = cells.now; length = length; layout = option_map (λ l. l.now) layout.entry; words = words.now; stores = stores.now })
-        (record { verdict = ran.verdict; trace = frame.new.trace; cells = frame.new.cells }) ran.loads.list) }
+        (outcome_in frame.new ran.verdict) ran.loads.list) }
     ensures armed { IsArmed code.now frame.new }
     ensures untouched { IsErr result → frame.new ≡ frame.old }
     ensures memory { words.now ≡ [] → stores.now ≡ [] → option_map (λ l. l.now) layout.entry ≡ None → IsOk result }

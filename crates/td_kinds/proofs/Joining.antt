@@ -1,17 +1,12 @@
 -- Kinds of fields from the last one back.
-use Rattle.std.proofs.Common.{◌≡◌, ℕ, zero, suc, ◌+◌, ◌-◌, ◌<◌, ◌≤◌, List, [], ◌∷◌, length, get_or, drop, drop-cons, length-drop, add-one, refl, sym, ap, ◌∙◌, arith}
+use Rattle.std.proofs.Common.{◌≡◌, ℕ, suc, ◌+◌, ◌-◌, ◌<◌, List, [], ◌∷◌, length, get_or, drop, drop-cons, length-drop, add-one, refl, sym, ap, ◌∙◌, arith}
 use Rattle.td_core.specs.declared.kind.Kind.{Kind}
 use Rattle.td_core.specs.declared.module.Field.{Field}
 use Rattle.td_kinds.specs.Kinds.{joined, field_kind, fields_kind}
+use Rattle.td_num.proofs.Truths.{all_dropped}
 
 dropped : (fs : List Field) (i : ℕ) (f : Field) → i < length fs → f ≡ get_or fs i f → drop i fs ≡ f ∷ drop (i + 1) fs
 dropped fs i f low is = drop-cons fs i f low ∙ ap (λ x. x ∷ drop (suc i) fs) (sym is) ∙ ap (λ j. f ∷ drop j fs) (sym (add-one i))
-
-all_dropped : {A : Type 0} (xs : List A) (i : ℕ) → length xs ≤ i → drop i xs ≡ []
-all_dropped [] zero h = refl
-all_dropped [] (suc i) h = refl
-all_dropped (x ∷ xs) zero h = absurd (omega arith)
-all_dropped (x ∷ xs) (suc i) h = all_dropped xs i (omega (arith, h))
 
 alone : (kinds : ℕ → Kind) (f : Field) (rest : List Field) → rest ≡ [] → field_kind kinds f.element f.extent ≡ fields_kind kinds (f ∷ rest)
 alone kinds f rest h = ap (λ x. fields_kind kinds (f ∷ x)) (sym h)

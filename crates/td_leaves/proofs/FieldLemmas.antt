@@ -1,8 +1,7 @@
 -- A field, and what is left after it.
-use Rattle.std.proofs.Common.{⊎_elim, inl, inr, subst, arith, ◌-◌, ◌*◌, ◌/◌, ◌≡◌, ℕ, zero, suc, ◌+◌, ◌<◌, ◌≤◌, min, Bool, true, false, cond, Option, Some, None, List, [], ◌∷◌, ◌++◌, length, refl, sym, ap, ◌∙◌}
+use Rattle.std.proofs.Common.{⊎_elim, inl, inr, arith, ◌-◌, ◌≡◌, ℕ, ◌+◌, ◌<◌, ◌≤◌, Bool, true, false, List, [], ◌∷◌, length, refl, sym, ap, ◌∙◌}
 use Rattle.std.specs.Prelude.{◌⊎◌, nat_le}
-use Rattle.std.proofs.lemmas.Bool.{le-leb, lt-leb, leb-false}
-use Rattle.std.proofs.Math.Nat.{div-mul-le_self, min-le_right, mul-le-mul_right, le_trans}
+use Rattle.std.proofs.lemmas.Bool.{leb-false}
 use Rattle.td_num.specs.Numbers.{bytes_in, number_at, places_from}
 use Rattle.td_num.specs.declared.number.NumberType.{NumberType}
 use Rattle.td_num.specs.Lists.{is_among}
@@ -20,15 +19,10 @@ use Rattle.td_meaning.specs.Naming.{is_needed}
 use Rattle.td_meaning.specs.Meaning.{Sense, taken, demanded, values_of, field_number, number_places, places_if, field_place, first_name}
 use Rattle.td_meaning.specs.Machine.{listed_meaning, shape_meaning, fields_meaning}
 use Rattle.td_meaning.specs.Verdicts.{ending_of, IsRejection}
-use Rattle.td_meaning.proofs.MachineAgreeing.{onward_alike, unneeded}
+use Rattle.td_meaning.proofs.MachineAgreeing.{unneeded}
 use Rattle.td_leaves.specs.Step.{rest_meaning}
 use Rattle.td_leaves.specs.Counting.{IsPlain}
-
-pub taken_long : (n start end p : ℕ) (cells : List ℕ) → p + n ≤ end → taken n start end p cells ≡ accepted (p + n) cells
-taken_long n start end p cells h = ap (λ v. demanded NotEnough v start (p + n) cells) (le-leb (p + n) end h)
-
-pub taken_short : (n start end p : ℕ) (cells : List ℕ) → end < p + n → taken n start end p cells ≡ rejected NotEnough start cells
-taken_short n start end p cells h = ap (λ v. demanded NotEnough v start (p + n) cells) (lt-leb (p + n) end h)
+use Rattle.td_meaning.proofs.Filling.{taken_long, taken_short}
 
 -- a test of two that fails
 failed_by : (v : Verdict) (long among : Bool) (places : List ℕ) (start q : ℕ) (cells seen : List ℕ) → IsRejection v
@@ -50,10 +44,6 @@ listed_failed base values b start end p cells seen v within bad h =
     (λ few. let short : end < p + w = leb-false (p + w) end few in inl (omega (arith, short, within)))
     (λ other. inr other)
     (failed_by v (nat_le (p + w) end) (is_among values (number_at base b p)) (places_from p w) start (p + w) cells seen bad h)
-
-pub fields_none : (sets : List (List ℕ)) (senses : ℕ → Sense) (ty : NameId) (env places b : List ℕ) (end p : ℕ) (cells : List ℕ) → fields_meaning sets senses ty [] env places b end p cells ≡ accepted p cells
-unfolding fields_meaning
-fields_none sets senses ty env places b end p cells = refl
 
 module _ (sets : List (List ℕ)) (senses : ℕ → Sense) (ty : NameId) (f : Field) (later : List Field) (env places b : List ℕ) (end p : ℕ) (cells : List ℕ) where
   -- a number, by what its bytes say
@@ -150,17 +140,3 @@ module _ (sets : List (List ℕ)) (senses : ℕ → Sense) (ty : NameId) (f : Fi
       no_places need (UpToZero size) Zeros p h = refl
 
 -- Numbers that have room
-
-pub room_for : (bound n w : ℕ) → (min bound (n / w) - 0) * w ≤ n
-room_for bound n w =
-    let few : min bound (n / w) ≤ n / w = min-le_right bound (n / w) in
-    let same : min bound (n / w) - 0 ≡ min bound (n / w) = omega arith in
-    subst (λ k. k * w ≤ n) (sym same) (le_trans (mul-le-mul_right w few) (div-mul-le_self n w))
-
-pub one_fewer : (m turn n w : ℕ) → turn < m → (m - turn) * w ≤ n → (w ≤ n) × ((m - (turn + 1)) * w ≤ n - w)
-one_fewer m turn n w lt h =
-    let k = m - (turn + 1) in
-    let e : m - turn ≡ suc k = omega (arith, lt) in
-    let h' : suc k * w ≤ n = subst (λ x. x * w ≤ n) e h in
-    let grown : suc k * w ≡ w + k * w = omega arith in
-    (omega (arith, h', grown), omega (arith, h', grown))

@@ -1,4 +1,4 @@
--- The first of excesses, over capped numbers, and what one more definition adds.
+-- The first of excesses, over capped numbers, and what one more definition adds. Cited by other crates.
 use Rattle.std.proofs.Common.{◌≡◌, ℕ, ◌+◌, ◌-◌, ◌^◌, ◌<◌, ◌≤◌, Bool, true, false, cond, nat_lt, List, [], ◌∷◌, ◌++◌, Option, Some, None, is_some, refl, sym, ap, ap₂, ◌∙◌, arith}
 use Rattle.std.proofs.lemmas.Bool.{ltb-true, ltb-false, lt-ltb, le-ltb}
 use Rattle.td_ast.specs.declared.token.Span.{Span}
@@ -8,7 +8,7 @@ use Rattle.td_limits.specs.declared.limits.Limit.TheVariants as limit
 use Rattle.td_limits.specs.declared.limits.Excess.{Excess}
 use Rattle.td_limits.specs.Excesses.{above, first_excess, capped, definition_name}
 use Rattle.td_limits.specs.Nodes.{definition_nodes}
-use Rattle.td_limits.specs.Counts.{definition_counts, count_excesses, most_fields, count_cases, count_params}
+use Rattle.td_limits.specs.Counts.{definition_counts, count_excesses, most_fields, count_cases, count_params, most_action}
 
 pub first_skip : (xs ys : List Excess) → first_excess xs ≡ None → first_excess (xs ++ ys) ≡ first_excess ys
 first_skip [] ys h = refl
@@ -42,15 +42,16 @@ above_capped most n l s small = ap (λ (b : Bool). cond b (record { limit = l; s
 -- ---- one more definition by its counts
 
 counts_capped : (n t : ℕ) (d : Def) → definition_counts n (capped t) d ≡ definition_counts n t d
-counts_capped n t d = ap (λ (last : List Excess). above 1000 n limit.Definitions (definition_name d).span ++ (above 256 (most_fields d) limit.Fields (definition_name d).span ++ (above 256 (count_cases d) limit.Cases (definition_name d).span ++ (above 16 (count_params d) limit.Parameters (definition_name d).span ++ last)))) (above_capped 20000 t limit.Nodes (definition_name d).span (omega arith))
+counts_capped n t d = ap (λ (nodes : List Excess). above 4000 n limit.Definitions (definition_name d).span ++ (above 256 (most_fields d) limit.Fields (definition_name d).span ++ (above 256 (count_cases d) limit.Cases (definition_name d).span ++ (above 16 (count_params d) limit.Parameters (definition_name d).span ++ (nodes ++ above 20000 (most_action d) limit.Action (definition_name d).span))))) (above_capped 60000 t limit.Nodes (definition_name d).span (omega arith))
 
-pub nodes_within : (n t : ℕ) (d : Def) → first_excess (definition_counts n t d) ≡ None → (n ≤ 1000) × (t ≤ 20000)
+pub nodes_within : (n t : ℕ) (d : Def) → first_excess (definition_counts n t d) ≡ None → (n ≤ 4000) × (t ≤ 60000)
 nodes_within n t d h =
-    let one = none_both (above 1000 n limit.Definitions (definition_name d).span) _ h in
+    let one = none_both (above 4000 n limit.Definitions (definition_name d).span) _ h in
     let two = none_both (above 256 (most_fields d) limit.Fields (definition_name d).span) _ one.1 in
     let three = none_both (above 256 (count_cases d) limit.Cases (definition_name d).span) _ two.1 in
     let four = none_both (above 16 (count_params d) limit.Parameters (definition_name d).span) _ three.1 in
-    (above_none 1000 n limit.Definitions (definition_name d).span one.0, above_none 20000 t limit.Nodes (definition_name d).span four.1)
+    let five = none_both (above 60000 t limit.Nodes (definition_name d).span) _ four.1 in
+    (above_none 4000 n limit.Definitions (definition_name d).span one.0, above_none 60000 t limit.Nodes (definition_name d).span five.0)
 
 -- what stands in a turn: the numbers before it, those after it as the code has them, and what it found
 pub record CountTurn (n t count nodes : ℕ) (d : Def) (found : Option Excess) : Type 0 where
@@ -67,12 +68,12 @@ count_stops n t count nodes d ds found e h is =
     first_stop (definition_counts (n + 1) (t + definition_nodes d) d) (count_excesses (n + 1) (t + definition_nodes d) ds) e (sym (turn_found n t count nodes d found h) ∙ is) ∙ sym is
 
 pub count_goes_on : (n t count nodes : ℕ) (d : Def) (ds : List Def) (found : Option Excess) → CountTurn n t count nodes d found → found ≡ None
-    → (first_excess (count_excesses count nodes ds) ≡ first_excess (count_excesses n t (d ∷ ds))) × ((count ≤ 1000) × (nodes ≤ 20000))
+    → (first_excess (count_excesses count nodes ds) ≡ first_excess (count_excesses n t (d ∷ ds))) × ((count ≤ 4000) × (nodes ≤ 60000))
 count_goes_on n t count nodes d ds found h is =
     let none : first_excess (definition_counts (n + 1) (t + definition_nodes d) d) ≡ None = sym (turn_found n t count nodes d found h) ∙ is in
     let within = nodes_within (n + 1) (t + definition_nodes d) d none in
-    let few : n + 1 ≤ 1000 = within.0 in
-    let small : t + definition_nodes d ≤ 20000 = within.1 in
+    let few : n + 1 ≤ 4000 = within.0 in
+    let small : t + definition_nodes d ≤ 60000 = within.1 in
     let counted : count ≡ n + 1 = h.counted in
     let noded : nodes ≡ capped (t + definition_nodes d) = h.noded in
     let exact : nodes ≡ t + definition_nodes d = omega arith in

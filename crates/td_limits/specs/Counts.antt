@@ -6,11 +6,11 @@ use Rattle.td_ast.specs.declared.definitions.CaseTree.{CaseTree}
 use Rattle.td_ast.specs.declared.definitions.Def.{Def}
 use Rattle.td_ast.specs.declared.definitions.Def.TheVariants.{Define, Enum, Alias, Struct, Casetype, Output}
 use Rattle.td_ast.specs.declared.definitions.ModuleTree.{ModuleTree}
-use Rattle.td_core.specs.declared.limits.TheConstants.{MOST_DEFINITIONS, MOST_FIELDS, MOST_CASES, MOST_PARAMETERS, MOST_NODES}
-use Rattle.td_limits.specs.declared.limits.Limit.TheVariants.{Definitions, Fields, Cases, Parameters, Nodes}
+use Rattle.td_core.specs.declared.limits.TheConstants.{MOST_DEFINITIONS, MOST_FIELDS, MOST_CASES, MOST_PARAMETERS, MOST_NODES, MOST_ACTION_NODES}
+use Rattle.td_limits.specs.declared.limits.Limit.TheVariants.{Definitions, Fields, Cases, Parameters, Nodes, Action}
 use Rattle.td_limits.specs.declared.limits.Excess.{Excess}
 use Rattle.td_limits.specs.Excesses.{above, first_excess, definition_name, greatest}
-use Rattle.td_limits.specs.Nodes.{definition_nodes}
+use Rattle.td_limits.specs.Nodes.{action_nodes, definition_nodes}
 
 -- `default` is no case, but its fields are limited as a case's
 abbrev pub longest_case : List CaseTree → ℕ
@@ -45,6 +45,22 @@ count_params (Struct d) = length d.head.params
 count_params (Casetype d) = length d.head.params
 count_params (Output d) = 0
 
+-- the nodes of the action that has the most of these fields', and of this definition's: 0 where there is none
+abbrev pub fields_action : List FieldTree → ℕ
+fields_action fs = greatest (map (λ f. action_nodes f.action) fs)
+
+abbrev pub default_action : Option (List FieldTree) → ℕ
+default_action None = 0
+default_action (Some fs) = fields_action fs
+
+abbrev pub most_action : Def → ℕ
+most_action (Define d) = 0
+most_action (Enum d) = 0
+most_action (Alias d) = 0
+most_action (Struct d) = fields_action d.fields
+most_action (Casetype d) = max (greatest (map (λ c. fields_action c.fields) d.cases)) (default_action d.default)
+most_action (Output d) = 0
+
 -- of one definition, which is the text's n-th, with so many nodes up to its end
 abbrev pub definition_counts : ℕ → ℕ → Def → List Excess
 definition_counts n nodes d =
@@ -52,7 +68,8 @@ definition_counts n nodes d =
     ++ (above MOST_FIELDS (most_fields d) Fields (definition_name d).span
     ++ (above MOST_CASES (count_cases d) Cases (definition_name d).span
     ++ (above MOST_PARAMETERS (count_params d) Parameters (definition_name d).span
-    ++ above MOST_NODES nodes Nodes (definition_name d).span)))
+    ++ (above MOST_NODES nodes Nodes (definition_name d).span
+    ++ above MOST_ACTION_NODES (most_action d) Action (definition_name d).span))))
 
 -- after so many definitions with so many nodes
 abbrev pub count_excesses : ℕ → ℕ → List Def → List Excess

@@ -1,15 +1,18 @@
 //! The limits by count.
 
 ghost use Rattle.std.specs.Prelude.{◌≡◌, ◌+◌, length};
-ghost use Rattle.td_limits.specs.Counts.{count_cases, count_params, counts_passed, default_count, definition_counts, longest_case, most_fields};
+ghost use Rattle.td_limits.specs.Counts.{count_cases, count_params, counts_passed, default_count, definition_counts, longest_case, most_action, most_fields};
 ghost use Rattle.td_limits.specs.Excesses.{capped, definition_name, first_excess};
 
 use crate::limits::{Excess, Limit, excess_over};
+use crate::longest_action::most_action;
 use crate::nodes::definition_nodes;
 use td_ast::definitions::{CaseTree, Def, ModuleTree};
 use td_ast::fields::FieldTree;
 use td_ast::token::Span;
-use td_core::limits::{MOST_CASES, MOST_DEFINITIONS, MOST_FIELDS, MOST_NODES, MOST_PARAMETERS};
+use td_core::limits::{
+    MOST_ACTION_NODES, MOST_CASES, MOST_DEFINITIONS, MOST_FIELDS, MOST_NODES, MOST_PARAMETERS,
+};
 use td_num::items::Items;
 
 /// Where a definition's name stands.
@@ -108,11 +111,15 @@ fn definition_counts(n: u64, nodes: u64, definition: &Def) -> Option<Excess>
     if parameters > MOST_PARAMETERS {
         return excess_over(MOST_PARAMETERS, parameters, Limit::Parameters, span);
     }
-    excess_over(MOST_NODES, nodes, Limit::Nodes, span)
+    if nodes > MOST_NODES {
+        return excess_over(MOST_NODES, nodes, Limit::Nodes, span);
+    }
+    let action = most_action(definition);
+    excess_over(MOST_ACTION_NODES, action, Limit::Action, span)
 }
 
 /// The first limit by count that a text passes: how many definitions it has, how many fields a struct, case or record, how
-/// many cases a casetype, how many parameters a definition, and how many nodes all. Takes no memory.
+/// many cases a casetype, how many parameters a definition, how many nodes all, and how many an action. Takes no memory.
 pub fn counts_passed(tree: &ModuleTree) -> Option<Excess>
     ensures { result ≡ counts_passed tree.now }
 {

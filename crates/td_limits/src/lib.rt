@@ -5,6 +5,7 @@
 mod counts;
 mod depths;
 mod limits;
+mod longest_action;
 mod measures;
 mod nodes;
 mod sizes;

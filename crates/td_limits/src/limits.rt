@@ -13,6 +13,7 @@ pub enum Limit {
     Cases,
     Parameters,
     Nodes,
+    Action,
     Cells,
     Depth,
     Weight,

@@ -104,7 +104,8 @@ fn block_nodes(block: &Block) -> u64
     statements_nodes(block.as_slice())
 }
 
-fn action_nodes(action: &Option<ActionTree>) -> u64
+/// The nodes of an action: its statements, and the nodes of their expressions.
+pub(crate) fn action_nodes(action: &Option<ActionTree>) -> u64
     ensures { result ≡ capped (action_nodes action.now) }
 {
     match action {

@@ -7,3 +7,7 @@ pub mod gate;
 pub mod live;
 pub mod made;
 pub mod slot;
+
+pub use gate::{Gate, OpenGate};
+pub use live::LiveWords;
+pub use slot::validate_slot;

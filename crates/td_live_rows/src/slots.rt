@@ -101,7 +101,7 @@ fn report(alloc: Global, m: &Module, ran: &Ran) -> Option<MemorySink> {
     let Ok(mut out) = MemorySink::with_room(alloc, 4096, Vec::new(alloc)) else {
         return None;
     };
-    match run_report(&ran.outcome, m, ENTRY, &ran.loads, None, &mut out) {
+    match run_report(&ran.outcome, m, ENTRY, &ran.loads, None, None, &mut out) {
         Ok(()) => Some(out),
         Err(_) => None,
     }

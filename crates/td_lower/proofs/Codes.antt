@@ -1,5 +1,5 @@
--- The tables of a module's code fit together, and stand for what they should.
-use Rattle.std.proofs.Common.{◌≡◌, ℕ, zero, suc, ◌+◌, ◌<◌, ◌≤◌, ◌||◌, List, [], ◌∷◌, ◌++◌, length, nat_eq, slice_index_or, slice_get, codes, Option, Some, None, refl, sym, ap, subst, ◌∙◌, arith, length-append}
+-- The tables of a module's code fit together, and stand for what they should. Cited by other crates.
+use Rattle.std.proofs.Common.{◌≡◌, ℕ, zero, suc, ◌+◌, ◌<◌, ◌≤◌, List, [], ◌∷◌, length, slice_index_or, slice_get, codes, Option, Some, None, refl, sym, ap, subst, ◌∙◌, arith, length-append, ◌-◌}
 use Rattle.td_num.specs.declared.number.Width.TheVariants.{One}
 use Rattle.td_num.specs.Lists.{Each, is_among}
 use Rattle.td_core.specs.declared.module.NameId.{NameId}
@@ -18,84 +18,103 @@ use Rattle.td_meaning.specs.Meaning as meaning
 use Rattle.td_lexer.specs.Splits.{IsName}
 use Rattle.td_ir.specs.declared.tables.EntryPoint.{EntryPoint}
 use Rattle.td_ir.specs.declared.tables.Parts.{Parts}
-use Rattle.td_ir.specs.Tables.{routine_of, entry_of, param_of, cell_of, lengths_of, begin}
+use Rattle.td_ir.specs.declared.tables.Site.{Site}
+use Rattle.td_ir.specs.Tables.{routine_of, site_of, entry_of, param_of, cell_of, lengths_of, begin}
 use Rattle.td_ir.specs.WellFormed.{IsName as IsNameIn, IsField, IsSite, IsRoutine, IsCellNamed, IsEntry, IsCode}
 use Rattle.td_blocks.specs.Block.{size, LayingOut}
 use Rattle.td_blocks.specs.Constructs.{body}
-use Rattle.td_blocks.specs.Lowered.{definition_body, definition_block, block_of, first_site}
+use Rattle.td_blocks.specs.Lowered.{definition_body, definition_block, block_of, first_site, sites_in}
 use Rattle.td_blocks.specs.Laid.{IsLaid}
 use Rattle.td_blocks.specs.Placed.{count_of}
 use Rattle.td_blocks.specs.Tabled.{IsTabled, DefinitionSited}
 use Rattle.td_blocks.specs.Tops.{fields_levels, cases_levels, body_levels}
 use Rattle.td_acceptance.specs.Laws.{BlocksHaveCode}
 use Rattle.td_acceptance.specs.Modules.{IsSupplied}
+use Rattle.td_acceptance.specs.Good.{IsSiteOf}
 use Rattle.td_lower.specs.Tables.{where_name, switch_name, parts_sites, fields_sites, default_sites, cases_sites, body_sites, definition_sites, definitions_sites, definition_maps, params_or_none, cells_or_none, entry_for, entries_for}
 use Rattle.td_lower.specs.Code.{units_of, routine_for, IsWritten}
-use Rattle.td_lower.proofs.Standing.{From, all_from, sites_from, maps_from, all_sites, all_maps}
-use Rattle.td_lower.proofs.Tabling.{definition_sited}
+use Rattle.td_lower.proofs.Standing.{From, all_from, sites_from, maps_from, all_sites, all_maps, definition_count}
+use Rattle.td_lower.proofs.Tabling.{definition_sited, no_site}
 use Rattle.td_lower.proofs.Places.{routines_count, routine_is, length_is, begins, stands_at}
-
--- of lists
-pub got : {A : Type 0} (xs : List A) (n : ℕ) → n < length xs → (x : A) × (slice_get xs n ≡ Some x)
-got [] n h = absurd (omega arith)
-got (x ∷ xs) zero h = (x, refl)
-got (x ∷ xs) (suc n) h = got xs n (omega arith)
+use Rattle.td_num.proofs.Lists.{got, each_at, each_append, each_index}
+use Rattle.td_acceptance.proofs.Modules.{sites_up}
 
 pub there : {A : Type 0} (xs : List A) (n : ℕ) (x : A) → slice_get xs n ≡ Some x → n < length xs
 there [] n x h = absurd (cc)
 there (y ∷ ys) zero x h = omega arith
 there (y ∷ ys) (suc n) x h = (let k = there ys n x h in omega (arith, k))
 
-pub each_at : {A : Type 0} (P : A → Type 0) (xs : List A) (n : ℕ) (x : A) → Each P xs → slice_get xs n ≡ Some x → P x
-each_at P [] n x e h = absurd (cc)
-each_at P (y ∷ ys) zero x e h = (let same : y ≡ x = cc in subst P same e.0)
-each_at P (y ∷ ys) (suc n) x e h = each_at P ys n x e.1 h
-
-each_index : {A : Type 0} (P : A → Type 0) (xs : List A) (d : A) (n : ℕ) → Each P xs → n < length xs → P (slice_index_or xs n d)
-each_index P [] d n e h = absurd (omega (arith, h))
-each_index P (x ∷ xs) d zero e h = e.0
-each_index P (x ∷ xs) d (suc n) e h = each_index P xs d n e.1 (omega (arith, h))
-
-each_append : {A : Type 0} (P : A → Type 0) (xs ys : List A) → Each P xs → Each P ys → Each P (xs ++ ys)
-each_append P [] ys h k = k
-each_append P (x ∷ xs) ys h k = (h.0, each_append P xs ys h.1 k)
-
 pub index_of : {A : Type 0} (xs : List A) (n : ℕ) (x d : A) → slice_get xs n ≡ Some x → slice_index_or xs n d ≡ x
 index_of [] n x d h = absurd (cc)
 index_of (y ∷ ys) zero x d h = cc
 index_of (y ∷ ys) (suc n) x d h = index_of ys n x d h
 
+-- what stands from a place on, by its place
+from_at : {A : Type 0} (all : List A) (d : A) (k : ℕ) (xs : List A) (j : ℕ) → From all d k xs → j < length xs → slice_index_or all (k + j) d ≡ slice_index_or xs j d
+from_at all d k [] j h lt = absurd (omega (arith, lt))
+from_at all d k (x ∷ xs) zero h lt = let e : k + 0 ≡ k = omega arith in ap (λ m. slice_index_or all m d) e ∙ h.0
+from_at all d k (x ∷ xs) (suc j) h lt = let e : k + suc j ≡ suc k + j = omega arith in ap (λ m. slice_index_or all m d) e ∙ from_at all d (suc k) xs j h.1 (omega (arith, lt))
+
+-- all sites of a definition are one routine's
+module _ (r : ℕ) where
+  abbrev IsOwn : Site → Type 0
+  IsOwn s = s.routine ≡ r
+
+  parts_own : (ty : NameId) (ps : List Part) → Each IsOwn (parts_sites r ty ps)
+  parts_own ty [] = tt
+  parts_own ty (p ∷ ps) = (refl, parts_own ty ps)
+
+  fields_own : (ty : NameId) (fs : List Field) → Each IsOwn (fields_sites r ty fs)
+  fields_own ty [] = tt
+  fields_own ty (f ∷ fs) = each_append IsOwn (parts_sites r ty f.parts) (fields_sites r ty fs) (parts_own ty f.parts) (fields_own ty fs)
+
+  default_own : (ty : NameId) (o : Option (List Field)) → Each IsOwn (default_sites r ty o)
+  default_own ty None = tt
+  default_own ty (Some fs) = fields_own ty fs
+
+  cases_own : (ty : NameId) (cs : List Case) (o : Option (List Field)) → Each IsOwn (cases_sites r ty cs o)
+  cases_own ty [] o = default_own ty o
+  cases_own ty (x ∷ cs) o = each_append IsOwn (fields_sites r ty x.fields) (cases_sites r ty cs o) (fields_own ty x.fields) (cases_own ty cs o)
+
+  body_own : (ty : NameId) (b : Body) → Each IsOwn (body_sites r ty b)
+  body_own ty (Struct fs) = fields_own ty fs
+  body_own ty (Casetype e cases o) = cases_own ty cases o
+
+  definition_own : (w s : NameId) (d : TypeDef) → Each IsOwn (definition_sites w s r d)
+  definition_own w s d = (refl, (refl, body_own d.name d.body))
+
 -- names
-module _ (count names : ℕ) (more : count ≤ names) where
-  parts_named : (ty : NameId) (ps : List Part) → IsNameThere count ty → Each (λ p. IsNameThere count p.name) ps → Each (IsSite names) (parts_sites ty ps)
-  parts_named ty [] t h = tt
-  parts_named ty (p ∷ ps) t h = (record { ty_named = omega (arith, t, more); field_named = (let x = h.0 in omega (arith, x, more)) }, parts_named ty ps t h.1)
+module _ (count names routines : ℕ) (more : count ≤ names) where
+  parts_named : (r : ℕ) (own : r < routines) (ty : NameId) (ps : List Part) → IsNameThere count ty → Each (λ p. IsNameThere count p.name) ps → Each (IsSite names routines) (parts_sites r ty ps)
+  parts_named r own ty [] t h = tt
+  parts_named r own ty (p ∷ ps) t h = (record { ty_named = omega (arith, t, more); field_named = (let x = h.0 in omega (arith, x, more)); of_routine = own }, parts_named r own ty ps t h.1)
 
-  fields_named : (ty : NameId) (fs : List Field) → IsNameThere count ty → Each (λ f. Each (λ p. IsNameThere count p.name) f.parts) fs → Each (IsSite names) (fields_sites ty fs)
-  fields_named ty [] t h = tt
-  fields_named ty (f ∷ fs) t h = each_append (IsSite names) (parts_sites ty f.parts) (fields_sites ty fs) (parts_named ty f.parts t h.0) (fields_named ty fs t h.1)
+  fields_named : (r : ℕ) (own : r < routines) (ty : NameId) (fs : List Field) → IsNameThere count ty → Each (λ f. Each (λ p. IsNameThere count p.name) f.parts) fs → Each (IsSite names routines) (fields_sites r ty fs)
+  fields_named r own ty [] t h = tt
+  fields_named r own ty (f ∷ fs) t h = each_append (IsSite names routines) (parts_sites r ty f.parts) (fields_sites r ty fs) (parts_named r own ty f.parts t h.0) (fields_named r own ty fs t h.1)
 
-  default_named : (ty : NameId) (o : Option (List Field)) → IsNameThere count ty → OfSome (Each (λ f. Each (λ p. IsNameThere count p.name) f.parts)) o → Each (IsSite names) (default_sites ty o)
-  default_named ty None t h = tt
-  default_named ty (Some fs) t h = fields_named ty fs t h
+  default_named : (r : ℕ) (own : r < routines) (ty : NameId) (o : Option (List Field)) → IsNameThere count ty → OfSome (Each (λ f. Each (λ p. IsNameThere count p.name) f.parts)) o → Each (IsSite names routines) (default_sites r ty o)
+  default_named r own ty None t h = tt
+  default_named r own ty (Some fs) t h = fields_named r own ty fs t h
 
-  cases_named : (ty : NameId) (cs : List Case) (o : Option (List Field)) → IsNameThere count ty → Each (λ x. Each (λ f. Each (λ p. IsNameThere count p.name) f.parts) x.fields) cs → OfSome (Each (λ f. Each (λ p. IsNameThere count p.name) f.parts)) o
-      → Each (IsSite names) (cases_sites ty cs o)
-  cases_named ty [] o t h k = default_named ty o t k
-  cases_named ty (x ∷ cs) o t h k = each_append (IsSite names) (fields_sites ty x.fields) (cases_sites ty cs o) (fields_named ty x.fields t h.0) (cases_named ty cs o t h.1 k)
+  cases_named : (r : ℕ) (own : r < routines) (ty : NameId) (cs : List Case) (o : Option (List Field)) → IsNameThere count ty → Each (λ x. Each (λ f. Each (λ p. IsNameThere count p.name) f.parts) x.fields) cs → OfSome (Each (λ f. Each (λ p. IsNameThere count p.name) f.parts)) o
+      → Each (IsSite names routines) (cases_sites r ty cs o)
+  cases_named r own ty [] o t h k = default_named r own ty o t k
+  cases_named r own ty (x ∷ cs) o t h k = each_append (IsSite names routines) (fields_sites r ty x.fields) (cases_sites r ty cs o) (fields_named r own ty x.fields t h.0) (cases_named r own ty cs o t h.1 k)
 
-  body_named : (ty : NameId) (b : Body) → IsNameThere count ty → EachField (λ f. Each (λ p. IsNameThere count p.name) f.parts) b → Each (IsSite names) (body_sites ty b)
-  body_named ty (Struct fs) t h = fields_named ty fs t h
-  body_named ty (Casetype e cases o) t h = cases_named ty cases o t h.0 h.1
+  body_named : (r : ℕ) (own : r < routines) (ty : NameId) (b : Body) → IsNameThere count ty → EachField (λ f. Each (λ p. IsNameThere count p.name) f.parts) b → Each (IsSite names routines) (body_sites r ty b)
+  body_named r own ty (Struct fs) t h = fields_named r own ty fs t h
+  body_named r own ty (Casetype e cases o) t h = cases_named r own ty cases o t h.0 h.1
 
-  definitions_named : (w s : NameId) → w.number < names → s.number < names → (ds : List TypeDef) → Each (IsDefinitionNamed count) ds → Each (IsSite names) (definitions_sites w s ds)
-  definitions_named w s a b [] h = tt
-  definitions_named w s a b (d ∷ ds) h =
-      let t = h.0.own in (
-        record { ty_named = omega (arith, t, more); field_named = a },
+  definitions_named : (w s : NameId) → w.number < names → s.number < names → (r : ℕ) (ds : List TypeDef) → r + length ds ≤ routines → Each (IsDefinitionNamed count) ds → Each (IsSite names routines) (definitions_sites w s r ds)
+  definitions_named w s a b r [] few h = tt
+  definitions_named w s a b r (d ∷ ds) few h =
+      let t = h.0.own in
+      let own : r < routines = omega (arith, few) in (
+        record { ty_named = omega (arith, t, more); field_named = a; of_routine = own },
         (
-          record { ty_named = omega (arith, t, more); field_named = b },
-          each_append (IsSite names) (body_sites d.name d.body) (definitions_sites w s ds) (body_named d.name d.body t h.0.fields) (definitions_named w s a b ds h.1),
+          record { ty_named = omega (arith, t, more); field_named = b; of_routine = own },
+          each_append (IsSite names routines) (body_sites r d.name d.body) (definitions_sites w s (r + 1) ds) (body_named r own d.name d.body t h.0.fields) (definitions_named w s a b (r + 1) ds (omega (arith, few)) h.1),
         ),
       )
 
@@ -131,7 +150,7 @@ values_same (x ∷ xs) zero = refl
 values_same (x ∷ xs) (suc v) = values_same xs v
 
 -- entry points
-entries_count : (ds : List TypeDef) (places : List ℕ) → length (entries_for ds places) ≡ length places
+pub entries_count : (ds : List TypeDef) (places : List ℕ) → length (entries_for ds places) ≡ length places
 entries_count ds [] = refl
 entries_count ds (p ∷ ps) = ap suc (entries_count ds ps)
 
@@ -148,14 +167,15 @@ module _ (c : Parts) (m : Module) (w : IsWritten c m) (whole : IsWhole m) (named
   names_are : length c.names ≡ length m.names + 2
   names_are = (let x = ap length w.names in let y = length-append m.names (codes "where" ∷ codes "switch" ∷ []) in omega (arith, x, y))
 
-  sites_named : Each (IsSite (length c.names)) c.sites
-  sites_named =
-      let k = names_are in
-      subst (Each (IsSite (length c.names))) (sym w.sites)
-      (definitions_named (length m.names) (length c.names) (omega (arith, k)) (where_name m) (switch_name m) (omega (arith, k)) (omega (arith, k)) m.definitions named)
-
   count_is : length c.routines ≡ length m.definitions
   count_is = ap length w.routines ∙ routines_count (units_of m) m.definitions (length m.definitions)
+
+  sites_named : Each (IsSite (length c.names) (length c.routines)) c.sites
+  sites_named =
+      let k = names_are in
+      let e = count_is in
+      subst (Each (IsSite (length c.names) (length c.routines))) (sym w.sites)
+      (definitions_named (length m.names) (length c.names) (length c.routines) (omega (arith, k)) (where_name m) (switch_name m) (omega (arith, k)) (omega (arith, k)) 0 m.definitions (omega (arith, e)) named)
 
   pub routine_at : (n : ℕ) (d : TypeDef) → slice_get m.definitions n ≡ Some d → routine_of c n ≡ routine_for (size (block_of (units_of m) m.definitions n)) (Some d)
   routine_at n d e =
@@ -193,13 +213,13 @@ module _ (c : Parts) (m : Module) (w : IsWritten c m) (whole : IsWhole m) (named
         there = omega (arith, inside, count);
         param_count = rp;
         cell_count = rc;
-        params_named = λ j l'. params_named (length m.names) (length c.names) (omega (arith, k)) d.params j own.params l';
-        cells_named = λ j l'. cells_named (length m.names) (length c.names) (omega (arith, k)) d.cells j own.cells l';
+        params_named = λ j l'. params_named (length m.names) (length c.names) (length c.routines) (omega (arith, k)) d.params j own.params l';
+        cells_named = λ j l'. cells_named (length m.names) (length c.names) (length c.routines) (omega (arith, k)) d.cells j own.cells l';
       })
 
   pub is_code : IsCode c
   is_code = record {
-    sites = λ k h. each_index (IsSite (length c.names)) c.sites _ k sites_named h;
+    sites = λ k h. each_index (IsSite (length c.names) (length c.routines)) c.sites _ k sites_named h;
     routines = λ k h. (let e = count_is in routine_good k (omega (arith, h, e)));
     whole = (let e = count_is in ap (begin (lengths_of c)) e ∙ (begins c (units_of m) m.definitions w.routines w.instructions (length m.definitions) (omega arith) ∙ sym (ap length w.instructions)));
     entries = λ k h. entry_good k h;
@@ -218,18 +238,44 @@ module _ (c : Parts) (m : Module) (w : IsWritten c m) (whole : IsWhole m) (named
     entry_cells = λ n place d h e. ap (λ y. (slice_index_or y n no_entry).cells) w.entries ∙ (ap (λ y. y.cells) (entry_at m.definitions m.entries n place h) ∙ ap cells_or_none e);
   }
 
+  sites_at : (n : ℕ) (d : TypeDef) → slice_get m.definitions n ≡ Some d → From c.sites no_site (first_site m.definitions n) (definition_sites (where_name m) (switch_name m) n d)
+  sites_at n d e =
+      let z : first_site m.definitions n + 0 ≡ first_site m.definitions n = omega arith in
+      let own : 0 + n ≡ n = omega arith in
+      subst (λ r. From c.sites no_site (first_site m.definitions n) (definition_sites (where_name m) (switch_name m) r d)) own
+      (subst (λ k. From c.sites no_site k (definition_sites (where_name m) (switch_name m) (0 + n) d)) z
+      (sites_from c.sites no_site (where_name m) (switch_name m) 0 m.definitions 0 n d (subst (λ y. From c.sites no_site 0 y) w.sites (all_from c.sites no_site)) e))
+
   sited : (n : ℕ) → n < length m.definitions → DefinitionSited c (first_site m.definitions n) (slice_get m.definitions n)
   sited n h =
       let x = got m.definitions n h in
       let d = x.0 in
       let z : first_site m.definitions n + 0 ≡ first_site m.definitions n = omega arith in
-      let s = sites_from c.sites _ (where_name m) (switch_name m) m.definitions 0 n d (subst (λ y. From c.sites (record { ty = record { number = 0 }; field = record { number = 0 } }) 0 y) w.sites (all_from c.sites _)) x.1 in
       let g = maps_from c.maps [] m.definitions 0 n d (subst (λ y. From c.maps [] 0 y) w.maps (all_from c.maps [])) x.1 in
       subst (DefinitionSited c (first_site m.definitions n)) (sym x.1)
-      (definition_sited c m w.names words (first_site m.definitions n) d (each_at (λ y. EachField (λ f. HasParts f.parts) y.body) m.definitions n d whole.parts x.1)
+      (definition_sited c m w.names words n (first_site m.definitions n) d (each_at (λ y. EachField (λ f. HasParts f.parts) y.body) m.definitions n d whole.parts x.1)
       (each_at (IsDefinitionNamed (length m.names)) m.definitions n d named x.1).fields
-      (subst (λ k. From c.sites (record { ty = record { number = 0 }; field = record { number = 0 } }) k (definition_sites (where_name m) (switch_name m) d)) z s)
+      (sites_at n d x.1)
       (subst (λ k. From c.maps [] k (definition_maps d)) z g))
+
+  -- the sites of a definition are its routine's
+  sites_own : (n k : ℕ) → n < length m.definitions → first_site m.definitions n ≤ k → k < first_site m.definitions (suc n) → IsSiteOf c n k
+  sites_own n k h low high =
+      let x = got m.definitions n h in
+      let d = x.0 in
+      let j = k - first_site m.definitions n in
+      let next : first_site m.definitions (suc n) ≡ first_site m.definitions n + sites_in (Some d) = ap (λ o. first_site m.definitions n + sites_in o) x.1 in
+      let count = definition_count (where_name m) (switch_name m) n d in
+      let few : j < length (definition_sites (where_name m) (switch_name m) n d) = omega (arith, low, high, next, count) in
+      let is = from_at c.sites no_site (first_site m.definitions n) (definition_sites (where_name m) (switch_name m) n d) j (sites_at n d x.1) few in
+      let at : first_site m.definitions n + j ≡ k = omega (arith, low) in
+      let own = each_index (λ s. s.routine ≡ n) (definition_sites (where_name m) (switch_name m) n d) no_site j (definition_own n (where_name m) (switch_name m) d) few in
+      let a = ap length w.sites in
+      let b = all_sites (where_name m) (switch_name m) 0 m.definitions in
+      let u = sites_up m.definitions (suc n) (length m.definitions - suc n) in
+      let all : suc n + (length m.definitions - suc n) ≡ length m.definitions = omega (arith, h) in
+      let last : first_site m.definitions (suc n) ≤ first_site m.definitions (length m.definitions) = subst (λ x. first_site m.definitions (suc n) ≤ first_site m.definitions x) all u in
+      (omega (arith, high, last, a, b), subst (λ y. (site_of c y).routine ≡ n) at (ap (λ s. s.routine) is ∙ own))
 
   pub is_tabled : IsTabled c m
   is_tabled = record {
@@ -240,7 +286,7 @@ module _ (c : Parts) (m : Module) (w : IsWritten c m) (whole : IsWhole m) (named
   pub is_supplied : IsSupplied c m
   is_supplied = record {
     cells = λ n d e. ap (λ y. y.cells) (routine_at n d e);
-    sites = (let a = ap length w.sites in let b = all_sites (where_name m) (switch_name m) m.definitions in omega (arith, a, b));
-    maps = (let a = ap length w.sites in let b = all_sites (where_name m) (switch_name m) m.definitions in let x = ap length w.maps in let y = all_maps m.definitions in omega (arith, a, b, x, y));
+    sites = sites_own;
+    maps = (let a = ap length w.sites in let b = all_sites (where_name m) (switch_name m) 0 m.definitions in let x = ap length w.maps in let y = all_maps m.definitions in omega (arith, a, b, x, y));
     sets = (let x = w.sets.count in omega (arith, x));
   }

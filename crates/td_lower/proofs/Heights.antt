@@ -1,7 +1,5 @@
 -- A definition needs no more registers than twice its nodes and a few.
-use Rattle.std.proofs.Common.{◌≡◌, ℕ, zero, suc, ◌+◌, ◌*◌, ◌≤◌, max, List, [], ◌∷◌, ◌++◌, length, map, slice_get, Option, Some, None, refl, ap, arith, length-append}
-use Rattle.td_core.specs.declared.expressions.Binary.{Binary}
-use Rattle.td_core.specs.declared.expressions.Binary.TheVariants.{Plus, Minus, Times, Over, Modulo, BitAnd, BitOr, BitXor, ShiftLeft, ShiftRight}
+use Rattle.std.proofs.Common.{◌≡◌, ℕ, zero, suc, ◌+◌, ◌≤◌, List, [], ◌∷◌, ◌++◌, length, slice_get, Option, Some, None, arith, length-append}
 use Rattle.td_core.specs.declared.expressions.Relation.{Relation}
 use Rattle.td_core.specs.declared.expressions.Relation.TheVariants.{Equal, NotEqual, Less, LessEqual, Greater, GreaterEqual}
 use Rattle.td_core.specs.Term.{Term, number, name, complement, negation, compute, compare, both, either, choice, range_okay, measure, Deed, done, set, keep, fork, answer, give_up}
@@ -20,12 +18,83 @@ use Rattle.td_core.specs.declared.module.Body.TheVariants.{Struct, Casetype}
 use Rattle.td_core.specs.declared.module.TypeDef.{TypeDef}
 use Rattle.td_core.specs.Weights.{option_nodes, terms_nodes, deed_nodes, action_nodes, element_nodes, extent_nodes, part_nodes, total, fields_nodes, default_nodes, cases_nodes, body_nodes, head_nodes}
 use Rattle.td_blocks.specs.Constructs.{Expr}
-use Rattle.td_blocks.specs.Lowered.{computed_of, compared_of, mask_of, expr_of, terms_of}
+use Rattle.td_blocks.specs.Lowered.{compared_of, mask_of, expr_of, terms_of}
 use Rattle.td_blocks.specs.Tops.{deed_levels, action_levels, parts_levels, fields_levels, default_levels, cases_levels, body_levels, definition_levels, top, terms_top, test_top, deed_top, action_top, parts_top, sized_top, shape_top, fields_top, default_top, cases_top, body_top, definition_top}
+use Rattle.td_core.proofs.Nodes.{some_node as some_measure, each_node as count_low}
+use Rattle.td_blocks.proofs.Heights.{computed_top}
+use Rattle.td_acceptance.proofs.Modules.{mapped}
+
+-- how many values are kept, each at a level of its own, and how many fields' values beside them
+
+abbrev deed_kept : Deed → ℕ
+deed_kept done = 0
+deed_kept (set cell e then) = deed_kept then
+deed_kept (keep cell then) = 1 + deed_kept then
+deed_kept (fork e one other then) = deed_kept one + (deed_kept other + deed_kept then)
+deed_kept (answer e) = 0
+deed_kept give_up = 0
+
+abbrev action_kept : Option Deed → ℕ
+action_kept None = 0
+action_kept (Some d) = deed_kept d
+
+abbrev parts_kept : List Part → ℕ
+parts_kept [] = 0
+parts_kept (p ∷ ps) = action_kept p.action + parts_kept ps
+
+abbrev fields_kept : List Field → ℕ
+fields_kept [] = 0
+fields_kept (f ∷ fs) = length f.parts + parts_kept f.parts + fields_kept fs
+
+abbrev default_kept : Option (List Field) → ℕ
+default_kept None = 0
+default_kept (Some fs) = fields_kept fs
+
+abbrev cases_kept : List Case → ℕ
+cases_kept [] = 0
+cases_kept (c ∷ cs) = fields_kept c.fields + cases_kept cs
+
+abbrev body_kept : Body → ℕ
+body_kept (Struct fs) = fields_kept fs
+body_kept (Casetype e cases o) = cases_kept cases + default_kept o
+
+-- they are no more than the nodes
+
+deed_few : (d : Deed) → deed_kept d ≤ deed_nodes d
+deed_few done = omega arith
+deed_few (set cell e then) = (let x = deed_few then in omega (arith, x))
+deed_few (keep cell then) = (let x = deed_few then in omega (arith, x))
+deed_few (fork e one other then) = (let x = deed_few one in let y = deed_few other in let z = deed_few then in omega (arith, x, y, z))
+deed_few (answer e) = omega arith
+deed_few give_up = omega arith
+
+action_few : (o : Option Deed) → action_kept o ≤ action_nodes o
+action_few None = omega arith
+action_few (Some d) = deed_few d
+
+parts_few : (ps : List Part) → parts_kept ps ≤ total part_nodes ps
+parts_few [] = omega arith
+parts_few (p ∷ ps) = (let x = action_few p.action in let y = parts_few ps in omega (arith, x, y))
+
+fields_few : (fs : List Field) → fields_kept fs ≤ fields_nodes fs
+fields_few [] = omega arith
+fields_few (f ∷ fs) = (let x = parts_few f.parts in let y = fields_few fs in omega (arith, x, y))
+
+default_few : (o : Option (List Field)) → default_kept o ≤ default_nodes o
+default_few None = omega arith
+default_few (Some fs) = fields_few fs
+
+cases_few : (cs : List Case) → cases_kept cs ≤ cases_nodes cs
+cases_few [] = omega arith
+cases_few (c ∷ cs) = (let x = fields_few c.fields in let y = cases_few cs in omega (arith, x, y))
+
+body_few : (b : Body) → body_kept b ≤ body_nodes b
+body_few (Struct fs) = fields_few fs
+body_few (Casetype e cases o) = (let x = cases_few cases in let y = default_few o in omega (arith, x, y))
 
 -- levels
 
-deed_low : (L : ℕ) (d : Deed) → deed_levels L d ≤ L + deed_nodes d
+deed_low : (L : ℕ) (d : Deed) → deed_levels L d ≤ L + deed_kept d
 deed_low L done = omega arith
 deed_low L (set cell e then) = (let x = deed_low L then in omega (arith, x))
 deed_low L (keep cell then) = (let x = deed_low (suc L) then in omega (arith, x))
@@ -33,43 +102,31 @@ deed_low L (fork e one other then) = (let x = deed_low L one in let y = deed_low
 deed_low L (answer e) = omega arith
 deed_low L give_up = omega arith
 
-action_low : (L : ℕ) (o : Option Deed) → action_levels L o ≤ L + 1 + action_nodes o
+action_low : (L : ℕ) (o : Option Deed) → action_levels L o ≤ L + 1 + action_kept o
 action_low L None = omega arith
 action_low L (Some d) = (let x = deed_low (suc L) d in omega (arith, x))
 
-parts_low : (L : ℕ) (ps : List Part) → parts_levels L ps ≤ L + 1 + (length ps + total part_nodes ps)
+parts_low : (L : ℕ) (ps : List Part) → parts_levels L ps ≤ L + 1 + (length ps + parts_kept ps)
 parts_low L [] = omega arith
 parts_low L (p ∷ ps) = (let x = action_low (suc L) p.action in let y = parts_low (suc L) ps in omega (arith, x, y))
 
-fields_low : (L : ℕ) (fs : List Field) → fields_levels L fs ≤ L + 1 + fields_nodes fs
+fields_low : (L : ℕ) (fs : List Field) → fields_levels L fs ≤ L + 1 + fields_kept fs
 fields_low L [] = omega arith
 fields_low L (f ∷ fs) = (let x = parts_low L f.parts in let y = fields_low (length f.parts + L) fs in omega (arith, x, y))
 
-default_low : (L : ℕ) (o : Option (List Field)) → default_levels L o ≤ L + 1 + default_nodes o
+default_low : (L : ℕ) (o : Option (List Field)) → default_levels L o ≤ L + 1 + default_kept o
 default_low L None = omega arith
 default_low L (Some fs) = fields_low L fs
 
-cases_low : (L : ℕ) (cs : List Case) → cases_levels L cs ≤ L + 1 + cases_nodes cs
+cases_low : (L : ℕ) (cs : List Case) → cases_levels L cs ≤ L + 1 + cases_kept cs
 cases_low L [] = omega arith
 cases_low L (c ∷ cs) = (let x = fields_low L c.fields in let y = cases_low L cs in omega (arith, x, y))
 
-body_low : (L : ℕ) (b : Body) → body_levels L b ≤ L + 1 + body_nodes b
+body_low : (L : ℕ) (b : Body) → body_levels L b ≤ L + 1 + body_kept b
 body_low L (Struct fs) = fields_low L fs
 body_low L (Casetype e cases o) = (let x = cases_low L cases in let y = default_low L o in omega (arith, x, y))
 
 -- registers
-
-computed_top : (op : Binary) (mask t : ℕ) (a b : Expr) → top t (computed_of op mask a b) ≡ max (top t a) (top (t + 1) b)
-computed_top Plus mask t a b = refl
-computed_top Minus mask t a b = refl
-computed_top Times mask t a b = refl
-computed_top Over mask t a b = refl
-computed_top Modulo mask t a b = refl
-computed_top BitAnd mask t a b = refl
-computed_top BitOr mask t a b = refl
-computed_top BitXor mask t a b = refl
-computed_top ShiftLeft mask t a b = refl
-computed_top ShiftRight mask t a b = refl
 
 compared_top : (r : Relation) (t m : ℕ) (a b : Expr) → top t a ≤ m → top (t + 1) a ≤ m → top t b ≤ m → top (t + 1) b ≤ m → top t (compared_of r a b) ≤ m
 compared_top Equal t m a b h k i j = omega (arith, h, j)
@@ -83,18 +140,6 @@ within : {A : Type 0} (xs : List A) (i : ℕ) (x : A) → slice_get xs i ≡ Som
 within [] i x h = absurd (cc)
 within (y ∷ ys) zero x h = omega arith
 within (y ∷ ys) (suc i) x h = (let k = within ys i x h in omega (arith, k))
-
-some_measure : (e : Term) → 1 ≤ measure e
-some_measure (number n w) = omega arith
-some_measure (name i w most) = omega arith
-some_measure (complement a) = omega arith
-some_measure (negation a) = omega arith
-some_measure (compute op s a b) = omega arith
-some_measure (compare r a b) = omega arith
-some_measure (both a b) = omega arith
-some_measure (either a b) = omega arith
-some_measure (choice c a b) = omega arith
-some_measure (range_okay s o a) = omega arith
 
 value_low : (scope : List Bound) (u : ℕ) (e : Term) → IsScoped scope e → length scope ≤ u → top u (expr_of e) ≤ u + measure e
 value_low scope u (number n w) h k = omega arith
@@ -123,10 +168,6 @@ args_low scope (b ∷ bs) u [] h k = absurd h
 args_low scope (b ∷ bs) u (e ∷ es) h k =
     (let x = value_low scope u e h.0 k in let y = args_low scope bs (u + 1) es h.1.1 (omega (arith, k)) in let z = some_measure e in omega (arith, x, y, z))
 
-count_low : (es : List Term) → length es ≤ terms_nodes es
-count_low [] = omega arith
-count_low (e ∷ es) = (let x = count_low es in let y = some_measure e in omega (arith, x, y))
-
 test_low : (scope : List Bound) (u : ℕ) (o : Option Term) → IsOptionScoped scope o → length scope ≤ u → test_top u o ≤ u + 1 + option_nodes o
 test_low scope u None h k = omega arith
 test_low scope u (Some e) h k = (let x = value_low scope u e h k in omega (arith, x))
@@ -143,38 +184,42 @@ levels_up L (fork e one other then) = (let x = levels_up L one in omega (arith, 
 levels_up L (answer e) = omega arith
 levels_up L give_up = omega arith
 
-acts_low : (cells scope : List Bound) (L u : ℕ) (d : Deed) → IsDeedFormed cells scope d → length scope ≤ L → deed_levels L d ≤ u → deed_top L u d ≤ u + 1 + deed_nodes d
+acts_low : (cells scope : List Bound) (L u : ℕ) (d : Deed) → IsDeedFormed cells scope d → length scope ≤ L → deed_levels L d ≤ u → deed_top L u d + deed_kept d ≤ u + 1 + deed_nodes d
 acts_low cells scope L u done h k l = omega arith
 acts_low cells scope L u (set cell e then) h k l =
     let up = levels_up L then in
-    let x = value_low scope u e h.0 (omega (arith, k, up, l)) in let y = acts_low cells scope L u then h.1.1 k l in omega (arith, x, y)
+    let x = value_low scope u e h.0 (omega (arith, k, up, l)) in let y = acts_low cells scope L u then h.1.1 k l in
+    let few = deed_few then in omega (arith, x, y, few)
 acts_low cells scope L u (keep cell then) h k l =
     let g = given_low scope (slice_get cells cell) in
     let up = levels_up (suc L) then in
-    let y = acts_low cells (given scope (slice_get cells cell)) (suc L) u then h.1 (omega (arith, k, g)) l in omega (arith, y, up, l)
+    let few = deed_few then in
+    let y = acts_low cells (given scope (slice_get cells cell)) (suc L) u then h.1 (omega (arith, k, g)) l in omega (arith, y, up, l, few)
 acts_low cells scope L u (fork e one other then) h k l =
     let up = levels_up L then in
     let x = value_low scope u e h.0 (omega (arith, k, up, l)) in
     let y = acts_low cells scope L (u + 1) one h.1.0 k (omega (arith, l)) in
     let z = acts_low cells scope L (u + 1) other h.1.1.0 k (omega (arith, l)) in
     let w = acts_low cells scope L u then h.1.1.1 k (omega (arith, l)) in
-    omega (arith, x, y, z, w)
+    let few = deed_few one in let few' = deed_few other in let few'' = deed_few then in
+    omega (arith, x, y, z, w, few, few', few'')
 acts_low cells scope L u (answer e) h k l = (let x = value_low scope u e h (omega (arith, k, l)) in omega (arith, x))
 acts_low cells scope L u give_up h k l = omega arith
 
-effect_low : (cells scope : List Bound) (L u : ℕ) (o : Option Deed) → IsActionFormed cells scope o → length scope ≤ L → action_levels L o ≤ u → L ≤ u → action_top L (suc u) o ≤ u + 2 + action_nodes o
+effect_low : (cells scope : List Bound) (L u : ℕ) (o : Option Deed) → IsActionFormed cells scope o → length scope ≤ L → action_levels L o ≤ u → L ≤ u → action_top L (suc u) o + action_kept o ≤ u + 2 + action_nodes o
 effect_low cells scope L u None h k l m = omega arith
 effect_low cells scope L u (Some d) h k l m =
     let g = length-append scope (whole scalar.ThirtyTwo ∷ []) in
     let up = levels_up (suc L) d in
     let x = acts_low cells (scope ++ whole scalar.ThirtyTwo ∷ []) (suc L) (suc u) d h (omega (arith, k, g)) (omega (arith, l)) in
-    omega (arith, x, up, l)
+    let few = deed_few d in
+    omega (arith, x, up, l, few)
 
 first_level : (L : ℕ) (ps : List Part) → L ≤ parts_levels L ps
 first_level L [] = omega arith
 first_level L (p ∷ ps) = (let x = first_level (suc L) ps in omega (arith, x))
 
-members_low : (cells : List Bound) (element : Element) (extent : Extent) (scope : List Bound) (L t : ℕ) (ps : List Part) → ArePartsFormed cells element extent scope ps → length scope ≤ L → parts_levels L ps ≤ t → parts_top L t ps ≤ t + 2 + total part_nodes ps
+members_low : (cells : List Bound) (element : Element) (extent : Extent) (scope : List Bound) (L t : ℕ) (ps : List Part) → ArePartsFormed cells element extent scope ps → length scope ≤ L → parts_levels L ps ≤ t → parts_top L t ps + parts_kept ps ≤ t + 2 + total part_nodes ps
 members_low cells element extent scope L t [] h k l = omega arith
 members_low cells element extent scope L t (p ∷ ps) h k l =
     let inner = scope ++ part_bound element extent p.bits ∷ [] in
@@ -183,7 +228,8 @@ members_low cells element extent scope L t (p ∷ ps) h k l =
     let x = test_low inner (suc t) p.refinement h.0 (omega (arith, k, g, f, l)) in
     let y = effect_low cells inner (suc L) t p.action h.1.0 (omega (arith, k, g)) (omega (arith, l)) (omega (arith, f, l)) in
     let z = members_low cells element extent inner (suc L) t ps h.1.1 (omega (arith, k, g)) (omega (arith, l)) in
-    omega (arith, x, y, z, f, l)
+    let few = action_few p.action in let few' = parts_few ps in
+    omega (arith, x, y, z, f, l, few, few')
 
 scope_low : (element : Element) (extent : Extent) (scope : List Bound) (ps : List Part) → length (parts_scope element extent scope ps) ≡ length ps + length scope
 scope_low element extent scope [] = omega arith
@@ -225,7 +271,7 @@ field_level : (L : ℕ) (fs : List Field) → L ≤ fields_levels L fs
 field_level L [] = omega arith
 field_level L (f ∷ fs) = (let x = first_level L f.parts in omega (arith, x))
 
-all_low : (ds : List TypeDef) (n : ℕ) (cells scope : List Bound) (L t : ℕ) (fs : List Field) → AreFieldsFormed ds n cells scope fs → length scope ≤ L → fields_levels L fs ≤ t → fields_top L t fs ≤ t + 4 + fields_nodes fs
+all_low : (ds : List TypeDef) (n : ℕ) (cells scope : List Bound) (L t : ℕ) (fs : List Field) → AreFieldsFormed ds n cells scope fs → length scope ≤ L → fields_levels L fs ≤ t → fields_top L t fs + fields_kept fs ≤ t + 4 + fields_nodes fs
 all_low ds n cells scope L t [] h k l = omega arith
 all_low ds n cells scope L t (f ∷ fs) h k l =
     let up = field_level L (f ∷ fs) in
@@ -233,39 +279,38 @@ all_low ds n cells scope L t (f ∷ fs) h k l =
     let y = members_low cells f.element f.extent scope L t f.parts h.1.1.0 k (omega (arith, l)) in
     let g = scope_low f.element f.extent scope f.parts in
     let z = all_low ds n cells (parts_scope f.element f.extent scope f.parts) (length f.parts + L) t fs h.1.1.1 (omega (arith, k, g)) (omega (arith, l)) in
-    omega (arith, x, y, z)
+    let few = parts_few f.parts in let few' = fields_few fs in
+    omega (arith, x, y, z, few, few')
 
-last_low : (ds : List TypeDef) (n : ℕ) (cells scope : List Bound) (L t : ℕ) (o : Option (List Field)) → IsDefaultFormed ds n cells scope o → length scope ≤ L → default_levels L o ≤ t → default_top L t o ≤ t + 4 + default_nodes o
+last_low : (ds : List TypeDef) (n : ℕ) (cells scope : List Bound) (L t : ℕ) (o : Option (List Field)) → IsDefaultFormed ds n cells scope o → length scope ≤ L → default_levels L o ≤ t → default_top L t o + default_kept o ≤ t + 4 + default_nodes o
 last_low ds n cells scope L t None h k l = omega arith
 last_low ds n cells scope L t (Some fs) h k l = all_low ds n cells scope L t fs h k l
 
-each_low : (ds : List TypeDef) (n : ℕ) (cells scope : List Bound) (L t : ℕ) (cs : List Case) → AreCasesFormed ds n cells scope cs → length scope ≤ L → cases_levels L cs ≤ t → cases_top L t cs ≤ t + 4 + cases_nodes cs
+each_low : (ds : List TypeDef) (n : ℕ) (cells scope : List Bound) (L t : ℕ) (cs : List Case) → AreCasesFormed ds n cells scope cs → length scope ≤ L → cases_levels L cs ≤ t → cases_top L t cs + cases_kept cs ≤ t + 4 + cases_nodes cs
 each_low ds n cells scope L t [] h k l = omega arith
 each_low ds n cells scope L t (c ∷ cs) h k l =
-    (let x = all_low ds n cells scope L t c.fields h.0 k (omega (arith, l)) in let y = each_low ds n cells scope L t cs h.1 k (omega (arith, l)) in omega (arith, x, y))
+    let x = all_low ds n cells scope L t c.fields h.0 k (omega (arith, l)) in let y = each_low ds n cells scope L t cs h.1 k (omega (arith, l)) in
+    let few = fields_few c.fields in let few' = cases_few cs in omega (arith, x, y, few, few')
 
 case_level : (L : ℕ) (cs : List Case) → L ≤ cases_levels L cs
 case_level L [] = omega arith
 case_level L (c ∷ cs) = (let x = case_level L cs in omega (arith, x))
 
-inside_low : (ds : List TypeDef) (n : ℕ) (cells scope : List Bound) (L t : ℕ) (b : Body) → IsBodyFormed ds n cells scope b → length scope ≤ L → body_levels L b ≤ t → body_top L t b ≤ t + 4 + body_nodes b
+inside_low : (ds : List TypeDef) (n : ℕ) (cells scope : List Bound) (L t : ℕ) (b : Body) → IsBodyFormed ds n cells scope b → length scope ≤ L → body_levels L b ≤ t → body_top L t b + body_kept b ≤ t + 4 + body_nodes b
 inside_low ds n cells scope L t (Struct fs) h k l = all_low ds n cells scope L t fs h k l
 inside_low ds n cells scope L t (Casetype e cases o) h k l =
     let up = case_level L cases in
     let x = value_low scope (suc t) e h.0 (omega (arith, k, up, l)) in
     let y = each_low ds n cells scope L t cases h.1.0 k (omega (arith, l)) in
     let z = last_low ds n cells scope L t o h.1.1 k (omega (arith, l)) in
-    omega (arith, x, y, z)
+    let few = cases_few cases in let few' = default_few o in
+    omega (arith, x, y, z, few, few')
 
 body_level : (L : ℕ) (b : Body) → L ≤ body_levels L b
 body_level L (Struct fs) = field_level L fs
 body_level L (Casetype e cases o) = (let x = case_level L cases in omega (arith, x))
 
-mapped : {A B : Type 0} (f : A → B) (xs : List A) → length (map f xs) ≡ length xs
-mapped f [] = refl
-mapped f (x ∷ xs) = ap suc (mapped f xs)
-
-pub registers_low : (ds : List TypeDef) (n : ℕ) (d : TypeDef) → IsDefinitionFormed ds n d → definition_top (definition_levels d) d ≤ 2 * (head_nodes d + body_nodes d.body) + 6
+pub registers_low : (ds : List TypeDef) (n : ℕ) (d : TypeDef) → IsDefinitionFormed ds n d → definition_top (definition_levels d) d ≤ head_nodes d + body_nodes d.body + 5
 registers_low ds n d h =
     let t = definition_levels d in
     let scope = param_bounds d.params in
@@ -274,4 +319,5 @@ registers_low ds n d h =
     let up = body_level (length d.params) d.body in
     let x = test_low scope (suc t) d.guard h.0 (omega (arith, count, up)) in
     let y = inside_low ds n _ scope (length d.params) t d.body h.1 (omega (arith, count)) (omega arith) in
-    omega (arith, x, y, low)
+    let few = body_few d.body in
+    omega (arith, x, y, low, few)

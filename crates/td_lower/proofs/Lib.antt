@@ -1,7 +1,7 @@
 pub mod Standing
 mod Tabling
 pub mod Places
-mod Codes
+pub mod Codes
 mod Rising
 pub mod Rooms
 pub mod Heights

@@ -1,5 +1,9 @@
 -- The code of a module is accepted, and does what the module means.
-use Rattle.std.proofs.Common.{◌≡◌, ℕ, ◌^◌, ◌<◌, length, slice_get, Some, sym, ap, subst, arith}
+use Rattle.std.proofs.Common.{◌≡◌, ℕ, ◌+◌, ◌^◌, ◌<◌, ◌≤◌, List, [], ◌∷◌, length, slice_get, Some, sym, ap, subst, arith}
+use Rattle.std.proofs.lemmas.List.{length-append}
+use Rattle.td_core.specs.declared.module.NameId.{NameId}
+use Rattle.td_lower.specs.Tables.{where_name, switch_name, definition_sites, definitions_sites}
+use Rattle.td_lower.proofs.Standing.{all_sites}
 use Rattle.td_core.specs.declared.module.TypeDef.{TypeDef}
 use Rattle.td_core.specs.declared.module.Module.{Module}
 use Rattle.td_core.specs.WellFormed.{DefinitionWithin}
@@ -13,9 +17,11 @@ use Rattle.td_blocks.specs.Tops.{definition_levels}
 use Rattle.td_acceptance.specs.Modules.{IsAdmissible, IsNoHeavier, OperandsFit}
 use Rattle.td_lowered.specs.CodeRun.{IsCodeOf}
 use Rattle.td_lower.specs.Code.{unit_in, units_of, IsWritten, HasRoomFor, IsLowerable, MeansModule, HasLaws}
-use Rattle.td_lower.proofs.Codes.{got, there, each_at, routine_at, is_code, is_laid, is_tabled, is_supplied}
-use Rattle.td_lower.proofs.Rooms.{body_less, sites_less, own_nodes, last_site}
+use Rattle.td_lower.proofs.Codes.{there, routine_at, is_code, is_laid, is_tabled, is_supplied}
+use Rattle.td_lower.proofs.Rooms.{body_less, sites_less, own_nodes}
 use Rattle.td_lower.proofs.Heights.{registers_low}
+use Rattle.td_num.proofs.Lists.{got, each_at}
+use Rattle.td_acceptance.proofs.Modules.{last_site}
 
 admissible : (m : Module) → IsLowerable m → IsAdmissible m
 admissible m l = record { formed = l.ready.formed; fields = l.ready.fields; depth = l.depth; weight = l.weight; kinds = l.ready.kinds }
@@ -45,6 +51,17 @@ room_for law m l n d e =
       own = omega (arith, c);
       nodes = omega (arith, nodes, all);
     }
+
+-- a definition has two sites at least
+definitions_few : (w s : NameId) (r : ℕ) (ds : List TypeDef) → length ds ≤ length (definitions_sites w s r ds)
+definitions_few w s r [] = omega arith
+definitions_few w s r (d ∷ ds) =
+    let h = definitions_few w s (r + 1) ds in
+    let a = length-append (definition_sites w s r d) (definitions_sites w s (r + 1) ds) in
+    omega (arith, h, a)
+
+pub definitions_room : (m : Module) → IsLowerable m → 0 + length m.definitions < 4294967296
+definitions_room m l = (let x = sites_less m.definitions in let y = l.nodes in let z = definitions_few (where_name m) (switch_name m) 0 m.definitions in let a = all_sites (where_name m) (switch_name m) 0 m.definitions in omega (arith, x, y, z, a))
 
 pub sites_room : (m : Module) → IsLowerable m → first_site m.definitions (length m.definitions) < 2 ^ 32
 sites_room m l = (let x = sites_less m.definitions in let y = l.nodes in omega (arith, x, y))

@@ -11,8 +11,9 @@ use Rattle.td_blocks.specs.Lowered.{definition_body, definition_block, block_of,
 use Rattle.td_blocks.specs.Constructs.{body}
 use Rattle.td_blocks.specs.Tops.{definition_levels}
 use Rattle.td_emit.specs.Emission.{Finishes}
-use Rattle.td_emit.proofs.Writing.{code_size, written}
+use Rattle.td_emit.proofs.Writing.{written}
 use Rattle.td_lower.specs.Code.{unit_in, code_to, routine_for, routines_to}
+use Rattle.td_blocks.proofs.Laying.{code_size}
 
 pub routines_count : (units : ℕ → ℕ) (ds : List TypeDef) (n : ℕ) → length (routines_to units ds n) ≡ n
 routines_count units ds zero = refl

@@ -10,6 +10,7 @@ use Rattle.std.proofs.lemmas.List.Sums.{sum_by-cons}
 use Rattle.td_num.specs.Lists.{is_among}
 use Rattle.td_ir.specs.WellFormed.{Rises}
 use Rattle.td_lower.specs.Sets.{IsSetOf, AreSetsOf, once}
+use Rattle.td_num.proofs.Truths.{eq_is as same_is}
 
 -- the sets of the first n enums
 pub record AreSetsTo (all sets : List (List ℕ)) (n : ℕ) : Type 0 where
@@ -21,9 +22,6 @@ abbrev pub Climbs : List ℕ → Type 0
 Climbs [] = Unit {0}
 Climbs (x ∷ []) = Unit {0}
 Climbs (x ∷ y ∷ ys) = (x ≤ y) × Climbs (y ∷ ys)
-
-same_is : (x y : ℕ) → nat_eq x y ≡ true → x ≡ y
-same_is x y h = grind (arith, nat_tests)
 
 other_is : (x y : ℕ) → x ≤ y → nat_eq x y ≡ false → x < y
 other_is x y h k = grind (arith, nat_tests)

@@ -1,12 +1,12 @@
 -- A checked module's definitions have room in the operands of instructions.
-use Rattle.std.proofs.Common.{◌≡◌, ℕ, zero, suc, ◌+◌, ◌-◌, ◌*◌, ◌<◌, ◌≤◌, List, [], ◌∷◌, length, slice_get, Option, Some, None, sym, ap, subst, arith}
+use Rattle.std.proofs.Common.{◌≡◌, ℕ, zero, suc, ◌+◌, ◌*◌, ◌≤◌, List, [], ◌∷◌, length, slice_get, Option, Some, None, subst, arith}
 use Rattle.td_core.specs.declared.module.Field.{Field}
 use Rattle.td_core.specs.declared.module.Case.{Case}
 use Rattle.td_core.specs.declared.module.Body.{Body}
 use Rattle.td_core.specs.declared.module.Body.TheVariants.{Struct, Casetype}
 use Rattle.td_core.specs.declared.module.TypeDef.{TypeDef}
 use Rattle.td_core.specs.Weights.{fields_nodes, default_nodes, cases_nodes, body_nodes, head_nodes, definitions_nodes}
-use Rattle.td_blocks.specs.Lowered.{parts_in, cases_parts, default_parts, body_parts, sites_in, first_site}
+use Rattle.td_blocks.specs.Lowered.{parts_in, cases_parts, default_parts, body_parts, first_site}
 use Rattle.td_lower.proofs.Standing.{first_behind}
 
 parts_less : (fs : List Field) → parts_in fs ≤ fields_nodes fs
@@ -35,15 +35,3 @@ pub own_nodes : (ds : List TypeDef) (n : ℕ) (d : TypeDef) → slice_get ds n �
 own_nodes [] n d h = absurd (cc)
 own_nodes (x ∷ xs) zero d h = (let same : x ≡ d = cc in subst (λ y. 1 + (head_nodes y + body_nodes y.body) ≤ definitions_nodes (x ∷ xs)) same (omega arith))
 own_nodes (x ∷ xs) (suc n) d h = (let y = own_nodes xs n d h in omega (arith, y))
-
--- and its sites stand before the end
-sites_up : (ds : List TypeDef) (n k : ℕ) → first_site ds n ≤ first_site ds (n + k)
-sites_up ds n zero = (let e : n + 0 ≡ n = omega arith in subst (λ x. first_site ds n ≤ first_site ds x) (sym e) (omega arith))
-sites_up ds n (suc k) = (let e : n + suc k ≡ suc (n + k) = omega arith in let h = sites_up ds n k in subst (λ x. first_site ds n ≤ first_site ds x) (sym e) (omega (arith, h)))
-
-pub last_site : (ds : List TypeDef) (n : ℕ) (d : TypeDef) → n < length ds → slice_get ds n ≡ Some d → first_site ds n + 2 + body_parts d.body ≤ first_site ds (length ds)
-last_site ds n d h e =
-    let k : suc n + (length ds - suc n) ≡ length ds = omega arith in
-    let u : first_site ds (suc n) ≤ first_site ds (length ds) = subst (λ x. first_site ds (suc n) ≤ first_site ds x) k (sites_up ds (suc n) (length ds - suc n)) in
-    let s : first_site ds (suc n) ≡ first_site ds n + (2 + body_parts d.body) = ap (λ o. first_site ds n + sites_in o) e in
-    omega (arith, u, s)

@@ -1,6 +1,6 @@
 //! The tables of a module's code.
 
-ghost use Rattle.std.specs.Prelude.{◌≡◌, ◌++◌, ◌∷◌, [], length, IfOk, OnOk};
+ghost use Rattle.std.specs.Prelude.{◌≡◌, ◌+◌, ◌<◌, ◌++◌, ◌∷◌, [], length, IfOk, OnOk};
 ghost use Rattle.td_lower.specs.Tables.{names_of, where_name, switch_name, site_for, parts_sites, fields_sites, default_sites, cases_sites, body_sites, definition_sites, definitions_sites, own_of, empty_maps, parts_maps, fields_maps, default_maps, cases_maps, body_maps, definition_maps, definitions_maps, entry_for, entries_for};
 
 use std::alloc::{AllocError, Global};
@@ -23,8 +23,13 @@ pub fn names_of(alloc: Global, m: &Module) -> Result<Items<Text>, AllocError>
 }
 
 // The sites of parts.
-fn push_parts(sites: &mut Items<Site>, ty: NameId, parts: &[Part]) -> Result<(), AllocError>
-    ensures { OnOk result (sites.new ≡ sites.old ++ parts_sites ty parts.now) }
+fn push_parts(
+    sites: &mut Items<Site>,
+    routine: u32,
+    ty: NameId,
+    parts: &[Part],
+) -> Result<(), AllocError>
+    ensures { OnOk result (sites.new ≡ sites.old ++ parts_sites routine ty parts.now) }
 {
     let Some((part, rest)) = parts.split_first() else {
         return Ok(());
@@ -32,35 +37,42 @@ fn push_parts(sites: &mut Items<Site>, ty: NameId, parts: &[Part]) -> Result<(),
     sites.push(Site {
         ty,
         field: part.name,
+        routine,
     })?;
-    push_parts(sites, ty, rest)?;
+    push_parts(sites, routine, ty, rest)?;
     Ok(())
 }
 
 // The sites of fields.
-fn push_fields(sites: &mut Items<Site>, ty: NameId, fields: &[Field]) -> Result<(), AllocError>
-    ensures { OnOk result (sites.new ≡ sites.old ++ fields_sites ty fields.now) }
+fn push_fields(
+    sites: &mut Items<Site>,
+    routine: u32,
+    ty: NameId,
+    fields: &[Field],
+) -> Result<(), AllocError>
+    ensures { OnOk result (sites.new ≡ sites.old ++ fields_sites routine ty fields.now) }
 {
     let Some((field, rest)) = fields.split_first() else {
         return Ok(());
     };
-    push_parts(sites, ty, field.parts.as_slice())?;
-    push_fields(sites, ty, rest)?;
+    push_parts(sites, routine, ty, field.parts.as_slice())?;
+    push_fields(sites, routine, ty, rest)?;
     Ok(())
 }
 
 // The sites of `default`, where there is one.
 fn push_default(
     sites: &mut Items<Site>,
+    routine: u32,
     ty: NameId,
     default: &Option<Items<Field>>,
 ) -> Result<(), AllocError>
-    ensures { OnOk result (sites.new ≡ sites.old ++ default_sites ty default.now) }
+    ensures { OnOk result (sites.new ≡ sites.old ++ default_sites routine ty default.now) }
 {
     match default {
         None => Ok(()),
         Some(fields) => {
-            push_fields(sites, ty, fields.as_slice())?;
+            push_fields(sites, routine, ty, fields.as_slice())?;
             Ok(())
         }
     }
@@ -69,18 +81,19 @@ fn push_default(
 // The sites of cases and of `default`.
 fn push_cases(
     sites: &mut Items<Site>,
+    routine: u32,
     ty: NameId,
     cases: &[Case],
     default: &Option<Items<Field>>,
 ) -> Result<(), AllocError>
-    ensures { OnOk result (sites.new ≡ sites.old ++ cases_sites ty cases.now default.now) }
+    ensures { OnOk result (sites.new ≡ sites.old ++ cases_sites routine ty cases.now default.now) }
 {
     let Some((case, rest)) = cases.split_first() else {
-        push_default(sites, ty, default)?;
+        push_default(sites, routine, ty, default)?;
         return Ok(());
     };
-    push_fields(sites, ty, case.fields.as_slice())?;
-    push_cases(sites, ty, rest, default)?;
+    push_fields(sites, routine, ty, case.fields.as_slice())?;
+    push_cases(sites, routine, ty, rest, default)?;
     Ok(())
 }
 
@@ -89,45 +102,50 @@ fn push_definition(
     sites: &mut Items<Site>,
     place: NameId,
     switch: NameId,
+    routine: u32,
     d: &TypeDef,
 ) -> Result<(), AllocError>
-    ensures { OnOk result (sites.new ≡ sites.old ++ definition_sites place switch d.now) }
+    ensures { OnOk result (sites.new ≡ sites.old ++ definition_sites place switch routine d.now) }
 {
     sites.push(Site {
         ty: d.name,
         field: place,
+        routine,
     })?;
     sites.push(Site {
         ty: d.name,
         field: switch,
+        routine,
     })?;
     match &d.body {
         Body::Struct(fields) => {
-            push_fields(sites, d.name, fields.as_slice())?;
+            push_fields(sites, routine, d.name, fields.as_slice())?;
             Ok(())
         }
         Body::Casetype { cases, default, .. } => {
-            push_cases(sites, d.name, cases.as_slice(), default)?;
+            push_cases(sites, routine, d.name, cases.as_slice(), default)?;
             Ok(())
         }
     }
 }
 
-/// The sites of definitions, with the names that stand for `where` and the switch value. `AllocError`: there was no memory
-/// for it.
+/// The sites of definitions, whose routines are numbered from `routine` on, with the names that stand for `where` and the
+/// switch value. `AllocError`: there was no memory for it.
 pub fn push_sites(
     sites: &mut Items<Site>,
     place: NameId,
     switch: NameId,
+    routine: u32,
     definitions: &[TypeDef],
 ) -> Result<(), AllocError>
-    ensures { OnOk result (sites.new ≡ sites.old ++ definitions_sites place switch definitions.now) }
+    requires { routine + length definitions.now < 4294967296 }
+    ensures { OnOk result (sites.new ≡ sites.old ++ definitions_sites place switch routine definitions.now) }
 {
     let Some((d, rest)) = definitions.split_first() else {
         return Ok(());
     };
-    push_definition(sites, place, switch, d)?;
-    push_sites(sites, place, switch, rest)?;
+    push_definition(sites, place, switch, routine, d)?;
+    push_sites(sites, place, switch, routine + 1, rest)?;
     Ok(())
 }
 

@@ -23,7 +23,8 @@ use Rattle.td_ir.specs.State.{State, reg}
 use Rattle.td_lowered.proofs.BlockRun.{Passage, failed, Calling, ran}
 use Rattle.td_blocks.specs.Lowered.{expr_of, action_of, computed_of, compared_of}
 use Rattle.td_lowered.proofs.Puts.{Low, Puts, puts}
-use Rattle.td_lowered.proofs.Valued.{value_is, or_left, or_right, nonzero, number_of_sound}
+use Rattle.td_lowered.proofs.Valued.{value_is, nonzero, number_of_sound}
+use Rattle.td_num.proofs.Truths.{or_right, or_left}
 
 -- names are below the number of values in scope
 pub named_low : (e : Term) (L j : ℕ) → Placed L e → names j e ≡ true → j < L

@@ -44,10 +44,12 @@ use Rattle.td_lowered.proofs.Valued.{nonzero}
 use Rattle.td_lowered.proofs.Looking.{zeros_look, zeroterm_look}
 use Rattle.td_lowered.proofs.Ontos.{onto_then, onto_after, within_then, onto_on, onto_all, within_on, again_onto, turn_onto}
 use Rattle.td_lowered.proofs.Acts.{Follows, follows_kept, follows_some, put_value, not_of}
-use Rattle.td_lowered.proofs.Parts.{at_ending, then_ending}
+use Rattle.td_lowered.proofs.Parts.{then_ending}
 use Rattle.td_lowered.proofs.Shapes.{at, InSlot, once_runs, listed_runs, call_is, give, picked_same, back_onto}
 use Rattle.td_ir.specs.Tables.{set_of, map_of}
 use Rattle.td_ir.specs.Run.{place_of_site}
+use Rattle.td_num.proofs.Equals.{equal_itself as same_here}
+use Rattle.td_meaning.proofs.Filling.{on_accepted as at_ending}
 
 exprs_length : (es : List Term) → length (exprs_of es) ≡ length es
 exprs_length [] = refl
@@ -153,9 +155,6 @@ whole_by Eight m h = let e = eqb-true (m % 8) 0 h in record { is = omega (arith,
 
 whole : (w : Width) (CS : Option ℕ) (m : ℕ) → CS ≡ Some (bytes_in w) → divides CS m ≡ true → Whole (bytes_in w) m
 whole w CS m e h = whole_by w m (ap (λ o. divides o m) (sym e) ∙ h)
-
-same_here : (q : ℕ) → nat_eq q q ≡ true
-same_here q = grind arith
 
 room_is : (p m q : ℕ) → q ≡ p + m → q - p ≡ m
 room_is p m q e = omega (arith, e)

@@ -23,13 +23,14 @@ use Rattle.td_ir.specs.State.{State, registers_from}
 use Rattle.td_lowered.proofs.BlockRun.{Passage, touching, Calling, ran, passage_of, onto}
 use Rattle.td_blocks.specs.Lowered.{part_slot, number_slot, is_read, parts_steps, fields_steps}
 use Rattle.td_blocks.specs.Tabled.{FieldsSited}
-use Rattle.td_lowered.proofs.Valued.{or_left, or_right}
 use Rattle.td_lowered.proofs.Ontos.{passage_then, onto_all}
 use Rattle.td_lowered.proofs.Acts.{Follows, follows_kept, follows_some, pushed_length}
-use Rattle.td_lowered.proofs.Parts.{Source, parts_run, at_ending}
+use Rattle.td_lowered.proofs.Parts.{Source, parts_run}
 use Rattle.td_lowered.proofs.Shapes.{at}
 use Rattle.td_lowered.proofs.Arrays.{InShape, shape_runs}
 use Rattle.td_ir.specs.Tables.{set_of, map_of}
+use Rattle.td_num.proofs.Truths.{or_right, or_left}
+use Rattle.td_meaning.proofs.Filling.{on_accepted as at_ending}
 
 extended_length : (n : ℕ) (ps : List Part) (env : List ℕ) → length (extended env n ps) ≡ length ps + length env
 extended_length n [] env = omega arith

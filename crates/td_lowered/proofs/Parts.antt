@@ -4,7 +4,7 @@ use Rattle.std.proofs.lemmas.List.{get_or-set_same, get_or-set_other}
 use Rattle.std.proofs.lemmas.Bool.{or_cases, false≢true}
 use Rattle.std.proofs.Math.ListN.{length-set}
 use Rattle.td_core.specs.Term.{Term, Deed}
-use Rattle.td_core.specs.Outcome.{Behavior, Ending, Accepted, FramePlace, and_then, onward, within, ending_within}
+use Rattle.td_core.specs.Outcome.{Behavior, Accepted, FramePlace, and_then, onward, within, ending_within}
 use Rattle.td_core.specs.declared.module.NameId.{NameId}
 use Rattle.td_core.specs.declared.module.Bits.{Bits}
 use Rattle.td_core.specs.declared.module.Part.{Part}
@@ -15,7 +15,7 @@ use Rattle.td_expr.specs.Naming.{names, deed_names}
 use Rattle.td_meaning.specs.Naming.{in_option, part_names, parts_name, fields_name, is_needed}
 use Rattle.td_meaning.specs.Doing.{Effect, On, Returned, Aborted, doing, natural_of, is_true}
 use Rattle.td_meaning.specs.Meaning.{demanded, refined, acted, ended, checked, parts_meaning, bits_of, extended, field_place}
-use Rattle.td_meaning.specs.Throughout.{OnEnding, OnOption, OnAction, OnParts}
+use Rattle.td_meaning.specs.Throughout.{OnOption, OnAction, OnParts}
 use Rattle.td_ir.specs.declared.instructions.Instr.TheVariants as i
 use Rattle.td_blocks.specs.Block.{Block, Done, Stop, Guard}
 use Rattle.td_blocks.specs.Constructs.{Steps, steps, value}
@@ -25,10 +25,12 @@ use Rattle.td_ir.specs.State.{State, reg}
 use Rattle.td_lowered.proofs.BlockRun.{Passage, failed, Calling, ran, onto}
 use Rattle.td_blocks.specs.Lowered.{expr_of, part_slot, bits_step, test_step, action_step, when, parts_steps}
 use Rattle.td_blocks.specs.Tabled.{PartsSited}
-use Rattle.td_lowered.proofs.Valued.{or_left, or_right}
 use Rattle.td_lowered.proofs.Ontos.{onto_then, within_then}
 use Rattle.td_lowered.proofs.Acts.{Follows, Kept, kept_all, follows_kept, follows_some, follows_push, pushed_length, act_exit, put_value, kept_put, acts_run, truth_at}
 use Rattle.td_ir.specs.Run.{place_of_site}
+use Rattle.td_num.proofs.Truths.{or_right, or_left}
+use Rattle.td_meaning.proofs.Filling.{on_accepted as at_ending}
+use Rattle.td_meaning.proofs.MachineAgreeing.{some_named as in_some, needed_later as next_needed}
 
 -- where the number stands, if it was read
 abbrev pub Source : (read : Bool) (L t n : ℕ) → List Part → List ℕ → Type 0
@@ -51,16 +53,8 @@ all_source read L t n (p ∷ ps) r h k = by p.bits h.0
     by None h' = absurd h'
     by (Some b) h' = k
 
--- what accepts
-pub at_ending : (e : Ending) (q : ℕ) (c : List ℕ) (P : ℕ → List ℕ → Type 0) → OnEnding e P → e ≡ Accepted q c → P q c
-at_ending e q c P h k = subst (λ x. OnEnding x P) k h
-
 pub then_ending : (a : Behavior) (f : ℕ → List ℕ → Behavior) (q r : ℕ) (c d : List ℕ) → a.ending ≡ Accepted q c → (f q c).ending ≡ Accepted r d → (and_then a f).ending ≡ Accepted r d
 then_ending a f q r c d h k = ap (λ e. (onward e a.reads f).ending) h ∙ k
-
-in_some : (o : Option Term) (L : ℕ) → in_option (names L) o ≡ true → is_some o ≡ true
-in_some None L h = h
-in_some (Some e) L h = refl
 
 -- a part that is named anywhere is needed
 named_needed : (p : Part) (ps : List Part) (later : List Field) (L : ℕ) → (part_names L p || (parts_name L ps || fields_name L later)) ≡ true → is_needed L (p ∷ ps) later ≡ true
@@ -76,12 +70,6 @@ named_needed p ps later L h =
         | inr y ↦ or_right (parts_name L ps) (fields_name L later || is_needed (suc L) ps later) (or_left (fields_name L later) (is_needed (suc L) ps later) y)
       ]))
     ]
-
-next_needed : (p : Part) (ps : List Part) (later : List Field) (L : ℕ) → is_needed (suc L) ps later ≡ true → is_needed L (p ∷ ps) later ≡ true
-next_needed p ps later L h =
-    let rest = parts_name L ps || (fields_name L later || is_needed (suc L) ps later) in
-    or_right (is_some p.refinement) (in_option (deed_names L) p.action || rest) (or_right (in_option (deed_names L) p.action) rest
-    (or_right (parts_name L ps) (fields_name L later || is_needed (suc L) ps later) (or_right (fields_name L later) (is_needed (suc L) ps later) h)))
 
 ended_exit : (e : Effect) (site : FramePlace) (start q : ℕ) (next : ℕ → List ℕ → Passage) (bad : List ℕ → Passage) → ((c : List ℕ) → bad c ≡ onto (within site (demanded ActionFails false start q c)) next)
     → act_exit e (next q) (next q) bad ≡ onto (within site (ended e start q)) next

@@ -32,13 +32,14 @@ use Rattle.td_ir.specs.Flow.{Effect, Goes, Fails, zeros_flow}
 use Rattle.td_ir.specs.Values.{bit, order_of}
 use Rattle.td_blocks.specs.Lowered.{expr_of, exprs_of, order_code, once_step}
 use Rattle.td_blocks.specs.Tabled.{Mapped}
-use Rattle.td_lowered.proofs.Valued.{or_left, or_right, value_is}
+use Rattle.td_lowered.proofs.Valued.{value_is}
 use Rattle.td_lowered.proofs.Puts.{puts}
 use Rattle.td_lowered.proofs.Looking.{zeros_look}
 use Rattle.td_lowered.proofs.Ontos.{onto_after, onto_on, within_on}
 use Rattle.td_lowered.proofs.Acts.{Follows, follows_kept, follows_some, placed_low, named_low, not_of}
 use Rattle.td_ir.specs.Tables.{set_of, map_of}
 use Rattle.td_ir.specs.Run.{place_of_site}
+use Rattle.td_num.proofs.Truths.{or_right, or_left}
 
 pub order_is : (o : ByteOrder) → order_of (order_code o) ≡ o
 order_is LittleEndian = refl

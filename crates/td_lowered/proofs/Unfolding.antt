@@ -1,7 +1,6 @@
 -- The exit from one instruction on, by that of the instructions to which it leads.
-use Rattle.std.proofs.Common.{◌≡◌, ℕ, zero, suc, ◌+◌, ◌-◌, ◌<◌, ◌≤◌, true, cond, List, [], ◌∷◌, length, refl, ap, ◌∙◌, arith, take, drop}
+use Rattle.std.proofs.Common.{◌≡◌, ℕ, suc, ◌+◌, ◌-◌, ◌<◌, ◌≤◌, true, cond, List, ◌∷◌, length, ap, ◌∙◌, arith, take, drop}
 use Rattle.std.specs.Prelude.{slice_index_or, slice_range, nat_lt}
-use Rattle.std.proofs.lemmas.List.{drop-take, drop-drop}
 use Rattle.std.proofs.Math.Seq.{drop-cons}
 use Rattle.td_ir.specs.declared.tables.Parts.{Parts}
 use Rattle.td_ir.specs.declared.instructions.Instr.{Instr}
@@ -9,21 +8,9 @@ use Rattle.td_ir.specs.declared.instructions.Instr.TheVariants as i
 use Rattle.td_ir.specs.Tables.{instruction_of, end_of}
 use Rattle.td_ir.specs.State.{State, Stuck, Exit, at_once}
 use Rattle.td_ir.specs.Flow.{effect}
-use Rattle.td_ir.specs.Run.{Callees, follow, pick, goes, exits, calls_of, block}
-
-pick_at : (c : Parts) (message places : List ℕ) (calls : Callees) (pc : ℕ) (js : List Instr) (k : ℕ) (s : State) → pick (exits c message places calls pc js) k s ≡ pick (exits c message places calls (pc + k) (drop k js)) 0 s
-pick_at c message places calls pc [] zero s = refl
-pick_at c message places calls pc [] (suc k) s = refl
-pick_at c message places calls pc (j ∷ js) zero s =
-    let e : pc ≡ pc + 0 = omega arith in ap (λ p. pick (exits c message places calls p (j ∷ js)) 0 s) e
-pick_at c message places calls pc (j ∷ js) (suc k) s =
-    let e : pc + 1 + k ≡ pc + suc k = omega arith in
-    pick_at c message places calls (pc + 1) js k s ∙ ap (λ p. pick (exits c message places calls p (drop k js)) 0 s) e
-
-range_later : {X : Type 0} (xs : List X) (a k to : ℕ) → a + k ≤ to → drop k (slice_range xs a to) ≡ slice_range xs (a + k) to
-range_later {X} xs a k to h =
-    let e : to - a ≡ k + (to - (a + k)) = omega arith in
-    ap (λ n. drop k (take n (drop a xs))) e ∙ drop-take k (to - (a + k)) (drop a xs) ∙ ap (λ l. take (to - (a + k)) l) (drop-drop k a xs)
+use Rattle.td_ir.specs.Run.{follow, pick, goes, exits, calls_of, block}
+use Rattle.td_ir.proofs.Blocks.{pick_at}
+use Rattle.td_num.proofs.Lists.{drop_range as range_later}
 
 range_first : {X : Type 0} (xs : List X) (a to : ℕ) (d : X) → a < to → to ≤ length xs → slice_range xs a to ≡ slice_index_or xs a d ∷ slice_range xs (a + 1) to
 range_first {X} xs a to d l within =

@@ -1,9 +1,9 @@
 -- What the code of a sound expression gives is its value.
-use Rattle.std.proofs.Common.{◌≡◌, ℕ, zero, suc, ◌+◌, ◌-◌, ◌*◌, ◌/◌, ◌%◌, ◌^◌, ◌<◌, ◌≤◌, Bool, true, false, cond, ◌||◌, List, refl, sym, ap, ◌∙◌, subst, arith, nat_eq, nat_lt, nat_le, slice_index, bit_and, bit_or, bit_xor, ℤ, pos, negsuc}
+use Rattle.std.proofs.Common.{◌≡◌, ℕ, zero, suc, ◌+◌, ◌-◌, ◌*◌, ◌/◌, ◌%◌, ◌^◌, ◌<◌, ◌≤◌, Bool, true, false, cond, ◌||◌, List, refl, sym, ap, ◌∙◌, subst, arith, nat_eq, nat_lt, nat_le, slice_index, bit_and, bit_or, bit_xor, ℤ, pos}
 use Rattle.std.specs.Prelude.{◌-ℤ◌, int_lt}
 use Rattle.std.specs.Int.Bits.{or_self}
 use Rattle.std.proofs.lemmas.Nat.{and_mask, xor_block, pow-add}
-use Rattle.std.proofs.lemmas.Bool.{ltb-true, ltb-false, leb-true, leb-false, lt-ltb, false≢true}
+use Rattle.std.proofs.lemmas.Bool.{ltb-true, ltb-false, leb-true, leb-false}
 use Rattle.std.proofs.Math.Nat.{mod-eq_of_lt}
 use Rattle.td_core.specs.declared.expressions.Relation.{Relation}
 use Rattle.td_core.specs.declared.expressions.Relation.TheVariants.{Equal, NotEqual, Less, LessEqual, Greater, GreaterEqual}
@@ -25,6 +25,8 @@ use Rattle.td_blocks.specs.Placed.{Truths}
 use Rattle.td_ir.specs.Values.{operated, bit}
 use Rattle.td_blocks.specs.Lowered.{expr_of, computed_of, compared_of, mask_of}
 use Rattle.td_lowered.proofs.Puts.{valued}
+use Rattle.td_num.proofs.Equals.{equal_itself as itself, minus_under}
+use Rattle.td_num.proofs.Truths.{or_right, or_left}
 
 pub nonzero : (n : ℕ) → nat_eq (suc n) 0 ≡ false
 nonzero n = grind arith
@@ -73,10 +75,6 @@ masked_shift v x y = by (nat_le 64 y) refl
 
 wrapped : (x y : ℕ) → y ≤ x → x < 2 ^ 64 → operated 1 x y ≡ x - y
 wrapped x y h l = omega (arith, h, l)
-
-minus_under : (a b : ℕ) → a < b → pos a -ℤ pos b ≡ negsuc (b - suc a)
-minus_under a zero h = absurd (omega (arith, h))
-minus_under a (suc b) h = ap (λ t. cond t (negsuc (suc b - suc a)) (pos (a - suc b))) (lt-ltb a (suc b) h)
 
 shifted_right : (v : Scalar) (x y : ℕ) → x < limit v → operated 9 x y ≡ x / 2 ^ y
 shifted_right v x y h = by (nat_le 64 y) refl
@@ -135,14 +133,6 @@ related_value GreaterEqual x y a b r p q = ap (λ z. operated 13 z (valued a r))
 abbrev pub Agrees : (ℕ → Bool) → List ℕ → List ℕ → Type 0
 Agrees test env r = (j : ℕ) → test j ≡ true → slice_index r j ≡ slice_index env j
 
-pub or_left : (a b : Bool) → a ≡ true → (a || b) ≡ true
-or_left true b h = refl
-or_left false b h = absurd (false≢true h)
-
-pub or_right : (a b : Bool) → b ≡ true → (a || b) ≡ true
-or_right true b h = refl
-or_right false b h = h
-
 -- Values
 
 not_value : (n : ℕ) → bit (nat_eq n 0) ≡ natural (negated (pos n))
@@ -198,9 +188,6 @@ range_value s o a l = by (nat_le a s) refl
     by false e =
         ap (λ z. bit_and (bit (nat_le o (operated 1 s a))) (bit z)) e ∙ and_none (nat_le o (operated 1 s a))
         ∙ ap (λ z. natural (number_of (chosen z (related LessEqual (pos o) (pos s -ℤ pos a)) false))) (sym (at_most a s ∙ e))
-
-itself : (i : ℕ) → nat_eq i i ≡ true
-itself i = grind arith
 
 pub record Number (a : Term) (env : List ℕ) : Type 0 where
   pub is : value_of a env ≡ pos (natural (value_of a env))

@@ -1,6 +1,6 @@
 -- Expressions and actions give the same where the values that they name are the same.
-use Rattle.std.proofs.Common.{◌≡◌, ℕ, ◌<◌, ◌≤◌, ◌+◌, List, [], ◌∷◌, ◌++◌, length, Bool, true, false, refl, sym, ap, ◌∙◌, arith, subst, inl, inr, get_or, length-append, ℤ}
-use Rattle.std.specs.Prelude.{slice_index, slice_set, ◌⊎◌, ◌||◌}
+use Rattle.std.proofs.Common.{◌≡◌, ℕ, ◌<◌, ◌≤◌, ◌+◌, List, [], ◌∷◌, ◌++◌, length, Bool, true, refl, sym, ap, ◌∙◌, arith, subst, inl, inr, get_or, length-append, ℤ}
+use Rattle.std.specs.Prelude.{slice_index, slice_set, ◌||◌}
 use Rattle.std.proofs.lemmas.Bool.{eq-eqb, cases_eq, cases_lt}
 use Rattle.std.proofs.lemmas.List.{get_or_append_left, get_or_push, get_or_past}
 use Rattle.td_core.specs.Term.{Term, number, name, complement, negation, compute, compare, both, either, choice, range_okay, Deed, done, set, keep, fork, answer, give_up}
@@ -10,17 +10,7 @@ use Rattle.td_meaning.specs.Doing.{Effect, On, Returned, Aborted, after, either_
 use Rattle.td_expr.specs.Naming.{names, deed_names}
 use Rattle.td_meaning.specs.Naming.{some_name}
 use Rattle.td_meaning.specs.Meaning.{values}
-
-pub or_left : (a b : Bool) → a ≡ true → (a || b) ≡ true
-or_left a b h = ap (λ v. v || b) h
-
-pub or_right : (a b : Bool) → b ≡ true → (a || b) ≡ true
-or_right true b h = refl
-or_right false b h = h
-
-pub or_cases : (a b : Bool) → (a || b) ≡ true → (a ≡ true) ⊎ (b ≡ true)
-or_cases true b h = inl refl
-or_cases false b h = inr h
+use Rattle.td_num.proofs.Truths.{or_right, or_left}
 
 -- two lists of values agree where the test says so
 pub record Agree (test : ℕ → Bool) (env other : List ℕ) : Type 0 where

@@ -1,4 +1,4 @@
--- Messages that agree before a place are read alike up to it, and so fields are read forward.
+-- Messages that agree before a place are read alike up to it, and so fields are read forward. Cited by other crates.
 use Rattle.std.proofs.Common.{◌≡◌, ℕ, zero, suc, ◌+◌, ◌-◌, ◌*◌, ◌/◌, ◌<◌, ◌≤◌, Bool, true, false, cond, min, List, [], ◌∷◌, ◌++◌, length, map, refl, sym, ap, ◌∙◌, subst, arith, inl, inr, Option, Some, None}
 use Rattle.std.specs.Prelude.{◌⊎◌, slice_get, slice_index, nat_eq, nat_le}
 use Rattle.std.proofs.lemmas.Bool.{cases_lt}
@@ -44,7 +44,7 @@ at_cases k [] ys h = inr h
 at_cases k (x ∷ xs) ys (inl e) = inl (inl e)
 at_cases k (x ∷ xs) ys (inr h) = elim (at_cases k xs ys h) [ inl a ↦ inl (inr a) | inr b ↦ inr b ]
 
-at_each : (P : ℕ → Type 0) (k : ℕ) (xs : List ℕ) → Each P xs → IsAt k xs → P k
+pub at_each : (P : ℕ → Type 0) (k : ℕ) (xs : List ℕ) → Each P xs → IsAt k xs → P k
 at_each P k [] h i = absurd i
 at_each P k (x ∷ xs) h (inl e) = subst P (sym e) h.0
 at_each P k (x ∷ xs) h (inr i) = at_each P k xs h.1 i
@@ -545,7 +545,7 @@ spliced_from (suc q) (x ∷ b) (y ∷ c) e zero le = absurd (omega (arith, le))
 spliced_from (suc q) (x ∷ b) (y ∷ c) e (suc k) le = spliced_from q b c (omega (arith, e)) k (omega (arith, le))
 
 -- all that is read satisfies a test that each place read does
-same_at_each : (xs b c : List ℕ) → ((k : ℕ) → IsAt k xs → slice_index b k ≡ slice_index c k) → SameAt xs b c
+pub same_at_each : (xs b c : List ℕ) → ((k : ℕ) → IsAt k xs → slice_index b k ≡ slice_index c k) → SameAt xs b c
 same_at_each [] b c h = tt
 same_at_each (x ∷ xs) b c h = (h x (inl refl), same_at_each xs b c (λ k i. h k (inr i)))
 

@@ -1,4 +1,4 @@
--- A number that isn't needed may be taken for another: what arithmetic in 64 bits gives rests on the values that are
+-- A number that isn't needed may be taken for another: what arithmetic in 64 bits gives rests on the values that are Cited by other crates.
 -- named alone.
 use Rattle.std.proofs.Common.{◌≡◌, ℕ, suc, ◌-◌, List, [], ◌∷◌, ◌++◌, length, map, Bool, true, false, Option, Some, None, refl, sym, ap, ◌∙◌, arith, subst, inl, inr, length-append}
 use Rattle.std.specs.Prelude.{slice_index, slice_set, ◌||◌, is_some}
@@ -20,7 +20,8 @@ use Rattle.td_meaning.specs.Doing.{Effect, On, Returned, Aborted, after, either_
 use Rattle.td_meaning.specs.Naming.{some_name, in_option, part_names, parts_name, element_names, extent_names, field_names, fields_name, is_needed}
 use Rattle.td_meaning.specs.Meaning.{Sense, demanded, filled, filled_once, element_up_to_zero, ended, bits_of, field_place, field_number, number_places, first_name, extended}
 use Rattle.td_meaning.specs.Machine.{truth_number, is_truth, applied, compared_by, range_okay_by, value_of, values, is_met, doing, acted, checked, with_part, parts_meaning, element_meaning, shape_meaning, fields_meaning}
-use Rattle.td_meaning.proofs.Agreeing.{or_left, or_right, or_cases, Agree, weaker, on_left, on_right, agree_more}
+use Rattle.td_meaning.proofs.Agreeing.{Agree, weaker, on_left, on_right, agree_more}
+use Rattle.td_num.proofs.Truths.{or_right, or_cases, or_left}
 
 pub value_same : (e : Term) (env other : List ℕ) → Agree (λ i. names i e) env other → value_of e env ≡ value_of e other
 unfolding value_of
@@ -122,7 +123,7 @@ checked_same x env other places start q cells a =
 abbrev pub tail : List Part → List Field → ℕ → Bool
 tail parts later i = parts_name i parts || fields_name i later
 
-some_named : (o : Option Term) (i : ℕ) → in_option (names i) o ≡ true → is_some o ≡ true
+pub some_named : (o : Option Term) (i : ℕ) → in_option (names i) o ≡ true → is_some o ≡ true
 some_named None i t = t
 some_named (Some e) i t = refl
 
@@ -143,7 +144,7 @@ needed_here x xs later i t =
       ]))
     ]
 
-needed_later : (x : Part) (xs : List Part) (later : List Field) (i : ℕ) → is_needed (suc i) xs later ≡ true → is_needed i (x ∷ xs) later ≡ true
+pub needed_later : (x : Part) (xs : List Part) (later : List Field) (i : ℕ) → is_needed (suc i) xs later ≡ true → is_needed i (x ∷ xs) later ≡ true
 needed_later x xs later i t =
     let more = parts_name i xs || (fields_name i later || is_needed (suc i) xs later) in
     or_right (is_some x.refinement) (in_option (deed_names i) x.action || more)

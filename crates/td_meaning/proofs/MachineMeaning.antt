@@ -1,3 +1,4 @@
+-- Cited by other crates.
 -- Where each expression that the meaning evaluates is sound, the meaning is the one that arithmetic in 64 bits gives.
 use Rattle.std.proofs.Common.{◌≡◌, ℕ, zero, suc, Bool, true, false, cond, List, [], ◌∷◌, ◌++◌, length, map, Option, Some, None, refl, ap, ◌∙◌}
 use Rattle.std.specs.Prelude.{slice_get, slice_index, slice_set, nat_eq}
@@ -21,7 +22,7 @@ use Rattle.td_expr.specs.Sound.{Sound}
 use Rattle.td_meaning.specs.Doing.{Effect, On, Returned, Aborted, after, either_way, natural_of, is_true}
 use Rattle.td_meaning.specs.Doing as whole
 use Rattle.td_meaning.specs.Naming.{is_needed}
-use Rattle.td_meaning.specs.Meaning.{Sense, taken, demanded, elements, filled, filled_once, element_up_to_zero, divides, equals, ended, refined, bits_of, field_place, field_number, number_places, first_name, extended, case_for, where_place, pick, entry_place}
+use Rattle.td_meaning.specs.Meaning.{Sense, taken, demanded, elements, filled, filled_once, element_up_to_zero, divides, equals, ended, refined, field_place, field_number, number_places, first_name, extended, case_for, where_place, pick, entry_place}
 use Rattle.td_meaning.specs.Meaning as whole_of
 use Rattle.td_meaning.specs.Throughout.{Through, OnEnding, OnEffect, OnOption, OnAll, OnDeed, OnAction, OnParts, OnElement, OnElements, OnShape, OnFields, OnChosen, OnBody, OnDefinition, pick_through, through_below, Throughout}
 use Rattle.td_meaning.specs.Machine.{values, is_met, doing, acted, checked, with_part, parts_meaning, element_meaning, shape_meaning, fields_meaning, body_fields, chosen_meaning, definition_meaning, below}
@@ -39,11 +40,11 @@ and_then_is t u go next e h = ap (λ t. and_then t go) e ∙ onward_is u.ending 
 
 -- Expressions and actions
 
-values_is : (es : List Term) (env : List ℕ) → OnAll Sound es env → values es env ≡ whole_of.values es env
+pub values_is : (es : List Term) (env : List ℕ) → OnAll Sound es env → values es env ≡ whole_of.values es env
 values_is [] env h = refl
 values_is (e ∷ es) env h = λ i. natural_is e env h.0 i ∷ values_is es env h.1 i
 
-refined_is : (o : Option Term) (env : List ℕ) (start q : ℕ) (cells : List ℕ) → OnOption Sound o env → demanded Constraint (is_met o env) start q cells ≡ refined o env start q cells
+pub refined_is : (o : Option Term) (env : List ℕ) (start q : ℕ) (cells : List ℕ) → OnOption Sound o env → demanded Constraint (is_met o env) start q cells ≡ refined o env start q cells
 unfolding is_met
 refined_is None env start q cells h = refl
 refined_is (Some e) env start q cells h = ap (λ b. demanded Constraint b start q cells) (truth_is e env h)
@@ -83,7 +84,7 @@ acted_is (Some d) env places start q cells h = ap (λ o. ended o start q) (doing
 
 -- Parts
 
-checked_is : (x : Part) (env places : List ℕ) (start q : ℕ) (cells : List ℕ) → OnOption Sound x.refinement env → OnEnding (refined x.refinement env start q cells).ending (λ q cells. OnAction Sound x.action env places start cells) → checked x env places start q cells ≡ whole_of.checked x env places start q cells
+pub checked_is : (x : Part) (env places : List ℕ) (start q : ℕ) (cells : List ℕ) → OnOption Sound x.refinement env → OnEnding (refined x.refinement env start q cells).ending (λ q cells. OnAction Sound x.action env places start cells) → checked x env places start q cells ≡ whole_of.checked x env places start q cells
 checked_is x env places start q cells h k =
     let u = refined x.refinement env start q cells in
     and_then_is (demanded Constraint (is_met x.refinement env) start q cells) u (acted x.action env places start) (whole_of.acted x.action env places start)

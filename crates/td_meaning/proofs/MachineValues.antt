@@ -1,7 +1,7 @@
 -- A sound expression has the value that arithmetic in 64 bits gives.
-use Rattle.std.proofs.Common.{◌≡◌, ℕ, zero, suc, ◌+◌, ◌-◌, ◌*◌, ◌/◌, ◌%◌, ◌^◌, ◌<◌, min, Bool, true, false, cond, List, refl, sym, ap, ◌∙◌, subst, arith, nat_lt, bit_and, bit_or, bit_xor, ℤ, pos, negsuc}
+use Rattle.std.proofs.Common.{◌≡◌, ℕ, zero, suc, ◌+◌, ◌-◌, ◌*◌, ◌/◌, ◌%◌, ◌^◌, ◌<◌, min, Bool, true, false, List, refl, sym, ap, ◌∙◌, subst, arith, nat_lt, bit_and, bit_or, bit_xor, ℤ, pos}
 use Rattle.std.specs.Prelude.{◌-ℤ◌}
-use Rattle.std.proofs.lemmas.Bool.{ltb-true, ltb-false, lt-ltb}
+use Rattle.std.proofs.lemmas.Bool.{ltb-true, ltb-false}
 use Rattle.std.proofs.Math.Nat.{mod-eq_of_lt}
 use Rattle.td_core.specs.declared.expressions.Scalar.{Scalar}
 use Rattle.td_core.specs.declared.expressions.Relation.TheVariants.{LessEqual}
@@ -12,14 +12,12 @@ use Rattle.td_core.specs.Types.{limit, wider, type_of, computed_type}
 use Rattle.td_expr.specs.Value.{value_of as whole_value, truth_of, number_of, flip, chosen, computed, related, natural, complemented}
 use Rattle.td_expr.specs.Sound.{Fits, Sound}
 use Rattle.td_expr.proofs.Widths.{limit_small, wider_left, wider_right}
-use Rattle.td_expr.proofs.Holding.{in_type, below_limit, at_most_numbers}
+use Rattle.td_expr.proofs.Holding.{at_most_numbers}
 use Rattle.td_expr.proofs.Reaching.{minus_is}
 use Rattle.td_meaning.specs.Doing.{natural_of, is_true}
 use Rattle.td_meaning.specs.Machine.{truth_number, is_truth, applied, value_of}
-
-minus_under : (a b : ℕ) → a < b → pos a -ℤ pos b ≡ negsuc (b - suc a)
-minus_under a zero h = absurd (omega (arith, h))
-minus_under a (suc b) h = ap (λ t. cond t (negsuc (suc b - suc a)) (pos (a - suc b))) (lt-ltb a (suc b) h)
+use Rattle.td_num.proofs.Equals.{minus_under}
+use Rattle.td_expr.proofs.Applying.{part_below}
 
 applied_is : (op : Binary) (v w : Scalar) (x y : ℕ) → x < limit v → y < limit w → Fits (computed_type op v w) (computed op v w (pos x) (pos y)) → pos (applied op v x y) ≡ computed op v w (pos x) (pos y)
 applied_is Plus v w x y h k f = let e : min (x + y) (2 ^ 64 - 1) ≡ x + y = omega (arith, f, limit_small (wider v w)) in ap pos e
@@ -62,12 +60,6 @@ right_same false x y h = h refl
 choice_same : (c : Bool) (x y : ℕ) (v w : ℤ) → (c ≡ true → pos x ≡ v) → (c ≡ false → pos y ≡ w) → pos (chosen c x y) ≡ chosen c v w
 choice_same true x y v w h k = h refl
 choice_same false x y v w h k = k refl
-
--- a sound part is below its type's limit
-part_below : (t : Term) (env : List ℕ) (n : ℕ) → Sound t env → pos n ≡ whole_value t env → n < limit (type_of t)
-part_below t env n s e =
-    let h = below_limit (type_of t) (whole_value t env) (in_type t env s) in
-    let d : n ≡ natural (whole_value t env) = ap natural e in omega (arith, h, d)
 
 pub value_is : (e : Term) (env : List ℕ) → Sound e env → pos (value_of e env) ≡ whole_value e env
 unfolding value_of

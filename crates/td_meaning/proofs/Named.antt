@@ -1,4 +1,4 @@
--- Each frame names a definition of the module and something of it.
+-- Each frame names a definition of the module and something of it. Cited by other crates.
 use Rattle.std.proofs.Common.{◌≡◌, inl, inr, ℕ, zero, suc, ◌+◌, ◌-◌, ◌/◌, ◌<◌, Bool, true, false, cond, min, List, [], ◌∷◌, ◌++◌, length, map, refl, sym, subst, arith, Option, Some, None}
 use Rattle.std.specs.Prelude.{slice_get, slice_index, nat_eq, nat_le}
 use Rattle.std.proofs.lemmas.Bool.{eqb-true, eqb-false}
@@ -26,10 +26,7 @@ use Rattle.td_meaning.specs.Doing.{Effect, On, Returned, Aborted, doing, natural
 use Rattle.td_meaning.specs.Naming.{is_needed}
 use Rattle.td_meaning.specs.Meaning.{Sense, values, values_of, taken, demanded, is_nonzero, byte_type, zeros_end, first_where, numbers_at, element_meaning, elements, divides, equals, zero_end, element_up_to_zero, shape_meaning, refined, ended, acted, checked, parts_meaning, bits_of, field_number, number_places, extended, field_place, where_place, switch_place, first_name, fields_meaning, case_for, chosen_meaning, body_meaning, definition_meaning, below, pick, entry_place}
 use Rattle.td_meaning.specs.Framing.{OneOf, IsPartName, IsDefaultName, IsBodyName, HasGuard, IsCasetype, IsSpotOf, IsFrameOf, LastIs, AreNamed, FramesAreNamed}
-
-each_more : {A : Type 0} (P : A → Type 0) (xs : List A) (y : A) → Each P xs → P y → Each P (xs ++ y ∷ [])
-each_more P [] y h p = (p, tt)
-each_more P (x ∷ xs) y h p = (h.0, each_more P xs y h.1 p)
+use Rattle.td_num.proofs.Lists.{each_push as each_more}
 
 last_more : (P : TraceFrame → Type 0) (xs : List TraceFrame) (y : TraceFrame) → P y → LastIs P (xs ++ y ∷ [])
 last_more P [] y p = p
@@ -41,7 +38,7 @@ one_at P [] n d e p = absurd (none-some d e)
 one_at P (x ∷ ds) zero d e p = inl (subst P (sym (same_Some x d e)) p)
 one_at P (x ∷ ds) (suc n) d e p = inr (one_at P ds n d e p)
 
-each_at : (P : TypeDef → Type 0) (ds : List TypeDef) (n : ℕ) (d : TypeDef) → Each P ds → slice_get ds n ≡ Some d → P d
+pub each_at : (P : TypeDef → Type 0) (ds : List TypeDef) (n : ℕ) (d : TypeDef) → Each P ds → slice_get ds n ≡ Some d → P d
 each_at P [] n d h e = absurd (none-some d e)
 each_at P (x ∷ ds) zero d h e = subst P (same_Some x d e) h.0
 each_at P (x ∷ ds) (suc n) d h e = each_at P ds n d h.1 e

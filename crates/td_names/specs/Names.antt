@@ -1,9 +1,8 @@
 -- Names by their bytes: their numbers (own rule: a module's names are numbered as they are seen first), and what stands
 -- beside them in a table (own rule: what stands beside a name is what was put there first).
-use Rattle.std.specs.Prelude.{ℕ, Bool, List, [], ◌∷◌, ◌++◌, Option, Some, None, map, is_some, if◌then◌else◌}
+use Rattle.std.specs.Prelude.{ℕ, Bool, List, [], ◌∷◌, ◌++◌, Option, Some, None, is_some, if◌then◌else◌}
 use Rattle.std.specs.List.{list_any, position_or_len}
 use Rattle.std.specs.Str.{bytes_eq}
-use Rattle.std.specs.declared.vec.Vec.{Vec}
 
 -- whether a name is among names
 abbrev pub is_seen : List (List ℕ) → List ℕ → Bool
@@ -25,11 +24,3 @@ looked_up (e ∷ es) name = if bytes_eq name e.0 then Some e.1 else looked_up es
 -- one more name with what stands beside it at the end, unless the name is there
 abbrev pub declared : {A : Type 0} → List (List ℕ × A) → List ℕ → A → List (List ℕ × A)
 declared es name a = if is_some (looked_up es name) then es else es ++ (name, a) ∷ []
-
--- the keys of a set, by their bytes
-abbrev pub texts : {A : Type 0} → List (Vec ℕ A) → List (List ℕ)
-texts keys = map (λ k. k.items) keys
-
--- the entries of a map, by the bytes of their keys
-abbrev pub entries_of : {A B : Type 0} → List (Vec ℕ A × B) → List (List ℕ × B)
-entries_of es = map (λ e. (e.0.items, e.1)) es

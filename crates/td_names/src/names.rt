@@ -3,7 +3,7 @@
 ghost use Rattle.std.specs.Prelude.{◌≡◌, ◌<◌, false, [], OnOk, OnErr, IfOk, nat_le, length};
 ghost use Rattle.td_names.specs.Names.{with_name, is_seen, number_of};
 
-use indexmap::IndexSet;
+use crate::table::Table;
 use std::alloc::{AllocError, Global};
 use std::marker::Model;
 use td_num::items::Items;
@@ -12,18 +12,18 @@ use td_num::text::Text;
 /// Distinct names in order. A contract sees the list of their bytes.
 #[derive(Drop)]
 pub struct Names {
-    set: IndexSet<Vec<u8>>,
+    table: Table<()>,
 }
 
 impl Model for Names {
     ghost use Rattle.std.specs.Prelude.{ℕ, List, length, ◌<◌, ◌^◌};
-    ghost use Rattle.td_names.specs.Names.{texts};
+    ghost use Rattle.td_names.specs.Places.{names_of};
 
     ghost Value = { List (List ℕ) };
 
-    ghost view = { λ n. texts n.set.keys };
+    ghost view = { λ n. names_of n.table };
 
-    ghost invariant = { λ n. length n.set.keys < 2 ^ 32 };
+    ghost invariant = { λ n. length n.table < 2 ^ 32 };
 }
 
 impl Names {
@@ -32,7 +32,7 @@ impl Names {
         ensures { result ≡ [] }
     {
         Names {
-            set: IndexSet::new(alloc),
+            table: Table::new(alloc),
         }
     }
 
@@ -40,12 +40,11 @@ impl Names {
     fn is_full(&self) -> bool
         ensures { result ≡ nat_le 4294967295 (length self.now) }
     {
-        self.set.len() >= u32::MAX as usize
+        self.table.len() >= u32::MAX as usize
     }
 
     /// One more name, unless it was seen. `AllocError`: it wasn't, and there was no memory for it, or all 2^32 - 1
     /// numbers are given; the names are as before.
-    #[tactic(auto, using(crate::proofs::Reading::with_seen))]
     pub fn see(&mut self, alloc: Global, name: &[u8]) -> Result<(), AllocError>
         ensures ok { OnOk result (self.new ≡ with_name self.old name.now) }
         ensures err { OnErr result (self.new ≡ self.old) }
@@ -57,25 +56,23 @@ impl Names {
         if self.is_full() {
             return Err(AllocError);
         }
-        let key = Vec::from_slice(alloc, name)?;
-        self.set.insert(key)?;
-        Ok(())
+        self.table.declare(alloc, name, ())
     }
 
     /// Whether a name was seen.
     pub fn contains(&self, name: &[u8]) -> bool
         ensures { result ≡ is_seen self.now name.now }
     {
-        self.set.contains(name)
+        self.table.contains(name)
     }
 
     /// The number of a name, from 0, and of one that was never seen the count of names.
     pub fn number(&self, name: &[u8]) -> u32
         ensures { result ≡ number_of self.now name.now }
     {
-        match self.set.get_index_of(name) {
+        match self.table.place(name) {
             Some(number) => number as u32,
-            None => self.set.len() as u32,
+            None => self.table.len() as u32,
         }
     }
 
@@ -85,8 +82,8 @@ impl Names {
         ensures memory { OnErr result (0 < length self.now) }
     {
         let mut texts = Items::new(alloc);
-        for name in self.set.as_slice() {
-            texts.push(Text::copy_of(alloc, name.as_slice())?)?;
+        for entry in self.table.entries.as_slice() {
+            texts.push(Text::copy_of(alloc, entry.0.as_slice())?)?;
         }
         Ok(texts)
     }

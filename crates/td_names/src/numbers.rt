@@ -3,22 +3,26 @@
 ghost use Rattle.std.specs.Prelude.{◌≡◌, [], OnOk, OnErr, false};
 ghost use Rattle.td_names.specs.Numbers.{is_among, with_number};
 
-use indexmap::IndexSet;
 use std::alloc::{AllocError, Global};
+use std::collections::BTreeSet;
 use std::marker::Model;
 
 /// Distinct numbers in order. A contract sees the list of them.
 #[derive(Drop)]
 pub struct Numbers {
-    set: IndexSet<u64>,
+    numbers: Vec<u64>,
+    set: BTreeSet<u64>,
 }
 
 impl Model for Numbers {
     ghost use Rattle.std.specs.Prelude.{ℕ, List};
+    ghost use Rattle.td_names.specs.Numbers.{AreAlike};
 
     ghost Value = { List ℕ };
 
-    ghost view = { λ n. n.set.keys };
+    ghost view = { λ n. n.numbers.items };
+
+    ghost invariant = { λ n. AreAlike n.numbers.items n.set.keys };
 }
 
 impl Numbers {
@@ -27,7 +31,8 @@ impl Numbers {
         ensures { result ≡ [] }
     {
         Numbers {
-            set: IndexSet::new(alloc),
+            numbers: Vec::new(alloc),
+            set: BTreeSet::new(alloc),
         }
     }
 
@@ -48,7 +53,9 @@ impl Numbers {
         if self.contains(number) {
             return Ok(());
         }
+        self.numbers.reserve(1)?;
         self.set.insert(number)?;
+        self.numbers.push(number)?;
         Ok(())
     }
 }

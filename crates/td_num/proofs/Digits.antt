@@ -43,7 +43,7 @@ number_more b p (suc w) high low l e f = let k : suc w - 1 ≡ w = omega arith i
 pub sum_top : (w high low : ℕ) → 0 < w → w ≤ 8 → high < 256 ^ (w - 1) → low < 256 → 256 * high + low < 2 ^ 64
 sum_top w high low p s h l = power_top w (256 * high + low) s (power_fits w high low p s h l)
 
-scale : (n x : ℕ) → (n + 1) * (x * 256) ≡ (256 * n + 256) * x
+pub scale : (n x : ℕ) → (n + 1) * (x * 256) ≡ (256 * n + 256) * x
 scale n x = grind arith
 
 -- a further digit keeps the room

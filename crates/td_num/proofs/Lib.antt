@@ -1,3 +1,4 @@
 pub mod Lists
 pub mod Equals
 pub mod Digits
+pub mod Truths

@@ -33,6 +33,8 @@ use Rattle.td_blocks.specs.Tops.{deed_levels, action_levels, parts_levels, field
 use Rattle.td_placed.specs.Ready.{DefinitionsArePlaced}
 use Rattle.td_placed.proofs.Rooms.{under_left, under_right, is_expr}
 use Rattle.td_placed.proofs.Hiding.{unneeded}
+use Rattle.td_num.proofs.Lists.{left_none as no_left, right_none as no_right}
+use Rattle.td_meaning.proofs.Named.{each_at}
 
 more_count : (scope : List Bound) (b : Bound) (L : ℕ) → length scope ≡ L → length (scope ++ b ∷ []) ≡ suc L
 more_count scope b L le = length-append scope (b ∷ []) ∙ omega (arith, le)
@@ -168,20 +170,6 @@ params_count None = refl
 params_count (Some d) = params_length d.params
 
 -- K1
-
-no_left : {A : Type 0} (xs ys : List A) → xs ++ ys ≡ [] → xs ≡ []
-no_left [] ys h = refl
-no_left (x ∷ xs) ys h = absurd (some_left h)
-  where
-    some_left : {A : Type 0} {x : A} {zs : List A} → x ∷ zs ≡ [] → ⊥
-    some_left h = let e : 1 ≤ 0 = subst (λ n. 1 ≤ n) (ap length h) (omega arith) in omega (arith, e)
-
-no_right : {A : Type 0} (xs ys : List A) → xs ++ ys ≡ [] → ys ≡ []
-no_right [] ys h = h
-no_right (x ∷ xs) ys h = absurd (some_right h)
-  where
-    some_right : {A : Type 0} {x : A} {zs : List A} → x ∷ zs ≡ [] → ⊥
-    some_right h = let e : 1 ≤ 0 = subst (λ n. 1 ≤ n) (ap length h) (omega arith) in omega (arith, e)
 
 module _ (ds : List TypeDef) (n count : ℕ) (kinds : ℕ → Kind) (cells : List Bound) (D R t : ℕ) where
   element_placed : (element : Element) (scope : List Bound) (L : ℕ) → length scope ≡ L → IsElementFormed ds n cells scope element → IsElementSorted element → t + 2 ≤ R → terms_top (suc t) (terms_of element) ≤ R
@@ -392,11 +380,6 @@ body_above (Casetype switch cs default) level =
     let h = cases_above cs level in
     let l = le-max_left (cases_levels level cs) (default_levels level default) in
     omega (arith, h, l)
-
-each_at : (P : TypeDef → Type 0) (ds : List TypeDef) (n : ℕ) (d : TypeDef) → Each P ds → slice_get ds n ≡ Some d → P d
-each_at P [] n d h e = absurd (none-some d e)
-each_at P (x ∷ ds) zero d h e = subst P (same_Some x d e) h.0
-each_at P (x ∷ ds) (suc n) d h e = each_at P ds n d h.1 e
 
 faults_at : (kinds : ℕ → Kind) (ds : List TypeDef) (n : ℕ) (d : TypeDef) → definitions_faults kinds ds ≡ [] → slice_get ds n ≡ Some d → body_faults kinds d.body ≡ []
 faults_at kinds [] n d h e = absurd (none-some d e)

@@ -1,7 +1,6 @@
 -- Expressions have registers enough, and name what is in scope.
 use Rattle.std.proofs.Common.{◌≡◌, ℕ, ◌+◌, ◌<◌, ◌≤◌, Bool, List, length, max, subst, arith}
 use Rattle.std.proofs.Math.Nat.{le-max_left, le-max_right}
-use Rattle.std.proofs.lemmas.Option.{slice_get_within}
 use Rattle.td_core.specs.declared.expressions.Relation.{Relation}
 use Rattle.td_core.specs.declared.expressions.Relation.TheVariants.{Equal, NotEqual, Less, LessEqual, Greater, GreaterEqual}
 use Rattle.td_core.specs.declared.expressions.Binary.{Binary as Operator}
@@ -14,6 +13,7 @@ use Rattle.td_blocks.specs.Constructs.{Expr, Lit, Slot, Binary, Not, Complement,
 use Rattle.td_blocks.specs.Lowered.{expr_of, computed_of, compared_of}
 use Rattle.td_blocks.specs.Placed.{Reaches, Truths, IsExpr}
 use Rattle.td_blocks.specs.Tops.{top, term_top}
+use Rattle.td_expr.proofs.Scoped.{scoped_placed}
 
 pub under_left : (a b R : ℕ) → max a b ≤ R → a ≤ R
 under_left a b R h = let l = le-max_left a b in omega (arith, h, l)
@@ -130,18 +130,6 @@ reach (Range size offset access) t R k h =
       reach offset (t + 1) R k.1.0 (under_left (top (t + 1) offset) (top (t + 2) access) R s),
       reach access (t + 2) R k.1.1 (under_right (top (t + 1) offset) (top (t + 2) access) R s),
     )
-
-scoped_placed : (scope : List Bound) (e : Term) → IsScoped scope e → Placed (length scope) e
-scoped_placed scope (number n w) h = tt
-scoped_placed scope (name i w most) h = slice_get_within scope i (record { type = w; most = most }) h.0
-scoped_placed scope (complement a) h = scoped_placed scope a h
-scoped_placed scope (negation a) h = scoped_placed scope a h
-scoped_placed scope (compute op s a b) h = (scoped_placed scope a h.0, scoped_placed scope b h.1)
-scoped_placed scope (compare k a b) h = (scoped_placed scope a h.0, scoped_placed scope b h.1)
-scoped_placed scope (both a b) h = (scoped_placed scope a h.0, scoped_placed scope b h.1)
-scoped_placed scope (either a b) h = (scoped_placed scope a h.0, scoped_placed scope b h.1)
-scoped_placed scope (choice c a b) h = (scoped_placed scope c h.0, (scoped_placed scope a h.1.0, scoped_placed scope b h.1.1))
-scoped_placed scope (range_okay c a b) h = (scoped_placed scope c h.0, (scoped_placed scope a h.1.0, scoped_placed scope b h.1.1))
 
 truths : (e : Term) → HasSorts e → Truths e
 truths (number n w) h = tt

@@ -1,13 +1,11 @@
 -- Endings, one after the other.
-use Rattle.std.proofs.Common.{◌≡◌, ℕ, zero, suc, ◌+◌, ◌-◌, ◌*◌, ◌/◌, ◌<◌, ◌≤◌, min, Bool, true, false, cond, Option, Some, None, List, [], ◌∷◌, ◌++◌, length, refl, sym, ap, ◌∙◌, subst, arith}
-use Rattle.std.specs.Prelude.{slice_get, slice_index, nat_eq}
-use Rattle.std.proofs.lemmas.Bool.{le-leb, lt-leb, eq-eqb, ne_eqb}
-use Rattle.std.proofs.Math.Nat.{div-mul-le_self, min-le_right, mul-le-mul_right, le_trans}
-use Rattle.td_num.specs.Numbers.{bytes_in, number_at, places_from}
-use Rattle.td_core.specs.declared.outcome.Reason.TheVariants.{NotEnough, Impossible, ListSize}
+use Rattle.std.proofs.Common.{◌≡◌, ℕ, suc, ◌+◌, ◌-◌, ◌<◌, ◌≤◌, Bool, cond, Option, Some, List, [], ◌∷◌, length, refl, sym, ap, ◌∙◌}
+use Rattle.std.specs.Prelude.{slice_get, nat_eq}
+use Rattle.std.proofs.lemmas.Bool.{eq-eqb, ne_eqb}
+use Rattle.td_num.specs.Numbers.{places_from}
+use Rattle.td_core.specs.declared.outcome.Reason.TheVariants.{NotEnough, ListSize}
 use Rattle.td_core.specs.declared.module.NameId.{NameId}
 use Rattle.td_core.specs.declared.module.Field.{Field}
-use Rattle.td_core.specs.declared.module.TypeDef.{TypeDef}
 use Rattle.td_core.specs.declared.module.Module.{Module}
 use Rattle.td_core.specs.declared.module.Entry.{Entry}
 use Rattle.td_core.specs.declared.outcome.TraceFrame.{TraceFrame}
@@ -15,17 +13,11 @@ use Rattle.td_core.specs.declared.outcome.Verdict.{Verdict}
 use Rattle.td_core.specs.declared.outcome.Verdict.TheVariants.{Accept, Reject}
 use Rattle.td_core.specs.Outcome.{Ending, Accepted, Rejected, Behavior, plain, accepted, rejected, after_reading, onward, and_then, ending_within, within, outcome_of}
 use Rattle.td_meaning.specs.Naming.{is_needed}
-use Rattle.td_meaning.specs.Meaning.{Sense, taken, demanded, elements, field_place, field_number, number_places, first_name, extended, filled, filled_once, divides, equals, entry_place, numbers_at, run_of, first_where, looked_at, is_nonzero, byte_type, zeros_end, zeros_meaning}
-use Rattle.td_meaning.specs.Machine.{below, definition_meaning, fields_meaning, shape_meaning, parts_meaning}
+use Rattle.td_meaning.specs.Meaning.{Sense, demanded, elements, field_place, field_number, number_places, first_name, extended, filled_once, equals, entry_place, numbers_at, run_of, first_where, looked_at, is_nonzero, byte_type, zeros_end, zeros_meaning}
+use Rattle.td_meaning.specs.Machine.{below, fields_meaning, shape_meaning, parts_meaning}
 use Rattle.td_meaning.proofs.MachineMeaning.{meaning}
 use Rattle.td_meaning.specs.Verdicts.{ending_of, IsAt}
-use Rattle.td_meaning.proofs.Below.{below_self, below_at, below_past}
-
-pub taken_long : (n start end p : ℕ) (cells : List ℕ) → p + n ≤ end → taken n start end p cells ≡ accepted (p + n) cells
-taken_long n start end p cells h = ap (λ v. demanded NotEnough v start (p + n) cells) (le-leb (p + n) end h)
-
-pub taken_short : (n start end p : ℕ) (cells : List ℕ) → end < p + n → taken n start end p cells ≡ rejected NotEnough start cells
-taken_short n start end p cells h = ap (λ v. demanded NotEnough v start (p + n) cells) (lt-leb (p + n) end h)
+use Rattle.td_meaning.proofs.Filling.{taken_long, taken_short}
 
 -- what follows an ending doesn't rest on what was read
 pub then_by : (t : Behavior) (o : Ending) (go : ℕ → List ℕ → Behavior) → t.ending ≡ o → (and_then t go).ending ≡ (and_then (plain o) go).ending
@@ -37,31 +29,7 @@ then_by t o go e = ap (λ x. (onward x t.reads go).ending) e ∙ unread o t.read
 
 -- Numbers that have room
 
-pub room_for : (bound n w : ℕ) → (min bound (n / w) - 0) * w ≤ n
-room_for bound n w =
-    let few : min bound (n / w) ≤ n / w = min-le_right bound (n / w) in
-    let same : min bound (n / w) - 0 ≡ min bound (n / w) = omega arith in
-    subst (λ k. k * w ≤ n) (sym same) (le_trans (mul-le-mul_right w few) (div-mul-le_self n w))
-
-pub one_fewer : (m turn n w : ℕ) → turn < m → (m - turn) * w ≤ n → (w ≤ n) × ((m - (turn + 1)) * w ≤ n - w)
-one_fewer m turn n w lt h =
-    let k = m - (turn + 1) in
-    let e : m - turn ≡ suc k = omega (arith, lt) in
-    let h' : suc k * w ≤ n = subst (λ x. x * w ≤ n) e h in
-    let grown : suc k * w ≡ w + k * w = omega arith in
-    (omega (arith, h', grown), omega (arith, h', grown))
-
 -- Types
-
-pub named_by : (sets : List (List ℕ)) (definitions : List TypeDef) (n j : ℕ) (o : Option TypeDef) (args places cells b : List ℕ) (p end : ℕ) → j < n → slice_get definitions j ≡ o → below sets definitions n j args places cells b p end ≡ definition_meaning sets (below sets definitions j) o args places cells b p end
-named_by sets definitions n j o args places cells b p end lt e =
-    ap (λ f. f args places cells b p end) (below_at sets definitions n j lt)
-    ∙ ap (λ f. f args places cells b p end) (below_self sets definitions j)
-    ∙ ap (λ x. definition_meaning sets (below sets definitions j) x args places cells b p end) e
-
--- the place of a verdict that accepts, and a trace that is empty where it does
-pub accepted_at : (v : Verdict) (pos p : ℕ) (trace : List TraceFrame) → v ≡ Accept pos → IsAt v p trace → (pos ≡ p) × (trace ≡ [])
-accepted_at v pos p trace is at = subst (λ v. IsAt v p trace) is at
 
 pub empty_at : (v : Verdict) (trace : List TraceFrame) → ((q : ℕ) → v ≡ Accept q → trace ≡ []) → (p : ℕ) × IsAt v p trace
 empty_at (Accept q) trace h = (q, (refl, h q refl))
@@ -71,10 +39,6 @@ empty_at (Reject reason q) trace h = (0, tt)
 pub then_same : (v : Verdict) (trace : List TraceFrame) (cells : List ℕ) (go next : ℕ → List ℕ → Behavior) → ((q : ℕ) → v ≡ Accept q → go q cells ≡ next q cells) → and_then (plain (ending_of v trace cells)) go ≡ and_then (plain (ending_of v trace cells)) next
 then_same (Accept pos) trace cells go next h = ap (after_reading []) (h pos refl)
 then_same (Reject reason pos) trace cells go next h = refl
-
-pub fields_none : (sets : List (List ℕ)) (senses : ℕ → Sense) (ty : NameId) (env places b : List ℕ) (end p : ℕ) (cells : List ℕ) → fields_meaning sets senses ty [] env places b end p cells ≡ accepted p cells
-unfolding fields_meaning
-fields_none sets senses ty env places b end p cells = refl
 
 -- a field, by how its bytes end
 pub field_by : (sets : List (List ℕ)) (senses : ℕ → Sense) (ty : NameId) (f : Field) (later : List Field) (env places b : List ℕ) (end p : ℕ) (cells : List ℕ) (o : Ending) → ending_within (field_place ty (first_name f.parts) p) (shape_meaning sets senses f.element f.extent env places b end p cells).ending ≡ o → (fields_meaning sets senses ty (f ∷ later) env places b end p cells).ending ≡ (and_then (plain o) (λ q cells. and_then (parts_meaning ty p (field_number f.element f.extent b p) f.parts env places q cells) (fields_meaning sets senses ty later (extended env (field_number f.element f.extent b p) f.parts) places b end))).ending
@@ -90,14 +54,6 @@ field_by sets senses ty f later env places b end p cells o e =
     unread (Rejected reason position trace cells) reads rest = refl
 
 -- Arrays
-
-pub filled_short : (each : ℕ → ℕ → List ℕ → Behavior) (step : Option ℕ) (size end p : ℕ) (cells : List ℕ) → end < p + size → filled each step size end p cells ≡ rejected NotEnough p cells
-filled_short each step size end p cells h = ap (λ t. and_then t (λ q cells. and_then (demanded ListSize (divides step size) p p cells) (elements (each q) (suc size) p q))) (taken_short size p end p cells h)
-
-pub filled_long : (each : ℕ → ℕ → List ℕ → Behavior) (step : Option ℕ) (size end p : ℕ) (cells : List ℕ) (v : Bool) → p + size ≤ end → divides step size ≡ v → filled each step size end p cells ≡ and_then (demanded ListSize v p p cells) (elements (each (p + size)) (suc size) p (p + size))
-filled_long each step size end p cells v h d =
-    ap (λ t. and_then t (λ q cells. and_then (demanded ListSize (divides step size) p p cells) (elements (each q) (suc size) p q))) (taken_long size p end p cells h)
-    ∙ ap (λ v. and_then (demanded ListSize v p p cells) (elements (each (p + size)) (suc size) p (p + size))) d
 
 pub once_short : (each : ℕ → ℕ → List ℕ → Behavior) (step : Option ℕ) (size end p : ℕ) (cells : List ℕ) → end < p + size → filled_once each step size end p cells ≡ rejected NotEnough p cells
 once_short each step size end p cells h = ap (λ t. and_then t (λ q cells. and_then (demanded ListSize (equals step size) p p cells) (λ r cells. and_then (each q r cells) (λ t cells. demanded ListSize (nat_eq t q) p t cells)))) (taken_short size p end p cells h)
@@ -129,12 +85,6 @@ pub entry_is : (m : Module) (entry : Entry) (args cells b : List ℕ) (place bou
 entry_is m entry args cells b place bound places end get same at ends =
     (λ k. below m.listed m.definitions (same k) place args (at k) cells b 0 (ends k))
     ∙ (λ k. below m.listed m.definitions (length m.definitions) (entry_place (sym get k) (length m.definitions)) args (places_from 0 (length cells)) cells b 0 (length b))
-
--- an entry point that isn't there
-pub no_entry : (m : Module) (entry : Entry) (args cells b : List ℕ) → slice_get m.entries entry.number ≡ None → meaning m entry args cells b ≡ rejected Impossible 0 cells
-no_entry m entry args cells b get =
-    (λ k. below m.listed m.definitions (length m.definitions) (entry_place (get k) (length m.definitions)) args (places_from 0 (length cells)) cells b 0 (length b))
-    ∙ below_past m.listed m.definitions (length m.definitions) (length m.definitions) args (places_from 0 (length cells)) cells b 0 (length b) (omega arith)
 
 -- no byte is left
 pub zeros_over : (b : List ℕ) (end p : ℕ) (cells : List ℕ) → end - p ≡ 0 → zeros_meaning b end p cells ≡ accepted end cells

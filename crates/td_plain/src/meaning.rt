@@ -6,7 +6,7 @@ ghost use Rattle.td_expr.specs.Sound.{Sound};
 ghost use Rattle.td_meaning.specs.Meaning.{meaning};
 ghost use Rattle.td_meaning.specs.Throughout.{Throughout};
 
-use crate::types::named;
+use crate::types::{Walk, named};
 use std::alloc::{AllocError, Global};
 use td_core::module::{Entry, Module};
 use td_core::outcome::{Outcome, Reason, Verdict};
@@ -49,14 +49,17 @@ pub fn meaning(
         });
     };
     let places = places_below(alloc, cells.len())?;
-    let verdict = named(
+    let walk = Walk {
         alloc,
         m,
-        m.definitions.len(),
+        bound: m.definitions.len(),
+        places: places.as_slice(),
+        message: bytes,
+    };
+    let verdict = named(
+        &walk,
         place,
         args,
-        places.as_slice(),
-        bytes,
         bytes.len() as u32,
         0,
         left.as_mut_slice(),

@@ -23,47 +23,50 @@ use td_meaning::needed::first_name;
 use td_meaning::parameters::cells_of;
 use td_num::number::byte_count;
 
-/// A definition that is named from above, among those below a bound: the value arguments, and for each of its cells the
-/// place among all cells.
+/// What a walk goes by: a message, the definitions of a module below a bound, and for each cell of the walk's own definition
+/// its place among all cells.
+#[derive(Clone, Copy)]
+pub struct Walk<'m, 'p, 'b> {
+    pub alloc: Global,
+    pub m: &'m Module,
+    pub bound: usize,
+    pub places: &'p [usize],
+    pub message: &'b [u8],
+}
+
+/// A definition that is named from above, with its value arguments and, in the walk, the places of its cells.
 #[cycle(types)]
 pub fn named(
-    alloc: Global,
-    m: &Module,
-    bound: usize,
+    walk: &Walk<'_, '_, '_>,
     place: u32,
     args: &[u64],
-    places: &[usize],
-    message: &[u8],
     end: u32,
     pos: u32,
     cells: &mut [u64],
     trace: &mut Trace,
 ) -> Result<Verdict, AllocError>
     requires empty_trace { trace.old ≡ [] }
-    ensures ending { IfOk result (λ v. (below m.now.listed m.now.definitions bound place args.now places.now cells.old message.now pos end).ending
+    ensures ending { IfOk result (λ v. (below walk.now.m.now.listed walk.now.m.now.definitions walk.now.bound place args.now walk.now.places.now cells.old walk.now.message.now pos end).ending
         ≡ ending_of v trace.new cells.new) }
     ensures empty_trace { IfOk result (λ v. (q : ℕ) → v ≡ Verdict.Accept q → trace.new ≡ []) }
 {
-    if place as usize >= bound {
+    if place as usize >= walk.bound {
         return Ok(Verdict::Reject {
             reason: Reason::Impossible,
             pos,
         });
     }
-    match m.definitions.as_slice().get(place as usize) {
-        Some(definition) => Ok(defined(
-            alloc,
-            m,
-            place as usize,
-            definition,
-            args,
-            places,
-            message,
-            end,
-            pos,
-            cells,
-            trace,
-        )?),
+    match walk.m.definitions.as_slice().get(place as usize) {
+        Some(definition) => {
+            let below = Walk {
+                alloc: walk.alloc,
+                m: walk.m,
+                bound: place as usize,
+                places: walk.places,
+                message: walk.message,
+            };
+            Ok(defined(&below, definition, args, end, pos, cells, trace)?)
+        }
         None => Ok(Verdict::Reject {
             reason: Reason::Impossible,
             pos,
@@ -74,20 +77,16 @@ pub fn named(
 // A definition: its `where`, and then its fields.
 #[cycle(types)]
 fn defined(
-    alloc: Global,
-    m: &Module,
-    bound: usize,
+    walk: &Walk<'_, '_, '_>,
     definition: &TypeDef,
     args: &[u64],
-    places: &[usize],
-    message: &[u8],
     end: u32,
     pos: u32,
     cells: &mut [u64],
     trace: &mut Trace,
 ) -> Result<Verdict, AllocError>
     requires empty_trace { trace.old ≡ [] }
-    ensures ending { IfOk result (λ v. (definition_meaning m.now.listed (below m.now.listed m.now.definitions bound) (Some definition.now) args.now places.now cells.old message.now pos end).ending
+    ensures ending { IfOk result (λ v. (definition_meaning walk.now.m.now.listed (below walk.now.m.now.listed walk.now.m.now.definitions walk.now.bound) (Some definition.now) args.now walk.now.places.now cells.old walk.now.message.now pos end).ending
         ≡ ending_of v trace.new cells.new) }
     ensures empty_trace { IfOk result (λ v. (q : ℕ) → v ≡ Verdict.Accept q → trace.new ≡ []) }
 {
@@ -110,16 +109,12 @@ fn defined(
             Ok(framed(none, definition.name, Spot::Switch, pos, trace)?)
         }
         Some(fields) => {
-            let mut env = Vec::from_slice(alloc, args)?;
+            let mut env = Vec::from_slice(walk.alloc, args)?;
             Ok(fields_in_order(
-                alloc,
-                m,
-                bound,
+                walk,
                 definition.name,
                 fields.as_slice(),
                 &mut env,
-                places,
-                message,
                 end,
                 pos,
                 cells,
@@ -132,29 +127,23 @@ fn defined(
 // Fields one after the other.
 #[cycle(types)]
 fn fields_in_order(
-    alloc: Global,
-    m: &Module,
-    bound: usize,
+    walk: &Walk<'_, '_, '_>,
     ty: NameId,
     fields: &[Field],
     env: &mut Vec<u64>,
-    places: &[usize],
-    message: &[u8],
     end: u32,
     start: u32,
     cells: &mut [u64],
     trace: &mut Trace,
 ) -> Result<Verdict, AllocError>
     requires empty_trace { trace.old ≡ [] }
-    ensures ending { IfOk result (λ v. (fields_meaning m.now.listed (below m.now.listed m.now.definitions bound) ty fields.now env.old.items places.now message.now end start cells.old).ending
+    ensures ending { IfOk result (λ v. (fields_meaning walk.now.m.now.listed (below walk.now.m.now.listed walk.now.m.now.definitions walk.now.bound) ty fields.now env.old.items walk.now.places.now walk.now.message.now end start cells.old).ending
         ≡ ending_of v trace.new cells.new) }
     ensures empty_trace { IfOk result (λ v. (q : ℕ) → v ≡ Verdict.Accept q → trace.new ≡ []) }
 {
     let mut position = start;
     for field in fields {
-        match one_field(
-            alloc, m, bound, ty, field, env, places, message, end, position, cells, trace,
-        )? {
+        match one_field(walk, ty, field, env, end, position, cells, trace)? {
             Verdict::Accept { pos } => position = pos,
             Verdict::Reject { reason, pos } => return Ok(Verdict::Reject { reason, pos }),
         }
@@ -165,14 +154,10 @@ fn fields_in_order(
 // A field, and then its parts.
 #[cycle(types)]
 fn one_field(
-    alloc: Global,
-    m: &Module,
-    bound: usize,
+    walk: &Walk<'_, '_, '_>,
     ty: NameId,
     field: &Field,
     env: &mut Vec<u64>,
-    places: &[usize],
-    message: &[u8],
     end: u32,
     start: u32,
     cells: &mut [u64],
@@ -181,20 +166,16 @@ fn one_field(
     requires empty_trace { trace.old ≡ [] }
     // what is left of the struct decides the whole of it
     ensures ending { IfOk result (λ v. (later : List Field)
-        → (fields_meaning m.now.listed (below m.now.listed m.now.definitions bound) ty (field.now ∷ later) env.old.items places.now message.now end start cells.old).ending
-        ≡ (and_then (plain (ending_of v trace.new cells.new)) (fields_meaning m.now.listed (below m.now.listed m.now.definitions bound) ty later env.new.items places.now message.now end)).ending) }
+        → (fields_meaning walk.now.m.now.listed (below walk.now.m.now.listed walk.now.m.now.definitions walk.now.bound) ty (field.now ∷ later) env.old.items walk.now.places.now walk.now.message.now end start cells.old).ending
+        ≡ (and_then (plain (ending_of v trace.new cells.new)) (fields_meaning walk.now.m.now.listed (below walk.now.m.now.listed walk.now.m.now.definitions walk.now.bound) ty later env.new.items walk.now.places.now walk.now.message.now end)).ending) }
     ensures empty_trace { IfOk result (λ v. (q : ℕ) → v ≡ Verdict.Accept q → trace.new ≡ []) }
 {
     let parts = field.parts.as_slice();
     let verdict = shape(
-        alloc,
-        m,
-        bound,
+        walk,
         &field.element,
         &field.extent,
         env.as_slice(),
-        places,
-        message,
         end,
         start,
         cells,
@@ -202,8 +183,8 @@ fn one_field(
     )?;
     match framed(verdict, ty, Spot::Field(first_name(parts)), start, trace)? {
         Verdict::Accept { pos } => {
-            let value = field_number(&field.element, &field.extent, message, start);
-            Ok(check_parts(ty, parts, value, env, places, cells, start, pos, trace)?)
+            let value = field_number(&field.element, &field.extent, walk.message, start);
+            Ok(check_parts(ty, parts, value, env, walk.places, cells, start, pos, trace)?)
         }
         Verdict::Reject { reason, pos } => Ok(Verdict::Reject { reason, pos }),
     }
@@ -212,60 +193,46 @@ fn one_field(
 // An element, or an array of them.
 #[cycle(types)]
 fn shape(
-    alloc: Global,
-    m: &Module,
-    bound: usize,
+    walk: &Walk<'_, '_, '_>,
     element: &Element,
     extent: &Extent,
     env: &[u64],
-    places: &[usize],
-    message: &[u8],
     end: u32,
     start: u32,
     cells: &mut [u64],
     trace: &mut Trace,
 ) -> Result<Verdict, AllocError>
     requires empty_trace { trace.old ≡ [] }
-    ensures ending { IfOk result (λ v. (shape_meaning m.now.listed (below m.now.listed m.now.definitions bound) element.now extent.now env.now places.now message.now end start cells.old).ending
+    ensures ending { IfOk result (λ v. (shape_meaning walk.now.m.now.listed (below walk.now.m.now.listed walk.now.m.now.definitions walk.now.bound) element.now extent.now env.now walk.now.places.now walk.now.message.now end start cells.old).ending
         ≡ ending_of v trace.new cells.new) }
     ensures empty_trace { IfOk result (λ v. (q : ℕ) → v ≡ Verdict.Accept q → trace.new ≡ []) }
 {
     match extent {
-        Extent::Once => Ok(one_element(
-            alloc, m, bound, element, env, places, message, start, end, start, cells, trace,
-        )?),
+        Extent::Once => Ok(one_element(walk, element, env, start, end, start, cells, trace)?),
         Extent::Filling { size, step } => Ok(filling(
-            alloc,
-            m,
-            bound,
+            walk,
             element,
             value_of(size, env),
             *step,
             env,
-            places,
-            message,
             end,
             start,
             cells,
             trace,
         )?),
         Extent::OnceFilling { size, step } => Ok(once_filling(
-            alloc,
-            m,
-            bound,
+            walk,
             element,
             value_of(size, env),
             *step,
             env,
-            places,
-            message,
             end,
             start,
             cells,
             trace,
         )?),
         Extent::UpToZero { size } => {
-            Ok(up_to_zero(element, value_of(size, env), message, end, start))
+            Ok(up_to_zero(element, value_of(size, env), walk.message, end, start))
         }
     }
 }
@@ -273,22 +240,18 @@ fn shape(
 // As many elements as fill so many bytes.
 #[cycle(types)]
 fn filling(
-    alloc: Global,
-    m: &Module,
-    bound: usize,
+    walk: &Walk<'_, '_, '_>,
     element: &Element,
     size: u64,
     step: Option<u64>,
     env: &[u64],
-    places: &[usize],
-    message: &[u8],
     end: u32,
     start: u32,
     cells: &mut [u64],
     trace: &mut Trace,
 ) -> Result<Verdict, AllocError>
     requires empty_trace { trace.old ≡ [] }
-    ensures ending { IfOk result (λ v. (filled (element_meaning m.now.listed (below m.now.listed m.now.definitions bound) element.now env.now places.now message.now start) step size end start cells.old).ending
+    ensures ending { IfOk result (λ v. (filled (element_meaning walk.now.m.now.listed (below walk.now.m.now.listed walk.now.m.now.definitions walk.now.bound) element.now env.now walk.now.places.now walk.now.message.now start) step size end start cells.old).ending
         ≡ ending_of v trace.new cells.new) }
     ensures empty_trace { IfOk result (λ v. (q : ℕ) → v ≡ Verdict.Accept q → trace.new ≡ []) }
 {
@@ -301,9 +264,7 @@ fn filling(
             if !divides(step, size) {
                 return Ok(unfit(start));
             }
-            Ok(all_elements(
-                alloc, m, bound, element, env, places, message, stop, start, cells, trace,
-            )?)
+            Ok(all_elements(walk, element, env, stop, start, cells, trace)?)
         }
     }
 }
@@ -311,22 +272,18 @@ fn filling(
 // One element, which fills so many bytes.
 #[cycle(types)]
 fn once_filling(
-    alloc: Global,
-    m: &Module,
-    bound: usize,
+    walk: &Walk<'_, '_, '_>,
     element: &Element,
     size: u64,
     step: Option<u64>,
     env: &[u64],
-    places: &[usize],
-    message: &[u8],
     end: u32,
     start: u32,
     cells: &mut [u64],
     trace: &mut Trace,
 ) -> Result<Verdict, AllocError>
     requires empty_trace { trace.old ≡ [] }
-    ensures ending { IfOk result (λ v. (filled_once (element_meaning m.now.listed (below m.now.listed m.now.definitions bound) element.now env.now places.now message.now start) step size end start cells.old).ending
+    ensures ending { IfOk result (λ v. (filled_once (element_meaning walk.now.m.now.listed (below walk.now.m.now.listed walk.now.m.now.definitions walk.now.bound) element.now env.now walk.now.places.now walk.now.message.now start) step size end start cells.old).ending
         ≡ ending_of v trace.new cells.new) }
     ensures empty_trace { IfOk result (λ v. (q : ℕ) → v ≡ Verdict.Accept q → trace.new ≡ []) }
 {
@@ -339,9 +296,7 @@ fn once_filling(
             if !equals(step, size) {
                 return Ok(unfit(start));
             }
-            match one_element(
-                alloc, m, bound, element, env, places, message, start, stop, start, cells, trace,
-            )? {
+            match one_element(walk, element, env, start, stop, start, cells, trace)? {
                 Verdict::Accept { pos } => Ok(demand(pos == stop, Reason::ListSize, start, pos)),
                 Verdict::Reject { reason, pos } => Ok(Verdict::Reject { reason, pos }),
             }
@@ -352,20 +307,16 @@ fn once_filling(
 // Elements one after the other, up to the end.
 #[cycle(types)]
 fn all_elements(
-    alloc: Global,
-    m: &Module,
-    bound: usize,
+    walk: &Walk<'_, '_, '_>,
     element: &Element,
     env: &[u64],
-    places: &[usize],
-    message: &[u8],
     end: u32,
     start: u32,
     cells: &mut [u64],
     trace: &mut Trace,
 ) -> Result<Verdict, AllocError>
     requires empty_trace { trace.old ≡ [] }
-    ensures ending { IfOk result (λ v. (elements (element_meaning m.now.listed (below m.now.listed m.now.definitions bound) element.now env.now places.now message.now start end) (suc (end - start)) start end start cells.old).ending
+    ensures ending { IfOk result (λ v. (elements (element_meaning walk.now.m.now.listed (below walk.now.m.now.listed walk.now.m.now.definitions walk.now.bound) element.now env.now walk.now.places.now walk.now.message.now start end) (suc (end - start)) start end start cells.old).ending
         ≡ ending_of v trace.new cells.new) }
     ensures empty_trace { IfOk result (λ v. (q : ℕ) → v ≡ Verdict.Accept q → trace.new ≡ []) }
 {
@@ -375,9 +326,7 @@ fn all_elements(
         if position == end {
             return Ok(Verdict::Accept { pos: position });
         }
-        match one_element(
-            alloc, m, bound, element, env, places, message, start, end, position, cells, trace,
-        )? {
+        match one_element(walk, element, env, start, end, position, cells, trace)? {
             Verdict::Accept { pos } => position = pos,
             Verdict::Reject { reason, pos } => return Ok(Verdict::Reject { reason, pos }),
         }
@@ -388,13 +337,9 @@ fn all_elements(
 // An element of a field that began at `start`.
 #[cycle(types)]
 fn one_element(
-    alloc: Global,
-    m: &Module,
-    bound: usize,
+    walk: &Walk<'_, '_, '_>,
     element: &Element,
     env: &[u64],
-    places: &[usize],
-    message: &[u8],
     start: u32,
     end: u32,
     pos: u32,
@@ -402,31 +347,34 @@ fn one_element(
     trace: &mut Trace,
 ) -> Result<Verdict, AllocError>
     requires empty_trace { trace.old ≡ [] }
-    ensures ending { IfOk result (λ v. (element_meaning m.now.listed (below m.now.listed m.now.definitions bound) element.now env.now places.now message.now start end pos cells.old).ending
+    ensures ending { IfOk result (λ v. (element_meaning walk.now.m.now.listed (below walk.now.m.now.listed walk.now.m.now.definitions walk.now.bound) element.now env.now walk.now.places.now walk.now.message.now start end pos cells.old).ending
         ≡ ending_of v trace.new cells.new) }
     ensures empty_trace { IfOk result (λ v. (q : ℕ) → v ≡ Verdict.Accept q → trace.new ≡ []) }
 {
     match element {
         Element::Number(number_type) => Ok(pass(byte_count(number_type.width), start, end, pos)),
         Element::Listed { base, values } => {
-            let values = values_at(m.listed.as_slice(), *values);
-            Ok(listed_number(*base, values, message, start, end, pos))
+            let values = values_at(walk.m.listed.as_slice(), *values);
+            Ok(listed_number(*base, values, walk.message, start, end, pos))
         }
         Element::Named {
             definition,
             args,
             cells: own,
         } => {
-            let args = values_of(alloc, args.as_slice(), env)?;
-            let own = cells_of(alloc, own.as_slice(), places)?;
+            let args = values_of(walk.alloc, args.as_slice(), env)?;
+            let own = cells_of(walk.alloc, own.as_slice(), walk.places)?;
+            let within = Walk {
+                alloc: walk.alloc,
+                m: walk.m,
+                bound: walk.bound,
+                places: own.as_slice(),
+                message: walk.message,
+            };
             Ok(named(
-                alloc,
-                m,
-                bound,
+                &within,
                 *definition,
                 args.as_slice(),
-                own.as_slice(),
-                message,
                 end,
                 pos,
                 cells,
@@ -435,6 +383,6 @@ fn one_element(
         }
         Element::Unit => Ok(Verdict::Accept { pos }),
         Element::Rest => Ok(Verdict::Accept { pos: end }),
-        Element::Zeros => Ok(zeros(message, end, pos)),
+        Element::Zeros => Ok(zeros(walk.message, end, pos)),
     }
 }

@@ -4,7 +4,15 @@
 #![tactic(auto)]
 
 pub mod job;
+pub mod laws;
 pub mod limits;
 pub mod mail;
 pub mod name;
 pub mod reply;
+pub mod ring;
+
+pub use job::{HostJob, Step};
+pub use mail::Mail;
+pub use name::PostName;
+pub use reply::Reply;
+pub use ring::RingJob;

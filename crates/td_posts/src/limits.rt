@@ -10,3 +10,11 @@ pub const MOST_POSTS: usize = 4_096;
 pub const MOST_STORES: usize = 65_536;
 /// Words of all messages that are posted.
 pub const MOST_MESSAGE_WORDS: u64 = 1_048_576;
+/// Rings.
+pub const MOST_RINGS: usize = 16;
+/// Entries of a ring.
+pub const MOST_ENTRIES: u32 = 1_024;
+/// Bytes of a message of a ring.
+pub const MOST_RING_MESSAGE: u32 = 1_048_576;
+/// Looks at one ring.
+pub const MOST_TAKES: u32 = 4_096;

@@ -4,7 +4,6 @@ use Rattle.std.proofs.lemmas.List.{append-nil}
 use Rattle.td_joined.specs.Pieces.{Piece, Word, Blank, LineEnd, spelling, text_of}
 use Rattle.td_ast.specs.Statements.{Statement, block_of}
 use Rattle.td_layout.specs.Actions.{statement_pieces, block_pieces}
-use Rattle.td_ast.specs.Statements.{statement_size, list_size}
 use Rattle.td_ast.specs.declared.definitions.ItemTree.{ItemTree}
 use Rattle.td_ast.specs.declared.token.TokenKind.TheVariants.{Comma, CloseParen}
 use Rattle.td_layout.specs.Sequences.{comma, indented, in_parentheses, parted_by}
@@ -53,12 +52,6 @@ block_suc (y ∷ ys) (suc i) x h e =
 -- a block with one statement more
 pub block_more : (xs : List Statement) (i : ℕ) (x : Statement) → i < length xs → x ≡ get_or xs i x → text_of (block_pieces (block_of (take (i + 1) xs))) ≡ text_of (block_pieces (block_of (take i xs))) ++ text_of (statement_pieces x ++ Blank ∷ [])
 block_more xs i x h e = let next : i + 1 ≡ suc i = omega arith in ap (λ (n : ℕ). text_of (block_pieces (block_of (take n xs)))) next ∙ block_suc xs i x h e
-
--- a statement is smaller than the list it stands in
-pub below : (xs : List Statement) (i : ℕ) (x : Statement) → i < length xs → x ≡ get_or xs i x → statement_size x < list_size xs
-below [] i x h e = absurd (omega arith)
-below (y ∷ ys) zero x h e = let same : statement_size x ≡ statement_size y = ap statement_size e in omega arith
-below (y ∷ ys) (suc i) x h e = let ih = below ys i x (omega arith) e in omega arith
 
 -- the lines of items: the first, each other after a comma, and the end of the last line
 pub items_text : (x : ItemTree) (xs : List ItemTree) → text_of (item_lines (x ∷ xs)) ≡ text_of (indented 1 (item_pieces x)) ++ (text_of (flat_map after_comma xs) ++ (10 ∷ []))

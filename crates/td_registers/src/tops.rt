@@ -1,5 +1,5 @@
 //! Registers: one more than the greatest that is used.
-#![tactic(auto, using(crate::proofs::Measures::computed_top, crate::proofs::Measures::some_nodes, crate::proofs::Measures::args_nodes))]
+#![tactic(auto, using(td_blocks::proofs::Heights::computed_top, td_core::proofs::Nodes::some_node, crate::proofs::Measures::args_nodes))]
 
 ghost use Rattle.std.specs.Prelude.{◌≡◌, ◌<◌, ◌+◌, ◌*◌, ◌^◌, suc, length};
 ghost use Rattle.td_core.specs.Term.{measure};

@@ -90,5 +90,9 @@ same_by_digits (suc n) v w hv hw same =
     let high : v / 16 ≡ w / 16 = same_by_digits n (v / 16) (w / 16) (omega arith) (omega arith) (λ k h. rw (← further v k, ← further w k) (same (k + 1) (omega arith))) in
     omega arith
 
+-- of a byte its two digits
+pub same_byte : (v w : ℕ) → v < 256 → w < 256 → hex_digits 2 v ≡ hex_digits 2 w → v ≡ w
+same_byte v w hv hw e = same_by_digits 2 v w hv hw (digits_at 2 v w e)
+
 pub same_value : (v w : ℕ) → v < 2 ^ 64 → w < 2 ^ 64 → hex_digits 16 v ≡ hex_digits 16 w → v ≡ w
 same_value v w hv hw e = same_by_digits 16 v w hv hw (digits_at 16 v w e)

@@ -4,6 +4,8 @@ pub mod Determining
 pub mod Digits
 pub mod Hexadecimals
 pub mod Lines
+pub mod Pages
 pub mod Parts
 pub mod Shown
+pub mod WrittenBytes
 pub mod Zipped

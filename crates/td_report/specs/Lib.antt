@@ -1,4 +1,5 @@
 pub mod Report
 pub mod ErrorLine
 pub mod Laws
+pub mod Paged
 pub mod Summary

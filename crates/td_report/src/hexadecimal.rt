@@ -24,3 +24,12 @@ pub fn digits_of(value: u64) -> [u8; 16]
     }
     digits
 }
+
+/// The two digits of a byte, the one of most weight first.
+#[tactic(auto, unfolding(crate::specs::Report::hex_digits))]
+pub fn two_digits_of(value: u8) -> [u8; 2]
+    ensures { result ≡ hex_digits 2 value }
+{
+    let value = u64::from(value);
+    [digit_of(value / 16), digit_of(value % 16)]
+}

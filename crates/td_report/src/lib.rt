@@ -5,7 +5,13 @@
 pub mod error_line;
 mod hexadecimal;
 pub mod laws;
+pub mod paged;
 pub mod path_line;
 pub mod pieces;
 pub mod report;
 pub mod summary;
+mod written;
+
+pub use error_line::front_line;
+pub use report::{report_of_parts, run_report};
+pub use summary::module_summary;

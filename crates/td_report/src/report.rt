@@ -1,19 +1,22 @@
 //! The report of a run.
 
-ghost use Rattle.std.specs.Prelude.{◌≡◌, ◌<◌, Some, None, flat_map, option_map, codes, decimal};
+ghost use Rattle.std.specs.Prelude.{◌≡◌, ◌<◌, ◌++◌, true, false, Some, None, flat_map, option_map, codes, decimal};
 ghost use Rattle.std.specs.List.{All};
 ghost use Rattle.td_stream.specs.Layouts.{count_in, IsNumberOf};
 ghost use Rattle.td_core.specs.Entries.{entry_definition};
 ghost use Rattle.td_io.specs.States.{Writes};
+ghost use Rattle.td_report.specs.Paged.{Waits};
 ghost use Rattle.td_report.specs.Report.{report, reason_word, spot_word, verdict_line, frame_line, frame_lines, entry_cells, with_values, cell_line, load_line};
 
 use crate::hexadecimal::digits_of;
+use crate::paged::hand_on;
 use crate::pieces::write_pieces;
+use crate::written::write_written;
 use itoa::Buffer;
 use td_core::entries::{entry_definition, name_bytes};
 use td_core::module::{Cell, Entry, Module};
 use td_core::outcome::{Outcome, Reason, Spot, TraceFrame, Verdict};
-use td_io::{Sink, WriteFault};
+use td_io::{Page, Sink, WriteFault, write_all};
 use td_stream::layout::Layout;
 use td_stream::load::Load;
 use td_stream::loads::Loads;
@@ -196,6 +199,43 @@ fn write_load<O: Sink>(out: &mut O, load: Load, layout: Option<&Layout>) -> Resu
     }
 }
 
+// Writes a load to a page, and says whether there was room for its line; where there was none the page is as before.
+fn fits_page(page: &mut Page, load: Load, layout: Option<&Layout>) -> bool
+    requires { IsNumberOf (option_map (λ l. l.now) layout) load.word }
+    ensures fits { result ≡ true → page.new.written ≡ page.old.written ++ load_line (option_map (λ l. l.now) layout.entry) load }
+    ensures kept { result ≡ false → page.new.written ≡ page.old.written }
+{
+    let count = page.len();
+    match write_load(page, load, layout) {
+        Ok(()) => true,
+        Err(_) => {
+            page.cut(count);
+            false
+        }
+    }
+}
+
+// Puts a load behind those of the page; where the page has no room for its line, those go out first.
+fn put_load<O: Sink>(
+    out: &mut O,
+    page: &mut Page,
+    load: Load,
+    layout: Option<&Layout>,
+) -> Result<(), WriteFault>
+    requires { IsNumberOf (option_map (λ l. l.now) layout) load.word }
+    ensures { Waits (O.state out.old) (O.state out.new) page.old.written page.new.written (load_line (option_map (λ l. l.now) layout.entry) load) result }
+{
+    if fits_page(page, load, layout) {
+        return Ok(());
+    }
+    hand_on(out, page)?;
+    if fits_page(page, load, layout) {
+        return Ok(());
+    }
+    write_load(out, load, layout)
+}
+
+// The lines of loads, which are gathered in a page, as there may be many.
 fn write_loads<O: Sink>(
     out: &mut O,
     loads: &[Load],
@@ -204,14 +244,15 @@ fn write_loads<O: Sink>(
     requires { All (λ l. IsNumberOf (option_map (λ l. l.now) layout) l.word) loads.now }
     ensures { Writes (O.state out.old) (O.state out.new) (flat_map (load_line (option_map (λ l. l.now) layout.entry)) loads.now) result }
 {
+    let mut page = Page::blank();
     for load in loads {
-        write_load(out, *load, layout)?;
+        put_load(out, &mut page, *load, layout)?;
     }
-    Ok(())
+    write_all(out, page.written())
 }
 
-/// Writes the report of a run by its parts: how it ended, the frames of its failure by the names of the module, the cells
-/// of the entry point, and the loads. Takes no memory.
+/// Writes the report of a run by its parts: the bytes that were written, where the message is made of a value, how it ended,
+/// the frames of its failure by the names of the module, the cells of the entry point, and the loads. Takes no memory.
 ///
 /// `WriteFault`: a write failed. What went out is a prefix of the report.
 #[tactic(auto, unfolding(crate::specs::Report::report))]
@@ -223,31 +264,31 @@ pub fn report_of_parts<O: Sink>(
     layout: Option<&Layout>,
     m: &Module,
     entry: Entry,
+    written: Option<&[u8]>,
     out: &mut O,
 ) -> Result<(), WriteFault>
     requires { All (λ l. IsNumberOf (option_map (λ l. l.now) layout) l.word) loads.now }
-    ensures { Writes (O.state out.old) (O.state out.new) (report (record { verdict = verdict; trace = trace.now; cells = cells.now }) m.now entry loads.now (option_map (λ l. l.now) layout.entry)) result }
+    ensures { Writes (O.state out.old) (O.state out.new) (report (record { verdict = verdict; trace = trace.now; cells = cells.now }) m.now entry loads.now (option_map (λ l. l.now) layout.entry) (option_map (λ w. w.now) written.entry)) result }
 {
+    write_written(out, written)?;
     write_verdict(out, verdict)?;
     write_trace(out, m, verdict, trace)?;
     write_cells(out, m, cells_of(m, entry), cells)?;
     write_loads(out, loads, layout)
 }
 
-/// Writes the report of a run: how it ended, the frames of its failure by the names of the module, the cells of the entry
-/// point, and the loads. Takes no memory.
-///
-/// `WriteFault`: a write failed. What went out is a prefix of the report.
-pub fn run_report<O: Sink>(
+// Writes the report of a run by its parts.
+fn report_by_line<O: Sink>(
     outcome: &Outcome,
     m: &Module,
     entry: Entry,
     loads: &Loads,
     layout: Option<&Layout>,
+    written: Option<&[u8]>,
     out: &mut O,
 ) -> Result<(), WriteFault>
     requires { All (λ l. IsNumberOf (option_map (λ l. l.now) layout) l.word) loads.now.list }
-    ensures { Writes (O.state out.old) (O.state out.new) (report outcome.now m.now entry loads.now.list (option_map (λ l. l.now) layout.entry)) result }
+    ensures { Writes (O.state out.old) (O.state out.new) (report outcome.now m.now entry loads.now.list (option_map (λ l. l.now) layout.entry) (option_map (λ w. w.now) written.entry)) result }
 {
     report_of_parts(
         outcome.verdict,
@@ -257,6 +298,31 @@ pub fn run_report<O: Sink>(
         layout,
         m,
         entry,
+        written,
         out,
     )
+}
+
+/// Writes the report of a run: the bytes that were written, where the message is made of a value, how it ended, the frames of
+/// its failure by the names of the module, the cells of the entry point, and the loads. A report of at most 4,096 bytes goes out by
+/// one write; of a longer one each line but those of loads, which are gathered in pages of as many bytes. Takes no memory.
+///
+/// `WriteFault`: a write failed. What went out is a prefix of the report.
+pub fn run_report<O: Sink>(
+    outcome: &Outcome,
+    m: &Module,
+    entry: Entry,
+    loads: &Loads,
+    layout: Option<&Layout>,
+    written: Option<&[u8]>,
+    out: &mut O,
+) -> Result<(), WriteFault>
+    requires { All (λ l. IsNumberOf (option_map (λ l. l.now) layout) l.word) loads.now.list }
+    ensures { Writes (O.state out.old) (O.state out.new) (report outcome.now m.now entry loads.now.list (option_map (λ l. l.now) layout.entry) (option_map (λ w. w.now) written.entry)) result }
+{
+    let mut page = Page::blank();
+    match report_by_line(outcome, m, entry, loads, layout, written, &mut page) {
+        Ok(()) => write_all(out, page.written()),
+        Err(_) => report_by_line(outcome, m, entry, loads, layout, written, out),
+    }
 }

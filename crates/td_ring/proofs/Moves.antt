@@ -18,10 +18,7 @@ use Rattle.td_ring.specs.declared.post.Post.{Post}
 use Rattle.td_ring.specs.declared.view.RingView.{RingView}
 use Rattle.td_roll.specs.Heads.{maybe_of, one_more, new_part, with_ended, with_more}
 use Rattle.td_ring.specs.Ring.{ring_view, head_put, part_put, head_take, part_take, KeepsPosts, CanPost, CanTake, did_post, did_take, both_heads, only_put, only_take, no_view, one_more_put, new_put, one_more_take, new_take, with_put, with_take, with_takes, Settled, Stood}
-
-Each-push : {A : Type 0} (P : A → Type 0) (xs : List A) (x : A) → Each P xs → P x → Each P (xs ++ x ∷ [])
-Each-push P [] x t p = (p, tt)
-Each-push P (y ∷ ys) x t p = (t.0, Each-push P ys x t.1 p)
+use Rattle.td_num.proofs.Lists.{each_push as Each-push}
 
 module _ (names : Post → Type 0) where
   pub begins : KeepsPosts names [] (both_heads ∷ [])

@@ -9,7 +9,9 @@ use Rattle.atomic_table.proofs.Lists.{at_set, set_else, at_longer, at_last}
 use Rattle.td_roll.specs.declared.parts.Part.{Part}
 use Rattle.td_roll.specs.declared.parts.Head.{Head}
 use Rattle.td_roll.specs.Roll.{Entry, part_of, head_of, added, IsInLog, count_of, IsHeld, Roll}
-use Rattle.td_roll.proofs.Views.{set_at, snoc_at, entries_of-same, entries_of-other, placed, put_same, put_other, two_numbers, some_apart, some_none, out_set, out-push, held_set, held_longer}
+use Rattle.td_roll.proofs.Views.{entries_of-same, entries_of-other, placed, put_same, put_other, out_set, out-push, held_set, held_longer}
+use Rattle.td_words.proofs.Steps.{set_at, two_numbers, some_apart, none_apart as some_none}
+use Rattle.td_words.proofs.Makes.{snoc_at}
 
 module _ {A V : Type 0} (head : V → Option (Head A)) (part : V → Option (Part A)) where
   module _ (views : List V) (log : List (Entry A)) (r : Roll head part views log) where

@@ -1,5 +1,5 @@
 -- What changes where one view is set, and where one is put behind the others.
-use Rattle.std.proofs.Common.{◌≡◌, ◌≢◌, ◌⊎◌, ℕ, zero, suc, ◌+◌, ◌<◌, ◌≤◌, Bool, true, false, eqb, cond, eq-eqb, ne_eqb, List, [], ◌∷◌, ◌++◌, length, set, refl, sym, ap, ◌∙◌, subst, inl, inr, ⊎_elim, arith}
+use Rattle.std.proofs.Common.{◌≡◌, ◌≢◌, ℕ, zero, suc, ◌+◌, ◌<◌, ◌≤◌, Bool, true, false, eqb, cond, eq-eqb, ne_eqb, List, [], ◌∷◌, ◌++◌, set, refl, sym, ap, ◌∙◌, subst, arith}
 use mathlib.Core.Option.{Option, none, some, some-injective, some-ne-none}
 use mathlib.Core.Logic.{dite}
 use native.Mathlib.Decide.{ℕ_discrete}
@@ -8,18 +8,7 @@ use Rattle.atomic_table.proofs.Lists.{set_else, at_longer}
 use Rattle.td_roll.specs.declared.parts.Part.{Part}
 use Rattle.td_roll.specs.declared.parts.Head.{Head}
 use Rattle.td_roll.specs.Roll.{Entry, entries_of, all_entries, count_of, parts_out, IsHeld}
-
--- ---- lists
-pub set_at : {A : Type 0} (l : List A) (i : ℕ) (a b : A) → get_elem? l i ≡ some a → get_elem? (set l i b) i ≡ some b
-set_at [] i a b e = absurd (some-ne-none a (sym e))
-set_at (x ∷ xs) zero a b e = refl
-set_at (x ∷ xs) (suc i) a b e = set_at xs i a b e
-
-pub snoc_at : {A : Type 0} (l : List A) (a b : A) (j : ℕ) → get_elem? (l ++ a ∷ []) j ≡ some b → (get_elem? l j ≡ some b) ⊎ ((j ≡ length l) × (a ≡ b))
-snoc_at [] a b zero e = inr (refl, some-injective a b e)
-snoc_at [] a b (suc j) e = absurd (some-ne-none b (sym e))
-snoc_at (x ∷ xs) a b zero e = inl e
-snoc_at (x ∷ xs) a b (suc j) e = ⊎_elim (λ t. inl t) (λ (t : (j ≡ length xs) × (a ≡ b)). inr (ap suc t.0, t.1)) (snoc_at xs a b j e)
+use Rattle.td_words.proofs.Steps.{set_at}
 
 -- ---- logs
 module _ {A : Type 0} where
@@ -49,15 +38,6 @@ put_same place_of n x = ap (λ b. cond b x (place_of n)) (eq-eqb n n refl)
 
 pub put_other : (place_of : ℕ → Option ℕ) (n : ℕ) (x : Option ℕ) (k : ℕ) → k ≢ n → placed place_of n x k ≡ place_of k
 put_other place_of n x k ne = ap (λ b. cond b x (place_of k)) (ne_eqb k n ne)
-
-pub two_numbers : (place_of : ℕ → Option ℕ) (a b : ℕ) (x y : Option ℕ) → place_of a ≡ x → place_of b ≡ y → x ≢ y → a ≢ b
-two_numbers place_of a b x y p q ne e = ne (sym p ∙ (ap place_of e ∙ q))
-
-pub some_apart : (i j : ℕ) → i ≢ j → some i ≢ some j
-some_apart i j ne e = ne (some-injective i j e)
-
-pub some_none : (j : ℕ) → some j ≢ none
-some_none j e = some-ne-none j e
 
 pub only : {V : Type 0} (P : ℕ → V → Type 0) (v : V) → P 0 v → (i : ℕ) (u : V) → get_elem? (v ∷ []) i ≡ some u → P i u
 only P v p zero u e = subst (P 0) (some-injective v u e) p

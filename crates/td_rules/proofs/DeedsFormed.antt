@@ -24,7 +24,8 @@ use Rattle.td_rules.specs.declared.known.Scope.{Scope}
 use Rattle.td_rules.specs.Known.{found_in, slots_at}
 use Rattle.td_rules.specs.Sorts.{core_of, start_core}
 use Rattle.td_rules.specs.Actions.{cell_of, slot_cell, slot_at, row_cell, stored_cell, stored_slot, with_read, scope_after, inside, set_core, read_core, statement_core, block_core, action_core}
-use Rattle.td_rules.proofs.Scopes.{bounds_of, slot_bound, IsRowThere, IsScope, IsFoundThere, found_there, local_scope, value_scope, inside_scope, whole_small, whole_pos, wide_enough, limit_pos, core_scoped, start_scoped, start_type}
+use Rattle.td_rules.proofs.Scopes.{bounds_of, slot_bound, IsRowThere, IsScope, IsFoundThere, found_there, local_scope, value_scope, inside_scope, whole_small, whole_pos, core_scoped, start_scoped, start_type}
+use Rattle.td_expr.proofs.Widths.{limit_pos, wide_enough}
 
 abbrev IsTargetThere : List Bound → Target → Type 0
 IsTargetThere cells target.Unknown = Unit {0}

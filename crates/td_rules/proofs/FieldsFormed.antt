@@ -50,8 +50,9 @@ use Rattle.td_rules.specs.Types.{same_number, number_found, number_of_kind, args
 use Rattle.td_rules.specs.Extents.{is_width, zero_ended, extent_core, allowed, bit_width}
 use Rattle.td_rules.specs.BitFields.{fits_room, unit_bits, part_of, whole_field, new_unit, more_bits, room_of, grown, closed, gathered}
 use Rattle.td_rules.specs.Fields.{found_base, base_of, readable_bits, readable_base, readable_of, with_readable, with_field, refinement_core, flat_of, flats_of, fields_core}
-use Rattle.td_rules.proofs.Scopes.{bounds_of, IsScope, level_scope, value_scope, whole_small, whole_pos, wide_enough, limit_pos, core_scoped, option_scoped}
+use Rattle.td_rules.proofs.Scopes.{bounds_of, IsScope, level_scope, value_scope, whole_small, whole_pos, core_scoped, option_scoped}
 use Rattle.td_rules.proofs.DeedsFormed.{action_formed}
+use Rattle.td_expr.proofs.Widths.{limit_of_bytes as limit_is, limit_pos, wide_enough}
 
 -- Types with arguments
 
@@ -128,12 +129,6 @@ bit_bound (element.Named j es cells) extent w = part_bound (element.Named j es c
 bit_bound element.Unit extent w = part_bound element.Unit extent None
 bit_bound element.Rest extent w = part_bound element.Rest extent None
 bit_bound element.Zeros extent w = part_bound element.Zeros extent None
-
-limit_is : (w : Width) → limit (scalar_of w) ≡ 2 ^ (8 * bytes_in w)
-limit_is One = refl
-limit_is Two = refl
-limit_is Four = refl
-limit_is Eight = refl
 
 bits_small : (width : Width) (w : ℕ) → w ≤ 8 * bytes_in width → 2 ^ w - 1 < limit (scalar_of width)
 bits_small width w le =

@@ -1,6 +1,6 @@
 -- The fields of a tree's module are whole: bit fields lie in their numbers, refinements stand on numbers, arrays up to a
 -- zero have numbers, and enums have their values.
-use Rattle.std.proofs.Common.{◌≡◌, ◌⊎◌, inl, inr, ℕ, zero, ◌+◌, ◌-◌, ◌*◌, ◌<◌, ◌≤◌, Bool, true, false, cond, ◌&&◌, if◌then◌else◌, List, [], ◌∷◌, ◌++◌, length, refl, sym, ap, ◌∙◌, subst, arith, Option, Some, None, is_some, nat_le, nat_lt, nat_eq, slice_get, length-append}
+use Rattle.std.proofs.Common.{◌≡◌, ◌⊎◌, inl, inr, ℕ, ◌+◌, ◌-◌, ◌*◌, ◌<◌, ◌≤◌, Bool, true, false, cond, ◌&&◌, if◌then◌else◌, List, [], ◌∷◌, ◌++◌, length, refl, sym, ap, ◌∙◌, subst, arith, Option, Some, None, is_some, nat_le, nat_lt, nat_eq, slice_get, length-append}
 use Rattle.std.proofs.lemmas.Bool.{leb-true, ltb-true, and_parts}
 use Rattle.std.proofs.lemmas.Option.{none-some, same_Some}
 use Rattle.std.specs.Str.{bytes_eq}
@@ -59,8 +59,9 @@ use Rattle.td_rules.specs.Casetypes.{cases_core, default_core}
 use Rattle.td_rules.specs.Definitions.{struct_head, struct_scope, struct_core, casetype_head, casetype_core, after, known_after}
 use Rattle.td_rules.specs.Modules.{names_of, module_of}
 use Rattle.td_rules.specs.Laws.{FieldsAreWhole}
-use Rattle.td_rules.proofs.Whole.{each_append, gathered_each, has_more}
+use Rattle.td_rules.proofs.Whole.{gathered_each, has_more}
 use Rattle.td_rules.proofs.FieldsFormed.{width_same}
+use Rattle.td_num.proofs.Lists.{each_append}
 
 -- Units
 

@@ -65,8 +65,9 @@ use Rattle.td_rules.specs.Casetypes.{case_breaches, case_taken, cases_breaches, 
 use Rattle.td_rules.specs.Definitions.{struct_head, struct_scope, struct_breaches, struct_core, casetype_head, casetype_breaches, casetype_core, definition_breaches, definitions_breaches, after, known_after}
 use Rattle.td_rules.specs.Modules.{names_of}
 use Rattle.td_rules.specs.Laws.{ModulesAreSorted}
-use Rattle.td_rules.proofs.Whole.{each_append, gathered_each}
-use Rattle.td_rules.proofs.Sorting.{left_none, right_none, scalar_number, HasNumbers, numbers_declared, number_sorted, truth_sorted, fitting_sorted, test_sorted}
+use Rattle.td_rules.proofs.Whole.{gathered_each}
+use Rattle.td_rules.proofs.Sorting.{scalar_number, HasNumbers, numbers_declared, number_sorted, truth_sorted, fitting_sorted, test_sorted}
+use Rattle.td_num.proofs.Lists.{each_append, left_none, right_none}
 
 -- Actions
 

@@ -1,4 +1,4 @@
--- Each name of a tree's module has its bytes, and no two have the same.
+-- Each name of a tree's module has its bytes, and no two have the same. Cited by other crates.
 use Rattle.std.proofs.Common.{◌≡◌, ℕ, zero, suc, ◌+◌, ◌<◌, Bool, true, false, cond, not, ◌||◌, if◌then◌else◌, List, [], ◌∷◌, ◌++◌, length, map, refl, sym, ap, ◌∙◌, subst, arith, Option, Some, None, slice_get}
 use Rattle.std.proofs.lemmas.Bool.{false≢true}
 use Rattle.std.proofs.lemmas.Slice.Eq.{bytes_eq-Decides}
@@ -37,7 +37,8 @@ use Rattle.td_rules.specs.Records.{slot_of, with_slots}
 use Rattle.td_rules.specs.Definitions.{struct_head, struct_scope, struct_core, casetype_head, casetype_core, after, known_after}
 use Rattle.td_rules.specs.Modules.{param_name, see_params, see_fields, see_cases, see_default, see_struct, see_casetype, see_definition, all_names, names_of, module_of}
 use Rattle.td_rules.specs.Laws.{ModulesAreNamed, NamesAreApart}
-use Rattle.td_rules.proofs.Whole.{each_append, gathered_each}
+use Rattle.td_rules.proofs.Whole.{gathered_each}
+use Rattle.td_num.proofs.Lists.{each_append}
 
 -- Names that are seen
 
@@ -295,11 +296,11 @@ eq_turned a b e = by (bytes_eq b a) refl
     by false f = refl
     by true f = absurd (false≢true (sym e ∙ (bytes_eq-Decides a b).1 (sym ((bytes_eq-Decides b a).0 f))))
 
-or_left : (a b : Bool) → (a || b) ≡ false → a ≡ false
+pub or_left : (a b : Bool) → (a || b) ≡ false → a ≡ false
 or_left false b e = refl
 or_left true b e = cc
 
-or_right : (a b : Bool) → (a || b) ≡ false → b ≡ false
+pub or_right : (a b : Bool) → (a || b) ≡ false → b ≡ false
 or_right false b e = e
 or_right true b e = cc
 

@@ -1,9 +1,7 @@
 -- What a scope says of its local names, and that core expressions stand in it. The bounds are those of the values in scope.
-use Rattle.std.proofs.Common.{◌≡◌, ℕ, zero, suc, ◌+◌, ◌-◌, ◌<◌, ◌≤◌, Bool, true, false, cond, if◌then◌else◌, List, [], ◌∷◌, ◌++◌, length, map, refl, ap, ◌∙◌, subst, arith, Option, Some, None, slice_get, is_some, nat_lt, nat_le, lit<, length-append}
+use Rattle.std.proofs.Common.{◌≡◌, ℕ, zero, suc, ◌+◌, ◌-◌, ◌<◌, ◌≤◌, Bool, true, false, cond, if◌then◌else◌, List, [], ◌∷◌, ◌++◌, length, map, refl, ap, ◌∙◌, subst, arith, Option, Some, None, slice_get, is_some, nat_lt, lit<, length-append}
 use Rattle.std.specs.Str.{bytes_eq}
-use Rattle.std.proofs.Math.Nat.{pow-le-pow_right}
-use Rattle.std.proofs.lemmas.Bool.{ltb-true, leb-true}
-use Rattle.std.proofs.lemmas.Nat.{pow_pos}
+use Rattle.std.proofs.lemmas.Bool.{ltb-true}
 use Rattle.std.proofs.lemmas.Option.{none-some, same_Some}
 use Rattle.td_num.specs.declared.number.NumberType.{NumberType}
 use Rattle.td_ast.specs.declared.expressions.UnaryOperator.{UnaryOperator}
@@ -14,7 +12,7 @@ use Rattle.td_ast.specs.Trees as tree
 use Rattle.td_core.specs.declared.expressions.Scalar.{Scalar}
 use Rattle.td_core.specs.declared.expressions.Scalar.TheVariants.{Truth, Eight, Sixteen, ThirtyTwo, SixtyFour}
 use Rattle.td_core.specs.Term.{Term, number}
-use Rattle.td_core.specs.Types.{bits, limit, wider, type_of}
+use Rattle.td_core.specs.Types.{limit, wider, type_of}
 use Rattle.td_core.specs.Formed.{Bound, scalar_of, whole, cell_bound, IsScoped, IsOptionScoped}
 use Rattle.td_core.specs.declared.module.CellKind.{CellKind}
 use Rattle.td_names.specs.Names.{looked_up, declared}
@@ -35,11 +33,9 @@ use Rattle.td_rules.specs.declared.known.Known.{Known}
 use Rattle.td_rules.specs.declared.known.Scope.{Scope}
 use Rattle.td_rules.specs.Known.{slots_at, global_found, local_found, found_in, with_local, with_level, with_value}
 use Rattle.td_rules.specs.Sorts.{operation, narrowest, literal_type, sort_of, literal_of, found_core, start_core, size_core, truth_core, beside, unary_core, operation_core, range_core, core_of, option_core, size_named}
+use Rattle.td_expr.proofs.Widths.{limit_pos}
 
 -- Limits of types
-
-pub limit_pos : (w : Scalar) → 0 < limit w
-limit_pos w = pow_pos (bits w)
 
 pub whole_small : (w : Scalar) → (whole w).most < limit w
 whole_small w = omega (arith, limit_pos w)
@@ -50,9 +46,6 @@ whole_pos Eight = lit< tt
 whole_pos Sixteen = lit< tt
 whole_pos ThirtyTwo = lit< tt
 whole_pos SixtyFour = lit< tt
-
-pub wide_enough : (v w : Scalar) → nat_le (bits v) (bits w) ≡ true → limit v ≤ limit w
-wide_enough v w h = pow-le-pow_right (omega arith) (leb-true (bits v) (bits w) h)
 
 -- Lists
 

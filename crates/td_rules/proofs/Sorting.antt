@@ -1,4 +1,4 @@
--- In an expression that breaks no rule, truth values stand where truth values must, and numbers where numbers must.
+-- In an expression that breaks no rule, truth values stand where truth values must, and numbers where numbers must. Cited by other crates.
 use Rattle.std.proofs.Common.{◌≡◌, ◌≢◌, ℕ, ◌+◌, Bool, true, false, cond, not, ◌&&◌, ◌||◌, if◌then◌else◌, List, [], ◌∷◌, ◌++◌, refl, sym, ◌∙◌, subst, Option, Some, None, is_some, is_none, nat_lt, nat_le}
 use Rattle.std.proofs.lemmas.Option.{none-some, same_Some}
 use Rattle.std.specs.Str.{bytes_eq}
@@ -38,16 +38,10 @@ use Rattle.td_rules.specs.Breach.{when}
 use Rattle.td_rules.specs.Known.{global_found, local_found, found_in}
 use Rattle.td_rules.specs.Sorts.{operation, narrowest, type_alone, literal_type, type_beside, typed_by, computed_sort, operation_sort, typed, unary_sort, choice_sort, size_found, size_named, size_sort, found_sort, start_sort, sort_of, literal_of, found_core, start_core, size_core, truth_core, beside, unary_core, operation_core, range_core, core_of, option_core}
 use Rattle.td_rules.specs.ExprRules.{is_truth, is_number, name_breaches, is_nothing, is_type, size_breaches, wanted_number, is_wrong_operand, are_wrong_operands, is_wrong_choice, expr_breaches, number_breaches, truth_breaches, fitting_breaches, test_breaches}
+use Rattle.td_num.proofs.Lists.{left_none, right_none}
+use Rattle.td_rules.proofs.Naming.{or_left, or_right}
 
 -- Lists without breaches
-
-pub left_none : {A : Type 0} (xs ys : List A) → xs ++ ys ≡ [] → xs ≡ []
-left_none [] ys e = refl
-left_none (x ∷ xs) ys e = cc
-
-pub right_none : {A : Type 0} (xs ys : List A) → xs ++ ys ≡ [] → ys ≡ []
-right_none [] ys e = e
-right_none (x ∷ xs) ys e = cc
 
 pub when_none : (b : Bool) (r : Rule) (s : Span) → when b r s ≡ [] → b ≡ false
 when_none false r s e = refl
@@ -201,14 +195,6 @@ beside_sorted sort.Truth t a b h g e = cc
 beside_sorted (sort.Literal n) t a b h g e = literal_sorted n (literal_type n t) (literal_number n t b g)
 beside_sorted (sort.Typed w) t a b h g e = h.1
 
-or_left : (a b : Bool) → (a || b) ≡ false → a ≡ false
-or_left false b e = refl
-or_left true b e = cc
-
-or_right : (a b : Bool) → (a || b) ≡ false → b ≡ false
-or_right false b e = e
-or_right true b e = cc
-
 typed_both : (f : Scalar → Scalar → Scalar) (o p : Option Scalar) (v w : Scalar) → o ≡ Some v → p ≡ Some w → typed_by f o p ≡ sort.Typed (f v w)
 typed_both f o p v w e g = λ i. typed_by f (e i) (g i)
 
@@ -315,7 +301,7 @@ found_sized k f own place e =
     by false true c p q r = r
     by false false c p q r = cc
 
-sized : (k : Known) (s : Scope) (own place : Span) (z : SizeofOperand) → size_breaches k s own z place ≡ [] → is_none (size_named k s z) ≡ false
+pub sized : (k : Known) (s : Scope) (own place : Span) (z : SizeofOperand) → size_breaches k s own z place ≡ [] → is_none (size_named k s z) ≡ false
 sized k s own place (operand.Number t) e = refl
 sized k s own place (operand.Name n) e = found_sized k (found_in k s n) own place e
 sized k s own place operand.This e = when_none (is_none s.this) NotConstant own e

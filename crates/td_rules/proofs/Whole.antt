@@ -24,10 +24,7 @@ use Rattle.td_rules.specs.Casetypes.{cases_core, default_core}
 use Rattle.td_rules.specs.Definitions.{entry_more, struct_head, struct_scope, struct_core, casetype_head, casetype_core, after, known_after}
 use Rattle.td_rules.specs.Modules.{names_of, module_of}
 use Rattle.td_rules.specs.Laws.{ModulesAreWhole}
-
-pub each_append : {A : Type 0} (P : A → Type 0) (xs ys : List A) → Each P xs → Each P ys → Each P (xs ++ ys)
-each_append P [] ys h g = g
-each_append P (x ∷ xs) ys h g = (h.0, each_append P xs ys h.1 g)
+use Rattle.td_num.proofs.Lists.{each_append}
 
 -- what holds of the fields that are gathered: of a field with one part, of a unit that begins, and of one that goes on
 module _ (P : Field → Type 0) (Q : FlatField → Type 0) (U : OpenUnit → Type 0)

@@ -7,8 +7,9 @@ use Rattle.std.proofs.lemmas.List.Elements.{All-head, All-tail, All-nil, All-con
 use Rattle.td_sched.specs.declared.store.PlannedStore.{PlannedStore}
 use Rattle.td_sched.specs.Plan.{to_word, last_value}
 use Rattle.td_sched.specs.Invariant.{due, NeverFalls}
-use Rattle.td_sched.proofs.Memory.{keeps, drops, eq_true}
+use Rattle.td_sched.proofs.Memory.{keeps, drops}
 use Rattle.td_sched.proofs.Turns.{none, le_true, le_false}
+use Rattle.td_num.proofs.Truths.{eq_is as is_word, is_eq as eq_true}
 
 -- a store to this word comes in time for load k, or doesn't
 abbrev pub InTime : ℕ → ℕ → PlannedStore → Type 0
@@ -16,9 +17,6 @@ InTime k i s = s.word ≡ i → s.before ≤ k
 
 abbrev pub TooLate : ℕ → ℕ → PlannedStore → Type 0
 TooLate k i s = s.word ≡ i → k < s.before
-
-is_word : (a b : ℕ) → nat_eq a b ≡ true → a ≡ b
-is_word a b h = grind arith
 
 -- where all that pass a test have a property, each has it that passes
 from_filter : (p : PlannedStore → Bool) (Q : PlannedStore → Type 0) (xs : List PlannedStore) → All Q (filter p xs) → All (λ (s : PlannedStore). p s ≡ true → Q s) xs

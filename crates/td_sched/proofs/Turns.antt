@@ -15,7 +15,9 @@ use Rattle.td_stream.specs.declared.load.Load.{Load}
 use Rattle.td_sched.specs.declared.store.PlannedStore.{PlannedStore}
 use Rattle.td_sched.specs.Plan.{numbered, up_to, to_word, at, ArePlanned}
 use Rattle.td_sched.specs.Invariant.{due, NeverFalls, AreOfPlan}
-use Rattle.td_sched.proofs.Memory.{keeps, drops, eq_true}
+use Rattle.td_sched.proofs.Memory.{keeps, drops}
+use Rattle.td_num.proofs.Equals.{unequal_below as eq_false_lt}
+use Rattle.td_num.proofs.Truths.{is_eq as eq_true}
 
 abbrev pub none : PlannedStore
 none = record { before = 0; word = 0; value = 0 }
@@ -44,9 +46,6 @@ le_true a b h = grind arith
 
 pub le_false : (a b : ℕ) → b < a → leb a b ≡ false
 le_false a b h = grind arith
-
-eq_false_lt : (a b : ℕ) → a < b → nat_eq a b ≡ false
-eq_false_lt a b h = grind arith
 
 eq_false_gt : (a b : ℕ) → b < a → nat_eq a b ≡ false
 eq_false_gt a b h = grind arith

@@ -6,3 +6,6 @@ mod held;
 pub mod laws;
 pub mod planned;
 pub mod store;
+
+pub use planned::Planned;
+pub use store::PlannedStore;

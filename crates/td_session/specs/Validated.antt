@@ -4,13 +4,12 @@ use Rattle.td_core.specs.declared.module.Entry.{Entry}
 use Rattle.td_core.specs.declared.module.Module.{Module}
 use Rattle.td_core.specs.declared.outcome.Outcome.{Outcome}
 use Rattle.td_expr.specs.Sound.{Sound}
-use Rattle.td_meaning.specs.Meaning.{meaning}
 use Rattle.td_meaning.specs.Throughout.{Throughout}
 use Rattle.td_stream.specs.declared.load.Load.{Load}
 use Rattle.td_stream.specs.declared.stretch.Stretch.{Stretch}
 use Rattle.td_stream.specs.Layouts.{length_in}
 use Rattle.td_stream.specs.Loads.{Carries, Inside, IsRising}
-use Rattle.td_leaves.specs.Outcomes.{IsBehaviorOf}
+use Rattle.td_leaves.specs.Outcomes.{IsMeant}
 use Rattle.td_ir.specs.declared.tables.Parts.{Parts}
 use Rattle.td_ir.specs.Run.{run}
 use Rattle.td_lowered.specs.CodeRun.{IsCodeOf}
@@ -27,6 +26,6 @@ pub record IsValidated (c : Parts) (entry : Entry) (args cells : List ℕ) (layo
   pub run : (b : List ℕ) → Carries layout b loads → IsRun layout loads (run c entry args cells b) outcome 0 (run c entry args cells b).steps
   -- where the code is a module's, the outcome is what the module means
   pub behavior : (m : Module) (b : List ℕ) → IsCodeOf c m → Carries layout b loads
-      → Throughout Sound m entry args cells b → IsBehaviorOf layout loads (meaning m entry args cells b) outcome
+      → Throughout Sound m entry args cells b → IsMeant layout m entry args cells b loads outcome
   -- the entry point has as many cells as before
   pub count : length outcome.cells ≡ length cells

@@ -6,3 +6,5 @@
 pub mod session;
 pub mod tables;
 pub mod threads;
+
+pub use session::Session;

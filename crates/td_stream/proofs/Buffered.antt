@@ -1,12 +1,10 @@
 -- Loads, each message word named by its word of the buffer.
-use Rattle.std.proofs.Common.{◌≡◌, ℕ, ◌+◌, ◌-◌, ◌*◌, ◌/◌, ◌<◌, ◌≤◌, inl, inr, Option, Some, None, List, [], ◌∷◌, ◌++◌, length, refl, sym, ap, ◌∙◌, subst, arith}
-use Rattle.std.specs.Prelude.{map}
-use Rattle.std.specs.List.{All}
+use Rattle.std.proofs.Common.{◌≡◌, ℕ, ◌+◌, ◌-◌, ◌*◌, ◌<◌, ◌≤◌, inl, inr, Option, Some, None, List, [], ◌∷◌, ◌++◌, length, refl, ap, arith}
 use Rattle.std.proofs.lemmas.List.{map_push, length-map}
 use Rattle.std.proofs.lemmas.List.Elements.{All-head, All-tail}
 use Rattle.td_stream.specs.declared.load.Load.{Load}
 use Rattle.td_stream.specs.declared.stretch.Stretch.{Stretch}
-use Rattle.td_stream.specs.Layouts.{words_in, count_in, pair_at, buffer_word, named, counted, AreWithin, IsOver}
+use Rattle.td_stream.specs.Layouts.{words_in, count_in, buffer_word, named, counted, AreWithin, IsOver}
 use Rattle.td_stream.specs.Loads.{buffered}
 use Rattle.td_stream.proofs.Layouts.{below_or, words_some, words_none, pair_here, pair_there}
 

@@ -1,12 +1,12 @@
 -- Places and words of a layout.
-use Rattle.std.proofs.Common.{◌≡◌, ℕ, zero, suc, ◌+◌, ◌-◌, ◌*◌, ◌/◌, ◌%◌, ◌^◌, ◌<◌, ◌≤◌, min, ◌⊎◌, inl, inr, cond, nat_eq, true, false, List, [], ◌∷◌, ◌++◌, length, refl, sym, ap, ◌∙◌, subst, arith, take, get_or}
-use Rattle.std.specs.Prelude.{nat_le, map}
+use Rattle.std.proofs.Common.{◌≡◌, ℕ, zero, suc, ◌+◌, ◌-◌, ◌*◌, ◌/◌, ◌%◌, ◌^◌, ◌<◌, ◌≤◌, min, ◌⊎◌, inl, inr, cond, List, [], ◌∷◌, ◌++◌, length, refl, sym, ap, ◌∙◌, arith, get_or}
+use Rattle.std.specs.Prelude.{map}
 use Rattle.std.proofs.lemmas.List.{get_or-map, length-map}
 use Rattle.std.proofs.lemmas.Bool.{ne_eqb, eq-eqb, le-leb, lt-leb}
 use Rattle.std.proofs.lemmas.Bool.Decides.{leb_tells}
 use Rattle.td_stream.specs.declared.stretch.Stretch.{Stretch}
 use Rattle.td_stream.specs.declared.layout.Part.{Part}
-use Rattle.td_stream.specs.Layouts.{words_in, length_in, count_in, place_at, offset_at, word_at, pair_at, plain}
+use Rattle.td_stream.specs.Layouts.{words_in, length_in, count_in, place_at, offset_at, word_at, pair_at}
 use Rattle.td_stream.specs.Parts.{stretch_of, IsSound, AreLaid, IsPart, start_of, first_of}
 
 pub below_or : (a b : ℕ) → (a < b) ⊎ (b ≤ a)

@@ -13,7 +13,6 @@ use Rattle.serde_json.specs.Data.{Data, Items, no_items, item}
 use Rattle.serde_json.specs.Events.{items_len}
 use Rattle.serde_json.specs.Find.{as_array}
 use Rattle.td_stream.specs.declared.layout.TheConstants.{MOST_STRETCHES}
-use Rattle.td_stream.specs.declared.stretch.Stretch.{Stretch}
 use Rattle.td_core.specs.declared.module.Module.{Module}
 use Rattle.td_sched.specs.declared.store.PlannedStore.{PlannedStore}
 use Rattle.td_job.specs.declared.error.Key.TheVariants as key
@@ -29,7 +28,7 @@ use Rattle.td_job.specs.Jobs.{length_faults, given_bytes, Spelled, spelled_store
 use Rattle.td_told.specs.Laws.{AreSized, IsSized, JobsAreSized}
 use Rattle.td_job.proofs.Bytes.{AreBytes, rising_small}
 use Rattle.td_job.proofs.Numbers.{both_empty, not_over}
-use Rattle.td_job.proofs.Scattered.{short, lies_there}
+use Rattle.td_job.proofs.Scattered.{short, lies_there, one_at_most as few_of}
 use Rattle.td_job.proofs.Unique.{within, all_fit}
 use Rattle.td_told.proofs.Reading.{Small, SmallItems, read_small, field_small, list_small, stretches_low}
 
@@ -70,10 +69,6 @@ listed_small None = All-nil SmallStore
 listed_small (Some values) = each_small values
 
 -- ---- stretches
-
-few_of : (o : Option Stretch) → length (stretch_of o) ≤ 1
-few_of None = omega arith
-few_of (Some s) = omega arith
 
 few_each : (values : Items) → length (each_stretch values) ≤ items_len values
 few_each no_items = omega arith

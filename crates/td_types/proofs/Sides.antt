@@ -1,7 +1,6 @@
 -- Arguments and parameters side by side.
 use Rattle.std.proofs.Common.{◌≡◌, ℕ, suc, ◌+◌, Some, None, inl, inr, drop, Bool, true, false, ◌&&◌, nat_le, List, [], ◌∷◌, ◌++◌, length, slice_get, is_some, refl, sym, ap, ◌∙◌}
 use Rattle.std.proofs.lemmas.Option.{none-some, slice_get_within, slice_get_cases, get_or_from_slice_get}
-use Rattle.td_actions.proofs.Turns.{split, done}
 use Rattle.td_ast.specs.Trees.{Tree}
 use Rattle.td_core.specs.Term.{Term}
 use Rattle.td_core.specs.declared.module.Cell.{Cell}
@@ -15,6 +14,8 @@ use Rattle.td_rules.specs.Types.{cells_named, are_applied, args_breaches, args_c
 use Rattle.td_core.specs.Types.{bits, type_of}
 use Rattle.td_core.specs.Formed.{scalar_of}
 use Rattle.td_types.specs.Runs.{term_of, arg_breaches, cells_of}
+use Rattle.td_num.proofs.Truths.{all_dropped as done}
+use Rattle.td_num.proofs.Lists.{drop_next as split}
 
 and_false : (a : Bool) → (a && false) ≡ false
 and_false true = refl

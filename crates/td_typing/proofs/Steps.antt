@@ -1,4 +1,4 @@
--- The first of two lists.
+-- The first of two lists. Cited by other crates.
 use Rattle.std.proofs.Common.{◌≡◌, List, [], ◌∷◌, ◌++◌, Option, refl}
 use Rattle.td_rules.specs.declared.breach.Breach.{Breach}
 use Rattle.td_rules.specs.Breach.{first_of, sooner}

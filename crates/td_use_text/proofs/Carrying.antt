@@ -1,16 +1,17 @@
 -- A message carries the loads of the words that it fills, where nobody stores to them.
-use Rattle.std.proofs.Common.{◌≡◌, ◌↔◌, ℕ, zero, suc, ◌+◌, ◌*◌, ◌/◌, ◌%◌, ◌<◌, ◌≤◌, List, [], ◌∷◌, ◌++◌, None, length, slice_index, refl, sym, subst, ap, ◌∙◌, arith}
+use Rattle.std.proofs.Common.{◌≡◌, ◌↔◌, ℕ, zero, suc, ◌+◌, ◌*◌, ◌≤◌, List, [], ◌∷◌, None, length, slice_index, refl, sym, subst, ap, ◌∙◌, arith}
 use Rattle.std.specs.List.{All}
 use Rattle.std.proofs.lemmas.List.Elements.{All-nil, All-cons}
-use Rattle.td_num.specs.Numbers.{byte_of, byte_at}
+use Rattle.td_num.specs.Numbers.{byte_of}
 use Rattle.td_job.specs.Words.{IsFilled}
 use Rattle.td_stream.specs.declared.load.Load.{Load}
 use Rattle.td_stream.specs.Layouts.{plain}
 use Rattle.td_stream.specs.Loads.{Carries, buffered}
 use Rattle.td_stream.specs.Laws.{AgreesPlain}
 use Rattle.td_sched.specs.declared.store.PlannedStore.{PlannedStore}
-use Rattle.td_sched.specs.Plan.{ArePlanned, at, up_to, to_word, last_value}
-use Rattle.td_sched.specs.View.{PlannedView, PlannedReaches}
+use Rattle.td_sched.specs.Plan.{ArePlanned, at, up_to}
+use Rattle.td_sched.specs.View.{PlannedView}
+use Rattle.td_job.proofs.Bytes.{byte_there}
 
 no_stores : (k : ℕ) → up_to k [] ≡ []
 no_stores zero = refl
@@ -18,12 +19,6 @@ no_stores (suc k) = rw (no_stores k) refl
 
 as_opened : (words : List ℕ) (k i : ℕ) → at words [] k i ≡ slice_index words i
 as_opened words k i = rw (no_stores k) refl
-
-byte_there : (words : List ℕ) (i k : ℕ) → k < 8 → byte_at words (8 * i + k) ≡ byte_of (slice_index words i) k
-byte_there words i k small =
-    let word : (8 * i + k) / 8 ≡ i = omega arith in
-    let byte : (8 * i + k) % 8 ≡ k = omega arith in
-    rw (word, byte) refl
 
 agrees : (message words : List ℕ) (n : ℕ) (l : Load) → IsFilled message n words → length message ≤ 8 * length words → l.value ≡ slice_index words l.word → AgreesPlain message l
 agrees message words n l filled enough value = λ k small inside.

@@ -1,41 +1,28 @@
 -- What the code of a module says of a message is what the module means.
-use Rattle.std.proofs.Common.{◌≡◌, ℕ, ◌<◌, ◌^◌, List, [], length, refl, sym, ap, ◌∙◌, subst, Some, arith}
-use Rattle.std.proofs.lemmas.Option.{same_Some}
+use Rattle.std.proofs.Common.{◌≡◌, ℕ, ◌<◌, ◌^◌, List, [], length, subst, arith}
 use Rattle.td_num.specs.Lists.{AreBytes}
 use Rattle.td_core.specs.declared.module.Module.{Module}
 use Rattle.td_core.specs.declared.module.Entry.{Entry}
 use Rattle.td_core.specs.declared.outcome.Outcome.{Outcome}
-use Rattle.td_core.specs.Outcome.{Behavior, Ending, Accepted, Rejected, outcome_of}
 use Rattle.td_stream.specs.declared.load.Load.{Load}
 use Rattle.td_stream.specs.declared.stretch.Stretch.{Stretch}
 use Rattle.td_stream.specs.Layouts.{plain}
-use Rattle.td_stream.specs.Loads.{Carries, Exactly}
+use Rattle.td_stream.specs.Loads.{Carries}
 use Rattle.td_meaning.specs.Meaning.{meaning}
-use Rattle.td_leaves.specs.Outcomes.{IsBehaviorOf}
+use Rattle.td_leaves.specs.Outcomes.{IsMeant}
 use Rattle.td_ir.specs.declared.tables.Parts.{Parts}
-use Rattle.td_ir.specs.State.{Exit}
 use Rattle.td_ir.specs.Run as code
 use Rattle.td_vm.specs.Outcomes.{IsRun}
 use Rattle.td_vm.specs.Outcomes as run
-use Rattle.td_lowered.specs.CodeRun.{way_of, IsMeaning}
 use Rattle.td_coding.specs.Coding.{DoesWhatItMeans}
 use Rattle.td_use_text.specs.Reports.{Begins}
-
-same_outcome : (e : Ending) → run.outcome_of (way_of e) ≡ Some (outcome_of e)
-same_outcome (Accepted position cells) = refl
-same_outcome (Rejected reason position trace cells) = refl
-
-behaves : (layout : List Stretch) (loads : List Load) (exit : Exit) (behavior : Behavior) (outcome : Outcome) (before after : ℕ) → IsRun layout loads exit outcome before after → IsMeaning exit behavior → IsBehaviorOf layout loads behavior outcome
-behaves layout loads exit behavior outcome before after r m = record {
-  same = same_Some (outcome_of behavior.ending) outcome (sym (same_outcome behavior.ending) ∙ sym (ap run.outcome_of m.way) ∙ r.outcome_is);
-  exact = subst (Exactly layout loads) m.touched r.exact;
-}
+use Rattle.td_compiled.proofs.Behaving.{behaves}
 
 -- on each message that carries the loads; the cells were set, and the layout is a plain one
 pub means : (c : Parts) (m : Module) (entry : Entry) (n : ℕ) (loads : List Load) (cells cells' : List ℕ) (layout : List Stretch) (outcome : Outcome)
     → cells' ≡ cells → layout ≡ plain n → n < 2 ^ 32 → DoesWhatItMeans c m → entry.number < length m.entries → Begins m entry cells
     → ((b : List ℕ) → Carries layout b loads → IsRun layout loads (code.run c entry [] cells' b) outcome 0 (code.run c entry [] cells' b).steps)
-    → (b : List ℕ) → AreBytes b → Carries (plain n) b loads → IsBehaviorOf (plain n) loads (meaning m entry [] cells b) outcome
+    → (b : List ℕ) → AreBytes b → Carries (plain n) b loads → IsMeant (plain n) m entry [] cells b loads outcome
 means c m entry n loads cells cells' layout outcome same at short does inside begins ran b bytes carried =
     let R : List ℕ × List Stretch → Type 0 = λ x. (b : List ℕ) → Carries x.1 b loads → IsRun x.1 loads (code.run c entry [] x.0 b) outcome 0 (code.run c entry [] x.0 b).steps in
     let ran' : R (cells, plain n) = subst R (λ i. (same i, at i)) ran in

@@ -8,8 +8,7 @@ use Rattle.td_core.specs.Formed.{AllFit, params_at, cells_at}
 use Rattle.td_stream.specs.declared.load.Load.{Load}
 use Rattle.td_stream.specs.Layouts.{plain}
 use Rattle.td_stream.specs.Loads.{Carries, IsRising}
-use Rattle.td_meaning.specs.Meaning.{meaning}
-use Rattle.td_leaves.specs.Outcomes.{IsBehaviorOf}
+use Rattle.td_leaves.specs.Outcomes.{IsMeant}
 use Rattle.td_io.specs.States.{SinkState, Takes}
 use Rattle.td_report.specs.Report.{report}
 
@@ -23,11 +22,11 @@ pub record Begins (m : Module) (entry : Entry) (cells : List ℕ) : Type 0 where
 pub record IsRunOf (m : Module) (entry : Entry) (cells message : List ℕ) (loads : List Load) (outcome : Outcome) : Type 0 where
   pub rising : IsRising loads
   pub carried : Carries (plain (length message)) message loads
-  pub meant : IsBehaviorOf (plain (length message)) loads (meaning m entry [] cells message) outcome
+  pub meant : IsMeant (plain (length message)) m entry [] cells message loads outcome
 
 -- a report of such a run was written, and no write of it failed
 pub record Reports (m : Module) (entry : Entry) (cells message : List ℕ) (old new : SinkState) : Type 0 where
   pub outcome : Outcome
   pub loads : List Load
   pub run : IsRunOf m entry cells message loads outcome
-  pub taken : Takes old new (report outcome m entry loads None)
+  pub taken : Takes old new (report outcome m entry loads None None)

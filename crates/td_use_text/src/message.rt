@@ -3,7 +3,7 @@
 ghost use Rattle.std.specs.Prelude.{◌≡◌, ◌<◌, ◌^◌, [], Err, length, IfOk, OnOk};
 ghost use Rattle.td_lowered.specs.CodeRun.{IsCodeOf};
 ghost use Rattle.td_coding.specs.Coding.{DoesWhatItMeans};
-ghost use Rattle.td_vm.specs.Frames.{IsArmed};
+ghost use Rattle.td_vm.specs.Frames.{IsArmed, outcome_in};
 ghost use Rattle.td_use_text.specs.declared.message.MessageError.{MessageError};
 ghost use Rattle.td_use_text.specs.Reports.{Begins, IsRunOf, Reports};
 
@@ -80,7 +80,7 @@ fn validated(
     requires short { length message.now < 2 ^ 32 }
     ensures armed { IsArmed compiled.now.code frame.new }
     ensures run { IfOk result (λ ran. IsRunOf compiled.now.module entry cells.now message.now ran.loads.list
-        (record { verdict = ran.verdict; trace = frame.new.trace; cells = frame.new.cells })) }
+        (outcome_in frame.new ran.verdict)) }
 {
     arguments_fit();
     fitting_cells_have_room();
@@ -135,6 +135,7 @@ pub fn report_message<O: Sink>(
         None,
         &compiled.module,
         entry,
+        None,
         out,
     )?;
     Ok(())

@@ -244,7 +244,8 @@ begins_safe c d s n r =
 pub each_safe : (c : Parts) → IsDivided c → IsSound c → (n p : ℕ) → IsIn c n p → IsSafeAt c n p
 each_safe c d s n p j = record {
   registers = s n p j Register;
-  tables = s n p j Table;
+  tables = (s n p j Table).0;
+  owns = (s n p j Table).1;
   operands = s n p j Operand;
   calls = s n p j Depth;
   flat = flat_all c d s n p j;

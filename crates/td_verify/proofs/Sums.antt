@@ -11,7 +11,7 @@ use Rattle.td_ir.specs.declared.instructions.Instr.TheVariants as i
 use Rattle.td_ir.specs.declared.tables.Parts.{Parts}
 use Rattle.td_verify.specs.declared.bracket.Bracket.{Bracket}
 
-mapped : (xs : List Instr) (p : ℕ) (d : Instr) → slice_index_or (map shape xs) p (shape d) ≡ shape (slice_index_or xs p d)
+pub mapped : (xs : List Instr) (p : ℕ) (d : Instr) → slice_index_or (map shape xs) p (shape d) ≡ shape (slice_index_or xs p d)
 mapped [] p d = refl
 mapped (x ∷ xs) zero d = refl
 mapped (x ∷ xs) (suc p) d = mapped xs p d

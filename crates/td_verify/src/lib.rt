@@ -13,3 +13,6 @@ mod rules;
 pub mod shape;
 pub mod verify;
 mod ways;
+
+pub use rule::{Breach, Rule, VerifyError};
+pub use verify::Verified;

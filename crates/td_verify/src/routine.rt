@@ -11,7 +11,7 @@ ghost use Rattle.td_verify.specs.Findings.{IsKnown, KeepsNow, IsSummaryOf, Fails
 use crate::bracket::Innermost;
 use crate::contexts::{context, read};
 use crate::operands::{
-    has_operands, has_registers, has_tables, instruction_at, params_called, routine_at,
+    has_operands, has_registers, has_tables, instruction_at, owns_site, params_called, routine_at,
 };
 use crate::rule::{Breach, Rule};
 use crate::rules::{calls_well, cost, depth_of, keeps_nesting, keeps_target};
@@ -79,7 +79,9 @@ fn breach(
     if !keeps_nesting(known.shapes, known.contexts, known.empties, marks, end, at) {
         return Some(Rule::Loop);
     }
-    if !has_tables(known.parts, known.tops, routine.cells, instruction) {
+    if !has_tables(known.parts, known.tops, routine.cells, instruction)
+        || !owns_site(known.parts, n, instruction)
+    {
         return Some(Rule::Table);
     }
     if weighs > MOST_WEIGHT {

@@ -20,7 +20,7 @@ use Rattle.td_verify.specs.Safe.{IsSafe, IsWholeAt, Stays, before, cost_at, loop
 use Rattle.td_step.specs.Stepping.{Passes, least, more, Ends, IsFine}
 use Rattle.td_vm.specs.Need.{called, greatest, need, room_below, registers, cells}
 use Rattle.td_vm.specs.Machine.{Idle, IsRunnable, scale}
-use Rattle.td_vm.proofs.Shapes.{next_opened}
+use Rattle.td_verify.proofs.Flat.{next_opened}
 
 -- room
 

@@ -34,9 +34,11 @@ use Rattle.td_step.specs.declared.activation.Left.{Left}
 use Rattle.td_step.specs.declared.activation.Left.TheVariants.{Returned, Turned, Failed}
 use Rattle.td_vm.specs.Exits.{frames_of, exit_by, way_of, call_way, WhenTurned, WhenReturned, NotTurned, Traced}
 use Rattle.td_vm.specs.Need.{registers, cells, level}
-use Rattle.td_vm.specs.Machine.{Idle, IsRunnable, HasRoom, HasEntryRoom, IsStretch, IsCallee, IdleTurn, IdleReturn, scale}
-use Rattle.td_vm.proofs.Shapes.{next_opened, shape_there}
+use Rattle.td_vm.specs.Machine.{Idle, IsRunnable, HasRoom, HasEntryRoom, IsStretch, IsCallee, IdleTurn, IdleReturn, scale, IsKept}
+use Rattle.td_vm.specs.declared.level.Spare.{Spare}
 use Rattle.td_vm.proofs.Keeps.{callee_need, goes_on}
+use Rattle.td_verify.proofs.Flat.{next_opened}
+use Rattle.td_verify.proofs.Sums.{shape_there}
 
 pub none_left : (n : ℕ) → (1 ≤ n → ⊥) → n ≡ 0
 none_left n h = grind arith
@@ -76,6 +78,12 @@ room_kept e n places sp sp' regs regs' spare spare' all all' t t' h a b c d x f 
   trace = x;
   trace_room = omega (arith, h.trace_room, f);
 }
+
+pub spare_same : (s : Spare) → IsKept s s
+spare_same s = record { same_places = refl; same_registers = refl; places = refl; registers = refl }
+
+pub spare_on : (r s t : Spare) → IsKept r s → IsKept s t → IsKept r t
+spare_on r s t h k = record { same_places = k.same_places ∙ h.same_places; same_registers = k.same_registers ∙ h.same_registers; places = k.places ∙ h.places; registers = k.registers ∙ h.registers }
 
 pub one_frame : (t t' : TraceRoom) (f : TraceFrame) → t.count ≡ 0 → frames_of t' ≡ frames_of t ++ f ∷ [] → f ∷ [] ≡ frames_of t'
 one_frame t t' f e h = sym (h ∙ ap (λ k. take k t.frames.items ++ f ∷ []) e)

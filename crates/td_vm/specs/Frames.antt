@@ -1,6 +1,8 @@
 -- What a frame has room for (own rule).
 use Rattle.std.specs.Prelude.{◌≡◌, ℕ, ◌+◌, ◌≤◌, List, length, slice_index}
+use Rattle.td_core.specs.declared.outcome.Outcome.{Outcome}
 use Rattle.td_core.specs.declared.outcome.TraceFrame.{TraceFrame}
+use Rattle.td_core.specs.declared.outcome.Verdict.{Verdict}
 use Rattle.td_ir.specs.declared.tables.Parts.{Parts}
 use Rattle.td_ir.specs.Tables.{first_of}
 use Rattle.td_vm.specs.Need.{most_need, most_entry_cells, registers, cells, level}
@@ -23,6 +25,10 @@ pub record FrameView : Type 0 where
   pub memory : FrameMemory
   pub cells : List ℕ
   pub trace : List TraceFrame
+
+-- the outcome of a validation that had this verdict and left the frame so
+abbrev pub outcome_in : FrameView → Verdict → Outcome
+outcome_in f verdict = record { verdict = verdict; trace = f.trace; cells = f.cells }
 
 -- where each routine begins, and where the last one ends
 pub record AreBegins (c : Parts) (begins : List ℕ) : Type 0 where

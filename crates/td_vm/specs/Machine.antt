@@ -14,6 +14,7 @@ use Rattle.td_verify.specs.Verify.{IsIn}
 use Rattle.td_verify.specs.Safe.{IsSafe, looped}
 use Rattle.td_step.specs.declared.activation.TraceRoom.{TraceRoom}
 use Rattle.td_step.specs.declared.activation.Env.{Env}
+use Rattle.td_vm.specs.declared.level.Spare.{Spare}
 use Rattle.td_vm.specs.Frames.{AreBegins}
 use Rattle.td_vm.specs.Need.{room_below, registers, cells, level}
 
@@ -50,6 +51,13 @@ pub record HasRoom (e : Env) (n : ℕ) (places spare_places regs spare all : Lis
   pub in_cells : All (λ c. c < length all) places
   pub trace : t.count ≡ 0
   pub trace_room : room_below level e.parts.now n + 1 ≤ length t.frames.items
+
+-- the same room is free again
+pub record IsKept (s t : Spare) : Type 0 where
+  pub same_places : t.places.ghost_name ≡ s.places.ghost_name
+  pub same_registers : t.registers.ghost_name ≡ s.registers.ghost_name
+  pub places : length t.places.now ≡ length s.places.now
+  pub registers : length t.registers.now ≡ length s.registers.now
 
 -- a routine from its beginning, or a loop's body
 pub record IsStretch (c : Parts) (n first to : ℕ) : Type 0 where

@@ -7,10 +7,11 @@ ghost use Rattle.td_ir.specs.Run.{run_routine};
 ghost use Rattle.td_stream.specs.StreamInvariant.{IsStream, Later, length_of, position, end_of};
 ghost use Rattle.td_step.specs.Stepping.{Ran};
 ghost use Rattle.td_vm.specs.Exits.{frames_of, exit_by, call_way, NotTurned, WhenReturned};
-ghost use Rattle.td_vm.specs.Machine.{HasEntryRoom};
+ghost use Rattle.td_vm.specs.Machine.{HasEntryRoom, IsKept};
 ghost use Rattle.td_vm.specs.Need.{cells as cells_in};
 ghost use Rattle.td_vm.specs.Outcomes.{weight};
 
+use crate::level::{Level, Spare, Stretch};
 use crate::machine::{run_block, set_registers};
 use std::sync::ledger::Ledger;
 use td_step::activation::{Activation, Env, Left, TraceRoom};
@@ -33,14 +34,13 @@ pub fn run_entry<W: Words, L: Ledger>(
     env: &Env<'_>,
     n: usize,
     args: &[u64],
-    spare_places: &mut [usize],
-    spare: &mut [u64],
+    spare: &mut Spare<'_, '_>,
     cells: &mut [u64],
     stream: &mut Stream<W>,
     trace: &mut TraceRoom,
     steps: &mut Steps<L>,
 ) -> Left
-    requires room { HasEntryRoom env.now n spare_places.old spare.old trace.old }
+    requires room { HasEntryRoom env.now n spare.old.places.now spare.old.registers.now trace.old }
     requires cells { length cells.old ≡ cells_in env.now.parts.now n }
     requires empty { trace.old.count ≡ 0 }
     requires args { length args.now ≡ (routine_of env.now.parts.now n).params }
@@ -49,6 +49,7 @@ pub fn run_entry<W: Words, L: Ledger>(
     requires end { end_of stream.old ≡ length_of stream.old }
     ensures later { Later W.loads W.reaches stream.old stream.new }
     ensures whole { IsStream W.loads W.size stream.new }
+    ensures kept { IsKept spare.old spare.new }
     ensures trace_room { length trace.new.frames.items ≡ length trace.old.frames.items }
     ensures trace_memory { vec_capacity trace.new.frames ≡ vec_capacity trace.old.frames }
     ensures frames { trace.new.count ≤ length trace.new.frames.items }
@@ -62,23 +63,30 @@ pub fn run_entry<W: Words, L: Ledger>(
     let routine = routine_at(env.parts, n);
     let from = env.begins[n];
     let to = env.begins[n + 1];
-    let (mine, rest) = spare.split_at_mut(routine.registers as usize);
-    let (mine_places, rest_places) = spare_places.split_at_mut(routine.cells as usize);
+    let registers = &mut *spare.registers;
+    let places = &mut *spare.places;
+    let (mine, rest) = registers.split_at_mut(routine.registers as usize);
+    let (mine_places, rest_places) = places.split_at_mut(routine.cells as usize);
     set_registers(mine, args);
     set_own_places(mine_places);
     let mut act = Activation {
         start: stream.pos(),
         outer: stream.end(),
     };
-    run_block(
-        env,
+    let level = Level {
+        env: *env,
         n,
-        from,
-        to,
-        mine_places,
-        rest_places,
+        places: mine_places,
+    };
+    let mut free = Spare {
+        places: rest_places,
+        registers: rest,
+    };
+    run_block(
+        &level,
+        Stretch { first: from, to },
+        &mut free,
         mine,
-        rest,
         cells,
         &mut act,
         stream,

@@ -7,6 +7,9 @@
 mod arm;
 mod entry;
 pub mod laws;
+mod level;
 mod machine;
 mod message;
 pub mod validate;
+
+pub use validate::Frame;

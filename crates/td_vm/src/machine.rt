@@ -16,17 +16,18 @@ ghost use Rattle.td_verify.specs.Safe.{before, looped};
 ghost use Rattle.td_stream.specs.StreamInvariant.{IsStream, Later, position, end_of};
 ghost use Rattle.td_step.specs.Stepping.{state_of, Ran, InWindow};
 ghost use Rattle.td_vm.specs.Exits.{frames_of, exit_by, way_of, call_way, loop_exit, WhenTurned, WhenReturned, NotTurned, NotReturned, Traced};
-ghost use Rattle.td_vm.specs.Machine.{AreLaws, HasRoom, IsStretch, IsCallee, IdleTurn, IdleReturn, scale};
+ghost use Rattle.td_vm.specs.Machine.{AreLaws, HasRoom, IsStretch, IsCallee, IsKept, IdleTurn, IdleReturn, scale};
 ghost use Rattle.td_vm.specs.Outcomes.{weight};
-ghost use Rattle.td_vm.specs.Need.{room_below, level};
+ghost use Rattle.td_vm.specs.Need.{room_below, level as levels};
 
+use crate::level::{Callee, Level, Spare, Stretch};
 use std::sync::ledger::Ledger;
 use td_core::outcome::Reason;
 use td_ir::laws::{
     run_calls, run_fails, run_goes, run_loops, run_returns, run_turns as run_turned,
 };
 use td_ir::tables::Parts;
-use td_step::activation::{Activation, Env, Left, Step, TraceRoom};
+use td_step::activation::{Activation, Left, Step, TraceRoom};
 use td_step::step::step;
 use td_step::steps::Steps;
 use td_step::tables::{frame_at, instruction_at, map_at, routine_at};
@@ -95,52 +96,49 @@ fn set_places(mine: &mut [usize], places: &[usize], map: &[u32])
 /// Runs from an instruction on, to the end of the routine or of a loop's turn.
 #[cycle(machine)]
 pub fn run_block<W: Words, L: Ledger>(
-    env: &Env<'_>,
-    n: usize,
-    first: usize,
-    to: usize,
-    places: &[usize],
-    spare_places: &mut [usize],
+    level: &Level<'_, '_>,
+    stretch: Stretch,
+    spare: &mut Spare<'_, '_>,
     regs: &mut [u64],
-    spare: &mut [u64],
     cells: &mut [u64],
     act: &mut Activation,
     stream: &mut Stream<W>,
     trace: &mut TraceRoom,
     steps: &mut Steps<L>,
 ) -> Left
-    requires room { HasRoom env.now n places.now spare_places.old regs.old spare.old cells.old trace.old }
-    requires stretch { IsStretch env.now.parts.now n first to }
+    requires room { HasRoom level.now.env level.now.n level.now.places.now spare.old.places.now regs.old spare.old.registers.now cells.old trace.old }
+    requires stretch { IsStretch level.now.env.parts.now level.now.n stretch.first stretch.to }
     requires whole { IsStream W.loads W.size stream.old }
     requires window { InWindow act.old stream.old }
     ensures later { Later W.loads W.reaches stream.old stream.new }
     ensures whole { IsStream W.loads W.size stream.new }
     ensures window { InWindow act.new stream.new }
     ensures outer { act.new.outer ≤ act.old.outer }
-    ensures traced { Traced result trace.new (room_below level env.now.parts.now n + 1) }
+    ensures kept { IsKept spare.old spare.new }
+    ensures traced { Traced result trace.new (room_below levels level.now.env.parts.now level.now.n + 1) }
     ensures trace_room { length trace.new.frames.items ≡ length trace.old.frames.items }
     ensures trace_memory { vec_capacity trace.new.frames ≡ vec_capacity trace.old.frames }
-    ensures outside { WhenReturned result (looped env.now.parts.now first ≡ false) }
-    ensures inside { WhenTurned result (looped env.now.parts.now first ≡ true) }
-    ensures idle_turn { WhenTurned result (position stream.old ≡ position stream.new → IdleTurn env.now.parts.now n first) }
-    ensures idle_return { WhenReturned result (position stream.old ≡ position stream.new → IdleReturn env.now.parts.now n first) }
+    ensures outside { WhenReturned result (looped level.now.env.parts.now stretch.first ≡ false) }
+    ensures inside { WhenTurned result (looped level.now.env.parts.now stretch.first ≡ true) }
+    ensures idle_turn { WhenTurned result (position stream.old ≡ position stream.new → IdleTurn level.now.env.parts.now level.now.n stretch.first) }
+    ensures idle_return { WhenReturned result (position stream.old ≡ position stream.new → IdleReturn level.now.env.parts.now level.now.n stretch.first) }
     ensures end { WhenTurned result (end_of stream.new ≡ end_of stream.old) }
-    ensures cost { scale env.now.parts.now first * steps.new
-        ≤ scale env.now.parts.now first * steps.old + (before env.now.parts.now n to - before env.now.parts.now n first) * (position stream.new - position stream.old + 1) }
+    ensures cost { scale level.now.env.parts.now stretch.first * steps.new
+        ≤ scale level.now.env.parts.now stretch.first * steps.old + (before level.now.env.parts.now level.now.n stretch.to - before level.now.env.parts.now level.now.n stretch.first) * (position stream.new - position stream.old + 1) }
     ensures same { Ran W.loads stream.old stream.new steps.old steps.new (λ b touched taken.
-        block env.now.parts.now b n places.now first (state_of regs.old cells.old act.old stream.old)
+        block level.now.env.parts.now b level.now.n level.now.places.now stretch.first (state_of regs.old cells.old act.old stream.old)
         ≡ exit_by (way_of result (state_of regs.new cells.new act.new stream.new) (frames_of trace.new)) touched taken) }
 {
     laws();
-    let mut pc = first;
-    'steps: while pc < to {
+    let mut pc = stretch.first;
+    'steps: while pc < stretch.to {
         steps.tick();
-        let instruction = instruction_at(env.parts, pc);
+        let instruction = instruction_at(level.env.parts, pc);
         match step(
-            env.parts,
+            level.env.parts,
             instruction,
             pc,
-            places,
+            level.places,
             regs,
             cells,
             act,
@@ -149,8 +147,11 @@ pub fn run_block<W: Words, L: Ledger>(
         ) {
             Step::Goes(target) => pc = target,
             Step::Fails { reason, site, pos } => {
-                push_frame(trace, env.parts, site, act.start, reason);
-                return Left::Failed { reason, pos };
+                push_frame(trace, level.env.parts, site, act.start, reason);
+                return Left::Failed {
+                    reason,
+                    pos: pos as u32,
+                };
             }
             Step::Calls {
                 first: from,
@@ -159,16 +160,15 @@ pub fn run_block<W: Words, L: Ledger>(
                 site,
             } => {
                 match call(
-                    env,
-                    n,
-                    routine as usize,
-                    from as usize,
-                    map as usize,
-                    pc,
-                    places,
-                    spare_places,
-                    regs,
+                    level,
+                    Callee {
+                        at: pc,
+                        routine: routine as usize,
+                        first: from as usize,
+                        map: map as usize,
+                    },
                     spare,
+                    regs,
                     cells,
                     stream,
                     trace,
@@ -177,7 +177,7 @@ pub fn run_block<W: Words, L: Ledger>(
                     Left::Returned => pc += 1,
                     Left::Turned => unreachable!(),
                     Left::Failed { reason, pos } => {
-                        push_frame(trace, env.parts, site, act.start, reason);
+                        push_frame(trace, level.env.parts, site, act.start, reason);
                         return Left::Failed { reason, pos };
                     }
                 }
@@ -185,14 +185,13 @@ pub fn run_block<W: Words, L: Ledger>(
             Step::Returns => return Left::Returned,
             Step::Loops(target) => {
                 match run_turns(
-                    env,
-                    n,
-                    pc,
-                    target,
-                    places,
-                    spare_places,
-                    regs,
+                    level,
+                    Stretch {
+                        first: pc,
+                        to: target,
+                    },
                     spare,
+                    regs,
                     cells,
                     act,
                     stream,
@@ -214,50 +213,46 @@ pub fn run_block<W: Words, L: Ledger>(
 // a step.
 #[cycle(machine)]
 fn run_turns<W: Words, L: Ledger>(
-    env: &Env<'_>,
-    n: usize,
-    at: usize,
-    to: usize,
-    places: &[usize],
-    spare_places: &mut [usize],
+    level: &Level<'_, '_>,
+    stretch: Stretch,
+    spare: &mut Spare<'_, '_>,
     regs: &mut [u64],
-    spare: &mut [u64],
     cells: &mut [u64],
     act: &mut Activation,
     stream: &mut Stream<W>,
     trace: &mut TraceRoom,
     steps: &mut Steps<L>,
 ) -> Left
-    requires room { HasRoom env.now n places.now spare_places.old regs.old spare.old cells.old trace.old }
-    requires place { IsIn env.now.parts.now n at }
-    requires loops { shape_at (shapes_of env.now.parts.now) at ≡ While to }
+    requires room { HasRoom level.now.env level.now.n level.now.places.now spare.old.places.now regs.old spare.old.registers.now cells.old trace.old }
+    requires place { IsIn level.now.env.parts.now level.now.n stretch.first }
+    requires loops { shape_at (shapes_of level.now.env.parts.now) stretch.first ≡ While stretch.to }
     requires whole { IsStream W.loads W.size stream.old }
     requires window { InWindow act.old stream.old }
     ensures later { Later W.loads W.reaches stream.old stream.new }
     ensures whole { IsStream W.loads W.size stream.new }
     ensures window { InWindow act.new stream.new }
     ensures outer { act.new.outer ≤ act.old.outer }
-    ensures traced { Traced result trace.new (room_below level env.now.parts.now n + 1) }
+    ensures kept { IsKept spare.old spare.new }
+    ensures traced { Traced result trace.new (room_below levels level.now.env.parts.now level.now.n + 1) }
     ensures trace_room { length trace.new.frames.items ≡ length trace.old.frames.items }
     ensures trace_memory { vec_capacity trace.new.frames ≡ vec_capacity trace.old.frames }
     ensures no_return { NotReturned result }
     ensures end { WhenTurned result (end_of stream.new ≡ end_of stream.old) }
     ensures cost { steps.new ≤ steps.old
-        + (before env.now.parts.now n to - before env.now.parts.now n (at + 1) + 1) * (position stream.new - position stream.old + 1) }
+        + (before level.now.env.parts.now level.now.n stretch.to - before level.now.env.parts.now level.now.n (stretch.first + 1) + 1) * (position stream.new - position stream.old + 1) }
     ensures same { Ran W.loads stream.old stream.new steps.old steps.new (λ b touched taken. (behind : State → Exit) →
-        turns (suc (end_of stream.old - position stream.old)) (block env.now.parts.now b n places.now (at + 1)) behind (state_of regs.old cells.old act.old stream.old)
+        turns (suc (end_of stream.old - position stream.old)) (block level.now.env.parts.now b level.now.n level.now.places.now (stretch.first + 1)) behind (state_of regs.old cells.old act.old stream.old)
         ≡ loop_exit result behind (state_of regs.new cells.new act.new stream.new) (frames_of trace.new) touched taken) }
 {
     'turns: while stream.need(1) {
         match run_block(
-            env,
-            n,
-            at + 1,
-            to,
-            places,
-            spare_places,
-            regs,
+            level,
+            Stretch {
+                first: stretch.first + 1,
+                to: stretch.to,
+            },
             spare,
+            regs,
             cells,
             act,
             stream,
@@ -275,60 +270,66 @@ fn run_turns<W: Words, L: Ledger>(
 // Runs a callee, to its return.
 #[cycle(machine)]
 fn call<W: Words, L: Ledger>(
-    env: &Env<'_>,
-    n: usize,
-    m: usize,
-    first: usize,
-    map: usize,
-    at: usize,
-    places: &[usize],
-    spare_places: &mut [usize],
+    level: &Level<'_, '_>,
+    callee: Callee,
+    spare: &mut Spare<'_, '_>,
     regs: &[u64],
-    spare: &mut [u64],
     cells: &mut [u64],
     stream: &mut Stream<W>,
     trace: &mut TraceRoom,
     steps: &mut Steps<L>,
 ) -> Left
-    requires room { HasRoom env.now n places.now spare_places.old regs.now spare.old cells.old trace.old }
-    requires callee { IsCallee env.now.parts.now n at m first map }
+    requires room { HasRoom level.now.env level.now.n level.now.places.now spare.old.places.now regs.now spare.old.registers.now cells.old trace.old }
+    requires callee { IsCallee level.now.env.parts.now level.now.n callee.at callee.routine callee.first callee.map }
     requires whole { IsStream W.loads W.size stream.old }
     ensures later { Later W.loads W.reaches stream.old stream.new }
     ensures whole { IsStream W.loads W.size stream.new }
     ensures end { end_of stream.new ≡ end_of stream.old }
-    ensures traced { Traced result trace.new (room_below level env.now.parts.now n) }
+    ensures kept { IsKept spare.old spare.new }
+    ensures traced { Traced result trace.new (room_below levels level.now.env.parts.now level.now.n) }
     ensures trace_room { length trace.new.frames.items ≡ length trace.old.frames.items }
     ensures trace_memory { vec_capacity trace.new.frames ≡ vec_capacity trace.old.frames }
     ensures no_turn { NotTurned result }
-    ensures idle { WhenReturned result (position stream.old ≡ position stream.new → MayBeEmpty (shapes_of env.now.parts.now) (lengths_of env.now.parts.now) (suc m) m) }
-    ensures cost { steps.new ≤ steps.old + weight env.now.parts.now m * (position stream.new - position stream.old + 1) }
+    ensures idle { WhenReturned result (position stream.old ≡ position stream.new → MayBeEmpty (shapes_of level.now.env.parts.now) (lengths_of level.now.env.parts.now) (suc callee.routine) callee.routine) }
+    ensures cost { steps.new ≤ steps.old + weight level.now.env.parts.now callee.routine * (position stream.new - position stream.old + 1) }
     ensures same { (start outer : ℕ) → Ran W.loads stream.old stream.new steps.old steps.new (λ b touched taken.
-        block env.now.parts.now b m (places_by places.now (map_of env.now.parts.now map)) (first_of env.now.parts.now m)
-        (entered (routine_of env.now.parts.now m) (registers_from regs.now first (routine_of env.now.parts.now m).params)
+        block level.now.env.parts.now b callee.routine (places_by level.now.places.now (map_of level.now.env.parts.now callee.map)) (first_of level.now.env.parts.now callee.routine)
+        (entered (routine_of level.now.env.parts.now callee.routine) (registers_from regs.now callee.first (routine_of level.now.env.parts.now callee.routine).params)
         (record { regs = regs.now; cells = cells.old; start = start; pos = position stream.old; end = end_of stream.old; outer = outer }))
         ≡ exit_by (call_way result (position stream.new) cells.new (frames_of trace.new)) touched taken) }
 {
-    let routine = routine_at(env.parts, m);
-    let from = env.begins[m];
-    let to = env.begins[m + 1];
-    let (mine, rest) = spare.split_at_mut(routine.registers as usize);
-    let (mine_places, rest_places) = spare_places.split_at_mut(routine.cells as usize);
-    set_registers(mine, arguments(regs, first, routine.params as usize));
-    set_places(mine_places, places, map_at(env.parts, map));
+    let routine = routine_at(level.env.parts, callee.routine);
+    let from = level.env.begins[callee.routine];
+    let to = level.env.begins[callee.routine + 1];
+    let registers = &mut *spare.registers;
+    let places = &mut *spare.places;
+    let (mine, rest) = registers.split_at_mut(routine.registers as usize);
+    let (mine_places, rest_places) = places.split_at_mut(routine.cells as usize);
+    set_registers(mine, arguments(regs, callee.first, routine.params as usize));
+    set_places(
+        mine_places,
+        level.places,
+        map_at(level.env.parts, callee.map),
+    );
     let end = stream.end();
     let mut act = Activation {
         start: stream.pos(),
         outer: end,
     };
+    let inner = Level {
+        env: level.env,
+        n: callee.routine,
+        places: mine_places,
+    };
+    let mut free = Spare {
+        places: rest_places,
+        registers: rest,
+    };
     let left = run_block(
-        env,
-        m,
-        from,
-        to,
-        mine_places,
-        rest_places,
+        &inner,
+        Stretch { first: from, to },
+        &mut free,
         mine,
-        rest,
         cells,
         &mut act,
         stream,

@@ -6,11 +6,12 @@ ghost use Rattle.td_ir.specs.Entries.{Fits};
 ghost use Rattle.td_ir.specs.Run.{run};
 ghost use Rattle.td_stream.specs.Layouts.{length_in, count_in};
 ghost use Rattle.td_stream.specs.Loads.{Carries, Inside, IsRising};
-ghost use Rattle.td_vm.specs.Frames.{IsArmed};
+ghost use Rattle.td_vm.specs.Frames.{IsArmed, outcome_in};
 ghost use Rattle.td_vm.specs.Machine.{IsRunnable};
 ghost use Rattle.td_vm.specs.Outcomes.{IsRun, entry_weight};
 
 use crate::arm::{Kind, begins_of, most_cells, need_of};
+use crate::level::Spare;
 use crate::message::run_front;
 use std::alloc::{AllocError, Global};
 use std::marker::Model;
@@ -174,7 +175,7 @@ impl Frame {
 
     /// The outcome of the last validation, which had this verdict: with the frame's trace and cells. Takes no memory.
     pub fn into_outcome(self, verdict: Verdict) -> Outcome
-        ensures { result ≡ record { verdict = verdict; trace = self.trace; cells = self.cells } }
+        ensures { result ≡ outcome_in self verdict }
     {
         let most = self.trace.count;
         let count = self.count;
@@ -209,7 +210,7 @@ pub fn validate<W: Words, L: Ledger>(
     ensures within { Inside layout.now (W.loads words.new) }
     ensures run { (b : List ℕ) → Carries layout.now b (W.loads words.new)
         → IsRun layout.now (W.loads words.new) (run code.now entry args.now frame.old.cells b)
-        (record { verdict = result; trace = frame.new.trace; cells = frame.new.cells }) steps.old steps.new }
+        (outcome_in frame.new result) steps.old steps.new }
     ensures cost { steps.new ≤ steps.old + entry_weight code.now entry * (length_in layout.now + 1) }
     ensures cell_count { size_of frame.new.cells ≡ size_of frame.old.cells }
     ensures armed { IsArmed code.now frame.new }
@@ -220,15 +221,16 @@ pub fn validate<W: Words, L: Ledger>(
         parts,
         begins: frame.begins.as_slice(),
     };
+    let places = frame.places.as_mut_slice();
+    let registers = frame.registers.as_mut_slice();
+    let mut spare = Spare { places, registers };
     run_front(
         &env,
         point.routine as usize,
         args,
         layout,
-        frame.places.as_mut_slice(),
-        frame.registers.as_mut_slice(),
+        &mut spare,
         frame.cells.as_mut_slice(),
-        frame.count,
         &mut frame.trace,
         words,
         steps,

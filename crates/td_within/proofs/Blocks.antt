@@ -5,7 +5,7 @@ use Rattle.td_num.specs.Lists.{Each}
 use Rattle.td_ir.specs.declared.instructions.Instr.{Instr}
 use Rattle.td_ir.specs.declared.instructions.Instr.TheVariants as i
 use Rattle.td_blocks.specs.Block.{Block, Done, Then, Stop, Leave, Guard, Scope, Window, Loop, size, guard, code}
-use Rattle.td_within.proofs.Lists.{each_append}
+use Rattle.td_num.proofs.Lists.{each_append}
 
 -- targets of jumps, a call's first argument and routine, constants and divisors
 abbrev pub IsRoomy : Instr → Type 0

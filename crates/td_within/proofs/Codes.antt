@@ -1,8 +1,9 @@
 -- The code of a small checked module is within the format of images.
-use Rattle.std.proofs.Common.{◌≡◌, ℕ, ◌≤◌, [], ◌∷◌, length, codes, Option, Some, None, slice_get, refl, sym, ap, subst, arith, length-append}
+use Rattle.std.proofs.Common.{◌≡◌, ℕ, ◌*◌, ◌≤◌, [], ◌∷◌, length, codes, Option, Some, None, slice_get, refl, sym, ap, subst, arith, length-append}
 use Rattle.td_num.specs.Lists.{Each}
 use Rattle.td_core.specs.declared.module.TypeDef.{TypeDef}
 use Rattle.td_core.specs.declared.module.Module.{Module}
+use Rattle.td_core.specs.declared.limits.TheConstants.{MOST_DEFINITIONS, MOST_NODES}
 use Rattle.td_core.specs.WellFormed.{EachField}
 use Rattle.td_front.specs.Checked.{IsChecked}
 use Rattle.td_ir.specs.declared.tables.Parts.{Parts}
@@ -16,19 +17,21 @@ use Rattle.td_lower.proofs.Heights.{registers_low}
 use Rattle.td_lower.proofs.Rooms.{sites_less, own_nodes}
 use Rattle.td_lower.proofs.Standing.{all_sites, all_maps}
 use Rattle.td_lower.proofs.Places.{routines_count}
+use Rattle.td_image.specs.declared.limits.TheConstants.{MOST_ROWS}
 use Rattle.td_image.specs.Within.{IsSpelled, AreApart, IsSmallMap, IsSmallRoutine, IsWithinFormat}
 use Rattle.td_within.specs.Small.{IsWord, IsFieldSmall, HasSmallCases, IsSmall}
 use Rattle.td_within.specs.Laws.{CodeIsWithin}
-use Rattle.td_within.proofs.Lists.{each_at, there}
 use Rattle.td_within.proofs.Blocks.{IsRoomy, AreRoomy}
 use Rattle.td_within.proofs.Fields.{definition_roomy}
 use Rattle.td_within.proofs.Operands.{all_small}
 use Rattle.td_within.proofs.Sets.{sets_few, sets_small}
-use Rattle.td_within.proofs.Tables.{maps_small, routines_small, entries_count, code_few, code_to_roomy}
+use Rattle.td_within.proofs.Tables.{maps_small, routines_small, code_few, code_to_roomy}
 use Rattle.td_within.proofs.Words.{all_spelled, all_apart}
+use Rattle.td_num.proofs.Lists.{each_at}
+use Rattle.td_lower.proofs.Codes.{there, entries_count}
 
 module _ (c : Parts) (m : Module) (h : IsChecked m) (s : IsSmall m) (w : IsWritten c m) where
-  definitions_few : length m.definitions ≤ 1000
+  definitions_few : length m.definitions ≤ MOST_DEFINITIONS
   definitions_few = (let a = h.within.definitions in let b = h.within.written in omega (arith, a, b))
 
   -- each definition's block
@@ -44,7 +47,7 @@ module _ (c : Parts) (m : Module) (h : IsChecked m) (s : IsSmall m) (w : IsWritt
       definition_roomy m.definitions n (definition_levels d) (omega (arith, place, few)) (omega (arith, low, nodes, all)) (first_site m.definitions n) d formed
       (each_at (λ x. HasSmallCases x.body) m.definitions n d s.cases e) (each_at (λ x. EachField IsFieldSmall x.body) m.definitions n d s.steps e)
 
-  instructions_few : length c.instructions ≤ 320000
+  instructions_few : length c.instructions ≤ 16 * MOST_NODES
   instructions_few = (let a = ap length w.instructions in let b = code_few (units_of m) m.definitions h.whole.parts in let n = h.nodes in omega (arith, a, b, n))
 
   roomy : Each IsRoomy c.instructions
@@ -54,18 +57,18 @@ module _ (c : Parts) (m : Module) (h : IsChecked m) (s : IsSmall m) (w : IsWritt
       subst (Each IsRoomy) (sym w.instructions)
       (code_to_roomy (units_of m) m.definitions (length m.definitions) (λ k. roomy_at k (slice_get m.definitions k) refl) (omega (arith, a, b)))
 
-  sites_few : length c.sites ≤ 65536
+  sites_few : length c.sites ≤ MOST_ROWS
   sites_few =
       let a = ap length w.sites in
-      let b = all_sites (where_name m) (switch_name m) m.definitions in
+      let b = all_sites (where_name m) (switch_name m) 0 m.definitions in
       let x = sites_less m.definitions in
       let n = h.nodes in
       omega (arith, a, b, x, n)
 
-  maps_few : length c.maps ≤ 65536
+  maps_few : length c.maps ≤ MOST_ROWS
   maps_few = (let a = ap length w.maps in let b = all_maps m.definitions in let x = sites_less m.definitions in let n = h.nodes in omega (arith, a, b, x, n))
 
-  sets_count : length c.sets ≤ 65536
+  sets_count : length c.sets ≤ MOST_ROWS
   sets_count = (let a = w.sets.count in let b = s.enums in omega (arith, a, b))
 
   routines_are : Each IsSmallRoutine c.routines

@@ -34,12 +34,12 @@ use Rattle.td_rules.specs.Casetypes.{is_past_switch, case_breaches, case_taken, 
 use Rattle.td_rules.specs.Parameters.{no_head, params_breaches}
 use Rattle.td_rules.specs.Definitions.{entry_more, struct_head, struct_scope, struct_core, casetype_head, casetype_core, casetype_breaches, definition_breaches, definitions_breaches, after, known_after}
 use Rattle.td_rules.specs.Modules.{names_of, module_of}
-use Rattle.td_rules.proofs.Sorting.{left_none, right_none, when_none}
+use Rattle.td_rules.proofs.Sorting.{when_none}
 use Rattle.td_within.specs.Small.{IsWord, IsFieldSmall, HasSmallCases}
-use Rattle.td_within.proofs.Lists.{each_append}
-use Rattle.td_within.proofs.Values.{limit_low}
 use Rattle.td_within.proofs.Sorts.{number_typed}
 use Rattle.td_within.proofs.Steps.{IsKindLow, body_low, at_low, fields_small, cases_small, default_small}
+use Rattle.td_num.proofs.Lists.{each_append, left_none, right_none}
+use Rattle.td_expr.proofs.Widths.{limit_small as limit_low}
 
 -- ---- values
 

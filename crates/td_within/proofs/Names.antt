@@ -1,8 +1,6 @@
 -- The names of a module are no more than the nodes of its text, and no longer than the text.
-use Rattle.std.proofs.Common.{◌≡◌, ℕ, zero, suc, ◌+◌, ◌≤◌, Bool, true, false, if◌then◌else◌, cond, nat_lt, List, [], ◌∷◌, ◌++◌, length, Contains, Option, Some, None, refl, subst, arith, length-append}
-use Rattle.std.proofs.lemmas.Bool.{ltb-false}
+use Rattle.std.proofs.Common.{◌≡◌, ℕ, zero, suc, ◌+◌, ◌≤◌, Bool, true, false, if◌then◌else◌, List, [], ◌∷◌, ◌++◌, length, Contains, Option, Some, None, subst, arith, length-append}
 use Rattle.td_num.specs.Lists.{Each}
-use Rattle.td_ast.specs.declared.token.Span.{Span}
 use Rattle.td_ast.specs.declared.token.Token.{Token}
 use Rattle.td_ast.specs.declared.fields.FieldTree.{FieldTree}
 use Rattle.td_ast.specs.declared.parameters.ParamTree.{ParamTree}
@@ -13,9 +11,7 @@ use Rattle.td_ast.specs.declared.definitions.Def.TheVariants.{Define, Enum, Alia
 use Rattle.td_ast.specs.declared.definitions.ModuleTree.{ModuleTree}
 use Rattle.td_lexer.specs.Splits.{Splits}
 use Rattle.td_grammar.specs.Definitions.{module_text}
-use Rattle.td_limits.specs.declared.limits.Limit.{Limit}
 use Rattle.td_limits.specs.declared.limits.Limit.TheVariants as limit
-use Rattle.td_limits.specs.declared.limits.Excess.{Excess}
 use Rattle.td_limits.specs.Excesses.{above, first_excess, definition_name}
 use Rattle.td_limits.specs.Nodes.{inner_nodes, fields_nodes, default_nodes, cases_nodes, definition_nodes}
 use Rattle.td_limits.specs.Counts.{most_fields, count_cases, count_params, definition_counts, count_excesses, counts_passed}
@@ -29,37 +25,28 @@ use Rattle.td_admitted.proofs.Fields.{sum_total}
 use Rattle.td_admitted.proofs.Names.{spelled_names}
 use Rattle.td_within.proofs.Tokens.{IsShort, splitting_short}
 use Rattle.td_within.proofs.Knowns.{all_nodes}
+use Rattle.td_limits.proofs.Counting.{none_both, above_none as not_above}
 
 -- ---- how many nodes
 
-none_both : (xs ys : List Excess) → first_excess (xs ++ ys) ≡ None → (first_excess xs ≡ None) × (first_excess ys ≡ None)
-none_both [] ys h = (refl, h)
-none_both (x ∷ xs) ys h = absurd cc
-
-not_above : (n m : ℕ) (l : Limit) (s : Span) → first_excess (above n m l s) ≡ None → m ≤ n
-not_above n m l s h = by (nat_lt n m) refl h
-  where
-    by : (b : Bool) → nat_lt n m ≡ b → first_excess (cond b (record { limit = l; span = s } ∷ []) []) ≡ None → m ≤ n
-    by true e k = absurd cc
-    by false e k = ltb-false n m e
-
-last_few : (n nodes : ℕ) (d : Def) → first_excess (definition_counts n nodes d) ≡ None → nodes ≤ 20000
+last_few : (n nodes : ℕ) (d : Def) → first_excess (definition_counts n nodes d) ≡ None → nodes ≤ 60000
 last_few n nodes d h =
     let s = (definition_name d).span in
-    let a = none_both (above 1000 n limit.Definitions s) _ h in
+    let a = none_both (above 4000 n limit.Definitions s) _ h in
     let b = none_both (above 256 (most_fields d) limit.Fields s) _ a.1 in
     let c = none_both (above 256 (count_cases d) limit.Cases s) _ b.1 in
     let e = none_both (above 16 (count_params d) limit.Parameters s) _ c.1 in
-    not_above 20000 nodes limit.Nodes s e.1
+    let f = none_both (above 60000 nodes limit.Nodes s) _ e.1 in
+    not_above 60000 nodes limit.Nodes s f.0
 
-nodes_few : (n nodes : ℕ) (ds : List Def) → nodes ≤ 20000 → first_excess (count_excesses n nodes ds) ≡ None → nodes + all_nodes ds ≤ 20000
+nodes_few : (n nodes : ℕ) (ds : List Def) → nodes ≤ 60000 → first_excess (count_excesses n nodes ds) ≡ None → nodes + all_nodes ds ≤ 60000
 nodes_few n nodes [] few h = omega (arith, few)
 nodes_few n nodes (d ∷ ds) few h =
     let both = none_both (definition_counts (n + 1) (nodes + definition_nodes d) d) (count_excesses (n + 1) (nodes + definition_nodes d) ds) h in
     let x = nodes_few (n + 1) (nodes + definition_nodes d) ds (last_few (n + 1) (nodes + definition_nodes d) d both.0) both.1 in
     omega (arith, x)
 
-pub tree_few : (t : ModuleTree) → counts_passed t ≡ None → all_nodes t.definitions ≤ 20000
+pub tree_few : (t : ModuleTree) → counts_passed t ≡ None → all_nodes t.definitions ≤ 60000
 tree_few t h = (let x = nodes_few 0 0 t.definitions (omega arith) h in omega (arith, x))
 
 -- ---- how many names

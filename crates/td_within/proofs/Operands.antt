@@ -11,9 +11,10 @@ use Rattle.td_verify.specs.Operands.{HasRegisters, HasTables, HasOperands, IsWid
 use Rattle.td_verify.specs.Verify.{IsIn, IsSound}
 use Rattle.td_verify.specs.declared.rule.Rule.TheVariants as rules
 use Rattle.td_image.specs.Instructions.{fields_of}
+use Rattle.td_image.specs.declared.limits.TheConstants.{MOST_ROWS}
 use Rattle.td_image.specs.Within.{IsSmallRoutine, HasSmallOperands}
 use Rattle.td_within.proofs.Blocks.{IsRoomy}
-use Rattle.td_within.proofs.Lists.{each_of, each_by}
+use Rattle.td_num.proofs.Lists.{each_by, each_index as each_of}
 
 width_low : (w : ℕ) → IsWidth w → w < 2 ^ 16
 width_low w (inl e) = omega (arith, e)
@@ -67,7 +68,7 @@ routine_around ls (suc n) p h = by (nat_lt p (begin ls n)) refl (routine_around 
     by true e before = let r = before (ltb-true p (begin ls n) e) in (r.0, omega (arith, r.1), r.2, r.3)
     by false e before = (n, omega arith, ltb-false p (begin ls n) e, h)
 
-pub all_small : (c : Parts) → IsCode c → IsSound c → length c.sites ≤ 65536 → length c.maps ≤ 65536 → length c.sets ≤ 65536
+pub all_small : (c : Parts) → IsCode c → IsSound c → length c.sites ≤ MOST_ROWS → length c.maps ≤ MOST_ROWS → length c.sets ≤ MOST_ROWS
     → Each IsSmallRoutine c.routines → Each IsRoomy c.instructions → Each (λ j. HasSmallOperands (fields_of j)) c.instructions
 all_small c code sound sites maps sets routines roomy = each_by (λ j. HasSmallOperands (fields_of j)) c.instructions (i.Fail 0 0) at
   where
@@ -81,4 +82,4 @@ all_small c code sound sites maps sets routines roomy = each_by (λ j. HasSmallO
         let room : HasRoom c (routine_of c n).registers (routine_of c n).cells =
         record { registers = omega (arith, own.registers); cells = omega (arith, own.cells); sites = omega (arith, sites); maps = omega (arith, maps); sets = omega (arith, sets) } in
         operands_small c (routine_of c n).registers (routine_of c n).cells (callee_params c (instruction_of c p)) room (instruction_of c p)
-        (each_of IsRoomy c.instructions (i.Fail 0 0) p roomy h) (sound n p inside rules.Register) (sound n p inside rules.Table) (sound n p inside rules.Operand)
+        (each_of IsRoomy c.instructions (i.Fail 0 0) p roomy h) (sound n p inside rules.Register) (sound n p inside rules.Table).0 (sound n p inside rules.Operand)

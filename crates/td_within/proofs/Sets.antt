@@ -1,17 +1,13 @@
 -- A set has no more numbers than the values of its enum, and they are among these.
 use Rattle.std.proofs.Common.{◌≡◌, ℕ, suc, ◌+◌, ◌<◌, ◌≤◌, Bool, true, false, cond, ◌||◌, nat_eq, List, [], ◌∷◌, length, refl, sym, subst, ap, ◌∙◌, arith, slice_index_or}
-use Rattle.std.proofs.lemmas.Bool.Decides.{nat_tests}
 use Rattle.td_num.specs.Lists.{Each, is_among}
 use Rattle.td_core.specs.Weights.{total}
 use Rattle.td_ir.specs.WellFormed.{Rises}
 use Rattle.td_lower.specs.Sets.{IsSetOf, AreSetsOf}
 use Rattle.td_image.specs.Within.{total as all_numbers}
-
-same_is : (x y : ℕ) → nat_eq x y ≡ true → x ≡ y
-same_is x y e = grind (arith, nat_tests)
-
-itself : (x : ℕ) → nat_eq x x ≡ true
-itself x = grind (arith, nat_tests)
+use Rattle.td_num.proofs.Equals.{equal_itself as itself}
+use Rattle.td_num.proofs.Truths.{eq_is as same_is, or_right}
+use Rattle.td_ir.proofs.Rising.{rises_on, rises_above as above}
 
 -- the numbers without one x
 abbrev without : ℕ → List ℕ → List ℕ
@@ -36,24 +32,8 @@ still_among x n (y ∷ ys) l h = by (nat_eq x y) refl (nat_eq n y) refl h (still
     by false e true f h more = ap (λ b. b || is_among (without x ys) n) f
     by false e false f h more = ap (λ b. b || is_among (without x ys) n) f ∙ more h
 
-rises_on : (x : ℕ) (xs : List ℕ) → Rises (x ∷ xs) → Rises xs
-rises_on x xs h j l = h (suc j) (omega (arith, l))
-
--- what is among numbers that rise is above the number before them
-above : (x n : ℕ) (xs : List ℕ) → Rises (x ∷ xs) → is_among xs n ≡ true → x < n
-above x n [] h a = absurd cc
-above x n (y ∷ ys) h a = by (nat_eq n y) refl a (above y n ys (rises_on x (y ∷ ys) h))
-  where
-    by : (b : Bool) → nat_eq n y ≡ b → (b || is_among ys n) ≡ true → (is_among ys n ≡ true → y < n) → x < n
-    by true e g more = let s = same_is n y e in let first : x < y = h 0 (omega arith) in omega (arith, s, first)
-    by false e g more = let first : x < y = h 0 (omega arith) in let k = more g in omega (arith, first, k)
-
 abbrev AreAmong : List ℕ → List ℕ → Type 0
 AreAmong values set = (n : ℕ) → is_among set n ≡ true → is_among values n ≡ true
-
-or_right : (a b : Bool) → b ≡ true → (a || b) ≡ true
-or_right true b e = refl
-or_right false b e = e
 
 no_longer : (values set : List ℕ) → Rises set → AreAmong values set → length set ≤ length values
 no_longer values [] h a = omega arith

@@ -1,5 +1,5 @@
 -- The block of a definition has no more instructions than sixteen times its nodes.
-use Rattle.std.proofs.Common.{◌≡◌, ℕ, zero, suc, ◌+◌, ◌*◌, ◌^◌, ◌≤◌, List, [], ◌∷◌, Bool, true, false, cond, nat_lt, length, Option, Some, None, refl, arith}
+use Rattle.std.proofs.Common.{ℕ, zero, suc, ◌+◌, ◌*◌, ◌^◌, ◌≤◌, List, [], ◌∷◌, Bool, true, false, cond, nat_lt, length, Option, Some, None, arith}
 use Rattle.td_num.specs.Numbers.{bytes_in}
 use Rattle.td_num.specs.Lists.{Each}
 use Rattle.td_core.specs.Term.{Term, measure, Deed}
@@ -23,21 +23,9 @@ use Rattle.td_ir.specs.declared.instructions.Instr.TheVariants as i
 use Rattle.td_blocks.specs.Block.{Done, Then, Stop, Guard, Window, size}
 use Rattle.td_blocks.specs.Constructs.{Steps, ByConstant, Never, BySize, Inner, Uneven, Body, inner, steps, cases, body}
 use Rattle.td_blocks.specs.Lowered.{expr_of, action_of, number_slot, bits_step, test_step, action_step, when, is_read, terms_of, arguments, parts_in, parts_steps, once_step, evenly, exactly, each_inner, one_inner, constant_step, filling_step, once_filling_step, up_to_zero_step, shape_step, fields_steps, last_case, cases_of, body_of, guarded_body, definition_body}
-use Rattle.td_acceptance.specs.Weights.{all_nodes}
-use Rattle.td_within.proofs.Values.{nodes_are, all_are, acts_are, value_size, values_size, acts_size}
-
--- of an element's arguments
-args_are : (element : Element) → all_nodes (arguments element) ≡ element_nodes element
-args_are (NumberElement type) = refl
-args_are (ListedElement base v) = refl
-args_are (NamedElement j args own) = all_are args
-args_are UnitElement = refl
-args_are Rest = refl
-args_are Zeros = refl
-
-some_parts : (ps : List Part) → HasParts ps → 1 ≤ length ps
-some_parts [] h = absurd h
-some_parts (p ∷ ps) h = omega arith
+use Rattle.td_within.proofs.Values.{value_size, values_size, acts_size}
+use Rattle.td_core.proofs.Nodes.{some_parts}
+use Rattle.td_acceptance.proofs.Measured.{nodes_are, all_are, acts_are, args_are}
 
 module _ (t : ℕ) where
   bits_size : (read : Bool) (L : ℕ) (b : Option Bits) (k : Steps) → size (steps (when read (bits_step L t b) k)) ≤ 1 + size (steps k)

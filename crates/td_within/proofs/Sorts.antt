@@ -1,8 +1,7 @@
 -- An expression that breaks no rule has a sort, and one that is a number has a type by itself.
-use Rattle.std.proofs.Common.{◌≡◌, ℕ, Bool, true, false, not, ◌&&◌, ◌||◌, [], refl, Option, Some, None, is_none}
+use Rattle.std.proofs.Common.{◌≡◌, ℕ, true, false, not, ◌&&◌, [], refl, Option, Some, None, is_none}
 use Rattle.td_ast.specs.declared.expressions.UnaryOperator.{UnaryOperator}
 use Rattle.td_ast.specs.declared.expressions.UnaryOperator.TheVariants.{Not, Complement}
-use Rattle.td_ast.specs.declared.expressions.SizeofOperand.{SizeofOperand}
 use Rattle.td_ast.specs.declared.expressions.SizeofOperand.TheVariants as operand
 use Rattle.td_ast.specs.declared.token.Span.{Span}
 use Rattle.td_ast.specs.Trees.{Tree, span_of}
@@ -10,7 +9,7 @@ use Rattle.td_ast.specs.Trees as tree
 use Rattle.td_core.specs.declared.expressions.Scalar.{Scalar}
 use Rattle.td_core.specs.declared.expressions.Binary.{Binary}
 use Rattle.td_core.specs.Types.{computed_type}
-use Rattle.td_rules.specs.declared.breach.Rule.TheVariants.{Unknown, Mismatch, NotConstant, BadAction}
+use Rattle.td_rules.specs.declared.breach.Rule.TheVariants.{Mismatch, BadAction}
 use Rattle.td_rules.specs.declared.expressions.Sort.{Sort}
 use Rattle.td_rules.specs.declared.expressions.Sort.TheVariants as sort
 use Rattle.td_rules.specs.declared.expressions.Operation.{Operation}
@@ -21,11 +20,12 @@ use Rattle.td_rules.specs.declared.known.Found.{Found}
 use Rattle.td_rules.specs.declared.known.Found.TheVariants as found
 use Rattle.td_rules.specs.declared.known.Known.{Known}
 use Rattle.td_rules.specs.declared.known.Scope.{Scope}
-use Rattle.td_rules.specs.Breach.{when}
 use Rattle.td_rules.specs.Known.{found_in}
 use Rattle.td_rules.specs.Sorts.{operation, narrowest, type_alone, literal_type, type_beside, typed_by, computed_sort, operation_sort, typed, unary_sort, choice_sort, size_found, size_named, size_sort, found_sort, start_sort, sort_of}
-use Rattle.td_rules.specs.ExprRules.{is_truth, is_number, name_breaches, is_nothing, is_type, size_breaches, is_wrong_operand, are_wrong_operands, is_wrong_choice, expr_breaches, number_breaches}
-use Rattle.td_rules.proofs.Sorting.{left_none, right_none, when_none}
+use Rattle.td_rules.specs.ExprRules.{is_truth, is_number, name_breaches, is_nothing, is_type, is_wrong_operand, are_wrong_operands, is_wrong_choice, expr_breaches, number_breaches}
+use Rattle.td_rules.proofs.Sorting.{when_none, sized as some_size}
+use Rattle.td_num.proofs.Lists.{left_none, right_none}
+use Rattle.td_rules.proofs.Naming.{or_left, or_right}
 
 abbrev pub HasSort : Sort → Type 0
 HasSort sort.Broken = ⊥
@@ -68,17 +68,6 @@ named_size k (found.Global (meaning.Enum t v)) a b c = c
 named_size k (found.Global (meaning.Type j)) a b c = c
 named_size k (found.Global (meaning.Record r)) a b c = absurd cc
 
-some_size : (k : Known) (s : Scope) (own place : Span) (z : SizeofOperand) → size_breaches k s own z place ≡ [] → is_none (size_named k s z) ≡ false
-some_size k s own place (operand.Number t) e = refl
-some_size k s own place (operand.Name n) e =
-    let f = found_in k s n in
-    let one = when_none (is_nothing f) Unknown place (left_none (when (is_nothing f) Unknown place) _ e) in
-    let rest = right_none (when (is_nothing f) Unknown place) _ e in
-    let two = when_none (not (is_nothing f) && not (is_type f)) Mismatch place (left_none (when (not (is_nothing f) && not (is_type f)) Mismatch place) _ rest) in
-    let three = when_none (is_type f && is_none (size_found k f)) NotConstant own (right_none (when (not (is_nothing f) && not (is_type f)) Mismatch place) _ rest) in
-    named_size k f one two three
-some_size k s own place operand.This e = when_none (is_none s.this) NotConstant own e
-
 -- a number has a type, alone and beside another operand
 pub type_is : (a : Sort) → HasSort a → is_truth a ≡ false → (w : Scalar) × (type_alone a ≡ Some w)
 type_is sort.Broken h e = absurd h
@@ -104,14 +93,6 @@ computed_sorted op a b h g e f =
     let x = beside_is a b h e in
     let y = beside_is b a g f in
     by_types (computed_type op) (type_beside a b) (type_beside b a) x.0 y.0 x.1 y.1
-
-or_left : (a b : Bool) → (a || b) ≡ false → a ≡ false
-or_left false b e = refl
-or_left true b e = absurd cc
-
-or_right : (a b : Bool) → (a || b) ≡ false → b ≡ false
-or_right false b e = e
-or_right true b e = absurd cc
 
 operation_sorted : (o : Operation) (a b : Sort) → HasSort a → HasSort b → are_wrong_operands o a b ≡ false → HasSort (operation_sort o a b)
 operation_sorted (Computes op) a b h g e = computed_sorted op a b h g (or_left (is_truth a) (is_truth b) e) (or_right (is_truth a) (is_truth b) e)

@@ -2,6 +2,7 @@
 use Rattle.std.proofs.Common.{◌≡◌, ℕ, zero, suc, ◌+◌, ◌*◌, ◌^◌, ◌<◌, ◌≤◌, List, [], ◌∷◌, length, Option, Some, None, slice_get, refl, sym, ap, subst, arith, length-append}
 use Rattle.std.proofs.lemmas.List.{length-map}
 use Rattle.td_num.specs.Lists.{Each}
+use Rattle.td_core.specs.declared.limits.TheConstants.{MOST_NODES}
 use Rattle.td_core.specs.declared.module.Element.{Element}
 use Rattle.td_core.specs.declared.module.Element.TheVariants.{Number, Listed, Named, Unit as UnitElement, Rest, Zeros}
 use Rattle.td_core.specs.declared.module.Part.{Part}
@@ -15,15 +16,17 @@ use Rattle.td_core.specs.Weights.{head_nodes, body_nodes, definitions_nodes}
 use Rattle.td_core.specs.WellFormed.{DefinitionWithin, HasParts, EachField}
 use Rattle.td_blocks.specs.Block.{size, code}
 use Rattle.td_blocks.specs.Lowered.{definition_block, block_of, first_site}
-use Rattle.td_emit.proofs.Writing.{code_size}
 use Rattle.td_lower.specs.Code.{code_to, routine_for, routines_to}
-use Rattle.td_lower.specs.Tables.{own_of, empty_maps, parts_maps, fields_maps, default_maps, cases_maps, body_maps, definition_maps, definitions_maps, entries_for}
+use Rattle.td_lower.specs.Tables.{own_of, empty_maps, parts_maps, fields_maps, default_maps, cases_maps, body_maps, definition_maps, definitions_maps}
 use Rattle.td_lower.proofs.Heights.{registers_low}
 use Rattle.td_lower.proofs.Rooms.{own_nodes}
 use Rattle.td_image.specs.Within.{IsSmallMap, IsSmallRoutine}
-use Rattle.td_within.proofs.Lists.{each_append, each_at, got, there}
 use Rattle.td_within.proofs.Blocks.{IsRoomy, AreRoomy, code_roomy}
 use Rattle.td_within.proofs.Sizes.{definition_size}
+use Rattle.td_num.proofs.Lists.{got, each_at, each_append}
+use Rattle.td_core.proofs.Found.{cells_mapped as map_count}
+use Rattle.td_blocks.proofs.Laying.{code_size}
+use Rattle.td_lower.proofs.Codes.{there}
 
 -- ---- cell maps
 
@@ -32,13 +35,6 @@ some_map cells few numbers = record { few = omega (arith, few); numbers = number
 
 no_map : IsSmallMap []
 no_map = some_map [] (omega arith) tt
-
--- a map has as many cells as the type that is called, and each is one of the caller's
-map_count : (cells bs : List Bound) (ks : List ℕ) → AreCellsFormed cells bs ks → length ks ≡ length bs
-map_count cells [] [] h = refl
-map_count cells [] (k ∷ ks) h = absurd h
-map_count cells (b ∷ bs) [] h = absurd h
-map_count cells (b ∷ bs) (k ∷ ks) h = ap suc (map_count cells bs ks h.1)
 
 map_numbers : (cells bs : List Bound) (ks : List ℕ) → length cells ≤ 64 → AreCellsFormed cells bs ks → Each (λ n. n < 2 ^ 32) ks
 map_numbers cells [] [] few h = tt
@@ -113,7 +109,7 @@ maps_small ds within formed = behind ds within formed 0 ds (λ n d e. (let z : 0
 
 -- ---- routines
 
-routine_small : (ds : List TypeDef) (count n : ℕ) (o : Option TypeDef) → slice_get ds n ≡ o → Each DefinitionWithin ds → definitions_nodes ds ≤ 20000
+routine_small : (ds : List TypeDef) (count n : ℕ) (o : Option TypeDef) → slice_get ds n ≡ o → Each DefinitionWithin ds → definitions_nodes ds ≤ MOST_NODES
     → ((n : ℕ) (d : TypeDef) → slice_get ds n ≡ Some d → IsDefinitionFormed ds n d) → IsSmallRoutine (routine_for count o)
 routine_small ds count n None e within nodes formed = record { params = omega arith; cells = omega arith; registers = omega arith }
 routine_small ds count n (Some d) e within nodes formed =
@@ -122,7 +118,7 @@ routine_small ds count n (Some d) e within nodes formed =
     let y = own_nodes ds n d e in
     record { params = omega (arith, w.params); cells = omega (arith, w.cells); registers = omega (arith, x, y, nodes) }
 
-pub routines_small : (units : ℕ → ℕ) (ds : List TypeDef) (n : ℕ) → Each DefinitionWithin ds → definitions_nodes ds ≤ 20000
+pub routines_small : (units : ℕ → ℕ) (ds : List TypeDef) (n : ℕ) → Each DefinitionWithin ds → definitions_nodes ds ≤ MOST_NODES
     → ((n : ℕ) (d : TypeDef) → slice_get ds n ≡ Some d → IsDefinitionFormed ds n d) → Each IsSmallRoutine (routines_to units ds n)
 routines_small units ds zero within nodes formed = tt
 routines_small units ds (suc n) within nodes formed =
@@ -130,10 +126,6 @@ routines_small units ds (suc n) within nodes formed =
     (routine_small ds (size (block_of units ds n)) n (slice_get ds n) refl within nodes formed, tt)
 
 -- ---- entry points
-
-pub entries_count : (ds : List TypeDef) (places : List ℕ) → length (entries_for ds places) ≡ length places
-entries_count ds [] = refl
-entries_count ds (p ∷ ps) = ap suc (entries_count ds ps)
 
 -- ---- instructions
 

@@ -8,9 +8,9 @@ use Rattle.td_admitted.specs.Laws.{HasLimits}
 use Rattle.td_admitted.proofs.Within.{modules_are_within}
 use Rattle.td_within.specs.Small.{IsSmall}
 use Rattle.td_within.specs.Laws.{ModulesAreSmall}
-use Rattle.td_within.proofs.Lists.{each_map}
 use Rattle.td_within.proofs.Knowns.{tree_small}
 use Rattle.td_within.proofs.Names.{tree_few, names_few, names_short}
+use Rattle.td_num.proofs.Lists.{each_map}
 
 small_tree : (t : ModuleTree) → HasLimits t → breaches t ≡ [] → Each (λ name. length name < 2 ^ 32) (module_of t).names → IsSmall (module_of t)
 small_tree t limits none short =

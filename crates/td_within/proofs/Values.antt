@@ -1,6 +1,6 @@
 -- Expressions and actions in blocks: their numbers are of 64 bits, and they have no more instructions than five times their
 -- nodes.
-use Rattle.std.proofs.Common.{◌≡◌, ℕ, suc, ◌+◌, ◌-◌, ◌*◌, ◌^◌, ◌<◌, ◌≤◌, List, [], ◌∷◌, true, false, refl, arith, slice_get}
+use Rattle.std.proofs.Common.{ℕ, suc, ◌+◌, ◌-◌, ◌*◌, ◌^◌, ◌<◌, ◌≤◌, List, [], ◌∷◌, true, false, arith, slice_get}
 use Rattle.td_num.specs.Lists.{Each}
 use Rattle.td_core.specs.declared.expressions.Scalar.{Scalar}
 use Rattle.td_core.specs.declared.expressions.Scalar.TheVariants.{Truth, Eight, Sixteen, ThirtyTwo, SixtyFour}
@@ -8,16 +8,16 @@ use Rattle.td_core.specs.declared.expressions.Binary.{Binary as Operator}
 use Rattle.td_core.specs.declared.expressions.Binary.TheVariants.{Plus, Minus, Times, Over, Modulo, BitAnd, BitOr, BitXor, ShiftLeft as ShiftLeftOp, ShiftRight}
 use Rattle.td_core.specs.declared.expressions.Relation.{Relation}
 use Rattle.td_core.specs.declared.expressions.Relation.TheVariants.{Equal, NotEqual, Less, LessEqual, Greater, GreaterEqual}
-use Rattle.td_core.specs.Term.{Term, number, name, complement, negation, compute, compare, both, either, choice, range_okay, measure, Deed, done, set, keep, fork, answer, give_up}
+use Rattle.td_core.specs.Term.{Term, number, name, complement, negation, compute, compare, both, either, choice, range_okay, Deed, done, set, keep, fork, answer, give_up}
 use Rattle.td_core.specs.Types.{limit, type_of}
 use Rattle.td_core.specs.Formed.{Bound, given, IsScoped, IsDeedFormed, AreArgsFormed}
-use Rattle.td_core.specs.Weights.{terms_nodes, deed_nodes}
 use Rattle.td_ir.specs.declared.instructions.Instr.TheVariants as i
 use Rattle.td_blocks.specs.Block.{Block, Done, Then, Stop, Leave, Guard, Scope, size}
 use Rattle.td_blocks.specs.Constructs.{Expr, Lit, Slot, Binary, Not, Complement, ShiftLeft, Both, Either, Choice, Range, value, values, Action, Finish, Assign, Read, If, Return, Abort, acts}
 use Rattle.td_blocks.specs.Lowered.{computed_of, compared_of, mask_of, expr_of, exprs_of, action_of}
 use Rattle.td_acceptance.specs.Weights.{nodes, all_nodes, act_nodes}
 use Rattle.td_within.proofs.Blocks.{AreRoomy}
+use Rattle.td_expr.proofs.Widths.{limit_small as limit_low}
 
 -- ---- numbers
 
@@ -32,13 +32,6 @@ IsRoomyExpr (Both a b) = IsRoomyExpr a × IsRoomyExpr b
 IsRoomyExpr (Either a b) = IsRoomyExpr a × IsRoomyExpr b
 IsRoomyExpr (Choice c a b) = IsRoomyExpr c × (IsRoomyExpr a × IsRoomyExpr b)
 IsRoomyExpr (Range s o a) = IsRoomyExpr s × (IsRoomyExpr o × IsRoomyExpr a)
-
-pub limit_low : (w : Scalar) → limit w ≤ 2 ^ 64
-limit_low Truth = omega arith
-limit_low Eight = omega arith
-limit_low Sixteen = omega arith
-limit_low ThirtyTwo = omega arith
-limit_low SixtyFour = omega arith
 
 mask_roomy : (w : Scalar) → limit w - 1 < 2 ^ 64
 mask_roomy Truth = omega arith
@@ -128,50 +121,6 @@ acts_roomy t site (Return e) k h g = value_roomy t e _ h (tt, tt)
 acts_roomy t site Abort k h g = tt
 
 -- ---- instructions
-
-computed_nodes : (op : Operator) (mask : ℕ) (a b : Expr) → nodes (computed_of op mask a b) ≡ 1 + (nodes a + nodes b)
-computed_nodes Plus mask a b = refl
-computed_nodes Minus mask a b = refl
-computed_nodes Times mask a b = refl
-computed_nodes Over mask a b = refl
-computed_nodes Modulo mask a b = refl
-computed_nodes BitAnd mask a b = refl
-computed_nodes BitOr mask a b = refl
-computed_nodes BitXor mask a b = refl
-computed_nodes ShiftLeftOp mask a b = refl
-computed_nodes ShiftRight mask a b = refl
-
-compared_nodes : (r : Relation) (a b : Expr) → nodes (compared_of r a b) ≡ 1 + (nodes a + nodes b)
-compared_nodes Equal a b = refl
-compared_nodes NotEqual a b = refl
-compared_nodes Less a b = refl
-compared_nodes LessEqual a b = refl
-compared_nodes Greater a b = omega arith
-compared_nodes GreaterEqual a b = omega arith
-
-pub nodes_are : (e : Term) → nodes (expr_of e) ≡ measure e
-nodes_are (number n w) = refl
-nodes_are (name i w most) = refl
-nodes_are (complement a) = let x = nodes_are a in omega (arith, x)
-nodes_are (negation a) = let x = nodes_are a in omega (arith, x)
-nodes_are (compute op s a b) = let x = nodes_are a in let y = nodes_are b in let z = computed_nodes op (mask_of a) (expr_of a) (expr_of b) in omega (arith, x, y, z)
-nodes_are (compare r a b) = let x = nodes_are a in let y = nodes_are b in let z = compared_nodes r (expr_of a) (expr_of b) in omega (arith, x, y, z)
-nodes_are (both a b) = let x = nodes_are a in let y = nodes_are b in omega (arith, x, y)
-nodes_are (either a b) = let x = nodes_are a in let y = nodes_are b in omega (arith, x, y)
-nodes_are (choice c a b) = let x = nodes_are c in let y = nodes_are a in let z = nodes_are b in omega (arith, x, y, z)
-nodes_are (range_okay s o a) = let x = nodes_are s in let y = nodes_are o in let z = nodes_are a in omega (arith, x, y, z)
-
-pub all_are : (es : List Term) → all_nodes (exprs_of es) ≡ terms_nodes es
-all_are [] = refl
-all_are (e ∷ es) = let x = nodes_are e in let y = all_are es in omega (arith, x, y)
-
-pub acts_are : (L : ℕ) (d : Deed) → act_nodes (action_of L d) ≡ deed_nodes d
-acts_are L done = refl
-acts_are L (set cell e then) = let x = nodes_are e in let y = acts_are L then in omega (arith, x, y)
-acts_are L (keep cell then) = let y = acts_are (suc L) then in omega (arith, y)
-acts_are L (fork e one other then) = let x = nodes_are e in let y = acts_are L one in let z = acts_are L other in let w = acts_are L then in omega (arith, x, y, z, w)
-acts_are L (answer e) = let x = nodes_are e in omega (arith, x)
-acts_are L give_up = refl
 
 pub value_size : (t : ℕ) (e : Expr) (k : Block) → 1 + size (value t e k) ≤ 5 * nodes e + size k
 value_size t (Lit n) k = omega arith

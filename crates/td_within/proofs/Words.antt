@@ -13,7 +13,8 @@ use Rattle.td_lexer.specs.Splits.{IsName}
 use Rattle.td_image.specs.Format.{AreBytes}
 use Rattle.td_image.specs.Names as names
 use Rattle.td_image.specs.Within.{IsSpelled, AreApart}
-use Rattle.td_within.proofs.Lists.{each_append, each_at, get_end}
+use Rattle.td_within.proofs.Lists.{get_end}
+use Rattle.td_num.proofs.Lists.{each_at, each_append}
 
 -- ---- spelling
 

@@ -1,4 +1,4 @@
--- How the host makes seats, gathers them, and learns of the history.
+-- How the host makes seats, gathers them, and learns of the history. Cited by other crates.
 use Rattle.std.proofs.Common.{◌≡◌, ◌≢◌, ◌⊎◌, ℕ, zero, suc, ◌+◌, ◌<◌, Bool, eqb, cond, eq-eqb, ne_eqb, List, [], ◌∷◌, ◌++◌, length, set, drop, refl, sym, ap, ◌∙◌, subst, inl, inr, ⊎_elim, arith, length-append}
 use mathlib.Core.Option.{Option, none, some, some-injective, some-ne-none}
 use mathlib.Core.Logic.{dite}

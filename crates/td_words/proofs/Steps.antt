@@ -1,4 +1,4 @@
--- Each step keeps the rule.
+-- Each step keeps the rule. Cited by other crates.
 use Rattle.std.proofs.Common.{◌≡◌, ◌≢◌, ℕ, zero, suc, ◌+◌, List, [], ◌∷◌, ◌++◌, set, get_or, refl, sym, ap, ◌∙◌, subst, ⊎_elim, arith, add-one}
 use Rattle.std.specs.Prelude.{slice_index}
 use mathlib.Core.Option.{Option, none, some, some-injective, some-ne-none}

@@ -9,3 +9,6 @@ mod rule;
 pub mod seats;
 pub mod shared;
 pub mod view;
+
+pub use seats::{GuestSeat, HostSeat, ReadSeat};
+pub use shared::Shared;

@@ -2,7 +2,7 @@ use Rattle.std.specs.Prelude.{List, Option, option_map}
 use Rattle.td_stream.specs.declared.stretch.Stretch.{Stretch}
 use Rattle.std.proofs.lemmas.Result.{IfOk-weaker}
 use Rattle.td_job_run.specs.Runs.{IsRunBy}
-use Rattle.td_bodies.specs.Meant.{IsMeant}
+use Rattle.td_bodies.specs.Meant.{IsJobMeant}
 use Rattle.td_stream.specs.Layouts.{laid}
 use Rattle.td_stream.specs.Loads.{Inside}
 use Rattle.td_bodies.proofs.Jobs.{lowerable, job_fits, ends_with, over_with, input_by, run_is_meant, run_is_inside}
@@ -34,7 +34,7 @@ returns-clause-meant c =
     let layout : Option (List Stretch) = option_map (λ l. l.now) c.as_ref-layout.result in
     IfOk-weaker c.run_planned.result
     (λ run. IsRunBy code (input_by job args cells words stores layout) run.outcome run.loads.list)
-    (λ run. IsMeant c.args.m.now job run.outcome run.loads.list)
+    (λ run. IsJobMeant c.args.m.now job run.outcome run.loads.list)
     (λ run h.
     run_is_meant code c.args.m.now job run.outcome run.loads.list args cells words stores layout c.in_ok-code.ensures.code c.requires.sound c.requires.room
     c.as_slice-args.ensures c.as_slice-cells.ensures c.as_ref-layout.ensures.value h)

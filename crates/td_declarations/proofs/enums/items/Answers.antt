@@ -4,8 +4,8 @@ use Rattle.td_rules.specs.Breach.{first_of}
 use Rattle.td_rules.specs.Constants.{with_global, with_value_number, number_or_zero}
 use Rattle.td_rules.specs.Enums.{next_value, item_value, item_breaches, with_item, items_breaches, items_after, item_values}
 use Rattle.td_typing.proofs.Steps.{first_append}
-use Rattle.td_actions.proofs.Turns.{split}
 use Rattle.td_declarations.proofs.enums.items.Goals as goal
+use Rattle.td_num.proofs.Lists.{drop_next as split}
 
 pub loop-tree-preserved : goal.loop-tree-preserved
 loop-tree-preserved c =

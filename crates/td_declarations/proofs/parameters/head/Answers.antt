@@ -2,8 +2,8 @@ use Rattle.std.proofs.Common.{sym, ap, ◌∙◌, ◌+◌, drop, arith}
 use Rattle.td_rules.specs.Breach.{first_of}
 use Rattle.td_rules.specs.Parameters.{with_param, head_of, param_breaches, params_breaches}
 use Rattle.td_typing.proofs.Steps.{first_append}
-use Rattle.td_actions.proofs.Turns.{split}
 use Rattle.td_declarations.proofs.parameters.head.Goals as goal
+use Rattle.td_num.proofs.Lists.{drop_next as split}
 
 pub loop-tree-preserved : goal.loop-tree-preserved
 loop-tree-preserved c =

@@ -1,4 +1,4 @@
-use Rattle.std.proofs.Common.{rules, ◌≡◌, ℕ, true, Some, subst}
+use Rattle.std.proofs.Common.{rules, ◌≡◌, ℕ, true, subst}
 use Rattle.std.specs.Prelude.{Option, IfSome}
 use Rattle.td_meaning.specs.Meaning.{divides, equals}
 use Rattle.td_direct.specs.Passing.{IsPassed, passes_all}

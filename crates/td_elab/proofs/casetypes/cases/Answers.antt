@@ -6,8 +6,9 @@ use Rattle.td_rules.specs.Constants.{constant_value, with_value_number, number_o
 use Rattle.td_rules.specs.Fields.{fields_breaches, fields_core}
 use Rattle.td_rules.specs.Casetypes.{case_breaches, case_taken, cases_breaches, cases_taken, cases_core}
 use Rattle.td_typing.proofs.Steps.{first_append}
-use Rattle.td_actions.proofs.Turns.{split, done}
 use Rattle.td_elab.proofs.casetypes.cases.Goals as goal
+use Rattle.td_num.proofs.Truths.{all_dropped as done}
+use Rattle.td_num.proofs.Lists.{drop_next as split}
 
 pub loop-tree-preserved : goal.loop-tree-preserved
 loop-tree-preserved c =

@@ -1,7 +1,7 @@
 use Rattle.std.proofs.Common.{ap, ◌∙◌}
 use Rattle.td_elab.specs.Heads.{with_definition}
-use Rattle.td_elab.proofs.Chains.{on_ok_then}
 use Rattle.td_elab.proofs.definitions.add_type.Goals as goal
+use Rattle.td_names.proofs.Naming.{on_ok as on_ok_then}
 
 pub returns : goal.returns
 returns c =

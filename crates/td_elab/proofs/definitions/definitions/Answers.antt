@@ -2,8 +2,9 @@ use Rattle.std.proofs.Common.{sym, ap, ◌∙◌, ◌+◌, drop, arith}
 use Rattle.td_rules.specs.Breach.{first_of}
 use Rattle.td_rules.specs.Definitions.{after, definition_breaches, definitions_breaches, known_after}
 use Rattle.td_typing.proofs.Steps.{first_append}
-use Rattle.td_actions.proofs.Turns.{split, done}
 use Rattle.td_elab.proofs.definitions.definitions.Goals as goal
+use Rattle.td_num.proofs.Truths.{all_dropped as done}
+use Rattle.td_num.proofs.Lists.{drop_next as split}
 
 pub loop-tree-preserved : goal.loop-tree-preserved
 loop-tree-preserved c =
@@ -14,6 +15,7 @@ loop-tree-preserved c =
     let d = c.in_ok-definition.ensures in
     let s = split c.args.trees.now l.tree-index x (omega arith) c.tree-item.is in
     record {
+      slots = d.slots;
       known = ap (λ k. known_after names k rest) d.known ∙ ap (λ r. known_after names l.known r) (sym s) ∙ l.invariant.known;
       first =
           (λ i. first_of (d.first i) (definitions_breaches names (d.known i) rest))

@@ -3,8 +3,9 @@ use Rattle.td_rules.specs.Breach.{first_of}
 use Rattle.td_rules.specs.BitFields.{gathered}
 use Rattle.td_rules.specs.Fields.{with_field, field_breaches, field_taken, fields_breaches, fields_taken, flats_of}
 use Rattle.td_fields.specs.Scopes.{fields_scope}
-use Rattle.td_fields.proofs.Steps.{split, first_append}
 use Rattle.td_fields.proofs.fields.gathered.Goals as goal
+use Rattle.td_num.proofs.Lists.{drop_next as split}
+use Rattle.td_typing.proofs.Steps.{first_append}
 
 pub loop-tree-preserved : goal.loop-tree-preserved
 loop-tree-preserved c =

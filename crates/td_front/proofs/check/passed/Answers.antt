@@ -1,6 +1,12 @@
+use Rattle.std.proofs.Common.{refl}
 use Rattle.td_core.specs.declared.module.Module.{Module}
-use Rattle.td_front.proofs.Memory.{same_error, handed_on, refusal_told, tree_token}
+use Rattle.td_front.proofs.Memory.{handed_on, refusal_told, tree_token}
 use Rattle.td_front.proofs.check.passed.Goals as goal
+use Rattle.td_num.proofs.Equals.{same_error}
+
+pub returns-clause-stands : goal.returns-clause-stands
+returns-clause-stands c =
+    (record { tree = c.args.tree.now; spells = c.requires; admitted = c.in_ok-check_sizes.ensures.ok; module_is = c.in_ok-found.ensures.value }, refl)
 
 pub returns-in_err-check_counts-clause-memory : goal.returns-in_err-check_counts-clause-memory
 returns-in_err-check_counts-clause-memory c =

@@ -1,8 +1,9 @@
 use Rattle.std.proofs.Common.{ap, Err}
 use Rattle.td_front.proofs.Counts.{few_tokens}
 use Rattle.td_front.proofs.Answering.{of_bytes}
-use Rattle.td_front.proofs.Memory.{same_error, lexing_memory}
+use Rattle.td_front.proofs.Memory.{lexing_memory}
 use Rattle.td_front.proofs.check.tokens.Goals as goal
+use Rattle.td_num.proofs.Equals.{same_error}
 
 pub returns-in-Ok-clause-few : goal.returns-in-Ok-clause-few
 returns-in-Ok-clause-few c = few_tokens c.args.text.now 0 0 c.in-Ok.tokens.items c.in-Ok.ensures.answer

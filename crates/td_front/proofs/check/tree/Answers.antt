@@ -1,7 +1,8 @@
 use Rattle.std.proofs.Common.{ap, Err}
 use Rattle.td_front.proofs.Answering.{of_tokens}
-use Rattle.td_front.proofs.Memory.{same_error, parsing_memory, has_token}
+use Rattle.td_front.proofs.Memory.{parsing_memory, has_token}
 use Rattle.td_front.proofs.check.tree.Goals as goal
+use Rattle.td_num.proofs.Equals.{same_error}
 
 pub returns-in-Err-clause-refused : goal.returns-in-Err-clause-refused
 returns-in-Err-clause-refused c =

@@ -1,7 +1,8 @@
 use Rattle.std.proofs.Common.{◌<◌, length, ap, Err, subst}
 use Rattle.td_core.specs.declared.module.Module.{Module}
-use Rattle.td_front.proofs.Memory.{same_error, arith_memory, has_definition}
+use Rattle.td_front.proofs.Memory.{arith_memory, has_definition}
 use Rattle.td_front.proofs.passes.check_safety.Goals as goal
+use Rattle.td_num.proofs.Equals.{same_error}
 
 pub returns-in-Err-clause-memory : goal.returns-in-Err-clause-memory
 returns-in-Err-clause-memory c =

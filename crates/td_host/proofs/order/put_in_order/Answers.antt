@@ -12,8 +12,9 @@ pub loop-mail-init : goal.loop-mail-init
 loop-mail-init c =
     let mails : List Mail = c.args.mails.now in
     let found : List Reply = c.args.found.items in
+    let left : List Reply = c.sort_unstable_by.new.self.items in
     record {
-      ordering = subst (λ (l : List Reply). Ordering mails found 0 l found) (sym c.requires.empty) (begins mails found c.requires.each);
+      ordering = subst (λ (l : List Reply). Ordering mails found 0 l left) (sym c.requires.empty) (begins mails found left c.requires.each c.sort_unstable_by.ensures.permutation);
       room = c.requires.room;
     }
 

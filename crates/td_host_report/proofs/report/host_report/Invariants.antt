@@ -1,9 +1,8 @@
-use Rattle.std.proofs.Common.{Ok, flat_map, take}
-use Rattle.td_io.specs.declared.writing.WriteFault.{WriteFault}
-use Rattle.td_io.specs.States.{Writes}
+use Rattle.std.proofs.Common.{[], flat_map, take}
+use Rattle.td_report.specs.Paged.{IsMoved}
 use Rattle.td_host_report.specs.Report.{reply_report}
 use Rattle.td_host_report.proofs.report.host_report.Given as goal
 
--- the reports of the replies so far were written
+-- of the reports of the replies so far the first bytes were written, and the others wait in the page
 abbrev pub invariant-loop-reply : goal.invariant-loop-reply
-invariant-loop-reply g l = Writes {T = Unit {0}} {E = WriteFault} (g.O.Sink.state l.fn.out) (g.O.Sink.state l.out) (flat_map (reply_report l.m l.entry) (take l.reply-index l.replies)) (Ok tt)
+invariant-loop-reply g l = IsMoved (g.O.Sink.state l.fn.out) (g.O.Sink.state l.out) [] l.page.written (flat_map (reply_report l.m l.entry) (take l.reply-index l.replies))

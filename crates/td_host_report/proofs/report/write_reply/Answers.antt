@@ -1,4 +1,4 @@
-use Rattle.std.proofs.Common.{◌≡◌, ℕ, Option, List, sym, ap, ◌∙◌}
+use Rattle.std.proofs.Common.{◌≡◌, ℕ, Option, None, List, sym, ap, ◌∙◌}
 use Rattle.std.specs.Option.{option_copied}
 use Rattle.td_core.specs.declared.outcome.TraceFrame.{TraceFrame}
 use Rattle.td_core.specs.declared.outcome.Outcome.{Outcome}
@@ -14,7 +14,7 @@ pub returns-in_err-write_reply_line : goal.returns-in_err-write_reply_line
 unfolding reply_report
 returns-in_err-write_reply_line g c =
     let r = c.args.reply.now in
-    writes_stopped (report (outcome_in r) c.args.m.now c.args.entry r.loads.list r.layout) c.from_residual.result c.from_residual.ensures.0 c.in_err-write_reply_line.ensures
+    writes_stopped (report (outcome_in r) c.args.m.now c.args.entry r.loads.list r.layout None) c.from_residual.result c.from_residual.ensures.0 c.in_err-write_reply_line.ensures
 
 pub returns : goal.returns
 unfolding reply_report
@@ -28,9 +28,9 @@ returns g c =
     let loads : c.as_slice-2.result.now ≡ r.loads.list = c.as_slice-2.ensures in
     let given : Option (List Stretch) = option_copied c.as_ref.result in
     let layout : given ≡ r.layout = c.as_ref.ensures.value in
-    let same : report (outcome_in r) m e r.loads.list r.layout ≡ report (outcome c.as_slice.result.now c.deref.result.now) m e c.as_slice-2.result.now given =
-    ap (λ t. report (outcome t r.cells.items) m e r.loads.list r.layout) (sym trace)
-    ∙ ap (λ v. report (outcome c.as_slice.result.now v) m e r.loads.list r.layout) (sym cells)
-    ∙ ap (λ (l : List Load). report (outcome c.as_slice.result.now c.deref.result.now) m e l r.layout) (sym loads)
-    ∙ ap (λ (k : Option (List Stretch)). report (outcome c.as_slice.result.now c.deref.result.now) m e c.as_slice-2.result.now k) (sym layout) in
+    let same : report (outcome_in r) m e r.loads.list r.layout None ≡ report (outcome c.as_slice.result.now c.deref.result.now) m e c.as_slice-2.result.now given None =
+    ap (λ t. report (outcome t r.cells.items) m e r.loads.list r.layout None) (sym trace)
+    ∙ ap (λ v. report (outcome c.as_slice.result.now v) m e r.loads.list r.layout None) (sym cells)
+    ∙ ap (λ (l : List Load). report (outcome c.as_slice.result.now c.deref.result.now) m e l r.layout None) (sym loads)
+    ∙ ap (λ (k : Option (List Stretch)). report (outcome c.as_slice.result.now c.deref.result.now) m e c.as_slice-2.result.now k None) (sym layout) in
     writes_both c.in_ok-write_reply_line.ensures (writes_as same c.report_of_parts.ensures)

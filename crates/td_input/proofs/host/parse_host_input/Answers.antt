@@ -11,10 +11,11 @@ use Rattle.td_host_job.specs.HostJobs.{IsHostJob, RefusedHostJob}
 use Rattle.td_input.specs.Causes.{HasCause}
 use Rattle.td_input.specs.Marker.{text_part, job_part}
 use Rattle.td_input.specs.Inputs.{RefusesHost}
-use Rattle.td_input.proofs.Memory.{same_error, module_memory, job_memory}
+use Rattle.td_input.proofs.Memory.{module_memory, job_memory}
 use Rattle.td_input.proofs.Inputs.{text_errors, job_errors, nothing_refuses, module_cause, job_cause, no_error}
 use Rattle.td_input.proofs.Sounds.{sound_host, fits_entry}
 use Rattle.td_input.proofs.host.parse_host_input.Goals as goal
+use Rattle.td_num.proofs.Equals.{same_error}
 
 pub returns-in-Err-clause-cause : goal.returns-in-Err-clause-cause
 returns-in-Err-clause-cause c =

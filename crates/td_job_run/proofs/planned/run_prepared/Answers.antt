@@ -9,14 +9,14 @@ use Rattle.td_sched.specs.View.{PlannedView, PlannedReaches}
 use Rattle.td_core.specs.declared.module.Module.{Module}
 use Rattle.td_core.specs.declared.module.Entry.{Entry}
 use Rattle.td_core.specs.declared.outcome.Outcome.{Outcome}
-use Rattle.td_meaning.specs.Meaning.{meaning}
 use Rattle.td_expr.specs.Sound.{Sound}
 use Rattle.td_meaning.specs.Throughout.{Throughout}
-use Rattle.td_leaves.specs.Outcomes.{IsBehaviorOf}
+use Rattle.td_leaves.specs.Outcomes.{IsMeant}
 use Rattle.td_ir.specs.declared.tables.Parts.{Parts}
 use Rattle.td_ir.specs.Run.{run}
 use Rattle.td_lowered.specs.CodeRun.{IsCodeOf}
 use Rattle.td_vm.specs.Outcomes.{IsRun}
+use Rattle.td_vm.specs.Frames.{outcome_in}
 use Rattle.td_job_run.specs.Runs.{IsRunBy}
 use Rattle.td_job_run.proofs.planned.run_prepared.Goals as goal
 
@@ -36,12 +36,12 @@ held v w loads plays fresh recorded =
 moved : (p : Parts) (entry : Entry) (args : List ℕ) (n : ℕ) (o : Option (List Stretch)) (words : List ℕ) (stores : List PlannedStore) (loads : List Load) (outcome : Outcome) (cells cells' : List ℕ) (layout : List Stretch) → cells' ≡ cells → layout ≡ laid n o
     → IsRising loads → Inside layout loads → ArePlanned words stores 0 (buffered o loads)
     → ((b : List ℕ) → Carries layout b loads → IsRun layout loads (run p entry args cells' b) outcome 0 (run p entry args cells' b).steps)
-    → ((m : Module) (b : List ℕ) → IsCodeOf p m → Carries layout b loads → Throughout Sound m entry args cells' b → IsBehaviorOf layout loads (meaning m entry args cells' b) outcome)
+    → ((m : Module) (b : List ℕ) → IsCodeOf p m → Carries layout b loads → Throughout Sound m entry args cells' b → IsMeant layout m entry args cells' b loads outcome)
     → IsRunBy p (record { entry = entry; args = args; cells = cells; length = n; layout = o; words = words; stores = stores }) outcome loads
 moved p entry args n o words stores loads outcome cells cells' layout same at rising inside planned ran meant =
     let R : List ℕ × List Stretch → Type 0 = λ x. Inside x.1 loads
     × ((b : List ℕ) → Carries x.1 b loads → IsRun x.1 loads (run p entry args x.0 b) outcome 0 (run p entry args x.0 b).steps)
-    × ((m : Module) (b : List ℕ) → IsCodeOf p m → Carries x.1 b loads → Throughout Sound m entry args x.0 b → IsBehaviorOf x.1 loads (meaning m entry args x.0 b) outcome) in
+    × ((m : Module) (b : List ℕ) → IsCodeOf p m → Carries x.1 b loads → Throughout Sound m entry args x.0 b → IsMeant x.1 m entry args x.0 b loads outcome) in
     let now : R (cells, laid n o) = subst R (λ i. (same i, at i)) (inside, ran, meant) in
     record { rising = rising; inside = now.0; held = planned; ran = now.1; meant = now.2 }
 
@@ -51,6 +51,6 @@ returns-clause-run c = λ n at.
     let p = c.args.prepared in
     let loads = c.validate_recorded-verdict.new.loads.list in
     moved c.args.code.now c.args.entry c.args.args.now n p.words.layout p.words.opening p.words.stores loads
-    (record { verdict = c.validate_recorded-verdict.result; trace = c.validate_recorded-verdict.new.frame.trace; cells = c.validate_recorded-verdict.new.frame.cells })
+    (outcome_in c.validate_recorded-verdict.new.frame c.validate_recorded-verdict.result)
     c.args.cells.now c.set_cells.new.self.cells c.args.message.now c.set_cells.ensures.cells at
     done.rising done.inside (held p.words c.validate_recorded-verdict.new.words loads done.reaches p.fresh done.loads) done.run done.behavior

@@ -7,6 +7,6 @@ use Rattle.td_limits.proofs.counts.counts_passed.Given as goal
 abbrev pub invariant-loop-definition : goal.invariant-loop-definition
 invariant-loop-definition l = record {
   rest : first_excess (count_excesses l.count l.nodes (drop l.definition-index l.definitions)) ≡ first_excess (count_excesses 0 0 l.definitions);
-  count : l.count ≤ 1000;
-  nodes : l.nodes ≤ 20000;
+  count : l.count ≤ 4000;
+  nodes : l.nodes ≤ 60000;
 }

@@ -1,12 +1,12 @@
-use Rattle.std.proofs.Common.{rules, ◌≡◌, ℕ, suc, ◌+◌, ◌-◌, ◌*◌, ◌/◌, ◌<◌, ◌≤◌, min, List, [], true, false, cond, refl, sym, ap, ◌∙◌, arith, subst}
+use Rattle.std.proofs.Common.{rules, ◌≡◌, suc, ◌+◌, ◌-◌, ◌*◌, ◌/◌, ◌<◌, ◌≤◌, min, true, false, cond, sym, ap, ◌∙◌, arith, subst}
 use Rattle.std.specs.Prelude.{nat_eq, nat_le}
 use Rattle.td_num.specs.Numbers.{bytes_in, number_at}
 use Rattle.td_core.specs.declared.outcome.Reason.TheVariants.{Constraint, NotEnough}
-use Rattle.td_core.specs.Outcome.{Behavior, Ending, Accepted}
+use Rattle.td_core.specs.Outcome.{Behavior, Accepted}
 use Rattle.td_meaning.specs.Meaning.{up_to_zero}
 use Rattle.td_meaning.proofs.Zeros.{zero_turns, turns_of, turns_none, turns_on}
-use Rattle.td_plain.proofs.Endings.{room_for, one_fewer}
 use Rattle.td_plain.proofs.arrays.numbers_up_to_zero.Goals as goal
+use Rattle.td_meaning.proofs.Filling.{room_for, one_fewer}
 
 pub loop-turn-init : goal.loop-turn-init
 loop-turn-init c =

@@ -1,6 +1,5 @@
-use Rattle.std.proofs.Common.{◌≡◌, ℕ, ◌+◌, ◌-◌, ◌*◌, ◌≤◌, List, min}
+use Rattle.std.proofs.Common.{◌≡◌, ℕ, ◌-◌, ◌*◌, ◌≤◌, List, min}
 use Rattle.td_num.specs.Numbers.{bytes_in}
-use Rattle.td_core.specs.Outcome.{Ending}
 use Rattle.td_meaning.proofs.Zeros.{zero_turns}
 use Rattle.td_plain.proofs.arrays.numbers_up_to_zero.Given as goal
 

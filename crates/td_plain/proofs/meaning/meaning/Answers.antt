@@ -1,4 +1,4 @@
-use Rattle.std.proofs.Common.{rules, arith, ◌≡◌, ℕ, List, [], ◌++◌, length, take, drop, refl, sym, ap, ◌∙◌}
+use Rattle.std.proofs.Common.{rules, arith, ◌≡◌, [], ◌++◌, length, take, drop, refl, sym, ap, ◌∙◌}
 use Rattle.std.specs.Prelude.{slice_get, None}
 use Rattle.std.proofs.Math.Seq.{take-append_seam}
 use Rattle.td_core.specs.declared.outcome.Reason.TheVariants.{Impossible}
@@ -6,8 +6,9 @@ use Rattle.td_core.specs.declared.outcome.Verdict.TheVariants.{Reject}
 use Rattle.td_core.specs.Outcome.{Behavior, outcome_of}
 use Rattle.td_meaning.specs.Machine.{below}
 use Rattle.td_meaning.proofs.MachineMeaning.{meaning_is}
-use Rattle.td_plain.proofs.Endings.{entry_is, no_entry, outcome_is}
+use Rattle.td_plain.proofs.Endings.{entry_is, outcome_is}
 use Rattle.td_plain.proofs.meaning.meaning.Goals as goal
+use Rattle.td_meaning.proofs.Filling.{no_entry}
 
 pub returns-in_default : goal.returns-in_default
 returns-in_default c = λ sound.

@@ -1,6 +1,7 @@
-use Rattle.std.proofs.Common.{◌≡◌, arith, sym, refl}
-use Rattle.td_plain.proofs.Bytes.{digit_room, digit_top, falling_more, lt_le, le_le}
+use Rattle.std.proofs.Common.{arith, refl}
 use Rattle.td_plain.proofs.numbers.+falling_on.Goals as goal
+use Rattle.td_num.proofs.Digits.{digit_room, falling_more, digit_top}
+use Rattle.td_num.proofs.Truths.{le_le}
 
 pub overflow_mul-number : goal.overflow_mul-number
 overflow_mul-number t c = let h = digit_top c.args.number 0 c.args.width (omega arith) (omega arith) c.requires.small in omega arith

@@ -1,6 +1,6 @@
-use Rattle.std.proofs.Common.{◌≡◌, ◌+◌, ◌-◌, ap, arith, sym, ◌∙◌}
-use Rattle.td_plain.proofs.Bytes.{power_fits, number_more, sum_top}
+use Rattle.std.proofs.Common.{◌-◌, arith}
 use Rattle.td_plain.proofs.numbers.+rising_at.Goals as goal
+use Rattle.td_num.proofs.Digits.{power_fits, number_more, sum_top}
 
 pub overflow_mul-result : goal.overflow_mul-result
 overflow_mul-result t c = let h = sum_top c.args.width c.rising_at-high.result 0 (omega arith) (omega arith) c.rising_at-high.ensures.fits (omega arith) in omega arith

@@ -1,4 +1,4 @@
-use Rattle.std.proofs.Common.{rules, ◌≡◌, ℕ, suc, ◌+◌, ◌-◌, ◌<◌, ◌≤◌, List, [], ◌∷◌, ◌++◌, drop, true, false, None, Some, refl, sym, ap, ◌∙◌, subst, arith}
+use Rattle.std.proofs.Common.{◌≡◌, ℕ, suc, ◌+◌, ◌-◌, List, [], drop, true, false, None, Some, sym, ap, ◌∙◌, arith}
 use Rattle.std.specs.Prelude.{slice_get}
 use Rattle.std.proofs.lemmas.Option.{gets}
 use Rattle.std.proofs.lemmas.Grind.{common_steps}
@@ -6,22 +6,22 @@ use Rattle.std.proofs.lemmas.List.{drop_all}
 use Rattle.td_core.specs.declared.module.Extent.{Extent}
 use Rattle.td_core.specs.declared.module.Field.{Field as FieldDef}
 use Rattle.td_core.specs.declared.outcome.Spot.TheVariants.{Field}
-use Rattle.td_core.specs.declared.outcome.Reason.TheVariants.{Impossible, ListSize}
+use Rattle.td_core.specs.declared.outcome.Reason.TheVariants.{Impossible}
 use Rattle.td_core.specs.declared.outcome.Verdict.{Verdict}
-use Rattle.td_core.specs.declared.outcome.Verdict.TheVariants.{Accept}
 use Rattle.td_core.specs.Outcome.{Ending, Behavior, Rejected, plain, and_then, ending_within}
 use Rattle.td_meaning.specs.Meaning.{elements, filled, field_number, extended, field_place, first_name}
 use Rattle.td_meaning.specs.Machine.{below, fields_meaning, shape_meaning, element_meaning, parts_meaning}
-use Rattle.td_meaning.specs.Verdicts.{ending_of, IsAt, frame_place}
+use Rattle.td_meaning.specs.Verdicts.{ending_of, frame_place}
 use Rattle.td_meaning.proofs.Below.{below_past}
-use Rattle.td_plain.proofs.Endings.{named_by, accepted_at, empty_at, then_same, fields_none, field_by, elements_over, elements_done, elements_on}
+use Rattle.td_plain.proofs.Endings.{empty_at, then_same, field_by, elements_over, elements_done, elements_on}
 use Rattle.td_plain.proofs.types.+types.Goals as goal
+use Rattle.td_meaning.proofs.Filling.{named_by, accepted_at, fields_none}
 
 pub all_elements-returns-then-position-end-clause-ending : goal.all_elements-returns-then-position-end-clause-ending
 all_elements-returns-then-position-end-clause-ending t c =
     let a = c.args in
     let l = c.loop-turn in
-    let each = element_meaning a.m.now.listed (below a.m.now.listed a.m.now.definitions a.bound) a.element.now a.env.now a.places.now a.message.now a.start a.end in
+    let each = element_meaning a.walk.now.m.now.listed (below a.walk.now.m.now.listed a.walk.now.m.now.definitions a.walk.now.bound) a.element.now a.env.now a.walk.now.places.now a.walk.now.message.now a.start a.end in
     let full = suc (a.end - a.start) - l.turn in
     let more = a.end - a.start - l.turn in
     let is : full ≡ suc more = omega (arith, c.loop-turn-test.true, c.saturating_sub-size.ensures) in
@@ -31,7 +31,7 @@ pub all_elements-returns-in-Reject-clause-ending : goal.all_elements-returns-in-
 all_elements-returns-in-Reject-clause-ending t c =
     let a = c.args in
     let l = c.loop-turn in
-    let each = element_meaning a.m.now.listed (below a.m.now.listed a.m.now.definitions a.bound) a.element.now a.env.now a.places.now a.message.now a.start a.end in
+    let each = element_meaning a.walk.now.m.now.listed (below a.walk.now.m.now.listed a.walk.now.m.now.definitions a.walk.now.bound) a.element.now a.env.now a.walk.now.places.now a.walk.now.message.now a.start a.end in
     let full = suc (a.end - a.start) - l.turn in
     let more = a.end - a.start - l.turn in
     let is : full ≡ suc more = omega (arith, c.loop-turn-test.true, c.saturating_sub-size.ensures) in
@@ -43,7 +43,7 @@ pub all_elements-loop-turn-preserved : goal.all_elements-loop-turn-preserved
 all_elements-loop-turn-preserved t c =
     let a = c.args in
     let l = c.loop-turn in
-    let each = element_meaning a.m.now.listed (below a.m.now.listed a.m.now.definitions a.bound) a.element.now a.env.now a.places.now a.message.now a.start a.end in
+    let each = element_meaning a.walk.now.m.now.listed (below a.walk.now.m.now.listed a.walk.now.m.now.definitions a.walk.now.bound) a.element.now a.env.now a.walk.now.places.now a.walk.now.message.now a.start a.end in
     let full = suc (a.end - a.start) - l.turn in
     let more = a.end - a.start - l.turn in
     let is : full ≡ suc more = omega (arith, c.loop-turn-test.true, c.saturating_sub-size.ensures) in
@@ -59,7 +59,7 @@ pub all_elements-returns-clause-ending : goal.all_elements-returns-clause-ending
 all_elements-returns-clause-ending t c =
     let a = c.args in
     let l = c.loop-turn in
-    let each = element_meaning a.m.now.listed (below a.m.now.listed a.m.now.definitions a.bound) a.element.now a.env.now a.places.now a.message.now a.start a.end in
+    let each = element_meaning a.walk.now.m.now.listed (below a.walk.now.m.now.listed a.walk.now.m.now.definitions a.walk.now.bound) a.element.now a.env.now a.walk.now.places.now a.walk.now.message.now a.start a.end in
     let full = suc (a.end - a.start) - l.turn in
     let none : full ≡ 0 = omega (arith, c.loop-turn-test.false, c.saturating_sub-size.ensures) in
     l.invariant.ending ∙ elements_over each full a.start a.end l.position l.cells none ∙ ap (λ (t : Behavior). t.ending) (c.demand.ensures.ending l.cells) ∙ (λ k. ending_of c.demand.result (sym l.invariant.empty_trace k) l.cells)
@@ -75,27 +75,27 @@ fields_in_order-returns-clause-ending t c =
     let env : List ℕ = l.env.items in
     let none : drop l.field-index fields ≡ [] = drop_all l.field-index fields (omega (arith, c.loop-field-test.false)) in
     l.invariant.ending
-    ∙ ap (λ fs. (fields_meaning a.m.now.listed (below a.m.now.listed a.m.now.definitions a.bound) a.ty fs env a.places.now a.message.now a.end l.position l.cells).ending) none
-    ∙ ap (λ (t : Behavior). t.ending) (fields_none a.m.now.listed (below a.m.now.listed a.m.now.definitions a.bound) a.ty env a.places.now a.message.now a.end l.position l.cells)
+    ∙ ap (λ fs. (fields_meaning a.walk.now.m.now.listed (below a.walk.now.m.now.listed a.walk.now.m.now.definitions a.walk.now.bound) a.ty fs env a.walk.now.places.now a.walk.now.message.now a.end l.position l.cells).ending) none
+    ∙ ap (λ (t : Behavior). t.ending) (fields_none a.walk.now.m.now.listed (below a.walk.now.m.now.listed a.walk.now.m.now.definitions a.walk.now.bound) a.ty env a.walk.now.places.now a.walk.now.message.now a.end l.position l.cells)
 
-pub named-returns-then-place-bound-clause-ending : goal.named-returns-then-place-bound-clause-ending
-named-returns-then-place-bound-clause-ending t c =
+pub named-returns-then-place-walk-clause-ending : goal.named-returns-then-place-walk-clause-ending
+named-returns-then-place-walk-clause-ending t c =
     let a = c.args in
-    ap (λ (t : Behavior). t.ending) (below_past a.m.now.listed a.m.now.definitions a.bound a.place a.args.now a.places.now a.cells.now a.message.now a.pos a.end (omega (arith, c.if-place-bound.true)))
+    ap (λ (t : Behavior). t.ending) (below_past a.walk.now.m.now.listed a.walk.now.m.now.definitions a.walk.now.bound a.place a.args.now a.walk.now.places.now a.cells.now a.walk.now.message.now a.pos a.end (omega (arith, c.if-place-walk.true)))
     ∙ ap (λ tr. Rejected Impossible a.pos tr a.cells.now) (sym c.requires.empty_trace)
 
 pub named-returns-in_ok-defined-in-Some-clause-ending : goal.named-returns-in_ok-defined-in-Some-clause-ending
 named-returns-in_ok-defined-in-Some-clause-ending t c =
     let a = c.args in
-    let it : slice_get a.m.now.definitions a.place ≡ Some c.in-Some.definition.now = grind (arith, common_steps, gets) in
-    ap (λ (t : Behavior). t.ending) (named_by a.m.now.listed a.m.now.definitions a.bound a.place (Some c.in-Some.definition.now) a.args.now a.places.now a.cells.now a.message.now a.pos a.end (omega (arith, c.if-place-bound.false)) it)
+    let it : slice_get a.walk.now.m.now.definitions a.place ≡ Some c.in-Some.definition.now = grind (arith, common_steps, gets) in
+    ap (λ (t : Behavior). t.ending) (named_by a.walk.now.m.now.listed a.walk.now.m.now.definitions a.walk.now.bound a.place (Some c.in-Some.definition.now) a.args.now a.walk.now.places.now a.cells.now a.walk.now.message.now a.pos a.end (omega (arith, c.if-place-walk.false)) it)
     ∙ c.in_ok-defined-in-Some.ensures.ending
 
 pub named-returns-in-None-clause-ending : goal.named-returns-in-None-clause-ending
 named-returns-in-None-clause-ending t c =
     let a = c.args in
-    let it : slice_get a.m.now.definitions a.place ≡ None = grind (arith, common_steps, gets) in
-    ap (λ (t : Behavior). t.ending) (named_by a.m.now.listed a.m.now.definitions a.bound a.place (None) a.args.now a.places.now a.cells.now a.message.now a.pos a.end (omega (arith, c.if-place-bound.false)) it)
+    let it : slice_get a.walk.now.m.now.definitions a.place ≡ None = grind (arith, common_steps, gets) in
+    ap (λ (t : Behavior). t.ending) (named_by a.walk.now.m.now.listed a.walk.now.m.now.definitions a.walk.now.bound a.place (None) a.args.now a.walk.now.places.now a.cells.now a.walk.now.message.now a.pos a.end (omega (arith, c.if-place-walk.false)) it)
     ∙ ap (λ tr. Rejected Impossible a.pos tr a.cells.now) (sym c.requires.empty_trace)
 
 pub one_field-check_parts-requires : goal.one_field-check_parts-requires
@@ -111,11 +111,11 @@ one_field-returns-in-Reject-clause-ending t c = λ later.
     let cells = c.shape.new.cells in
     let v : Verdict = c.in_ok-verdict.verdict in
     let name : c.first_name.result ≡ first_name f.parts = c.first_name.ensures ∙ ap first_name c.as_slice-parts.ensures in
-    let scope = ap (λ vs. (shape_meaning a.m.now.listed (below a.m.now.listed a.m.now.definitions a.bound) f.element f.extent vs a.places.now a.message.now a.end a.start a.cells.now).ending) (sym c.as_slice.ensures.value) in
+    let scope = ap (λ vs. (shape_meaning a.walk.now.m.now.listed (below a.walk.now.m.now.listed a.walk.now.m.now.definitions a.walk.now.bound) f.element f.extent vs a.walk.now.places.now a.walk.now.message.now a.end a.start a.cells.now).ending) (sym c.as_slice.ensures.value) in
     let framed = ap (ending_within (field_place a.ty (first_name f.parts) a.start)) (scope ∙ c.in_ok-verdict.ensures.ending) ∙ (λ k. ending_within (frame_place a.ty (Field (sym name k)) a.start) (ending_of v c.shape.new.trace cells)) ∙ sym (c.in_ok-pos.ensures.ending cells) in
-    let n = field_number f.element f.extent a.message.now a.start in
-    let rest = λ (q : ℕ) (cells : List ℕ). and_then (parts_meaning a.ty a.start n f.parts env a.places.now q cells) (fields_meaning a.m.now.listed (below a.m.now.listed a.m.now.definitions a.bound) a.ty later (extended env n f.parts) a.places.now a.message.now a.end) in
-    field_by a.m.now.listed (below a.m.now.listed a.m.now.definitions a.bound) a.ty f later env a.places.now a.message.now a.end a.start a.cells.now _ framed
+    let n = field_number f.element f.extent a.walk.now.message.now a.start in
+    let rest = λ (q : ℕ) (cells : List ℕ). and_then (parts_meaning a.ty a.start n f.parts env a.walk.now.places.now q cells) (fields_meaning a.walk.now.m.now.listed (below a.walk.now.m.now.listed a.walk.now.m.now.definitions a.walk.now.bound) a.ty later (extended env n f.parts) a.walk.now.places.now a.walk.now.message.now a.end) in
+    field_by a.walk.now.m.now.listed (below a.walk.now.m.now.listed a.walk.now.m.now.definitions a.walk.now.bound) a.ty f later env a.walk.now.places.now a.walk.now.message.now a.end a.start a.cells.now _ framed
     ∙ ap (λ (w : Verdict). (and_then (plain (ending_of w c.framed.new.trace cells)) rest).ending) c.in-Reject.is
 
 pub one_field-returns-in_ok-check_parts-in-Accept-clause-ending : goal.one_field-returns-in_ok-check_parts-in-Accept-clause-ending
@@ -126,15 +126,15 @@ one_field-returns-in_ok-check_parts-in-Accept-clause-ending t c = λ later.
     let cells = c.shape.new.cells in
     let v : Verdict = c.in_ok-verdict.verdict in
     let name : c.first_name.result ≡ first_name f.parts = c.first_name.ensures ∙ ap first_name c.as_slice-parts.ensures in
-    let scope = ap (λ vs. (shape_meaning a.m.now.listed (below a.m.now.listed a.m.now.definitions a.bound) f.element f.extent vs a.places.now a.message.now a.end a.start a.cells.now).ending) (sym c.as_slice.ensures.value) in
+    let scope = ap (λ vs. (shape_meaning a.walk.now.m.now.listed (below a.walk.now.m.now.listed a.walk.now.m.now.definitions a.walk.now.bound) f.element f.extent vs a.walk.now.places.now a.walk.now.message.now a.end a.start a.cells.now).ending) (sym c.as_slice.ensures.value) in
     let framed = ap (ending_within (field_place a.ty (first_name f.parts) a.start)) (scope ∙ c.in_ok-verdict.ensures.ending) ∙ (λ k. ending_within (frame_place a.ty (Field (sym name k)) a.start) (ending_of v c.shape.new.trace cells)) ∙ sym (c.in_ok-pos.ensures.ending cells) in
-    let n = field_number f.element f.extent a.message.now a.start in
-    let next = λ (vs : List ℕ). fields_meaning a.m.now.listed (below a.m.now.listed a.m.now.definitions a.bound) a.ty later vs a.places.now a.message.now a.end in
-    let rest = λ (q : ℕ) (cells : List ℕ). and_then (parts_meaning a.ty a.start n f.parts env a.places.now q cells) (next (extended env n f.parts)) in
+    let n = field_number f.element f.extent a.walk.now.message.now a.start in
+    let next = λ (vs : List ℕ). fields_meaning a.walk.now.m.now.listed (below a.walk.now.m.now.listed a.walk.now.m.now.definitions a.walk.now.bound) a.ty later vs a.walk.now.places.now a.walk.now.message.now a.end in
+    let rest = λ (q : ℕ) (cells : List ℕ). and_then (parts_meaning a.ty a.start n f.parts env a.walk.now.places.now q cells) (next (extended env n f.parts)) in
     let e = c.in_ok-check_parts-in-Accept.ensures in
     let w : Verdict = c.in_ok-check_parts-in-Accept.field-0 in
-    let parts = (λ k. parts_meaning a.ty a.start (sym c.field_number-value.ensures k) (sym c.as_slice-parts.ensures k) env a.places.now c.in-Accept.pos cells) ∙ e.ending in
-    field_by a.m.now.listed (below a.m.now.listed a.m.now.definitions a.bound) a.ty f later env a.places.now a.message.now a.end a.start a.cells.now _ framed
+    let parts = (λ k. parts_meaning a.ty a.start (sym c.field_number-value.ensures k) (sym c.as_slice-parts.ensures k) env a.walk.now.places.now c.in-Accept.pos cells) ∙ e.ending in
+    field_by a.walk.now.m.now.listed (below a.walk.now.m.now.listed a.walk.now.m.now.definitions a.walk.now.bound) a.ty f later env a.walk.now.places.now a.walk.now.message.now a.end a.start a.cells.now _ framed
     ∙ ap (λ (u : Verdict). (and_then (plain (ending_of u c.framed.new.trace cells)) rest).ending) c.in-Accept.is
     ∙ ap (λ (t : Behavior). (and_then t (next (extended env n f.parts))).ending) parts
     ∙ ap (λ (t : Behavior). t.ending) (then_same w c.check_parts.new.trace c.check_parts.new.cells (next (extended env n f.parts)) (next c.check_parts.new.env.items) (λ q g. ap (λ vs. next vs q c.check_parts.new.cells) ((λ k. extended env (sym c.field_number-value.ensures k) (sym c.as_slice-parts.ensures k)) ∙ sym (e.scope q g))))
@@ -142,6 +142,6 @@ one_field-returns-in_ok-check_parts-in-Accept-clause-ending t c = λ later.
 pub shape-returns-in_ok-filling-in-Filling-clause-ending : goal.shape-returns-in_ok-filling-in-Filling-clause-ending
 shape-returns-in_ok-filling-in-Filling-clause-ending t c =
     let a = c.args in
-    ap (λ (x : Extent). (shape_meaning a.m.now.listed (below a.m.now.listed a.m.now.definitions a.bound) a.element.now x a.env.now a.places.now a.message.now a.end a.start a.cells.now).ending) c.in-Filling.is
-    ∙ (λ k. (filled (element_meaning a.m.now.listed (below a.m.now.listed a.m.now.definitions a.bound) a.element.now a.env.now a.places.now a.message.now a.start) c.in-Filling.step (sym c.value_of.ensures k) a.end a.start a.cells.now).ending)
+    ap (λ (x : Extent). (shape_meaning a.walk.now.m.now.listed (below a.walk.now.m.now.listed a.walk.now.m.now.definitions a.walk.now.bound) a.element.now x a.env.now a.walk.now.places.now a.walk.now.message.now a.end a.start a.cells.now).ending) c.in-Filling.is
+    ∙ (λ k. (filled (element_meaning a.walk.now.m.now.listed (below a.walk.now.m.now.listed a.walk.now.m.now.definitions a.walk.now.bound) a.element.now a.env.now a.walk.now.places.now a.walk.now.message.now a.start) c.in-Filling.step (sym c.value_of.ensures k) a.end a.start a.cells.now).ending)
     ∙ c.in_ok-filling-in-Filling.ensures.ending

@@ -1,6 +1,6 @@
-use Rattle.std.proofs.Common.{rules, ◌≡◌, ℕ, suc, ◌+◌, ◌-◌, ◌≤◌, ◌<◌, List, [], true, false, sym, ap, ◌∙◌, arith}
+use Rattle.std.proofs.Common.{rules, ◌≡◌, suc, ◌+◌, ◌-◌, false, sym, ap, ◌∙◌, arith}
 use Rattle.std.specs.Prelude.{nat_eq, slice_index}
-use Rattle.td_core.specs.Outcome.{Behavior, Ending, Accepted}
+use Rattle.td_core.specs.Outcome.{Behavior}
 use Rattle.td_meaning.specs.Meaning.{zeros_meaning}
 use Rattle.td_meaning.proofs.Zeros.{zeros_on, zeros_stop}
 use Rattle.td_plain.proofs.Endings.{zeros_over}

@@ -1,5 +1,4 @@
 use Rattle.std.proofs.Common.{◌≡◌, ℕ, ◌+◌, List}
-use Rattle.td_core.specs.Outcome.{Ending}
 use Rattle.td_meaning.specs.Meaning.{zeros_meaning}
 use Rattle.td_plain.proofs.zeros.zeros.Given as goal
 

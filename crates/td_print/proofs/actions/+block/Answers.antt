@@ -1,6 +1,7 @@
 use Rattle.std.proofs.Common.{arith}
-use Rattle.td_print.proofs.Texts.{texts, below, block_more}
+use Rattle.td_print.proofs.Texts.{texts, block_more}
 use Rattle.td_print.proofs.actions.+block.Goals as goal
+use Rattle.td_ast.proofs.Sizes.{statement_below as below}
 
 pub write_statements-write_statement-requires : goal.write_statements-write_statement-requires
 write_statements-write_statement-requires t c =

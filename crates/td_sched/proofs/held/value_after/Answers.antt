@@ -2,10 +2,10 @@ use Rattle.std.proofs.Common.{◌≡◌, ◌+◌, ◌≤◌, nat_eq, true, List,
 use Rattle.std.proofs.lemmas.List.Elements.{All-more, filter_more}
 use Rattle.td_sched.specs.declared.store.PlannedStore.{PlannedStore}
 use Rattle.td_sched.specs.Plan.{last_value, to_word}
-use Rattle.td_sched.proofs.Memory.{eq_true}
 use Rattle.td_sched.proofs.Turns.{none}
 use Rattle.td_sched.proofs.Due.{InTime, last_pushed}
 use Rattle.td_sched.proofs.held.value_after.Goals as goal
+use Rattle.td_num.proofs.Truths.{is_eq as eq_true}
 
 pub stores-preserved : goal.stores-preserved
 stores-preserved c =

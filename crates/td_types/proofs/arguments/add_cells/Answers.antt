@@ -1,10 +1,11 @@
 use Rattle.std.proofs.Common.{sym, ap, ◌∙◌, ◌+◌, ◌∷◌, ◌++◌, drop, append_assoc, arith}
 use Rattle.std.proofs.lemmas.List.{append-nil}
 use Rattle.td_rules.specs.Types.{args_cells}
-use Rattle.td_actions.proofs.Turns.{split, done}
 use Rattle.td_types.specs.Runs.{cells_of}
 use Rattle.td_types.proofs.Sides.{cells_step, cells_out, next_at, none_at}
 use Rattle.td_types.proofs.arguments.add_cells.Goals as goal
+use Rattle.td_num.proofs.Truths.{all_dropped as done}
+use Rattle.td_num.proofs.Lists.{drop_next as split}
 
 pub loop-i-preserved : goal.loop-i-preserved
 loop-i-preserved c =

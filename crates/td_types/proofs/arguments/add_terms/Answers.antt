@@ -3,10 +3,11 @@ use Rattle.std.proofs.lemmas.List.{append-nil}
 use Rattle.td_rules.specs.Breach.{first_of}
 use Rattle.td_rules.specs.Types.{args_core, args_breaches}
 use Rattle.td_typing.proofs.Steps.{first_append}
-use Rattle.td_actions.proofs.Turns.{split, done}
 use Rattle.td_types.specs.Runs.{term_of, arg_breaches}
 use Rattle.td_types.proofs.Sides.{core_step, breaches_step, core_out, breaches_out, next_at, none_at}
 use Rattle.td_types.proofs.arguments.add_terms.Goals as goal
+use Rattle.td_num.proofs.Truths.{all_dropped as done}
+use Rattle.td_num.proofs.Lists.{drop_next as split}
 
 pub loop-i-preserved : goal.loop-i-preserved
 loop-i-preserved c =

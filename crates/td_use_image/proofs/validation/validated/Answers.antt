@@ -8,6 +8,7 @@ use Rattle.td_stream.specs.Loads.{Carries, Inside, IsRising}
 use Rattle.td_ir.specs.declared.tables.Parts.{Parts}
 use Rattle.td_ir.specs.Run.{run}
 use Rattle.td_vm.specs.Outcomes.{IsRun}
+use Rattle.td_vm.specs.Frames.{outcome_in}
 use Rattle.td_use_image.specs.Answers.{IsValidated}
 use Rattle.td_use_image.proofs.validation.validated.Goals as goal
 
@@ -27,5 +28,5 @@ pub returns : goal.returns
 returns c =
     let done = c.validate_compiled-verdict in
     moved c.args.code.now c.args.entry c.args.args.now c.args.length done.new.words.loads.list c.args.cells.now c.set_cells.new.self.cells c.plain-layout.result
-    c.into_outcome.result (record { verdict = done.result; trace = done.new.frame.trace; cells = done.new.frame.cells })
+    c.into_outcome.result (outcome_in done.new.frame done.result)
     c.set_cells.ensures.cells c.plain-layout.ensures.layout c.into_outcome.ensures done.ensures.rising done.ensures.inside done.ensures.run

@@ -1,4 +1,4 @@
-use Rattle.std.proofs.Common.{◌≡◌, suc, ◌+◌, ◌-◌, ◌*◌, ◌<◌, ◌≤◌, cond, ◌++◌, length, arith, sym, ap, ◌∙◌, subst, refl}
+use Rattle.std.proofs.Common.{rules, ◌≡◌, suc, ◌+◌, ◌-◌, ◌*◌, ◌<◌, ◌≤◌, cond, ◌++◌, length, arith, sym, ap, ◌∙◌, subst, refl}
 use Rattle.std.specs.Prelude.{slice_index}
 use Rattle.td_ir.specs.Tables.{routine_of, map_of, lengths_of, first_of, end_of as end_at}
 use Rattle.td_ir.specs.State.{State, Exit, after, registers_from}
@@ -19,15 +19,16 @@ use Rattle.td_vm.specs.Machine.{scale}
 use Rattle.td_vm.proofs.Stretches.{ran_trans, ran_step, ran_ticked, ran_after, after_more, after_once, after_none}
 use Rattle.td_vm.proofs.Shapes.{shape_here}
 use Rattle.td_vm.proofs.Keeps.{fine_at, kept_on, goes_on, room_on, idle_more, idle_on, empty_up, step_cost, call_cost, loop_cost, spend_turn, spend_last, grown, end_kept, callee_need}
-use Rattle.td_vm.proofs.Turns.{none_left, callee_room, room_kept, one_frame, whole_stretch, body_stretch, loop_whole, turn_busy, no_turn, call_idle, begun, entered_is, call_left, turn_more, turn_fails, turns_over, return_outside, in_code, callee_at, traced_more, call_steps, call_on, call_spent, length_registers}
+use Rattle.td_vm.proofs.Turns.{none_left, callee_room, room_kept, one_frame, whole_stretch, body_stretch, loop_whole, turn_busy, no_turn, call_idle, begun, entered_is, call_left, turn_more, turn_fails, turns_over, return_outside, in_code, callee_at, traced_more, call_steps, call_on, call_spent, length_registers, spare_same, spare_on}
 use Rattle.td_vm.proofs.machine.+machine.Goals as goal
 
 pub run_block-steps-init : goal.run_block-steps-init
 run_block-steps-init g t c =
-    let C = c.args.env.now.parts.now in
+    let C = c.args.level.now.env.parts.now in
     let a = c.args in
     record {
       room = c.requires.room;
+      kept = spare_same c.args.spare.now;
       place = c.requires.stretch.place;
       on = omega arith;
       under = c.requires.stretch.some;
@@ -50,18 +51,18 @@ run_block-steps-init g t c =
 pub run_block-step-requires-clause-fine : goal.run_block-step-requires-clause-fine
 run_block-step-requires-clause-fine g t c =
     let i = c.steps.invariant in
-    fine_at c.args.env.now.parts.now c.args.n c.steps.pc _ _ c.instruction_at-instruction.result i.room.runnable.safe i.place c.instruction_at-instruction.ensures.is i.room.register_count i.room.place_count
+    fine_at c.args.level.now.env.parts.now c.args.level.now.n c.steps.pc _ _ c.instruction_at-instruction.result.now i.room.runnable.safe i.place c.instruction_at-instruction.ensures.is i.room.register_count i.room.place_count
 
 pub run_block-steps-preserved-in-Goes : goal.run_block-steps-preserved-in-Goes
 run_block-steps-preserved-in-Goes g t c =
     let i = c.steps.invariant in
     let e = c.in-Goes.ensures in
-    let C = c.args.env.now.parts.now in
-    let n = c.args.n in
-    let first = c.args.first in
+    let C = c.args.level.now.env.parts.now in
+    let n = c.args.level.now.n in
+    let first = c.args.stretch.first in
     let pc = c.steps.pc in
     let q = c.in-Goes.target in
-    let I = c.instruction_at-instruction.result in
+    let I = c.instruction_at-instruction.result.now in
     let safe = i.room.runnable.safe in
     let at = shape_here C pc I c.instruction_at-instruction.ensures.is in
     let o = goes_on C n pc q (shape I) safe i.place at e.leads.1 in
@@ -72,7 +73,8 @@ run_block-steps-preserved-in-Goes g t c =
     let on = (safe.weighed n pc i.place).on q o.0 (omega (arith, o.1.to)) in
     let tick = c.tick.ensures in
     record {
-      room = room_kept c.args.env.now n c.args.places.now c.steps.spare_places c.steps.spare_places c.steps.regs c.step.new.regs c.steps.spare c.steps.spare c.steps.cells c.step.new.cells c.steps.trace c.steps.trace i.room refl c.step.auto.regs refl c.step.auto.cells i.room.trace refl;
+      room = room_kept c.args.level.now.env n c.args.level.now.places.now c.steps.spare.places.now c.steps.spare.places.now c.steps.regs c.step.new.regs c.steps.spare.registers.now c.steps.spare.registers.now c.steps.cells c.step.new.cells c.steps.trace c.steps.trace i.room refl c.step.auto.regs refl c.step.auto.cells i.room.trace refl;
+      kept = i.kept;
       place = o.1;
       on = omega (arith, i.on, o.0);
       under = c.requires.stretch.closed q o.1 (λ h. k.fixed (i.kind ∙ h) ∙ i.fixed h);
@@ -90,13 +92,14 @@ run_block-steps-preserved-in-Goes g t c =
       cost = step_cost C n first pc q (shape I) c.args.steps.now c.steps.steps c.step.new.steps (position s0) (position s) (position u) safe i.place at e.leads.0 i.kind o.0 (omega (arith, o.1.to)) i.begun i.cost (omega (arith, e.cost, tick)) i.later.pos e.later.pos;
       idle = idle_on C n first pc q (shape I) (position s0) (position s) (position u) (end_of s) (end_of u) at o.0 e.leads.1 e.leads.0 e.end e.takes i.narrow i.later.pos i.idle;
       same = ran_step s0 s u c.args.steps.now c.steps.steps c.tick.new.self c.step.new.steps _ _ _ i.later e.later i.same e.same c.tick.ensures (λ b x y j k p r.
-          p ∙ ap (after x j) (c.laws.ensures.goes C b c.args.places.now n pc q _ _ y (1 + k) (record { instruction = I; there = c.instruction_at-instruction.ensures.there; within = i.place.to; is = r }) o.0 o.1.to)
+          p ∙ ap (after x j) (c.laws.ensures.goes C b c.args.level.now.places.now n pc q _ _ y (1 + k) (record { instruction = I; there = c.instruction_at-instruction.ensures.there; within = i.place.to; is = r }) o.0 o.1.to)
           ∙ after_more x y j (1 + k) _);
     }
 
 pub run_turns-turns-init : goal.run_turns-turns-init
 run_turns-turns-init g t c = record {
   room = c.requires.room;
+  kept = spare_same c.args.spare.now;
   later = later_self g.met.W.Words.reaches_itself c.args.stream.now;
   whole = c.requires.whole;
   window = c.requires.window;
@@ -109,55 +112,55 @@ run_turns-turns-init g t c = record {
 }
 
 pub run_block-instruction_at-instruction-requires : goal.run_block-instruction_at-instruction-requires
-run_block-instruction_at-instruction-requires g t c = in_code c.args.env.now.parts.now c.args.n c.steps.pc c.steps.invariant.room.runnable c.steps.invariant.place
+run_block-instruction_at-instruction-requires g t c = in_code c.args.level.now.env.parts.now c.args.level.now.n c.steps.pc c.steps.invariant.room.runnable c.steps.invariant.place
 
 pub run_block-step-requires-clause-next : goal.run_block-step-requires-clause-next
-run_block-step-requires-clause-next g t c = omega (arith, c.steps.invariant.under, c.ranges.to.fits)
+run_block-step-requires-clause-next g t c = omega (arith, c.steps.invariant.under, c.well_formed)
 
 pub run_block-steps-smaller-in-Goes : goal.run_block-steps-smaller-in-Goes
 run_block-steps-smaller-in-Goes g t c =
     let i = c.steps.invariant in
     let e = c.in-Goes.ensures in
-    let C = c.args.env.now.parts.now in
-    let at = shape_here C c.steps.pc c.instruction_at-instruction.result c.instruction_at-instruction.ensures.is in
-    let o = goes_on C c.args.n c.steps.pc c.in-Goes.target (shape c.instruction_at-instruction.result) i.room.runnable.safe i.place at e.leads.1 in
+    let C = c.args.level.now.env.parts.now in
+    let at = shape_here C c.steps.pc c.instruction_at-instruction.result.now c.instruction_at-instruction.ensures.is in
+    let o = goes_on C c.args.level.now.n c.steps.pc c.in-Goes.target (shape c.instruction_at-instruction.result.now) i.room.runnable.safe i.place at e.leads.1 in
     omega (arith, o.0, i.under)
 
 pub run_block-returns-in-Fails-clause-cost : goal.run_block-returns-in-Fails-clause-cost
 run_block-returns-in-Fails-clause-cost g t c =
     let i = c.steps.invariant in
     let e = c.in-Fails.ensures in
-    let C = c.args.env.now.parts.now in
-    let I = c.instruction_at-instruction.result in
+    let C = c.args.level.now.env.parts.now in
+    let I = c.instruction_at-instruction.result.now in
     let at = shape_here C c.steps.pc I c.instruction_at-instruction.ensures.is in
     let tick = c.tick.ensures in
-    step_cost C c.args.n c.args.first c.steps.pc c.args.to (shape I) c.args.steps.now c.steps.steps c.step.new.steps (position c.args.stream.now) (position c.steps.stream) (position c.step.new.stream) i.room.runnable.safe i.place at e.leads i.kind i.under c.requires.stretch.within i.begun i.cost (omega (arith, e.cost, tick)) i.later.pos e.later.pos
+    step_cost C c.args.level.now.n c.args.stretch.first c.steps.pc c.args.stretch.to (shape I) c.args.steps.now c.steps.steps c.step.new.steps (position c.args.stream.now) (position c.steps.stream) (position c.step.new.stream) i.room.runnable.safe i.place at e.leads i.kind i.under c.requires.stretch.within i.begun i.cost (omega (arith, e.cost, tick)) i.later.pos e.later.pos
 
 pub run_block-returns-in-Fails-clause-same : goal.run_block-returns-in-Fails-clause-same
 run_block-returns-in-Fails-clause-same g t c =
     let i = c.steps.invariant in
     let e = c.in-Fails.ensures in
-    let C = c.args.env.now.parts.now in
-    let I = c.instruction_at-instruction.result in
+    let C = c.args.level.now.env.parts.now in
+    let I = c.instruction_at-instruction.result.now in
     ran_step c.args.stream.now c.steps.stream c.step.new.stream c.args.steps.now c.steps.steps c.tick.new.self c.step.new.steps _ _ _ i.later e.later i.same e.same c.tick.ensures (λ b x y j k p r.
-    p ∙ ap (after x j) (c.laws.ensures.fails C b c.args.places.now c.args.n c.steps.pc c.in-Fails.reason c.in-Fails.site c.in-Fails.pos _ _ y (1 + k) (record { instruction = I; there = c.instruction_at-instruction.ensures.there; within = i.place.to; is = r }) ∙ after_once y (1 + k) _)
+    p ∙ ap (after x j) (c.laws.ensures.fails C b c.args.level.now.places.now c.args.level.now.n c.steps.pc c.in-Fails.reason c.in-Fails.site c.in-Fails.pos _ _ y (1 + k) (record { instruction = I; there = c.instruction_at-instruction.ensures.there; within = i.place.to; is = r }) ∙ after_once y (1 + k) _)
     ∙ ap (λ f. exit_by (ir.Failed c.in-Fails.reason c.in-Fails.pos f c.step.new.cells) (x ++ y) (j + (1 + k))) (one_frame c.steps.trace c.push_frame.new.trace _ i.room.trace c.push_frame.ensures.frames))
 
 pub run_block-returns-in-Returns-clause-outside : goal.run_block-returns-in-Returns-clause-outside
 run_block-returns-in-Returns-clause-outside g t c =
     let i = c.steps.invariant in
     let e = c.in-Returns.ensures in
-    let C = c.args.env.now.parts.now in
-    let I = c.instruction_at-instruction.result in
+    let C = c.args.level.now.env.parts.now in
+    let I = c.instruction_at-instruction.result.now in
     let at = shape_here C c.steps.pc I c.instruction_at-instruction.ensures.is in
-    sym i.kind ∙ return_outside C c.args.n c.steps.pc i.room.runnable.safe i.place (at ∙ ap shape e.leads)
+    sym i.kind ∙ return_outside C c.args.level.now.n c.steps.pc i.room.runnable.safe i.place (at ∙ ap shape e.leads)
 
 pub run_block-returns-in-Returns-clause-idle_return : goal.run_block-returns-in-Returns-clause-idle_return
 run_block-returns-in-Returns-clause-idle_return g t c = λ z.
     let i = c.steps.invariant in
     let e = c.in-Returns.ensures in
-    let C = c.args.env.now.parts.now in
-    let I = c.instruction_at-instruction.result in
+    let C = c.args.level.now.env.parts.now in
+    let I = c.instruction_at-instruction.result.now in
     let at = shape_here C c.steps.pc I c.instruction_at-instruction.ensures.is in
     record { at = c.steps.pc; within = i.place; is = at ∙ ap shape e.leads; way = i.idle (omega (arith, z, i.later.pos, e.later.pos)) }
 
@@ -165,47 +168,47 @@ pub run_block-returns-in-Returns-clause-cost : goal.run_block-returns-in-Returns
 run_block-returns-in-Returns-clause-cost g t c =
     let i = c.steps.invariant in
     let e = c.in-Returns.ensures in
-    let C = c.args.env.now.parts.now in
-    let I = c.instruction_at-instruction.result in
+    let C = c.args.level.now.env.parts.now in
+    let I = c.instruction_at-instruction.result.now in
     let at = shape_here C c.steps.pc I c.instruction_at-instruction.ensures.is in
     let tick = c.tick.ensures in
     let passes : Passes (shape I) = subst (λ x. Passes (shape x)) (sym e.leads) tt in
-    step_cost C c.args.n c.args.first c.steps.pc c.args.to (shape I) c.args.steps.now c.steps.steps c.step.new.steps (position c.args.stream.now) (position c.steps.stream) (position c.step.new.stream) i.room.runnable.safe i.place at passes i.kind i.under c.requires.stretch.within i.begun i.cost (omega (arith, e.cost, tick)) i.later.pos e.later.pos
+    step_cost C c.args.level.now.n c.args.stretch.first c.steps.pc c.args.stretch.to (shape I) c.args.steps.now c.steps.steps c.step.new.steps (position c.args.stream.now) (position c.steps.stream) (position c.step.new.stream) i.room.runnable.safe i.place at passes i.kind i.under c.requires.stretch.within i.begun i.cost (omega (arith, e.cost, tick)) i.later.pos e.later.pos
 
 pub run_block-returns-in-Returns-clause-same : goal.run_block-returns-in-Returns-clause-same
 run_block-returns-in-Returns-clause-same g t c =
     let i = c.steps.invariant in
     let e = c.in-Returns.ensures in
-    let C = c.args.env.now.parts.now in
+    let C = c.args.level.now.env.parts.now in
     ran_step c.args.stream.now c.steps.stream c.step.new.stream c.args.steps.now c.steps.steps c.tick.new.self c.step.new.steps _ _ _ i.later e.later i.same e.same c.tick.ensures (λ b x y j k p r.
-    p ∙ ap (after x j) (c.laws.ensures.returns C b c.args.places.now c.args.n c.steps.pc _ _ y (1 + k) (record { instruction = c.instruction_at-instruction.result; there = c.instruction_at-instruction.ensures.there; within = i.place.to; is = r }) ∙ after_once y (1 + k) _))
+    p ∙ ap (after x j) (c.laws.ensures.returns C b c.args.level.now.places.now c.args.level.now.n c.steps.pc _ _ y (1 + k) (record { instruction = c.instruction_at-instruction.result.now; there = c.instruction_at-instruction.ensures.there; within = i.place.to; is = r }) ∙ after_once y (1 + k) _))
 
 pub run_block-returns-in-Turns-clause-inside : goal.run_block-returns-in-Turns-clause-inside
 run_block-returns-in-Turns-clause-inside g t c =
     let i = c.steps.invariant in
     let e = c.in-Turns.ensures in
-    let C = c.args.env.now.parts.now in
-    let at = shape_here C c.steps.pc c.instruction_at-instruction.result c.instruction_at-instruction.ensures.is in
-    sym i.kind ∙ i.room.runnable.safe.loops.again c.args.n c.steps.pc c.in-Turns.field-0 i.place (at ∙ ap shape e.leads)
+    let C = c.args.level.now.env.parts.now in
+    let at = shape_here C c.steps.pc c.instruction_at-instruction.result.now c.instruction_at-instruction.ensures.is in
+    sym i.kind ∙ i.room.runnable.safe.loops.again c.args.level.now.n c.steps.pc c.in-Turns.field-0 i.place (at ∙ ap shape e.leads)
 
 pub run_block-returns-in-Turns-clause-idle_turn : goal.run_block-returns-in-Turns-clause-idle_turn
 run_block-returns-in-Turns-clause-idle_turn g t c = λ z.
     let i = c.steps.invariant in
     let e = c.in-Turns.ensures in
-    let C = c.args.env.now.parts.now in
-    let at = shape_here C c.steps.pc c.instruction_at-instruction.result c.instruction_at-instruction.ensures.is in
+    let C = c.args.level.now.env.parts.now in
+    let at = shape_here C c.steps.pc c.instruction_at-instruction.result.now c.instruction_at-instruction.ensures.is in
     let is = at ∙ ap shape e.leads in
-    let inside = sym i.kind ∙ i.room.runnable.safe.loops.again c.args.n c.steps.pc c.in-Turns.field-0 i.place is in
+    let inside = sym i.kind ∙ i.room.runnable.safe.loops.again c.args.level.now.n c.steps.pc c.in-Turns.field-0 i.place is in
     record { at = c.steps.pc; start = c.in-Turns.field-0; within = i.place; is = is; same = i.fixed inside; way = i.idle (omega (arith, z, i.later.pos, e.later.pos)) }
 
 pub run_block-returns-in-Turns-clause-end : goal.run_block-returns-in-Turns-clause-end
 run_block-returns-in-Turns-clause-end g t c =
     let i = c.steps.invariant in
     let e = c.in-Turns.ensures in
-    let C = c.args.env.now.parts.now in
-    let at = shape_here C c.steps.pc c.instruction_at-instruction.result c.instruction_at-instruction.ensures.is in
+    let C = c.args.level.now.env.parts.now in
+    let at = shape_here C c.steps.pc c.instruction_at-instruction.result.now c.instruction_at-instruction.ensures.is in
     let is = at ∙ ap shape e.leads in
-    let inside = sym i.kind ∙ i.room.runnable.safe.loops.again c.args.n c.steps.pc c.in-Turns.field-0 i.place is in
+    let inside = sym i.kind ∙ i.room.runnable.safe.loops.again c.args.level.now.n c.steps.pc c.in-Turns.field-0 i.place is in
     let end : end_of c.step.new.stream ≡ end_of c.steps.stream = subst (λ x. Ends (shape x) (position c.steps.stream) (end_of c.steps.stream) (end_of c.step.new.stream)) e.leads e.end in
     end ∙ i.end inside
 
@@ -213,39 +216,39 @@ pub run_block-returns-in-Turns-clause-cost : goal.run_block-returns-in-Turns-cla
 run_block-returns-in-Turns-clause-cost g t c =
     let i = c.steps.invariant in
     let e = c.in-Turns.ensures in
-    let C = c.args.env.now.parts.now in
-    let I = c.instruction_at-instruction.result in
+    let C = c.args.level.now.env.parts.now in
+    let I = c.instruction_at-instruction.result.now in
     let at = shape_here C c.steps.pc I c.instruction_at-instruction.ensures.is in
     let tick = c.tick.ensures in
     let passes : Passes (shape I) = subst (λ x. Passes (shape x)) (sym e.leads) tt in
-    step_cost C c.args.n c.args.first c.steps.pc c.args.to (shape I) c.args.steps.now c.steps.steps c.step.new.steps (position c.args.stream.now) (position c.steps.stream) (position c.step.new.stream) i.room.runnable.safe i.place at passes i.kind i.under c.requires.stretch.within i.begun i.cost (omega (arith, e.cost, tick)) i.later.pos e.later.pos
+    step_cost C c.args.level.now.n c.args.stretch.first c.steps.pc c.args.stretch.to (shape I) c.args.steps.now c.steps.steps c.step.new.steps (position c.args.stream.now) (position c.steps.stream) (position c.step.new.stream) i.room.runnable.safe i.place at passes i.kind i.under c.requires.stretch.within i.begun i.cost (omega (arith, e.cost, tick)) i.later.pos e.later.pos
 
 pub run_block-returns-in-Turns-clause-same : goal.run_block-returns-in-Turns-clause-same
 run_block-returns-in-Turns-clause-same g t c =
     let i = c.steps.invariant in
     let e = c.in-Turns.ensures in
-    let C = c.args.env.now.parts.now in
+    let C = c.args.level.now.env.parts.now in
     ran_step c.args.stream.now c.steps.stream c.step.new.stream c.args.steps.now c.steps.steps c.tick.new.self c.step.new.steps _ _ _ i.later e.later i.same e.same c.tick.ensures (λ b x y j k p r.
-    p ∙ ap (after x j) (c.laws.ensures.turns C b c.args.places.now c.args.n c.steps.pc _ _ y (1 + k) (record { instruction = c.instruction_at-instruction.result; there = c.instruction_at-instruction.ensures.there; within = i.place.to; is = r }) ∙ after_once y (1 + k) _))
+    p ∙ ap (after x j) (c.laws.ensures.turns C b c.args.level.now.places.now c.args.level.now.n c.steps.pc _ _ y (1 + k) (record { instruction = c.instruction_at-instruction.result.now; there = c.instruction_at-instruction.ensures.there; within = i.place.to; is = r }) ∙ after_once y (1 + k) _))
 
 pub call-split_at_mut-mine-requires : goal.call-split_at_mut-mine-requires
 call-split_at_mut-mine-requires g t c =
-    let C = c.args.env.now.parts.now in
+    let C = c.args.level.now.env.parts.now in
     let r = ap (λ x. x.registers) c.routine_at-routine.ensures in
     let d = c.requires.callee in
-    omega (arith, r, callee_need (registers C) C c.args.n c.args.at c.args.m d.place d.is d.lower, c.requires.room.register_room)
+    omega (arith, r, callee_need (registers C) C c.args.level.now.n c.args.callee.at c.args.callee.routine d.place d.is d.lower, c.requires.room.register_room)
 
 pub call-split_at_mut-mine_places-requires : goal.call-split_at_mut-mine_places-requires
 call-split_at_mut-mine_places-requires g t c =
-    let C = c.args.env.now.parts.now in
+    let C = c.args.level.now.env.parts.now in
     let r = ap (λ x. x.cells) c.routine_at-routine.ensures in
     let d = c.requires.callee in
-    omega (arith, r, callee_need (cells C) C c.args.n c.args.at c.args.m d.place d.is d.lower, c.requires.room.place_room)
+    omega (arith, r, callee_need (cells C) C c.args.level.now.n c.args.callee.at c.args.callee.routine d.place d.is d.lower, c.requires.room.place_room)
 
 pub call-run_block-left-requires : goal.call-run_block-left-requires
 call-run_block-left-requires g t c =
-    let C = c.args.env.now.parts.now in
-    let m = c.args.m in
+    let C = c.args.level.now.env.parts.now in
+    let m = c.args.callee.routine in
     let d = c.requires.callee in
     let cell = ap (λ x. x.cells) c.routine_at-routine.ensures in
     let register = ap (λ x. x.registers) c.routine_at-routine.ensures in
@@ -253,26 +256,26 @@ call-run_block-left-requires g t c =
     let b = c.requires.room.begins.each m (omega (arith, l)) in
     let q : m + 1 ≡ suc m = omega arith in
     let f = c.requires.room.begins.each (m + 1) (omega (arith, l)) ∙ ap (first_of C) q in
-    let room = callee_room c.args.env.now c.args.n c.args.at m c.args.first c.args.map c.args.places.now c.args.spare_places.now c.args.regs.now c.args.spare.now c.args.cells.now c.set_places.new.mine c.split_at_mut-mine_places.result.1.now c.set_registers.new.mine c.split_at_mut-mine.result.1.now c.args.trace.now c.requires.room d (omega (arith, cell, c.split_at_mut-mine_places.ensures.back_len, c.split_at_mut-mine_places.ensures.front_len)) (omega (arith, register, c.set_registers.auto.mine, c.split_at_mut-mine.ensures.front_len)) (omega (arith, register, c.split_at_mut-mine.ensures.back_len)) (c.set_places.ensures ∙ ap (places_by c.args.places.now) c.map_at.ensures) in
+    let room = callee_room c.args.level.now.env c.args.level.now.n c.args.callee.at m c.args.callee.first c.args.callee.map c.args.level.now.places.now c.args.spare.now.places.now c.args.regs.now c.args.spare.now.registers.now c.args.cells.now c.set_places.new.mine c.split_at_mut-mine_places.result.1.now c.set_registers.new.mine c.split_at_mut-mine.result.1.now c.args.trace.now c.requires.room d (omega (arith, cell, c.split_at_mut-mine_places.ensures.back_len, c.split_at_mut-mine_places.ensures.front_len)) (omega (arith, register, c.set_registers.auto.mine, c.split_at_mut-mine.ensures.front_len)) (omega (arith, register, c.split_at_mut-mine.ensures.back_len)) (c.set_places.ensures ∙ ap (places_by c.args.level.now.places.now) c.map_at.ensures) in
     λ κs h. (omega (arith, c.decreases, b, f), (h.0, (h.1, (room, (whole_stretch C m _ _ c.requires.room.runnable l b f, (c.requires.whole, record { around = omega (arith, c.end-end.ensures); within = omega (arith, c.end-end.ensures, c.requires.whole.short) }))))))
 
 pub call-returns-clause-traced : goal.call-returns-clause-traced
 call-returns-clause-traced g t c =
-    let C = c.args.env.now.parts.now in
+    let C = c.args.level.now.env.parts.now in
     let d = c.requires.callee in
-    traced_more c.run_block-left.result c.run_block-left.new.trace (room_below level C c.args.m + 1) (room_below level C c.args.n) (let k = callee_need level C c.args.n c.args.at c.args.m d.place d.is d.lower in omega (arith, k)) c.run_block-left.ensures.traced
+    traced_more c.run_block-left.result c.run_block-left.new.trace (room_below level C c.args.callee.routine + 1) (room_below level C c.args.level.now.n) (let k = callee_need level C c.args.level.now.n c.args.callee.at c.args.callee.routine d.place d.is d.lower in omega (arith, k)) c.run_block-left.ensures.traced
 
 pub call-returns-clause-idle : goal.call-returns-clause-idle
 call-returns-clause-idle g t c =
-    let C = c.args.env.now.parts.now in
-    let m = c.args.m in
+    let C = c.args.level.now.env.parts.now in
+    let m = c.args.callee.routine in
     let l : m < length C.routines = omega (arith, c.requires.callee.lower, c.requires.room.routine) in
     call_idle C m _ _ _ _ c.run_block-left.result c.requires.room.runnable (c.requires.room.begins.each m (omega (arith, l))) c.run_block-left.ensures.idle_return (sym c.widen.ensures.pos)
 
 pub call-returns-clause-cost : goal.call-returns-clause-cost
 call-returns-clause-cost g t c =
-    let C = c.args.env.now.parts.now in
-    let m = c.args.m in
+    let C = c.args.level.now.env.parts.now in
+    let m = c.args.callee.routine in
     let l : m < length C.routines = omega (arith, c.requires.callee.lower, c.requires.room.routine) in
     let b = c.requires.room.begins.each m (omega (arith, l)) in
     let q : m + 1 ≡ suc m = omega arith in
@@ -281,8 +284,8 @@ call-returns-clause-cost g t c =
 
 pub call-returns-clause-same : goal.call-returns-clause-same
 call-returns-clause-same g t c = λ start outer.
-    let C = c.args.env.now.parts.now in
-    let m = c.args.m in
+    let C = c.args.level.now.env.parts.now in
+    let m = c.args.callee.routine in
     let r = routine_of C m in
     let is = c.routine_at-routine.ensures in
     let l : m < length C.routines = omega (arith, c.requires.callee.lower, c.requires.room.routine) in
@@ -291,25 +294,25 @@ call-returns-clause-same g t c = λ start outer.
     let s1 = c.run_block-left.new.stream in
     let s2 = c.widen.new.self in
     let S : State = record { regs = c.args.regs.now; cells = c.args.cells.now; start = start; pos = position s0; end = end_of s0; outer = outer } in
-    let places = c.set_places.ensures ∙ ap (places_by c.args.places.now) c.map_at.ensures in
-    let args = registers_from c.args.regs.now c.args.first r.params in
-    let regs = begun r args c.arguments.result.now c.set_registers.new.mine _ c.set_registers.ensures (c.arguments.ensures ∙ ap (λ k. registers_from c.args.regs.now c.args.first k.params) is) (c.split_at_mut-mine.ensures.front_len ∙ ap (λ k. k.registers) is) in
+    let places = c.set_places.ensures ∙ ap (places_by c.args.level.now.places.now) c.map_at.ensures in
+    let args = registers_from c.args.regs.now c.args.callee.first r.params in
+    let regs = begun r args c.arguments.result.now c.set_registers.new.mine _ c.set_registers.ensures (c.arguments.ensures ∙ ap (λ k. registers_from c.args.regs.now c.args.callee.first k.params) is) (c.split_at_mut-mine.ensures.front_len ∙ ap (λ k. k.registers) is) in
     let turn = no_turn C m _ c.run_block-left.result c.requires.room.runnable l b' c.run_block-left.ensures.inside in
     ran_after s0 s1 s2 c.args.steps.now c.run_block-left.new.steps _ _ c.run_block-left.ensures.later c.widen.ensures.later c.run_block-left.ensures.same c.widen.ensures.looked (λ b x j p.
     let state = entered_is r args c.set_registers.new.mine S c.pos.result c.end-end.result regs c.pos.ensures c.end-end.ensures in
     let ran = ap (λ q. block C b m q (first_of C m) (entered r args S)) (sym places)
     ∙ ap (λ f. block C b m c.set_places.new.mine f (entered r args S)) (sym b')
-    ∙ ap (λ u. block C b m c.set_places.new.mine (slice_index c.args.env.now.begins.now m) u) state ∙ p in
+    ∙ ap (λ u. block C b m c.set_places.new.mine (slice_index c.args.level.now.env.begins.now m) u) state ∙ p in
     call_left c.run_block-left.result _ (position s2) (frames_of c.run_block-left.new.trace) x j _ turn ran (sym c.widen.ensures.pos))
 
 pub run_block-call-requires : goal.run_block-call-requires
 run_block-call-requires g t c =
     let i = c.steps.invariant in
     let e = c.in-Calls.ensures in
-    let C = c.args.env.now.parts.now in
-    let n = c.args.n in
-    let d = callee_at C n c.steps.pc c.in-Calls.from c.in-Calls.routine c.in-Calls.map c.in-Calls.site c.instruction_at-instruction.result i.room.runnable.safe i.place c.instruction_at-instruction.ensures.is e.leads in
-    let room = room_kept c.args.env.now n c.args.places.now c.steps.spare_places c.steps.spare_places c.steps.regs c.step.new.regs c.steps.spare c.steps.spare c.steps.cells c.step.new.cells c.steps.trace c.steps.trace i.room refl c.step.auto.regs refl c.step.auto.cells i.room.trace refl in
+    let C = c.args.level.now.env.parts.now in
+    let n = c.args.level.now.n in
+    let d = callee_at C n c.steps.pc c.in-Calls.from c.in-Calls.routine c.in-Calls.map c.in-Calls.site c.instruction_at-instruction.result.now i.room.runnable.safe i.place c.instruction_at-instruction.ensures.is e.leads in
+    let room = room_kept c.args.level.now.env n c.args.level.now.places.now c.steps.spare.places.now c.steps.spare.places.now c.steps.regs c.step.new.regs c.steps.spare.registers.now c.steps.spare.registers.now c.steps.cells c.step.new.cells c.steps.trace c.steps.trace i.room refl c.step.auto.regs refl c.step.auto.cells i.room.trace refl in
     let up = begin_up (lengths_of C) (suc c.in-Calls.routine) n (omega (arith, d.lower)) in
     λ κs h. (omega (arith, c.decreases, up, c.requires.stretch.place.from, c.requires.stretch.place.to), (h.0, (h.1, (room, (d, e.whole)))))
 
@@ -318,12 +321,12 @@ run_block-steps-preserved-in-Returned g t c =
     let i = c.steps.invariant in
     let e = c.in-Calls.ensures in
     let f = c.in-Returned.ensures in
-    let C = c.args.env.now.parts.now in
-    let n = c.args.n in
-    let first = c.args.first in
+    let C = c.args.level.now.env.parts.now in
+    let n = c.args.level.now.n in
+    let first = c.args.stretch.first in
     let pc = c.steps.pc in
     let m = c.in-Calls.routine in
-    let I = c.instruction_at-instruction.result in
+    let I = c.instruction_at-instruction.result.now in
     let safe = i.room.runnable.safe in
     let d = callee_at C n pc c.in-Calls.from m c.in-Calls.map c.in-Calls.site I safe i.place c.instruction_at-instruction.ensures.is e.leads in
     let o = call_on C n pc m safe i.place d.is in
@@ -335,12 +338,13 @@ run_block-steps-preserved-in-Returned g t c =
     let tick = c.tick.ensures in
     let still : end_of u ≡ end_of s = subst (λ x. Ends (shape x) (position s) (end_of s) (end_of u)) e.leads e.end in
     let none : c.step.new.steps ≤ c.tick.new.self + 0 * (position u - position s) = subst (λ x. c.step.new.steps ≤ c.tick.new.self + more (shape x) * (position u - position s)) e.leads e.cost in
-    let room = room_kept c.args.env.now n c.args.places.now c.steps.spare_places c.call.new.spare_places c.steps.regs c.step.new.regs c.steps.spare c.call.new.spare c.steps.cells c.call.new.cells c.steps.trace c.call.new.trace i.room c.call.auto.spare_places c.step.auto.regs c.call.auto.spare (c.call.auto.cells ∙ c.step.auto.cells) f.traced f.trace_room in
+    let room = room_kept c.args.level.now.env n c.args.level.now.places.now c.steps.spare.places.now c.call.new.spare.places.now c.steps.regs c.step.new.regs c.steps.spare.registers.now c.call.new.spare.registers.now c.steps.cells c.call.new.cells c.steps.trace c.call.new.trace i.room c.call.ensures.kept.places c.step.auto.regs c.call.ensures.kept.registers (c.call.auto.cells ∙ c.step.auto.cells) f.traced f.trace_room in
     let long : length_of v ≡ length_of u = ap length_in f.later.layout in
     let later1 = later_trans g.met.W.Words.reaches_on s0 s u i.later e.later in
     let U : State = state_of c.step.new.regs c.step.new.cells c.step.new.act u in
     record {
       room = room;
+      kept = spare_on _ _ _ i.kept f.kept;
       place = o.1;
       on = omega (arith, i.on);
       under = c.requires.stretch.closed (pc + 1) o.1 (λ h. o.2 ∙ i.fixed h);
@@ -357,16 +361,16 @@ run_block-steps-preserved-in-Returned g t c =
       begun = omega (arith, i.begun, on);
       cost = call_cost C n first pc (pc + 1) m c.args.steps.now c.steps.steps c.call.new.steps (position s0) (position s) (position v) i.room.runnable i.place d.is d.lower i.kind (omega arith) (omega (arith, o.1.to)) i.begun i.cost (call_spent (before C m (end_at C m)) c.steps.steps c.tick.new.self c.step.new.steps c.call.new.steps (position s) (position u) (position v) tick (omega (arith, none)) f.cost e.later.pos) i.later.pos (omega (arith, e.later.pos, f.later.pos));
       idle = λ z. idle_more C n first pc (pc + 1) (Call m) d.is (omega arith) refl (empty_up (shapes_of C) (lengths_of C) n m d.lower (f.idle (omega (arith, z, i.later.pos, e.later.pos, f.later.pos)))) (i.idle (omega (arith, z, i.later.pos, e.later.pos, f.later.pos)));
-      same = ran_trans s0 u v c.args.steps.now c.step.new.steps c.call.new.steps (λ b x j. block C b n c.args.places.now first (state_of c.args.regs.now c.args.cells.now c.args.act.now s0) ≡ after x j (back C c.in-Calls.site U (block C b n c.args.places.now (pc + 1)) (block C b m (places_by c.args.places.now (map_of C c.in-Calls.map)) (first_of C m) (entered (routine_of C m) (registers_from c.step.new.regs c.in-Calls.from (routine_of C m).params) U)))) _ _
+      same = ran_trans s0 u v c.args.steps.now c.step.new.steps c.call.new.steps (λ b x j. block C b n c.args.level.now.places.now first (state_of c.args.regs.now c.args.cells.now c.args.act.now s0) ≡ after x j (back C c.in-Calls.site U (block C b n c.args.level.now.places.now (pc + 1)) (block C b m (places_by c.args.level.now.places.now (map_of C c.in-Calls.map)) (first_of C m) (entered (routine_of C m) (registers_from c.step.new.regs c.in-Calls.from (routine_of C m).params) U)))) _ _
           later1 f.later
           (ran_step s0 s u c.args.steps.now c.steps.steps c.tick.new.self c.step.new.steps _ _ _ i.later e.later i.same e.same c.tick.ensures (λ b x y j k p q.
-          p ∙ ap (after x j) (c.laws.ensures.calls C b c.args.places.now n pc c.in-Calls.from m c.in-Calls.map c.in-Calls.site _ _ y (1 + k) (record { instruction = I; there = c.instruction_at-instruction.ensures.there; within = i.place.to; is = q }) o.1.to d.lower)
+          p ∙ ap (after x j) (c.laws.ensures.calls C b c.args.level.now.places.now n pc c.in-Calls.from m c.in-Calls.map c.in-Calls.site _ _ y (1 + k) (record { instruction = I; there = c.instruction_at-instruction.ensures.there; within = i.place.to; is = q }) o.1.to d.lower)
           ∙ after_more x y j (1 + k) _))
           (f.same c.step.new.act.start c.step.new.act.outer)
           (λ b x y j k p q.
-          p ∙ ap (λ w. after x j (back C c.in-Calls.site U (block C b n c.args.places.now (pc + 1)) w)) q
+          p ∙ ap (λ w. after x j (back C c.in-Calls.site U (block C b n c.args.level.now.places.now (pc + 1)) w)) q
           ∙ after_more x y j k _
-          ∙ ap (λ w. after (x ++ y) (j + k) (block C b n c.args.places.now (pc + 1) (record { regs = c.step.new.regs; cells = c.call.new.cells; start = c.step.new.act.start; pos = position v; end = w; outer = c.step.new.act.outer }))) (sym f.end));
+          ∙ ap (λ w. after (x ++ y) (j + k) (block C b n c.args.level.now.places.now (pc + 1) (record { regs = c.step.new.regs; cells = c.call.new.cells; start = c.step.new.act.start; pos = position v; end = w; outer = c.step.new.act.outer }))) (sym f.end));
     }
 
 pub run_block-returns-in-Failed-clause-later : goal.run_block-returns-in-Failed-clause-later
@@ -378,11 +382,11 @@ run_block-returns-in-Failed-clause-cost g t c =
     let i = c.steps.invariant in
     let e = c.in-Calls.ensures in
     let f = c.in-Failed.ensures in
-    let C = c.args.env.now.parts.now in
-    let n = c.args.n in
+    let C = c.args.level.now.env.parts.now in
+    let n = c.args.level.now.n in
     let pc = c.steps.pc in
     let m = c.in-Calls.routine in
-    let I = c.instruction_at-instruction.result in
+    let I = c.instruction_at-instruction.result.now in
     let d = callee_at C n pc c.in-Calls.from m c.in-Calls.map c.in-Calls.site I i.room.runnable.safe i.place c.instruction_at-instruction.ensures.is e.leads in
     let s0 = c.args.stream.now in
     let s = c.steps.stream in
@@ -390,18 +394,18 @@ run_block-returns-in-Failed-clause-cost g t c =
     let v = c.call.new.stream in
     let tick = c.tick.ensures in
     let none : c.step.new.steps ≤ c.tick.new.self + 0 * (position u - position s) = subst (λ x. c.step.new.steps ≤ c.tick.new.self + more (shape x) * (position u - position s)) e.leads e.cost in
-    call_cost C n c.args.first pc c.args.to m c.args.steps.now c.steps.steps c.call.new.steps (position s0) (position s) (position v) i.room.runnable i.place d.is d.lower i.kind i.under c.requires.stretch.within i.begun i.cost (call_spent (before C m (end_at C m)) c.steps.steps c.tick.new.self c.step.new.steps c.call.new.steps (position s) (position u) (position v) tick (omega (arith, none)) f.cost e.later.pos) i.later.pos (omega (arith, e.later.pos, f.later.pos))
+    call_cost C n c.args.stretch.first pc c.args.stretch.to m c.args.steps.now c.steps.steps c.call.new.steps (position s0) (position s) (position v) i.room.runnable i.place d.is d.lower i.kind i.under c.requires.stretch.within i.begun i.cost (call_spent (before C m (end_at C m)) c.steps.steps c.tick.new.self c.step.new.steps c.call.new.steps (position s) (position u) (position v) tick (omega (arith, none)) f.cost e.later.pos) i.later.pos (omega (arith, e.later.pos, f.later.pos))
 
 pub run_block-returns-in-Failed-clause-same : goal.run_block-returns-in-Failed-clause-same
 run_block-returns-in-Failed-clause-same g t c =
     let i = c.steps.invariant in
     let e = c.in-Calls.ensures in
     let f = c.in-Failed.ensures in
-    let C = c.args.env.now.parts.now in
-    let n = c.args.n in
+    let C = c.args.level.now.env.parts.now in
+    let n = c.args.level.now.n in
     let pc = c.steps.pc in
     let m = c.in-Calls.routine in
-    let I = c.instruction_at-instruction.result in
+    let I = c.instruction_at-instruction.result.now in
     let safe = i.room.runnable.safe in
     let d = callee_at C n pc c.in-Calls.from m c.in-Calls.map c.in-Calls.site I safe i.place c.instruction_at-instruction.ensures.is e.leads in
     let o = call_on C n pc m safe i.place d.is in
@@ -410,32 +414,32 @@ run_block-returns-in-Failed-clause-same g t c =
     let u = c.step.new.stream in
     let v = c.call.new.stream in
     let U : State = state_of c.step.new.regs c.step.new.cells c.step.new.act u in
-    ran_trans s0 u v c.args.steps.now c.step.new.steps c.call.new.steps (λ b x j. block C b n c.args.places.now c.args.first (state_of c.args.regs.now c.args.cells.now c.args.act.now s0) ≡ after x j (back C c.in-Calls.site U (block C b n c.args.places.now (pc + 1)) (block C b m (places_by c.args.places.now (map_of C c.in-Calls.map)) (first_of C m) (entered (routine_of C m) (registers_from c.step.new.regs c.in-Calls.from (routine_of C m).params) U)))) _ _
+    ran_trans s0 u v c.args.steps.now c.step.new.steps c.call.new.steps (λ b x j. block C b n c.args.level.now.places.now c.args.stretch.first (state_of c.args.regs.now c.args.cells.now c.args.act.now s0) ≡ after x j (back C c.in-Calls.site U (block C b n c.args.level.now.places.now (pc + 1)) (block C b m (places_by c.args.level.now.places.now (map_of C c.in-Calls.map)) (first_of C m) (entered (routine_of C m) (registers_from c.step.new.regs c.in-Calls.from (routine_of C m).params) U)))) _ _
     (later_trans g.met.W.Words.reaches_on s0 s u i.later e.later) f.later
     (ran_step s0 s u c.args.steps.now c.steps.steps c.tick.new.self c.step.new.steps _ _ _ i.later e.later i.same e.same c.tick.ensures (λ b x y j k p q.
-    p ∙ ap (after x j) (c.laws.ensures.calls C b c.args.places.now n pc c.in-Calls.from m c.in-Calls.map c.in-Calls.site _ _ y (1 + k) (record { instruction = I; there = c.instruction_at-instruction.ensures.there; within = i.place.to; is = q }) o.1.to d.lower)
+    p ∙ ap (after x j) (c.laws.ensures.calls C b c.args.level.now.places.now n pc c.in-Calls.from m c.in-Calls.map c.in-Calls.site _ _ y (1 + k) (record { instruction = I; there = c.instruction_at-instruction.ensures.there; within = i.place.to; is = q }) o.1.to d.lower)
     ∙ after_more x y j (1 + k) _))
     (f.same c.step.new.act.start c.step.new.act.outer)
     (λ b x y j k p q.
-    p ∙ ap (λ w. after x j (back C c.in-Calls.site U (block C b n c.args.places.now (pc + 1)) w)) q
+    p ∙ ap (λ w. after x j (back C c.in-Calls.site U (block C b n c.args.level.now.places.now (pc + 1)) w)) q
     ∙ ap (λ l. exit_by (ir.Failed c.in-Failed.reason c.in-Failed.pos l c.call.new.cells) (x ++ y) (j + k)) (sym c.push_frame-in-Failed.ensures.frames))
 
 pub run_block-run_turns-requires : goal.run_block-run_turns-requires
 run_block-run_turns-requires g t c =
     let i = c.steps.invariant in
     let e = c.in-Loops.ensures in
-    let C = c.args.env.now.parts.now in
-    let n = c.args.n in
-    let at = shape_here C c.steps.pc c.instruction_at-instruction.result c.instruction_at-instruction.ensures.is in
-    let room = room_kept c.args.env.now n c.args.places.now c.steps.spare_places c.steps.spare_places c.steps.regs c.step.new.regs c.steps.spare c.steps.spare c.steps.cells c.step.new.cells c.steps.trace c.steps.trace i.room refl c.step.auto.regs refl c.step.auto.cells i.room.trace refl in
+    let C = c.args.level.now.env.parts.now in
+    let n = c.args.level.now.n in
+    let at = shape_here C c.steps.pc c.instruction_at-instruction.result.now c.instruction_at-instruction.ensures.is in
+    let room = room_kept c.args.level.now.env n c.args.level.now.places.now c.steps.spare.places.now c.steps.spare.places.now c.steps.regs c.step.new.regs c.steps.spare.registers.now c.steps.spare.registers.now c.steps.cells c.step.new.cells c.steps.trace c.steps.trace i.room refl c.step.auto.regs refl c.step.auto.cells i.room.trace refl in
     λ κs h. (omega (arith, c.decreases, i.on, i.place.to, i.place.from), (h.0, (h.1, (room, (i.place, (at ∙ ap shape e.leads, (e.whole, e.window)))))))
 
 pub run_block-steps-smaller : goal.run_block-steps-smaller
 run_block-steps-smaller g t c =
     let i = c.steps.invariant in
-    let C = c.args.env.now.parts.now in
-    let at = shape_here C c.steps.pc c.instruction_at-instruction.result c.instruction_at-instruction.ensures.is in
-    let w = loop_whole C c.args.n c.steps.pc c.in-Loops.target i.room.runnable i.place (at ∙ ap shape c.in-Loops.ensures.leads) in
+    let C = c.args.level.now.env.parts.now in
+    let at = shape_here C c.steps.pc c.instruction_at-instruction.result.now c.instruction_at-instruction.ensures.is in
+    let w = loop_whole C c.args.level.now.n c.steps.pc c.in-Loops.target i.room.runnable i.place (at ∙ ap shape c.in-Loops.ensures.leads) in
     omega (arith, w.body, i.under)
 
 pub run_block-steps-preserved : goal.run_block-steps-preserved
@@ -443,12 +447,12 @@ run_block-steps-preserved g t c =
     let i = c.steps.invariant in
     let e = c.in-Loops.ensures in
     let f = c.in-Turned-run_turns.ensures in
-    let C = c.args.env.now.parts.now in
-    let n = c.args.n in
-    let first = c.args.first in
+    let C = c.args.level.now.env.parts.now in
+    let n = c.args.level.now.n in
+    let first = c.args.stretch.first in
     let pc = c.steps.pc in
     let q = c.in-Loops.target in
-    let I = c.instruction_at-instruction.result in
+    let I = c.instruction_at-instruction.result.now in
     let is = shape_here C pc I c.instruction_at-instruction.ensures.is ∙ ap shape e.leads in
     let w = loop_whole C n pc q i.room.runnable i.place is in
     let s0 = c.args.stream.now in
@@ -461,7 +465,8 @@ run_block-steps-preserved g t c =
     let none : c.step.new.steps ≤ c.tick.new.self + 0 * (position u - position s) = subst (λ x. c.step.new.steps ≤ c.tick.new.self + more (shape x) * (position u - position s)) e.leads e.cost in
     let later1 = later_trans g.met.W.Words.reaches_on s0 s u i.later e.later in
     record {
-      room = room_kept c.args.env.now n c.args.places.now c.steps.spare_places c.run_turns.new.spare_places c.steps.regs c.run_turns.new.regs c.steps.spare c.run_turns.new.spare c.steps.cells c.run_turns.new.cells c.steps.trace c.run_turns.new.trace i.room c.run_turns.auto.spare_places (c.run_turns.auto.regs ∙ c.step.auto.regs) c.run_turns.auto.spare (c.run_turns.auto.cells ∙ c.step.auto.cells) f.traced f.trace_room;
+      room = room_kept c.args.level.now.env n c.args.level.now.places.now c.steps.spare.places.now c.run_turns.new.spare.places.now c.steps.regs c.run_turns.new.regs c.steps.spare.registers.now c.run_turns.new.spare.registers.now c.steps.cells c.run_turns.new.cells c.steps.trace c.run_turns.new.trace i.room c.run_turns.ensures.kept.places (c.run_turns.auto.regs ∙ c.step.auto.regs) c.run_turns.ensures.kept.registers (c.run_turns.auto.cells ∙ c.step.auto.cells) f.traced f.trace_room;
+      kept = spare_on _ _ _ i.kept f.kept;
       place = w.behind;
       on = omega (arith, i.on, w.body);
       under = c.requires.stretch.closed q w.behind (λ h. w.same ∙ i.fixed h);
@@ -478,13 +483,13 @@ run_block-steps-preserved g t c =
       begun = omega (arith, i.begun, on);
       cost = loop_cost C n first pc q q c.args.steps.now c.steps.steps c.run_turns.new.steps (position s0) (position s) (position v) i.room.runnable i.place is w.body (omega arith) (omega (arith, w.behind.to)) i.kind i.begun i.cost (call_spent (before C n q - before C n (pc + 1) + 1) c.steps.steps c.tick.new.self c.step.new.steps c.run_turns.new.steps (position s) (position u) (position v) tick (omega (arith, none)) f.cost e.later.pos) i.later.pos (omega (arith, e.later.pos, f.later.pos));
       idle = λ z. idle_more C n first pc q (While q) is (omega (arith, w.body)) refl tt (i.idle (omega (arith, z, i.later.pos, e.later.pos, f.later.pos)));
-      same = ran_trans s0 u v c.args.steps.now c.step.new.steps c.run_turns.new.steps (λ b x j. block C b n c.args.places.now first (state_of c.args.regs.now c.args.cells.now c.args.act.now s0) ≡ after x j (turns (suc (end_of u - position u)) (block C b n c.args.places.now (pc + 1)) (block C b n c.args.places.now q) (state_of c.step.new.regs c.step.new.cells c.step.new.act u))) _ _
+      same = ran_trans s0 u v c.args.steps.now c.step.new.steps c.run_turns.new.steps (λ b x j. block C b n c.args.level.now.places.now first (state_of c.args.regs.now c.args.cells.now c.args.act.now s0) ≡ after x j (turns (suc (end_of u - position u)) (block C b n c.args.level.now.places.now (pc + 1)) (block C b n c.args.level.now.places.now q) (state_of c.step.new.regs c.step.new.cells c.step.new.act u))) _ _
           later1 f.later
           (ran_step s0 s u c.args.steps.now c.steps.steps c.tick.new.self c.step.new.steps _ _ _ i.later e.later i.same e.same c.tick.ensures (λ b x y j k p r.
-          p ∙ ap (after x j) (c.laws.ensures.loops C b c.args.places.now n pc q _ _ y (1 + k) (record { instruction = I; there = c.instruction_at-instruction.ensures.there; within = i.place.to; is = r }) w.body w.behind.to)
+          p ∙ ap (after x j) (c.laws.ensures.loops C b c.args.level.now.places.now n pc q _ _ y (1 + k) (record { instruction = I; there = c.instruction_at-instruction.ensures.there; within = i.place.to; is = r }) w.body w.behind.to)
           ∙ after_more x y j (1 + k) _))
           f.same
-          (λ b x y j k p r. p ∙ ap (after x j) (r (block C b n c.args.places.now q)) ∙ after_more x y j k _);
+          (λ b x y j k p r. p ∙ ap (after x j) (r (block C b n c.args.level.now.places.now q)) ∙ after_more x y j k _);
     }
 
 pub run_block-returns-in-Failed-run_turns-clause-later : goal.run_block-returns-in-Failed-run_turns-clause-later
@@ -496,11 +501,11 @@ run_block-returns-in-Failed-run_turns-clause-cost g t c =
     let i = c.steps.invariant in
     let e = c.in-Loops.ensures in
     let f = c.in-Failed-run_turns.ensures in
-    let C = c.args.env.now.parts.now in
-    let n = c.args.n in
+    let C = c.args.level.now.env.parts.now in
+    let n = c.args.level.now.n in
     let pc = c.steps.pc in
     let q = c.in-Loops.target in
-    let is = shape_here C pc c.instruction_at-instruction.result c.instruction_at-instruction.ensures.is ∙ ap shape e.leads in
+    let is = shape_here C pc c.instruction_at-instruction.result.now c.instruction_at-instruction.ensures.is ∙ ap shape e.leads in
     let w = loop_whole C n pc q i.room.runnable i.place is in
     let s0 = c.args.stream.now in
     let s = c.steps.stream in
@@ -509,64 +514,65 @@ run_block-returns-in-Failed-run_turns-clause-cost g t c =
     let tick = c.tick.ensures in
     let none : c.step.new.steps ≤ c.tick.new.self + 0 * (position u - position s) = subst (λ x. c.step.new.steps ≤ c.tick.new.self + more (shape x) * (position u - position s)) e.leads e.cost in
     let under = c.requires.stretch.closed q w.behind (λ h. w.same ∙ i.fixed h) in
-    loop_cost C n c.args.first pc q c.args.to c.args.steps.now c.steps.steps c.run_turns.new.steps (position s0) (position s) (position v) i.room.runnable i.place is w.body (omega (arith, under)) c.requires.stretch.within i.kind i.begun i.cost (call_spent (before C n q - before C n (pc + 1) + 1) c.steps.steps c.tick.new.self c.step.new.steps c.run_turns.new.steps (position s) (position u) (position v) tick (omega (arith, none)) f.cost e.later.pos) i.later.pos (omega (arith, e.later.pos, f.later.pos))
+    loop_cost C n c.args.stretch.first pc q c.args.stretch.to c.args.steps.now c.steps.steps c.run_turns.new.steps (position s0) (position s) (position v) i.room.runnable i.place is w.body (omega (arith, under)) c.requires.stretch.within i.kind i.begun i.cost (call_spent (before C n q - before C n (pc + 1) + 1) c.steps.steps c.tick.new.self c.step.new.steps c.run_turns.new.steps (position s) (position u) (position v) tick (omega (arith, none)) f.cost e.later.pos) i.later.pos (omega (arith, e.later.pos, f.later.pos))
 
 pub run_block-returns-in-Failed-run_turns-clause-same : goal.run_block-returns-in-Failed-run_turns-clause-same
 run_block-returns-in-Failed-run_turns-clause-same g t c =
     let i = c.steps.invariant in
     let e = c.in-Loops.ensures in
     let f = c.in-Failed-run_turns.ensures in
-    let C = c.args.env.now.parts.now in
-    let n = c.args.n in
+    let C = c.args.level.now.env.parts.now in
+    let n = c.args.level.now.n in
     let pc = c.steps.pc in
     let q = c.in-Loops.target in
-    let I = c.instruction_at-instruction.result in
+    let I = c.instruction_at-instruction.result.now in
     let is = shape_here C pc I c.instruction_at-instruction.ensures.is ∙ ap shape e.leads in
     let w = loop_whole C n pc q i.room.runnable i.place is in
     let s0 = c.args.stream.now in
     let s = c.steps.stream in
     let u = c.step.new.stream in
     let v = c.run_turns.new.stream in
-    ran_trans s0 u v c.args.steps.now c.step.new.steps c.run_turns.new.steps (λ b x j. block C b n c.args.places.now c.args.first (state_of c.args.regs.now c.args.cells.now c.args.act.now s0) ≡ after x j (turns (suc (end_of u - position u)) (block C b n c.args.places.now (pc + 1)) (block C b n c.args.places.now q) (state_of c.step.new.regs c.step.new.cells c.step.new.act u))) _ _
+    ran_trans s0 u v c.args.steps.now c.step.new.steps c.run_turns.new.steps (λ b x j. block C b n c.args.level.now.places.now c.args.stretch.first (state_of c.args.regs.now c.args.cells.now c.args.act.now s0) ≡ after x j (turns (suc (end_of u - position u)) (block C b n c.args.level.now.places.now (pc + 1)) (block C b n c.args.level.now.places.now q) (state_of c.step.new.regs c.step.new.cells c.step.new.act u))) _ _
     (later_trans g.met.W.Words.reaches_on s0 s u i.later e.later) f.later
     (ran_step s0 s u c.args.steps.now c.steps.steps c.tick.new.self c.step.new.steps _ _ _ i.later e.later i.same e.same c.tick.ensures (λ b x y j k p r.
-    p ∙ ap (after x j) (c.laws.ensures.loops C b c.args.places.now n pc q _ _ y (1 + k) (record { instruction = I; there = c.instruction_at-instruction.ensures.there; within = i.place.to; is = r }) w.body w.behind.to)
+    p ∙ ap (after x j) (c.laws.ensures.loops C b c.args.level.now.places.now n pc q _ _ y (1 + k) (record { instruction = I; there = c.instruction_at-instruction.ensures.there; within = i.place.to; is = r }) w.body w.behind.to)
     ∙ after_more x y j (1 + k) _))
     f.same
-    (λ b x y j k p r. p ∙ ap (after x j) (r (block C b n c.args.places.now q)))
+    (λ b x y j k p r. p ∙ ap (after x j) (r (block C b n c.args.level.now.places.now q)))
 
 pub run_turns-run_block-requires : goal.run_turns-run_block-requires
 run_turns-run_block-requires g t c =
     let i = c.turns.invariant in
-    let C = c.args.env.now.parts.now in
-    λ κs h. (omega (arith, c.decreases, c.requires.place.from, c.requires.place.to), (h.0, (h.1, (i.room, (body_stretch C c.args.n c.args.at c.args.to i.room.runnable c.requires.place c.requires.loops, (i.whole, i.window))))))
+    let C = c.args.level.now.env.parts.now in
+    λ κs h. (omega (arith, c.decreases, c.requires.place.from, c.requires.place.to), (h.0, (h.1, (i.room, (body_stretch C c.args.level.now.n c.args.stretch.first c.args.stretch.to i.room.runnable c.requires.place c.requires.loops, (i.whole, i.window))))))
 
 pub run_turns-turns-smaller : goal.run_turns-turns-smaller
 run_turns-turns-smaller g t c =
     let e = c.in-Turned.ensures in
-    let C = c.args.env.now.parts.now in
+    let C = c.args.level.now.env.parts.now in
     let more : 1 ≤ end_of c.turns.stream - position c.turns.stream = c.need.ensures.0 c.turns-test.true in
-    let moved = grown (position c.turns.stream) (position c.run_block.new.stream) e.later.pos (λ k. turn_busy C c.args.n c.args.at c.args.to c.requires.room.runnable c.requires.place c.requires.loops (e.idle_turn k)) in
+    let moved = grown (position c.turns.stream) (position c.run_block.new.stream) e.later.pos (λ k. turn_busy C c.args.level.now.n c.args.stretch.first c.args.stretch.to c.requires.room.runnable c.requires.place c.requires.loops (e.idle_turn k)) in
     omega (arith, moved, e.end, more)
 
 pub run_turns-turns-preserved : goal.run_turns-turns-preserved
 run_turns-turns-preserved g t c =
     let i = c.turns.invariant in
     let e = c.in-Turned.ensures in
-    let C = c.args.env.now.parts.now in
-    let n = c.args.n in
+    let C = c.args.level.now.env.parts.now in
+    let n = c.args.level.now.n in
     let s0 = c.args.stream.now in
     let s = c.turns.stream in
     let v = c.run_block.new.stream in
     let more : 1 ≤ end_of s - position s = c.need.ensures.0 c.turns-test.true in
-    let moved = grown (position s) (position v) e.later.pos (λ k. turn_busy C n c.args.at c.args.to c.requires.room.runnable c.requires.place c.requires.loops (e.idle_turn k)) in
+    let moved = grown (position s) (position v) e.later.pos (λ k. turn_busy C n c.args.stretch.first c.args.stretch.to c.requires.room.runnable c.requires.place c.requires.loops (e.idle_turn k)) in
     let k = i.same.0 in
     let few : end_of s - position s < k = i.same.1 in
-    let D = before C n c.args.to - before C n (c.args.at + 1) in
-    let twice : scale C (c.args.at + 1) ≡ 2 = ap (λ v. cond v 2 1) (c.requires.room.runnable.safe.loops.turning n c.args.at c.args.to c.requires.place c.requires.loops) in
+    let D = before C n c.args.stretch.to - before C n (c.args.stretch.first + 1) in
+    let twice : scale C (c.args.stretch.first + 1) ≡ 2 = ap (λ v. cond v 2 1) (c.requires.room.runnable.safe.loops.turning n c.args.stretch.first c.args.stretch.to c.requires.place c.requires.loops) in
     let spent : 2 * c.run_block.new.steps ≤ 2 * c.turns.steps + D * (position v - position s + 1) = subst (λ x. x * c.run_block.new.steps ≤ x * c.turns.steps + D * (position v - position s + 1)) twice e.cost in
     record {
-      room = room_kept c.args.env.now n c.args.places.now c.turns.spare_places c.run_block.new.spare_places c.turns.regs c.run_block.new.regs c.turns.spare c.run_block.new.spare c.turns.cells c.run_block.new.cells c.turns.trace c.run_block.new.trace i.room c.run_block.auto.spare_places c.run_block.auto.regs c.run_block.auto.spare c.run_block.auto.cells e.traced e.trace_room;
+      room = room_kept c.args.level.now.env n c.args.level.now.places.now c.turns.spare.places.now c.run_block.new.spare.places.now c.turns.regs c.run_block.new.regs c.turns.spare.registers.now c.run_block.new.spare.registers.now c.turns.cells c.run_block.new.cells c.turns.trace c.run_block.new.trace i.room c.run_block.ensures.kept.places c.run_block.auto.regs c.run_block.ensures.kept.registers c.run_block.auto.cells e.traced e.trace_room;
+      kept = spare_on _ _ _ i.kept e.kept;
       later = later_trans g.met.W.Words.reaches_on s0 s v i.later e.later;
       whole = e.whole;
       window = e.window;
@@ -578,7 +584,7 @@ run_turns-turns-preserved g t c =
       same = (
         k - 1,
         omega (arith, moved, e.end, more, few),
-        ran_trans s0 s v c.args.steps.now c.turns.steps c.tick.new.self _ (λ b y m. (behind : State → Exit) → turns k (block C b n c.args.places.now (c.args.at + 1)) behind (state_of c.turns.regs c.turns.cells c.turns.act s) ≡ after y m (turns (k - 1) (block C b n c.args.places.now (c.args.at + 1)) behind (state_of c.run_block.new.regs c.run_block.new.cells c.run_block.new.act v))) _ i.later e.later i.same.2
+        ran_trans s0 s v c.args.steps.now c.turns.steps c.tick.new.self _ (λ b y m. (behind : State → Exit) → turns k (block C b n c.args.level.now.places.now (c.args.stretch.first + 1)) behind (state_of c.turns.regs c.turns.cells c.turns.act s) ≡ after y m (turns (k - 1) (block C b n c.args.level.now.places.now (c.args.stretch.first + 1)) behind (state_of c.run_block.new.regs c.run_block.new.cells c.run_block.new.act v))) _ i.later e.later i.same.2
             (ran_ticked s v c.turns.steps c.run_block.new.steps c.tick.new.self _ _ e.same c.tick.ensures (λ b y m r behind. turn_more k _ behind _ _ y m more few r))
             (λ b x y j m p r behind. p behind ∙ ap (after x j) (r behind) ∙ after_more x y j m _),
       );
@@ -587,7 +593,7 @@ run_turns-turns-preserved g t c =
 pub run_turns-unreachable-requires : goal.run_turns-unreachable-requires
 run_turns-unreachable-requires g t c =
     let a = c.in-Returned.ensures.outside in
-    let b = c.requires.room.runnable.safe.loops.turning c.args.n c.args.at c.args.to c.requires.place c.requires.loops in
+    let b = c.requires.room.runnable.safe.loops.turning c.args.level.now.n c.args.stretch.first c.args.stretch.to c.requires.place c.requires.loops in
     cc
 
 pub run_turns-returns-in-Failed-clause-later : goal.run_turns-returns-in-Failed-clause-later
@@ -597,13 +603,13 @@ pub run_turns-returns-in-Failed-clause-cost : goal.run_turns-returns-in-Failed-c
 run_turns-returns-in-Failed-clause-cost g t c =
     let i = c.turns.invariant in
     let e = c.in-Failed.ensures in
-    let C = c.args.env.now.parts.now in
-    let n = c.args.n in
+    let C = c.args.level.now.env.parts.now in
+    let n = c.args.level.now.n in
     let s0 = c.args.stream.now in
     let s = c.turns.stream in
     let v = c.run_block.new.stream in
-    let D = before C n c.args.to - before C n (c.args.at + 1) in
-    let twice : scale C (c.args.at + 1) ≡ 2 = ap (λ v. cond v 2 1) (c.requires.room.runnable.safe.loops.turning n c.args.at c.args.to c.requires.place c.requires.loops) in
+    let D = before C n c.args.stretch.to - before C n (c.args.stretch.first + 1) in
+    let twice : scale C (c.args.stretch.first + 1) ≡ 2 = ap (λ v. cond v 2 1) (c.requires.room.runnable.safe.loops.turning n c.args.stretch.first c.args.stretch.to c.requires.place c.requires.loops) in
     let spent : 2 * c.run_block.new.steps ≤ 2 * c.turns.steps + D * (position v - position s + 1) = subst (λ x. x * c.run_block.new.steps ≤ x * c.turns.steps + D * (position v - position s + 1)) twice e.cost in
     spend_last c.args.steps.now c.turns.steps c.run_block.new.steps D (position s - position s0) (position v - position s) (position v - position s0) i.cost spent (omega (arith, i.later.pos, e.later.pos))
 
@@ -631,18 +637,18 @@ run_block-returns-in-Returns-clause-later g t c = later_trans g.met.W.Words.reac
 pub run_block-returns-in-Turns-clause-later : goal.run_block-returns-in-Turns-clause-later
 run_block-returns-in-Turns-clause-later g t c = later_trans g.met.W.Words.reaches_on c.args.stream.now c.steps.stream c.step.new.stream c.steps.invariant.later c.in-Turns.ensures.later
 
-pub run_turns-overflow_add-at : goal.run_turns-overflow_add-at
-run_turns-overflow_add-at g t c =
-    let w = loop_whole c.args.env.now.parts.now c.args.n c.args.at c.args.to c.requires.room.runnable c.requires.place c.requires.loops in
-    omega (arith, w.body, c.ranges.to.fits)
+pub run_turns-overflow_add-stretch : goal.run_turns-overflow_add-stretch
+run_turns-overflow_add-stretch g t c =
+    let w = loop_whole c.args.level.now.env.parts.now c.args.level.now.n c.args.stretch.first c.args.stretch.to c.requires.room.runnable c.requires.place c.requires.loops in
+    omega (arith, w.body, c.well_formed)
 
 pub call-set_registers-requires : goal.call-set_registers-requires
 call-set_registers-requires g t c =
-    let C = c.args.env.now.parts.now in
-    let m = c.args.m in
+    let C = c.args.level.now.env.parts.now in
+    let m = c.args.callee.routine in
     let is = c.routine_at-routine.ensures in
     let l : m < length C.routines = omega (arith, c.requires.callee.lower, c.requires.room.routine) in
-    let count = ap length c.arguments.ensures ∙ length_registers c.args.regs.now c.args.first c.routine_at-routine.result.params in
+    let count = ap length c.arguments.ensures ∙ length_registers c.args.regs.now c.args.callee.first c.routine_at-routine.result.params in
     omega (arith, count, ap (λ x. x.params) is, ap (λ x. x.registers) is, (c.requires.room.runnable.code.routines m l).room, c.split_at_mut-mine.ensures.front_len)
 
 pub call-returns-clause-later : goal.call-returns-clause-later
@@ -650,6 +656,9 @@ call-returns-clause-later g t c = later_trans g.met.W.Words.reaches_on c.args.st
 
 pub call-returns-clause-no_turn : goal.call-returns-clause-no_turn
 call-returns-clause-no_turn g t c =
-    let m = c.args.m in
-    let l : m < length c.args.env.now.parts.now.routines = omega (arith, c.requires.callee.lower, c.requires.room.routine) in
-    no_turn c.args.env.now.parts.now m _ c.run_block-left.result c.requires.room.runnable l (c.requires.room.begins.each m (omega (arith, l))) c.run_block-left.ensures.inside
+    let m = c.args.callee.routine in
+    let l : m < length c.args.level.now.env.parts.now.routines = omega (arith, c.requires.callee.lower, c.requires.room.routine) in
+    no_turn c.args.level.now.env.parts.now m _ c.run_block-left.result c.requires.room.runnable l (c.requires.room.begins.each m (omega (arith, l))) c.run_block-left.ensures.inside
+
+pub call-returns-clause-kept : goal.call-returns-clause-kept
+call-returns-clause-kept g t c = record { same_places = refl; same_registers = refl; places = search rules; registers = search rules }

@@ -8,46 +8,48 @@ use Rattle.td_verify.specs.Verify.{IsIn}
 use Rattle.td_verify.specs.Safe.{before, looped}
 use Rattle.td_stream.specs.StreamInvariant.{IsStream, Later, position, end_of}
 use Rattle.td_step.specs.Stepping.{state_of, Ran, InWindow}
-use Rattle.td_vm.specs.Machine.{Idle, HasRoom, scale}
+use Rattle.td_vm.specs.Machine.{Idle, HasRoom, IsKept, scale}
 use Rattle.td_vm.proofs.machine.+machine.Given as goal
 
 abbrev pub decreases-run_block : goal.decreases-run_block
-decreases-run_block g l = 2 * (first_of l.env.now.parts.now l.n + (end_at l.env.now.parts.now l.n - l.first))
+decreases-run_block g l = 2 * (first_of l.level.now.env.parts.now l.level.now.n + (end_at l.level.now.env.parts.now l.level.now.n - l.stretch.first))
 
 abbrev pub decreases-call : goal.decreases-call
-decreases-call g l = 2 * end_at l.env.now.parts.now l.m + 1
+decreases-call g l = 2 * end_at l.level.now.env.parts.now l.callee.routine + 1
 
 abbrev pub decreases-run_turns : goal.decreases-run_turns
-decreases-run_turns g l = 2 * (first_of l.env.now.parts.now l.n + (end_at l.env.now.parts.now l.n - l.at)) - 1
+decreases-run_turns g l = 2 * (first_of l.level.now.env.parts.now l.level.now.n + (end_at l.level.now.env.parts.now l.level.now.n - l.stretch.first)) - 1
 
 abbrev pub invariant-run_block-steps : goal.invariant-run_block-steps
 invariant-run_block-steps g l = record {
-  room : HasRoom l.env l.n l.places l.spare_places l.regs l.spare l.cells l.trace;
-  place : IsIn l.env.parts.now l.n l.pc;
-  on : l.first ≤ l.pc;
-  under : l.pc < l.to;
+  room : HasRoom l.level.env l.level.n l.level.places.now l.spare.places.now l.regs l.spare.registers.now l.cells l.trace;
+  kept : IsKept l.fn.spare l.spare;
+  place : IsIn l.level.env.parts.now l.level.n l.pc;
+  on : l.stretch.first ≤ l.pc;
+  under : l.pc < l.stretch.to;
   later : Later g.W.Words.loads g.W.Words.reaches l.fn.stream l.stream;
   whole : IsStream g.W.Words.loads g.W.Words.size l.stream;
   window : InWindow l.act l.stream;
   outer : l.act.outer ≤ l.fn.act.outer;
   frames : length l.trace.frames.items ≡ length l.fn.trace.frames.items;
   memory : vec_capacity l.trace.frames ≡ vec_capacity l.fn.trace.frames;
-  kind : looped l.env.parts.now l.pc ≡ looped l.env.parts.now l.first;
-  fixed : looped l.env.parts.now l.first ≡ true → opened (shapes_of l.env.parts.now) l.pc ≡ opened (shapes_of l.env.parts.now) l.first;
-  end : looped l.env.parts.now l.first ≡ true → end_of l.stream ≡ end_of l.fn.stream;
-  narrow : position l.fn.stream + window_bytes (opened (shapes_of l.env.parts.now) l.pc) ≤ end_of l.stream;
-  begun : before l.env.parts.now l.n l.first ≤ before l.env.parts.now l.n l.pc;
-  cost : scale l.env.parts.now l.first * l.steps ≤ scale l.env.parts.now l.first * l.fn.steps + (before l.env.parts.now l.n l.pc - before l.env.parts.now l.n l.first) * (position l.stream - position l.fn.stream + 1);
-  idle : position l.fn.stream ≡ position l.stream → Idle l.env.parts.now l.n l.first l.pc;
-  same : Ran g.W.Words.loads l.fn.stream l.stream l.fn.steps l.steps (λ b touched taken. block l.env.parts.now b l.n l.places l.first (state_of l.fn.regs l.fn.cells l.fn.act l.fn.stream) ≡ after touched taken (block l.env.parts.now b l.n l.places l.pc (state_of l.regs l.cells l.act l.stream)));
+  kind : looped l.level.env.parts.now l.pc ≡ looped l.level.env.parts.now l.stretch.first;
+  fixed : looped l.level.env.parts.now l.stretch.first ≡ true → opened (shapes_of l.level.env.parts.now) l.pc ≡ opened (shapes_of l.level.env.parts.now) l.stretch.first;
+  end : looped l.level.env.parts.now l.stretch.first ≡ true → end_of l.stream ≡ end_of l.fn.stream;
+  narrow : position l.fn.stream + window_bytes (opened (shapes_of l.level.env.parts.now) l.pc) ≤ end_of l.stream;
+  begun : before l.level.env.parts.now l.level.n l.stretch.first ≤ before l.level.env.parts.now l.level.n l.pc;
+  cost : scale l.level.env.parts.now l.stretch.first * l.steps ≤ scale l.level.env.parts.now l.stretch.first * l.fn.steps + (before l.level.env.parts.now l.level.n l.pc - before l.level.env.parts.now l.level.n l.stretch.first) * (position l.stream - position l.fn.stream + 1);
+  idle : position l.fn.stream ≡ position l.stream → Idle l.level.env.parts.now l.level.n l.stretch.first l.pc;
+  same : Ran g.W.Words.loads l.fn.stream l.stream l.fn.steps l.steps (λ b touched taken. block l.level.env.parts.now b l.level.n l.level.places.now l.stretch.first (state_of l.fn.regs l.fn.cells l.fn.act l.fn.stream) ≡ after touched taken (block l.level.env.parts.now b l.level.n l.level.places.now l.pc (state_of l.regs l.cells l.act l.stream)));
 }
 
 abbrev pub decreases-run_block-steps : goal.decreases-run_block-steps
-decreases-run_block-steps g l = l.to - l.pc
+decreases-run_block-steps g l = l.stretch.to - l.pc
 
 abbrev pub invariant-run_turns-turns : goal.invariant-run_turns-turns
 invariant-run_turns-turns g l = record {
-  room : HasRoom l.env l.n l.places l.spare_places l.regs l.spare l.cells l.trace;
+  room : HasRoom l.level.env l.level.n l.level.places.now l.spare.places.now l.regs l.spare.registers.now l.cells l.trace;
+  kept : IsKept l.fn.spare l.spare;
   later : Later g.W.Words.loads g.W.Words.reaches l.fn.stream l.stream;
   whole : IsStream g.W.Words.loads g.W.Words.size l.stream;
   window : InWindow l.act l.stream;
@@ -55,8 +57,8 @@ invariant-run_turns-turns g l = record {
   frames : length l.trace.frames.items ≡ length l.fn.trace.frames.items;
   memory : vec_capacity l.trace.frames ≡ vec_capacity l.fn.trace.frames;
   end : end_of l.stream ≡ end_of l.fn.stream;
-  cost : l.steps ≤ l.fn.steps + (before l.env.parts.now l.n l.to - before l.env.parts.now l.n (l.at + 1) + 1) * (position l.stream - position l.fn.stream);
-  same : (k : ℕ) × (end_of l.stream - position l.stream < k) × (Ran g.W.Words.loads l.fn.stream l.stream l.fn.steps l.steps (λ b touched taken. (behind : State → Exit) → turns (suc (end_of l.fn.stream - position l.fn.stream)) (block l.env.parts.now b l.n l.places (l.at + 1)) behind (state_of l.fn.regs l.fn.cells l.fn.act l.fn.stream) ≡ after touched taken (turns k (block l.env.parts.now b l.n l.places (l.at + 1)) behind (state_of l.regs l.cells l.act l.stream))));
+  cost : l.steps ≤ l.fn.steps + (before l.level.env.parts.now l.level.n l.stretch.to - before l.level.env.parts.now l.level.n (l.stretch.first + 1) + 1) * (position l.stream - position l.fn.stream);
+  same : (k : ℕ) × (end_of l.stream - position l.stream < k) × (Ran g.W.Words.loads l.fn.stream l.stream l.fn.steps l.steps (λ b touched taken. (behind : State → Exit) → turns (suc (end_of l.fn.stream - position l.fn.stream)) (block l.level.env.parts.now b l.level.n l.level.places.now (l.stretch.first + 1)) behind (state_of l.fn.regs l.fn.cells l.fn.act l.fn.stream) ≡ after touched taken (turns k (block l.level.env.parts.now b l.level.n l.level.places.now (l.stretch.first + 1)) behind (state_of l.regs l.cells l.act l.stream))));
 }
 
 abbrev pub decreases-run_turns-turns : goal.decreases-run_turns-turns

@@ -1,6 +1,5 @@
-use Rattle.std.proofs.Common.{◌≡◌, ℕ, ◌+◌, ◌-◌, ◌*◌, ◌/◌, ◌<◌, ◌≤◌, length, arith, sym, ap, ◌∙◌}
-use Rattle.td_stream.specs.Layouts.{pair_at}
-use Rattle.td_stream.specs.Parts.{IsPart, first_of, stretch_of}
+use Rattle.std.proofs.Common.{ℕ, ◌+◌, ◌-◌, ◌<◌, ◌≤◌, length, arith, sym, ap}
+use Rattle.td_stream.specs.Parts.{first_of}
 use Rattle.td_stream.proofs.Layouts.{some_word, part_pair, words_last}
 use Rattle.td_stream.proofs.layout.Layout.word_from.Goals as goal
 

@@ -1,6 +1,6 @@
 use Rattle.std.proofs.Common.{◌≤◌, length, arith}
-use Rattle.td_use_image.proofs.Rising.{few}
 use Rattle.td_use_image.proofs.shared_words.SharedWordsWords.load.Goals as goal
+use Rattle.td_stream.proofs.Rising.{few}
 
 pub push-requires : goal.push-requires
 push-requires c =

@@ -1,0 +1,28 @@
+-- What C is answered of a module text.
+use Rattle.std.specs.Prelude.{◌≡◌, ℕ, ℤ, pos, ◌<◌, ◌≤◌, ◌↔◌, List, length, take}
+use Rattle.td_core.specs.declared.module.Module.{Module}
+use Rattle.td_coding.specs.Coding.{IsPacked}
+use Rattle.td_front.specs.declared.error.FrontError.{FrontError}
+use Rattle.td_front.specs.ModuleText.{IsModuleText, RefusedBy}
+use Rattle.td_c_pack.specs.declared.refusal.TdPacked.{TdPacked}
+use Rattle.td_c_pack.specs.declared.pack.TheConstants.{MOST_TEXT}
+use Rattle.td_c_pack.specs.Told.{IsTold}
+
+-- the bytes are the image of the code of the module for which the text stands
+abbrev pub IsImageOf : List ℕ → List ℕ → Type 0
+IsImageOf text bytes = (m : Module) × IsModuleText text m × IsPacked m bytes
+
+-- the image is one of so many bytes
+abbrev pub HasImage : List ℕ → ℕ → Type 0
+HasImage text size = (bytes : List ℕ) × IsImageOf text bytes × (size ≡ length bytes)
+
+-- the text is refused, as was told
+abbrev pub HasRefusal : List ℕ → TdPacked → Type 0
+HasRefusal text told = (e : FrontError) × RefusedBy text e × IsTold text e told
+
+-- each number is answered only where its cause holds, and left in the room for the image and in what is told what it says
+pub record IsPacking (text image : List ℕ) (told : TdPacked) (code : ℤ) : Type 0 where
+  pub done : code ≡ pos 0 → IsImageOf text (take told.size image) × (told.size ≤ length image)
+  pub room : code ≡ pos 23 → HasImage text told.size × (length image < told.size)
+  pub refused : code ≡ pos 22 → HasRefusal text told
+  pub long : (code ≡ pos 21) ↔ (MOST_TEXT < length text)

@@ -1,0 +1,6 @@
+//! An export for C: a module text becomes the image of its code, or is refused. capi/td_pack.h is the header, and docs/c-library.md
+//! says what C owes. It stands apart from td_c, so that what validates messages has no compiler in it.
+#![tactic(auto)]
+
+mod pack;
+mod refusal;

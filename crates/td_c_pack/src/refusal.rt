@@ -1,0 +1,91 @@
+//! What C is told of a module text.
+
+ghost use Rattle.std.specs.Prelude.{◌≡◌, ◌≤◌, ◌<◌, ◌-◌, ◌⊎◌, ◌++◌, length, take, replicate, pos};
+ghost use Rattle.td_report.specs.ErrorLine.{line_at, column_at};
+ghost use Rattle.td_c_pack.specs.Told.{IsTold};
+
+use td_front::{FrontError, line_of};
+
+pub(crate) const NO_MEMORY: i32 = 4;
+
+pub(crate) const REFUSED: i32 = 22;
+
+/// What C is told of a module text: the size of its image, or where it is refused, and why.
+#[repr(C)]
+pub struct TdPacked {
+    /// How many bytes the image has.
+    pub size: u64,
+    /// The byte at which the text is refused, from 0; the text's length at an early end.
+    pub place: u64,
+    /// Its line, and its byte in the line, both from 1.
+    pub line: u64,
+    pub column: u64,
+    /// The refusal's code and words, each with zeros behind it.
+    pub code: [u8; 8],
+    pub words: [u8; 32],
+}
+
+// A place in a text.
+#[derive(Clone, Copy)]
+struct Position {
+    line: u64,
+    column: u64,
+}
+
+// Where these bytes end: the line, and the place in it.
+fn end_of(before: &[u8]) -> Position
+    ensures line { result.line ≡ line_at before.now (length before.now) }
+    ensures column { result.column ≡ column_at before.now (length before.now) }
+{
+    let mut line = 1u64;
+    let mut column = 1u64;
+    for i in 0..before.len() {
+        if before[i] == b'\n' {
+            line += 1;
+            column = 1;
+        } else {
+            column += 1;
+        }
+    }
+    Position { line, column }
+}
+
+// The first bytes of a text, or all of it where it has fewer.
+fn first_bytes(text: &[u8], count: u32) -> &[u8]
+    ensures { result.now ≡ take count text.now }
+{
+    match text.get(..count as usize) {
+        Some(first) => first,
+        None => text,
+    }
+}
+
+// Writes bytes into a room, and zeros behind them.
+fn put_string(bytes: &[u8], room: &mut [u8])
+    requires { length bytes.now < length room.old }
+    ensures { room.new ≡ bytes.now ++ replicate (length room.old - length bytes.now) 0 }
+{
+    let (front, rest) = room.split_at_mut(bytes.len());
+    front.copy_from_slice(bytes);
+    rest.fill(0);
+}
+
+/// Tells the refusal of a text: 22, or 4 where it is that there was no memory.
+pub(crate) fn tell_refusal(text: &[u8], error: &FrontError, told: &mut TdPacked) -> i32
+    ensures which { (result ≡ pos 4) ⊎ (result ≡ pos 22) }
+    ensures told { result ≡ pos 22 → IsTold text.now error.now told.new }
+    ensures memory { error.now ≡ FrontError.NoMemory → result ≡ pos 4 }
+{
+    let Some(line) = line_of(error) else {
+        return NO_MEMORY;
+    };
+    let position = end_of(first_bytes(text, line.at));
+    told.place = line.at as u64;
+    told.line = position.line;
+    told.column = position.column;
+    let code = &mut told.code[..];
+    put_string(line.code.as_bytes(), code);
+    let words = &mut told.words[..];
+    put_string(line.words.as_bytes(), words);
+    REFUSED
+}

@@ -1,0 +1,4 @@
+pub mod Shaped
+pub mod Within
+pub mod Renumbered
+pub mod Accepting

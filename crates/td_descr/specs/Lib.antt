@@ -1,0 +1,5 @@
+pub mod Words
+pub mod Ring
+pub mod Format
+pub mod Shape
+pub mod Laws

@@ -1,0 +1,14 @@
+//! What a validation goes by.
+
+use crate::passing::Types;
+use std::alloc::Global;
+
+/// What stays the same while a definition's fields are validated: the allocator, the types, the bound below which the
+/// definitions lie that may be named, and for each cell of the definition its place among all cells.
+#[derive(Clone, Copy)]
+pub struct Walk<'t, 'm, 'p> {
+    pub alloc: Global,
+    pub types: &'t Types<'m>,
+    pub bound: usize,
+    pub places: &'p [usize],
+}

@@ -1,0 +1,63 @@
+//! Versions of the format of images.
+
+ghost use Rattle.std.specs.Prelude.{◌≡◌};
+ghost use Rattle.td_image.specs.Versions as versions;
+
+use crate::limits::{
+    FIRST_INSTRUCTIONS, FIRST_NUMBERS, FIRST_ROWS, FIRST_VERSION, MOST_INSTRUCTIONS, MOST_NUMBERS,
+    MOST_ROWS,
+};
+use td_ir::tables::Parts;
+
+/// A version of the format. All that distinguishes one from another is a function of it.
+#[derive(Clone, Copy)]
+pub enum ImageVersion {
+    /// A site names no routine.
+    First,
+    /// A site names its routine, and the limits are larger.
+    Second,
+}
+
+/// What an image spells.
+#[derive(Drop)]
+pub struct Spelled {
+    pub version: ImageVersion,
+    pub parts: Parts,
+}
+
+pub(crate) fn version_of(number: u16) -> ImageVersion
+    ensures { result ≡ versions.version_of number }
+{
+    if number == FIRST_VERSION {
+        ImageVersion::First
+    } else {
+        ImageVersion::Second
+    }
+}
+
+pub(crate) fn most_rows(version: ImageVersion) -> usize
+    ensures { result ≡ versions.most_rows version }
+{
+    match version {
+        ImageVersion::First => FIRST_ROWS,
+        ImageVersion::Second => MOST_ROWS,
+    }
+}
+
+pub(crate) fn most_numbers(version: ImageVersion) -> usize
+    ensures { result ≡ versions.most_numbers version }
+{
+    match version {
+        ImageVersion::First => FIRST_NUMBERS,
+        ImageVersion::Second => MOST_NUMBERS,
+    }
+}
+
+pub(crate) fn most_instructions(version: ImageVersion) -> u32
+    ensures { result ≡ versions.most_instructions version }
+{
+    match version {
+        ImageVersion::First => FIRST_INSTRUCTIONS,
+        ImageVersion::Second => MOST_INSTRUCTIONS,
+    }
+}

@@ -1,0 +1,96 @@
+-- What bytes that are taken, arrays and definitions come to, case by case. Cited by other crates.
+use Rattle.std.proofs.Common.{◌≡◌, ℕ, zero, suc, ◌+◌, ◌-◌, ◌*◌, ◌/◌, ◌<◌, ◌≤◌, min, Bool, true, false, cond, Option, Some, None, List, [], ◌∷◌, length, refl, sym, ap, ◌∙◌, subst, arith}
+use Rattle.std.specs.Prelude.{slice_get}
+use Rattle.std.proofs.lemmas.Bool.{le-leb, lt-leb}
+use Rattle.std.proofs.lemmas.Option.{none-some, same_Some}
+use Rattle.std.proofs.Math.Nat.{div-mul-le_self, min-le_right, mul-le-mul_right, le_trans}
+use Rattle.td_num.specs.Numbers.{bytes_in, places_from}
+use Rattle.td_num.specs.declared.number.NumberType.{NumberType}
+use Rattle.td_core.specs.declared.module.NameId.{NameId}
+use Rattle.td_core.specs.declared.module.TypeDef.{TypeDef}
+use Rattle.td_core.specs.declared.module.Module.{Module}
+use Rattle.td_core.specs.declared.module.Entry.{Entry}
+use Rattle.td_core.specs.declared.outcome.Reason.TheVariants.{NotEnough, Impossible, ListSize}
+use Rattle.td_core.specs.declared.outcome.TraceFrame.{TraceFrame}
+use Rattle.td_core.specs.declared.outcome.Verdict.{Verdict}
+use Rattle.td_core.specs.declared.outcome.Verdict.TheVariants.{Accept}
+use Rattle.td_core.specs.Outcome.{Ending, Accepted, Rejected, Behavior, and_then, accepted, rejected}
+use Rattle.td_meaning.specs.Meaning.{Sense, taken, demanded, elements, divides, filled, entry_place, first_where, one_more, numbers_at}
+use Rattle.td_meaning.specs.Machine.{definition_meaning, below, fields_meaning}
+use Rattle.td_meaning.specs.Throughout.{OnEnding}
+use Rattle.td_meaning.specs.Verdicts.{IsAt}
+use Rattle.td_meaning.proofs.MachineMeaning.{meaning}
+use Rattle.td_meaning.proofs.Below.{below_self, below_at, below_past}
+
+pub taken_long : (n start end p : ℕ) (cells : List ℕ) → p + n ≤ end → taken n start end p cells ≡ accepted (p + n) cells
+taken_long n start end p cells h = ap (λ v. demanded NotEnough v start (p + n) cells) (le-leb (p + n) end h)
+
+pub taken_short : (n start end p : ℕ) (cells : List ℕ) → end < p + n → taken n start end p cells ≡ rejected NotEnough start cells
+taken_short n start end p cells h = ap (λ v. demanded NotEnough v start (p + n) cells) (lt-leb (p + n) end h)
+
+pub filled_short : (each : ℕ → ℕ → List ℕ → Behavior) (step : Option ℕ) (size end p : ℕ) (cells : List ℕ) → end < p + size → filled each step size end p cells ≡ rejected NotEnough p cells
+filled_short each step size end p cells h = ap (λ t. and_then t (λ q cells. and_then (demanded ListSize (divides step size) p p cells) (elements (each q) (suc size) p q))) (taken_short size p end p cells h)
+
+pub filled_long : (each : ℕ → ℕ → List ℕ → Behavior) (step : Option ℕ) (size end p : ℕ) (cells : List ℕ) (v : Bool) → p + size ≤ end → divides step size ≡ v → filled each step size end p cells ≡ and_then (demanded ListSize v p p cells) (elements (each (p + size)) (suc size) p (p + size))
+filled_long each step size end p cells v h d =
+    ap (λ t. and_then t (λ q cells. and_then (demanded ListSize (divides step size) p p cells) (elements (each q) (suc size) p q))) (taken_long size p end p cells h)
+    ∙ ap (λ v. and_then (demanded ListSize v p p cells) (elements (each (p + size)) (suc size) p (p + size))) d
+
+-- no field is left
+pub fields_none : (sets : List (List ℕ)) (senses : ℕ → Sense) (ty : NameId) (env places b : List ℕ) (end p : ℕ) (cells : List ℕ) → fields_meaning sets senses ty [] env places b end p cells ≡ accepted p cells
+unfolding fields_meaning
+fields_none sets senses ty env places b end p cells = refl
+
+-- the definition of a number that is below another's
+pub named_by : (sets : List (List ℕ)) (definitions : List TypeDef) (n j : ℕ) (o : Option TypeDef) (args places cells b : List ℕ) (p end : ℕ) → j < n → slice_get definitions j ≡ o → below sets definitions n j args places cells b p end ≡ definition_meaning sets (below sets definitions j) o args places cells b p end
+named_by sets definitions n j o args places cells b p end lt e =
+    ap (λ f. f args places cells b p end) (below_at sets definitions n j lt)
+    ∙ ap (λ f. f args places cells b p end) (below_self sets definitions j)
+    ∙ ap (λ x. definition_meaning sets (below sets definitions j) x args places cells b p end) e
+
+-- an entry point that isn't there
+pub no_entry : (m : Module) (entry : Entry) (args cells b : List ℕ) → slice_get m.entries entry.number ≡ None → meaning m entry args cells b ≡ rejected Impossible 0 cells
+no_entry m entry args cells b get =
+    (λ k. below m.listed m.definitions (length m.definitions) (entry_place (get k) (length m.definitions)) args (places_from 0 (length cells)) cells b 0 (length b))
+    ∙ below_past m.listed m.definitions (length m.definitions) (length m.definitions) args (places_from 0 (length cells)) cells b 0 (length b) (omega arith)
+
+-- turns that are left have room
+pub room_for : (bound n w : ℕ) → (min bound (n / w) - 0) * w ≤ n
+room_for bound n w =
+    let few : min bound (n / w) ≤ n / w = min-le_right bound (n / w) in
+    let same : min bound (n / w) - 0 ≡ min bound (n / w) = omega arith in
+    subst (λ k. k * w ≤ n) (sym same) (le_trans (mul-le-mul_right w few) (div-mul-le_self n w))
+
+pub one_fewer : (m turn n w : ℕ) → turn < m → (m - turn) * w ≤ n → (w ≤ n) × ((m - (turn + 1)) * w ≤ n - w)
+one_fewer m turn n w lt h =
+    let k = m - (turn + 1) in
+    let e : m - turn ≡ suc k = omega (arith, lt) in
+    let h' : suc k * w ≤ n = subst (λ x. x * w ≤ n) e h in
+    let grown : suc k * w ≡ w + k * w = omega arith in
+    (omega (arith, h', grown), omega (arith, h', grown))
+
+-- the first number that passes a test is one of the list
+pub found_below : (test : ℕ → Bool) (xs : List ℕ) (k : ℕ) → first_where test xs ≡ Some k → k < length xs
+found_below test [] k e = absurd (none-some k e)
+found_below test (x ∷ xs) k e = by (found_below test xs) (test x) (first_where test xs) refl e
+  where
+    by : ((j : ℕ) → first_where test xs ≡ Some j → j < length xs) → (b : Bool) (o : Option ℕ) → first_where test xs ≡ o → cond b (Some 0) (one_more o) ≡ Some k → k < length (x ∷ xs)
+    by later true o h e = let z : 0 ≡ k = same_Some 0 k e in omega (arith, z)
+    by later false None h e = absurd (none-some k e)
+    by later false (Some j) h e = let z : suc j ≡ k = same_Some (suc j) k e in omega (arith, z, later j h)
+
+pub count_of : (type : NumberType) (message : List ℕ) (p m : ℕ) → length (numbers_at type message p m) ≡ m
+count_of type message p zero = refl
+count_of type message p (suc m) = ap suc (count_of type message (p + bytes_in type.width) m)
+
+pub on_accepted : (o : Ending) (q : ℕ) (more : List ℕ) (P : ℕ → List ℕ → Type 0) → OnEnding o P → o ≡ Accepted q more → P q more
+on_accepted o q more P h is = let H : OnEnding (Accepted q more) P = subst (λ x. OnEnding x P) is h in H
+
+-- nothing is asked of an end
+pub anywhere : (o : Ending) → OnEnding o (λ q more. Unit {0})
+anywhere (Accepted q cells) = tt
+anywhere (Rejected reason q trace cells) = tt
+
+-- the place of a verdict that accepts
+pub accepted_at : (v : Verdict) (pos p : ℕ) (trace : List TraceFrame) → v ≡ Accept pos → IsAt v p trace → (pos ≡ p) × (trace ≡ [])
+accepted_at v pos p trace is at = subst (λ v. IsAt v p trace) is at

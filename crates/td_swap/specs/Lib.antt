@@ -1,0 +1,4 @@
+pub mod Views
+pub mod Versions
+pub mod Seats
+pub mod Rule

@@ -1,0 +1,25 @@
+use Rattle.std.proofs.Common.{◌≡◌, List, ◌++◌, Option, Some, refl, sym, ap, ◌∙◌, subst}
+use Rattle.td_core.specs.declared.outcome.Verdict.{Verdict}
+use Rattle.td_stream.specs.declared.load.Load.{Load}
+use Rattle.td_stream.specs.Room.{LoadsView}
+use Rattle.td_vm.specs.Frames.{FrameView}
+use Rattle.td_descr.specs.declared.next.Look.{Look}
+use Rattle.td_descr.specs.Ring.{frame_outcome}
+use Rattle.td_takes.specs.Kept.{KeptBy}
+use Rattle.td_takes.proofs.rings.desc_reply.Goals as goal
+
+pub returns-in-Some : goal.returns-in-Some
+returns-in-Some c =
+    let d = c.args.descr.now in
+    let r = c.reply_of in
+    let verdict : d.last.verdict ≡ Some c.in-Some.verdict = sym (ap (λ (x : Look). x.verdict) c.last-last.ensures) ∙ c.in-Some.is in
+    subst (λ (v : Option Verdict). KeptBy v d.last d.frame (Some r.result)) (sym verdict) (
+      r.result,
+      refl,
+      record {
+        guest = r.ensures.guest;
+        layout = r.ensures.layout;
+        outcome = r.ensures.outcome ∙ ap (λ (x : FrameView). frame_outcome x c.in-Some.verdict) c.frame.ensures.frame;
+        loads = ap (λ (x : LoadsView). x.list) r.ensures.loads ∙ (c.put.ensures.list ∙ (ap (λ (l : List Load). l ++ c.last-last.result.now.loads) c.requires.room.0.empty ∙ ap (λ (x : Look). x.loads) c.last-last.ensures));
+      },
+    )

@@ -1,0 +1,3 @@
+pub mod Takes
+pub mod Kept
+pub mod TakesServed

@@ -1,0 +1,174 @@
+//! The takes of one ring.
+
+ghost use Rattle.std.specs.Prelude.{◌≡◌, ℕ, ◌+◌, ◌*◌, ◌≤◌, ◌<◌, ◌^◌, [], length, vec_capacity};
+ghost use Rattle.td_core.specs.declared.module.Module.{Module};
+ghost use Rattle.td_vm.specs.Frames.{IsArmed};
+ghost use Rattle.td_posts.specs.declared.limits.TheConstants.{MOST_ENTRIES as most_entries};
+ghost use Rattle.td_descr.specs.Ring.{Answers, LiesWithin, ring_words, standing};
+ghost use Rattle.td_takes.specs.Takes.{Describes, IsMessageCode, IsMessageRoom, IsRoom, AreRooms, IsTake, RanRing, HasMessage, IsDescRoom, IfJudged, HasDone, frames_of, message_steps, take_steps, taken_after};
+ghost use Rattle.td_takes.specs.Kept.{IsKept};
+
+use crate::take::{Room, Take};
+use crate::validate::{look_ring, reply_of, validate_message};
+use std::collections::VecDeque;
+use td_descr::{Descr, Next};
+use td_posts::{HostJob, Reply, RingJob};
+use td_verify::verify::Verified;
+use td_vm::validate::Frame;
+use td_words::seats::ReadSeat;
+use td_words::shared::Shared;
+
+/// The reply of the last descriptor's validation, where one waited.
+fn desc_reply(descr: &Descr, number: u32, room: Reply) -> Option<Reply>
+    requires room { IsDescRoom (frames_of descr.now.code) room }
+    requires cells { IfJudged descr.now.last.verdict (length descr.now.frame.cells ≡ 3) }
+    ensures { IsKept descr.now.last descr.now.frame result }
+{
+    let last = descr.last();
+    match last.verdict {
+        None => None,
+        Some(verdict) => {
+            let Reply {
+                guest: _,
+                number: _,
+                layout: _,
+                verdict: _,
+                trace,
+                cells,
+                mut loads,
+            } = room;
+            last.loads.put(&mut loads);
+            Some(reply_of(descr.frame(), number, None, verdict, trace, cells, loads))
+        }
+    }
+}
+
+/// The reply to the message that a look found, where it found one.
+fn message_of(
+    code: &Verified,
+    job: &HostJob,
+    shared: &Shared,
+    seat: &mut ReadSeat,
+    frame: &mut Frame,
+    next: Next,
+    number: u32,
+    most: u32,
+    room: Reply,
+) -> Option<Reply>
+    requires own { seat.old.table ≡ shared.now.table }
+    requires inside { LiesWithin (8 * shared.now.count) most next }
+    requires code { IsMessageCode code.now job.now }
+    requires armed { IsArmed code.now frame.old }
+    requires room { IsMessageRoom job.now (frames_of code.now) most room }
+    ensures table { seat.new.table ≡ seat.old.table }
+    ensures armed { IsArmed code.now frame.new }
+    ensures message { HasMessage job.now next result }
+    ensures read { HasDone seat.old seat.new (message_steps next result) }
+{
+    match next {
+        Next::Idle { made: _ } => None,
+        Next::Overrun { made: _ } => None,
+        Next::Bad { reason: _, pos: _ } => None,
+        Next::Message {
+            number: _,
+            place,
+            size,
+            id: _,
+        } => Some(validate_message(code, job, shared, seat, frame, place, size, number, room)),
+    }
+}
+
+/// One take from ring `k`: looks at it once, and validates the message of the descriptor where that is accepted, at the place and size
+/// that were loaded. It takes no memory and waits for nobody.
+pub fn take_once(
+    code: &Verified,
+    job: &HostJob,
+    shared: &Shared,
+    ring: &RingJob,
+    k: u32,
+    number: u32,
+    descr: &mut Descr,
+    seat: &mut ReadSeat,
+    frame: &mut Frame,
+    room: Room,
+) -> Take
+    requires own { seat.old.table ≡ shared.now.table }
+    requires entries { descr.old.entries ≡ ring.now.entries }
+    requires most { descr.old.most ≡ ring.now.most }
+    requires few { ring.now.entries ≤ most_entries }
+    requires inside { ring.now.base + ring_words ring.now.entries ≤ shared.now.count }
+    requires bytes { descr.old.room ≤ 8 * shared.now.count }
+    requires code { IsMessageCode code.now job.now }
+    requires armed { IsArmed code.now frame.old }
+    requires rooms { IsRoom job.now (frames_of code.now) (frames_of descr.old.code) ring.now.most room }
+    ensures table { seat.new.table ≡ seat.old.table }
+    ensures armed { IsArmed code.now frame.new }
+    ensures ring { result.ring ≡ k }
+    ensures number { result.number ≡ number }
+    ensures descr { descr.new ≡ record descr.old { taken = taken_after descr.old.taken result.next; frame = descr.new.frame; last = descr.new.last } }
+    ensures take { (m : Module) → Describes m descr.old.code descr.old.room ring.now.most → IsTake job.now m descr.old.room ring.now descr.old.taken result }
+    ensures read { HasDone seat.old seat.new (take_steps ring.now descr.old.taken result) }
+{
+    let Room {
+        descr: desc_room,
+        message: message_room,
+    } = room;
+    let next = look_ring(shared, seat, ring, number, descr);
+    let desc = desc_reply(descr, number, desc_room);
+    let message = message_of(
+        code,
+        job,
+        shared,
+        seat,
+        frame,
+        next,
+        number,
+        ring.most,
+        message_room,
+    );
+    Take {
+        ring: k,
+        number,
+        head: descr.last().head,
+        next,
+        descr: desc,
+        message,
+    }
+}
+
+/// Makes all takes from ring `k`, each with the next of the rooms. It takes no memory and waits for nobody.
+pub fn run_ring(
+    code: &Verified,
+    job: &HostJob,
+    shared: &Shared,
+    ring: &RingJob,
+    k: u32,
+    descr: &mut Descr,
+    seat: &mut ReadSeat,
+    frame: &mut Frame,
+    rooms: &mut VecDeque<Room>,
+    takes: &mut Vec<Take>,
+)
+    requires own { seat.old.table ≡ shared.now.table }
+    requires entries { descr.old.entries ≡ ring.now.entries }
+    requires most { descr.old.most ≡ ring.now.most }
+    requires few { ring.now.entries ≤ most_entries }
+    requires inside { ring.now.base + ring_words ring.now.entries ≤ shared.now.count }
+    requires bytes { descr.old.room ≤ 8 * shared.now.count }
+    requires none { descr.old.taken ≡ 0 }
+    requires code { IsMessageCode code.now job.now }
+    requires armed { IsArmed code.now frame.old }
+    requires rooms { AreRooms job.now (frames_of code.now) (frames_of descr.old.code) ring.now.most rooms.old.items }
+    requires as_many { length rooms.old.items ≡ ring.now.takes }
+    requires empty { takes.old.items ≡ [] }
+    requires space { ring.now.takes ≤ vec_capacity takes.old }
+    ensures { RanRing job.now descr.old.code descr.old.room ring.now k seat.old seat.new takes.new.items }
+{
+    for i in 0..ring.takes {
+        let Some(room) = rooms.pop_front() else {
+            unreachable!()
+        };
+        let take = take_once(code, job, shared, ring, k, i + 1, descr, seat, frame, room);
+        takes.push_reserved(take);
+    }
+}

@@ -1,0 +1,142 @@
+//! The validations of a take.
+
+ghost use Rattle.std.specs.Prelude.{◌≡◌, ◌+◌, ◌*◌, ◌≤◌, ◌<◌, ◌^◌, [], ◌∷◌, length, vec_capacity};
+ghost use Rattle.td_vm.specs.Frames.{IsArmed};
+ghost use Rattle.td_posts.specs.Posts.{outcome_in};
+ghost use Rattle.td_posts.specs.declared.limits.TheConstants.{MOST_ENTRIES as most_entries};
+ghost use Rattle.td_live.specs.Live.{HasLoaded};
+ghost use Rattle.td_descr.specs.Words.{load_of, raised};
+ghost use Rattle.td_descr.specs.Ring.{Answers, LiesWithin, standing, ring_words, desc_word, frame_outcome};
+ghost use Rattle.td_takes.specs.Takes.{IsMessageCode, IsMessage, IsMessageRoom, frames_of, message_layout, ring_layout};
+
+use td_core::outcome::{TraceFrame, Verdict};
+use td_descr::{Descr, Next};
+use td_live::gate::{OpenGate, PostName};
+use td_live::live::LiveWords;
+use td_live::slot::validate_slot;
+use td_posts::{HostJob, Reply, RingJob};
+use td_stream::laws::message_is_short;
+use td_stream::layout::Layout;
+use td_stream::loads::Loads;
+use td_verify::verify::Verified;
+use td_vm::laws::fitting_cells_have_room;
+use td_vm::validate::Frame;
+use td_words::seats::ReadSeat;
+use td_words::shared::Shared;
+
+/// Puts what the last validation left in a frame into room that was taken for it.
+fn keep(frame: &Frame, trace: &mut Vec<TraceFrame>, cells: &mut [u64])
+    requires empty { trace.old.items ≡ [] }
+    requires room { frame.now.trace_room ≤ vec_capacity trace.old }
+    requires cells { length cells.old ≡ length frame.now.cells }
+    ensures trace { trace.new.items ≡ frame.now.trace }
+    ensures cells { cells.new ≡ frame.now.cells }
+{
+    cells.copy_from_slice(frame.cells());
+    let Ok(()) = trace.extend_from_slice(frame.trace()) else {
+        unreachable!()
+    };
+}
+
+/// The reply of a validation that left its trace and cells in a frame, in room that was taken for it; of no guest.
+pub fn reply_of(
+    frame: &Frame,
+    number: u32,
+    layout: Option<Layout>,
+    verdict: Verdict,
+    mut trace: Vec<TraceFrame>,
+    mut cells: Vec<u64>,
+    loads: Loads,
+) -> Reply
+    requires empty { trace.items ≡ [] }
+    requires room { frame.now.trace_room ≤ vec_capacity trace }
+    requires cells { length cells.items ≡ length frame.now.cells }
+    ensures guest { result.guest ≡ 0 }
+    ensures layout { result.layout ≡ layout }
+    ensures outcome { outcome_in result ≡ frame_outcome frame.now verdict }
+    ensures loads { result.loads ≡ loads }
+{
+    keep(frame, &mut trace, cells.as_mut_slice());
+    Reply {
+        guest: 0,
+        number,
+        layout,
+        verdict,
+        trace,
+        cells,
+        loads,
+    }
+}
+
+/// Validates the message of this place and size by the job's entry point, from the ring's seat.
+pub fn validate_message(
+    code: &Verified,
+    job: &HostJob,
+    shared: &Shared,
+    seat: &mut ReadSeat,
+    frame: &mut Frame,
+    place: u32,
+    size: u32,
+    number: u32,
+    room: Reply,
+) -> Reply
+    requires own { seat.old.table ≡ shared.now.table }
+    requires inside { place + size ≤ 8 * shared.now.count }
+    requires code { IsMessageCode code.now job.now }
+    requires armed { IsArmed code.now frame.old }
+    requires room { IsMessageRoom job.now (frames_of code.now) size room }
+    ensures table { seat.new.table ≡ seat.old.table }
+    ensures armed { IsArmed code.now frame.new }
+    ensures message { IsMessage job.now place size result }
+    ensures read { HasLoaded (message_layout place size) seat.old seat.new result.loads.list }
+{
+    fitting_cells_have_room();
+    let Reply {
+        guest: _,
+        number: _,
+        layout: _,
+        verdict: _,
+        trace,
+        cells,
+        mut loads,
+    } = room;
+    let layout = Layout::one(place, size);
+    message_is_short(&layout);
+    frame.set_cells(cells.as_slice());
+    let name = PostName { guest: 0, number };
+    let args = job.args.as_slice();
+    let mut gate = OpenGate;
+    let verdict = validate_slot(
+        code, job.entry, args, shared, seat, &layout, name, frame, &mut loads, &mut gate,
+    );
+    reply_of(frame, number, Some(layout), verdict, trace, cells, loads)
+}
+
+/// Looks at the ring once, from its seat.
+pub fn look_ring(
+    shared: &Shared,
+    seat: &mut ReadSeat,
+    ring: &RingJob,
+    number: u32,
+    descr: &mut Descr,
+) -> Next
+    requires own { seat.old.table ≡ shared.now.table }
+    requires entries { descr.old.entries ≡ ring.now.entries }
+    requires few { ring.now.entries ≤ most_entries }
+    requires inside { ring.now.base + ring_words ring.now.entries ≤ shared.now.count }
+    ensures table { seat.new.table ≡ seat.old.table }
+    ensures answers { Answers (standing ring.now.entries descr.old.taken descr.new.last.head) descr.old descr.new result }
+    ensures read { HasLoaded (ring_layout ring.now) seat.old seat.new
+        (load_of 0 descr.new.last.head ∷ raised (desc_word ring.now.entries descr.old.taken) descr.new.last.loads) }
+    ensures within { LiesWithin descr.old.room descr.old.most result }
+{
+    // That there are at most 2^32 - 1 words is what this call says.
+    let _words = shared.count();
+    let layout = Layout::words(ring.base, 8 * (1 + 2 * ring.entries));
+    let name = PostName { guest: 0, number };
+    let mut gate = OpenGate;
+    let mut words = LiveWords::over(shared, seat, &layout, name, &mut gate);
+    let next = descr.next(&mut words);
+    words.end();
+    next
+}

@@ -1,0 +1,34 @@
+//! What the machine hands on with a stretch of code.
+
+use td_step::activation::Env;
+
+/// A routine that runs: the code, its number, and the places of its cells.
+#[derive(Clone, Copy)]
+pub struct Level<'c, 'p> {
+    pub env: Env<'c>,
+    pub n: usize,
+    pub places: &'p [usize],
+}
+
+/// From an instruction on, up to another.
+#[derive(Clone, Copy)]
+pub struct Stretch {
+    pub first: usize,
+    pub to: usize,
+}
+
+/// The call at a place: its routine, the register of its first argument, and its cell map.
+#[derive(Clone, Copy)]
+pub struct Callee {
+    pub at: usize,
+    pub routine: usize,
+    pub first: usize,
+    pub map: usize,
+}
+
+/// What is free for further calls.
+#[derive(Drop)]
+pub struct Spare<'p, 'r> {
+    pub places: &'p mut [usize],
+    pub registers: &'r mut [u64],
+}

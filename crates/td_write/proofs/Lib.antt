@@ -1,0 +1,6 @@
+pub mod Digits
+pub mod Totals
+pub mod Definitions
+pub mod Listed
+pub mod Pieces
+pub mod Whole

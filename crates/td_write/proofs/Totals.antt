@@ -1,0 +1,129 @@
+-- What was written, with what is left to write.
+use Rattle.std.proofs.Common.{◌≡◌, ℕ, suc, ◌+◌, ◌-◌, Bool, true, false, List, [], ◌∷◌, ◌++◌, length, refl, sym, ap, ◌∙◌, arith, append_assoc, length-append}
+use Rattle.std.proofs.lemmas.List.{append-nil}
+use Rattle.td_values.specs.declared.error.WriteRule.{WriteRule}
+use Rattle.td_values.specs.declared.error.WriteRule.TheVariants.{Broken, Size}
+use Rattle.td_values.specs.Datum.{Datum}
+use Rattle.td_write.specs.declared.halt.Halt.{Halt}
+use Rattle.td_write.specs.declared.halt.Halt.TheVariants as halt
+use Rattle.td_write.specs.Writes.{Halts}
+use Rattle.td_values.specs.Spelling.{is_some_size}
+use Rattle.td_values.specs.Writing.{Written, Done, Refused, after_writing, followed, wanted, of_size, items_written}
+
+-- what was written is behind what stood there
+pub done_parts : (old new cells : List ℕ) (w : Written) → after_writing old w ≡ Done new cells → (s : List ℕ) × (w ≡ Done s cells) × (new ≡ old ++ s)
+done_parts old new cells (Done s more) e =
+    let a : old ++ s ≡ new = ap bytes_in e in
+    let b : more ≡ cells = ap cells_in e in
+    (s, (λ i. Done s (b i)), sym a)
+  where
+    bytes_in : Written → List ℕ
+    bytes_in (Done s c) = s
+    bytes_in (Refused rule path) = []
+
+    cells_in : Written → List ℕ
+    cells_in (Done s c) = c
+    cells_in (Refused rule path) = []
+done_parts old new cells (Refused rule path) e = absurd (cc)
+
+-- what follows is written behind it
+pub total_followed : (old new cells : List ℕ) (w : Written) (go : ℕ → List ℕ → Written) → after_writing old w ≡ Done new cells → after_writing old (followed w (length old) go) ≡ after_writing new (go (length new) cells)
+total_followed old new cells w go e =
+    let d = done_parts old new cells w e in
+    let len : length old + length d.0 ≡ length new = sym (length-append old d.0) ∙ ap length (sym d.2) in
+    ap (λ x. after_writing old (followed x (length old) go)) d.1
+    ∙ twice old d.0 (go (length old + length d.0) cells)
+    ∙ (λ i. after_writing (sym d.2 i) (go (len i) cells))
+  where
+    twice : (a b : List ℕ) (w : Written) → after_writing a (after_writing b w) ≡ after_writing (a ++ b) w
+    twice a b (Done s cells) = λ i. Done (sym (append_assoc a b s) i) cells
+    twice a b (Refused rule path) = refl
+
+pub total_refused : (rule : WriteRule) (path : List ℕ) (p : ℕ) (w : Written) (go : ℕ → List ℕ → Written) → w ≡ Refused rule path → followed w p go ≡ Refused rule path
+total_refused rule path p w go e = ap (λ x. followed x p go) e
+
+pub refused_after : (old path : List ℕ) (rule : WriteRule) (w : Written) → after_writing old w ≡ Refused rule path → w ≡ Refused rule path
+refused_after old path rule (Done s cells) e = absurd (cc)
+refused_after old path rule (Refused r p) e = e
+
+-- its size is right, or isn't
+pub sized_total : (old new cells path : List ℕ) (test : ℕ → Bool) (w : Written) → after_writing old w ≡ Done new cells → test (length new - length old) ≡ true → after_writing old (of_size test path w) ≡ Done new cells
+sized_total old new cells path test w e t =
+    let d = done_parts old new cells w e in
+    let len : length d.0 ≡ length new - length old = omega (arith, ap length d.2, length-append old d.0) in
+    ap (λ x. after_writing old (of_size test path x)) d.1
+    ∙ ap (λ b. after_writing old (wanted b Size path (Done d.0 cells))) (ap test len ∙ t)
+    ∙ (λ i. Done (sym d.2 i) cells)
+
+pub sized_refused : (old new cells path : List ℕ) (test : ℕ → Bool) (w : Written) → after_writing old w ≡ Done new cells → test (length new - length old) ≡ false → of_size test path w ≡ Refused Size path
+sized_refused old new cells path test w e t =
+    let d = done_parts old new cells w e in
+    let len : length d.0 ≡ length new - length old = omega (arith, ap length d.2, length-append old d.0) in
+    ap (of_size test path) d.1 ∙ ap (λ b. wanted b Size path (Done d.0 cells)) (ap test len ∙ t)
+
+pub size_refused : (rule : WriteRule) (at path : List ℕ) (test : ℕ → Bool) (w : Written) → w ≡ Refused rule at → of_size test path w ≡ Refused rule at
+size_refused rule at path test w e = ap (of_size test path) e
+
+-- Lists of values
+
+pub items_next : (each : List ℕ → ℕ → List ℕ → Datum → Written) (path : List ℕ) (i p : ℕ) (cells : List ℕ) (vs rest : List Datum) (v : Datum) → vs ≡ v ∷ rest
+    → items_written each path i p cells vs ≡ followed (of_size is_some_size (path ++ i ∷ []) (each (path ++ i ∷ []) p cells v)) p (λ q cells. items_written each path (suc i) q cells rest)
+unfolding items_written
+items_next each path i p cells vs rest v e = ap (items_written each path i p cells) e
+
+pub items_none : (each : List ℕ → ℕ → List ℕ → Datum → Written) (path : List ℕ) (i p : ℕ) (cells : List ℕ) (vs : List Datum) → vs ≡ [] → items_written each path i p cells vs ≡ Done [] cells
+unfolding items_written
+items_none each path i p cells vs e = ap (items_written each path i p cells) e
+
+pub one_more : (each : List ℕ → ℕ → List ℕ → Datum → Written) (path old new : List ℕ) (i : ℕ) (cells more : List ℕ) (vs rest : List Datum) (v : Datum) → vs ≡ v ∷ rest
+    → after_writing old (each (path ++ i ∷ []) (length old) cells v) ≡ Done new more → (length new ≡ length old → ⊥)
+    → after_writing old (items_written each path i (length old) cells vs) ≡ after_writing new (items_written each path (i + 1) (length new) more rest)
+one_more each path old new i cells more vs rest v split e apart =
+    let d = done_parts old new more (each (path ++ i ∷ []) (length old) cells v) e in
+    let longer : length new ≡ length old + length d.0 = ap length d.2 ∙ length-append old d.0 in
+    let grown : length new - length old ≡ suc (length new - length old - 1) = omega (arith, longer, apart) in
+    let next : suc i ≡ i + 1 = omega arith in
+    ap (after_writing old) (items_next each path i (length old) cells vs rest v split)
+    ∙ total_followed old new more (of_size is_some_size (path ++ i ∷ []) (each (path ++ i ∷ []) (length old) cells v)) (λ q cells. items_written each path (suc i) q cells rest)
+    (sized_total old new more (path ++ i ∷ []) is_some_size (each (path ++ i ∷ []) (length old) cells v) e (ap is_some_size grown))
+    ∙ ap (λ k. after_writing new (items_written each path k (length new) more rest)) next
+
+-- an element that is refused
+pub one_refused : (each : List ℕ → ℕ → List ℕ → Datum → Written) (path : List ℕ) (i p : ℕ) (cells : List ℕ) (vs rest : List Datum) (v : Datum) (rule : WriteRule) (at : List ℕ) → vs ≡ v ∷ rest
+    → each (path ++ i ∷ []) p cells v ≡ Refused rule at → items_written each path i p cells vs ≡ Refused rule at
+one_refused each path i p cells vs rest v rule at split e =
+    items_next each path i p cells vs rest v split
+    ∙ ap (λ x. followed (of_size is_some_size (path ++ i ∷ []) x) p (λ q cells. items_written each path (suc i) q cells rest)) e
+
+-- What stopped the writer
+
+pub halts_total : (h : Halt) (at old new : List ℕ) (w v : Written) → after_writing old w ≡ after_writing new v → Halts h at v → Halts h at w
+halts_total (halt.Broken rule) at old new w v e f = refused_after old at rule w (e ∙ ap (after_writing new) f)
+halts_total halt.NoMemory at old new w v e f = tt
+
+pub halts_items : (h : Halt) (at : List ℕ) (each : List ℕ → ℕ → List ℕ → Datum → Written) (path : List ℕ) (i p : ℕ) (cells : List ℕ) (vs rest : List Datum) (v : Datum) → vs ≡ v ∷ rest
+    → Halts h at (each (path ++ i ∷ []) p cells v) → Halts h at (items_written each path i p cells vs)
+halts_items (halt.Broken rule) at each path i p cells vs rest v split f = one_refused each path i p cells vs rest v rule at split f
+halts_items halt.NoMemory at each path i p cells vs rest v split f = tt
+
+pub halts_at : (h : Halt) (at path : List ℕ) (w v : Written) → at ≡ path → w ≡ v → Halts h path v → Halts h at w
+halts_at (halt.Broken rule) at path w v a e f = e ∙ f ∙ ap (Refused rule) (sym a)
+halts_at halt.NoMemory at path w v a e f = tt
+
+-- an element that takes no byte
+pub one_empty : (each : List ℕ → ℕ → List ℕ → Datum → Written) (path old new : List ℕ) (i : ℕ) (cells more : List ℕ) (vs rest : List Datum) (v : Datum) → vs ≡ v ∷ rest
+    → after_writing old (each (path ++ i ∷ []) (length old) cells v) ≡ Done new more → length new ≡ length old → items_written each path i (length old) cells vs ≡ Refused Size (path ++ i ∷ [])
+one_empty each path old new i cells more vs rest v split e same =
+    let none : length new - length old ≡ 0 = omega (arith, same) in
+    items_next each path i (length old) cells vs rest v split
+    ∙ total_refused Size (path ++ i ∷ []) (length old) (of_size is_some_size (path ++ i ∷ []) (each (path ++ i ∷ []) (length old) cells v)) (λ q cells. items_written each path (suc i) q cells rest)
+    (sized_refused old new more (path ++ i ∷ []) is_some_size (each (path ++ i ∷ []) (length old) cells v) e (ap is_some_size none))
+
+-- nothing more
+pub all_written : (each : List ℕ → ℕ → List ℕ → Datum → Written) (path old : List ℕ) (i : ℕ) (cells : List ℕ) (vs : List Datum) → vs ≡ [] → after_writing old (items_written each path i (length old) cells vs) ≡ Done old cells
+all_written each path old i cells vs e = ap (after_writing old) (items_none each path i (length old) cells vs e) ∙ ap (λ x. Done x cells) (append-nil old)
+
+-- all of it was written, behind nothing
+pub whole_done : (w : Written) (new cells : List ℕ) → after_writing [] w ≡ Done new cells → w ≡ Done new cells
+whole_done (Done s more) new cells e = e
+whole_done (Refused rule path) new cells e = e

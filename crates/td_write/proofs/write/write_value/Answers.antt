@@ -1,0 +1,77 @@
+use Rattle.std.proofs.Common.{rules, ◌≡◌, ◌+◌, [], ◌++◌, length, take, drop, sym, ap, ◌∙◌, subst, arith, Some, None}
+use Rattle.std.proofs.lemmas.Option.{gets}
+use Rattle.std.proofs.lemmas.Grind.{common_steps}
+use Rattle.std.specs.Prelude.{slice_get}
+use Rattle.td_num.specs.Numbers.{places_from}
+use Rattle.std.proofs.Math.Seq.{take-append_seam}
+use Rattle.td_core.specs.declared.outcome.Reason.TheVariants.{Impossible}
+use Rattle.td_core.specs.declared.outcome.Verdict.TheVariants.{Accept}
+use Rattle.td_values.specs.declared.error.WriteRule.TheVariants.{Broken}
+use Rattle.td_values.specs.Writing.{Done, Refused, after_writing, writers_below, writing, in_machine, whole}
+use Rattle.td_write.specs.Answers.{IsRefusal}
+use Rattle.td_write.specs.Writes.{Halts}
+use Rattle.td_write.proofs.Totals.{whole_done}
+use Rattle.td_write.proofs.Whole.{writing_at, no_entry, same_writing, appended, unless}
+use Rattle.td_write.proofs.write.write_value.Goals as goal
+
+pub returns-in_default-clause-cause : goal.returns-in_default-clause-cause
+returns-in_default-clause-cause c =
+    let a = c.args in
+    let missing : slice_get a.m.now.entries a.entry.number ≡ None = grind (arith, common_steps, gets) in
+    let path : c.new-path.result.items ≡ [] = search rules in
+    let w : Refused (Broken Impossible) c.new-path.result.items ≡ writing whole a.m.now a.entry a.args.now a.cells.now a.value.now =
+    ap (Refused (Broken Impossible)) path ∙ sym (no_entry a.m.now a.entry a.args.now a.cells.now a.value.now whole missing) in
+    subst (λ w. IsRefusal w c.broken.result) w c.broken.ensures
+
+pub returns-in_default-clause-none : goal.returns-in_default-clause-none
+returns-in_default-clause-none c =
+    let a = c.args in
+    unless a.m.now a.entry a.args.now a.cells.now a.value.now c.writing_is_exact.ensures c.kinds_are_admitted.ensures c.requires.writable c.broken.result (returns-in_default-clause-cause c)
+
+pub returns-in_ok-extend_from_slice-in-Ok-clause-ok : goal.returns-in_ok-extend_from_slice-in-Ok-clause-ok
+returns-in_ok-extend_from_slice-in-Ok-clause-ok c =
+    let a = c.args in
+    let m = a.m.now in
+    let there : slice_get m.entries a.entry.number ≡ Some c.in-Some.place.now = grind (arith, common_steps, gets) in
+    let places : c.as_slice-2.result.now ≡ places_from 0 (length a.cells.now) = search rules in
+    let bound : c.len.result ≡ length m.definitions = search rules in
+    let path : c.new-path.result.items ≡ [] = search rules in
+    let none : c.new-written.result.items ≡ [] = search rules in
+    let left : c.as_mut_slice.result.now ≡ a.cells.now = search rules in
+    let named = c.in-Ok.ensures.ok in
+    let w = writing in_machine m a.entry a.args.now a.cells.now a.value.now in
+    let total : w ≡ Done c.named.new.out.items c.named.new.cells =
+    whole_done w c.named.new.out.items c.named.new.cells
+    ((λ k. after_writing (sym none k) ((writing_at m a.entry a.args.now a.cells.now a.value.now in_machine c.in-Some.place.now there
+    ∙ (λ j. writers_below in_machine m.listed m.definitions (sym bound j) c.in-Some.place.now a.args.now (sym places j) (sym left j) (sym path j) (length (sym none j)) a.value.now)) k))
+    ∙ named.total) in
+    let same = same_writing m a.entry a.args.now a.cells.now a.value.now c.writing_is_in_range.ensures c.requires.writable c.requires.args c.requires.cells in
+    let grown : c.extend_from_slice.new.self.items ≡ a.out.now.items ++ c.named.new.out.items = search rules in
+    let long : c.len-in-Ok.result ≡ length c.named.new.out.items = c.len-in-Ok.ensures ∙ c.named.new.out.ok.0 in
+    let trace : c.new.result ≡ [] = search rules in
+    let count : c.in_ok-left.left.len ≡ length c.named.new.cells = omega (arith, c.named.auto.cells, c.as_mut_slice.ensures.len) in
+    let last : c.of.result ≡ c.named.new.cells = c.of.ensures ∙ ap (λ n. take n (c.named.new.cells ++ drop (length c.named.new.cells) c.in_ok-left.left.items)) count ∙ take-append_seam c.named.new.cells (drop (length c.named.new.cells) c.in_ok-left.left.items) in
+    appended m a.entry a.args.now a.cells.now a.value.now c.writing_is_exact.ensures c.kinds_are_admitted.ensures c.requires.writable c.named.new.out.items c.named.new.cells a.out.now.items c.extend_from_slice.new.self.items _ (sym same ∙ total) grown
+    (λ k. record { verdict = Accept (long k); trace = trace k; cells = last k })
+
+pub returns-in-Err-clause-cause : goal.returns-in-Err-clause-cause
+returns-in-Err-clause-cause c =
+    let a = c.args in
+    let m = a.m.now in
+    let there : slice_get m.entries a.entry.number ≡ Some c.in-Some.place.now = grind (arith, common_steps, gets) in
+    let places : c.as_slice-2.result.now ≡ places_from 0 (length a.cells.now) = search rules in
+    let bound : c.len.result ≡ length m.definitions = search rules in
+    let path : c.new-path.result.items ≡ [] = search rules in
+    let none : c.new-written.result.items ≡ [] = search rules in
+    let left : c.as_mut_slice.result.now ≡ a.cells.now = search rules in
+    let by_place : writing in_machine m a.entry a.args.now a.cells.now a.value.now ≡ writers_below in_machine m.listed m.definitions c.len.result c.in-Some.place.now a.args.now c.as_slice-2.result.now c.as_mut_slice.result.now c.new-path.result.items (length c.new-written.result.items) a.value.now =
+    writing_at m a.entry a.args.now a.cells.now a.value.now in_machine c.in-Some.place.now there
+    ∙ (λ j. writers_below in_machine m.listed m.definitions (sym bound j) c.in-Some.place.now a.args.now (sym places j) (sym left j) (sym path j) (length (sym none j)) a.value.now) in
+    let same = same_writing m a.entry a.args.now a.cells.now a.value.now c.writing_is_in_range.ensures c.requires.writable c.requires.args c.requires.cells in
+    c.stopped.ensures (writing whole m a.entry a.args.now a.cells.now a.value.now)
+    (subst (Halts c.in-Err.halt c.named.new.path.items) (sym by_place ∙ same) c.in-Err.ensures.err)
+
+pub returns-in-Err-clause-none : goal.returns-in-Err-clause-none
+returns-in-Err-clause-none c =
+    let a = c.args in
+    unless a.m.now a.entry a.args.now a.cells.now a.value.now c.writing_is_exact.ensures c.kinds_are_admitted.ensures c.requires.writable c.stopped.result (returns-in-Err-clause-cause c)

@@ -1,0 +1,42 @@
+-- What a step of the writer does to what was written; of use below the writer alone.
+use Rattle.std.specs.Prelude.{◌≡◌, ◌≤◌, ℕ, List, length}
+use Rattle.td_core.specs.declared.module.Module.{Module}
+use Rattle.td_core.specs.Outcome.{Ending}
+use Rattle.td_values.specs.declared.limits.TheConstants.{MOST_WRITTEN}
+use Rattle.td_values.specs.Datum.{Datum, Number, Sequence, Bytes, Empty}
+use Rattle.td_values.specs.Writing.{Written, Done, Refused, Writer, after_writing, tested, writers_below, in_machine}
+use Rattle.td_write.specs.declared.halt.Halt.{Halt}
+use Rattle.td_write.specs.declared.halt.Halt.TheVariants as halt
+
+-- the definitions below n, with the tests as the machine makes them
+abbrev pub below : Module → ℕ → ℕ → Writer
+below m n = writers_below in_machine m.listed m.definitions n
+
+-- all of it was written, behind what stood there
+pub record Wrote (w : Written) (old new path after cells : List ℕ) : Type 0 where
+  pub total : after_writing old w ≡ Done new cells
+  pub room : length new ≤ MOST_WRITTEN
+  pub back : after ≡ path
+
+-- a part of it was written, and the rest is left
+pub record GoesOn (w rest : Written) (old new : List ℕ) : Type 0 where
+  pub total : after_writing old w ≡ after_writing new rest
+
+-- it is refused by the rule that stopped the writer, at the path that is at hand
+abbrev pub Halts : Halt → List ℕ → Written → Type 0
+Halts (halt.Broken rule) path w = w ≡ Refused rule path
+Halts halt.NoMemory path w = Unit {0}
+
+-- a test of the type's own passes, or is what stopped the writer
+abbrev pub Passes : Ending → List ℕ → Type 0
+Passes o cells = (path : List ℕ) (go : List ℕ → Written) → tested o path go ≡ go cells
+
+abbrev pub Fails : Halt → Ending → Type 0
+Fails (halt.Broken rule) o = (path : List ℕ) (go : List ℕ → Written) → tested o path go ≡ Refused rule path
+Fails halt.NoMemory o = Unit {0}
+
+abbrev pub IsNumber : Datum → Type 0
+IsNumber (Number n) = Unit {0}
+IsNumber (Sequence vs) = ⊥
+IsNumber (Bytes bytes) = ⊥
+IsNumber Empty = ⊥

@@ -1,0 +1,117 @@
+//! Units of bit fields.
+
+ghost use Rattle.std.specs.Prelude.{◌≡◌, ◌+◌, ◌≤◌, ◌++◌, ◌∷◌, [], ℕ, List, length, drop, IfOk, IfErr};
+ghost use Rattle.td_core.specs.declared.module.Part.{Part};
+ghost use Rattle.td_values.specs.Datum.{Datum};
+ghost use Rattle.td_values.specs.Writing.{Written, Later, parts_written, unit_then, in_machine};
+ghost use Rattle.td_values.specs.declared.limits.TheConstants.{MOST_WRITTEN};
+ghost use Rattle.td_write.specs.Writes.{GoesOn, Halts};
+
+use crate::bytes::{has_room, push_number};
+use crate::halt::Halt;
+use crate::numbers::{fits, made_unit, number_of};
+use td_core::module::{Field, Part};
+use td_core::outcome::Verdict;
+use td_meaning::checking::part_verdict;
+use td_num::number::{NumberType, byte_count};
+use td_values::error::WriteRule;
+use td_values::value::Value;
+
+/// A bit field of a unit (or a number) that began at `start`: its value, which comes into scope, its refinement and its
+/// action.
+pub fn one_part(
+    number_type: NumberType,
+    part: &Part,
+    values: &[Value],
+    index: usize,
+    env: &mut Vec<u64>,
+    places: &[usize],
+    path: &mut Vec<usize>,
+    cells: &mut [u64],
+    start: u32,
+) -> Result<u64, Halt>
+    requires { start ≤ MOST_WRITTEN }
+    ensures ok { IfOk result (λ n. (parts : List Part) (go : List ℕ → List ℕ → ℕ → List ℕ → List Datum → Written)
+        → parts_written in_machine number_type (part.now ∷ parts) env.old.items places.now path.old.items index start cells.old (drop index values.now) go
+        ≡ parts_written in_machine number_type parts env.new.items places.now path.old.items (index + 1) start cells.new (drop (index + 1) values.now) (λ ns. go (n ∷ ns))) }
+    ensures scope { IfOk result (λ n. env.new.items ≡ env.old.items ++ n ∷ []) }
+    ensures back { IfOk result (λ n. (path.new.items ≡ path.old.items) × (index + 1 ≤ length values.now)) }
+    ensures err { IfErr result (λ h. (parts : List Part) (go : List ℕ → List ℕ → ℕ → List ℕ → List Datum → Written)
+        → Halts h path.new.items (parts_written in_machine number_type (part.now ∷ parts) env.old.items places.now path.old.items index start cells.old (drop index values.now) go)) }
+{
+    if index >= values.len() {
+        return Err(Halt::Broken(WriteRule::Shape));
+    }
+    let value = &values[index];
+    path.push(index)?;
+    let number = match number_of(value) {
+        Ok(number) => number,
+        Err(halt) => return Err(halt),
+    };
+    let width = byte_count(number_type.width);
+    if !fits(number_type, part.bits, number) {
+        return Err(Halt::Broken(WriteRule::Range));
+    }
+    if !has_room(start as usize, width as u64) {
+        return Err(Halt::Broken(WriteRule::Long));
+    }
+    env.push(number)?;
+    match part_verdict(part, env, places, cells, start, start + width)? {
+        Verdict::Accept { pos: _ } => {
+            path.pop();
+            Ok(number)
+        }
+        Verdict::Reject { reason, pos: _ } => Err(Halt::Broken(WriteRule::Broken(reason))),
+    }
+}
+
+/// A unit of bit fields, or a number.
+pub fn one_unit(
+    number_type: NumberType,
+    field: &Field,
+    values: &[Value],
+    index: usize,
+    env: &mut Vec<u64>,
+    places: &[usize],
+    path: &mut Vec<usize>,
+    cells: &mut [u64],
+    out: &mut Vec<u8>,
+) -> Result<usize, Halt>
+    requires { length out.old.items ≤ MOST_WRITTEN }
+    ensures ok { IfOk result (λ next. (later : Later)
+        → GoesOn (parts_written in_machine number_type field.now.parts env.old.items places.now path.old.items index (length out.old.items) cells.old (drop index values.now) (unit_then number_type field.now.parts path.old.items (length out.old.items) later))
+        (later env.new.items next (length out.new.items) cells.new (drop next values.now)) out.old.items out.new.items) }
+    ensures room { IfOk result (λ next. (length out.new.items ≤ MOST_WRITTEN) × (path.new.items ≡ path.old.items)) }
+    ensures err { IfErr result (λ h. (later : Later) → Halts h path.new.items
+        (parts_written in_machine number_type field.now.parts env.old.items places.now path.old.items index (length out.old.items) cells.old (drop index values.now) (unit_then number_type field.now.parts path.old.items (length out.old.items) later))) }
+{
+    let start = out.len();
+    let first = env.len();
+    let parts = field.parts.as_slice();
+    let mut next = index;
+    for part in parts {
+        match one_part(
+            number_type,
+            part,
+            values,
+            next,
+            env,
+            places,
+            path,
+            cells,
+            start as u32,
+        ) {
+            Ok(_) => {}
+            Err(halt) => return Err(halt),
+        }
+        next += 1;
+    }
+    let Some(number) = made_unit(number_type, parts, &env.as_slice()[first..]) else {
+        return Err(Halt::Broken(WriteRule::Range));
+    };
+    if !has_room(start, byte_count(number_type.width) as u64) {
+        return Err(Halt::Broken(WriteRule::Long));
+    }
+    push_number(out, number_type, number)?;
+    Ok(next)
+}

@@ -1,0 +1,100 @@
+//! The writer's call.
+
+ghost use Rattle.std.specs.Prelude.{IfOk, IfErr, OnErr, ◌≡◌};
+ghost use Rattle.td_core.specs.Entries.{entry_definition};
+ghost use Rattle.td_core.specs.Formed.{AllFit, params_at, cells_at};
+ghost use Rattle.td_values.specs.Writing.{Written, Refused};
+ghost use Rattle.td_write.specs.Writes.{Halts};
+ghost use Rattle.td_write.specs.Answers.{IsWritable, IsAppended, IsRefusal, IsCause, IsNowhere, Unless};
+
+use crate::halt::Halt;
+use crate::types::named;
+use std::alloc::Global;
+use td_core::module::{Entry, Module};
+use td_core::outcome::{Outcome, Reason, Verdict};
+use td_meaning::parameters::places_below;
+use td_num::items::Items;
+use td_ranged::laws::writing_is_in_range;
+use td_spelled::laws::{kinds_are_admitted, writing_is_exact};
+use td_values::error::{WriteError, WriteRule};
+use td_values::value::Value;
+
+/// The error of a broken rule at a path.
+fn broken(rule: WriteRule, path: Vec<usize>) -> WriteError
+    ensures { IsRefusal (Refused rule path.items) result }
+{
+    let path = Items::of(path);
+    match rule {
+        WriteRule::Shape => WriteError::Shape { path },
+        WriteRule::Range => WriteError::Range { path },
+        WriteRule::Broken(reason) => WriteError::Broken { path, reason },
+        WriteRule::Size => WriteError::Size { path },
+        WriteRule::Long => WriteError::Long,
+    }
+}
+
+/// The error of what stopped the writer at a path.
+fn stopped(halt: Halt, path: Vec<usize>) -> WriteError
+    ensures { (w : Written) → Halts halt path.items w → IsRefusal w result }
+{
+    match halt {
+        Halt::Broken(rule) => broken(rule, path),
+        Halt::NoMemory => WriteError::NoMemory,
+    }
+}
+
+/// Appends the bytes of a value by an entry point's type to `out`, and answers how the module accepts them. Each error but
+/// `NoMemory` is the value's first fault, in the order of the fields; such a value has no bytes that the module accepts to
+/// their end. `NoMemory`: out of memory. After an error `out` is as before.
+pub fn write_value(
+    alloc: Global,
+    m: &Module,
+    entry: Entry,
+    args: &[u64],
+    cells: &[u64],
+    value: &Value,
+    out: &mut Vec<u8>,
+) -> Result<Outcome, WriteError>
+    requires writable { IsWritable m.now }
+    requires args { AllFit (params_at (entry_definition m.now entry.number)) args.now }
+    requires cells { AllFit (cells_at (entry_definition m.now entry.number)) cells.now }
+    ensures ok { IfOk result (λ o. IsAppended m.now entry args.now cells.now value.now out.old.items out.new.items o) }
+    ensures cause { IfErr result (λ e. IsCause m.now entry args.now cells.now value.now e) }
+    ensures none { IfErr result (λ e. Unless e (IsNowhere m.now entry args.now cells.now value.now)) }
+    ensures kept { OnErr result (out.new.items ≡ out.old.items) }
+{
+    writing_is_exact();
+    kinds_are_admitted();
+    writing_is_in_range();
+    let mut left = Vec::from_slice(alloc, cells)?;
+    let mut path = Vec::new(alloc);
+    let mut written = Vec::new(alloc);
+    let places = places_below(alloc, cells.len())?;
+    let Some(place) = m.entries.as_slice().get(entry.number as usize) else {
+        return Err(broken(WriteRule::Broken(Reason::Impossible), path));
+    };
+    match named(
+        alloc,
+        m,
+        m.definitions.len(),
+        *place,
+        value,
+        args,
+        places.as_slice(),
+        &mut path,
+        left.as_mut_slice(),
+        &mut written,
+    ) {
+        Ok(()) => {
+            out.extend_from_slice(written.as_slice())?;
+            Ok(Outcome {
+                verdict: Verdict::Accept {
+                    pos: written.len() as u32,
+                },
+                trace: Items::new(alloc),
+                cells: Items::of(left),
+            })
+        }
+        Err(halt) => Err(stopped(halt, path)),
+    }
+}
