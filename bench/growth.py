@@ -8,6 +8,8 @@ MESSAGE_LIMIT = 1_048_576
 STORES_LIMIT = 65_536
 POSTS_LIMIT = 4_096
 WORDS_LIMIT = 1_048_576
+MOST_DEFINITIONS = 4_000
+MOST_NODES = 60_000
 FIELDS = 256
 # Elements of the arrays that are as large at each size, so that what grows is an element's type.
 LEVELLED = 32_768
@@ -168,16 +170,16 @@ def tidied_comment(size):
 
 
 def tidied_names(size):
-    """A text of a thousand structs with long names, that is laid out already."""
-    length = size // 1000 // 3 - 20
-    text = laid_out(("T%d" % place + "b" * length, ["UINT8 %s;" % ("a" * length)]) for place in range(1000))
+    """A text of as many structs as there may be, with long names, that is laid out already."""
+    length = size // MOST_DEFINITIONS // 3 - 20
+    text = laid_out(("T%d" % place + "b" * length, ["UINT8 %s;" % ("a" * length)]) for place in range(MOST_DEFINITIONS))
     return "tidy", text, text
 
 
 def tidied_nodes(count):
     """A text of so many nodes on one line."""
     fields = []
-    for place in range(count // 240):
+    for place in range((count - 1) // 240):
         tests = " && ".join("f%d < %d" % (place, 100 + test) for test in range(60))
         fields.append("UINT8 f%d { %s };" % (place, tests))
     return "tidy", "typedef struct _F { %s } F;\n" % " ".join(fields), laid_out([("F", fields)])
@@ -223,9 +225,9 @@ def chained_definitions(count):
 
 def long_names(size):
     """As many definitions as there may be, with names that make the text that long."""
-    length = size // 1000 // 3 - 20
-    found = ["typedef struct _ { UINT8 %s; } %s;" % ("a" * length, "T%d" % place + "b" * (2 * length - 6)) for place in range(1000)]
-    return checked(found, 1000, 0)
+    length = size // MOST_DEFINITIONS // 3 - 20
+    found = ["typedef struct _ { UINT8 %s; } %s;" % ("a" * length, "T%d" % place + "b" * (2 * length - 6)) for place in range(MOST_DEFINITIONS)]
+    return checked(found, MOST_DEFINITIONS, 0)
 
 
 def many_cases(count):
@@ -245,26 +247,31 @@ def fields_that_name_each_other(count):
 def many_nodes(count):
     """Fields with 60 tests each, until there are nearly that many nodes."""
     fields = []
-    for place in range(count // 240):
+    for place in range((count - 1) // 240):
         tests = " && ".join("f%d < %d" % (place, 100 + test) for test in range(60))
         fields.append("UINT8 f%d { %s };" % (place, tests))
     return checked(["entrypoint typedef struct _F { %s } F;" % " ".join(fields)], 1, 1)
 
 
 def wide_definitions(count):
-    """Structs, of which each but the first sixteen has a field of each of the first sixteen."""
+    """Structs, of which each but the first thirteen has a field of each of the first thirteen."""
     found = []
     for place in range(count):
-        inner = " ".join("T%d a%d;" % (other, other) for other in range(16)) if place >= 16 else "UINT8 a;"
+        inner = " ".join("T%d a%d;" % (other, other) for other in range(13)) if place >= 13 else "UINT8 a;"
         found.append("typedef struct _T%d { %s } T%d;" % (place, inner, place))
     return checked(found, count, 0)
 
 
 def constants(count):
-    """Constants, and a struct that names a quarter of them."""
-    found = ["#define K%d %d" % (place, place) for place in range(count - 1)]
-    fields = " ".join("UINT16 a%d { a%d != K%d };" % (place, place, count - 2 - place) for place in range(count // 4))
-    return checked(found + ["typedef struct _S { %s } S;" % fields], count, 0)
+    """Constants, and structs of at most 250 fields that name a quarter of them."""
+    named = list(range(count // 4))
+    structs = [named[first : first + 250] for first in range(0, len(named), 250)]
+    last = count - len(structs) - 1
+    found = ["#define K%d %d" % (place, place) for place in range(last + 1)]
+    for number, places in enumerate(structs):
+        fields = " ".join("UINT16 a%d { a%d != K%d };" % (place, place, last - place) for place in places)
+        found.append("typedef struct _S%d { %s } S%d;" % (number, fields, number))
+    return checked(found, count, 0)
 
 
 def facts_in_force(count):
@@ -327,16 +334,16 @@ CASES = [
     ("stores to one word", "stores", STORES_LIMIT, stores),
     ("stores to as many words", "stores", STORES_LIMIT, stores_to_words(list)),
     ("stores to as many words, last first", "stores", STORES_LIMIT, stores_to_words(reversed)),
-    ("definitions in chains of 32", "definitions", 1000, chained_definitions),
-    ("definitions that name sixteen others", "definitions", 1000, wide_definitions),
-    ("constants", "definitions", 1000, constants),
+    ("definitions in chains of 32", "definitions", MOST_DEFINITIONS, chained_definitions),
+    ("definitions that name thirteen others", "definitions", MOST_DEFINITIONS, wide_definitions),
+    ("constants", "definitions", MOST_DEFINITIONS, constants),
     ("definitions with long names", "bytes", INPUT_LIMIT, long_names),
     ("cases", "cases", 256, many_cases),
     ("elements of the last case", "cases", 256, elements_by_case),
     ("elements of nested types", "levels", 32, levels_of_types),
     ("trace of nested types", "levels", 32, trace_of_levels),
     ("fields that name each other", "fields", 256, fields_that_name_each_other),
-    ("nodes", "nodes", 20_000, many_nodes),
+    ("nodes", "nodes", MOST_NODES, many_nodes),
     ("facts in force", "facts", 3200, facts_in_force),
 ]
 
@@ -344,15 +351,15 @@ CASES = [
 LATER = [
     ("tidy, one comment", "bytes", INPUT_LIMIT, tidied_comment),
     ("tidy, long names", "bytes", INPUT_LIMIT, tidied_names),
-    ("tidy, nodes", "nodes", 20_000, tidied_nodes),
+    ("tidy, nodes", "nodes", MOST_NODES, tidied_nodes),
     ("bench", "messages", 10_000, benched),
-    ("code, nodes", "nodes", 20_000, coded(many_nodes)),
-    ("code, definitions in chains", "definitions", 1000, coded(chained_definitions)),
-    ("code, definitions that name others", "definitions", 1000, coded(wide_definitions)),
+    ("code, nodes", "nodes", MOST_NODES, coded(many_nodes)),
+    ("code, definitions in chains", "definitions", MOST_DEFINITIONS, coded(chained_definitions)),
+    ("code, definitions that name others", "definitions", MOST_DEFINITIONS, coded(wide_definitions)),
     ("code, cases", "cases", 256, coded(many_cases)),
-    ("pack, nodes", "nodes", 20_000, packed(many_nodes)),
-    ("pack, definitions in chains", "definitions", 1000, packed(chained_definitions)),
-    ("pack, definitions that name others", "definitions", 1000, packed(wide_definitions)),
+    ("pack, nodes", "nodes", MOST_NODES, packed(many_nodes)),
+    ("pack, definitions in chains", "definitions", MOST_DEFINITIONS, packed(chained_definitions)),
+    ("pack, definitions that name others", "definitions", MOST_DEFINITIONS, packed(wide_definitions)),
     ("pack, cases", "cases", 256, packed(many_cases)),
     ("host, posts", "posts", POSTS_LIMIT, hosted_posts),
     ("host, stores", "stores", STORES_LIMIT, hosted_stores),

@@ -1,16 +1,18 @@
 /* A plain switch loop over the code of the four formats, on the messages of `td bench N`: what bench/loop measures td against.
  *
  *     loop FILE N [made]
+ *     loop FILE LENGTH code
  *
  * FILE has the code of the four formats in the order of docs/bench.md, as bench/loop writes it: the tables of an image in
  * decimal, and the lines of the listing that `td code` writes. The lines printed are those of `td bench N`. With `made` the
- * messages are made and not run. Compiled with COUNT, a further line tells how many steps were taken. What each instruction
- * does stands in docs/language/code.md. Nothing is verified here: the code is td's own.
+ * messages are made and not run. With `code` FILE has one code, which is run once over so many zero bytes, for bench/machine.
+ * Compiled with COUNT, a further line tells how many steps were taken. What each instruction does stands in
+ * docs/language/code.md. Nothing is verified here: the code is td's own.
  */
+#include "made.h"
 #include <inttypes.h>
 #include <stdio.h>
 #include <stdlib.h>
-#include <string.h>
 
 #ifdef COUNT
 #define STEP(run) ((run)->steps++)
@@ -255,56 +257,6 @@ static int run_routine(struct run *run, size_t number, uint64_t *registers, cons
     }
 }
 
-/* ---- The messages of docs/bench.md. */
-
-static size_t put(uint8_t *bytes, size_t at, const void *from, size_t count)
-{
-    memcpy(bytes + at, from, count);
-    return at + count;
-}
-
-static size_t fill(uint8_t *bytes, size_t at, size_t count, uint32_t n)
-{
-    for (size_t end = at + count; at < end; at++)
-        bytes[at] = 31 * n + 7 * at;
-    return at;
-}
-
-static size_t put_number(uint8_t *bytes, size_t at, uint32_t number)
-{
-    const uint8_t four[4] = {number, number >> 8, number >> 16, number >> 24};
-    return put(bytes, at, four, 4);
-}
-
-/* Makes message n: how many bytes it has. */
-static size_t make_message(uint32_t n, uint8_t *bytes)
-{
-    uint32_t payload = 13 * (n / 4) % 1400;
-    size_t at = 0;
-    switch (n % 4) {
-    case 0:
-        at = put(bytes, fill(bytes, at, 12, n), "\x08\x00", 2);
-        break;
-    case 1: {
-        const uint8_t head[4] = {0x45, 0, (20 + payload) >> 8, 20 + payload};
-        at = put(bytes, put(bytes, at, head, 4), "\0\0\0\0\x40\x06\0\0", 8);
-        at = fill(bytes, at, 8, n);
-        break;
-    }
-    case 2:
-        at = put(bytes, fill(bytes, at, 12, n), "\x60\x02\xff\xff\0\0\0\0\x02\x04\x05\xb4", 12);
-        break;
-    default:
-        at = put_number(bytes, at, 1);
-        at = put_number(bytes, at, 44 + payload);
-        at = put_number(bytes, at, 36);
-        at = put_number(bytes, at, payload);
-        for (int k = 0; k < 7; k++)
-            at = put_number(bytes, at, 0);
-    }
-    return fill(bytes, at, payload, n);
-}
-
 /* Lays a message out in words, each with its first byte lowest, and plans the store of its job. */
 static void lay_out(struct run *run, const uint8_t *bytes, size_t length)
 {
@@ -320,7 +272,8 @@ static void lay_out(struct run *run, const uint8_t *bytes, size_t length)
     run->pos = 0;
 }
 
-static int run_message(struct run *run, const struct code *code, size_t length, int has_length)
+/* (never inlined, so that its instructions can be counted) */
+__attribute__((noinline)) static int run_message(struct run *run, const struct code *code, size_t length, int has_length)
 {
     static uint64_t registers[MOST_REGISTERS];
     static uint32_t places[MOST_CELLS];
@@ -424,6 +377,18 @@ static struct code code_in(FILE *file)
     return code;
 }
 
+/* Runs a code once over zero bytes. */
+static int run_code(FILE *file, size_t length)
+{
+    static struct run run;
+    static const uint8_t bytes[MOST_BYTES];
+    struct code code = code_in(file);
+    lay_out(&run, bytes, length);
+    int is_accepted = run_message(&run, &code, length, 0);
+    printf("%s %" PRIu32 "\n", is_accepted ? "accept" : "reject", is_accepted ? run.pos : run.failed_at);
+    return 0;
+}
+
 int main(int count, char **words)
 {
     static struct run run;
@@ -432,9 +397,11 @@ int main(int count, char **words)
     uint64_t accepted = 0, rejected = 0, sum = 0, loads = 0;
     FILE *file = count >= 3 ? fopen(words[1], "r") : NULL;
     if (!file) {
-        fprintf(stderr, "usage: loop FILE N [made]\n");
+        fprintf(stderr, "usage: loop FILE N [made], or loop FILE LENGTH code\n");
         return 2;
     }
+    if (count > 3 && strcmp(words[3], "code") == 0)
+        return run_code(file, strtoul(words[2], NULL, 10));
     for (int k = 0; k < 4; k++)
         codes[k] = code_in(file);
     fclose(file);
