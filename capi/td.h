@@ -62,6 +62,7 @@ typedef struct {
   uint32_t position, reason;       /* out, where the answer is TD_ACCEPTED or TD_REJECTED */
   uint32_t unused;
   uint64_t frame_count;            /* out, likewise */
+  uint64_t load_count;             /* out, likewise: how many loads were made, each of another word of the message */
   uint64_t args[16];               /* in */
   uint64_t cells[64];              /* in and out: as the validation left them, where it rejected, too */
 } td_call;
@@ -70,6 +71,9 @@ typedef struct { const uint64_t *at; size_t count; } td_words;
 
 /* Bytes of the words that stand one after the other. */
 typedef struct { uint32_t place, size; } td_stretch;
+
+/* A load that was made: the stretch, from 0 (0 where the message is one), the word of the words, and what the load gave. */
+typedef struct { uint32_t stretch, word; uint64_t value; } td_load;
 
 /* The exports. A program calls the functions below in their place. */
 int32_t td_c_open(td_session *s, bool full, const uint8_t *image, size_t size, td_fault *fault);
@@ -81,9 +85,9 @@ int32_t td_c_param(td_session *s, bool full, uint32_t entry, size_t place, td_pa
 int32_t td_c_cell(td_session *s, bool full, uint32_t entry, size_t place, td_part *told);
 int32_t td_c_frame(td_session *s, bool full, size_t place, td_frame_row *told);
 int32_t td_c_name(td_session *s, bool full, uint32_t number, uint8_t *bytes, size_t room, uint64_t *size);
-int32_t td_c_validate(td_session *s, bool full, td_call *call, td_words *words, size_t count);
+int32_t td_c_validate(td_session *s, bool full, td_call *call, td_words *words, size_t count, td_load *loads, size_t room);
 int32_t td_c_validate_parts(td_session *s, bool full, td_call *call, const td_stretch *parts, size_t part_count, td_words *words,
-                            size_t count);
+                            size_t count, td_load *loads, size_t room);
 
 /* Reads an image, verifies its code and takes room for validations. Where this is done, what the handle held is freed; else
    the handle is as before, and the fault says where the bytes are no image (TD_I3 to TD_I6). The bytes are the caller's
@@ -144,16 +148,33 @@ static inline int32_t td_name(td_session *s, uint32_t number, char *bytes, size_
 static inline int32_t td_validate(td_session *s, const uint64_t *words, size_t count, td_call *call) {
   if (!s || !call || (!words && count) || (uintptr_t)words % 8) return TD_POINTER;
   td_words w = {words, count};
-  return td_c_validate(s, s->full, call, &w, count);
+  td_load none = {0, 0, 0};
+  return td_c_validate(s, s->full, call, &w, count, &none, 0);
 }
 
-/* The same for a message whose bytes are these stretches of the words, one after the other (a scatter list); call->place and
-   call->length aren't looked at. Memory for the list of stretches is taken before the first load, and given back. */
+/* The same, and the loads that were made, in their order: as many as there is room for, of call->load_count in all. What was tested
+   are these values, whatever the words hold by now. */
+static inline int32_t td_validate_loads(td_session *s, const uint64_t *words, size_t count, td_call *call, td_load *loads,
+                                        size_t room) {
+  if (!s || !call || !loads || (!words && count) || (uintptr_t)words % 8) return TD_POINTER;
+  td_words w = {words, count};
+  return td_c_validate(s, s->full, call, &w, count, loads, room);
+}
+
+/* The same for a message whose bytes are these stretches of the words, one after the other (a scatter list), with the loads that
+   were made; call->place and call->length aren't looked at. Memory for the list of stretches is taken before the first load,
+   and given back. */
+static inline int32_t td_validate_parts_loads(td_session *s, const uint64_t *words, size_t count, const td_stretch *parts,
+                                              size_t part_count, td_call *call, td_load *loads, size_t room) {
+  if (!s || !call || !parts || !loads || (!words && count) || (uintptr_t)words % 8) return TD_POINTER;
+  td_words w = {words, count};
+  return td_c_validate_parts(s, s->full, call, parts, part_count, &w, count, loads, room);
+}
+
 static inline int32_t td_validate_parts(td_session *s, const uint64_t *words, size_t count, const td_stretch *parts,
                                         size_t part_count, td_call *call) {
-  if (!s || !call || !parts || (!words && count) || (uintptr_t)words % 8) return TD_POINTER;
-  td_words w = {words, count};
-  return td_c_validate_parts(s, s->full, call, parts, part_count, &w, count);
+  td_load none = {0, 0, 0};
+  return td_validate_parts_loads(s, words, count, parts, part_count, call, &none, 0);
 }
 
 /* The word for a reason in reports. */

@@ -59,6 +59,27 @@ static void validations(td_session *s, uint32_t entry) {
   row("a frame too many", TD_MISSING, td_frame(s, call.frame_count, &frame));
 }
 
+static void loads(td_session *s, uint32_t entry) {
+  td_call call = asked(entry);
+  td_load seen[8] = {{9, 9, 9}}, few[2] = {{9, 9, 9}, {9, 9, 9}};
+  words[1] = 36 | (uint64_t)4 << 32;
+  row("a whole message, with its loads", TD_ACCEPTED, td_validate_loads(s, words, 8, &call, seen, 8));
+  row("how many", 5, (int32_t)call.load_count);
+  for (uint32_t i = 0; i < 5; i++) row("a load", 1, seen[i].stretch == 0 && seen[i].word == i && seen[i].value == words[i]);
+  call = asked(entry);
+  row("the same, with room for one", TD_ACCEPTED, td_validate_loads(s, words, 8, &call, few, 1));
+  row("how many, in all", 5, (int32_t)call.load_count);
+  row("the first one", 1, few[0].word == 0 && few[0].value == words[0]);
+  row("and nothing behind it", 1, few[1].stretch == 9 && few[1].word == 9 && few[1].value == 9);
+  call = asked(entry);
+  static const td_stretch parts[2] = {{8, 8}, {24, 40}}; /* type and length in word 1 */
+  uint64_t scattered[8] = {0, words[0], 0, words[1]};
+  row("a message in two stretches", TD_ACCEPTED, td_validate_parts_loads(s, scattered, 8, parts, 2, &call, seen, 8));
+  row("where its first load is", 1, seen[0].stretch == 0 && seen[0].word == 1 && seen[0].value == words[0]);
+  row("where its second load is", 1, seen[1].stretch == 1 && seen[1].word == 3 && seen[1].value == words[1]);
+  row("null loads", TD_POINTER, td_validate_loads(s, words, 8, &call, 0, 1));
+}
+
 static void wrong_uses(td_session *s, uint32_t entry) {
   td_session none = {0};
   td_call call = asked(entry);
@@ -126,6 +147,7 @@ int main(int argc, char **argv) {
   uint32_t entry = entry_of(&s, "RNDIS");
   tables(&s, entry);
   validations(&s, entry);
+  loads(&s, entry);
   wrong_uses(&s, entry);
   images(bytes, size);
   td_close(&s);

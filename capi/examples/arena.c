@@ -1,8 +1,10 @@
 /* Freestanding: no libc, no malloc. The three functions of the heap stand over memory that the caller gives, and the program brings memcpy, memmove and
    memset; gcc -O2 -ffreestanding -nostdlib -static -DIMAGE='"rndis.image"' arena.c libtd_c.a. Once the session is open,
-   a validation takes no memory: the arena may be as large as what td_open took. Exit status 0: all of it is as said. */
+   a validation takes no memory: the arena may be as large as what td_open took. The stack that it takes is looked at, too. Exit status 0: all
+   of it is as said. */
 #include "td.h"
 
+enum { PAINTED = 64 * 1024, PAINT = 0xa5 };
 static _Alignas(16) uint8_t arena[256 * 1024];
 static size_t used;
 
@@ -76,6 +78,18 @@ static void say(const char *name, uint64_t value) {
   put_line(line, n);
 }
 
+/* Paints the stack below a place. */
+static __attribute__((noinline)) void paint(volatile uint8_t *top) {
+  for (size_t i = 1024; i < PAINTED; i++) top[-(ptrdiff_t)i] = PAINT;
+}
+
+/* How much of the painted stack was used since. */
+static __attribute__((noinline)) size_t used_below(volatile uint8_t *top) {
+  size_t i = PAINTED - 1;
+  while (i > 1024 && top[-(ptrdiff_t)i] == PAINT) i--;
+  return i;
+}
+
 __attribute__((force_align_arg_pointer)) void _start(void) {
   td_session s = {0};
   td_fault fault = {0};
@@ -92,10 +106,14 @@ __attribute__((force_align_arg_pointer)) void _start(void) {
   call.args[0] = 512;
   call.cell_count = 5;
   size_t before = used;
+  volatile uint8_t *top = __builtin_frame_address(0);
+  paint(top);
   int32_t verdict = td_validate(&s, words, 64, &call);
+  size_t stack = used_below(top);
   say("verdict ", (uint64_t)verdict);
   say("position ", call.position);
   say("memory taken by the validation ", used - before);
+  say("stack taken by the validation ", stack);
   long status = opened || found || verdict || used != before;
   __asm__ volatile("syscall" ::"a"(60), "D"(status) : "memory");
   __builtin_unreachable();

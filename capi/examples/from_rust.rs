@@ -30,15 +30,32 @@ struct TdCall {
     reason: u32,
     unused: u32,
     frame_count: u64,
+    load_count: u64,
     args: [u64; 16],
     cells: [u64; 64],
+}
+
+#[repr(C)]
+#[derive(Clone, Copy, Default)]
+struct TdLoad {
+    stretch: u32,
+    word: u32,
+    value: u64,
 }
 
 unsafe extern "C" {
     fn td_c_open(s: *mut TdSession, full: bool, image: *const u8, size: usize, fault: *mut TdFault) -> i32;
     fn td_c_again(s: *mut TdSession, full: bool, other: *mut TdSession, other_full: bool) -> i32;
     fn td_c_entry(s: *mut TdSession, full: bool, name: *const u8, size: usize, number: *mut u32) -> i32;
-    fn td_c_validate(s: *mut TdSession, full: bool, call: *mut TdCall, words: *mut TdWords, count: usize) -> i32;
+    fn td_c_validate(
+        s: *mut TdSession,
+        full: bool,
+        call: *mut TdCall,
+        words: *mut TdWords,
+        count: usize,
+        loads: *mut TdLoad,
+        room: usize,
+    ) -> i32;
     fn td_c_close(s: *mut TdSession, full: bool);
 }
 
@@ -75,9 +92,10 @@ impl Session {
         (code == 0).then_some(number)
     }
 
-    fn validate(&mut self, words: &[AtomicU64], call: &mut TdCall) -> i32 {
-        let mut shared = TdWords { at: words.as_ptr(), count: words.len() };
-        unsafe { td_c_validate(&mut self.0, self.0.full, call, &mut shared, words.len()) }
+    /// The loads are written into the rows, as far as there is room.
+    fn validate(&mut self, words: &[AtomicU64], call: &mut TdCall, loads: &mut [TdLoad]) -> i32 {
+        let (mut shared, full) = (TdWords { at: words.as_ptr(), count: words.len() }, self.0.full);
+        unsafe { td_c_validate(&mut self.0, full, call, &mut shared, words.len(), loads.as_mut_ptr(), loads.len()) }
     }
 }
 
@@ -112,13 +130,15 @@ fn main() {
         let entry = session.entry("RNDIS").expect("the entry point");
         assert_eq!(session.entry("NOWHERE"), None);
         let mut call: TdCall = unsafe { std::mem::zeroed() };
-        let (mut seen, mut wrong) = ([0u64; 2], 0);
+        let (mut seen, mut wrong, mut loads) = ([0u64; 2], 0, [TdLoad::default(); 8]);
         for _ in 0..messages {
             (call.entry, call.length, call.arg_count, call.args[0], call.cell_count) = (entry, 512, 1, 512, 5);
             call.cells = [0; 64];
-            let code = session.validate(&words, &mut call);
+            let code = session.validate(&words, &mut call, &mut loads);
             seen[code as usize] += 1;
-            wrong += u64::from(code == 0 && call.cells[3] + call.cells[4] > 512);
+            // What was tested is what was loaded, whatever the words hold by now.
+            let tested = loads[0].value as u32 == call.cells[0] as u32;
+            wrong += u64::from(code == 0 && (call.cells[3] + call.cells[4] > 512 || !tested));
         }
         is_over.store(true, Ordering::SeqCst);
         println!("rust accepted {} rejected {} wrong {wrong}", seen[0], seen[1]);

@@ -1,35 +1,7 @@
 /* Each allocation refused in turn: refused RNDIS_IMAGE. A call that is refused memory answers TD_NO_MEMORY, and nothing but the slots of handles is
-   left behind it. The program brings its own heap (in place of heap.c), which counts blocks. */
+   left behind it. The program brings a heap of its own, which counts blocks. */
 #include "common.h"
-
-typedef struct { uint64_t is_ok; void *at; } block;
-static long allocations, refused_at, blocks;
-static char nothing;
-
-static block take(void *old, size_t size) {
-  if (++allocations == refused_at) return (block){0, &nothing};
-  void *at = realloc(old, size ? size : 16);
-  if (!at) return (block){0, &nothing};
-  blocks += !old;
-  return (block){1, at};
-}
-
-block rattle_alloc(size_t size, size_t align) {
-  (void)align;
-  return take(0, size);
-}
-
-block rattle_realloc(void *at, size_t old_size, size_t new_size, size_t align) {
-  (void)old_size;
-  (void)align;
-  return take(at, new_size);
-}
-
-void rattle_dealloc(void *at, size_t size) {
-  (void)size;
-  blocks--;
-  free(at);
-}
+#include "counting_heap.h"
 
 static uint64_t words[8] = {1 | (uint64_t)48 << 32, 36 | (uint64_t)4 << 32};
 static uint8_t bytes[1 << 22];

@@ -1,12 +1,15 @@
-/* Validates one message and writes the report of `td run`, but for its loads: report IMAGE ENTRY PLACE ARGS HEX, where ARGS are numbers
-   with commas, or -. The message begins at byte PLACE of the words. */
+/* Validates one message and writes the report of `td run`: report IMAGE ENTRY PLACE ARGS HEX[.MORE], where ARGS are numbers with commas, or
+   -. The message begins at byte PLACE of the words, and MORE are bytes behind it; or PLACE is stretches, as 36+8,2+22, of the bytes that HEX is.
+   Loads are written where `td run` has them too: of a message at byte 0, or of stretches. */
 #include "common.h"
 
-enum { MOST_WORDS = 8192 };
+enum { MOST_WORDS = 8192, MOST_STRETCHES = 64 };
 static uint64_t words[MOST_WORDS];
+static td_load loads[MOST_WORDS + MOST_STRETCHES];
+static td_stretch parts[MOST_STRETCHES];
 
-static size_t put_hex(const char *hex, uint8_t *bytes, size_t room) {
-  size_t size = strlen(hex) / 2;
+static size_t put_hex(const char *hex, size_t digits, uint8_t *bytes, size_t room) {
+  size_t size = digits / 2;
   if (size > room) stop("the message is too long", (long)size);
   for (size_t i = 0; i < size; i++) {
     unsigned value = 0;
@@ -21,6 +24,26 @@ static void put_args(const char *text, td_call *call) {
     char *end = 0;
     call->args[call->arg_count++] = strtoull(text, &end, 10);
     text = *end == ',' ? end + 1 : end;
+  }
+}
+
+/* Stretches: how many they are, or 0 where the text is a place. */
+static size_t put_parts(const char *text) {
+  size_t count = 0;
+  while (count < MOST_STRETCHES && strchr(text, '+')) {
+    char *end = 0;
+    parts[count].place = (uint32_t)strtoul(text, &end, 10);
+    parts[count++].size = (uint32_t)strtoul(end + 1, &end, 10);
+    text = *end == ',' ? end + 1 : end;
+  }
+  return count;
+}
+
+static void say_loads(const td_call *call, size_t part_count) {
+  for (size_t i = 0; i < call->load_count; i++) {
+    printf("load ");
+    if (part_count) printf("%u ", loads[i].stretch);
+    printf("%u %016llx\n", loads[i].word, (unsigned long long)loads[i].value);
   }
 }
 
@@ -46,25 +69,34 @@ static void say_frames(td_session *s, const td_call *call) {
 }
 
 int main(int argc, char **argv) {
-  if (argc != 6) stop("usage: report IMAGE ENTRY PLACE ARGS HEX", 0);
+  if (argc != 6) stop("usage: report IMAGE ENTRY PLACE ARGS HEX[.MORE]", 0);
   static td_session s;
   open_image(&s, argv[1]);
   td_call call = {0};
   call.entry = entry_of(&s, argv[2]);
-  call.place = (uint32_t)atoi(argv[3]);
-  memset(words, 0xa5, sizeof words); /* bytes beside the message are no part of it */
-  call.length = (uint32_t)put_hex(argv[5], (uint8_t *)words + call.place, sizeof words - call.place);
+  size_t part_count = put_parts(argv[3]), room = sizeof loads / sizeof *loads;
+  call.place = part_count ? 0 : (uint32_t)atoi(argv[3]);
+  /* Bytes beside the message are no part of it. `td run`, whose loads are told too, has zeros there. */
+  memset(words, call.place ? 0xa5 : 0, sizeof words);
+  size_t digits = strcspn(argv[5], ".");
+  uint8_t *message = (uint8_t *)words + call.place;
+  call.length = (uint32_t)put_hex(argv[5], digits, message, sizeof words - call.place);
+  const char *more = argv[5] + digits + (argv[5][digits] == '.');
+  put_hex(more, strlen(more), message + call.length, sizeof words - call.place - call.length);
   put_args(argv[4], &call);
   td_entry_point point = {0};
   int32_t code = td_describe(&s, call.entry, &point);
   if (code) stop("td_describe", code);
   call.cell_count = (uint32_t)point.cell_count;
-  code = td_validate(&s, words, (call.place + call.length + 7) / 8, &call);
+  size_t count = (call.place + call.length + 7) / 8;
+  if (part_count) code = td_validate_parts_loads(&s, words, count, parts, part_count, &call, loads, room);
+  else code = td_validate_loads(&s, words, count, &call, loads, room);
   if (code != TD_ACCEPTED && code != TD_REJECTED) stop("td_validate", code);
   if (code == TD_ACCEPTED) printf("accept %u\n", call.position);
   else printf("reject %s %u\n", td_reason_word(call.reason), call.position);
   say_frames(&s, &call);
   say_cells(&s, &call);
+  if (part_count || call.place == 0) say_loads(&call, part_count);
   td_close(&s);
   return 0;
 }

@@ -19,7 +19,8 @@ class Routine:
 
 
 class Code:
-    """Routines whose targets are places in their own routine, sets, cell maps, and entry points by routine."""
+    """Routines whose targets are places in their own routine, sets, cell maps, and entry points by routine. Sites begin with a
+    type and a field; each routine may name each of them, as in images of version 1."""
 
     def __init__(self, routines, sets=(), maps=(), entries=(0,), names=("t", "f"), sites=((0, 1),)):
         self.routines, self.sets, self.maps, self.names, self.sites = routines, sets, maps, names, sites
@@ -32,7 +33,8 @@ class Code:
             at += len(routine.instructions)
 
     def image(self):
-        """Its image. Each routine has the first name; parameters and cells of entry points have it too, and 64 bits."""
+        """Its image, in version 1, which is turned when it is read. Each routine has the first name; parameters and cells of
+        entry points have it too, and 64 bits."""
         tables = Tables()
         tables.names = [name.encode() for name in self.names]
         tables.sites, tables.maps, tables.sets = self.sites, self.maps, self.sets
@@ -42,7 +44,7 @@ class Code:
         for number in self.entries:
             routine = self.routines[number]
             tables.entries.append((number, [(0, 64)] * routine.params, [(0, NO_FIELD, 64)] * routine.cells))
-        return image_of(tables)
+        return image_of(tables, version=1)
 
 
 TARGETS = {"Jump": 1, "JumpIf": 2, "JumpUnless": 2, "While": 1, "Again": 1}
@@ -110,7 +112,7 @@ class Run:
                 raise
 
     def frame(self, site, reason, start):
-        ty, field = self.code.sites[site]
+        ty, field = self.code.sites[site][:2]
         spot = self.code.names[field]
         return ty, spot if spot in ("where", "switch") else field, reason, start
 

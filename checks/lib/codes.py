@@ -1,5 +1,6 @@
 """Code as text and as the bytes of an image, and code made at random."""
 
+import functools
 import importlib.machinery
 import importlib.util
 import os
@@ -26,12 +27,12 @@ NUMBERS = {kind: number for number, (kind, _) in enumerate(IMAGES.KINDS)}
 
 
 class Tables:
-    """The tables of code, each a list: `names` of bytes; `sites` (type, field); `maps`, `sets` of numbers; `routines` (name,
-    parameters, cells, registers, length); `entries` (routine, parameters (name, bits), cells (name, field, bits));
+    """The tables of code, each a list: `names` of bytes; `sites` (type, field, routine); `maps`, `sets` of numbers; `routines`
+    (name, parameters, cells, registers, length); `entries` (routine, parameters (name, bits), cells (name, field, bits));
     `instructions` (kind, operands in the listing's order)."""
 
     def __init__(self):
-        self.names, self.sites, self.maps, self.sets = [b"A"], [(0, 0)], [], []
+        self.names, self.sites, self.maps, self.sets = [b"A"], [(0, 0, 0)], [], []
         self.routines, self.entries, self.instructions = [], [], []
 
 
@@ -39,6 +40,7 @@ def u32(*numbers):
     return b"".join(number.to_bytes(4, "little") for number in numbers)
 
 
+@functools.lru_cache(maxsize=1024)
 def instruction_bytes(instruction):
     kind, *operands = instruction
     fields = dict(zip(OPERANDS[kind].split(), operands))
@@ -46,12 +48,12 @@ def instruction_bytes(instruction):
     return bytes([NUMBERS[kind]]) + tail
 
 
-def image_of(code):
-    """The image of tables, which need not be within the format's limits."""
+def image_of(code, version=2):
+    """The image of tables, which need not be within the format's limits. In version 1 the routines of sites are left out."""
     tables = (code.names, code.sites, code.maps, code.sets, code.routines, code.entries, code.instructions)
-    image = [b"TD3I\x01\x00\x00\x00", u32(*map(len, tables))]
+    image = [b"TD3I" + version.to_bytes(2, "little") + bytes(2), u32(*map(len, tables))]
     image += [u32(len(name)) + name for name in code.names]
-    image += [u32(*site) for site in code.sites]
+    image += [u32(*(site[:2] if version == 1 else site)) for site in code.sites]
     image += [u32(len(cells), *cells) for cells in code.maps]
     image += [u32(len(numbers)) + b"".join(number.to_bytes(8, "little") for number in numbers) for numbers in code.sets]
     image += [u32(*routine) for routine in code.routines]
@@ -60,16 +62,37 @@ def image_of(code):
     return b"".join(image + [instruction_bytes(instruction) for instruction in code.instructions])
 
 
-def large_image(names, instructions):
+def large_image(names, instructions, version=2):
     """The image of code with so many names and sites, and so many instructions (a number that four divides) in one routine."""
     code = Tables()
     code.names = [b"name%05d" % k for k in range(names)]
-    code.sites = [(k, (7 * k) % names) for k in range(names)]
+    code.sites = [(k, (7 * k) % names, 0) for k in range(names)]
     code.routines = [[0, 0, 0, 9, instructions]]
     code.entries = [(0, [], [])]
     steps = [("Fetch", 1, 1, 4, 5), ("Const", 2, 77), ("Op", 3, 12, 1, 2), ("SkipK", 4, names - 1)]
     code.instructions = steps * (instructions // 4 - 1) + steps[:3] + [("Return",)]
-    return image_of(code)
+    return image_of(code, version)
+
+
+def turned(code):
+    """The tables of an image of version 1, whose sites name no routine, as code whose sites do: routine after routine, a site
+    for each old one that its instructions name, in the order of first use. A number that the old table hasn't becomes 2^32 - 1."""
+    found = Tables()
+    found.names, found.maps, found.sets, found.routines, found.entries = code.names, code.maps, code.sets, code.routines, code.entries
+    found.sites, at = [], 0
+    for number, (*_, length) in enumerate(code.routines):
+        own = {}
+        for kind, *operands in code.instructions[at : at + length]:
+            if "site" in OPERANDS[kind].split():
+                place = OPERANDS[kind].split().index("site")
+                site = operands[place]
+                if site < len(code.sites) and site not in own:
+                    own[site] = len(found.sites)
+                    found.sites.append((*code.sites[site][:2], number))
+                operands[place] = own.get(site, 2**32 - 1)
+            found.instructions.append((kind, *operands))
+        at += length
+    return found
 
 
 def entry_of_words(words):
@@ -85,11 +108,11 @@ def entry_of_words(words):
 
 
 def code_of_lines(lines):
-    """The code of lines of text: rows of its tables (`name TEXT`, `site TYPE FIELD`, `map CELLS..`, `set NUMBERS..`, `routine
-    PARAMETERS CELLS REGISTERS` with its name's number behind them where it isn't 0, `entry ROUTINE` with `param NAME BITS` and
-    `cell NAME FIELD BITS`), and instructions as the listing has them, those of a routine behind its row. `8x` before an
-    instruction stands for eight of them. Where no row of its table is there, code has the name `A`, one site of it, one empty cell
-    map, and one routine without parameters and cells, of one register."""
+    """The code of lines of text: rows of its tables (`name TEXT`, `site TYPE FIELD ROUTINE`, `map CELLS..`, `set NUMBERS..`,
+    `routine PARAMETERS CELLS REGISTERS` with its name's number behind them where it isn't 0, `entry ROUTINE` with `param NAME BITS`
+    and `cell NAME FIELD BITS`), and instructions as the listing has them, those of a routine behind its row. `8x` before an
+    instruction stands for eight of them. Where no row of its table is there, code has the name `A`, one empty cell map, one routine
+    without parameters and cells, of one register, and a site of `A` for each routine, with the routine's number."""
     code = Tables()
     rows = {"name": [], "site": [], "map": []}
     for line in lines:
@@ -114,7 +137,7 @@ def code_of_lines(lines):
             code.routines[-1][4] += times
             code.instructions += [(word, *[int(number) for number in rest])] * times
     code.names = rows["name"] or code.names
-    code.sites = rows["site"] or code.sites
+    code.sites = rows["site"] or [(0, 0, number) for number in range(len(code.routines))]
     code.maps = rows["map"] or [[]]
     return code
 
@@ -141,7 +164,8 @@ class CodeMaker:
         return self.near(self.registers)
 
     def site(self):
-        return self.near(len(self.code.sites))
+        """Mostly one of the routine's own sites."""
+        return self.first_site + self.near(self.sites)
 
     def straight(self):
         """An instruction that goes on."""
@@ -226,6 +250,8 @@ class CodeMaker:
         self.cells = self.random.randrange(3)
         params = self.random.randrange(3)
         self.registers = params + self.random.randrange(1, 4)
+        self.first_site, self.sites = len(self.code.sites), self.random.randrange(1, 3)
+        self.code.sites += [(0, 1, self.number)] * self.sites
         block = self.block(self.random.randrange(6), False, False, False)
         block.append(self.pick([("Return",)] * 4 + [("Fail", 4, self.site())]))
         start = len(self.code.instructions)
@@ -262,7 +288,7 @@ class CodeMaker:
         """Code with so many instructions spoiled."""
         self.code = Tables()
         self.code.names = [b"A", b"f"]
-        self.code.sites = [(0, 1)] * self.random.randrange(1, 3)
+        self.code.sites = []
         self.code.sets = [[1, 5], []][: self.random.randrange(3)]
         self.code.maps = [[], [0], [1], [0, 1], [1, 1]]
         for _ in range(self.random.randrange(1, 4)):

@@ -1,17 +1,20 @@
 """Images that are changed at random, and what a second reading says of an image."""
 
-from codes import IMAGES, u32
+from codes import IMAGES, turned, u32
 from reference import code as rules
 
 
 def second_reading(image):
-    """What the second reading says of an image, and its tables where it accepts it."""
+    """What the second reading says of an image, and its tables where it accepts it. Code of version 1 is turned, so that it is
+    another image when it is written again."""
     try:
         code = IMAGES.Code(image)
     except IMAGES.Fault as fault:
         return fault.code if fault.code in ("I1", "I2") else "%s at %d" % (fault.code, fault.at), None
+    answer = "ok" if code.version == 2 else "turned"
+    code = code if code.version == 2 else turned(code)
     refusal = rules.refusal(code)
-    return ("I6 " + refusal, None) if refusal else ("ok", code)
+    return ("I6 " + refusal, None) if refusal else (answer, code)
 
 
 def second_answer(image):

@@ -1,6 +1,6 @@
 """Help on K1, K2 and X1: sizes, and limits."""
 
-from reference.sizes import COUNTS, Sizing, definition_nodes, element_kind, field_kind, field_lists, fields_kind, tree_fields
+from reference.sizes import COUNTS, Sizing, action_nodes, definition_nodes, element_kind, field_kind, field_lists, fields_kind, tree_fields
 
 from .spelling import quoted
 
@@ -136,6 +136,12 @@ def nodes(module, tree, trees):
     return [said, "`%s` has %d of them; the largest: %s." % (tree.name[1], counts[-1], ", ".join("`%s` %d" % (name, count) for count, name in largest))]
 
 
+def action(module, tree, trees):
+    longest = max((field for fields in tree_fields(tree) for field in fields), key=action_nodes)
+    said = passed("action", action_nodes(longest), "`" + tree.name[1] + "` has an action of %d nodes")
+    return [said, "It is that of `%s`, at %s." % (longest.name[1], module.place(longest.name[2]))]
+
+
 def cells(module, tree, trees):
     counts = []
     for parameter in tree.parameters:
@@ -178,7 +184,8 @@ def weight(module, tree, trees):
 
 
 BY_LIMIT = {
-    "definitions": definitions, "fields": fields, "cases": cases, "parameters": parameters, "nodes": nodes, "cells": cells, "depth": depth, "weight": weight,
+    "definitions": definitions, "fields": fields, "cases": cases, "parameters": parameters, "nodes": nodes, "action": action,
+    "cells": cells, "depth": depth, "weight": weight,
 }  # fmt: skip
 MENDS = {
     "definitions": "put constants into enums, and write alike types once, with parameters.",
@@ -186,6 +193,7 @@ MENDS = {
     "cases": "join cases with the same fields in `default`, tested by a refinement, or switch twice, on a part of the value each time.",
     "parameters": "deliver by an output record, which is one parameter.",
     "nodes": "write alike types once, with parameters, and list values in enums in place of long conditions.",
+    "action": "divide it: `unit` fields behind the field may have actions of their own.",
     "cells": "deliver what is needed alone, or wider cells.",
     "depth": "write an inner type's fields where it is named, or name it from fewer levels.",
     "weight": "nest arrays less: an array's element counts twice, at each level.",

@@ -46,7 +46,7 @@ class Routine:
         self.lines.append("    " * self.depth + line)
 
     def site(self, site):
-        ty, field = self.code.sites[site]
+        ty, field, _ = self.code.sites[site]
         return '"%s", "%s"' % (self.code.name(ty), self.code.name(field))
 
     def put_failure(self, reason, site, place="start"):

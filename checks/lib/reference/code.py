@@ -142,10 +142,16 @@ def keeps_nesting(routine, place, lower):
     return kind != "While" or operands[0] - 1 not in reached_idly(routine, place + 1, lower)
 
 
+def is_own_site(routine, number):
+    """Whether a site is there, and the routine's; in code of version 1 none names its routine, so each may be."""
+    sites = routine.code.sites
+    return number < len(sites) and sites[number][2] in (None, routine.number)
+
+
 def keeps_tables(routine, place):
     code = routine.code
     kind, *operands = routine.at(place)
-    if kind in SITES and operands[SITES[kind]] >= len(code.sites):
+    if kind in SITES and not is_own_site(routine, operands[SITES[kind]]):
         return False
     if kind == "Member":
         return operands[2] < len(code.sets)

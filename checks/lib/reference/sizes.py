@@ -79,7 +79,7 @@ def check_kinds(types):
 
 # ---- Limits, told on trees. Nodes are definitions, parameters, fields, cases, items, statements and expression nodes.
 
-COUNTS = {"definitions": 1000, "fields": 256, "cases": 256, "parameters": 16, "nodes": 20_000}
+COUNTS = {"definitions": 4000, "fields": 256, "cases": 256, "parameters": 16, "nodes": 60_000, "action": 20_000}
 
 
 def expression_nodes(tree):
@@ -93,10 +93,14 @@ def statement_nodes(tree):
     return nodes + sum(statement_nodes(inner) for name in ("one", "other") for inner in getattr(tree, name, []))
 
 
+def action_nodes(field):
+    """Of a field's action: its statements, and the nodes of their expressions."""
+    return sum(statement_nodes(tree) for tree in field.action.body) if field.action else 0
+
+
 def inner_nodes(field):
     """Of a field's expressions and statements."""
-    nodes = sum(expression_nodes(tree) for tree in field.arguments + [field.size, field.refinement])
-    return nodes + sum(statement_nodes(tree) for tree in field.action.body) if field.action else nodes
+    return sum(expression_nodes(tree) for tree in field.arguments + [field.size, field.refinement]) + action_nodes(field)
 
 
 def tree_fields(tree):
@@ -124,6 +128,7 @@ def check_counts(trees):
             "cases": len(getattr(tree, "cases", [])),
             "parameters": len(getattr(tree, "parameters", [])),
             "nodes": nodes,
+            "action": max([action_nodes(field) for fields in tree_fields(tree) for field in fields], default=0),
         }
         for which, most in COUNTS.items():
             if found[which] > most:
