@@ -1,5 +1,5 @@
 -- What C is answered of a module text.
-use Rattle.std.specs.Prelude.{◌≡◌, ℕ, ℤ, pos, ◌<◌, ◌≤◌, ◌↔◌, List, length, take}
+use Rattle.std.specs.Prelude.{◌≡◌, ◌⊎◌, ℕ, ℤ, pos, ◌<◌, ◌≤◌, ◌↔◌, List, length, take}
 use Rattle.td_core.specs.declared.module.Module.{Module}
 use Rattle.td_coding.specs.Coding.{IsPacked}
 use Rattle.td_front.specs.declared.error.FrontError.{FrontError}
@@ -20,8 +20,15 @@ HasImage text size = (bytes : List ℕ) × IsImageOf text bytes × (size ≡ len
 abbrev pub HasRefusal : List ℕ → TdPacked → Type 0
 HasRefusal text told = (e : FrontError) × RefusedBy text e × IsTold text e told
 
--- each number is answered only where its cause holds, and left in the room for the image and in what is told what it says
+-- the numbers that are answered: the image is written, there was no memory, the text has too many bytes, it is refused, or the image
+-- has more bytes than there is room for
+abbrev pub IsAnswer : ℤ → Type 0
+IsAnswer code = (code ≡ pos 0) ⊎ ((code ≡ pos 4) ⊎ ((code ≡ pos 21) ⊎ ((code ≡ pos 22) ⊎ (code ≡ pos 23))))
+
+-- each number is answered only where its cause holds, and left in the room for the image and in what is told what it says; want of
+-- memory (4) has no cause
 pub record IsPacking (text image : List ℕ) (told : TdPacked) (code : ℤ) : Type 0 where
+  pub answer : IsAnswer code
   pub done : code ≡ pos 0 → IsImageOf text (take told.size image) × (told.size ≤ length image)
   pub room : code ≡ pos 23 → HasImage text told.size × (length image < told.size)
   pub refused : code ≡ pos 22 → HasRefusal text told
