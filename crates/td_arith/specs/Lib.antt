@@ -1,4 +1,5 @@
 pub mod SafeModule
+pub mod Sides
 pub mod Sizes
 pub mod Laws
 pub mod Known

@@ -6,8 +6,9 @@ ghost use Rattle.td_expr.specs.Facts.{facts_of};
 ghost use Rattle.td_arith.specs.Known.{facts_in};
 ghost use Rattle.td_arith.specs.SafeModule.{deed_unsafe, action_unsafe};
 
+use crate::comparisons::Known;
 use crate::expressions::first_of;
-use crate::facts::Known;
+use crate::learning::learn_condition;
 use crate::walk::expression_unsafe;
 use std::alloc::{AllocError, Global};
 use td_core::actions::{Action, Step};
@@ -45,9 +46,10 @@ fn branch_unsafe<'a>(
         deed_unsafe (facts_in known.old.items ++ facts_of truth condition.now) branch.now) }
     ensures same { OnOk result (known.new.items ≡ known.old.items) }
 {
-    known.push(Known { truth, condition })?;
+    let before = known.len();
+    learn_condition(truth, condition, known)?;
     let found = steps_unsafe(alloc, branch, known)?;
-    known.pop();
+    known.truncate(before);
     Ok(found)
 }
 

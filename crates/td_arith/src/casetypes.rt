@@ -6,8 +6,8 @@ ghost use Rattle.td_expr.specs.Safe.{first, first_unsafe};
 ghost use Rattle.td_arith.specs.Memory.{HasInside};
 ghost use Rattle.td_arith.specs.SafeModule.{known_after, fields_unsafe, cases_unsafe, default_unsafe, body_unsafe, definition_unsafe};
 
+use crate::comparisons::Known;
 use crate::expressions::first_of;
-use crate::facts::Known;
 use crate::fields::{fields_unsafe, learn, test_unsafe};
 use crate::walk::expression_unsafe;
 use std::alloc::{AllocError, Global};

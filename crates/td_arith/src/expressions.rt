@@ -9,7 +9,8 @@ ghost use Rattle.td_expr.specs.Safe.{is_safe, is_below, first, unless_safe, says
 ghost use Rattle.td_ranges.specs.Ends.{range_in, spanned};
 ghost use Rattle.td_arith.specs.Known.{facts_in};
 
-use crate::facts::{Known, Question, narrowed, some_known};
+use crate::comparisons::Known;
+use crate::facts::{Question, narrowed, some_known};
 use std::alloc::{AllocError, Global};
 use td_ast::token::Span;
 use td_core::expressions::{Binary, CoreExpr, Scalar};

@@ -6,8 +6,9 @@ ghost use Rattle.td_arith.specs.Known.{facts_in};
 ghost use Rattle.td_arith.specs.SafeModule.{option_unsafe, known_after, list_unsafe, element_unsafe, extent_unsafe, part_unsafe, parts_unsafe, known_after_parts, field_unsafe, fields_unsafe};
 
 use crate::actions::action_unsafe;
+use crate::comparisons::Known;
 use crate::expressions::first_of;
-use crate::facts::Known;
+use crate::learning::learn_condition;
 use crate::walk::expression_unsafe;
 use std::alloc::{AllocError, Global};
 use td_core::expressions::CoreExpr;
@@ -37,10 +38,7 @@ pub fn learn<'a>(test: &'a Option<CoreExpr>, known: &mut Vec<Known<'a>>) -> Resu
     ensures memory { OnErr result (test.now ≢ None) }
 {
     if let Some(condition) = test {
-        known.push(Known {
-            truth: true,
-            condition,
-        })?;
+        learn_condition(true, condition, known)?;
     }
     Ok(())
 }

@@ -5,10 +5,12 @@
 
 pub mod actions;
 pub mod casetypes;
+pub mod comparisons;
 pub mod error;
 pub mod expressions;
 pub mod facts;
 pub mod fields;
 pub mod laws;
+pub mod learning;
 pub mod modules;
 pub mod walk;

@@ -10,8 +10,10 @@ ghost use Rattle.td_expr.specs.Safe.{is_safe, first, first_unsafe, unless_safe};
 ghost use Rattle.td_ranges.specs.Ends.{range_in, spanned};
 ghost use Rattle.td_arith.specs.Known.{facts_in};
 
+use crate::comparisons::Known;
 use crate::expressions::{computed_range, first_of, is_safe, spanned_range, unless, whole_range};
-use crate::facts::{Known, narrowed};
+use crate::facts::narrowed;
+use crate::learning::learn_condition;
 use std::alloc::{AllocError, Global};
 use td_ast::token::Span;
 use td_core::expressions::{Binary, CoreExpr, Node};
@@ -135,9 +137,10 @@ fn unsafe_under<'a>(
         first_unsafe (facts_in known.old.items ++ facts_of truth condition.now) e.now) }
     ensures same { OnOk result (known.new.items ≡ known.old.items) }
 {
-    known.push(Known { truth, condition })?;
+    let before = known.len();
+    learn_condition(truth, condition, known)?;
     let found = expression_unsafe(alloc, e, known)?;
-    known.pop();
+    known.truncate(before);
     Ok(found)
 }
 
@@ -271,8 +274,9 @@ fn look_under<'a>(
         first_unsafe (facts_in known.old.items ++ facts_of truth condition.now) e.now) }
     ensures same { OnOk result (known.new.items ≡ known.old.items) }
 {
-    known.push(Known { truth, condition })?;
+    let before = known.len();
+    learn_condition(truth, condition, known)?;
     let seen = look(alloc, e, known)?;
-    known.pop();
+    known.truncate(before);
     Ok(seen)
 }
