@@ -1,7 +1,7 @@
 /* td.h: messages in memory that others keep storing to, validated by verified code.
 
-   A session is opened once, from an image (`td pack <MODULE >IMAGE`). From then on only td_again and td_validate_parts
-   ask for memory, and no call waits for anybody. Each 64-bit word of a message is loaded at most once, by one atomic load, and only where a
+   A session is opened once, from an image (`td pack <MODULE >IMAGE`). From then on only td_again, td_validate_parts and the calls that open
+   codes, seats and their sessions ask for memory, and no call waits for anybody. Each 64-bit word of a message is loaded at most once, by one atomic load, and only where a
    byte of it is looked at; nothing is expected of what a load gives. docs/c-library.md says what a program owes, and
    what is proved. Each function but td_close answers a td_code. */
 #ifndef TD_H
@@ -18,12 +18,12 @@ typedef enum {
   TD_DONE = 0,
   TD_REJECTED = 1,  /* td_validate: position and reason are in the call, the frames by td_frame */
   TD_UNFIT = 2,     /* arguments or cells are more or fewer than the entry point's, or one is too wide; nothing was loaded */
-  TD_CLOSED = 3,    /* the handle holds no session */
+  TD_CLOSED = 3,    /* the handle holds no session (no codes, no seat) */
   TD_NO_MEMORY = 4,
-  TD_MISSING = 5,   /* the code has no such entry point, parameter, cell or name, or the last failure no such frame */
+  TD_MISSING = 5,   /* the code has no such entry point, parameter, cell or name, the last failure no such frame, or there is no such code */
   TD_PAST = 6,      /* the message doesn't lie within the words; nothing was loaded */
   TD_POINTER = 7,   /* a pointer is null, or that of the words isn't aligned to 8 */
-  TD_TOO_MUCH = 8,  /* a message of more than 64 stretches, or of 2^32 bytes and more; nothing was loaded */
+  TD_TOO_MUCH = 8,  /* a message of more than 64 stretches, or of 2^32 bytes and more, and nothing was loaded; more than 17 codes */
   TD_I1 = 11,       /* the bytes are no image */
   TD_I2 = 12,       /* unknown version */
   TD_I3 = 13,       /* the image is too short: the place is its length */
@@ -63,6 +63,8 @@ typedef struct {
   uint32_t unused;
   uint64_t frame_count;            /* out, likewise */
   uint64_t load_count;             /* out, likewise: how many loads were made, each of another word of the message */
+  uint64_t step_count;             /* out, likewise: how many steps of code were run: one for each instruction, and for each byte or element
+                                      that one looks at for zeros (docs/language/code.md); 2^64 - 1 where they are more */
   uint64_t args[16];               /* in */
   uint64_t cells[64];              /* in and out: as the validation left them, where it rejected, too */
 } td_call;
@@ -74,6 +76,11 @@ typedef struct { uint32_t place, size; } td_stretch;
 
 /* A load that was made: the stretch, from 0 (0 where the message is one), the word of the words, and what the load gave. */
 typedef struct { uint32_t stretch, word; uint64_t value; } td_load;
+
+/* Codes of which one is published after the other, so that a validator is replaced while others validate (a handle as td_session is, for the one
+   who publishes), and a seat that asks which one is published (for each thread). */
+typedef struct { td_session inner; } td_codes;
+typedef struct { td_session inner; } td_seat;
 
 /* The exports. A program calls the functions below in their place. */
 int32_t td_c_open(td_session *s, bool full, const uint8_t *image, size_t size, td_fault *fault);
@@ -88,6 +95,13 @@ int32_t td_c_name(td_session *s, bool full, uint32_t number, uint8_t *bytes, siz
 int32_t td_c_validate(td_session *s, bool full, td_call *call, td_words *words, size_t count, td_load *loads, size_t room);
 int32_t td_c_validate_parts(td_session *s, bool full, td_call *call, const td_stretch *parts, size_t part_count, td_words *words,
                             size_t count, td_load *loads, size_t room);
+int32_t td_c_codes(td_session *s, bool full);
+int32_t td_c_add(td_session *s, bool full, const uint8_t *image, size_t size, td_fault *fault);
+int32_t td_c_begin(td_session *s, bool full);
+int32_t td_c_publish(td_session *s, bool full, uint32_t *number);
+int32_t td_c_seat(td_session *s, bool full, td_session *other, bool other_full);
+int32_t td_c_current(td_session *s, bool full, uint32_t *number);
+int32_t td_c_version(td_session *s, bool full, uint32_t number, td_session *other, bool other_full);
 
 /* Reads an image, verifies its code and takes room for validations. Where this is done, what the handle held is freed; else
    the handle is as before, and the fault says where the bytes are no image (TD_I3 to TD_I6). The bytes are the caller's
@@ -175,6 +189,57 @@ static inline int32_t td_validate_parts(td_session *s, const uint64_t *words, si
                                         size_t part_count, td_call *call) {
   td_load none = {0, 0, 0};
   return td_validate_parts_loads(s, words, count, parts, part_count, call, &none, 0);
+}
+
+/* A handle for codes, which has none yet. What it held before is freed. */
+static inline int32_t td_codes_open(td_codes *c) {
+  if (!c) return TD_POINTER;
+  return td_c_codes(&c->inner, c->inner.full);
+}
+
+/* A code more, by its image; they are numbered from 0 in this order. TD_TOO_MUCH: there are 17. TD_CLOSED: the handle isn't open, or the first
+   one is published already. */
+static inline int32_t td_codes_add(td_codes *c, const void *image, size_t size, td_fault *fault) {
+  if (!c || !image || !fault) return TD_POINTER;
+  return td_c_add(&c->inner, c->inner.full, (const uint8_t *)image, size, fault);
+}
+
+/* From now on code 0 is published, and no code is added any more. TD_MISSING: there is none. TD_NO_MEMORY: the codes are freed. */
+static inline int32_t td_codes_begin(td_codes *c) {
+  if (!c) return TD_POINTER;
+  return td_c_begin(&c->inner, c->inner.full);
+}
+
+/* Publishes the next code, in one store, and tells its number. TD_MISSING: the last one is published. */
+static inline int32_t td_codes_publish(td_codes *c, uint32_t *number) {
+  if (!c || !number) return TD_POINTER;
+  return td_c_publish(&c->inner, c->inner.full, number);
+}
+
+/* A seat, for another thread. It may be used after the codes were closed. */
+static inline int32_t td_codes_seat(td_codes *c, td_seat *seat) {
+  if (!c || !seat || &c->inner == &seat->inner) return TD_POINTER;
+  return td_c_seat(&c->inner, c->inner.full, &seat->inner, seat->inner.full);
+}
+
+static inline void td_codes_close(td_codes *c) {
+  if (c) td_close(&c->inner);
+}
+
+/* Loads which code is published, in one load: its number. The numbers that a seat loads never fall. */
+static inline int32_t td_seat_current(td_seat *seat, uint32_t *number) {
+  if (!seat || !number) return TD_POINTER;
+  return td_c_current(&seat->inner, seat->inner.full, number);
+}
+
+/* A session by the code of this number, with room of its own: one for each code is opened before the first message comes. */
+static inline int32_t td_seat_session(td_seat *seat, uint32_t number, td_session *s) {
+  if (!seat || !s || &seat->inner == s) return TD_POINTER;
+  return td_c_version(&seat->inner, seat->inner.full, number, s, s->full);
+}
+
+static inline void td_seat_close(td_seat *seat) {
+  if (seat) td_close(&seat->inner);
 }
 
 /* The word for a reason in reports. */

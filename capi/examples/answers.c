@@ -46,6 +46,7 @@ static void validations(td_session *s, uint32_t entry) {
   words[1] = 36 | (uint64_t)4 << 32;
   row("a whole message", TD_ACCEPTED, td_validate(s, words, 8, &call));
   printf("position %u reason %s data %llu of %llu\n", call.position, td_reason_word(call.reason), (unsigned long long)call.cells[3], (unsigned long long)call.cells[4]);
+  row("a step or more for each load", 1, call.step_count >= call.load_count && call.load_count > 0);
   td_frame_row frame = {0};
   row("a frame where it accepted", TD_MISSING, td_frame(s, 0, &frame));
   call = asked(entry);

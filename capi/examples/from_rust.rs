@@ -31,6 +31,7 @@ struct TdCall {
     unused: u32,
     frame_count: u64,
     load_count: u64,
+    step_count: u64,
     args: [u64; 16],
     cells: [u64; 64],
 }

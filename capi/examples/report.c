@@ -1,5 +1,5 @@
-/* Validates one message and writes the report of `td run`: report IMAGE ENTRY PLACE ARGS HEX[.MORE], where ARGS are numbers with commas, or
-   -. The message begins at byte PLACE of the words, and MORE are bytes behind it; or PLACE is stretches, as 36+8,2+22, of the bytes that HEX is.
+/* Validates one message and writes the report of `td run`, and how many steps of code were run: report IMAGE ENTRY PLACE ARGS HEX[.MORE], where
+   ARGS are numbers with commas, or -. The message begins at byte PLACE of the words, and MORE are bytes behind it; or PLACE is stretches, as 36+8,2+22, of the bytes that HEX is.
    Loads are written where `td run` has them too: of a message at byte 0, or of stretches. */
 #include "common.h"
 
@@ -97,6 +97,7 @@ int main(int argc, char **argv) {
   say_frames(&s, &call);
   say_cells(&s, &call);
   if (part_count || call.place == 0) say_loads(&call, part_count);
+  printf("steps %llu\n", (unsigned long long)call.step_count);
   td_close(&s);
   return 0;
 }

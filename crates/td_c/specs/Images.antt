@@ -1,5 +1,5 @@
 -- Why bytes are no image, as the numbers that C is given.
-use Rattle.std.specs.Prelude.{◌≡◌, ℕ, ℤ, pos, List}
+use Rattle.std.specs.Prelude.{◌≡◌, ◌⊎◌, ℕ, ℤ, pos, List}
 use Rattle.td_ir.specs.declared.tables.Parts.{Parts}
 use Rattle.td_verify.specs.declared.rule.Rule.{Rule}
 use Rattle.td_verify.specs.declared.rule.Rule.TheVariants as rules
@@ -16,8 +16,13 @@ rule_number rules.Table = 5
 rule_number rules.Weight = 6
 rule_number rules.Operand = 7
 
--- each code is answered only where its cause holds of the bytes
+-- the numbers that are answered: a session is open, there was no memory, or the bytes are no image: 11 to 16 for I1 to I6
+abbrev pub IsOpening : ℤ → Type 0
+IsOpening code = (code ≡ pos 0) ⊎ ((code ≡ pos 4) ⊎ ((code ≡ pos 11) ⊎ ((code ≡ pos 12) ⊎ ((code ≡ pos 13) ⊎ ((code ≡ pos 14) ⊎ ((code ≡ pos 15) ⊎ (code ≡ pos 16)))))))
+
+-- each is answered only where its cause holds of the bytes; want of memory (4) has no cause
 pub record IsFault (code : ℤ) (fault : TdFault) (bytes : List ℕ) : Type 0 where
+  pub answer : IsOpening code
   pub magic : code ≡ pos 11 → IsRefused bytes errors.Magic
   pub version : code ≡ pos 12 → IsRefused bytes errors.Version
   pub short : code ≡ pos 13 → IsRefused bytes (errors.Short fault.place)

@@ -1,5 +1,5 @@
 -- What a handle holds, and what is said of it.
-use Rattle.std.specs.Prelude.{◌≡◌, ℕ, ℤ, pos, List, IsSomeAnd}
+use Rattle.std.specs.Prelude.{◌≡◌, ◌⊎◌, ℕ, ℤ, pos, List, IsSomeAnd}
 use Rattle.std.specs.declared.option.Option.{Option}
 use Rattle.std.specs.declared.option.Option.TheVariants.{None, Some}
 use Rattle.std.specs.Arc.{arc_value}
@@ -12,10 +12,6 @@ use Rattle.td_c.specs.declared.handle.Slot.{Slot}
 use Rattle.td_c.specs.declared.call.TdCall.{TdCall}
 use Rattle.td_c.specs.Asked.{HasAnswered}
 use Rattle.td_c.specs.Numbers.{answer_number}
-
--- the slot holds this session
-abbrev pub Holds : Slot → Session → Type 0
-Holds slot s = slot.session ≡ Some s
 
 -- the slot holds a session by the code of which the bytes are the image
 abbrev pub HoldsImage : Slot → List ℕ → Type 0
@@ -48,3 +44,11 @@ IsClosed slot = slot.session ≡ None
 -- a session by the code of the slot's
 abbrev pub IsCopy : Slot → Session → Type 0
 IsCopy slot s = IsSomeAnd slot.session (λ t. arc_value s.code ≡ arc_value t.code)
+
+abbrev pub shared_by : Option Session → ℤ → Type 0
+shared_by None code = code ≡ pos 3
+shared_by (Some s) code = (code ≡ pos 0) ⊎ (code ≡ pos 4)
+
+-- the number that answers who asks for another session by the slot's code: 3 just where it holds none; else 0, or 4 for want of memory
+abbrev pub IsSharing : Slot → ℤ → Type 0
+IsSharing slot code = shared_by slot.session code

@@ -5,3 +5,4 @@ pub mod Numbers
 pub mod Parts
 pub mod Images
 pub mod Told
+pub mod Versions

@@ -1,5 +1,5 @@
 -- What C is told of a code's tables, and of the last failure.
-use Rattle.std.specs.Prelude.{◌≡◌, ℕ, ◌<◌, ◌^◌, List, length, min, take, slice_get, IsSomeAnd, Option, Some, None}
+use Rattle.std.specs.Prelude.{◌≡◌, ◌⊎◌, ℕ, ℤ, pos, ◌<◌, ◌≤◌, ◌^◌, List, length, min, take, slice_get, IsSomeAnd, Option, Some, None}
 use Rattle.std.specs.Arc.{arc_value}
 use Rattle.td_num.specs.Numbers.{bytes_in}
 use Rattle.td_core.specs.declared.module.NameId.{NameId}
@@ -15,6 +15,14 @@ use Rattle.td_c.specs.declared.handle.Slot.{Slot}
 use Rattle.td_c.specs.declared.tables.TdEntry.{TdEntry}
 use Rattle.td_c.specs.declared.tables.TdPart.{TdPart}
 use Rattle.td_c.specs.Numbers.{frame_told}
+
+abbrev pub looked_up_by : Option Session → ℤ → Type 0
+looked_up_by None code = code ≡ pos 3
+looked_up_by (Some s) code = (code ≡ pos 0) ⊎ (code ≡ pos 5)
+
+-- the number that answers what is looked up in a slot: 3 just where it holds no session, else 0 (it is there) or 5 (it isn't)
+abbrev pub IsLookup : Slot → ℤ → Type 0
+IsLookup slot code = looked_up_by slot.session code
 
 -- the first entry point of a name
 abbrev pub IsFound : Slot → List ℕ → ℕ → Type 0
@@ -49,19 +57,40 @@ pub record IsEntry (s : Session) (number : ℕ) (told : TdEntry) : Type 0 where
 abbrev pub HasEntry : Slot → ℕ → TdEntry → Type 0
 HasEntry slot number told = IsSomeAnd slot.session (λ s. IsEntry s number told)
 
--- the parameter, cell or frame that stands at this place
+-- the code has no such entry point
+abbrev pub LacksEntry : Slot → ℕ → Type 0
+LacksEntry slot number = IsSomeAnd slot.session (λ s. length (arc_value s.code).entries ≤ number)
+
+-- the parameter, cell or frame that stands at this place, or that none does
 abbrev pub HasParam : Slot → ℕ → ℕ → TdPart → Type 0
-HasParam slot number place told = IsSomeAnd slot.session (λ s. (place < length (entry_of (arc_value s.code) number).params)
+HasParam slot number place told = IsSomeAnd slot.session (λ s. (number < length (arc_value s.code).entries)
+    × (place < length (entry_of (arc_value s.code) number).params)
     × (told ≡ param_told (param_of (entry_of (arc_value s.code) number).params place)))
 
+abbrev pub LacksParam : Slot → ℕ → ℕ → Type 0
+LacksParam slot number place = IsSomeAnd slot.session (λ s. (length (arc_value s.code).entries ≤ number)
+    ⊎ (length (entry_of (arc_value s.code) number).params ≤ place))
+
 abbrev pub HasCell : Slot → ℕ → ℕ → TdPart → Type 0
-HasCell slot number place told = IsSomeAnd slot.session (λ s. (place < length (entry_of (arc_value s.code) number).cells)
+HasCell slot number place told = IsSomeAnd slot.session (λ s. (number < length (arc_value s.code).entries)
+    × (place < length (entry_of (arc_value s.code) number).cells)
     × (told ≡ cell_told (cell_of (entry_of (arc_value s.code) number).cells place)))
+
+abbrev pub LacksCell : Slot → ℕ → ℕ → Type 0
+LacksCell slot number place = IsSomeAnd slot.session (λ s. (length (arc_value s.code).entries ≤ number)
+    ⊎ (length (entry_of (arc_value s.code) number).cells ≤ place))
 
 abbrev pub HasFrame : Slot → ℕ → TdFrame → Type 0
 HasFrame slot place told = IsSomeAnd slot.session (λ s. IsSomeAnd (slice_get s.frame.trace place) (λ f. told ≡ frame_told f))
+
+abbrev pub LacksFrame : Slot → ℕ → Type 0
+LacksFrame slot place = IsSomeAnd slot.session (λ s. length s.frame.trace ≤ place)
 
 -- a name's size, and as many of its bytes as there is room for
 abbrev pub HasName : Slot → ℕ → List ℕ → ℕ → Type 0
 HasName slot number bytes size = IsSomeAnd slot.session (λ s. IsSomeAnd (slice_get (arc_value s.code).names number) (λ text.
     (size ≡ length text) × (take (min (length text) (length bytes)) bytes ≡ take (min (length text) (length bytes)) text)))
+
+-- the code has no such name
+abbrev pub LacksName : Slot → ℕ → Type 0
+LacksName slot number = IsSomeAnd slot.session (λ s. length (arc_value s.code).names ≤ number)

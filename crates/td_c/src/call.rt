@@ -36,6 +36,8 @@ pub struct TdCall {
     pub frame_count: u64,
     /// How many loads were made.
     pub load_count: u64,
+    /// How many steps of code were run, 2^64 - 1 where they are more.
+    pub step_count: u64,
     pub args: [u64; 16],
     /// They begin as they are, and are left as the validation left them.
     pub cells: [u64; 64],
@@ -44,13 +46,14 @@ pub struct TdCall {
 // What a validation found, the loads that it made, and how many, and the words again.
 #[derive(Drop)]
 struct Run {
-    verdict: Option<Verdict>,
+    // With the steps.
+    verdict: Option<(Verdict, u64)>,
     made: Made,
     count: u64,
     words: TdWords,
 }
 
-// Validates a message that lies so in the words, and notes the loads: the verdict, and how many they are.
+// Validates a message that lies so in the words, and notes the loads: the verdict with its steps, and how many loads they are.
 fn run_noted<W: Words>(
     session: &mut Session,
     entry: Entry,
@@ -59,13 +62,13 @@ fn run_noted<W: Words>(
     layout: &Layout,
     words: &mut W,
     rows: &mut [TdLoad],
-) -> (Option<Verdict>, u64)
+) -> (Option<(Verdict, u64)>, u64)
     requires message { W.size words.old ≡ count_in layout.now }
     requires fresh { W.loads words.old ≡ [] }
     ensures code { arc_value session.new.code ≡ arc_value session.old.code }
     ensures fits { IsSome result.0 ↔ Fits (arc_value session.old.code) entry args.now cells.old }
     ensures validated { IfSome result.0 (λ v. IsValidated (arc_value session.old.code) entry args.now cells.old layout.now (W.loads words.new)
-        (record { verdict = v; trace = session.new.frame.trace; cells = cells.new })) }
+        (record { verdict = v.0; trace = session.new.frame.trace; cells = cells.new }) v.1) }
     ensures reaches { W.reaches words.old words.new }
     ensures unloaded { IsNone result.0 → W.loads words.new ≡ [] }
     ensures noted { IsNoted layout.now (W.loads words.new) result.1 rows.new }
@@ -91,7 +94,7 @@ fn run_session(
     ensures code { arc_value session.new.code ≡ arc_value session.old.code }
     ensures fits { IsSome result.verdict ↔ Fits (arc_value session.old.code) entry args.now cells.old }
     ensures validated { IfSome result.verdict (λ v. IsValidated (arc_value session.old.code) entry args.now cells.old layout.now result.made
-        (record { verdict = v; trace = session.new.frame.trace; cells = cells.new })) }
+        (record { verdict = v.0; trace = session.new.frame.trace; cells = cells.new }) v.1) }
     ensures unloaded { IsNone result.verdict → result.made ≡ [] }
     ensures loaded { result.words.made ≡ buffered (Some layout.now) result.made }
     ensures noted { IsNoted layout.now result.made result.count rows.new }
@@ -127,7 +130,7 @@ fn run_front(
     ensures code { arc_value session.new.code ≡ arc_value session.old.code }
     ensures fits { IsSome result.verdict ↔ Fits (arc_value session.old.code) entry (take arg_count args.now) (take cell_count cells.old) }
     ensures validated { IfSome result.verdict (λ v. IsValidated (arc_value session.old.code) entry (take arg_count args.now) (take cell_count cells.old) layout.now result.made
-        (record { verdict = v; trace = session.new.frame.trace; cells = take cell_count cells.new })) }
+        (record { verdict = v.0; trace = session.new.frame.trace; cells = take cell_count cells.new }) v.1) }
     ensures unloaded { IsNone result.verdict → result.made ≡ [] }
     ensures loaded { result.words.made ≡ buffered (Some layout.now) result.made }
     ensures noted { IsNoted layout.now result.made result.count rows.new }
@@ -153,7 +156,7 @@ fn run_call(
     ensures code { arc_value session.new.code ≡ arc_value session.old.code }
     ensures fits { IsSome result.verdict ↔ Fits (arc_value session.old.code) (entry_asked call.old) (args_of call.old) (cells_of call.old) }
     ensures validated { IfSome result.verdict (λ v. IsValidated (arc_value session.old.code) (entry_asked call.old) (args_of call.old) (cells_of call.old) layout.now result.made
-        (record { verdict = v; trace = session.new.frame.trace; cells = cells_of call.new })) }
+        (record { verdict = v.0; trace = session.new.frame.trace; cells = cells_of call.new }) v.1) }
     ensures unloaded { IsNone result.verdict → result.made ≡ [] }
     ensures loaded { result.words.made ≡ buffered (Some layout.now) result.made }
     ensures noted { IsNoted layout.now result.made result.count rows.new }
@@ -204,12 +207,13 @@ pub(crate) fn validate(
         words,
     } = run_call(session, call, layout, words, rows);
     match verdict {
-        Some(verdict) => {
+        Some((verdict, steps)) => {
             let (position, reason) = told(verdict);
             call.position = position;
             call.reason = reason;
             call.frame_count = session.trace().len() as u64;
             call.load_count = count;
+            call.step_count = steps;
             (Ok(verdict), made, words)
         }
         None => (Err(Refusal::Unfit), made, words),

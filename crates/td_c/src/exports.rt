@@ -2,42 +2,36 @@
 
 ghost use Rattle.std.specs.Prelude.{◌≡◌, ◌⊎◌, ◌↔◌, [], IsTrue, IfOk, IfErr, pos, true, false};
 ghost use Rattle.td_stream.specs.Layouts.{AreWithin};
-ghost use Rattle.td_c.specs.Kept.{HoldsImage, SameCode, Holds, IsAnswered, IsClosed, IsCopy};
+ghost use Rattle.td_c.specs.Kept.{HoldsImage, SameCode, IsAnswered, IsClosed, IsCopy, IsSharing};
 ghost use Rattle.td_c.specs.Asked as asked;
 ghost use Rattle.td_c.specs.Parts.{stretches_told, IsTooMuch};
 ghost use Rattle.td_c.specs.Images.{IsFault};
 
-use crate::answers::{CLOSED, DONE, NO_MEMORY, Refusal, number_of};
+use crate::answers::{CLOSED, DONE, NO_MEMORY, number_of};
 use crate::call::{TdCall, validate_within};
 use crate::handle::{Slot, TdSession};
 use crate::images::{TdFault, code_of};
 use crate::parts::{TdStretch, is_within, layout_of};
 use std::alloc::Global;
 use std::mem;
-use td_foreign::{Made, TdLoad, TdWords};
+use td_foreign::{TdLoad, TdWords};
 use td_session::session::Session;
 use td_stream::layout::Layout;
 
-// Puts a session into a handle's slot; one that has no slot yet gets one.
-fn put(alloc: Global, handle: &mut TdSession, full: bool, session: Session) -> i32
+/// Puts something into a handle's slot; a handle that has no slot yet gets one.
+pub(crate) fn put(alloc: Global, handle: &mut TdSession, full: bool, content: Slot) -> i32
     requires { handle.old.full ≡ full }
-    ensures held { result ≡ pos 0 → (handle.new.full ≡ true) × Holds handle.new.value session }
-    ensures memory { (result ≡ pos 0 → ⊥) → result ≡ pos 4 }
+    ensures which { (result ≡ pos 0) ⊎ (result ≡ pos 4) }
+    ensures held { result ≡ pos 0 → (handle.new.full ≡ true) × (handle.new.value ≡ content) }
+    ensures kept { result ≡ pos 4 → handle.new ≡ handle.old }
 {
     if full {
         let slot = handle.take();
-        slot.session = Some(session);
+        *slot = content;
         handle.put(slot);
         return DONE;
     }
-    let Ok(held) = Box::new(
-        alloc,
-        Slot {
-            session: Some(session),
-            answer: Err(Refusal::Unfit),
-            made: Made::new(),
-        },
-    ) else {
+    let Ok(held) = Box::new(alloc, content) else {
         return NO_MEMORY;
     };
     handle.put(Box::leak(held));
@@ -56,18 +50,19 @@ pub extern "C" fn td_c_open(
     requires { handle.old.full ≡ full }
     // Where it is done, the handle holds the code of which the bytes are the image.
     ensures opened { result ≡ pos 0 → (handle.new.full ≡ true) × HoldsImage handle.new.value image.now }
-    // Else the code says why the bytes are no image, or there was no memory.
+    // Else the number says why the bytes are no image, or there was no memory, and the handle is as before.
     ensures refused { IsFault result fault.new image.now }
+    ensures kept { (result ≡ pos 0 → ⊥) → handle.new ≡ handle.old }
 {
     match Session::read(alloc, image) {
-        Ok(session) => put(alloc, handle, full, session),
+        Ok(session) => put(alloc, handle, full, Slot::of_session(session)),
         Err(error) => code_of(error, fault),
     }
 }
 
 fn again(alloc: Global, slot: &Slot) -> Result<Session, i32>
     ensures copy { IfOk result (λ s. IsCopy slot.now s) }
-    ensures code { IfErr result (λ code. code ≡ pos 0 → ⊥) }
+    ensures code { IfErr result (λ code. IsSharing slot.now code × (code ≡ pos 0 → ⊥)) }
 {
     match &slot.session {
         Some(session) => match session.again(alloc) {
@@ -89,7 +84,10 @@ pub extern "C" fn td_c_again(
 ) -> i32
     requires handle { handle.old.full ≡ full }
     requires other { other.old.full ≡ other_full }
+    ensures closed { full ≡ false → result ≡ pos 3 }
+    ensures answer { full ≡ true → IsSharing handle.old.value result }
     ensures kept { full ≡ true → (handle.new.full ≡ true) × (handle.new.value ≡ handle.old.value) }
+    ensures other { (result ≡ pos 0 → ⊥) → other.new ≡ other.old }
     ensures again { result ≡ pos 0 → (full ≡ true) × (other.new.full ≡ true) × SameCode handle.old.value other.new.value }
 {
     if !full {
@@ -99,7 +97,7 @@ pub extern "C" fn td_c_again(
     let made = again(alloc, slot);
     handle.put(slot);
     match made {
-        Ok(session) => put(alloc, other, other_full, session),
+        Ok(session) => put(alloc, other, other_full, Slot::of_session(session)),
         Err(code) => code,
     }
 }
@@ -108,11 +106,12 @@ pub extern "C" fn td_c_again(
 #[unsafe(no_mangle)]
 pub extern "C" fn td_c_close(handle: &mut TdSession, full: bool)
     requires { handle.old.full ≡ full }
-    ensures { full ≡ true → (handle.new.full ≡ true) × IsClosed handle.new.value }
+    ensures closed { full ≡ true → (handle.new.full ≡ true) × IsClosed handle.new.value }
+    ensures kept { full ≡ false → handle.new ≡ handle.old }
 {
     if full {
         let slot = handle.take();
-        slot.session = None;
+        *slot = Slot::empty();
         handle.put(slot);
     }
 }

@@ -1,23 +1,72 @@
 //! A session as C holds it.
 
-ghost use Rattle.std.specs.Prelude.{◌≡◌, true, false};
+ghost use Rattle.std.specs.Prelude.{◌≡◌, true, false, Some, None};
 ghost use Rattle.td_c.specs.Handle.{handle_owns, slot_coded};
 ghost use Rattle.td_c.specs.declared.handle.Slot.{Slot as kept};
 
-use crate::answers::Answer;
+use crate::answers::{Answer, Refusal};
 use std::marker::Model;
 use std::{mem, ptr};
 use td_foreign::Made;
 use td_session::session::Session;
+use td_session::versions::{Publisher, Reader};
+use td_verify::verify::Verified;
 
-/// Where a session stands, or none, with what the last validation found: its answer, and the loads that it made. Its place is
-/// never freed, and is used again.
+/// Where a session stands, or none, with what the last validation found: its answer, and the loads that it made; or what a handle has
+/// of codes of which one is published after the other. Its place is never freed, and is used again.
 #[derive(Drop)]
 pub struct Slot {
     pub session: Option<Session>,
     pub answer: Answer,
     // A list that has no bytes.
     pub made: Made,
+    /// Versions of which none is published yet.
+    pub waiting: Option<Vec<Verified>>,
+    pub publisher: Option<Publisher>,
+    pub reader: Option<Reader>,
+}
+
+impl Slot {
+    /// Nothing.
+    pub fn empty() -> Slot
+        ensures { (result.session ≡ None) × (result.waiting ≡ None) × (result.publisher ≡ None) × (result.reader ≡ None) }
+    {
+        Slot {
+            session: None,
+            answer: Err(Refusal::Unfit),
+            made: Made::new(),
+            waiting: None,
+            publisher: None,
+            reader: None,
+        }
+    }
+
+    /// A session alone.
+    pub fn of_session(session: Session) -> Slot
+        ensures { result.session ≡ Some session }
+    {
+        let mut slot = Slot::empty();
+        slot.session = Some(session);
+        slot
+    }
+
+    /// Versions of which none is published yet.
+    pub fn of_versions(versions: Vec<Verified>) -> Slot
+        ensures { result.waiting ≡ Some versions }
+    {
+        let mut slot = Slot::empty();
+        slot.waiting = Some(versions);
+        slot
+    }
+
+    /// A seat that loads which version is published.
+    pub fn of_reader(reader: Reader) -> Slot
+        ensures { result.reader ≡ Some reader }
+    {
+        let mut slot = Slot::empty();
+        slot.reader = Some(reader);
+        slot
+    }
 }
 
 /// A slot, or none. C sets all of it to zero before the first call, and never looks in.

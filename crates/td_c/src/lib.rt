@@ -9,3 +9,4 @@ mod handle;
 mod images;
 mod parts;
 mod tables;
+mod versions;

@@ -1,7 +1,7 @@
 //! What C calls to find entry points, names, parameters, cells and frames.
 
-ghost use Rattle.std.specs.Prelude.{◌≡◌, pos, true};
-ghost use Rattle.td_c.specs.Told.{IsFound, IsLost, HasParam, HasCell, HasFrame, HasEntry, HasName, param_told, field_told, kind_told, cell_told};
+ghost use Rattle.std.specs.Prelude.{◌≡◌, pos, true, false};
+ghost use Rattle.td_c.specs.Told.{IsLookup, IsFound, IsLost, HasParam, HasCell, HasFrame, HasEntry, HasName, LacksParam, LacksCell, LacksFrame, LacksEntry, LacksName, param_told, field_told, kind_told, cell_told};
 
 use crate::answers::{CLOSED, DONE, MISSING, TdFrame, frame_of};
 use crate::handle::{Slot, TdSession};
@@ -75,6 +75,7 @@ fn cell_of(cell: Cell) -> TdPart
 }
 
 fn find_entry(slot: &Slot, name: &[u8], number: &mut u32) -> i32
+    ensures answer { IsLookup slot.now result }
     ensures found { result ≡ pos 0 → IsFound slot.now name.now number.new }
     ensures missing { result ≡ pos 5 → IsLost slot.now name.now }
 {
@@ -99,7 +100,9 @@ pub extern "C" fn td_c_entry(
     number: &mut u32,
 ) -> i32
     requires { handle.old.full ≡ full }
+    ensures closed { full ≡ false → result ≡ pos 3 }
     ensures kept { full ≡ true → (handle.new.full ≡ true) × (handle.new.value ≡ handle.old.value) }
+    ensures answer { full ≡ true → IsLookup handle.old.value result }
     ensures found { full ≡ true → result ≡ pos 0 → IsFound handle.old.value name.now number.new }
     ensures missing { full ≡ true → result ≡ pos 5 → IsLost handle.old.value name.now }
 {
@@ -113,7 +116,9 @@ pub extern "C" fn td_c_entry(
 }
 
 fn describe(slot: &Slot, number: u32, told: &mut TdEntry) -> i32
+    ensures answer { IsLookup slot.now result }
     ensures described { result ≡ pos 0 → HasEntry slot.now number told.new }
+    ensures missing { result ≡ pos 5 → LacksEntry slot.now number }
 {
     let Some(session) = &slot.session else {
         return CLOSED;
@@ -144,8 +149,11 @@ pub extern "C" fn td_c_describe(
     told: &mut TdEntry,
 ) -> i32
     requires { handle.old.full ≡ full }
+    ensures closed { full ≡ false → result ≡ pos 3 }
     ensures kept { full ≡ true → (handle.new.full ≡ true) × (handle.new.value ≡ handle.old.value) }
+    ensures answer { full ≡ true → IsLookup handle.old.value result }
     ensures described { full ≡ true → result ≡ pos 0 → HasEntry handle.old.value number told.new }
+    ensures missing { full ≡ true → result ≡ pos 5 → LacksEntry handle.old.value number }
 {
     if !full {
         return CLOSED;
@@ -157,7 +165,9 @@ pub extern "C" fn td_c_describe(
 }
 
 fn param_at(slot: &Slot, number: u32, place: usize, told: &mut TdPart) -> i32
+    ensures answer { IsLookup slot.now result }
     ensures param { result ≡ pos 0 → HasParam slot.now number place told.new }
+    ensures missing { result ≡ pos 5 → LacksParam slot.now number place }
 {
     let Some(session) = &slot.session else {
         return CLOSED;
@@ -182,8 +192,11 @@ pub extern "C" fn td_c_param(
     told: &mut TdPart,
 ) -> i32
     requires { handle.old.full ≡ full }
+    ensures closed { full ≡ false → result ≡ pos 3 }
     ensures kept { full ≡ true → (handle.new.full ≡ true) × (handle.new.value ≡ handle.old.value) }
+    ensures answer { full ≡ true → IsLookup handle.old.value result }
     ensures param { full ≡ true → result ≡ pos 0 → HasParam handle.old.value number place told.new }
+    ensures missing { full ≡ true → result ≡ pos 5 → LacksParam handle.old.value number place }
 {
     if !full {
         return CLOSED;
@@ -195,7 +208,9 @@ pub extern "C" fn td_c_param(
 }
 
 fn cell_at(slot: &Slot, number: u32, place: usize, told: &mut TdPart) -> i32
+    ensures answer { IsLookup slot.now result }
     ensures cell { result ≡ pos 0 → HasCell slot.now number place told.new }
+    ensures missing { result ≡ pos 5 → LacksCell slot.now number place }
 {
     let Some(session) = &slot.session else {
         return CLOSED;
@@ -220,8 +235,11 @@ pub extern "C" fn td_c_cell(
     told: &mut TdPart,
 ) -> i32
     requires { handle.old.full ≡ full }
+    ensures closed { full ≡ false → result ≡ pos 3 }
     ensures kept { full ≡ true → (handle.new.full ≡ true) × (handle.new.value ≡ handle.old.value) }
+    ensures answer { full ≡ true → IsLookup handle.old.value result }
     ensures cell { full ≡ true → result ≡ pos 0 → HasCell handle.old.value number place told.new }
+    ensures missing { full ≡ true → result ≡ pos 5 → LacksCell handle.old.value number place }
 {
     if !full {
         return CLOSED;
@@ -233,7 +251,9 @@ pub extern "C" fn td_c_cell(
 }
 
 fn frame_at(slot: &Slot, place: usize, told: &mut TdFrame) -> i32
+    ensures answer { IsLookup slot.now result }
     ensures frame { result ≡ pos 0 → HasFrame slot.now place told.new }
+    ensures missing { result ≡ pos 5 → LacksFrame slot.now place }
 {
     let Some(session) = &slot.session else {
         return CLOSED;
@@ -255,8 +275,11 @@ pub extern "C" fn td_c_frame(
     told: &mut TdFrame,
 ) -> i32
     requires { handle.old.full ≡ full }
+    ensures closed { full ≡ false → result ≡ pos 3 }
     ensures kept { full ≡ true → (handle.new.full ≡ true) × (handle.new.value ≡ handle.old.value) }
+    ensures answer { full ≡ true → IsLookup handle.old.value result }
     ensures frame { full ≡ true → result ≡ pos 0 → HasFrame handle.old.value place told.new }
+    ensures missing { full ≡ true → result ≡ pos 5 → LacksFrame handle.old.value place }
 {
     if !full {
         return CLOSED;
@@ -268,7 +291,9 @@ pub extern "C" fn td_c_frame(
 }
 
 fn name_of(slot: &Slot, number: u32, bytes: &mut [u8], size: &mut u64) -> i32
+    ensures answer { IsLookup slot.now result }
     ensures name { result ≡ pos 0 → HasName slot.now number bytes.new size.new }
+    ensures missing { result ≡ pos 5 → LacksName slot.now number }
 {
     let Some(session) = &slot.session else {
         return CLOSED;
@@ -292,8 +317,11 @@ pub extern "C" fn td_c_name(
     size: &mut u64,
 ) -> i32
     requires { handle.old.full ≡ full }
+    ensures closed { full ≡ false → result ≡ pos 3 }
     ensures kept { full ≡ true → (handle.new.full ≡ true) × (handle.new.value ≡ handle.old.value) }
+    ensures answer { full ≡ true → IsLookup handle.old.value result }
     ensures name { full ≡ true → result ≡ pos 0 → HasName handle.old.value number bytes.new size.new }
+    ensures missing { full ≡ true → result ≡ pos 5 → LacksName handle.old.value number }
 {
     if !full {
         return CLOSED;

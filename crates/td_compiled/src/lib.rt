@@ -5,4 +5,4 @@
 
 pub mod compiled;
 
-pub use compiled::{validate_compiled, validate_recorded};
+pub use compiled::{validate_compiled, validate_recorded, validate_told};

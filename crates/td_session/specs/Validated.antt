@@ -1,5 +1,5 @@
 -- What a validation by code says of the message.
-use Rattle.std.specs.Prelude.{◌≡◌, ℕ, ◌+◌, ◌*◌, ◌≤◌, List, length}
+use Rattle.std.specs.Prelude.{◌≡◌, ℕ, ◌-◌, ◌^◌, List, length, min}
 use Rattle.td_core.specs.declared.module.Entry.{Entry}
 use Rattle.td_core.specs.declared.module.Module.{Module}
 use Rattle.td_core.specs.declared.outcome.Outcome.{Outcome}
@@ -7,21 +7,21 @@ use Rattle.td_expr.specs.Sound.{Sound}
 use Rattle.td_meaning.specs.Throughout.{Throughout}
 use Rattle.td_stream.specs.declared.load.Load.{Load}
 use Rattle.td_stream.specs.declared.stretch.Stretch.{Stretch}
-use Rattle.td_stream.specs.Layouts.{length_in}
 use Rattle.td_stream.specs.Loads.{Carries, Inside, IsRising}
 use Rattle.td_leaves.specs.Outcomes.{IsMeant}
 use Rattle.td_ir.specs.declared.tables.Parts.{Parts}
 use Rattle.td_ir.specs.Run.{run}
 use Rattle.td_lowered.specs.CodeRun.{IsCodeOf}
-use Rattle.td_vm.specs.Outcomes.{IsRun, entry_weight}
+use Rattle.td_vm.specs.Outcomes.{IsRun}
 
--- a validation from an entry point on, with these arguments and cells, of a message that lies so: it made these loads, and had this outcome
-pub record IsValidated (c : Parts) (entry : Entry) (args cells : List ℕ) (layout : List Stretch) (loads : List Load) (outcome : Outcome) : Type 0 where
+-- a validation from an entry point on, with these arguments and cells, of a message that lies so: it made these loads, had this outcome, and told so
+-- many steps
+pub record IsValidated (c : Parts) (entry : Entry) (args cells : List ℕ) (layout : List Stretch) (loads : List Load) (outcome : Outcome) (told : ℕ) : Type 0 where
   -- each word was loaded at most once, in rising order, and is one of the message's
   pub rising : IsRising loads
   pub inside : Inside layout loads
-  -- the code's run takes no more steps than its entry point's weight for each byte and once more
-  pub cost : (b : List ℕ) → Carries layout b loads → (run c entry args cells b).steps ≤ entry_weight c entry * (length_in layout + 1)
+  -- the steps told are the run's, or 2^64 - 1 where these are more
+  pub steps : (b : List ℕ) → Carries layout b loads → told ≡ min (run c entry args cells b).steps (2 ^ 64 - 1)
   -- on every byte list that carries the loads the outcome is that of the code's run, and exactly the words that it looks at were loaded
   pub run : (b : List ℕ) → Carries layout b loads → IsRun layout loads (run c entry args cells b) outcome 0 (run c entry args cells b).steps
   -- where the code is a module's, the outcome is what the module means

@@ -3,8 +3,10 @@
 //! byte list that carries the loads made.
 #![tactic(auto)]
 
+pub mod kept;
 pub mod session;
 pub mod tables;
 pub mod threads;
+pub mod versions;
 
 pub use session::Session;

@@ -1,16 +1,18 @@
 //! A verified code with room for its validations.
 
-ghost use Rattle.std.specs.Prelude.{◌≡◌, ℕ, ◌<◌, ◌^◌, ◌≤◌, ◌↔◌, [], IfOk, IfErr, IfSome, IsSome, IsNone, MatchOption, length as size_of};
+ghost use Rattle.std.specs.Prelude.{◌≡◌, ℕ, ◌<◌, ◌^◌, ◌≤◌, ◌↔◌, [], IfOk, IfErr, IfSome, IsSome, IsNone, MatchOption, Some, length as size_of, slice_get};
 ghost use Rattle.std.specs.Arc.{arc_value};
 ghost use Rattle.td_image.specs.Answer.{IsImage, IsRefused};
 ghost use Rattle.td_stream.specs.Layouts.{count_in};
 ghost use Rattle.td_ir.specs.Entries.{Fits, IsEntryNamed, IsFirstNamed};
+ghost use Rattle.td_ir.specs.WellFormed.{IsCode};
 ghost use Rattle.td_vm.specs.Frames.{IsArmed};
 ghost use Rattle.td_session.specs.Validated.{IsValidated};
 
+use crate::kept::Kept;
 use std::alloc::{AllocError, Global};
 use std::sync::Arc;
-use td_compiled::compiled::validate_compiled;
+use td_compiled::compiled::validate_told;
 use td_core::module::Entry;
 use td_core::outcome::{TraceFrame, Verdict};
 use td_image::{ImageError, read_image};
@@ -18,26 +20,35 @@ use td_ir::entries::{entry_in, fits};
 use td_ir::tables::Parts;
 use td_stream::layout::Layout;
 use td_stream::words::Words;
-use td_verify::verify::Verified;
+use td_swap::codes::Codes;
 use td_vm::laws::fitting_cells_have_room;
 use td_vm::validate::Frame;
 
 /// A code, which sessions share, and a frame that was armed for it, which is this session's own.
 #[derive(Drop)]
 pub struct Session {
-    pub code: Arc<Verified, Global>,
+    pub code: Arc<Kept, Global>,
     pub frame: Frame,
     pub ghost armed: { IsArmed (arc_value code) frame },
 }
 
 impl Session {
     // A session by this code. `AllocError`: there was no memory for its room.
-    fn over(alloc: Global, code: Arc<Verified, Global>) -> Result<Session, AllocError>
+    fn over(alloc: Global, code: Kept) -> Result<Session, AllocError>
+        ensures code { IfOk result (λ s. arc_value s.code ≡ code) }
+        ensures cells { IfOk result (λ s. s.frame.cells ≡ []) }
+        ensures trace { IfOk result (λ s. s.frame.trace ≡ []) }
+    {
+        Session::by(alloc, Arc::new(alloc, code)?)
+    }
+
+    // The same, of a code that may be shared already.
+    fn by(alloc: Global, code: Arc<Kept, Global>) -> Result<Session, AllocError>
         ensures code { IfOk result (λ s. arc_value s.code ≡ arc_value code) }
         ensures cells { IfOk result (λ s. s.frame.cells ≡ []) }
         ensures trace { IfOk result (λ s. s.frame.trace ≡ []) }
     {
-        let frame = Frame::arm(alloc, &code)?;
+        let frame = Frame::arm(alloc, code.verified())?;
         Ok(Session { code, frame })
     }
 
@@ -48,13 +59,22 @@ impl Session {
         ensures refused { IfErr result (λ e. IsRefused image.now e) }
     {
         let code = read_image(alloc, image)?;
-        let Ok(shared) = Arc::new(alloc, code) else {
-            return Err(ImageError::NoMemory);
-        };
-        match Session::over(alloc, shared) {
+        match Session::over(alloc, Kept::own(code)) {
             Ok(session) => Ok(session),
             Err(_) => Err(ImageError::NoMemory),
         }
+    }
+
+    /// A session by the version of this number. `AllocError`: there was no memory for it.
+    pub fn listed(
+        alloc: Global,
+        codes: Arc<Codes, Global>,
+        number: u32,
+    ) -> Result<Session, AllocError>
+        requires { number < size_of (arc_value codes).codes }
+        ensures { IfOk result (λ s. slice_get (arc_value codes).codes number ≡ Some (arc_value s.code)) }
+    {
+        Session::over(alloc, Kept::listed(codes, number as usize))
     }
 
     /// Another session by the same code, with room of its own. `AllocError`: there was no memory for it.
@@ -62,14 +82,15 @@ impl Session {
         ensures { IfOk result (λ s. arc_value s.code ≡ arc_value self.now.code) }
     {
         let code = Arc::try_clone(&self.code)?;
-        Session::over(alloc, code)
+        Session::by(alloc, code)
     }
 
     /// The tables of the code.
     pub fn parts(&self) -> &Parts
-        ensures { result.now ≡ arc_value self.now.code }
+        ensures same { result.now ≡ arc_value self.now.code }
+        ensures fits { IsCode (arc_value self.now.code) }
     {
-        self.code.code().parts()
+        self.code.verified().code().parts()
     }
 
     /// The first entry point of this name. Takes no memory. None: none of the first 2^32 has it.
@@ -77,7 +98,7 @@ impl Session {
         ensures { MatchOption result ((n : ℕ) → n < 2 ^ 32 → IsEntryNamed (arc_value self.now.code) name.now n → ⊥)
             (λ entry. IsFirstNamed (arc_value self.now.code) name.now entry) }
     {
-        entry_in(self.code.code(), name)
+        entry_in(self.code.verified().code(), name)
     }
 
     /// The frames of the last failure, the innermost first; none where the last validation accepted.
@@ -88,8 +109,8 @@ impl Session {
     }
 
     /// Validates a message that lies so in the words, of which none was loaded yet. None: arguments and cells don't fit the entry point, and
-    /// nothing was loaded. The cells begin as they are, and are left as the validation left them. Takes no memory and waits
-    /// for nobody.
+    /// nothing was loaded. The cells begin as they are, and are left as the validation left them. Beside the verdict it tells how many
+    /// steps the code's run took (docs/language/code.md), 2^64 - 1 where they are more. Takes no memory and waits for nobody.
     pub fn validate<W: Words>(
         &mut self,
         entry: Entry,
@@ -97,31 +118,38 @@ impl Session {
         cells: &mut [u64],
         layout: &Layout,
         words: &mut W,
-    ) -> Option<Verdict>
+    ) -> Option<(Verdict, u64)>
         requires message { count_in layout.now ≤ W.size words.old }
         requires fresh { W.loads words.old ≡ [] }
         // The code stays, and the session is armed for it.
         ensures code { arc_value self.new.code ≡ arc_value self.old.code }
         // It validates exactly where arguments and cells fit the entry point.
         ensures fits { IsSome result ↔ Fits (arc_value self.old.code) entry args.now cells.old }
-        // Then the verdict, with the session's trace and the cells as they are left, is the outcome.
+        // Then the verdict, with the session's trace and the cells as they are left, is the outcome, of so many steps.
         ensures validated { IfSome result (λ v. IsValidated (arc_value self.old.code) entry args.now cells.old layout.now (W.loads words.new)
-            (record { verdict = v; trace = self.new.frame.trace; cells = cells.new })) }
+            (record { verdict = v.0; trace = self.new.frame.trace; cells = cells.new }) v.1) }
         ensures reaches { W.reaches words.old words.new }
         // Else nothing was loaded, and the cells are as they were.
         ensures unloaded { IsNone result → W.loads words.new ≡ [] }
         ensures unchanged { IsNone result → cells.new ≡ cells.old }
         ensures cells { size_of cells.new ≡ size_of cells.old }
     {
-        if !fits(self.code.code(), entry, args, cells) {
+        if !fits(self.code.verified().code(), entry, args, cells) {
             words_stay(words);
             return None;
         }
         fitting_cells_have_room();
         self.frame.set_cells(cells);
-        let verdict = validate_compiled(&self.code, entry, args, layout, &mut self.frame, words);
+        let found = validate_told(
+            self.code.verified(),
+            entry,
+            args,
+            layout,
+            &mut self.frame,
+            words,
+        );
         cells.copy_from_slice(self.frame.cells());
-        Some(verdict)
+        Some(found)
     }
 }
 

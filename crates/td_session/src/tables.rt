@@ -6,7 +6,7 @@ ghost use Rattle.td_ir.specs.Tables.{entry_of, routine_of};
 
 use crate::session::Session;
 use td_core::module::{Cell, Entry, NameId, Param};
-use td_step::tables::entry_at;
+use td_step::tables::{entry_at, routine_at};
 
 impl Session {
     /// The name of this number. Takes no memory. None: the code has no such name.
@@ -30,18 +30,15 @@ impl Session {
 
     /// The name of an entry point: that of its routine. None: the code has no such entry point.
     pub fn entry_name(&self, entry: Entry) -> Option<NameId>
-        ensures { IfSome result (λ id. id ≡ (routine_of (arc_value self.now.code) (entry_of (arc_value self.now.code) entry.number).routine).name) }
+        ensures there { IsSome result ↔ (entry.number < length (arc_value self.now.code).entries) }
+        ensures name { IfSome result (λ id. id ≡ (routine_of (arc_value self.now.code) (entry_of (arc_value self.now.code) entry.number).routine).name) }
     {
         let parts = self.parts();
         if (entry.number as usize) >= parts.entries.len() {
             return None;
         }
         let point = entry_at(parts, entry.number as usize);
-        let place = point.routine as usize;
-        if place >= parts.routines.len() {
-            return None;
-        }
-        Some(td_step::tables::routine_at(parts, place).name)
+        Some(routine_at(parts, point.routine as usize).name)
     }
 
     /// The parameters of an entry point, with their names and widths. None: the code has no such entry point.

@@ -4,3 +4,5 @@ mod Keeps
 mod Turns
 mod Rooms
 mod Told
+mod Effects
+mod Bounds

@@ -4,3 +4,4 @@ pub mod Exits
 pub mod Machine
 pub mod Outcomes
 pub mod Arm
+pub mod Laws

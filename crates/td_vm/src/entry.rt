@@ -1,6 +1,6 @@
 //! Runs a routine from outside.
 
-ghost use Rattle.std.specs.Prelude.{◌≡◌, ◌+◌, ◌*◌, ◌≤◌, length, vec_capacity};
+ghost use Rattle.std.specs.Prelude.{◌≡◌, ◌≤◌, length, vec_capacity};
 ghost use Rattle.td_num.specs.Numbers.{places_from};
 ghost use Rattle.td_ir.specs.Tables.{routine_of};
 ghost use Rattle.td_ir.specs.Run.{run_routine};
@@ -9,13 +9,12 @@ ghost use Rattle.td_step.specs.Stepping.{Ran};
 ghost use Rattle.td_vm.specs.Exits.{frames_of, exit_by, call_way, NotTurned, WhenReturned};
 ghost use Rattle.td_vm.specs.Machine.{HasEntryRoom, IsKept};
 ghost use Rattle.td_vm.specs.Need.{cells as cells_in};
-ghost use Rattle.td_vm.specs.Outcomes.{weight};
 
 use crate::level::{Level, Spare, Stretch};
 use crate::machine::{run_block, set_registers};
 use std::sync::ledger::Ledger;
 use td_step::activation::{Activation, Env, Left, TraceRoom};
-use td_step::steps::Steps;
+use td_step::steps::{Counter, Steps};
 use td_step::tables::routine_at;
 use td_stream::stream::Stream;
 use td_stream::words::Words;
@@ -30,7 +29,7 @@ fn set_own_places(mine: &mut [usize])
 }
 
 /// Runs routine n over a stream that stands at its start.
-pub fn run_entry<W: Words, L: Ledger>(
+pub fn run_entry<W: Words, L: Ledger, C: Counter>(
     env: &Env<'_>,
     n: usize,
     args: &[u64],
@@ -38,7 +37,7 @@ pub fn run_entry<W: Words, L: Ledger>(
     cells: &mut [u64],
     stream: &mut Stream<W>,
     trace: &mut TraceRoom,
-    steps: &mut Steps<L>,
+    steps: &mut Steps<L, C>,
 ) -> Left
     requires room { HasEntryRoom env.now n spare.old.places.now spare.old.registers.now trace.old }
     requires cells { length cells.old ≡ cells_in env.now.parts.now n }
@@ -55,7 +54,6 @@ pub fn run_entry<W: Words, L: Ledger>(
     ensures frames { trace.new.count ≤ length trace.new.frames.items }
     ensures no_turn { NotTurned result }
     ensures none { WhenReturned result (trace.new.count ≡ 0) }
-    ensures cost { steps.new ≤ steps.old + weight env.now.parts.now n * (length_of stream.old + 1) }
     ensures same { Ran W.loads stream.old stream.new steps.old steps.new (λ b touched taken. length b ≡ length_of stream.old →
         run_routine env.now.parts.now n args.now cells.old b
         ≡ exit_by (call_way result (position stream.new) cells.new (frames_of trace.new)) touched taken) }

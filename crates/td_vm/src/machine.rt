@@ -1,6 +1,6 @@
 //! Runs a routine.
 
-ghost use Rattle.std.specs.Prelude.{◌≡◌, ℕ, suc, ◌+◌, ◌-◌, ◌*◌, ◌<◌, ◌≤◌, true, false, List, [], ◌∷◌, ◌++◌, length, replicate, vec_capacity};
+ghost use Rattle.std.specs.Prelude.{◌≡◌, ℕ, suc, ◌+◌, ◌-◌, ◌<◌, ◌≤◌, true, false, List, [], ◌∷◌, ◌++◌, length, replicate, vec_capacity};
 ghost use Rattle.td_core.specs.Outcome as outcomes;
 ghost use Rattle.td_ir.specs.WellFormed.{IsCode};
 ghost use Rattle.td_ir.specs.Tables.{routine_of, map_of, lengths_of, first_of};
@@ -12,12 +12,11 @@ ghost use Rattle.td_verify.specs.Brackets.{shape_at};
 ghost use Rattle.td_verify.specs.Ways.{MayBeEmpty};
 ghost use Rattle.td_verify.specs.Operands.{AreBelow};
 ghost use Rattle.td_verify.specs.Verify.{IsIn};
-ghost use Rattle.td_verify.specs.Safe.{before, looped};
+ghost use Rattle.td_verify.specs.Safe.{looped};
 ghost use Rattle.td_stream.specs.StreamInvariant.{IsStream, Later, position, end_of};
 ghost use Rattle.td_step.specs.Stepping.{state_of, Ran, InWindow};
 ghost use Rattle.td_vm.specs.Exits.{frames_of, exit_by, way_of, call_way, loop_exit, WhenTurned, WhenReturned, NotTurned, NotReturned, Traced};
-ghost use Rattle.td_vm.specs.Machine.{AreLaws, HasRoom, IsStretch, IsCallee, IsKept, IdleTurn, IdleReturn, scale};
-ghost use Rattle.td_vm.specs.Outcomes.{weight};
+ghost use Rattle.td_vm.specs.Machine.{AreLaws, HasRoom, IsStretch, IsCallee, IsKept, IdleTurn, IdleReturn};
 ghost use Rattle.td_vm.specs.Need.{room_below, level as levels};
 
 use crate::level::{Callee, Level, Spare, Stretch};
@@ -29,7 +28,7 @@ use td_ir::laws::{
 use td_ir::tables::Parts;
 use td_step::activation::{Activation, Left, Step, TraceRoom};
 use td_step::step::step;
-use td_step::steps::Steps;
+use td_step::steps::{Counter, Steps};
 use td_step::tables::{frame_at, instruction_at, map_at, routine_at};
 use td_stream::stream::Stream;
 use td_stream::words::Words;
@@ -95,7 +94,7 @@ fn set_places(mine: &mut [usize], places: &[usize], map: &[u32])
 
 /// Runs from an instruction on, to the end of the routine or of a loop's turn.
 #[cycle(machine)]
-pub fn run_block<W: Words, L: Ledger>(
+pub fn run_block<W: Words, L: Ledger, C: Counter>(
     level: &Level<'_, '_>,
     stretch: Stretch,
     spare: &mut Spare<'_, '_>,
@@ -104,7 +103,7 @@ pub fn run_block<W: Words, L: Ledger>(
     act: &mut Activation,
     stream: &mut Stream<W>,
     trace: &mut TraceRoom,
-    steps: &mut Steps<L>,
+    steps: &mut Steps<L, C>,
 ) -> Left
     requires room { HasRoom level.now.env level.now.n level.now.places.now spare.old.places.now regs.old spare.old.registers.now cells.old trace.old }
     requires stretch { IsStretch level.now.env.parts.now level.now.n stretch.first stretch.to }
@@ -123,8 +122,6 @@ pub fn run_block<W: Words, L: Ledger>(
     ensures idle_turn { WhenTurned result (position stream.old ≡ position stream.new → IdleTurn level.now.env.parts.now level.now.n stretch.first) }
     ensures idle_return { WhenReturned result (position stream.old ≡ position stream.new → IdleReturn level.now.env.parts.now level.now.n stretch.first) }
     ensures end { WhenTurned result (end_of stream.new ≡ end_of stream.old) }
-    ensures cost { scale level.now.env.parts.now stretch.first * steps.new
-        ≤ scale level.now.env.parts.now stretch.first * steps.old + (before level.now.env.parts.now level.now.n stretch.to - before level.now.env.parts.now level.now.n stretch.first) * (position stream.new - position stream.old + 1) }
     ensures same { Ran W.loads stream.old stream.new steps.old steps.new (λ b touched taken.
         block level.now.env.parts.now b level.now.n level.now.places.now stretch.first (state_of regs.old cells.old act.old stream.old)
         ≡ exit_by (way_of result (state_of regs.new cells.new act.new stream.new) (frames_of trace.new)) touched taken) }
@@ -212,7 +209,7 @@ pub fn run_block<W: Words, L: Ledger>(
 // Runs all turns of the loop from a place on, behind which another stands. The `While` is run again after each turn, which is
 // a step.
 #[cycle(machine)]
-fn run_turns<W: Words, L: Ledger>(
+fn run_turns<W: Words, L: Ledger, C: Counter>(
     level: &Level<'_, '_>,
     stretch: Stretch,
     spare: &mut Spare<'_, '_>,
@@ -221,7 +218,7 @@ fn run_turns<W: Words, L: Ledger>(
     act: &mut Activation,
     stream: &mut Stream<W>,
     trace: &mut TraceRoom,
-    steps: &mut Steps<L>,
+    steps: &mut Steps<L, C>,
 ) -> Left
     requires room { HasRoom level.now.env level.now.n level.now.places.now spare.old.places.now regs.old spare.old.registers.now cells.old trace.old }
     requires place { IsIn level.now.env.parts.now level.now.n stretch.first }
@@ -238,8 +235,6 @@ fn run_turns<W: Words, L: Ledger>(
     ensures trace_memory { vec_capacity trace.new.frames ≡ vec_capacity trace.old.frames }
     ensures no_return { NotReturned result }
     ensures end { WhenTurned result (end_of stream.new ≡ end_of stream.old) }
-    ensures cost { steps.new ≤ steps.old
-        + (before level.now.env.parts.now level.now.n stretch.to - before level.now.env.parts.now level.now.n (stretch.first + 1) + 1) * (position stream.new - position stream.old + 1) }
     ensures same { Ran W.loads stream.old stream.new steps.old steps.new (λ b touched taken. (behind : State → Exit) →
         turns (suc (end_of stream.old - position stream.old)) (block level.now.env.parts.now b level.now.n level.now.places.now (stretch.first + 1)) behind (state_of regs.old cells.old act.old stream.old)
         ≡ loop_exit result behind (state_of regs.new cells.new act.new stream.new) (frames_of trace.new) touched taken) }
@@ -269,7 +264,7 @@ fn run_turns<W: Words, L: Ledger>(
 
 // Runs a callee, to its return.
 #[cycle(machine)]
-fn call<W: Words, L: Ledger>(
+fn call<W: Words, L: Ledger, C: Counter>(
     level: &Level<'_, '_>,
     callee: Callee,
     spare: &mut Spare<'_, '_>,
@@ -277,7 +272,7 @@ fn call<W: Words, L: Ledger>(
     cells: &mut [u64],
     stream: &mut Stream<W>,
     trace: &mut TraceRoom,
-    steps: &mut Steps<L>,
+    steps: &mut Steps<L, C>,
 ) -> Left
     requires room { HasRoom level.now.env level.now.n level.now.places.now spare.old.places.now regs.now spare.old.registers.now cells.old trace.old }
     requires callee { IsCallee level.now.env.parts.now level.now.n callee.at callee.routine callee.first callee.map }
@@ -291,7 +286,6 @@ fn call<W: Words, L: Ledger>(
     ensures trace_memory { vec_capacity trace.new.frames ≡ vec_capacity trace.old.frames }
     ensures no_turn { NotTurned result }
     ensures idle { WhenReturned result (position stream.old ≡ position stream.new → MayBeEmpty (shapes_of level.now.env.parts.now) (lengths_of level.now.env.parts.now) (suc callee.routine) callee.routine) }
-    ensures cost { steps.new ≤ steps.old + weight level.now.env.parts.now callee.routine * (position stream.new - position stream.old + 1) }
     ensures same { (start outer : ℕ) → Ran W.loads stream.old stream.new steps.old steps.new (λ b touched taken.
         block level.now.env.parts.now b callee.routine (places_by level.now.places.now (map_of level.now.env.parts.now callee.map)) (first_of level.now.env.parts.now callee.routine)
         (entered (routine_of level.now.env.parts.now callee.routine) (registers_from regs.now callee.first (routine_of level.now.env.parts.now callee.routine).params)

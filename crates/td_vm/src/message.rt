@@ -1,12 +1,12 @@
 //! Runs a routine over a message.
 
-ghost use Rattle.std.specs.Prelude.{◌≡◌, ℕ, ◌+◌, ◌*◌, ◌≤◌, List, [], length, take, vec_capacity};
+ghost use Rattle.std.specs.Prelude.{◌≡◌, ℕ, ◌≤◌, List, [], length, take, vec_capacity};
 ghost use Rattle.td_ir.specs.Tables.{routine_of};
 ghost use Rattle.td_ir.specs.Run.{run_routine};
-ghost use Rattle.td_stream.specs.Layouts.{length_in, count_in};
+ghost use Rattle.td_stream.specs.Layouts.{count_in};
 ghost use Rattle.td_stream.specs.Loads.{Carries, Inside, IsRising};
 ghost use Rattle.td_vm.specs.Exits.{frames_of};
-ghost use Rattle.td_vm.specs.Outcomes.{IsRun, weight};
+ghost use Rattle.td_vm.specs.Outcomes.{IsRun};
 ghost use Rattle.td_vm.specs.Machine.{HasEntryRoom, IsKept};
 ghost use Rattle.td_vm.specs.Need.{cells as cells_in};
 
@@ -15,14 +15,14 @@ use crate::level::Spare;
 use std::sync::ledger::Ledger;
 use td_core::outcome::Verdict;
 use td_step::activation::{Env, Left, TraceRoom};
-use td_step::steps::Steps;
+use td_step::steps::{Counter, Steps};
 use td_step::tables::routine_at;
 use td_stream::layout::Layout;
 use td_stream::stream::Stream;
 use td_stream::words::Words;
 
 /// Runs routine n over a message that lies so in words of which none was loaded.
-pub fn run_message<W: Words, L: Ledger>(
+pub fn run_message<W: Words, L: Ledger, C: Counter>(
     env: &Env<'_>,
     n: usize,
     args: &[u64],
@@ -31,7 +31,7 @@ pub fn run_message<W: Words, L: Ledger>(
     cells: &mut [u64],
     trace: &mut TraceRoom,
     words: &mut W,
-    steps: &mut Steps<L>,
+    steps: &mut Steps<L, C>,
 ) -> Verdict
     requires room { HasEntryRoom env.now n spare.old.places.now spare.old.registers.now trace.old }
     requires cells { length cells.old ≡ cells_in env.now.parts.now n }
@@ -46,7 +46,6 @@ pub fn run_message<W: Words, L: Ledger>(
     ensures trace_room { length trace.new.frames.items ≡ length trace.old.frames.items }
     ensures trace_memory { vec_capacity trace.new.frames ≡ vec_capacity trace.old.frames }
     ensures frames { trace.new.count ≤ length trace.new.frames.items }
-    ensures cost { steps.new ≤ steps.old + weight env.now.parts.now n * (length_in layout.now + 1) }
     ensures run { (b : List ℕ) → Carries layout.now b (W.loads words.new)
         → IsRun layout.now (W.loads words.new) (run_routine env.now.parts.now n args.now cells.old b)
         (record { verdict = result; trace = frames_of trace.new; cells = cells.new }) steps.old steps.new }
@@ -60,7 +59,7 @@ pub fn run_message<W: Words, L: Ledger>(
 }
 
 /// The same with the first cells of a longer list, as many as the routine has, and a trace that is emptied first.
-pub fn run_front<W: Words, L: Ledger>(
+pub fn run_front<W: Words, L: Ledger, C: Counter>(
     env: &Env<'_>,
     n: usize,
     args: &[u64],
@@ -69,7 +68,7 @@ pub fn run_front<W: Words, L: Ledger>(
     all: &mut [u64],
     trace: &mut TraceRoom,
     words: &mut W,
-    steps: &mut Steps<L>,
+    steps: &mut Steps<L, C>,
 ) -> Verdict
     requires room { HasEntryRoom env.now n spare.old.places.now spare.old.registers.now trace.old }
     requires args { length args.now ≡ (routine_of env.now.parts.now n).params }
@@ -83,7 +82,6 @@ pub fn run_front<W: Words, L: Ledger>(
     ensures trace_room { length trace.new.frames.items ≡ length trace.old.frames.items }
     ensures trace_memory { vec_capacity trace.new.frames ≡ vec_capacity trace.old.frames }
     ensures frames { trace.new.count ≤ length trace.new.frames.items }
-    ensures cost { steps.new ≤ steps.old + weight env.now.parts.now n * (length_in layout.now + 1) }
     ensures run { (b : List ℕ) → Carries layout.now b (W.loads words.new)
         → IsRun layout.now (W.loads words.new) (run_routine env.now.parts.now n args.now (take (cells_in env.now.parts.now n) all.old) b)
         (record { verdict = result; trace = frames_of trace.new; cells = take (cells_in env.now.parts.now n) all.new }) steps.old steps.new }

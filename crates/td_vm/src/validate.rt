@@ -1,14 +1,14 @@
 //! Validates messages by verified code, in room that was taken before.
 
-ghost use Rattle.std.specs.Prelude.{◌≡◌, ℕ, ◌+◌, ◌*◌, ◌≤◌, List, [], length as size_of, take, IfOk, vec_capacity};
+ghost use Rattle.std.specs.Prelude.{◌≡◌, ℕ, ◌≤◌, List, [], length as size_of, take, IfOk, vec_capacity};
 ghost use Rattle.td_ir.specs.declared.tables.Parts as tables;
 ghost use Rattle.td_ir.specs.Entries.{Fits};
 ghost use Rattle.td_ir.specs.Run.{run};
-ghost use Rattle.td_stream.specs.Layouts.{length_in, count_in};
+ghost use Rattle.td_stream.specs.Layouts.{count_in};
 ghost use Rattle.td_stream.specs.Loads.{Carries, Inside, IsRising};
 ghost use Rattle.td_vm.specs.Frames.{IsArmed, outcome_in};
 ghost use Rattle.td_vm.specs.Machine.{IsRunnable};
-ghost use Rattle.td_vm.specs.Outcomes.{IsRun, entry_weight};
+ghost use Rattle.td_vm.specs.Outcomes.{IsRun};
 
 use crate::arm::{Kind, begins_of, most_cells, need_of};
 use crate::level::Spare;
@@ -21,7 +21,7 @@ use td_core::outcome::{Outcome, Reason, Spot, TraceFrame, Verdict};
 use td_ir::tables::Parts;
 use td_num::items::Items;
 use td_step::activation::{Env, TraceRoom};
-use td_step::steps::Steps;
+use td_step::steps::{Counter, Steps};
 use td_step::tables::entry_at;
 use td_stream::layout::Layout;
 use td_stream::words::Words;
@@ -189,17 +189,17 @@ impl Frame {
 
 /// Validates a message that lies so in words of which none was loaded, from an entry point of verified code on. The
 /// frame was armed for this code, and the arguments and the frame's cells fit the entry point (`td_ir::entries::fits`). It
-/// takes no memory and waits for nobody. Words are loaded only where a byte of them is looked at, in rising order, each at
+/// is handed no allocator and nothing to wait by. Words are loaded only where a byte of them is looked at, in rising order, each at
 /// most once; the verdict, and the frame's trace and cells, are those of `run` on each message that carries these loads, and
 /// so is the count of steps.
-pub fn validate<W: Words, L: Ledger>(
+pub fn validate<W: Words, L: Ledger, C: Counter>(
     code: &Verified,
     entry: Entry,
     args: &[u64],
     layout: &Layout,
     frame: &mut Frame,
     words: &mut W,
-    steps: &mut Steps<L>,
+    steps: &mut Steps<L, C>,
 ) -> Verdict
     requires armed { IsArmed code.now frame.old }
     requires fits { Fits code.now entry args.now frame.old.cells }
@@ -211,7 +211,6 @@ pub fn validate<W: Words, L: Ledger>(
     ensures run { (b : List ℕ) → Carries layout.now b (W.loads words.new)
         → IsRun layout.now (W.loads words.new) (run code.now entry args.now frame.old.cells b)
         (outcome_in frame.new result) steps.old steps.new }
-    ensures cost { steps.new ≤ steps.old + entry_weight code.now entry * (length_in layout.now + 1) }
     ensures cell_count { size_of frame.new.cells ≡ size_of frame.old.cells }
     ensures armed { IsArmed code.now frame.new }
 {

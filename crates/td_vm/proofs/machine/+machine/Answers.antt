@@ -24,8 +24,6 @@ use Rattle.td_vm.proofs.machine.+machine.Goals as goal
 
 pub run_block-steps-init : goal.run_block-steps-init
 run_block-steps-init g t c =
-    let C = c.args.level.now.env.parts.now in
-    let a = c.args in
     record {
       room = c.requires.room;
       kept = spare_same c.args.spare.now;
@@ -42,8 +40,6 @@ run_block-steps-init g t c =
       fixed = λ h. refl;
       end = λ h. refl;
       narrow = omega (arith, c.requires.stretch.outside, c.requires.whole.within);
-      begun = omega arith;
-      cost = omega arith;
       idle = λ e set closed m. m;
       same = ran_self c.args.stream.now c.args.steps.now _ (λ b. after_none _);
     }
@@ -70,8 +66,6 @@ run_block-steps-preserved-in-Goes g t c =
     let s0 = c.args.stream.now in
     let s = c.steps.stream in
     let u = c.step.new.stream in
-    let on = (safe.weighed n pc i.place).on q o.0 (omega (arith, o.1.to)) in
-    let tick = c.tick.ensures in
     record {
       room = room_kept c.args.level.now.env n c.args.level.now.places.now c.steps.spare.places.now c.steps.spare.places.now c.steps.regs c.step.new.regs c.steps.spare.registers.now c.steps.spare.registers.now c.steps.cells c.step.new.cells c.steps.trace c.steps.trace i.room refl c.step.auto.regs refl c.step.auto.cells i.room.trace refl;
       kept = i.kept;
@@ -88,8 +82,6 @@ run_block-steps-preserved-in-Goes g t c =
       fixed = λ h. k.fixed (i.kind ∙ h) ∙ i.fixed h;
       end = λ h. end_kept C n pc q (shape I) (position s) (end_of s) (end_of u) safe i.place at e.leads.0 e.leads.1 e.end (i.kind ∙ h) ∙ i.end h;
       narrow = room_on C pc q (shape I) (position s0) (position s) (position u) (end_of s) (end_of u) e.leads.0 o.2 e.leads.1 e.end i.narrow i.later.pos e.later.pos e.whole.within;
-      begun = omega (arith, i.begun, on);
-      cost = step_cost C n first pc q (shape I) c.args.steps.now c.steps.steps c.step.new.steps (position s0) (position s) (position u) safe i.place at e.leads.0 i.kind o.0 (omega (arith, o.1.to)) i.begun i.cost (omega (arith, e.cost, tick)) i.later.pos e.later.pos;
       idle = idle_on C n first pc q (shape I) (position s0) (position s) (position u) (end_of s) (end_of u) at o.0 e.leads.1 e.leads.0 e.end e.takes i.narrow i.later.pos i.idle;
       same = ran_step s0 s u c.args.steps.now c.steps.steps c.tick.new.self c.step.new.steps _ _ _ i.later e.later i.same e.same c.tick.ensures (λ b x y j k p r.
           p ∙ ap (after x j) (c.laws.ensures.goes C b c.args.level.now.places.now n pc q _ _ y (1 + k) (record { instruction = I; there = c.instruction_at-instruction.ensures.there; within = i.place.to; is = r }) o.0 o.1.to)
@@ -107,7 +99,6 @@ run_turns-turns-init g t c = record {
   frames = refl;
   memory = refl;
   end = refl;
-  cost = omega arith;
   same = (suc (end_of c.args.stream.now - position c.args.stream.now), omega arith, ran_self c.args.stream.now c.args.steps.now _ (λ b behind. after_none _));
 }
 
@@ -125,16 +116,6 @@ run_block-steps-smaller-in-Goes g t c =
     let at = shape_here C c.steps.pc c.instruction_at-instruction.result.now c.instruction_at-instruction.ensures.is in
     let o = goes_on C c.args.level.now.n c.steps.pc c.in-Goes.target (shape c.instruction_at-instruction.result.now) i.room.runnable.safe i.place at e.leads.1 in
     omega (arith, o.0, i.under)
-
-pub run_block-returns-in-Fails-clause-cost : goal.run_block-returns-in-Fails-clause-cost
-run_block-returns-in-Fails-clause-cost g t c =
-    let i = c.steps.invariant in
-    let e = c.in-Fails.ensures in
-    let C = c.args.level.now.env.parts.now in
-    let I = c.instruction_at-instruction.result.now in
-    let at = shape_here C c.steps.pc I c.instruction_at-instruction.ensures.is in
-    let tick = c.tick.ensures in
-    step_cost C c.args.level.now.n c.args.stretch.first c.steps.pc c.args.stretch.to (shape I) c.args.steps.now c.steps.steps c.step.new.steps (position c.args.stream.now) (position c.steps.stream) (position c.step.new.stream) i.room.runnable.safe i.place at e.leads i.kind i.under c.requires.stretch.within i.begun i.cost (omega (arith, e.cost, tick)) i.later.pos e.later.pos
 
 pub run_block-returns-in-Fails-clause-same : goal.run_block-returns-in-Fails-clause-same
 run_block-returns-in-Fails-clause-same g t c =
@@ -163,17 +144,6 @@ run_block-returns-in-Returns-clause-idle_return g t c = λ z.
     let I = c.instruction_at-instruction.result.now in
     let at = shape_here C c.steps.pc I c.instruction_at-instruction.ensures.is in
     record { at = c.steps.pc; within = i.place; is = at ∙ ap shape e.leads; way = i.idle (omega (arith, z, i.later.pos, e.later.pos)) }
-
-pub run_block-returns-in-Returns-clause-cost : goal.run_block-returns-in-Returns-clause-cost
-run_block-returns-in-Returns-clause-cost g t c =
-    let i = c.steps.invariant in
-    let e = c.in-Returns.ensures in
-    let C = c.args.level.now.env.parts.now in
-    let I = c.instruction_at-instruction.result.now in
-    let at = shape_here C c.steps.pc I c.instruction_at-instruction.ensures.is in
-    let tick = c.tick.ensures in
-    let passes : Passes (shape I) = subst (λ x. Passes (shape x)) (sym e.leads) tt in
-    step_cost C c.args.level.now.n c.args.stretch.first c.steps.pc c.args.stretch.to (shape I) c.args.steps.now c.steps.steps c.step.new.steps (position c.args.stream.now) (position c.steps.stream) (position c.step.new.stream) i.room.runnable.safe i.place at passes i.kind i.under c.requires.stretch.within i.begun i.cost (omega (arith, e.cost, tick)) i.later.pos e.later.pos
 
 pub run_block-returns-in-Returns-clause-same : goal.run_block-returns-in-Returns-clause-same
 run_block-returns-in-Returns-clause-same g t c =
@@ -212,17 +182,6 @@ run_block-returns-in-Turns-clause-end g t c =
     let end : end_of c.step.new.stream ≡ end_of c.steps.stream = subst (λ x. Ends (shape x) (position c.steps.stream) (end_of c.steps.stream) (end_of c.step.new.stream)) e.leads e.end in
     end ∙ i.end inside
 
-pub run_block-returns-in-Turns-clause-cost : goal.run_block-returns-in-Turns-clause-cost
-run_block-returns-in-Turns-clause-cost g t c =
-    let i = c.steps.invariant in
-    let e = c.in-Turns.ensures in
-    let C = c.args.level.now.env.parts.now in
-    let I = c.instruction_at-instruction.result.now in
-    let at = shape_here C c.steps.pc I c.instruction_at-instruction.ensures.is in
-    let tick = c.tick.ensures in
-    let passes : Passes (shape I) = subst (λ x. Passes (shape x)) (sym e.leads) tt in
-    step_cost C c.args.level.now.n c.args.stretch.first c.steps.pc c.args.stretch.to (shape I) c.args.steps.now c.steps.steps c.step.new.steps (position c.args.stream.now) (position c.steps.stream) (position c.step.new.stream) i.room.runnable.safe i.place at passes i.kind i.under c.requires.stretch.within i.begun i.cost (omega (arith, e.cost, tick)) i.later.pos e.later.pos
-
 pub run_block-returns-in-Turns-clause-same : goal.run_block-returns-in-Turns-clause-same
 run_block-returns-in-Turns-clause-same g t c =
     let i = c.steps.invariant in
@@ -257,7 +216,7 @@ call-run_block-left-requires g t c =
     let q : m + 1 ≡ suc m = omega arith in
     let f = c.requires.room.begins.each (m + 1) (omega (arith, l)) ∙ ap (first_of C) q in
     let room = callee_room c.args.level.now.env c.args.level.now.n c.args.callee.at m c.args.callee.first c.args.callee.map c.args.level.now.places.now c.args.spare.now.places.now c.args.regs.now c.args.spare.now.registers.now c.args.cells.now c.set_places.new.mine c.split_at_mut-mine_places.result.1.now c.set_registers.new.mine c.split_at_mut-mine.result.1.now c.args.trace.now c.requires.room d (omega (arith, cell, c.split_at_mut-mine_places.ensures.back_len, c.split_at_mut-mine_places.ensures.front_len)) (omega (arith, register, c.set_registers.auto.mine, c.split_at_mut-mine.ensures.front_len)) (omega (arith, register, c.split_at_mut-mine.ensures.back_len)) (c.set_places.ensures ∙ ap (places_by c.args.level.now.places.now) c.map_at.ensures) in
-    λ κs h. (omega (arith, c.decreases, b, f), (h.0, (h.1, (room, (whole_stretch C m _ _ c.requires.room.runnable l b f, (c.requires.whole, record { around = omega (arith, c.end-end.ensures); within = omega (arith, c.end-end.ensures, c.requires.whole.short) }))))))
+    λ κs h. (omega (arith, c.decreases, b, f), (h.0, (h.1.0, (h.1.1, (room, (whole_stretch C m _ _ c.requires.room.runnable l b f, (c.requires.whole, record { around = omega (arith, c.end-end.ensures); within = omega (arith, c.end-end.ensures, c.requires.whole.short) })))))))
 
 pub call-returns-clause-traced : goal.call-returns-clause-traced
 call-returns-clause-traced g t c =
@@ -271,16 +230,6 @@ call-returns-clause-idle g t c =
     let m = c.args.callee.routine in
     let l : m < length C.routines = omega (arith, c.requires.callee.lower, c.requires.room.routine) in
     call_idle C m _ _ _ _ c.run_block-left.result c.requires.room.runnable (c.requires.room.begins.each m (omega (arith, l))) c.run_block-left.ensures.idle_return (sym c.widen.ensures.pos)
-
-pub call-returns-clause-cost : goal.call-returns-clause-cost
-call-returns-clause-cost g t c =
-    let C = c.args.level.now.env.parts.now in
-    let m = c.args.callee.routine in
-    let l : m < length C.routines = omega (arith, c.requires.callee.lower, c.requires.room.routine) in
-    let b = c.requires.room.begins.each m (omega (arith, l)) in
-    let q : m + 1 ≡ suc m = omega arith in
-    let f = c.requires.room.begins.each (m + 1) (omega (arith, l)) ∙ ap (first_of C) q in
-    call_steps C m _ _ c.args.steps.now c.run_block-left.new.steps (position c.args.stream.now) (position c.run_block-left.new.stream) (position c.widen.new.self) c.requires.room.runnable l b f c.run_block-left.ensures.cost c.widen.ensures.pos
 
 pub call-returns-clause-same : goal.call-returns-clause-same
 call-returns-clause-same g t c = λ start outer.
@@ -314,7 +263,7 @@ run_block-call-requires g t c =
     let d = callee_at C n c.steps.pc c.in-Calls.from c.in-Calls.routine c.in-Calls.map c.in-Calls.site c.instruction_at-instruction.result.now i.room.runnable.safe i.place c.instruction_at-instruction.ensures.is e.leads in
     let room = room_kept c.args.level.now.env n c.args.level.now.places.now c.steps.spare.places.now c.steps.spare.places.now c.steps.regs c.step.new.regs c.steps.spare.registers.now c.steps.spare.registers.now c.steps.cells c.step.new.cells c.steps.trace c.steps.trace i.room refl c.step.auto.regs refl c.step.auto.cells i.room.trace refl in
     let up = begin_up (lengths_of C) (suc c.in-Calls.routine) n (omega (arith, d.lower)) in
-    λ κs h. (omega (arith, c.decreases, up, c.requires.stretch.place.from, c.requires.stretch.place.to), (h.0, (h.1, (room, (d, e.whole)))))
+    λ κs h. (omega (arith, c.decreases, up, c.requires.stretch.place.from, c.requires.stretch.place.to), (h.0, (h.1.0, (h.1.1, (room, (d, e.whole))))))
 
 pub run_block-steps-preserved-in-Returned : goal.run_block-steps-preserved-in-Returned
 run_block-steps-preserved-in-Returned g t c =
@@ -334,10 +283,7 @@ run_block-steps-preserved-in-Returned g t c =
     let s = c.steps.stream in
     let u = c.step.new.stream in
     let v = c.call.new.stream in
-    let on = (safe.weighed n pc i.place).on (pc + 1) o.0 (omega (arith, o.1.to)) in
-    let tick = c.tick.ensures in
     let still : end_of u ≡ end_of s = subst (λ x. Ends (shape x) (position s) (end_of s) (end_of u)) e.leads e.end in
-    let none : c.step.new.steps ≤ c.tick.new.self + 0 * (position u - position s) = subst (λ x. c.step.new.steps ≤ c.tick.new.self + more (shape x) * (position u - position s)) e.leads e.cost in
     let room = room_kept c.args.level.now.env n c.args.level.now.places.now c.steps.spare.places.now c.call.new.spare.places.now c.steps.regs c.step.new.regs c.steps.spare.registers.now c.call.new.spare.registers.now c.steps.cells c.call.new.cells c.steps.trace c.call.new.trace i.room c.call.ensures.kept.places c.step.auto.regs c.call.ensures.kept.registers (c.call.auto.cells ∙ c.step.auto.cells) f.traced f.trace_room in
     let long : length_of v ≡ length_of u = ap length_in f.later.layout in
     let later1 = later_trans g.met.W.Words.reaches_on s0 s u i.later e.later in
@@ -358,8 +304,6 @@ run_block-steps-preserved-in-Returned g t c =
       fixed = λ h. o.2 ∙ i.fixed h;
       end = λ h. f.end ∙ still ∙ i.end h;
       narrow = let a = ap window_bytes o.2 in omega (arith, a, f.end, still, i.narrow);
-      begun = omega (arith, i.begun, on);
-      cost = call_cost C n first pc (pc + 1) m c.args.steps.now c.steps.steps c.call.new.steps (position s0) (position s) (position v) i.room.runnable i.place d.is d.lower i.kind (omega arith) (omega (arith, o.1.to)) i.begun i.cost (call_spent (before C m (end_at C m)) c.steps.steps c.tick.new.self c.step.new.steps c.call.new.steps (position s) (position u) (position v) tick (omega (arith, none)) f.cost e.later.pos) i.later.pos (omega (arith, e.later.pos, f.later.pos));
       idle = λ z. idle_more C n first pc (pc + 1) (Call m) d.is (omega arith) refl (empty_up (shapes_of C) (lengths_of C) n m d.lower (f.idle (omega (arith, z, i.later.pos, e.later.pos, f.later.pos)))) (i.idle (omega (arith, z, i.later.pos, e.later.pos, f.later.pos)));
       same = ran_trans s0 u v c.args.steps.now c.step.new.steps c.call.new.steps (λ b x j. block C b n c.args.level.now.places.now first (state_of c.args.regs.now c.args.cells.now c.args.act.now s0) ≡ after x j (back C c.in-Calls.site U (block C b n c.args.level.now.places.now (pc + 1)) (block C b m (places_by c.args.level.now.places.now (map_of C c.in-Calls.map)) (first_of C m) (entered (routine_of C m) (registers_from c.step.new.regs c.in-Calls.from (routine_of C m).params) U)))) _ _
           later1 f.later
@@ -376,25 +320,6 @@ run_block-steps-preserved-in-Returned g t c =
 pub run_block-returns-in-Failed-clause-later : goal.run_block-returns-in-Failed-clause-later
 run_block-returns-in-Failed-clause-later g t c =
     later_trans g.met.W.Words.reaches_on c.args.stream.now c.step.new.stream c.call.new.stream (later_trans g.met.W.Words.reaches_on c.args.stream.now c.steps.stream c.step.new.stream c.steps.invariant.later c.in-Calls.ensures.later) c.in-Failed.ensures.later
-
-pub run_block-returns-in-Failed-clause-cost : goal.run_block-returns-in-Failed-clause-cost
-run_block-returns-in-Failed-clause-cost g t c =
-    let i = c.steps.invariant in
-    let e = c.in-Calls.ensures in
-    let f = c.in-Failed.ensures in
-    let C = c.args.level.now.env.parts.now in
-    let n = c.args.level.now.n in
-    let pc = c.steps.pc in
-    let m = c.in-Calls.routine in
-    let I = c.instruction_at-instruction.result.now in
-    let d = callee_at C n pc c.in-Calls.from m c.in-Calls.map c.in-Calls.site I i.room.runnable.safe i.place c.instruction_at-instruction.ensures.is e.leads in
-    let s0 = c.args.stream.now in
-    let s = c.steps.stream in
-    let u = c.step.new.stream in
-    let v = c.call.new.stream in
-    let tick = c.tick.ensures in
-    let none : c.step.new.steps ≤ c.tick.new.self + 0 * (position u - position s) = subst (λ x. c.step.new.steps ≤ c.tick.new.self + more (shape x) * (position u - position s)) e.leads e.cost in
-    call_cost C n c.args.stretch.first pc c.args.stretch.to m c.args.steps.now c.steps.steps c.call.new.steps (position s0) (position s) (position v) i.room.runnable i.place d.is d.lower i.kind i.under c.requires.stretch.within i.begun i.cost (call_spent (before C m (end_at C m)) c.steps.steps c.tick.new.self c.step.new.steps c.call.new.steps (position s) (position u) (position v) tick (omega (arith, none)) f.cost e.later.pos) i.later.pos (omega (arith, e.later.pos, f.later.pos))
 
 pub run_block-returns-in-Failed-clause-same : goal.run_block-returns-in-Failed-clause-same
 run_block-returns-in-Failed-clause-same g t c =
@@ -432,7 +357,7 @@ run_block-run_turns-requires g t c =
     let n = c.args.level.now.n in
     let at = shape_here C c.steps.pc c.instruction_at-instruction.result.now c.instruction_at-instruction.ensures.is in
     let room = room_kept c.args.level.now.env n c.args.level.now.places.now c.steps.spare.places.now c.steps.spare.places.now c.steps.regs c.step.new.regs c.steps.spare.registers.now c.steps.spare.registers.now c.steps.cells c.step.new.cells c.steps.trace c.steps.trace i.room refl c.step.auto.regs refl c.step.auto.cells i.room.trace refl in
-    λ κs h. (omega (arith, c.decreases, i.on, i.place.to, i.place.from), (h.0, (h.1, (room, (i.place, (at ∙ ap shape e.leads, (e.whole, e.window)))))))
+    λ κs h. (omega (arith, c.decreases, i.on, i.place.to, i.place.from), (h.0, (h.1.0, (h.1.1, (room, (i.place, (at ∙ ap shape e.leads, (e.whole, e.window))))))))
 
 pub run_block-steps-smaller : goal.run_block-steps-smaller
 run_block-steps-smaller g t c =
@@ -459,10 +384,7 @@ run_block-steps-preserved g t c =
     let s = c.steps.stream in
     let u = c.step.new.stream in
     let v = c.run_turns.new.stream in
-    let on = (i.room.runnable.safe.weighed n pc i.place).on q (omega (arith, w.body)) (omega (arith, w.behind.to)) in
-    let tick = c.tick.ensures in
     let still : end_of u ≡ end_of s = subst (λ x. Ends (shape x) (position s) (end_of s) (end_of u)) e.leads e.end in
-    let none : c.step.new.steps ≤ c.tick.new.self + 0 * (position u - position s) = subst (λ x. c.step.new.steps ≤ c.tick.new.self + more (shape x) * (position u - position s)) e.leads e.cost in
     let later1 = later_trans g.met.W.Words.reaches_on s0 s u i.later e.later in
     record {
       room = room_kept c.args.level.now.env n c.args.level.now.places.now c.steps.spare.places.now c.run_turns.new.spare.places.now c.steps.regs c.run_turns.new.regs c.steps.spare.registers.now c.run_turns.new.spare.registers.now c.steps.cells c.run_turns.new.cells c.steps.trace c.run_turns.new.trace i.room c.run_turns.ensures.kept.places (c.run_turns.auto.regs ∙ c.step.auto.regs) c.run_turns.ensures.kept.registers (c.run_turns.auto.cells ∙ c.step.auto.cells) f.traced f.trace_room;
@@ -480,8 +402,6 @@ run_block-steps-preserved g t c =
       fixed = λ h. w.same ∙ i.fixed h;
       end = λ h. f.end ∙ still ∙ i.end h;
       narrow = let a = ap window_bytes w.same in omega (arith, a, f.end, still, i.narrow);
-      begun = omega (arith, i.begun, on);
-      cost = loop_cost C n first pc q q c.args.steps.now c.steps.steps c.run_turns.new.steps (position s0) (position s) (position v) i.room.runnable i.place is w.body (omega arith) (omega (arith, w.behind.to)) i.kind i.begun i.cost (call_spent (before C n q - before C n (pc + 1) + 1) c.steps.steps c.tick.new.self c.step.new.steps c.run_turns.new.steps (position s) (position u) (position v) tick (omega (arith, none)) f.cost e.later.pos) i.later.pos (omega (arith, e.later.pos, f.later.pos));
       idle = λ z. idle_more C n first pc q (While q) is (omega (arith, w.body)) refl tt (i.idle (omega (arith, z, i.later.pos, e.later.pos, f.later.pos)));
       same = ran_trans s0 u v c.args.steps.now c.step.new.steps c.run_turns.new.steps (λ b x j. block C b n c.args.level.now.places.now first (state_of c.args.regs.now c.args.cells.now c.args.act.now s0) ≡ after x j (turns (suc (end_of u - position u)) (block C b n c.args.level.now.places.now (pc + 1)) (block C b n c.args.level.now.places.now q) (state_of c.step.new.regs c.step.new.cells c.step.new.act u))) _ _
           later1 f.later
@@ -495,26 +415,6 @@ run_block-steps-preserved g t c =
 pub run_block-returns-in-Failed-run_turns-clause-later : goal.run_block-returns-in-Failed-run_turns-clause-later
 run_block-returns-in-Failed-run_turns-clause-later g t c =
     later_trans g.met.W.Words.reaches_on c.args.stream.now c.step.new.stream c.run_turns.new.stream (later_trans g.met.W.Words.reaches_on c.args.stream.now c.steps.stream c.step.new.stream c.steps.invariant.later c.in-Loops.ensures.later) c.in-Failed-run_turns.ensures.later
-
-pub run_block-returns-in-Failed-run_turns-clause-cost : goal.run_block-returns-in-Failed-run_turns-clause-cost
-run_block-returns-in-Failed-run_turns-clause-cost g t c =
-    let i = c.steps.invariant in
-    let e = c.in-Loops.ensures in
-    let f = c.in-Failed-run_turns.ensures in
-    let C = c.args.level.now.env.parts.now in
-    let n = c.args.level.now.n in
-    let pc = c.steps.pc in
-    let q = c.in-Loops.target in
-    let is = shape_here C pc c.instruction_at-instruction.result.now c.instruction_at-instruction.ensures.is ∙ ap shape e.leads in
-    let w = loop_whole C n pc q i.room.runnable i.place is in
-    let s0 = c.args.stream.now in
-    let s = c.steps.stream in
-    let u = c.step.new.stream in
-    let v = c.run_turns.new.stream in
-    let tick = c.tick.ensures in
-    let none : c.step.new.steps ≤ c.tick.new.self + 0 * (position u - position s) = subst (λ x. c.step.new.steps ≤ c.tick.new.self + more (shape x) * (position u - position s)) e.leads e.cost in
-    let under = c.requires.stretch.closed q w.behind (λ h. w.same ∙ i.fixed h) in
-    loop_cost C n c.args.stretch.first pc q c.args.stretch.to c.args.steps.now c.steps.steps c.run_turns.new.steps (position s0) (position s) (position v) i.room.runnable i.place is w.body (omega (arith, under)) c.requires.stretch.within i.kind i.begun i.cost (call_spent (before C n q - before C n (pc + 1) + 1) c.steps.steps c.tick.new.self c.step.new.steps c.run_turns.new.steps (position s) (position u) (position v) tick (omega (arith, none)) f.cost e.later.pos) i.later.pos (omega (arith, e.later.pos, f.later.pos))
 
 pub run_block-returns-in-Failed-run_turns-clause-same : goal.run_block-returns-in-Failed-run_turns-clause-same
 run_block-returns-in-Failed-run_turns-clause-same g t c =
@@ -544,7 +444,7 @@ pub run_turns-run_block-requires : goal.run_turns-run_block-requires
 run_turns-run_block-requires g t c =
     let i = c.turns.invariant in
     let C = c.args.level.now.env.parts.now in
-    λ κs h. (omega (arith, c.decreases, c.requires.place.from, c.requires.place.to), (h.0, (h.1, (i.room, (body_stretch C c.args.level.now.n c.args.stretch.first c.args.stretch.to i.room.runnable c.requires.place c.requires.loops, (i.whole, i.window))))))
+    λ κs h. (omega (arith, c.decreases, c.requires.place.from, c.requires.place.to), (h.0, (h.1.0, (h.1.1, (i.room, (body_stretch C c.args.level.now.n c.args.stretch.first c.args.stretch.to i.room.runnable c.requires.place c.requires.loops, (i.whole, i.window)))))))
 
 pub run_turns-turns-smaller : goal.run_turns-turns-smaller
 run_turns-turns-smaller g t c =
@@ -567,9 +467,6 @@ run_turns-turns-preserved g t c =
     let moved = grown (position s) (position v) e.later.pos (λ k. turn_busy C n c.args.stretch.first c.args.stretch.to c.requires.room.runnable c.requires.place c.requires.loops (e.idle_turn k)) in
     let k = i.same.0 in
     let few : end_of s - position s < k = i.same.1 in
-    let D = before C n c.args.stretch.to - before C n (c.args.stretch.first + 1) in
-    let twice : scale C (c.args.stretch.first + 1) ≡ 2 = ap (λ v. cond v 2 1) (c.requires.room.runnable.safe.loops.turning n c.args.stretch.first c.args.stretch.to c.requires.place c.requires.loops) in
-    let spent : 2 * c.run_block.new.steps ≤ 2 * c.turns.steps + D * (position v - position s + 1) = subst (λ x. x * c.run_block.new.steps ≤ x * c.turns.steps + D * (position v - position s + 1)) twice e.cost in
     record {
       room = room_kept c.args.level.now.env n c.args.level.now.places.now c.turns.spare.places.now c.run_block.new.spare.places.now c.turns.regs c.run_block.new.regs c.turns.spare.registers.now c.run_block.new.spare.registers.now c.turns.cells c.run_block.new.cells c.turns.trace c.run_block.new.trace i.room c.run_block.ensures.kept.places c.run_block.auto.regs c.run_block.ensures.kept.registers c.run_block.auto.cells e.traced e.trace_room;
       kept = spare_on _ _ _ i.kept e.kept;
@@ -580,7 +477,6 @@ run_turns-turns-preserved g t c =
       frames = e.trace_room ∙ i.frames;
       memory = e.trace_memory ∙ i.memory;
       end = e.end ∙ i.end;
-      cost = let x = spend_turn c.args.steps.now c.turns.steps c.run_block.new.steps D (position s - position s0) (position v - position s) (position v - position s0) i.cost spent (omega (arith, moved)) (omega (arith, i.later.pos, e.later.pos)) in omega (arith, x, c.tick.ensures);
       same = (
         k - 1,
         omega (arith, moved, e.end, more, few),
@@ -598,20 +494,6 @@ run_turns-unreachable-requires g t c =
 
 pub run_turns-returns-in-Failed-clause-later : goal.run_turns-returns-in-Failed-clause-later
 run_turns-returns-in-Failed-clause-later g t c = later_trans g.met.W.Words.reaches_on c.args.stream.now c.turns.stream c.run_block.new.stream c.turns.invariant.later c.in-Failed.ensures.later
-
-pub run_turns-returns-in-Failed-clause-cost : goal.run_turns-returns-in-Failed-clause-cost
-run_turns-returns-in-Failed-clause-cost g t c =
-    let i = c.turns.invariant in
-    let e = c.in-Failed.ensures in
-    let C = c.args.level.now.env.parts.now in
-    let n = c.args.level.now.n in
-    let s0 = c.args.stream.now in
-    let s = c.turns.stream in
-    let v = c.run_block.new.stream in
-    let D = before C n c.args.stretch.to - before C n (c.args.stretch.first + 1) in
-    let twice : scale C (c.args.stretch.first + 1) ≡ 2 = ap (λ v. cond v 2 1) (c.requires.room.runnable.safe.loops.turning n c.args.stretch.first c.args.stretch.to c.requires.place c.requires.loops) in
-    let spent : 2 * c.run_block.new.steps ≤ 2 * c.turns.steps + D * (position v - position s + 1) = subst (λ x. x * c.run_block.new.steps ≤ x * c.turns.steps + D * (position v - position s + 1)) twice e.cost in
-    spend_last c.args.steps.now c.turns.steps c.run_block.new.steps D (position s - position s0) (position v - position s) (position v - position s0) i.cost spent (omega (arith, i.later.pos, e.later.pos))
 
 pub run_turns-returns-in-Failed-clause-same : goal.run_turns-returns-in-Failed-clause-same
 run_turns-returns-in-Failed-clause-same g t c =

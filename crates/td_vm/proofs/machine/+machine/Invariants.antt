@@ -37,8 +37,6 @@ invariant-run_block-steps g l = record {
   fixed : looped l.level.env.parts.now l.stretch.first ≡ true → opened (shapes_of l.level.env.parts.now) l.pc ≡ opened (shapes_of l.level.env.parts.now) l.stretch.first;
   end : looped l.level.env.parts.now l.stretch.first ≡ true → end_of l.stream ≡ end_of l.fn.stream;
   narrow : position l.fn.stream + window_bytes (opened (shapes_of l.level.env.parts.now) l.pc) ≤ end_of l.stream;
-  begun : before l.level.env.parts.now l.level.n l.stretch.first ≤ before l.level.env.parts.now l.level.n l.pc;
-  cost : scale l.level.env.parts.now l.stretch.first * l.steps ≤ scale l.level.env.parts.now l.stretch.first * l.fn.steps + (before l.level.env.parts.now l.level.n l.pc - before l.level.env.parts.now l.level.n l.stretch.first) * (position l.stream - position l.fn.stream + 1);
   idle : position l.fn.stream ≡ position l.stream → Idle l.level.env.parts.now l.level.n l.stretch.first l.pc;
   same : Ran g.W.Words.loads l.fn.stream l.stream l.fn.steps l.steps (λ b touched taken. block l.level.env.parts.now b l.level.n l.level.places.now l.stretch.first (state_of l.fn.regs l.fn.cells l.fn.act l.fn.stream) ≡ after touched taken (block l.level.env.parts.now b l.level.n l.level.places.now l.pc (state_of l.regs l.cells l.act l.stream)));
 }
@@ -57,7 +55,6 @@ invariant-run_turns-turns g l = record {
   frames : length l.trace.frames.items ≡ length l.fn.trace.frames.items;
   memory : vec_capacity l.trace.frames ≡ vec_capacity l.fn.trace.frames;
   end : end_of l.stream ≡ end_of l.fn.stream;
-  cost : l.steps ≤ l.fn.steps + (before l.level.env.parts.now l.level.n l.stretch.to - before l.level.env.parts.now l.level.n (l.stretch.first + 1) + 1) * (position l.stream - position l.fn.stream);
   same : (k : ℕ) × (end_of l.stream - position l.stream < k) × (Ran g.W.Words.loads l.fn.stream l.stream l.fn.steps l.steps (λ b touched taken. (behind : State → Exit) → turns (suc (end_of l.fn.stream - position l.fn.stream)) (block l.level.env.parts.now b l.level.n l.level.places.now (l.stretch.first + 1)) behind (state_of l.fn.regs l.fn.cells l.fn.act l.fn.stream) ≡ after touched taken (turns k (block l.level.env.parts.now b l.level.n l.level.places.now (l.stretch.first + 1)) behind (state_of l.regs l.cells l.act l.stream))));
 }
 

@@ -6,17 +6,17 @@ use Rattle.td_session.proofs.session.Session.validate.Goals as goal
 
 pub returns-clause-validated : goal.returns-clause-validated
 returns-clause-validated g c =
-    let done = c.validate_compiled-verdict in
+    let done = c.validate_told-found in
     let V : Parts → List ℕ → List ℕ → Type 0 = λ code before after. IsValidated code c.args.entry c.args.args.now before c.args.layout.now
-    (g.W.Words.loads done.new.words) (record { verdict = done.result; trace = done.new.frame.trace; cells = after }) in
-    let v : V c.deref-2.result.now c.set_cells.new.self.cells done.new.frame.cells = record {
+    (g.W.Words.loads done.new.words) (record { verdict = done.result.0; trace = done.new.frame.trace; cells = after }) done.result.1 in
+    let v : V c.verified-2.result.now c.set_cells.new.self.cells done.new.frame.cells = record {
       rising = done.ensures.rising;
       inside = done.ensures.inside;
-      cost = done.ensures.cost;
       run = done.ensures.run;
+      steps = done.ensures.told;
       behavior = done.ensures.behavior;
       count = done.ensures.cell_count;
     } in
-    let by_code = subst (λ (k : Parts). V k c.set_cells.new.self.cells done.new.frame.cells) c.deref-2.ensures v in
+    let by_code = subst (λ (k : Parts). V k c.set_cells.new.self.cells done.new.frame.cells) (c.verified-2.ensures ∙ c.deref-2.ensures) v in
     let from_cells = subst (λ (xs : List ℕ). V (arc_value c.args.self.now.code) xs done.new.frame.cells) c.set_cells.ensures.cells by_code in
     subst (λ (xs : List ℕ). V (arc_value c.args.self.now.code) c.args.cells.now xs) (sym (c.copy_from_slice.ensures.after ∙ c.cells.ensures)) from_cells
