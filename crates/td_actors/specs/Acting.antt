@@ -1,5 +1,5 @@
 -- What guests and workers are before they run, and what they did.
-use Rattle.std.specs.Prelude.{◌≡◌, ◌⊎◌, ℕ, ◌<◌, ◌≤◌, true, false, List, [], ◌∷◌, ◌++◌, map, length, vec_capacity, Some, None}
+use Rattle.std.specs.Prelude.{◌≡◌, ◌⊎◌, ℕ, ◌-◌, ◌<◌, ◌≤◌, true, false, List, [], ◌∷◌, ◌++◌, map, max, length, vec_capacity, slice_get, slice_index_or, Some, None}
 use Rattle.std.specs.List.{All}
 use Rattle.atomic_table.specs.Seated.{TableId}
 use Rattle.td_words.specs.declared.view.Access.{Access}
@@ -17,15 +17,24 @@ use Rattle.td_posts.specs.declared.job.Step.TheVariants as step
 use Rattle.td_posts.specs.declared.mail.Mail.{Mail}
 use Rattle.td_posts.specs.declared.reply.Reply.{Reply}
 use Rattle.td_posts.specs.declared.job.HostJob.{HostJob}
-use Rattle.td_posts.specs.Posts.{mails_of, all_mails, mail_named, list_of, layout_of, zeros, reply_name}
+use Rattle.td_posts.specs.Posts.{mails_of, all_mails, mail_named, list_of, layout_of, zeros, reply_name, version_in}
 use Rattle.td_ir.specs.declared.tables.Parts.{Parts}
 use Rattle.td_vm.specs.Need.{most_need, level}
+use Rattle.td_vm.specs.Frames.{FrameView, IsArmed}
+use Rattle.td_swap.specs.Views.{publisher_view, swap_view, new_view}
+use Rattle.td_swap.specs.Seats.{PublishState, SwapState, publish_state, swap_state}
 use Rattle.td_actors.specs.Replies.{IsReplyTo, pieces, label, mail_label}
 
 -- ---- what a post promises
--- how many frames a failure of this code has at most
-abbrev pub most_frames : Parts → ℕ
-most_frames c = most_need level c
+-- how many frames a failure of these codes has at most
+abbrev pub most_frames : List Parts → ℕ
+most_frames [] = 0
+most_frames (c ∷ cs) = max (most_need level c) (most_frames cs)
+
+-- a frame for each code, armed for it
+pub record AreArmed (cs : List Parts) (frames : List FrameView) : Type 0 where
+  pub as_many : length frames ≡ length cs
+  pub each : (n : ℕ) (c : Parts) (d : FrameView) → slice_get cs n ≡ Some c → IsArmed c (slice_index_or frames n d)
 
 -- the post is one of the job's, by its first of that name, and its room is empty and large enough, with memory for just so many frames
 pub record Fits (frames : ℕ) (job : HostJob) (p : Post) : Type 0 where
@@ -87,6 +96,11 @@ pub record RanScript (guest : ℕ) (script : List Step) (seat seat' : SeatState)
   pub is_seat : (opened : List ℕ) (n : ℕ) → seat ≡ guest_seat seat.table opened n [] → seat' ≡ guest_seat seat.table opened n (acts_of script)
   pub is_pass : (n : ℕ) → pass ≡ post_pass pass.queue n [] → pass' ≡ post_pass pass.queue n posts
 
+-- ---- the publisher
+-- it published all versions
+abbrev pub RanPublisher : PublishState → PublishState → Type 0
+RanPublisher seat seat' = seat' ≡ publish_state seat.table (publisher_view seat.view.count (seat.view.count - 1))
+
 -- ---- workers
 -- the reply is to the job's post of its name
 pub record Answered (job : HostJob) (r : Reply) : Type 0 where
@@ -95,8 +109,9 @@ pub record Answered (job : HostJob) (r : Reply) : Type 0 where
   pub reply : IsReplyTo job mail r
 
 -- the worker drew tickets below the count of posts, and for each of those took one post and answered it, with loads of its own
--- seat; it ended when it drew one that isn't below the count, or had answered as many posts as there are
-pub record RanWorker (job : HostJob) (count : ℕ) (seat seat' : SeatState) (pass pass' : PassState) (drawer drawer' : DrawerState) (replies : List Reply) : Type 0 where
+-- seat, under the version that it then loaded, one load for each; it ended when it drew one that isn't below the count, or had
+-- answered as many posts as there are
+pub record RanWorker (job : HostJob) (count : ℕ) (seat seat' : SeatState) (pass pass' : PassState) (drawer drawer' : DrawerState) (swap swap' : SwapState) (replies : List Reply) : Type 0 where
   pub steps : List Access
   pub posts : List Post
   pub below : List ℕ
@@ -104,6 +119,7 @@ pub record RanWorker (job : HostJob) (count : ℕ) (seat seat' : SeatState) (pas
   pub is_seat : (opened : List ℕ) (n : ℕ) → seat ≡ read_seat seat.table opened n [] → seat' ≡ read_seat seat.table opened n steps
   pub is_pass : (n : ℕ) → pass ≡ take_pass pass.queue n [] → pass' ≡ take_pass pass.queue n posts
   pub is_drawer : (n : ℕ) → drawer ≡ ticket_seat drawer.table n [] → drawer' ≡ ticket_seat drawer.table n (below ++ above)
+  pub is_swap : (versions : ℕ) → swap ≡ swap_state swap.table (new_view versions) → swap' ≡ swap_state swap.table (swap_view versions (map version_in replies) [])
   pub loaded : loads steps ≡ pieces (all_mails 1 job.guests) replies
   pub stored : stores steps ≡ []
   pub names : map reply_name replies ≡ map (λ p. p.name) posts

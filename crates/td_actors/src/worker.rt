@@ -1,6 +1,6 @@
 //! Workers, which take posts and answer them.
 
-ghost use Rattle.std.specs.Prelude.{◌≡◌, ◌+◌, ◌≤◌, [], length, None, vec_capacity};
+ghost use Rattle.std.specs.Prelude.{◌≡◌, ℕ, ◌+◌, ◌≤◌, [], length, None, vec_capacity};
 ghost use Rattle.std.specs.Option.{unwrap_or};
 ghost use Rattle.std.specs.List.{All};
 ghost use Rattle.td_ring.specs.declared.post.Post.{Post};
@@ -9,12 +9,14 @@ ghost use Rattle.td_posts.specs.Posts.{all_mails, layout_of, reply_name};
 ghost use Rattle.td_stream.specs.Layouts.{AreWithin};
 ghost use Rattle.td_live.specs.Live.{HasLoaded};
 ghost use Rattle.td_vm.specs.Frames.{IsArmed};
-ghost use Rattle.td_actors.specs.Replies.{IsJobCode, layout_in};
-ghost use Rattle.td_actors.specs.Acting.{Fits, most_frames, Answered, RanWorker};
+ghost use Rattle.td_swap.specs.Seats.{IsOwn, then_loaded};
+ghost use Rattle.td_actors.specs.Replies.{IsJobCode, IsCodeAt, layout_in};
+ghost use Rattle.td_actors.specs.Acting.{AreArmed, Fits, most_frames, Answered, RanWorker};
 
 use crate::actor::{Desk, Worker};
 use std::sync::Wait;
 use std::thread;
+use td_core::module::Entry;
 use td_core::outcome::TraceFrame;
 use td_live::gate::Gate;
 use td_live::slot::validate_slot;
@@ -28,7 +30,9 @@ use td_ring::post::Post;
 use td_ring::ring::Ring;
 use td_stream::laws::message_is_short;
 use td_stream::layout::Layout;
-use td_verify::verify::Verified;
+use td_swap::codes::Codes;
+use td_swap::seats::SwapSeat;
+use td_swap::version::Version;
 use td_vm::laws::fitting_cells_have_room;
 use td_vm::validate::Frame;
 use td_words::seats::ReadSeat;
@@ -88,10 +92,12 @@ fn list_or<'a>(list: &'a Option<Layout>, otherwise: &'a Layout) -> &'a Layout
     }
 }
 
-/// Answers a post by a validation from the worker's own seat, in the worker's frame and the post's room. It takes no memory, and
-/// no list of the room is let grow (that of loads can't: it only takes what it has room for).
+/// Answers a post under a version of this entry point by a validation from the worker's own seat, in the worker's frame for it and
+/// the post's room. It takes no memory, and no list of the room is let grow (that of loads can't: it only takes what it has room
+/// for).
 fn answer<G: Gate>(
-    code: &Verified,
+    version: &Version,
+    entry: Entry,
     job: &HostJob,
     mails: &[Mail],
     shared: &Shared,
@@ -103,12 +109,13 @@ fn answer<G: Gate>(
     requires own { seat.old.table ≡ shared.now.table }
     requires mails { mails.now ≡ all_mails 1 job.now.guests }
     requires inside { All (λ m. AreWithin shared.now.count (layout_of m)) mails.now }
-    requires code { IsJobCode code.now job.now }
-    requires armed { IsArmed code.now frame.old }
-    requires fits { Fits (most_frames code.now) job.now post }
+    requires code { IsCodeAt version.now.code job.now version.now.number entry }
+    requires armed { IsArmed version.now.code frame.old }
+    requires fits { (frames : ℕ) × (frame.old.trace_room ≤ frames) × Fits frames job.now post }
     ensures table { seat.new.table ≡ seat.old.table }
-    ensures armed { IsArmed code.now frame.new }
+    ensures armed { IsArmed version.now.code frame.new }
     ensures name { reply_name result ≡ post.name }
+    ensures version { result.version ≡ version.now.number }
     ensures answered { Answered job.now result }
     ensures read { HasLoaded (layout_in mails.now result) seat.old seat.new result.loads.list }
     ensures memory { (vec_capacity result.trace ≡ vec_capacity post.room.trace) × (vec_capacity result.cells ≡ vec_capacity post.room.cells) }
@@ -123,6 +130,7 @@ fn answer<G: Gate>(
     let Reply {
         guest: _,
         number: _,
+        version: _,
         layout,
         verdict: _,
         mut trace,
@@ -138,12 +146,22 @@ fn answer<G: Gate>(
     frame.set_cells(cells.as_slice());
     let args = job.args.as_slice();
     let verdict = validate_slot(
-        code, job.entry, args, shared, seat, laid, name, frame, &mut loads, gate,
+        &version.code,
+        entry,
+        args,
+        shared,
+        seat,
+        laid,
+        name,
+        frame,
+        &mut loads,
+        gate,
     );
     keep(frame, &mut trace, cells.as_mut_slice());
     Reply {
         guest: name.guest,
         number: name.number,
+        version: version.number,
         layout,
         verdict,
         trace,
@@ -152,29 +170,74 @@ fn answer<G: Gate>(
     }
 }
 
+/// Looks once which version is published, and answers a post under it. It takes no memory, and no list of the post's room is let
+/// grow.
+fn answer_now<G: Gate>(
+    codes: &Codes,
+    job: &HostJob,
+    mails: &[Mail],
+    shared: &Shared,
+    seat: &mut ReadSeat,
+    swap: &mut SwapSeat,
+    frames: &mut [Frame],
+    post: Post,
+    gate: &mut G,
+) -> Reply
+    requires own { (seat.old.table ≡ shared.now.table) × IsOwn codes.now swap.old }
+    requires mails { mails.now ≡ all_mails 1 job.now.guests }
+    requires inside { All (λ m. AreWithin shared.now.count (layout_of m)) mails.now }
+    requires code { IsJobCode codes.now.codes job.now }
+    requires armed { AreArmed codes.now.codes frames.old }
+    requires fits { Fits (most_frames codes.now.codes) job.now post }
+    ensures table { seat.new.table ≡ seat.old.table }
+    ensures armed { AreArmed codes.now.codes frames.new }
+    ensures swap { swap.new ≡ then_loaded swap.old result.version }
+    ensures name { reply_name result ≡ post.name }
+    ensures answered { Answered job.now result }
+    ensures read { HasLoaded (layout_in mails.now result) seat.old seat.new result.loads.list }
+    ensures memory { (vec_capacity result.trace ≡ vec_capacity post.room.trace) × (vec_capacity result.cells ≡ vec_capacity post.room.cells) }
+{
+    let version = codes.current(swap);
+    let number = version.number as usize;
+    let entry = job.entries.as_slice()[number];
+    answer(
+        version,
+        entry,
+        job,
+        mails,
+        shared,
+        seat,
+        &mut frames[number],
+        post,
+        gate,
+    )
+}
+
 /// Draws tickets, and for each that is below the count of posts takes a post and answers it; the first that isn't ends it, and
-/// so does a reply to as many posts as there are. It takes no memory: the frame was armed for the code, and there is room for
-/// a reply to each post.
+/// so does a reply to as many posts as there are. It takes no memory: there is a frame for each version, and room for a reply to
+/// each post.
 pub fn run_worker<J: Naming, R: Wait, G: Gate>(rt: &R, desk: &Desk<J>, worker: &mut Worker<G>)
-    requires own { (worker.old.seat.table ≡ desk.now.shared.table) × (worker.old.pass.queue ≡ desk.now.ring.queue) × (worker.old.drawer.table ≡ desk.now.tickets) }
+    requires own { (worker.old.seat.table ≡ desk.now.shared.table) × (worker.old.pass.queue ≡ desk.now.ring.queue) × (worker.old.drawer.table ≡ desk.now.tickets) × IsOwn desk.now.codes worker.old.swap }
     requires mails { desk.now.mails.items ≡ all_mails 1 desk.now.job.guests }
     requires inside { All (λ m. AreWithin desk.now.shared.count (layout_of m)) desk.now.mails.items }
-    requires says { (p : Post) → J.names p → Fits (most_frames desk.now.code) desk.now.job p }
-    requires code { IsJobCode desk.now.code desk.now.job }
-    requires armed { IsArmed desk.now.code worker.old.frame }
+    requires says { (p : Post) → J.names p → Fits (most_frames desk.now.codes.codes) desk.now.job p }
+    requires code { IsJobCode desk.now.codes.codes desk.now.job }
+    requires armed { AreArmed desk.now.codes.codes worker.old.frames.items }
     requires empty { worker.old.replies.items ≡ [] }
     requires room { length desk.now.mails.items ≤ vec_capacity worker.old.replies }
-    ensures { RanWorker desk.now.job (length desk.now.mails.items) worker.old.seat worker.new.seat worker.old.pass worker.new.pass worker.old.drawer worker.new.drawer worker.new.replies.items }
+    ensures { RanWorker desk.now.job (length desk.now.mails.items) worker.old.seat worker.new.seat worker.old.pass worker.new.pass worker.old.drawer worker.new.drawer worker.old.swap worker.new.swap worker.new.replies.items }
 {
     let Worker {
         seat,
         pass,
         drawer,
-        frame,
+        swap,
+        frames,
         replies,
         gate,
     } = worker;
     let mails = desk.mails.as_slice();
+    let frames = frames.as_mut_slice();
     let count = mails.len() as u64;
     while replies.len() < mails.len() {
         if desk.tickets.draw(drawer) >= count {
@@ -182,13 +245,14 @@ pub fn run_worker<J: Naming, R: Wait, G: Gate>(rt: &R, desk: &Desk<J>, worker: &
         }
         let post = take(rt, &desk.ring, pass);
         let name = post.name;
-        let reply = answer(
-            &desk.code,
+        let reply = answer_now(
+            &desk.codes,
             &desk.job,
             mails,
             &desk.shared,
             seat,
-            frame,
+            swap,
+            frames,
             post,
             gate,
         );

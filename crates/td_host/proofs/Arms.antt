@@ -1,6 +1,9 @@
 -- How a host is armed.
 use Rattle.std.proofs.Common.{◌≡◌, ℕ, zero, suc, ◌+◌, ◌<◌, ◌≤◌, ◌^◌, true, false, List, [], ◌∷◌, ◌++◌, length, drop, refl, sym, ap, ◌∙◌, subst, arith, append_assoc, length-append}
-use Rattle.std.specs.Prelude.{slice_index_or, vec_capacity}
+use Rattle.std.specs.Prelude.{slice_index_or, slice_get, vec_capacity, Option, Some, None, map, max, option_map}
+use Rattle.std.proofs.lemmas.Option.{slice_get_within, slice_get-map, slice_get-get_or, get_or_from_slice_get}
+use mathlib.Core.Logic.{dite}
+use native.Mathlib.Decide.{ℕ_discrete}
 use Rattle.std.specs.List.{All}
 use Rattle.std.proofs.lemmas.List.{drop_more, drop_all}
 use Rattle.std.proofs.lemmas.List.Elements.{All-contains, Contains-append_left, Contains-append_right, Contains-get_or}
@@ -19,9 +22,15 @@ use Rattle.td_actors.specs.declared.actor.Actor.{Actor}
 use Rattle.td_actors.specs.declared.actor.Actor.TheVariants as kind
 use Rattle.td_actors.specs.declared.actor.Worker.{Worker}
 use Rattle.td_actors.specs.declared.actor.Guest.{Guest}
-use Rattle.td_vm.specs.Frames.{IsArmed}
+use Rattle.td_vm.specs.Frames.{FrameView, IsArmed}
+use Rattle.td_ir.specs.declared.tables.Parts.{Parts}
+use Rattle.td_vm.specs.Need.{most_need, level}
+use Rattle.td_swap.specs.declared.version.Version.{Version}
+use Rattle.td_swap.specs.Versions.{version_code}
+use Rattle.td_swap.specs.Views.{new_view}
+use Rattle.td_swap.specs.Seats.{swap_state}
 use Rattle.td_actors.specs.Actors.{Service}
-use Rattle.td_actors.specs.Acting.{RoomsFor, StoresInside, post_of}
+use Rattle.td_actors.specs.Acting.{most_frames, AreArmed, RoomsFor, StoresInside, post_of}
 use Rattle.td_actors.proofs.Posting.{Posting, mail_by, mails_post}
 use Rattle.td_host.specs.Gathered.{FreshWorker, FreshWorkers, FreshGuest, FreshGuests, WorkersSeated, GuestsSeated, Armed, host_at, posts_at, takes_at, draws_at}
 use Rattle.td_actors.proofs.Plays.{append_nil}
@@ -129,6 +138,7 @@ module _ {G : Type 0} where
   fresh-push shared ring service opened [] w f x = (x, tt)
   fresh-push shared ring service opened (kind.Worker v ∷ ws) w f x = (f.0, fresh-push shared ring service opened ws w f.1 x)
   fresh-push shared ring service opened (kind.Guest g ∷ ws) w f x = absurd f
+  fresh-push shared ring service opened (kind.Publisher q ∷ ws) w f x = absurd f
 
   module _ (shared : BufferState) (ring : RingState) (service : Service) (opened : List ℕ) where
     pub no_worker : (seat : HostState) (takes : PassState) (drawer : DrawerState) (ws : List (Actor G)) → ws ≡ [] → seat ≡ host_at shared.table opened 0 → takes ≡ takes_at ring.queue 1 → drawer ≡ draws_at service.tickets 1
@@ -140,8 +150,8 @@ module _ {G : Type 0} where
         → seat' ≡ with_view seat (one_more seat.view) → w.seat ≡ seat_state seat.table (new_seat seat.view false)
         → takes' ≡ pass_with takes (one_more_take takes.view) → w.pass ≡ pass_with takes (new_take takes.view)
         → drawer' ≡ drawer_with drawer (one_more_draw drawer.view) → w.drawer ≡ drawer_with drawer (new_drawer drawer.view)
-        → IsArmed service.code w.frame → w.replies.items ≡ [] → service.posts ≤ vec_capacity w.replies → ws' ≡ ws ++ kind.Worker w ∷ [] → WorkersSeated shared ring service opened (n + 1) seat' takes' drawer' ws'
-    one_worker n seat seat' takes takes' drawer drawer' ws ws' w p es ew et ep ed eq armed none room e = record {
+        → w.swap ≡ swap_state service.codes.table (new_view (length service.codes.codes)) → AreArmed service.codes.codes w.frames.items → w.replies.items ≡ [] → service.posts ≤ vec_capacity w.replies → ws' ≡ ws ++ kind.Worker w ∷ [] → WorkersSeated shared ring service opened (n + 1) seat' takes' drawer' ws'
+    one_worker n seat seat' takes takes' drawer drawer' ws ws' w p es ew et ep ed eq fresh armed none room e = record {
       as_many = ap length e ∙ (length-append ws (kind.Worker w ∷ []) ∙ ap (λ k. k + 1) p.as_many);
       fresh = subst (FreshWorkers shared ring service opened) (sym e) (fresh-push shared ring service opened ws w p.fresh record {
         seat_number = n;
@@ -150,6 +160,7 @@ module _ {G : Type 0} where
         is_seat = ew ∙ ap (λ (k : HostState). seat_state k.table (new_seat k.view false)) p.is_seat;
         is_pass = ep ∙ ap (λ (h : PassState). pass_with h (new_take h.view)) p.is_takes;
         is_drawer = eq ∙ ap (λ (d : DrawerState). drawer_with d (new_drawer d.view)) p.is_drawer;
+        is_swap = fresh;
         armed = armed;
         no_reply = none;
         room = room;
@@ -252,3 +263,60 @@ module _ {G : Type 0} where
         take_head = t ∙ (w.is_takes ∙ ap (takes_at ring.queue) many);
         ticket_head = d ∙ (w.is_drawer ∙ ap (draws_at service.tickets) many);
       }
+
+-- ---- frames for the codes so far
+pub record Framing (cs : List Parts) (n : ℕ) (frames : List FrameView) : Type 0 where
+  pub as_many : length frames ≡ n
+  pub each : (k : ℕ) (c : Parts) (d : FrameView) → k < n → slice_get cs k ≡ Some c → IsArmed c (slice_index_or frames k d)
+
+pub no_frame : (cs : List Parts) → Framing cs 0 []
+no_frame cs = record { as_many = refl; each = λ k c d lt. absurd (omega (arith, lt)) }
+
+code_or : Parts → Option Parts → Parts
+code_or d None = d
+code_or d (Some x) = x
+
+same_code : (a b : Parts) → Some a ≡ Some b → a ≡ b
+unfolding code_or
+same_code a b e = ap (code_or a) e
+
+pub one_frame : (cs : List Parts) (n : ℕ) (frames frames' : List FrameView) (c : Parts) (f : FrameView) → Framing cs n frames → slice_get cs n ≡ Some c → IsArmed c f → frames' ≡ frames ++ f ∷ [] → Framing cs (n + 1) frames'
+one_frame cs n frames frames' c f p is armed e = subst (Framing cs (n + 1)) (sym e) record {
+  as_many = length-append frames (f ∷ []) ∙ ap (λ k. k + 1) p.as_many;
+  each = λ k x d lt at. dite (ℕ_discrete k n)
+      (λ same. subst (λ (y : Parts × FrameView). IsArmed y.0 y.1)
+      (λ i. (same_code c x (sym is ∙ (ap (slice_get cs) (sym same) ∙ at)) i, sym (ap (λ j. slice_index_or (frames ++ f ∷ []) j d) (same ∙ sym p.as_many) ∙ at_end frames f d) i)) armed)
+      (λ other.
+      let less : k < n = omega (arith, lt, other) in
+      subst (IsArmed x) (sym (before_end frames f k d (let z = p.as_many in omega (arith, less, z)))) (p.each k x d less at));
+}
+  where
+    at_end : (fs : List FrameView) (f d : FrameView) → slice_index_or (fs ++ f ∷ []) (length fs) d ≡ f
+    at_end [] f d = refl
+    at_end (x ∷ fs) f d = at_end fs f d
+
+    before_end : (fs : List FrameView) (f : FrameView) (k : ℕ) (d : FrameView) → k < length fs → slice_index_or (fs ++ f ∷ []) k d ≡ slice_index_or fs k d
+    before_end [] f k d lt = absurd (omega (arith, lt))
+    before_end (x ∷ fs) f zero d lt = refl
+    before_end (x ∷ fs) f (suc k) d lt = before_end fs f k d (omega (arith, lt))
+
+pub all_frames : (cs : List Parts) (n : ℕ) (frames : List FrameView) → Framing cs n frames → n ≡ length cs → AreArmed cs frames
+all_frames cs n frames p e = record {
+  as_many = p.as_many ∙ e;
+  each = λ k c d at. p.each k c d (let z = slice_get_within cs k c at in omega (arith, z, e)) at;
+}
+
+-- the code of a version is that of its number
+pub code_at : (vs : List Version) (cs : List Parts) (n : ℕ) (v : Version) → map version_code vs ≡ cs → n < length vs → slice_index_or vs n v ≡ v → slice_get cs n ≡ Some v.code
+code_at vs cs n v e lt is = ap (λ l. slice_get l n) (sym e) ∙ (slice_get-map version_code vs n ∙ ap (option_map version_code) (slice_get-get_or vs n v lt ∙ ap Some is))
+
+-- ---- the frames that a failure has at most, of the codes so far
+pub next_most : (cs : List Parts) (n : ℕ) (c : Parts) (most most' : ℕ) → slice_get cs n ≡ Some c → max (most_frames (drop n cs)) most ≡ most_frames cs → most' ≡ max (most_need level c) most
+    → max (most_frames (drop (n + 1) cs)) most' ≡ most_frames cs
+next_most cs n c most most' at so_far new =
+    let split : drop n cs ≡ c ∷ drop (n + 1) cs = drop_more cs n c (slice_get_within cs n c at) ∙ ap (λ x. x ∷ drop (n + 1) cs) (get_or_from_slice_get cs n c c at) in
+    let first : most_frames (drop n cs) ≡ max (most_need level c) (most_frames (drop (n + 1) cs)) = ap most_frames split in
+    regroup (most_frames (drop n cs)) (most_need level c) (most_frames (drop (n + 1) cs)) most most' (most_frames cs) first so_far new
+  where
+    regroup : (all one rest so new whole : ℕ) → all ≡ max one rest → max all so ≡ whole → new ≡ max one so → max rest new ≡ whole
+    regroup all one rest so new whole a b c = omega (arith, a, b, c)

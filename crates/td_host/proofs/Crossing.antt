@@ -39,7 +39,7 @@ use Rattle.td_words.proofs.shared.Shared.TheSendSync as shared
 use Rattle.td_ring.specs.declared.naming.Naming.{Ghosts}
 use Rattle.td_ring.proofs.ring.Ring.TheSendSync as ring
 use Rattle.td_ring.proofs.tickets.Tickets.TheSendSync as tickets
-use Rattle.td_verify.proofs.verify.Verified.TheSendSync as verified
+use Rattle.td_swap.proofs.codes.Codes.TheSendSync as codes
 use Rattle.td_actors.specs.contracts.actor.Desk as desk
 
 pub ruleset leaves = (known.crosses, known.sync, step.the_sync, step.the_field_sync, post_name.the_sync, post_name.the_field_sync, span.the_field_sync, span.the_sync, number_type.the_field_sync, number_type.the_sync, items.the_sync, text.the_sync, scalar.the_field_sync, scalar.the_sync, binary.the_field_sync, binary.the_sync, relation.the_field_sync, relation.the_sync, name_id.the_field_sync, name_id.the_sync, bits.the_field_sync, bits.the_sync, param.the_field_sync, param.the_sync, cell.the_field_sync, cell.the_sync, entry.the_field_sync, entry.the_sync)
@@ -81,7 +81,7 @@ pub host_job_sync : IsSync host_job.the_row
 host_job_sync = declared_sync host_job.the_type (search (sendable, leaves, as_row_sync, module_sync) depth 12)
 
 pub desk_sync : (J : RattleType) (N : Ghosts J.Denot) → IsSync (desk.the_row J N)
-desk_sync J N = declared_sync (desk.the_type J N) (search (sendable, leaves, as_row_sync, shared.the_sync, ring.the_sync, tickets.the_sync, verified.the_sync, host_job_sync, mail_sync) depth 12)
+desk_sync J N = declared_sync (desk.the_type J N) (search (sendable, leaves, as_row_sync, shared.the_sync, ring.the_sync, tickets.the_sync, codes.the_sync, host_job_sync, mail_sync) depth 12)
 
 -- a closure that captured two things
 pub tuple_sync : (ν : Sym) (A B : RattleType) → IsSync A → IsSync B → IsSync (TupleAt ν (A ∷ B ∷ []))

@@ -24,14 +24,17 @@ use Rattle.td_posts.specs.declared.job.Step.TheVariants as step
 use Rattle.td_posts.specs.declared.mail.Mail.{Mail}
 use Rattle.td_posts.specs.declared.reply.Reply.{Reply}
 use Rattle.td_posts.specs.declared.job.HostJob.{HostJob}
-use Rattle.td_posts.specs.Posts.{all_mails, stores_of, reply_name}
+use Rattle.td_posts.specs.Posts.{all_mails, stores_of, reply_name, version_in}
+use Rattle.td_swap.specs.declared.view.SwapView.{SwapView}
+use Rattle.td_swap.specs.Views.{swap_view, new_view}
+use Rattle.td_swap.specs.Seats.{SwapState, swap_state}
 use Rattle.td_actors.specs.declared.actor.Actor.{Actor}
 use Rattle.td_actors.specs.declared.actor.Actor.TheVariants as kind
 use Rattle.td_actors.specs.Replies.{pieces}
 use Rattle.td_host.specs.Served.{In, ArePieces, joined, AreStored, ArePosted, AnswerTakes}
 use Rattle.td_actors.specs.Acting.{acts_of, guest_seat, read_seat, post_pass, take_pass, ticket_seat, RanScript, RanWorker, Answered}
 use Rattle.td_actors.specs.Actors.{Service, Did}
-use Rattle.td_host.specs.Gathered.{view_of, put_one, take_one, draw_one, seats_all, puts_all, takes_all, draws_all, all_replies, FreshWorkers, FreshGuests}
+use Rattle.td_host.specs.Gathered.{view_of, put_one, take_one, draw_one, swap_one, seats_all, puts_all, takes_all, draws_all, swaps_all, all_replies, FreshWorkers, FreshGuests}
 use Rattle.td_host.proofs.Shares.{one_below}
 use Rattle.td_actors.proofs.Plays.{append_nil}
 
@@ -84,14 +87,23 @@ module _ {G : Type 0} where
   abbrev pub put_of : Actor G → Option (Part Post)
   put_of (kind.Worker w) = None
   put_of (kind.Guest g) = g.pass.view.put
+  put_of (kind.Publisher p) = None
 
   abbrev pub take_of : Actor G → Option (Part Post)
   take_of (kind.Worker w) = w.pass.view.take
   take_of (kind.Guest g) = None
+  take_of (kind.Publisher p) = None
 
   abbrev pub draw_of : Actor G → Option (Part ℕ)
   draw_of (kind.Worker w) = w.drawer.view.draws
   draw_of (kind.Guest g) = None
+  draw_of (kind.Publisher p) = None
+
+  -- the lists of numbers that it hands back
+  abbrev pub swaps_of : Actor G → List (List ℕ)
+  swaps_of (kind.Worker w) = w.swap.view.loads ∷ w.swap.view.ended
+  swaps_of (kind.Guest g) = []
+  swaps_of (kind.Publisher p) = []
 
   unfoldable pub put_parts : List (Actor G) → List (Part Post)
   put_parts [] = []
@@ -105,6 +117,10 @@ module _ {G : Type 0} where
   draw_parts [] = []
   draw_parts (a ∷ ds) = cons_opt (draw_of a) (draw_parts ds)
 
+  unfoldable pub swap_lists : List (Actor G) → List (List ℕ)
+  swap_lists [] = []
+  swap_lists (a ∷ ds) = swaps_of a ++ swap_lists ds
+
   -- ---- what is gathered
   pub seats_are : (h : HostView) (ds : List (Actor G)) → seats_all h ds ≡ host_view h.opened h.made (h.ended ++ map view_of ds)
   unfolding seats_all
@@ -114,14 +130,28 @@ module _ {G : Type 0} where
   put_one_is : (h : Head Post) (p t : Option (Part Post)) (th : Option (Head Post)) (a : Actor G) → put_one (ring_view (Some h) p th t) a ≡ ring_view (part_ended (Some h) (put_of a)) p th t
   put_one_is h p t th (kind.Worker w) = refl
   put_one_is h p t th (kind.Guest g) = refl
+  put_one_is h p t th (kind.Publisher q) = refl
 
   take_one_is : (h : Head Post) (p t : Option (Part Post)) (ph : Option (Head Post)) (a : Actor G) → take_one (ring_view ph p (Some h) t) a ≡ ring_view ph p (part_ended (Some h) (take_of a)) t
   take_one_is h p t ph (kind.Worker w) = refl
   take_one_is h p t ph (kind.Guest g) = refl
+  take_one_is h p t ph (kind.Publisher q) = refl
 
   draw_one_is : (h : Head ℕ) (d : Option (Part ℕ)) (a : Actor G) → draw_one (ticket_view (Some h) d) a ≡ ticket_view (part_ended (Some h) (draw_of a)) d
   draw_one_is h d (kind.Worker w) = refl
   draw_one_is h d (kind.Guest g) = refl
+  draw_one_is h d (kind.Publisher q) = refl
+
+  swap_one_is : (v : SwapView) (a : Actor G) → swap_one v a ≡ swap_view v.count v.loads (v.ended ++ swaps_of a)
+  swap_one_is v (kind.Worker w) = refl
+  swap_one_is v (kind.Guest g) = ap (swap_view v.count v.loads) (sym (append_nil v.ended))
+  swap_one_is v (kind.Publisher q) = ap (swap_view v.count v.loads) (sym (append_nil v.ended))
+
+  pub swaps_are : (v : SwapView) (ds : List (Actor G)) → swaps_all v ds ≡ swap_view v.count v.loads (v.ended ++ swap_lists ds)
+  unfolding swaps_all swap_lists
+  swaps_are v [] = ap (swap_view v.count v.loads) (sym (append_nil v.ended))
+  swaps_are v (a ∷ ds) =
+      ap (λ x. swaps_all x ds) (swap_one_is v a) ∙ (swaps_are (swap_view v.count v.loads (v.ended ++ swaps_of a)) ds ∙ ap (swap_view v.count v.loads) (append_assoc v.ended (swaps_of a) (swap_lists ds)))
 
   pub puts_are : (made : ℕ) (ended : List (Part Post)) (p t : Option (Part Post)) (th : Option (Head Post)) (ds : List (Actor G))
       → puts_all (ring_view (Some (head_of made ended)) p th t) ds ≡ ring_view (Some (head_of made (ended ++ put_parts ds))) p th t
@@ -185,17 +215,20 @@ module _ {G : Type 0} where
       pub no_takes : take_parts ds ≡ []
       pub no_draws : draw_parts ds ≡ []
       pub no_replies : all_replies ds ≡ []
+      pub no_swaps : swap_lists ds ≡ []
 
     module _ (names : Post → Type 0) (shared : BufferState) (ring : RingState) (opened : List ℕ) where
       pub guests_done : (number n m : ℕ) (ss : List (List Step)) (ds bs : List (Actor G)) → FreshGuests names shared ring opened number n m ss ds → DidAll ds bs → GuestsDone number n m ss bs
-      unfolding DidAll FreshGuests AreStored ArePosted cons_opt put_parts take_parts draw_parts all_replies
-      guests_done number n m [] [] [] f d = record { stored_by = tt; posted = tt; as_many = refl; no_takes = refl; no_draws = refl; no_replies = refl }
+      unfolding DidAll FreshGuests AreStored ArePosted cons_opt put_parts take_parts draw_parts all_replies swap_lists
+      guests_done number n m [] [] [] f d = record { stored_by = tt; posted = tt; as_many = refl; no_takes = refl; no_draws = refl; no_replies = refl; no_swaps = refl }
       guests_done number n m [] [] (b ∷ bs) f d = absurd d
       guests_done number n m [] (a ∷ ds) bs f d = absurd f
       guests_done number n m (s ∷ ss) [] bs f d = absurd f
       guests_done number n m (s ∷ ss) (kind.Worker w ∷ ds) bs f d = absurd f
+      guests_done number n m (s ∷ ss) (kind.Publisher q ∷ ds) bs f d = absurd f
       guests_done number n m (s ∷ ss) (kind.Guest g ∷ ds) [] f d = absurd d
       guests_done number n m (s ∷ ss) (kind.Guest g ∷ ds) (kind.Worker w ∷ bs) f d = absurd d.0
+      guests_done number n m (s ∷ ss) (kind.Guest g ∷ ds) (kind.Publisher q ∷ bs) f d = absurd d.0
       guests_done number n m (s ∷ ss) (kind.Guest g ∷ ds) (kind.Guest h ∷ bs) f d =
           let x = f.0 in
           let p : RanScript number s g.seat h.seat g.pass h.pass = subst (λ (y : ℕ × List Step). RanScript y.0 y.1 g.seat h.seat g.pass h.pass) (λ i. (x.is_number i, x.is_script i)) d.0 in
@@ -214,6 +247,7 @@ module _ {G : Type 0} where
             no_takes = r.no_takes;
             no_draws = r.no_draws;
             no_replies = r.no_replies;
+            no_swaps = r.no_swaps;
           }
 
     -- ---- workers
@@ -232,10 +266,11 @@ module _ {G : Type 0} where
       pub as_many_takes : length (take_parts ds) ≡ length ds
       pub as_many_draws : length (draw_parts ds) ≡ length ds
       pub no_puts : put_parts ds ≡ []
+      pub numbers : swap_lists ds ≡ map (map version_in) shares
 
     module _ (shared : BufferState) (ring : RingState) (service : Service) (opened : List ℕ) where
       pub workers_done : (ds bs : List (Actor G)) → FreshWorkers shared ring service opened ds → DidAll ds bs → WorkersDone bs
-      unfolding DidAll FreshWorkers cons_opt In ArePieces AnswerTakes joined all_replies put_parts take_parts draw_parts owned
+      unfolding DidAll FreshWorkers cons_opt In ArePieces AnswerTakes joined all_replies put_parts take_parts draw_parts swap_lists owned
       workers_done [] [] f d = record {
         shares = [];
         are_pieces = tt;
@@ -251,22 +286,28 @@ module _ {G : Type 0} where
         as_many_takes = refl;
         as_many_draws = refl;
         no_puts = refl;
+        numbers = refl;
       }
       workers_done [] (b ∷ bs) f d = absurd d
       workers_done (kind.Guest g ∷ ds) bs f d = absurd f
+      workers_done (kind.Publisher q ∷ ds) bs f d = absurd f
       workers_done (kind.Worker w ∷ ds) [] f d = absurd d
       workers_done (kind.Worker w ∷ ds) (kind.Guest h ∷ bs) f d = absurd d.0
+      workers_done (kind.Worker w ∷ ds) (kind.Publisher q ∷ bs) f d = absurd d.0
       workers_done (kind.Worker w ∷ ds) (kind.Worker v ∷ bs) f d =
           let x = f.0 in
-          let p : RanWorker job (length mails) w.seat v.seat w.pass v.pass w.drawer v.drawer v.replies.items = d.0 in
+          let p : RanWorker job (length mails) w.seat v.seat w.pass v.pass w.drawer v.drawer w.swap v.swap v.replies.items = d.0 in
           let r = workers_done ds bs f.1 d.1 in
           let n = length mails in
           let table : w.seat.table ≡ shared.table = ap (λ (z : SeatState). z.table) x.is_seat in
           let queue : w.pass.queue ≡ ring.queue = ap (λ (z : PassState). z.queue) x.is_pass in
+          let words : w.swap.table ≡ service.codes.table = ap (λ (z : SwapState). z.table) x.is_swap in
           let desk : w.drawer.table ≡ service.tickets = ap (λ (z : DrawerState). z.table) x.is_drawer in
           let seat = p.is_seat opened x.seat_number (x.is_seat ∙ ap (λ t. read_seat t opened x.seat_number []) (sym table)) in
           let pass = p.is_pass x.pass_number (x.is_pass ∙ ap (λ q. take_pass q x.pass_number []) (sym queue)) in
           let drawer = p.is_drawer x.drawer_number (x.is_drawer ∙ ap (λ q. ticket_seat q x.drawer_number []) (sym desk)) in
+          let versions : ℕ = length service.codes.codes in
+          let loaded = p.is_swap versions (x.is_swap ∙ ap (λ t. swap_state t (new_view versions)) (sym words)) in
           let view : v.seat.view ≡ seat_view opened x.seat_number false p.steps = ap (λ (z : SeatState). z.view) seat in
           let draws = p.below ++ p.above in
           let took : cons_opt v.pass.view.take (take_parts bs) ≡ part_of x.pass_number p.posts ∷ take_parts bs = ap (λ (z : PassState). cons_opt z.view.take (take_parts bs)) pass in
@@ -303,4 +344,5 @@ module _ {G : Type 0} where
             as_many_takes = ap length took ∙ ap suc r.as_many_takes;
             as_many_draws = ap length drew ∙ ap suc r.as_many_draws;
             no_puts = r.no_puts;
+            numbers = λ i. (loaded i).view.loads ∷ ((loaded i).view.ended ++ r.numbers i);
           }

@@ -1,9 +1,9 @@
 -- All posts are served, from what each actor did and what the ring, the tickets and the buffer tell.
-use Rattle.std.proofs.Common.{◌≡◌, ℕ, suc, ◌+◌, ◌*◌, ◌<◌, ◌≤◌, ◌^◌, List, [], ◌∷◌, ◌++◌, map, length, Option, Some, None, refl, sym, ap, ◌∙◌, subst, ⊎_elim, arith, append_assoc, length-append}
-use Rattle.std.specs.Prelude.{slice_index_or}
-use Rattle.std.specs.List.{Contains, sum_by}
+use Rattle.std.proofs.Common.{◌≡◌, ℕ, suc, ◌+◌, ◌*◌, ◌<◌, ◌≤◌, ◌^◌, ◌-◌, List, [], ◌∷◌, ◌++◌, map, length, Option, Some, None, refl, sym, ap, ◌∙◌, subst, ⊎_elim, arith, append_assoc, length-append}
+use Rattle.std.specs.List.{All, Contains, sum_by}
 use Rattle.std.specs.List.Sorted.{IsPermutation}
 use Rattle.std.proofs.lemmas.List.{map-append, length-map}
+use Rattle.std.proofs.lemmas.List.Elements.{All-nil}
 use Rattle.std.proofs.lemmas.List.Sorted.{IsPermutation-map, All-permutation, sum_by-IsPermutation}
 use Rattle.td_posts.specs.declared.name.PostName.{PostName}
 use Rattle.td_words.specs.declared.view.HostView.{HostView}
@@ -23,15 +23,19 @@ use Rattle.td_posts.specs.declared.job.Step.{Step}
 use Rattle.td_posts.specs.declared.mail.Mail.{Mail}
 use Rattle.td_posts.specs.declared.reply.Reply.{Reply}
 use Rattle.td_posts.specs.declared.job.HostJob.{HostJob}
-use Rattle.td_posts.specs.Posts.{mails_of, all_mails, reply_name}
+use Rattle.td_posts.specs.Posts.{mails_of, all_mails, reply_name, version_in}
+use Rattle.td_swap.specs.declared.view.SwapView.{SwapView}
+use Rattle.td_swap.specs.declared.view.PublisherView.{PublisherView}
+use Rattle.td_swap.specs.Views.{publisher_view, swap_view, new_view, IsVersionRun, AreVersions}
+use Rattle.td_host.specs.Versioned.{Versioned, ServedVersions}
 use Rattle.td_actors.specs.declared.actor.Actor.{Actor}
 use Rattle.td_actors.specs.Replies.{label, mail_label}
-use Rattle.td_host.specs.Served.{ArePosted, Served}
+use Rattle.td_host.specs.Served.{ArePosted, joined, AnswerTakes, Served}
 use Rattle.td_actors.specs.Acting.{Answered}
-use Rattle.td_actors.specs.Actors.{Service, Did}
-use Rattle.td_host.specs.Gathered.{view_of, seats_all, puts_all, takes_all, draws_all, all_replies, replies_of, Armed}
+use Rattle.td_actors.specs.Actors.{Service}
+use Rattle.td_host.specs.Gathered.{view_of, seats_all, puts_all, takes_all, draws_all, swaps_all, all_replies, replies_of, Armed}
 use Rattle.td_host.proofs.Shares.{all_taken, drawn_all, drawn_below}
-use Rattle.td_host.proofs.Ends.{put_of, take_of, draw_of, put_parts, take_parts, draw_parts, seats_are, puts_are, takes_are, draws_are, DidAll, did_all, did_both, GuestsDone, guests_done, WorkersDone, workers_done, cons_opt}
+use Rattle.td_host.proofs.Ends.{put_of, take_of, draw_of, swaps_of, put_parts, take_parts, draw_parts, swap_lists, swaps_are, seats_are, puts_are, takes_are, draws_are, DidAll, did_both, GuestsDone, guests_done, WorkersDone, workers_done, cons_opt}
 use Rattle.td_host.proofs.Unique.{replies_to}
 use Rattle.td_host.proofs.Fetching.{fetches}
 use Rattle.td_actors.proofs.Plays.{append_nil}
@@ -58,6 +62,18 @@ unfolding cons_opt
 cons-append None xs ys zs e = e
 cons-append (Some x) xs ys zs e = ap (λ l. x ∷ l) e
 
+same_shares : (ps : List (Part Post)) (shares : List (List Reply)) → AnswerTakes ps shares → length shares ≡ length ps
+unfolding AnswerTakes
+same_shares [] [] a = refl
+same_shares [] (x ∷ xs) a = absurd a
+same_shares (p ∷ ps) [] a = absurd a
+same_shares (p ∷ ps) (x ∷ xs) a = ap suc (same_shares ps xs a.1)
+
+joined-map : {A B : Type 0} (f : A → B) (xss : List (List A)) → joined (map (map f) xss) ≡ map f (joined xss)
+unfolding joined
+joined-map f [] = refl
+joined-map f (xs ∷ xss) = ap (λ l. map f xs ++ l) (joined-map f xss) ∙ sym (map-append f xs (joined xss))
+
 module _ {G : Type 0} where
   puts-append : (xs ys : List (Actor G)) → put_parts (xs ++ ys) ≡ put_parts xs ++ put_parts ys
   unfolding put_parts
@@ -78,6 +94,11 @@ module _ {G : Type 0} where
   unfolding all_replies
   replies-append [] ys = refl
   replies-append (x ∷ xs) ys = ap (λ l. replies_of x ++ l) (replies-append xs ys) ∙ sym (append_assoc (replies_of x) (all_replies xs) (all_replies ys))
+
+  numbers-append : (xs ys : List (Actor G)) → swap_lists (xs ++ ys) ≡ swap_lists xs ++ swap_lists ys
+  unfolding swap_lists
+  numbers-append [] ys = refl
+  numbers-append (x ∷ xs) ys = ap (λ l. swaps_of x ++ l) (numbers-append xs ys) ∙ sym (append_assoc (swaps_of x) (swap_lists xs) (swap_lists ys))
 
   module _ (job : HostJob) (mails : List Mail) where
     did_length : (xs ys : List (Actor G)) → DidAll job mails xs ys → length ys ≡ length xs
@@ -102,10 +123,9 @@ module _ {G : Type 0} where
       pub take_head : takes.view ≡ ring_view None None (Some (head_of (length workers + 1) [])) (Some (part_of 0 []))
       pub ticket_head : drawer.view ≡ ticket_view (Some (head_of (length workers + 1) [])) (Some (part_of 0 []))
 
-    pub halves : Armed names shared ring service job seat posts takes drawer olds → length news ≡ length olds
-        → ((i : ℕ) (d : Actor G) → i < length olds → Did job mails (slice_index_or olds i d) (slice_index_or news i d)) → Halves
-    halves a len did =
-        let b = did_both job mails a.workers a.guests news (subst (λ l. DidAll job mails l news) a.are (did_all job mails olds news len did)) in
+    pub halves : Armed names shared ring service job seat posts takes drawer olds → DidAll job mails olds news → Halves
+    halves a did =
+        let b = did_both job mails a.workers a.guests news (subst (λ l. DidAll job mails l news) a.are did) in
         let ls = b.0 in
         let rs = b.1 in
         let w : length ls ≡ length a.workers = did_length job mails a.workers ls b.3 in
@@ -251,3 +271,43 @@ module _ {G : Type 0} where
             };
             answered = h.worked.of_takes;
           }
+
+      -- the lists of numbers are the versions of the replies
+      numbers_are : (count : ℕ) → swaps_all (new_view count) news ≡ swap_view count [] (map (map version_in) h.worked.shares)
+      numbers_are count = swaps_are (new_view count) news
+          ∙ ap (swap_view count []) (ap swap_lists h.are ∙ (numbers-append h.workers h.guests ∙ (ap (λ l. swap_lists h.workers ++ l) h.stored_by.no_swaps ∙ (append_nil (swap_lists h.workers) ∙ h.worked.numbers))))
+
+      pub versioned : (count : ℕ) → count ≡ length job.formats → (w : SwapView) → w ≡ swaps_all (new_view count) news → AreVersions w
+          → (q : PublisherView) → q ≡ publisher_view count (count - 1)
+          → (replies : List Reply) → IsPermutation (all_replies news) replies → Versioned job replies h.worked.shares w q
+      versioned count counted w w_is runs q q_is replies order =
+          let e = w_is ∙ numbers_are count in
+          let ended = ap (λ (x : SwapView). x.ended) e in
+          let shares = h.worked.shares in
+          let whole : IsPermutation (joined shares) replies = subst (λ l. IsPermutation l replies) (replies_left ∙ sym h.worked.divided) order in
+          let is_count : w.count ≡ length job.formats = ap (λ (x : SwapView). x.count) e ∙ counted in
+          record {
+            count = is_count;
+            no_load = ap (λ (x : SwapView). x.loads) e;
+            as_many = ap length ended ∙ (length-map shares (map version_in) ∙ (same_shares (take_parts h.workers) shares h.worked.of_takes ∙ (h.worked.as_many_takes ∙ h.as_many)));
+            each_own = ended;
+            each_once = subst (λ l. IsPermutation l (map version_in replies)) (sym (ap joined ended ∙ joined-map version_in shares)) (IsPermutation-map version_in (joined shares) replies whole);
+            runs = subst (λ n. All (IsVersionRun n) w.ended) is_count runs.1;
+            published = q_is ∙ ap (λ n. publisher_view n (n - 1)) counted;
+          }
+
+      pub served_versions : (perm : IsPermutation (owned (take_parts h.workers)) (owned (put_parts h.guests))) → mails ≡ all_mails 1 job.guests
+          → (v : RingView) → v ≡ with_takes (puts_all posts.view news) (takes_all takes.view news)
+          → (k : HostView) → k ≡ seats_all seat.view news → (length k.ended ≡ k.made → Fetched k) → (log : List HistoryEntry) → Told k log
+          → (replies : List Reply) → map reply_name replies ≡ map (λ (m : Mail). m.name) mails → IsPermutation (all_replies news) replies
+          → (count : ℕ) → count ≡ length job.formats → (w : SwapView) → w ≡ swaps_all (new_view count) news → AreVersions w
+          → (q : PublisherView) → q ≡ publisher_view count (count - 1) → ServedVersions job replies k v w q
+      unfolding served
+      served_versions perm is v v_is k k_is fetched log told replies named order count counted w w_is runs q q_is = record {
+        served = served perm is v v_is k k_is fetched log told replies named order;
+        versioned = versioned count counted w w_is runs q q_is replies order;
+      }
+
+-- a seat that loaded nothing yet
+pub no_versions : (count : ℕ) → AreVersions (new_view count)
+no_versions count = (((λ i j d le lt. absurd (omega (arith, lt))), All-nil (λ (n : ℕ). n < count)), All-nil (IsVersionRun count))

@@ -7,12 +7,12 @@ ghost use Rattle.td_stream.specs.Layouts.{count_in};
 ghost use Rattle.td_posts.specs.Posts.{mails_of, all_mails, mail_named, scattered, zeros, reply_name};
 ghost use Rattle.td_posts.specs.Servable.{IsServable};
 ghost use Rattle.td_posts.specs.declared.limits.TheConstants.{MOST_WORKERS, MOST_POSTS};
-ghost use Rattle.td_actors.specs.Acting.{Fits, most_frames, RoomsFor};
-ghost use Rattle.td_host.specs.Hosts.{IsOpened, IsCrew};
+ghost use Rattle.td_actors.specs.Acting.{AreArmed, Fits, most_frames, RoomsFor};
+ghost use Rattle.td_host.specs.Hosts.{IsOpened, AreFresh, IsCrew, first_swap};
 ghost use Rattle.td_actors.specs.Actors.{service_at};
 ghost use Rattle.td_host.specs.Gathered.{IsBounded, host_at, posts_at, takes_at, draws_at, WorkersSeated, GuestsSeated};
 
-use crate::gather::Heads;
+use crate::gather::{Heads, VersionSeats};
 use crate::script::copied_script;
 use crate::serve::Crew;
 use std::alloc::{AllocError, Global};
@@ -28,7 +28,8 @@ use td_posts::reply::Reply;
 use td_ring::naming::Naming;
 use td_stream::layout::Layout;
 use td_stream::loads::Loads;
-use td_verify::verify::Verified;
+use td_swap::codes::Codes;
+use td_swap::seats::SwapSeat;
 use td_vm::validate::Frame;
 
 /// The post of a message that lies in these stretches. Takes no memory.
@@ -105,6 +106,7 @@ fn room_for(
     Ok(Reply {
         guest: name.guest,
         number: name.number,
+        version: 0,
         layout: None,
         verdict: Verdict::Accept { pos: 0 },
         trace: Vec::with_capacity(alloc, frames)?,
@@ -168,27 +170,44 @@ fn rooms_for<J: Naming>(
     Ok(rooms)
 }
 
+/// A frame for each version, armed for its code.
+fn frames_for(alloc: Global, codes: &Codes) -> Result<Vec<Frame>, AllocError>
+    ensures { IfOk result (λ frames. AreArmed codes.now.codes frames.items) }
+{
+    let mut frames = Vec::new(alloc);
+    let versions = codes.versions();
+    for version in versions {
+        frames.push(Frame::arm(alloc, &version.code)?)?;
+    }
+    Ok(frames)
+}
+
 /// Makes a worker for each gate, with room for validations and for a reply to each post.
 fn seat_workers<J: Naming, G: Drop>(
     alloc: Global,
     desk: &Desk<J>,
     heads: &mut Heads,
+    swap: &mut SwapSeat,
     gates: Vec<G>,
     actors: &mut Vec<Actor<G>>,
 ) -> Result<(), AllocError>
     requires seat { heads.old.seat ≡ host_at desk.now.shared.table heads.old.seat.view.opened 0 }
     requires takes { heads.old.takes ≡ takes_at desk.now.ring.queue 1 }
     requires drawer { heads.old.drawer ≡ draws_at desk.now.tickets 1 }
+    requires swap { swap.old ≡ first_swap desk.now.codes }
     requires empty { actors.old.items ≡ [] }
     ensures seated { OnOk result (WorkersSeated desk.now.shared desk.now.ring (service_at desk.now) heads.old.seat.view.opened (length gates.items) heads.new.seat heads.new.takes heads.new.drawer actors.new.items) }
     ensures posts { OnOk result (heads.new.posts ≡ heads.old.posts) }
+    ensures swap { OnOk result (swap.new ≡ swap.old) }
 {
     for gate in gates {
+        let own = desk.codes.split(swap);
         let worker = Worker {
             seat: desk.shared.split_reader(&mut heads.seat),
             pass: desk.ring.split_take(&mut heads.takes),
             drawer: desk.tickets.split(&mut heads.drawer),
-            frame: Frame::arm(alloc, &desk.code)?,
+            swap: own,
+            frames: frames_for(alloc, &desk.codes)?,
             replies: Vec::with_capacity(alloc, desk.mails.len())?,
             gate,
         };
@@ -233,12 +252,17 @@ fn seat_guests<J: Naming, G: Drop>(
     Ok(())
 }
 
-/// How many frames a failure of this code has at most. `AllocError`: there was no memory to find it.
-fn frames_of(alloc: Global, code: &Verified) -> Result<usize, AllocError>
-    ensures { IfOk result (λ frames. frames ≡ most_frames code.now) }
+/// How many frames a failure of these codes has at most. `AllocError`: there was no memory to find it.
+fn frames_of(alloc: Global, codes: &Codes) -> Result<usize, AllocError>
+    ensures { IfOk result (λ frames. frames ≡ most_frames codes.now.codes) }
 {
-    let frame = Frame::arm(alloc, code)?;
-    Ok(frame.trace_room())
+    let mut most = 0;
+    let versions = codes.versions();
+    for version in versions {
+        let frame = Frame::arm(alloc, &version.code)?;
+        most = frame.trace_room().max(most);
+    }
+    Ok(most)
 }
 
 /// Room for as many replies as all workers may make, and for one to each post.
@@ -258,30 +282,39 @@ fn reply_rooms(
     Ok((found, replies))
 }
 
-/// What acts at a desk, with a gate for each worker and then one for each guest, and the room for what it does.
+/// What acts at a desk, with a gate for each worker and then one for each guest, and last the publisher; and the room for what they
+/// do.
 pub(crate) fn make_crew<J: Naming, G: Drop>(
     alloc: Global,
     desk: &Desk<J>,
     heads: Heads,
+    versions: VersionSeats,
     gates: Vec<G>,
 ) -> Result<Crew<G>, AllocError>
     requires servable { IsServable desk.now.job }
     requires opened { IsOpened desk.now heads }
+    requires fresh { AreFresh desk.now.codes versions }
     requires gates { length gates.items ≡ desk.now.job.workers + length desk.now.job.guests }
-    requires said { (p : Post) → Fits (most_frames desk.now.code) desk.now.job p → J.names p }
+    requires said { (p : Post) → Fits (most_frames desk.now.codes.codes) desk.now.job p → J.names p }
     ensures { IfOk result (λ crew. IsCrew J.names desk.now crew) }
 {
     let workers = desk.job.workers as usize;
     let (found, replies) = reply_rooms(alloc, workers, desk.mails.len())?;
-    let frames = frames_of(alloc, &desk.code)?;
+    let frames = frames_of(alloc, &desk.codes)?;
+    let VersionSeats {
+        publisher,
+        mut swap,
+    } = versions;
     let mut heads = heads;
     let mut gates = gates;
     let guest_gates = gates.split_off(workers)?;
     let mut actors = Vec::new(alloc);
-    seat_workers(alloc, desk, &mut heads, gates, &mut actors)?;
+    seat_workers(alloc, desk, &mut heads, &mut swap, gates, &mut actors)?;
     seat_guests(alloc, desk, frames, &mut heads, guest_gates, &mut actors)?;
+    actors.push(Actor::Publisher(publisher))?;
     Ok(Crew {
         heads,
+        swap,
         actors,
         found,
         replies,

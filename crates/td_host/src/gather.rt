@@ -7,13 +7,16 @@ ghost use Rattle.td_words.specs.Views.{with_ended};
 ghost use Rattle.td_roll.specs.Heads.{HasHead};
 ghost use Rattle.td_ring.specs.Ring.{pass_with, with_put, with_take};
 ghost use Rattle.td_ring.specs.Tickets.{drawer_with, with_seat};
-ghost use Rattle.td_host.specs.Gathered.{IsAt, view_of, put_one, take_one, draw_one, replies_of, seats_all, puts_all, takes_all, draws_all, all_replies};
+ghost use Rattle.td_swap.specs.Views.{AreVersions};
+ghost use Rattle.td_swap.specs.Seats.{IsOwn, then_gathered, swap_state};
+ghost use Rattle.td_host.specs.Gathered.{IsAt, view_of, put_one, take_one, draw_one, swap_one, replies_of, seats_all, puts_all, takes_all, draws_all, swaps_all, all_replies};
 
 use td_actors::actor::{Actor, Desk, Guest, Worker};
 use td_posts::reply::Reply;
 use td_ring::naming::Naming;
 use td_ring::passes::{PostPass, TakePass};
 use td_ring::ticket_seat::TicketSeat;
+use td_swap::seats::{PublishSeat, SwapSeat};
 use td_words::seats::HostSeat;
 
 /// What the host acts with: its seat at the buffer, and the first passes and the first ticket seat.
@@ -25,10 +28,18 @@ pub struct Heads {
     pub drawer: TicketSeat,
 }
 
+/// What the host acts with at the version word: the one publisher's seat, and the seat that makes those of the workers.
+#[derive(Drop)]
+pub struct VersionSeats {
+    pub publisher: PublishSeat,
+    pub swap: SwapSeat,
+}
+
 /// Takes back what a worker had.
 fn gather_worker<J: Naming, G: Drop>(
     desk: &Desk<J>,
     heads: &mut Heads,
+    swap: &mut SwapSeat,
     found: &mut Vec<Reply>,
     worker: Worker<G>,
 )
@@ -37,11 +48,14 @@ fn gather_worker<J: Naming, G: Drop>(
     requires drawer { heads.old.drawer.table ≡ desk.now.tickets }
     requires first { HasHead heads.old.posts.view.put_head × HasHead heads.old.takes.view.take_head × HasHead heads.old.drawer.view.head }
     requires at { (worker.seat.table ≡ desk.now.shared.table) × (worker.pass.queue ≡ desk.now.ring.queue) × (worker.drawer.table ≡ desk.now.tickets) }
+    requires versions { IsOwn desk.now.codes swap.old × IsOwn desk.now.codes worker.swap }
     requires room { length found.old.items + length worker.replies.items ≤ vec_capacity found.old }
     ensures seat { heads.new.seat ≡ with_view heads.old.seat (with_ended heads.old.seat.view worker.seat.view) }
     ensures posts { heads.new.posts ≡ heads.old.posts }
     ensures takes { heads.new.takes ≡ pass_with heads.old.takes (with_take heads.old.takes.view worker.pass.view) }
     ensures drawer { heads.new.drawer ≡ drawer_with heads.old.drawer (with_seat heads.old.drawer.view worker.drawer.view) }
+    ensures swap { swap.new ≡ then_gathered swap.old worker.swap }
+    ensures versions { AreVersions swap.new.view }
     ensures found { found.new.items ≡ found.old.items ++ worker.replies.items }
     ensures capacity { vec_capacity found.old ≤ vec_capacity found.new }
 {
@@ -50,7 +64,8 @@ fn gather_worker<J: Naming, G: Drop>(
         pass,
         drawer,
         replies,
-        frame: _,
+        swap: loaded,
+        frames: _,
         gate: _,
     } = worker;
     let mut replies = replies;
@@ -60,6 +75,7 @@ fn gather_worker<J: Naming, G: Drop>(
     desk.shared.gather_reader(&mut heads.seat, seat);
     desk.ring.gather_take(&mut heads.takes, pass);
     desk.tickets.gather(&mut heads.drawer, drawer);
+    desk.codes.gather(swap, loaded);
 }
 
 /// Takes back what a guest had.
@@ -86,10 +102,11 @@ fn gather_guest<J: Naming, G: Drop>(desk: &Desk<J>, heads: &mut Heads, guest: Gu
     desk.ring.gather_post(&mut heads.posts, pass);
 }
 
-/// Takes back what one actor had.
+/// Takes back what one actor had, who isn't the publisher.
 fn gather_one<J: Naming, G: Drop>(
     desk: &Desk<J>,
     heads: &mut Heads,
+    swap: &mut SwapSeat,
     found: &mut Vec<Reply>,
     actor: Actor<G>,
 )
@@ -97,25 +114,31 @@ fn gather_one<J: Naming, G: Drop>(
     requires passes { (heads.old.posts.queue ≡ desk.now.ring.queue) × (heads.old.takes.queue ≡ desk.now.ring.queue) }
     requires drawer { heads.old.drawer.table ≡ desk.now.tickets }
     requires first { HasHead heads.old.posts.view.put_head × HasHead heads.old.takes.view.take_head × HasHead heads.old.drawer.view.head }
-    requires at { IsAt desk.now.shared desk.now.ring desk.now.tickets actor }
+    requires at { IsAt desk.now.shared desk.now.ring desk.now.tickets desk.now.codes actor }
+    requires own { IsOwn desk.now.codes swap.old }
+    requires versions { AreVersions swap.old.view }
     requires room { length found.old.items + length (replies_of actor) ≤ vec_capacity found.old }
     ensures seat { heads.new.seat ≡ with_view heads.old.seat (with_ended heads.old.seat.view (view_of actor)) }
     ensures posts { heads.new.posts ≡ pass_with heads.old.posts (put_one heads.old.posts.view actor) }
     ensures takes { heads.new.takes ≡ pass_with heads.old.takes (take_one heads.old.takes.view actor) }
     ensures drawer { heads.new.drawer ≡ drawer_with heads.old.drawer (draw_one heads.old.drawer.view actor) }
+    ensures swap { swap.new ≡ swap_state swap.old.table (swap_one swap.old.view actor) }
+    ensures versions { AreVersions swap.new.view }
     ensures found { found.new.items ≡ found.old.items ++ replies_of actor }
     ensures capacity { vec_capacity found.old ≤ vec_capacity found.new }
 {
     match actor {
-        Actor::Worker(worker) => gather_worker(desk, heads, found, worker),
+        Actor::Worker(worker) => gather_worker(desk, heads, swap, found, worker),
         Actor::Guest(guest) => gather_guest(desk, heads, guest),
+        Actor::Publisher(_) => unreachable!(),
     }
 }
 
-/// Takes back what all actors had, in order. The list has room for their replies, so this takes no memory.
+/// Takes back what all actors but the publisher had, in order. The list has room for their replies, so this takes no memory.
 pub fn gather_all<J: Naming, G: Drop>(
     desk: &Desk<J>,
     heads: &mut Heads,
+    swap: &mut SwapSeat,
     found: &mut Vec<Reply>,
     actors: Vec<Actor<G>>,
 )
@@ -123,16 +146,20 @@ pub fn gather_all<J: Naming, G: Drop>(
     requires passes { (heads.old.posts.queue ≡ desk.now.ring.queue) × (heads.old.takes.queue ≡ desk.now.ring.queue) }
     requires drawer { heads.old.drawer.table ≡ desk.now.tickets }
     requires first { HasHead heads.old.posts.view.put_head × HasHead heads.old.takes.view.take_head × HasHead heads.old.drawer.view.head }
-    requires at { All (IsAt desk.now.shared desk.now.ring desk.now.tickets) actors.items }
+    requires at { All (IsAt desk.now.shared desk.now.ring desk.now.tickets desk.now.codes) actors.items }
+    requires own { IsOwn desk.now.codes swap.old }
+    requires versions { AreVersions swap.old.view }
     requires room { length found.old.items + length (all_replies actors.items) ≤ vec_capacity found.old }
     ensures seat { heads.new.seat ≡ with_view heads.old.seat (seats_all heads.old.seat.view actors.items) }
     ensures posts { heads.new.posts ≡ pass_with heads.old.posts (puts_all heads.old.posts.view actors.items) }
     ensures takes { heads.new.takes ≡ pass_with heads.old.takes (takes_all heads.old.takes.view actors.items) }
     ensures drawer { heads.new.drawer ≡ drawer_with heads.old.drawer (draws_all heads.old.drawer.view actors.items) }
     ensures first { HasHead heads.new.posts.view.put_head × HasHead heads.new.takes.view.take_head }
+    ensures swap { swap.new ≡ swap_state swap.old.table (swaps_all swap.old.view actors.items) }
+    ensures versions { AreVersions swap.new.view }
     ensures found { found.new.items ≡ found.old.items ++ all_replies actors.items }
 {
     for actor in actors {
-        gather_one(desk, heads, found, actor);
+        gather_one(desk, heads, swap, found, actor);
     }
 }

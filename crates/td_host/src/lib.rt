@@ -1,7 +1,9 @@
 //! A host: it serves the posts of several guests by several workers, each in a thread of its own, over one buffer that the
-//! guests go on writing. The layer above rests on one promise, the definition `Served`: there is one reply for each post and
-//! no other, its outcome is the module's meaning on every list of bytes that carries its loads, and what the seats of the
-//! buffer and the passes of the ring did is what the scripts say. It holds if `serve` returns. Nothing is said of progress.
+//! guests go on writing, while the module by which messages are validated is replaced by others. The layer above rests on one
+//! promise, the definition `ServedVersions`: there is one reply for each post and no other; its outcome is the meaning of the module
+//! of the reply's version on every list of bytes that carries its loads; what the seats of the buffer and the passes of the ring did is
+//! what the scripts say; and each worker answered under the versions that it loaded, which never fall. It holds if `serve` returns.
+//! Nothing is said of progress.
 #![tactic(auto)]
 
 pub mod arm;

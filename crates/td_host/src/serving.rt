@@ -23,35 +23,38 @@ use td_verify::verify::Verified;
 fn serve_under<J: Naming + Send + Sync, R: Threads + Wait + Sync, G: Gate + Send + Drop>(
     rt: &R,
     alloc: Global,
-    code: Verified,
+    codes: Vec<Verified>,
     job: HostJob,
     gates: Vec<G>,
-) -> Result<Items<Reply>, AllocError>
+) -> Result<(HostJob, Items<Reply>), AllocError>
     requires servable { IsServable job }
-    requires code { IsJobCode code job }
+    requires code { IsJobCode codes.items job }
     requires gates { length gates.items ≡ job.workers + length job.guests }
-    requires said { (p : Post) → Fits (most_frames code) job p → J.names p }
-    requires says { (p : Post) → J.names p → Fits (most_frames code) job p }
-    ensures { IfOk result (λ replies. IsServedJob job replies) }
+    requires said { (p : Post) → Fits (most_frames codes.items) job p → J.names p }
+    requires says { (p : Post) → J.names p → Fits (most_frames codes.items) job p }
+    ensures job { IfOk result (λ r. r.0 ≡ job) }
+    ensures served { IfOk result (λ r. IsServedJob job r.1) }
 {
-    let mut host = Host::<J, G>::arm(alloc, code, job, gates)?;
+    let mut host = Host::<J, G>::arm(alloc, codes, job, gates)?;
     host.serve(rt);
-    Ok(host.into_replies(alloc))
+    Ok(host.into_served(alloc))
 }
 
-/// Serves the posts of a job that is done by this code, with a gate for each worker and then one for each guest, and gives the
-/// replies, by guest and number. `AllocError`: there was no memory for the room; then no thread was started and no word loaded.
+/// Serves the posts of a job that is done by these codes, one for each of its versions, in their order, with a gate for each worker
+/// and then one for each guest, and gives the job back with the replies, by guest and number. `AllocError`: there was no memory for
+/// the room; then no thread was started and no word loaded.
 pub fn serve_job<R: Threads + Wait + Sync, G: Gate + Send + Drop>(
     rt: &R,
     alloc: Global,
-    code: Verified,
+    codes: Vec<Verified>,
     job: HostJob,
     gates: Vec<G>,
-) -> Result<Items<Reply>, AllocError>
+) -> Result<(HostJob, Items<Reply>), AllocError>
     requires servable { IsServable job }
-    requires code { IsJobCode code job }
+    requires code { IsJobCode codes.items job }
     requires gates { length gates.items ≡ job.workers + length job.guests }
-    ensures { IfOk result (λ replies. IsServedJob job replies) }
+    ensures job { IfOk result (λ r. r.0 ≡ job) }
+    ensures served { IfOk result (λ r. IsServedJob job r.1) }
 {
-    serve_under::<Brand, R, G>(rt, alloc, code, job, gates)
+    serve_under::<Brand, R, G>(rt, alloc, codes, job, gates)
 }

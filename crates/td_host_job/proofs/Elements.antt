@@ -1,5 +1,8 @@
 -- Lists of steps and guests, by their lengths.
-use Rattle.std.proofs.Common.{◌≡◌, ℕ, List, [], ◌∷◌, length, Bool, true, false, ◌||◌, nat_eq, nat_lt, Some, None, refl, ap, ◌∙◌}
+use Rattle.std.proofs.Common.{◌≡◌, ℕ, ◌<◌, ◌≤◌, List, [], ◌∷◌, length, Bool, true, false, ◌||◌, nat_eq, nat_lt, Option, Some, None, refl, sym, ap, ◌∙◌, arith}
+use Rattle.std.proofs.lemmas.Bool.Decides.{nat_tests}
+use Rattle.serde_json.specs.Data.{Data}
+use Rattle.serde_json.specs.Find.{as_array}
 use Rattle.serde_json.specs.Events.{items_len}
 use Rattle.serde_json.specs.View.{items_view}
 use Rattle.serde_json.specs.declared.value.Value.{Value}
@@ -7,10 +10,11 @@ use Rattle.td_job.specs.declared.error.Key.TheVariants as key
 use Rattle.td_job.specs.declared.error.Path.TheVariants as path
 use Rattle.td_job.specs.declared.error.JobRule.TheVariants as rule
 use Rattle.td_job.specs.declared.error.JobError.TheVariants.{Fault}
-use Rattle.td_job.specs.Fields.{IsFirst}
+use Rattle.td_job.specs.Fields.{IsFirst, fault_if}
 use Rattle.td_job.proofs.Elements.{same_count, limited, unlimited}
-use Rattle.td_posts.specs.declared.limits.TheConstants.{MOST_GUESTS}
+use Rattle.td_posts.specs.declared.limits.TheConstants.{MOST_GUESTS, MOST_SWAPS}
 use Rattle.td_host_job.specs.Steps.{step_parts}
+use Rattle.td_host_job.specs.Swaps.{swaps_faults, swap_list_faults}
 use Rattle.td_host_job.specs.Guests.{guests_faults, each_guest_faults}
 
 -- a list of another length than two or three has no parts
@@ -33,3 +37,19 @@ too_many words values h = limited (past_limit (items_len (items_view values))) (
 
 pub few_enough : (words : ℕ) (values : List Value) → past_limit (length values) ≡ false → guests_faults words (Some (items_view values)) ≡ each_guest_faults words 0 (items_view values)
 few_enough words values h = unlimited (past_limit (items_len (items_view values))) (Fault rule.Limit (path.Whole key.Guests)) (each_guest_faults words 0 (items_view values)) (counted values false h)
+
+-- ---- swaps
+
+pub listed_swaps : (field : Option Data) (value : Data) (values : List Value) → Some value ≡ field → Some (items_view values) ≡ as_array value → swaps_faults field ≡ swap_list_faults (Some (items_view values))
+listed_swaps field value values is list = ap swaps_faults (sym is) ∙ ap swap_list_faults (sym list)
+
+-- more swaps than there may be are a fault
+pub too_many_swaps : (values : List Value) → MOST_SWAPS < length values → IsFirst (swap_list_faults (Some (items_view values))) (Fault rule.Limit (path.Whole key.Swaps))
+too_many_swaps values h =
+    let counted : nat_lt MOST_SWAPS (items_len (items_view values)) ≡ true = rw (same_count values) (grind (arith, nat_tests, h)) in
+    record { others = []; is = ap (λ (b : Bool). fault_if b (Fault rule.Limit (path.Whole key.Swaps))) counted }
+
+pub few_swaps : (values : List Value) → length values ≤ MOST_SWAPS → swap_list_faults (Some (items_view values)) ≡ []
+few_swaps values h =
+    let counted : nat_lt MOST_SWAPS (items_len (items_view values)) ≡ false = rw (same_count values) (grind (arith, nat_tests, h)) in
+    ap (λ (b : Bool). fault_if b (Fault rule.Limit (path.Whole key.Swaps))) counted

@@ -1,7 +1,12 @@
+pub mod Alike
+pub mod Zeros
 pub mod Counting
 pub mod Elements
 pub mod Jobs
+pub mod Looping
 pub mod Naming
 pub mod Rows
 pub mod Serving
 pub mod Scattering
+pub mod Swapping
+pub mod Versions

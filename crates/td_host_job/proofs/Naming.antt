@@ -1,9 +1,8 @@
 -- Faults that begin with a field of another name, and jobs whose fields were tested.
-use Rattle.std.proofs.Common.{◌≡◌, ℕ, ◌+◌, ◌<◌, List, [], ◌∷◌, ◌++◌, length, drop, get_or, Option, Some, None, Result, Ok, Err, ◌⊎◌, inl, inr, refl, sym, ◌∙◌}
+use Rattle.std.proofs.Common.{◌≡◌, ℕ, ◌+◌, ◌<◌, List, [], ◌∷◌, ◌++◌, length, drop, get_or, Option, Some, None, Result, Ok, Err, ◌⊎◌, inl, inr, refl, sym, subst, ◌∙◌}
 use Rattle.std.proofs.lemmas.List.{at_drop_more}
-use Rattle.std.specs.Prelude.{IsSomeAnd, IsErrAnd}
+use Rattle.std.specs.Prelude.{IsSomeAnd, IsErrAnd, IfErr}
 use Rattle.serde_json.specs.Data.{Data, Members}
-use Rattle.serde_json.specs.Find.{as_object}
 use Rattle.serde_json.specs.View.{view, items_view}
 use Rattle.serde_json.specs.declared.value.Value.{Value}
 use Rattle.td_core.specs.declared.module.Module.{Module}
@@ -16,11 +15,11 @@ use Rattle.td_job.specs.declared.error.Path.{Path}
 use Rattle.td_job.specs.declared.error.Path.TheVariants as path
 use Rattle.td_job.specs.Fields.{IsFirst, field_of, number_of, text_of}
 use Rattle.td_job.specs.Values.{args_bounds, args_faults}
-use Rattle.td_job.specs.Jobs.{bytes_faults, first_unknown, unknown_faults, FirstFaultOf}
+use Rattle.td_job.specs.Jobs.{bytes_faults, first_unknown, unknown_faults}
 use Rattle.td_job.proofs.Numbers.{both_empty, first_of_more}
-use Rattle.td_host_job.specs.Guests.{BeginsWithName, each_guest_faults, guest_faults, guests_faults, given_guests, listed_in, object_faults, script_faults, workers_faults}
-use Rattle.td_host_job.specs.Totals.{totals_faults}
-use Rattle.td_host_job.specs.HostJobs.{buffer_words, HasGoodFields, host_faults, host_keys, rest_faults}
+use Rattle.td_host_job.specs.Guests.{BeginsWithName, each_guest_faults, guest_faults, guests_faults, listed_in, object_faults, script_faults, workers_faults}
+use Rattle.td_host_job.specs.Swaps.{swaps_faults}
+use Rattle.td_host_job.specs.HostJobs.{buffer_words, HasGoodFields, before_faults, FirstFault, rest_faults}
 
 -- a name that is found has a fault of its own
 pub name_first : (place : List ℕ → Path) (found : Option (List ℕ)) → ((name : List ℕ) → (place name ≡ path.Unknown name) ⊎ ((guest : ℕ) × (place name ≡ path.UnknownOf guest name)))
@@ -38,6 +37,11 @@ name_of_guest guest found h = name_first (path.UnknownOf guest) found (λ name. 
 pub handed : {T : Type 0} (r : Result T JobError) (e : JobError) → IsErrAnd r (λ (x : JobError). x ≡ e) → r ≡ Err NoMemory → e ≡ NoMemory
 handed (Ok t) e gives told = absurd gives
 handed (Err x) e gives told = let is : x ≡ NoMemory = cc in sym gives ∙ is
+
+-- what holds of an error holds of that which is handed on
+pub handed_on : {T : Type 0} (r : Result T JobError) (e : JobError) (P : JobError → Type 0) → IsErrAnd r (λ (x : JobError). x ≡ e) → P e → IfErr r P
+handed_on (Ok t) e P gives h = tt
+handed_on (Err x) e P gives h = subst P (sym gives) h
 
 -- more faults after it
 pub name_before : (a b : List JobError) → BeginsWithName a → BeginsWithName (a ++ b)
@@ -63,22 +67,22 @@ pub at_guest : (words : ℕ) (values : List Value) (i : ℕ) (d : Value) → i <
     → each_guest_faults words i (items_view (drop i values)) ≡ guest_faults words i (view (get_or values i d)) ++ each_guest_faults words (i + 1) (items_view (drop (i + 1) values))
 at_guest words values i d h = at_drop_more (λ vs. each_guest_faults words i (items_view vs)) values i d h
 
-pub three_none : {a b c : List JobError} → a ≡ [] → b ≡ [] → c ≡ [] → a ++ b ++ c ≡ []
-three_none ha hb hc = rw (ha, hb, hc) refl
+pub both_none : {a b : List JobError} → a ≡ [] → b ≡ [] → a ++ b ≡ []
+both_none ha hb = rw (ha, hb) refl
 
-last_of : (a b c d e f : List JobError) → a ≡ [] → b ≡ [] → c ≡ [] → a ++ b ++ c ++ d ++ e ++ f ≡ d ++ e ++ f
-last_of a b c d e f ha hb hc = rw (ha, hb, hc) refl
+last_of : (a b c d e : List JobError) → a ≡ [] → b ≡ [] → c ≡ [] → a ++ b ++ c ++ d ++ e ≡ d ++ e
+last_of a b c d e ha hb hc = rw (ha, hb, hc) refl
 
 module _ (m : Module) (job : Data) (entry : Entry) (good : HasGoodFields m job entry) where
   -- after good fields the faults are the others
-  rest_alone : host_faults (entry_definition m entry.number) job ≡ rest_faults (buffer_words job) job
+  rest_alone : before_faults (entry_definition m entry.number) job ≡ rest_faults (buffer_words job) job
   rest_alone =
       last_of (args_faults (args_bounds (entry_definition m entry.number)) (field_of key.Args job)) (bytes_faults key.Buffer (text_of key.Buffer job)) (workers_faults (number_of key.Workers job))
-      (guests_faults (buffer_words job) (listed_in key.Guests job)) (unknown_faults path.Unknown (first_unknown host_keys (as_object job))) (totals_faults (given_guests job))
+      (guests_faults (buffer_words job) (listed_in key.Guests job)) (swaps_faults (field_of key.Swaps job))
       good.args good.buffer good.workers
 
-  pub first_of_rest : (e : JobError) → IsFirst (rest_faults (buffer_words job) job) e → FirstFaultOf host_faults m job e
-  first_of_rest e first = inr (entry, good.named, record { others = first.others; is = rest_alone ∙ first.is })
+  pub first_of_rest : (e : JobError) → IsFirst (rest_faults (buffer_words job) job) e → FirstFault m job e
+  first_of_rest e first = inr (entry, good.named, inl (record { others = first.others; is = rest_alone ∙ first.is }))
 
-  pub none_of_rest : rest_faults (buffer_words job) job ≡ [] → host_faults (entry_definition m entry.number) job ≡ []
+  pub none_of_rest : rest_faults (buffer_words job) job ≡ [] → before_faults (entry_definition m entry.number) job ≡ []
   none_of_rest none = rest_alone ∙ none

@@ -2,5 +2,6 @@ pub mod Steps
 pub mod Scatter
 pub mod Guests
 pub mod Totals
+pub mod Swaps
 pub mod HostJobs
 pub mod Laws

@@ -3,11 +3,11 @@
 ghost use Rattle.std.specs.Prelude.{◌≡◌, ◌≢◌, [], ◌⊎◌, Err, Some, OnOk, IfOk, IfErr};
 ghost use Rattle.serde_json.specs.View.{view};
 ghost use Rattle.td_job.specs.Fields.{IsFirst, number_of};
-ghost use Rattle.td_job.specs.Jobs.{FirstFaultOf};
 ghost use Rattle.td_host_job.specs.Guests.{BeginsWithName};
-ghost use Rattle.td_host_job.specs.HostJobs.{buffer_words, host_faults, HasGoodFields, rest_faults};
+ghost use Rattle.td_host_job.specs.HostJobs.{buffer_words, FirstFault, HasGoodFields, rest_faults, after_faults};
 
-use crate::guests::{check_each_guest, listed_guests, workers_of};
+use crate::guests::{check_each_guest, listed, listed_guests, workers_of};
+use crate::swaps::check_swap_list;
 use crate::totals::check_totals;
 use serde_json::Value;
 use std::alloc::Global;
@@ -23,6 +23,7 @@ const FIELDS: &[Key] = &[
     Key::Buffer,
     Key::Workers,
     Key::Guests,
+    Key::Swaps,
 ];
 
 /// Tests the first fields of a job, up to `workers`, and gives its entry point, how many words its buffer fills, and how many
@@ -31,7 +32,7 @@ pub(crate) fn check_first(job: &Value, m: &Module) -> Result<(Entry, usize, u32)
     ensures good { IfOk result (λ x. HasGoodFields m.now (view job.now) x.0) }
     ensures words { IfOk result (λ x. buffer_words (view job.now) ≡ x.1) }
     ensures workers { IfOk result (λ x. number_of Key.Workers (view job.now) ≡ Some x.2) }
-    ensures err { IfErr result (λ e. FirstFaultOf host_faults m.now (view job.now) e) }
+    ensures err { IfErr result (λ e. FirstFault m.now (view job.now) e) }
     ensures broken { IfErr result (λ e. e ≢ JobError.NoMemory) }
 {
     let entry = entry_of(job, m)?;
@@ -41,9 +42,9 @@ pub(crate) fn check_first(job: &Value, m: &Module) -> Result<(Entry, usize, u32)
     Ok((entry, bytes.div_ceil(8), workers))
 }
 
-/// Tests a job for the faults after its first fields, for a buffer of so many words: the guests, the fields of other names,
-/// and the totals; the first fault of these. `NoMemory`: that is a field of another name, and there was no memory for the
-/// name, which is all that takes any.
+/// Tests a job for the faults after its first fields and before the elements of `swaps`, for a buffer of so many words: the guests, and
+/// the list of swaps; the first fault of these. `NoMemory`: that is a field of another name of a guest, and there was no memory for
+/// the name, which is all that takes any.
 pub(crate) fn check_rest(alloc: Global, job: &Value, words: u32) -> Result<(), JobError>
     ensures ok { OnOk result (rest_faults words (view job.now) ≡ []) }
     ensures err { IfErr result (λ e. (e ≡ JobError.NoMemory) ⊎ IsFirst (rest_faults words (view job.now)) e) }
@@ -51,7 +52,20 @@ pub(crate) fn check_rest(alloc: Global, job: &Value, words: u32) -> Result<(), J
 {
     let guests = listed_guests(job)?;
     check_each_guest(alloc, guests, words)?;
-    check_names(alloc, job, FIELDS)?;
-    check_totals(guests)?;
+    check_swap_list(job)?;
     Ok(())
+}
+
+/// Tests a job for the faults after the elements of `swaps`: the fields of other names, and the totals; the first fault of these.
+/// `NoMemory`: that is a field of another name, and there was no memory for the name, which is all that takes any.
+pub(crate) fn check_after(alloc: Global, job: &Value) -> Result<(), JobError>
+    ensures ok { OnOk result (after_faults (view job.now) ≡ []) }
+    ensures err { IfErr result (λ e. (e ≡ JobError.NoMemory) ⊎ IsFirst (after_faults (view job.now)) e) }
+    ensures memory { result ≡ Err JobError.NoMemory → BeginsWithName (after_faults (view job.now)) }
+{
+    check_names(alloc, job, FIELDS)?;
+    match listed(job, Key::Guests) {
+        None => Ok(()),
+        Some(guests) => check_totals(guests),
+    }
 }

@@ -9,6 +9,7 @@ pub mod host_job;
 pub mod laws;
 mod scatter;
 mod steps;
+mod swaps;
 mod totals;
 
 pub use host_job::read_host_job;

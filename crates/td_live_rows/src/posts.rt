@@ -26,6 +26,7 @@ pub fn post(alloc: Global, guest: u32, number: u32) -> Result<Post, AllocError>
         room: Reply {
             guest,
             number,
+            version: 0,
             layout: None,
             verdict: Verdict::Accept { pos: 0 },
             trace: Vec::new(alloc),

@@ -18,11 +18,12 @@ pub enum Step {
 /// A job for a host: guests store to one buffer and post messages that lie in it, and workers validate them meanwhile.
 #[derive(Drop)]
 pub struct HostJob {
-    /// The module by which messages are validated.
-    pub format: Module,
-    /// The entry point at which each validation begins.
-    pub entry: Entry,
-    /// A value for each of its parameters.
+    /// The modules by which messages are validated, by version: first the job's own, then the swaps, in the order in which they
+    /// are published.
+    pub formats: Items<Module>,
+    /// The entry point of each version, at which each validation by it begins.
+    pub entries: Items<Entry>,
+    /// A value for each parameter; those of all versions are the same.
     pub args: Items<u64>,
     /// How many cells it has; each validation begins with zeros in them.
     pub cells: u32,

@@ -4,6 +4,8 @@
 pub const MOST_GUESTS: usize = 16;
 /// Workers.
 pub const MOST_WORKERS: u32 = 16;
+/// Modules that a job's own is replaced by, one after the other.
+pub const MOST_SWAPS: usize = 16;
 /// Posts of all guests.
 pub const MOST_POSTS: usize = 4_096;
 /// Stores of all guests.

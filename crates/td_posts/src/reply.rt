@@ -11,6 +11,8 @@ pub struct Reply {
     /// The guest that posted the message, and which of its posts it is, both counted from 1.
     pub guest: u32,
     pub number: u32,
+    /// The version by which its message was validated, counted from 0.
+    pub version: u32,
     /// The post's list of stretches; none where its message lies at a word.
     pub layout: Option<Layout>,
     pub verdict: Verdict,

@@ -14,8 +14,8 @@ use td_input::host::parse_host_input;
 use td_io::{MemorySink, MemorySource};
 use td_posts::name::PostName;
 use td_serving::gates::gates_of;
-use td_serving::laws::served_have_message_words;
-use td_serving::serving::job_code;
+use td_serving::laws::{served_have_message_words, served_have_versions};
+use td_serving::serving::job_codes;
 
 /// A message of two loads, which one guest posts twice before it stores to its first word what that holds.
 const TWO_MESSAGES: &str = concat!(
@@ -79,16 +79,21 @@ fn host_answer<R: AllocGlobal + Threads + Wait + Sync + Abort>(
     out: &mut MemorySink,
 ) -> Result<(), Fail> {
     served_have_message_words();
+    served_have_versions();
     let alloc = rt.alloc();
     let gates = gates_at(alloc, rt, notes, places, until)?;
     let Ok(given) = parse_host_input(alloc, OWN_WORDS.as_bytes()) else {
         return Err(AllocError.into());
     };
     let gates = gates_of(gates, given.job.workers as usize, given.job.guests.len())?;
-    let code = job_code(alloc, &given)?;
-    let entry = given.job.entry;
-    let replies = serve_job(rt, alloc, code, given.job, gates)?;
-    let written = host_report(&given.module, entry, replies.as_slice(), out);
+    let codes = job_codes(alloc, &given.job)?;
+    let (job, replies) = serve_job(rt, alloc, codes, given.job, gates)?;
+    let written = host_report(
+        job.formats.as_slice(),
+        job.entries.as_slice(),
+        replies.as_slice(),
+        out,
+    );
     assert!(rt; written.is_ok());
     Ok(())
 }

@@ -7,46 +7,81 @@ ghost use Rattle.td_posts.specs.declared.job.HostJob.{HostJob};
 ghost use Rattle.td_input.specs.declared.refusal.Refusal.{Refusal};
 ghost use Rattle.td_input.specs.Causes.{HasCause};
 ghost use Rattle.td_front.specs.Checked.{IsChecked};
-ghost use Rattle.td_input.specs.Inputs.{IsHostInput, RefusesHost, IsSoundHost, FitsEntry};
+ghost use Rattle.td_input.specs.Inputs.{IsHostInput, RefusesHost, IsSoundHost, FitsVersions};
 ghost use Rattle.td_input.specs.Marker.{IsMarker};
 ghost use Rattle.td_actors.specs.Replies.{IsJobCode};
-ghost use Rattle.td_host_report.specs.Report.{HasMessageWords};
-ghost use Rattle.td_serving.specs.Serving.{IsServedInput};
+ghost use Rattle.td_host_report.specs.Report.{HasMessageWords, HasVersion};
+ghost use Rattle.td_posts.specs.Servable.{IsServable};
+ghost use Rattle.td_serving.specs.Serving.{AreCodesOf, IsServedInput};
 
 use crate::gates::{GATES_OF_EACH, gates_of};
-use crate::laws::served_have_message_words;
+use crate::laws::{served_have_message_words, served_have_versions};
 use std::alloc::{AllocError, AllocGlobal, Global};
 use std::sync::Wait;
 use std::thread::Threads;
 use td_coding::code_of;
 use td_core::module::{Entry, Module};
 use td_host::serving::serve_job;
-use td_input::host::{HostInput, parse_host_input};
+use td_input::host::parse_host_input;
 use td_input::refusal::InputError;
 use td_live::gate::Gate;
 use td_lowered::laws::arguments_fit;
 use td_num::items::Items;
+use td_posts::job::HostJob;
 use td_posts::reply::Reply;
 use td_verify::verify::Verified;
 
-/// The replies to the posts of an input's job, by guest and number, and what names them in a report.
+/// The replies to the posts of an input's job, by guest and number, and what names them in a report: the module and the entry point of
+/// each version.
 #[derive(Drop)]
 pub struct ServedInput {
-    pub module: Module,
-    pub entry: Entry,
+    pub formats: Items<Module>,
+    pub entries: Items<Entry>,
     pub replies: Items<Reply>,
 }
 
-/// The code by which a host can serve the job of an input. `AllocError`: there was no memory for it.
-pub fn job_code(alloc: Global, given: &HostInput) -> Result<Verified, AllocError>
-    requires checked { IsChecked given.now.module }
-    requires by { given.now.job.format ≡ given.now.module }
-    requires fits { FitsEntry given.now.module given.now.job }
-    requires sound { IsSoundHost given.now.job }
-    ensures { IfOk result (λ code. IsJobCode code given.now.job) }
+/// The codes of modules, in their order. `AllocError`: there was no memory for one.
+fn codes_of(alloc: Global, formats: &[Module]) -> Result<Vec<Verified>, AllocError>
+    requires { All IsChecked formats.now }
+    ensures { IfOk result (λ codes. AreCodesOf codes.items formats.now) }
+{
+    let mut codes = Vec::new(alloc);
+    for format in formats {
+        codes.push(code_of(alloc, format)?)?;
+    }
+    Ok(codes)
+}
+
+/// The codes by which a host can serve a job, one for each version. `AllocError`: there was no memory for them.
+pub fn job_codes(alloc: Global, job: &HostJob) -> Result<Vec<Verified>, AllocError>
+    requires checked { All IsChecked job.now.formats }
+    requires servable { IsServable job.now }
+    requires fits { FitsVersions job.now }
+    requires sound { IsSoundHost job.now }
+    ensures { IfOk result (λ codes. IsJobCode codes.items job.now) }
 {
     arguments_fit();
-    code_of(alloc, &given.module)
+    codes_of(alloc, job.formats.as_slice())
+}
+
+/// The modules and entry points of a job's versions, with the replies to its posts.
+fn served_of(job: HostJob, replies: Items<Reply>) -> ServedInput
+    ensures { result ≡ record { formats = job.formats; entries = job.entries; replies = replies } }
+{
+    let HostJob {
+        formats,
+        entries,
+        args: _,
+        cells: _,
+        words: _,
+        workers: _,
+        guests: _,
+    } = job;
+    ServedInput {
+        formats,
+        entries,
+        replies,
+    }
 }
 
 /// Serves the job of an input, with the first gates of each half: sixteen for workers, and then sixteen for guests. It may
@@ -61,30 +96,27 @@ pub fn serve_input<R: AllocGlobal + Threads + Wait + Sync, G: Gate + Send + Drop
 ) -> Result<ServedInput, InputError>
     requires short { length input.now < 2 ^ 32 - 1 }
     requires gates { length gates.items ≡ 2 * GATES_OF_EACH }
-    ensures served { IfOk result (λ s. IsServedInput input.now s.module s.entry s.replies) }
+    ensures served { IfOk result (λ s. IsServedInput input.now s.formats s.entries s.replies) }
     ensures words { IfOk result (λ s. All HasMessageWords s.replies) }
+    ensures versions { IfOk result (λ s. All (HasVersion s.formats s.entries) s.replies) }
     ensures cause { IfErr result (HasCause (RefusesHost input.now)) }
     ensures complete { (m : Module) (job : HostJob) → IsHostInput input.now m job → IfErr result (λ e. e ≡ InputError.NoMemory) }
     ensures refused { (refusal : Refusal) → RefusesHost input.now refusal → IsErr result }
     ensures no_job { ((n : ℕ) → IsMarker input.now n → ⊥) → IsErrOf result (InputError.Refused Refusal.NoJob) }
 {
     served_have_message_words();
+    served_have_versions();
     let given = parse_host_input(rt.alloc(), input)?;
-    let Ok(code) = job_code(rt.alloc(), &given) else {
+    let Ok(codes) = job_codes(rt.alloc(), &given.job) else {
         return Err(InputError::NoMemory);
     };
-    let entry = given.job.entry;
     let workers = given.job.workers as usize;
     let guests = given.job.guests.len();
     let Ok(gates) = gates_of(gates, workers, guests) else {
         return Err(InputError::NoMemory);
     };
-    match serve_job(rt, rt.alloc(), code, given.job, gates) {
-        Ok(replies) => Ok(ServedInput {
-            module: given.module,
-            entry,
-            replies,
-        }),
+    match serve_job(rt, rt.alloc(), codes, given.job, gates) {
+        Ok((job, replies)) => Ok(served_of(job, replies)),
         Err(_) => Err(InputError::NoMemory),
     }
 }

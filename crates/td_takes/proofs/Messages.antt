@@ -1,13 +1,16 @@
 -- Replies of a take by what was validated.
 use Rattle.std.proofs.Common.{◌≡◌, ℕ, ◌+◌, List, [], ◌∷◌, ◌++◌, Option, Some, None, length, refl, sym, ap, ◌∙◌, subst, append_assoc, arith}
+use Rattle.std.specs.Prelude.{slice_get, slice_index_or}
+use Rattle.std.proofs.lemmas.Option.{same_Some, slice_get_within, slice_get-get_or}
 use Rattle.td_num.specs.Lists.{AreBytes}
 use Rattle.td_core.specs.declared.module.Module.{Module}
+use Rattle.td_core.specs.declared.module.Entry.{Entry}
 use Rattle.td_core.specs.declared.outcome.Outcome.{Outcome}
 use Rattle.td_core.specs.declared.outcome.Verdict.{Verdict}
 use Rattle.td_core.specs.declared.outcome.Verdict.TheVariants.{Accept, Reject}
-use Rattle.td_meaning.specs.Meaning.{meaning}
-use Rattle.td_leaves.specs.Outcomes.{IsBehaviorOf}
+use Rattle.td_leaves.specs.Outcomes.{IsMeant}
 use Rattle.td_stream.specs.declared.load.Load.{Load}
+use Rattle.std.proofs.Common.{append-nil as append_nil}
 use Rattle.td_stream.specs.declared.stretch.Stretch.{Stretch}
 use Rattle.td_stream.specs.Loads.{IsRising, Inside, Carries}
 use Rattle.td_ir.specs.declared.tables.Parts.{Parts}
@@ -17,7 +20,7 @@ use Rattle.td_words.specs.Views.{seat_view}
 use Rattle.td_words.specs.Seats.{SeatState, seat_state}
 use Rattle.td_posts.specs.declared.job.HostJob.{HostJob}
 use Rattle.td_posts.specs.declared.reply.Reply.{Reply}
-use Rattle.td_posts.specs.Posts.{zeros, outcome_in}
+use Rattle.td_posts.specs.Posts.{IsVersion, zeros, version_in, outcome_in}
 use Rattle.td_descr.specs.declared.next.Next.{Next}
 use Rattle.td_descr.specs.declared.next.Look.{Look}
 use Rattle.td_descr.specs.declared.next.Standing.{Standing}
@@ -28,25 +31,24 @@ use Rattle.td_takes.specs.Kept.{IsOutcome, KeptBy, IsKept}
 use Rattle.td_takes.specs.Takes.{message_layout, Describes, IsMessage, IsDescriptor, IsAnswer, HasDone, loads_of, taken_after, IfJudged}
 
 -- ---- the message
-abbrev Said : HostJob → List Stretch × List Load × List ℕ × List ℕ × Outcome → Type 0
-Said job x =
-    IsRising x.1 × Inside x.0 x.1
-    × ((b : List ℕ) → AreBytes b → Carries x.0 b x.1 → IsBehaviorOf x.0 x.1 (meaning job.format job.entry x.2 x.3 b) x.4)
+abbrev Said : Module → List Stretch × List Load × List ℕ × List ℕ × Outcome × Entry → Type 0
+Said m x = IsRising x.1 × Inside x.0 x.1 × ((b : List ℕ) → AreBytes b → Carries x.0 b x.1 → IsMeant x.0 m x.5 x.2 x.3 b x.1 x.4)
 
-pub message_by : (job : HostJob) (place size : ℕ) (r : Reply) (layout : List Stretch) (loads : List Load) (args cells : List ℕ) (o : Outcome)
-    → r.guest ≡ 0 → r.layout ≡ Some layout → layout ≡ message_layout place size → r.loads.list ≡ loads → outcome_in r ≡ o → args ≡ job.args → cells ≡ zeros job.cells
+pub message_by : (job : HostJob) (m : Module) (entry used : Entry) (place size : ℕ) (r : Reply) (layout : List Stretch) (loads : List Load) (args cells : List ℕ) (o : Outcome)
+    → IsVersion job 0 m entry → used ≡ entry → r.guest ≡ 0 → version_in r ≡ 0 → r.layout ≡ Some layout → layout ≡ message_layout place size → r.loads.list ≡ loads → outcome_in r ≡ o → args ≡ job.args → cells ≡ zeros job.cells
     → IsRising loads → Inside layout loads
-    → ((b : List ℕ) → AreBytes b → Carries layout b loads → IsBehaviorOf layout loads (meaning job.format job.entry args cells b) o)
+    → ((b : List ℕ) → AreBytes b → Carries layout b loads → IsMeant layout m used args cells b loads o)
     → IsMessage job place size r
-message_by job place size r layout loads args cells o guest lies e f g a z rising inside meant =
-    let t = subst (Said job) (λ i. (e i, sym f i, a i, z i, sym g i)) (rising, inside, meant) in
-    record { is = record { guest = guest; list = lies ∙ ap (λ l. Some l) e; rising = t.0; inside = t.1 }; meant = t.2 }
+message_by job m entry used place size r layout loads args cells o version begins guest number lies e f g a z rising inside meant =
+    let t = subst (Said m) (λ i. (e i, sym f i, a i, z i, sym g i, begins i)) (rising, inside, meant) in
+    record { is = record { guest = guest; number = number; list = lies ∙ ap (λ l. Some l) e; rising = t.0; inside = t.1 }; format = m; entry = entry; version = version; meant = t.2 }
+
+-- an entry point that a list has at a place stands there
+pub entry_at : (entries lent : List Entry) (n : ℕ) (entry d : Entry) → lent ≡ entries → slice_get entries n ≡ Some entry → slice_index_or lent n d ≡ entry
+entry_at entries lent n entry d e f =
+    ap (λ (l : List Entry). slice_index_or l n d) e ∙ same_Some (slice_index_or entries n d) entry (sym (slice_get-get_or entries n d (slice_get_within entries n entry f)) ∙ f)
 
 -- ---- steps of a seat
-pub append_nil : {A : Type 0} (xs : List A) → xs ++ [] ≡ xs
-append_nil [] = refl
-append_nil (x ∷ xs) = ap (λ l. x ∷ l) (append_nil xs)
-
 pub done_nothing : (s : SeatState) → HasDone s s []
 done_nothing s = ap (λ l. seat_state s.table (seat_view s.view.opened s.view.number s.view.guest l)) (sym (append_nil s.view.steps))
 
@@ -74,7 +76,7 @@ described : (m : Module) (c : Parts) (room most : ℕ) (look : Look) (frame : Fr
 described m c room most look frame verdict d code v o =
     let t = subst (λ (x : List Load × Outcome). IsValidated c room most x.0 x.1) (λ i. (sym o.loads i, sym o.outcome i)) v in
     record {
-      is = record { guest = o.guest; list = o.layout; rising = t.rising; inside = t.inside };
+      is = record { guest = o.guest; number = o.number; list = o.layout; rising = t.rising; inside = t.inside };
       cells = t.cells;
       meant = λ b bytes h. t.meant m b code.code h (code.sound b bytes (let e = h.size in omega (arith, e)));
     }

@@ -9,7 +9,8 @@ use Rattle.td_posts.specs.declared.ring.RingJob.{RingJob}
 use Rattle.td_takes.specs.declared.take.Take.{Take}
 use Rattle.td_takes.specs.declared.take.Room.{Room}
 use Rattle.td_takes.specs.Takes.{Describes, IsTake, IsRoom, AreRooms, AreTakes, HasDone, take_steps, all_steps, taken_by, taken_after}
-use Rattle.td_takes.proofs.Messages.{done_nothing, done_then, append_nil}
+use Rattle.std.proofs.Common.{append-nil as append_nil}
+use Rattle.td_takes.proofs.Messages.{done_nothing, done_then}
 
 pub taken_push : (taken : ℕ) (ts : List Take) (t : Take) → taken_by taken (ts ++ t ∷ []) ≡ taken_after (taken_by taken ts) t.next
 unfolding taken_by

@@ -3,13 +3,14 @@ use Rattle.std.specs.Prelude.{◌≡◌, Option, Some, None}
 use Rattle.td_core.specs.declared.outcome.Verdict.{Verdict}
 use Rattle.td_vm.specs.Frames.{FrameView}
 use Rattle.td_posts.specs.declared.reply.Reply.{Reply}
-use Rattle.td_posts.specs.Posts.{outcome_in}
+use Rattle.td_posts.specs.Posts.{version_in, outcome_in}
 use Rattle.td_descr.specs.declared.next.Look.{Look}
 use Rattle.td_descr.specs.Ring.{frame_outcome}
 
 -- the reply of a validation that left its trace and cells in this frame, with these loads
 pub record IsOutcome (r : Reply) (look : Look) (frame : FrameView) (verdict : Verdict) : Type 0 where
   pub guest : r.guest ≡ 0
+  pub number : version_in r ≡ 0
   pub layout : r.layout ≡ None
   pub outcome : outcome_in r ≡ frame_outcome frame verdict
   pub loads : r.loads.list ≡ look.loads

@@ -2,15 +2,15 @@
 use Rattle.std.specs.Prelude.{◌≡◌, ℕ, ◌+◌, ◌*◌, ◌/◌, ◌<◌, ◌≤◌, ◌^◌, List, [], ◌∷◌, ◌++◌, length, vec_capacity, Option, Some, None}
 use Rattle.td_num.specs.Lists.{AreBytes}
 use Rattle.td_core.specs.declared.module.Module.{Module}
+use Rattle.td_core.specs.declared.module.Entry.{Entry}
 use Rattle.td_core.specs.declared.outcome.Verdict.{Verdict}
 use Rattle.td_stream.specs.declared.load.Load.{Load}
 use Rattle.td_stream.specs.declared.stretch.Stretch.{Stretch}
 use Rattle.td_stream.specs.Layouts.{plain}
 use Rattle.td_stream.specs.Loads.{IsRising, Inside, Carries}
 use Rattle.td_expr.specs.Sound.{Sound}
-use Rattle.td_meaning.specs.Meaning.{meaning}
 use Rattle.td_meaning.specs.Throughout.{Throughout}
-use Rattle.td_leaves.specs.Outcomes.{IsBehaviorOf}
+use Rattle.td_leaves.specs.Outcomes.{IsMeant}
 use Rattle.td_ir.specs.declared.tables.Parts.{Parts}
 use Rattle.td_ir.specs.Entries.{Fits}
 use Rattle.td_lowered.specs.CodeRun.{IsCodeOf}
@@ -21,7 +21,7 @@ use Rattle.td_words.specs.Seats.{SeatState, seat_state}
 use Rattle.td_posts.specs.declared.job.HostJob.{HostJob}
 use Rattle.td_posts.specs.declared.ring.RingJob.{RingJob}
 use Rattle.td_posts.specs.declared.reply.Reply.{Reply}
-use Rattle.td_posts.specs.Posts.{zeros, outcome_in}
+use Rattle.td_posts.specs.Posts.{IsVersion, zeros, version_in, outcome_in}
 use Rattle.td_live.specs.Live.{steps_for}
 use Rattle.td_descr.specs.declared.next.Next.{Next}
 use Rattle.td_descr.specs.declared.next.Next.TheVariants.{Idle, Overrun, Bad, Message}
@@ -42,12 +42,15 @@ abbrev pub message_layout : ℕ → ℕ → List Stretch
 message_layout place size = (record { place = place; size = size }) ∷ []
 
 -- ---- the codes
--- this code does the job's validations: it is that of the job's module, the arguments and cells of zeros fit its entry point, and
--- whatever bytes a message has, each expression that the meaning evaluates lies in its type's range
+-- this code does the job's validations under version 0: it is that of the version's module, the arguments and cells of zeros fit the
+-- version's entry point, and whatever bytes a message has, each expression that the meaning evaluates lies in its type's range
 pub record MessageCode (c : Parts) (job : HostJob) : Type 0 where
-  pub code : IsCodeOf c job.format
-  pub fits : Fits c job.entry job.args (zeros job.cells)
-  pub sound : (b : List ℕ) → AreBytes b → length b < 2 ^ 32 → Throughout Sound job.format job.entry job.args (zeros job.cells) b
+  pub format : Module
+  pub entry : Entry
+  pub version : IsVersion job 0 format entry
+  pub code : IsCodeOf c format
+  pub fits : Fits c entry job.args (zeros job.cells)
+  pub sound : (b : List ℕ) → AreBytes b → length b < 2 ^ 32 → Throughout Sound format entry job.args (zeros job.cells) b
 
 unfoldable pub IsMessageCode : Parts → HostJob → Type 0
 IsMessageCode c job = MessageCode c job
@@ -58,19 +61,24 @@ pub record Describes (m : Module) (c : Parts) (room most : ℕ) : Type 0 where
   pub sound : (b : List ℕ) → AreBytes b → length b < 2 ^ 32 → IsSoundOn m room most b
 
 -- ---- one take
--- a reply of no guest, whose message has this list of stretches or none, and its loads rise and lie in the message
+-- a reply of no guest, whose number of a version is 0, whose message has this list of stretches or none, and its loads rise and lie in
+-- the message
 pub record IsOfNoGuest (r : Reply) (stretches : Option (List Stretch)) (layout : List Stretch) : Type 0 where
   pub guest : r.guest ≡ 0
+  pub number : version_in r ≡ 0
   pub list : r.layout ≡ stretches
   pub rising : IsRising r.loads.list
   pub inside : Inside layout r.loads.list
 
--- the reply to a message of this place and size: its outcome is what the job's module means, from cells of zeros, on every list of bytes
--- that carries its loads, which are of exactly the words that the meaning reads
+-- the reply to a message of this place and size: its outcome is what version 0's module means, from cells of zeros, on every list of
+-- bytes that carries its loads, which are of exactly the words that the meaning reads
 pub record IsMessage (job : HostJob) (place size : ℕ) (r : Reply) : Type 0 where
   pub is : IsOfNoGuest r (Some (message_layout place size)) (message_layout place size)
+  pub format : Module
+  pub entry : Entry
+  pub version : IsVersion job 0 format entry
   pub meant : (b : List ℕ) → AreBytes b → Carries (message_layout place size) b r.loads.list
-      → IsBehaviorOf (message_layout place size) r.loads.list (meaning job.format job.entry job.args (zeros job.cells) b) (outcome_in r)
+      → IsMeant (message_layout place size) format entry job.args (zeros job.cells) b r.loads.list (outcome_in r)
 
 -- the reply of a descriptor, by this module: its outcome is the module's in the same way, on lists of its sixteen bytes
 pub record IsDescriptor (m : Module) (room most : ℕ) (d : Reply) : Type 0 where

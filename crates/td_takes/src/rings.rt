@@ -31,6 +31,7 @@ fn desc_reply(descr: &Descr, number: u32, room: Reply) -> Option<Reply>
             let Reply {
                 guest: _,
                 number: _,
+                version: _,
                 layout: _,
                 verdict: _,
                 trace,

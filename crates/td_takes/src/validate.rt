@@ -38,7 +38,7 @@ fn keep(frame: &Frame, trace: &mut Vec<TraceFrame>, cells: &mut [u64])
     };
 }
 
-/// The reply of a validation that left its trace and cells in a frame, in room that was taken for it; of no guest.
+/// The reply of a validation that left its trace and cells in a frame, in room that was taken for it; of no guest, and with version 0.
 pub fn reply_of(
     frame: &Frame,
     number: u32,
@@ -52,6 +52,7 @@ pub fn reply_of(
     requires room { frame.now.trace_room ≤ vec_capacity trace }
     requires cells { length cells.items ≡ length frame.now.cells }
     ensures guest { result.guest ≡ 0 }
+    ensures version { result.version ≡ 0 }
     ensures layout { result.layout ≡ layout }
     ensures outcome { outcome_in result ≡ frame_outcome frame.now verdict }
     ensures loads { result.loads ≡ loads }
@@ -60,6 +61,7 @@ pub fn reply_of(
     Reply {
         guest: 0,
         number,
+        version: 0,
         layout,
         verdict,
         trace,
@@ -68,7 +70,7 @@ pub fn reply_of(
     }
 }
 
-/// Validates the message of this place and size by the job's entry point, from the ring's seat.
+/// Validates the message of this place and size by version 0's entry point, from the ring's seat.
 pub fn validate_message(
     code: &Verified,
     job: &HostJob,
@@ -94,6 +96,7 @@ pub fn validate_message(
     let Reply {
         guest: _,
         number: _,
+        version: _,
         layout: _,
         verdict: _,
         trace,
@@ -105,9 +108,10 @@ pub fn validate_message(
     frame.set_cells(cells.as_slice());
     let name = PostName { guest: 0, number };
     let args = job.args.as_slice();
+    let entries = job.entries.as_slice();
     let mut gate = OpenGate;
     let verdict = validate_slot(
-        code, job.entry, args, shared, seat, &layout, name, frame, &mut loads, &mut gate,
+        code, entries[0], args, shared, seat, &layout, name, frame, &mut loads, &mut gate,
     );
     reply_of(frame, number, Some(layout), verdict, trace, cells, loads)
 }

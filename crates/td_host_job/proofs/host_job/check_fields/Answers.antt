@@ -10,7 +10,7 @@ pub returns-in_err-count-clause-memory : goal.returns-in_err-count-clause-memory
 returns-in_err-count-clause-memory c = λ memory. record {
   entry = c.in_ok-entry.entry;
   good = c.in_ok-entry.ensures.good;
-  rest = inr (inr (omega (arith, c.in_err-count.ensures.full, c.in_ok-entry.ensures.words)));
+  rest = inl (omega (arith, c.in_err-count.ensures.full, c.in_ok-entry.ensures.words));
 }
 
 pub returns-in_err-check_rest-clause-err : goal.returns-in_err-check_rest-clause-err

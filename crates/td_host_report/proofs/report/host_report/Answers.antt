@@ -9,7 +9,7 @@ use Rattle.td_host_report.proofs.report.host_report.Goals as goal
 
 pub returns-in_err-put_reply : goal.returns-in_err-put_reply
 returns-in_err-put_reply g c =
-    let text : Reply → List ℕ = reply_report c.args.m.now c.args.entry in
+    let text : Reply → List ℕ = reply_report c.args.formats.now c.args.entries.now in
     let before = g.O.Sink.state c.loop-reply.out in
     let after = g.O.Sink.state c.put_reply.new.out in
     let page = c.loop-reply.page.written in
@@ -19,7 +19,7 @@ returns-in_err-put_reply g c =
 
 pub loop-reply-preserved : goal.loop-reply-preserved
 loop-reply-preserved g c =
-    let text : Reply → List ℕ = reply_report c.args.m.now c.args.entry in
+    let text : Reply → List ℕ = reply_report c.args.formats.now c.args.entries.now in
     let before = g.O.Sink.state c.loop-reply.out in
     let after = g.O.Sink.state c.put_reply.new.out in
     let page = c.loop-reply.page.written in
@@ -29,7 +29,7 @@ loop-reply-preserved g c =
 
 pub returns : goal.returns
 returns g c =
-    let text : Reply → List ℕ = reply_report c.args.m.now c.args.entry in
+    let text : Reply → List ℕ = reply_report c.args.formats.now c.args.entries.now in
     let start = g.O.Sink.state c.args.out.now in
     let before = g.O.Sink.state c.loop-reply.out in
     let after = g.O.Sink.state c.write_all.new.out in

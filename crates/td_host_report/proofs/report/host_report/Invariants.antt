@@ -5,4 +5,4 @@ use Rattle.td_host_report.proofs.report.host_report.Given as goal
 
 -- of the reports of the replies so far the first bytes were written, and the others wait in the page
 abbrev pub invariant-loop-reply : goal.invariant-loop-reply
-invariant-loop-reply g l = IsMoved (g.O.Sink.state l.fn.out) (g.O.Sink.state l.out) [] l.page.written (flat_map (reply_report l.m l.entry) (take l.reply-index l.replies))
+invariant-loop-reply g l = IsMoved (g.O.Sink.state l.fn.out) (g.O.Sink.state l.out) [] l.page.written (flat_map (reply_report l.formats l.entries) (take l.reply-index l.replies))

@@ -4,7 +4,7 @@ use Rattle.td_words.specs.declared.view.SeatView.{SeatView}
 use Rattle.td_posts.specs.declared.job.HostJob.{HostJob}
 use Rattle.td_takes.specs.declared.take.Take.{Take}
 use Rattle.td_takes.specs.TakesServed.{AreTaken, all_takes, NothingTaken}
-use Rattle.td_takes.proofs.Messages.{append_nil}
+use Rattle.std.proofs.Common.{append-nil as append_nil}
 use Rattle.td_takes.proofs.laws.jobs_without_rings_have_no_take.Goals as goal
 
 none : (job : HostJob) (m : Module) (room : ℕ) (takers : List SeatView) (shares : List (List Take)) → AreTaken job m room 1 [] takers shares → (takers ≡ []) × (all_takes shares ≡ [])

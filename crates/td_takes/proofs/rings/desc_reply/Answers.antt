@@ -18,6 +18,7 @@ returns-in-Some c =
       refl,
       record {
         guest = r.ensures.guest;
+        number = r.ensures.version;
         layout = r.ensures.layout;
         outcome = r.ensures.outcome ∙ ap (λ (x : FrameView). frame_outcome x c.in-Some.verdict) c.frame.ensures.frame;
         loads = ap (λ (x : LoadsView). x.list) r.ensures.loads ∙ (c.put.ensures.list ∙ (ap (λ (l : List Load). l ++ c.last-last.result.now.loads) c.requires.room.0.empty ∙ ap (λ (x : Look). x.loads) c.last-last.ensures));

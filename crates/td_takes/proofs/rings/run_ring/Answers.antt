@@ -1,4 +1,4 @@
-use Rattle.std.proofs.Common.{◌≡◌, ◌+◌, List, ◌∷◌, ◌++◌, length, Some, option_to_list, refl, sym, ap, ◌∙◌, subst, arith}
+use Rattle.std.proofs.Common.{◌≡◌, List, ◌∷◌, ◌++◌, length, option_to_list, refl, sym, ap, ◌∙◌, subst, arith}
 use Rattle.td_ir.specs.declared.tables.Parts.{Parts}
 use Rattle.td_takes.specs.declared.take.Room.{Room}
 use Rattle.td_takes.specs.Takes.{IsRoom, frames_of}
