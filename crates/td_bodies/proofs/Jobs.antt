@@ -28,19 +28,6 @@ use Rattle.td_leaves.specs.Outcomes.{IsMeant}
 use Rattle.td_bodies.specs.Meant.{IsJobMeant}
 use Rattle.td_input.proofs.Sounds.{same_args, same_cells}
 
--- what lowering asks of a module holds of a checked one
-pub lowerable : (m : Module) → IsChecked m → IsLowerable m
-lowerable m h = record {
-  ready = record { formed = h.formed; sorted = h.sorted; fields = h.fields; steps = h.steps; kinds = h.kinds };
-  whole = h.whole;
-  named = h.named;
-  words = h.words;
-  within = h.within;
-  nodes = h.nodes;
-  depth = h.depth;
-  weight = h.weight;
-}
-
 -- a job's values, and lists that are alike, fit its entry point's code
 pub job_fits : ArgumentsFit → (c : Parts) (m : Module) (job : RunJob) (args cells : List ℕ) → IsCodeOf c m → job.entry.number < length m.entries → HasValues m job
     → args ≡ job.args → cells ≡ job.cells → Fits c job.entry args cells
@@ -48,16 +35,6 @@ job_fits law c m job args cells of inside values p q =
     let o = entry_definition m job.entry.number in
     let h : Fits c job.entry job.args job.cells = law c m job.entry job.args job.cells of inside (subst (λ b. AllFit b job.args) (same_args o) values.args) (subst (λ b. AllFit b job.cells) (same_cells o) values.cells) in
     subst (λ x. Fits c job.entry args x) (sym q) (subst (λ x. Fits c job.entry x job.cells) (sym p) h)
-
--- the message lies in words that are the job's, by a layout that is
-pub ends_with : (job : RunJob) (layout : Option (List Stretch)) (words : List ℕ) → layout ≡ job.layout → words ≡ job.words → HasRoom job → count_in (laid job.length layout) ≤ counted layout (length words)
-ends_with job layout words p q room =
-    subst (λ (l : Option (List Stretch)). count_in (laid job.length l) ≤ counted l (length words)) (sym p)
-    (subst (λ (w : List ℕ). count_in (laid job.length job.layout) ≤ counted job.layout (length w)) (sym q) room.ends)
-
-pub over_with : (job : RunJob) (layout : Option (List Stretch)) (words : List ℕ) → layout ≡ job.layout → words ≡ job.words → HasRoom job → IsOver (length words) layout
-over_with job layout words p q room =
-    subst (λ (l : Option (List Stretch)). IsOver (length words) l) (sym p) (subst (λ (w : List ℕ). IsOver (length w) job.layout) (sym q) room.over)
 
 abbrev pub input_by : RunJob → List ℕ → List ℕ → List ℕ → List PlannedStore → Option (List Stretch) → Input
 input_by job args cells words stores layout = record { entry = job.entry; args = args; cells = cells; length = job.length; layout = layout; words = words; stores = stores }
@@ -74,11 +51,6 @@ run_is_meant c m job outcome loads args cells words stores layout of sound room 
 pub run_is_inside : (c : Parts) (job : RunJob) (outcome : Outcome) (loads : List Load) (args cells words : List ℕ) (stores : List PlannedStore) (layout : Option (List Stretch)) → layout ≡ job.layout
     → IsRunBy c (input_by job args cells words stores layout) outcome loads → Inside (laid job.length job.layout) loads
 run_is_inside c job outcome loads args cells words stores layout r run = subst (λ (l : Option (List Stretch)). Inside (laid job.length l) loads) r run.inside
-
--- each load of a run is of a word that its report can name
-pub numbered : (n : ℕ) (layout : Option (List Stretch)) (loads : List Load) → Inside (laid n layout) loads → All (λ (l : Load). IsNumberOf layout l.word) loads
-numbered n None loads h = All-weaker (λ (l : Load). l.word < count_in (plain n)) (λ (l : Load). Unit {0}) (λ l inside. tt) loads h
-numbered n (Some layout) loads h = h
 
 -- a run whose outcome is the meaning's, from lists that are alike, is meant
 pub outcome_is_meant : (m : Module) (job : RunJob) (loads : List Load) (args start left cells : List ℕ) (verdict : Verdict) (trace : List TraceFrame) (layout : List Stretch) → IsSoundJob m job → HasRoom job

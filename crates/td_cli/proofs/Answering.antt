@@ -41,10 +41,10 @@ use Rattle.td_input.proofs.Inputs.{Kind, Faults, text_there, job_there, nothing_
 
 -- ---- reports
 
-one_run : RunsAreOne → SomeCarry → (m : Module) (job : RunJob) (o p : Outcome) (l k : List Load) → IsRunOf m job o l → IsRunOf m job p k → report o m job.entry l job.layout None ≡ report p m job.entry k job.layout None
+one_run : RunsAreOne → SomeCarry → (m : Module) (job : RunJob) (o p : Outcome) (l k : List Load) → IsRunOf m job o l → IsRunOf m job p k → report o m job.entry l job.layout job.written ≡ report p m job.entry k job.layout job.written
 one_run one some m job o p l k h g =
     let same = same_run one some m job o p l k h g in
-    ap₂ (λ (x : Outcome) (y : List Load). report x m job.entry y job.layout None) same.0 same.1
+    ap₂ (λ (x : Outcome) (y : List Load). report x m job.entry y job.layout job.written) same.0 same.1
 
 one_report : OneModuleEach → OneJobEach → RunsAreOne → SomeCarry → (input a b : List ℕ) → IsReport input a → IsReport input b → a ≡ b
 one_report modules jobs one some input a b h g =
@@ -58,7 +58,7 @@ one_report modules jobs one some input a b h g =
     let M : Module → Type 0 = λ x. IsRunOf x h.job h.outcome h.loads in
     let R : RunJob → Type 0 = λ x. IsRunOf g.m x h.outcome h.loads in
     let moved : IsRunOf g.m g.job h.outcome h.loads = subst R job (subst M m h.run) in
-    h.text_is ∙ ap₂ (λ (x : Module) (y : RunJob). report h.outcome x y.entry h.loads y.layout None) m job
+    h.text_is ∙ ap₂ (λ (x : Module) (y : RunJob). report h.outcome x y.entry h.loads y.layout y.written) m job
     ∙ one_run one some g.m g.job h.outcome g.outcome h.loads g.loads moved g.run ∙ sym g.text_is
 
 one_summary : OneModuleEach → (input a b : List ℕ) → IsSummary input a → IsSummary input b → a ≡ b
@@ -112,7 +112,7 @@ answered_admitted Tidy input output h = (h.0, h.1.0, h.1.1)
 answered_admitted Code input output h = (h.0, h.1.0, h.1.1)
 answered_admitted Pack input output h = (h.0, h.1.0, h.1.1)
 answered_admitted Run input output h = (h.0, h.1.m, h.1.job, h.1.input_is)
-answered_admitted Host input output h = (h.0, h.1.m, h.1.served.job, h.1.served.input_is)
+answered_admitted Host input output h = (h.0, h.1.served.m, h.1.served.job, h.1.served.input_is)
 answered_admitted (Bench n) input output h = totals_admitted n h.0 h.1
 
 -- an input of jobs of one kind isn't refused

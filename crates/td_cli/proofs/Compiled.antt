@@ -60,16 +60,6 @@ run_with c job outcome loads args cells words stores layout p q r t u h =
     (subst (λ z. IsRunBy c (make job.args z words stores layout) outcome loads) q
     (subst (λ z. IsRunBy c (make z cells words stores layout) outcome loads) p h))))
 
--- the message lies in words that are the job's, by a layout that is
-pub ends_with : (job : RunJob) (layout : Option (List Stretch)) (words : List ℕ) → layout ≡ job.layout → words ≡ job.words → HasRoom job → count_in (laid job.length layout) ≤ counted layout (length words)
-ends_with job layout words p q room =
-    subst (λ (l : Option (List Stretch)). count_in (laid job.length l) ≤ counted l (length words)) (sym p)
-    (subst (λ (w : List ℕ). count_in (laid job.length job.layout) ≤ counted job.layout (length w)) (sym q) room.ends)
-
-pub over_with : (job : RunJob) (layout : Option (List Stretch)) (words : List ℕ) → layout ≡ job.layout → words ≡ job.words → HasRoom job → IsOver (length words) layout
-over_with job layout words p q room =
-    subst (λ (l : Option (List Stretch)). IsOver (length words) l) (sym p) (subst (λ (w : List ℕ). IsOver (length w) job.layout) (sym q) room.over)
-
 -- a run by the code of a message's module is a run of the message
 pub has_run : (k : ℕ) (c : Parts) (m : Module) (message : NamedJob) (job : RunJob) (verdict : Verdict) (trace : List TraceFrame) (cells : List ℕ) (loads : List Load)
     → IsModuleText (text_of (format_of k)) m → IsMessage k message → IsNamedJob m message job → IsCodeOf c m → IsSoundJob m job → HasRoom job

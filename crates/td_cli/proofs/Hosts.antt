@@ -28,7 +28,7 @@ use Rattle.td_cli.proofs.Calls.{ends_or_fails}
 -- how a job that was served, or an input without one, ends the call
 abbrev pub HostEnds : List ℕ → Result ServedInput InputError → Passage SinkState → Passage SinkState → Status → Type 0
 HostEnds input served out err result = MatchResult served
-    (λ s. EndsWithOutput (host_report s.module s.entry s.replies) out err result)
+    (λ s. EndsWithOutput (host_report s.formats s.entries s.replies) out err result)
     (λ e. EndsWithLine (unanswered_status e) (unanswered_line input e) out err result)
 
 refuses_short : (input : List ℕ) (refusal : Refusal) → length input ≤ INPUT_LIMIT → RefusesHost input refusal → Refuses Host input refusal
@@ -44,11 +44,11 @@ refuses_host input (BadModule e) short h = h.1
 refuses_host input (BadJob e) short h = h.1
 
 pub host_ends : (input : List ℕ) (served : Result ServedInput InputError) (out err : Passage SinkState) (result : Status)
-    → length input ≤ INPUT_LIMIT → IfOk served (λ s. IsServedInput input s.module s.entry s.replies) → IfErr served (HasCause (RefusesHost input))
+    → length input ≤ INPUT_LIMIT → IfOk served (λ s. IsServedInput input s.formats s.entries s.replies) → IfErr served (HasCause (RefusesHost input))
     → (((n : ℕ) → IsMarker input n → ⊥) → IsErrOf served (Refused NoJob))
     → HostEnds input served out err result → InputEnds Host input out err result
 host_ends input (Ok s) out err result short is cause none h =
-    inl (host_report s.module s.entry s.replies, (short, record { m = s.module; entry = s.entry; replies = s.replies; served = is; text_is = refl }), h)
+    inl (host_report s.formats s.entries s.replies, (short, record { formats = s.formats; entries = s.entries; replies = s.replies; served = is; text_is = refl }), h)
 host_ends input (Err (Refused refusal)) out err result short is cause none h = inr (inl (refusal, refuses_short input refusal short cause, h))
 host_ends input (Err NoMemory) out err result short is cause none h = inr (inr (marker_there input (λ never. let same = none never in absurd (cc same)), h))
 
@@ -56,7 +56,7 @@ pub host_good : (input : List ℕ) (served : Result ServedInput InputError) (out
     → ((m : Module) (job : HostJob) → IsHostInput input m job → IfErr served (λ e. e ≡ NoMemory))
     → HostEnds input served out err result → Admits Host input → result ≢ ends.Refused
 host_good input (Ok s) out err result complete h admits =
-    ends_or_fails ends.Done (host_report s.module s.entry s.replies) out result ends.Refused h.0 (λ e. cc) (λ e. cc)
+    ends_or_fails ends.Done (host_report s.formats s.entries s.replies) out result ends.Refused h.0 (λ e. cc) (λ e. cc)
 host_good input (Err (Refused refusal)) out err result complete h admits = let no = complete admits.1 admits.2 admits.3 in cc
 host_good input (Err NoMemory) out err result complete h admits = ends_or_fails ends.NoMemory memory_line err result ends.Refused h.0 (λ e. cc) (λ e. cc)
 

@@ -1,5 +1,5 @@
 -- Equal reports of one module are of equal runs.
-use Rattle.std.proofs.Common.{◌≡◌, ℕ, List, Option, None, sym, ap, ◌∙◌, subst}
+use Rattle.std.proofs.Common.{◌≡◌, ℕ, List, Option, sym, ap, ◌∙◌, subst}
 use Rattle.td_stream.specs.declared.stretch.Stretch.{Stretch}
 use Rattle.std.specs.List.{All}
 use Rattle.td_core.specs.declared.module.Module.{Module}
@@ -40,7 +40,7 @@ module _ (below : Below) (input text : List ℕ) (a : IsReport input text) where
   is_checked = below.checked (text_part input a.input_is.place) a.m a.input_is.text
 
   is_sized : IsSized a.m a.job
-  is_sized = below.sized (job_part input a.input_is.place) a.m a.job a.input_is.good
+  is_sized = below.sized (job_part input a.input_is.place) a.m a.job is_checked a.input_is.good
 
   told : IsTold a.m a.job.entry a.outcome
   told = run_told below a.m a.job a.outcome a.loads is_checked is_sized a.run
@@ -53,13 +53,13 @@ reports_determine_runs below one other text a b same =
     let words = below.words a.m (is_checked below one text a) in
     let first = told below one text a in
     let second : IsTold a.m b.job.entry b.outcome = subst (λ m. IsTold m b.job.entry b.outcome) (sym same) (told below other text b) in
-    let equal : report a.outcome a.m a.job.entry a.loads a.job.layout None ≡ report b.outcome a.m b.job.entry b.loads b.job.layout None = sym a.text_is ∙ b.text_is ∙ ap (λ m. report b.outcome m b.job.entry b.loads b.job.layout None) (sym same) in
+    let equal : report a.outcome a.m a.job.entry a.loads a.job.layout a.job.written ≡ report b.outcome a.m b.job.entry b.loads b.job.layout b.job.written = sym a.text_is ∙ b.text_is ∙ ap (λ m. report b.outcome m b.job.entry b.loads b.job.layout b.job.written) (sym same) in
     let one_shown = shown below one text a in
     let other_shown = shown below other text b in
     let parts =
-    below.determine a.m a.outcome b.outcome a.job.entry b.job.entry a.job.layout b.job.layout None None a.loads b.loads words.0 words.1
-    first.named second.named first.frames second.frames first.cells second.cells one_shown other_shown tt tt equal in
+    below.determine a.m a.outcome b.outcome a.job.entry b.job.entry a.job.layout b.job.layout a.job.written b.job.written a.loads b.loads words.0 words.1
+    first.named second.named first.frames second.frames first.cells second.cells one_shown other_shown (is_sized below one text a).written (is_sized below other text b).written equal in
     let alike = λ (over : a.job.layout ≡ b.job.layout).
     below.one a.job.layout a.loads b.loads one_shown (subst (λ (l : Option (List Stretch)). All (IsShownLoad l) b.loads) (sym over) other_shown)
     (parts.3 ∙ ap (λ (l : Option (List Stretch)). shown_loads l b.loads) (sym over)) in
-    (parts.0, parts.1, parts.2, parts.3, alike)
+    (parts.0, parts.1, parts.2, parts.3, alike, parts.4)

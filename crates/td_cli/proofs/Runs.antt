@@ -29,12 +29,13 @@ use Rattle.td_cli.specs.Run.{IsRunOf}
 use Rattle.td_cli.specs.Ends.{Passage}
 use Rattle.td_cli.specs.Endings.{EndsWithOutput, EndsWithLine, InputEnds}
 use Rattle.td_input.proofs.Markers.{marker_there}
+use Rattle.td_told.proofs.Words.{numbered}
 use Rattle.td_cli.proofs.Calls.{ends_or_fails}
 
 -- how a run that finished, or an input without one, ends the call
 abbrev pub RunEnds : List ℕ → Result FinishedRun InputError → Passage SinkState → Passage SinkState → Status → Type 0
 RunEnds input run out err result = MatchResult run
-    (λ r. EndsWithOutput (report r.outcome r.input.module r.input.job.entry r.loads.list r.input.job.layout None) out err result)
+    (λ r. EndsWithOutput (report r.outcome r.input.module r.input.job.entry r.loads.list r.input.job.layout r.input.job.written) out err result)
     (λ e. EndsWithLine (unanswered_status e) (unanswered_line input e) out err result)
 
 refuses_short : (input : List ℕ) (refusal : Refusal) → length input ≤ INPUT_LIMIT → RefusesRun input refusal → Refuses Run input refusal
@@ -49,11 +50,6 @@ refuses_run input NoJob short h = h.1
 refuses_run input (BadModule e) short h = h.1
 refuses_run input (BadJob e) short h = h.1
 
--- each load of a run is of a word that its report can name
-pub numbered : (n : ℕ) (layout : Option (List Stretch)) (loads : List Load) → Inside (laid n layout) loads → All (λ (l : Load). IsNumberOf layout l.word) loads
-numbered n None loads h = All-weaker (λ (l : Load). l.word < count_in (plain n)) (λ (l : Load). Unit {0}) (λ l inside. tt) loads h
-numbered n (Some layout) loads h = h
-
 pub all_numbered : (run : Result FinishedRun InputError) → IfOk run (λ r. IsRunOf r.input.module r.input.job r.outcome r.loads.list) → IfOk run (λ r. All (λ (l : Load). IsNumberOf r.input.job.layout l.word) r.loads.list)
 all_numbered (Ok r) h = numbered r.input.job.length r.input.job.layout r.loads.list h.inside
 all_numbered (Err e) h = tt
@@ -63,7 +59,7 @@ pub run_ends : (input : List ℕ) (run : Result FinishedRun InputError) (out err
     → (((n : ℕ) → IsMarker input n → ⊥) → IsErrOf run (Refused NoJob))
     → RunEnds input run out err result → InputEnds Run input out err result
 run_ends input (Ok r) out err result short given ran cause none h =
-    inl (report r.outcome r.input.module r.input.job.entry r.loads.list r.input.job.layout None, (short, record { m = r.input.module; job = r.input.job; outcome = r.outcome; loads = r.loads.list; input_is = given; run = ran; text_is = refl }), h)
+    inl (report r.outcome r.input.module r.input.job.entry r.loads.list r.input.job.layout r.input.job.written, (short, record { m = r.input.module; job = r.input.job; outcome = r.outcome; loads = r.loads.list; input_is = given; run = ran; text_is = refl }), h)
 run_ends input (Err (Refused refusal)) out err result short given ran cause none h = inr (inl (refusal, refuses_short input refusal short cause, h))
 run_ends input (Err NoMemory) out err result short given ran cause none h = inr (inr (marker_there input (λ never. let same = none never in absurd (cc same)), h))
 
@@ -71,7 +67,7 @@ pub run_good : (input : List ℕ) (run : Result FinishedRun InputError) (out err
     → ((m : Module) (job : RunJob) → IsRunInput input m job → IfErr run (λ e. e ≡ NoMemory))
     → RunEnds input run out err result → Admits Run input → result ≢ ends.Refused
 run_good input (Ok r) out err result complete h admits =
-    ends_or_fails ends.Done (report r.outcome r.input.module r.input.job.entry r.loads.list r.input.job.layout None) out result ends.Refused h.0 (λ e. cc) (λ e. cc)
+    ends_or_fails ends.Done (report r.outcome r.input.module r.input.job.entry r.loads.list r.input.job.layout r.input.job.written) out result ends.Refused h.0 (λ e. cc) (λ e. cc)
 run_good input (Err (Refused refusal)) out err result complete h admits = let no = complete admits.1 admits.2 admits.3 in cc
 run_good input (Err NoMemory) out err result complete h admits = ends_or_fails ends.NoMemory memory_line err result ends.Refused h.0 (λ e. cc) (λ e. cc)
 

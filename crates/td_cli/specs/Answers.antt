@@ -1,6 +1,6 @@
 -- What each command answers an input, and what refuses its input (own rule). One case a command. `bench` has no input, so
 -- none of these asks anything of one.
-use Rattle.std.specs.Prelude.{◌≡◌, ℕ, ◌<◌, ◌≤◌, List, None, length}
+use Rattle.std.specs.Prelude.{◌≡◌, ℕ, ◌<◌, ◌≤◌, List, length}
 use Rattle.td_core.specs.declared.module.Module.{Module}
 use Rattle.td_core.specs.declared.outcome.Outcome.{Outcome}
 use Rattle.td_stream.specs.declared.load.Load.{Load}
@@ -31,7 +31,7 @@ pub record IsReport (input text : List ℕ) : Type 0 where
   pub loads : List Load
   pub input_is : IsRunInput input m job
   pub run : IsRunOf m job outcome loads
-  pub text_is : text ≡ report outcome m job.entry loads job.layout None
+  pub text_is : text ≡ report outcome m job.entry loads job.layout job.written
 
 -- ---- check
 

@@ -1,11 +1,11 @@
 //! How a call ends once all is decided: text goes to a sink, and the status follows. Nothing here takes memory, so nothing
 //! that was decided can be told as want of it.
 
-ghost use Rattle.std.specs.Prelude.{[], None, IfOk, MatchResult};
+ghost use Rattle.std.specs.Prelude.{[], IfOk, MatchResult};
 ghost use Rattle.std.specs.List.{All};
 ghost use Rattle.td_stream.specs.Layouts.{IsNumberOf};
 ghost use Rattle.td_report.specs.Report.{report};
-ghost use Rattle.td_host_report.specs.Report.{host_report, HasMessageWords};
+ghost use Rattle.td_host_report.specs.Report.{host_report, HasMessageWords, HasVersion};
 ghost use Rattle.td_report.specs.Summary.{summary};
 ghost use Rattle.td_cli.specs.Totals.{totals_text};
 ghost use Rattle.td_cli.specs.Ends.{passage};
@@ -78,7 +78,7 @@ fn finish_unanswered<E: Sink>(input: &[u8], error: &InputError, err: &mut E) -> 
 // Ends a call with the report of a run.
 fn finish_report<O: Sink>(run: &FinishedRun, out: &mut O) -> Status
     requires { All (λ l. IsNumberOf run.now.input.job.layout l.word) run.now.loads.list }
-    ensures { EndsWith Status.Done (report run.now.outcome run.now.input.module run.now.input.job.entry run.now.loads.list run.now.input.job.layout None) (passage O.state out.old out.new) result }
+    ensures { EndsWith Status.Done (report run.now.outcome run.now.input.module run.now.input.job.entry run.now.loads.list run.now.input.job.layout run.now.input.job.written) (passage O.state out.old out.new) result }
 {
     match run_report(
         &run.outcome,
@@ -86,7 +86,7 @@ fn finish_report<O: Sink>(run: &FinishedRun, out: &mut O) -> Status
         run.input.job.entry,
         &run.loads,
         run.input.job.layout.as_ref(),
-        None,
+        run.input.job.written_bytes(),
         out,
     ) {
         Ok(()) => Status::Done,
@@ -103,7 +103,7 @@ pub(crate) fn finish_run<O: Sink, E: Sink>(
 ) -> Status
     requires { IfOk run.now (λ run. All (λ l. IsNumberOf run.input.job.layout l.word) run.loads.list) }
     ensures { MatchResult run.now
-        (λ run. EndsWithOutput (report run.outcome run.input.module run.input.job.entry run.loads.list run.input.job.layout None) (passage O.state out.old out.new) (passage E.state err.old err.new) result)
+        (λ run. EndsWithOutput (report run.outcome run.input.module run.input.job.entry run.loads.list run.input.job.layout run.input.job.written) (passage O.state out.old out.new) (passage E.state err.old err.new) result)
         (λ error. EndsWithLine (unanswered_status error) (unanswered_line input.now error) (passage O.state out.old out.new) (passage E.state err.old err.new) result) }
 {
     match run {
@@ -114,10 +114,16 @@ pub(crate) fn finish_run<O: Sink, E: Sink>(
 
 // Ends a call with the report of a host.
 fn finish_replies<O: Sink>(served: &ServedInput, out: &mut O) -> Status
-    requires { All HasMessageWords served.now.replies }
-    ensures { EndsWith Status.Done (host_report served.now.module served.now.entry served.now.replies) (passage O.state out.old out.new) result }
+    requires words { All HasMessageWords served.now.replies }
+    requires versions { All (HasVersion served.now.formats served.now.entries) served.now.replies }
+    ensures { EndsWith Status.Done (host_report served.now.formats served.now.entries served.now.replies) (passage O.state out.old out.new) result }
 {
-    match host_report(&served.module, served.entry, served.replies.as_slice(), out) {
+    match host_report(
+        served.formats.as_slice(),
+        served.entries.as_slice(),
+        served.replies.as_slice(),
+        out,
+    ) {
         Ok(()) => Status::Done,
         Err(_) => Status::WriteFault,
     }
@@ -130,9 +136,10 @@ pub(crate) fn finish_host<O: Sink, E: Sink>(
     out: &mut O,
     err: &mut E,
 ) -> Status
-    requires { IfOk served.now (λ s. All HasMessageWords s.replies) }
+    requires words { IfOk served.now (λ s. All HasMessageWords s.replies) }
+    requires versions { IfOk served.now (λ s. All (HasVersion s.formats s.entries) s.replies) }
     ensures { MatchResult served.now
-        (λ s. EndsWithOutput (host_report s.module s.entry s.replies) (passage O.state out.old out.new) (passage E.state err.old err.new) result)
+        (λ s. EndsWithOutput (host_report s.formats s.entries s.replies) (passage O.state out.old out.new) (passage E.state err.old err.new) result)
         (λ error. EndsWithLine (unanswered_status error) (unanswered_line input.now error) (passage O.state out.old out.new) (passage E.state err.old err.new) result) }
 {
     match served {

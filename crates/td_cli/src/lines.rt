@@ -6,9 +6,9 @@ ghost use Rattle.td_cli.specs.Lines.{job_line, module_line, refusal_line};
 use td_front::{FrontError, line_of};
 use td_input::refusal::Refusal;
 use td_io::{Sink, WriteFault};
-use td_job::error::JobError;
+use td_job::error::{JobError, PathParts};
 use td_report::error_line::front_line;
-use td_report::path_line::{inner_path_line, path_line};
+use td_report::path_line::{inner_path_line, path_line, value_line};
 
 /// Says what a command line may be.
 pub(crate) const USAGE: &[u8] = b"usage: td check|tidy|code|run|host|pack|bench N\n";
@@ -42,17 +42,16 @@ fn write_module_line<E: Sink>(
 fn write_job_line<E: Sink>(error: &JobError, err: &mut E) -> Result<(), WriteFault>
     ensures { Writes (E.state err.old) (E.state err.new) (job_line error.now) result }
 {
-    let path = error.path();
-    match path.within {
-        None => path_line(error.code(), path.name, path.index, err),
-        Some(element) => inner_path_line(
-            error.code(),
-            element.list,
-            element.place,
-            path.name,
-            path.index,
-            err,
-        ),
+    match error.path() {
+        PathParts::Name { name, index } => path_line(error.code(), name, index, err),
+        PathParts::Within {
+            element,
+            name,
+            index,
+        } => inner_path_line(error.code(), element.list, element.place, name, index, err),
+        PathParts::Inside { name, places, code } => {
+            value_line(error.code(), name, places, code, err)
+        }
     }
 }
 

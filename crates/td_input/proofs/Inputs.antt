@@ -1,4 +1,4 @@
--- What the first marker of an input, and what is known of its two parts, say of the whole.
+-- What the first marker of an input, and what is known of its two parts, say of the whole. Cited by other crates.
 use Rattle.std.proofs.Common.{◌≡◌, ◌⊎◌, inl, inr, ℕ, List, subst, sym, ap, Result, Ok, Err}
 use Rattle.std.proofs.lemmas.Bool.{cases_order}
 use Rattle.td_core.specs.declared.module.Module.{Module}

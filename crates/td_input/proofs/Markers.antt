@@ -1,4 +1,4 @@
--- The first marker of an input is there, or none is.
+-- The first marker of an input is there, or none is. Cited by other crates.
 use Rattle.std.proofs.Common.{◌≡◌, ◌⊎◌, inl, inr, ℕ, zero, suc, ◌+◌, ◌-◌, ◌<◌, List, length, slice_index, refl, ap, subst, arith}
 use Rattle.std.proofs.lemmas.Bool.{cases_lt, cases_eq}
 use Rattle.td_input.specs.Marker.{BeginsLine, EndsLine, IsMarker, IsFirstMarker}

@@ -1,5 +1,9 @@
 -- In a module that was checked, each expression that a run of a good job evaluates lies in its type's range. Cited by other crates.
-use Rattle.std.proofs.Common.{◌≡◌, ℕ, ◌<◌, ◌^◌, List, [], ◌∷◌, length, Option, Some, None, subst, sym, refl, arith}
+use Rattle.std.proofs.Common.{◌≡◌, ℕ, ◌<◌, ◌^◌, List, [], ◌∷◌, length, Option, Some, None, inl, inr, subst, sym, refl, arith}
+use Rattle.std.specs.Prelude.{slice_get}
+use Rattle.std.specs.List.{All}
+use Rattle.std.proofs.lemmas.List.Elements.{All-weaker}
+use Rattle.std.proofs.lemmas.Option.{slice_get_within, get_or_from_slice_get}
 use Rattle.td_num.specs.Lists.{AreBytes}
 use Rattle.td_core.specs.declared.module.Module.{Module}
 use Rattle.td_core.specs.declared.module.TypeDef.{TypeDef}
@@ -8,6 +12,7 @@ use Rattle.td_core.specs.Entries.{entry_definition}
 use Rattle.td_core.specs.Formed.{Bound, AllFit, params_at, cells_at}
 use Rattle.td_arith.specs.Laws.{EvaluatedIsSound}
 use Rattle.td_front.specs.Checked.{IsChecked}
+use Rattle.td_front.specs.Laws.{ModulesAreChecked}
 use Rattle.td_job.specs.declared.run_job.RunJob.{RunJob}
 use Rattle.td_job.specs.Jobs.{HasValues}
 use Rattle.td_job.specs.Values.{args_bounds, cells_bounds}
@@ -15,8 +20,9 @@ use Rattle.td_expr.specs.Sound.{Sound}
 use Rattle.td_meaning.specs.Throughout.{Throughout}
 use Rattle.td_posts.specs.declared.job.HostJob.{HostJob}
 use Rattle.td_posts.specs.Posts.{zeros}
-use Rattle.td_host_job.specs.HostJobs.{HasHostValues}
-use Rattle.td_input.specs.Inputs.{IsSoundJob, IsSoundHost, FitsEntry}
+use Rattle.td_host_job.proofs.Zeros.{zeros_fit}
+use Rattle.td_host_job.specs.HostJobs.{IsOrStands, HasHostValues}
+use Rattle.td_input.specs.Inputs.{IsSoundJob, IsSoundHost, FitsEntry, FitsVersions}
 use Rattle.td_num.proofs.Lists.{got, each_at}
 use Rattle.td_core.proofs.Found.{entry_found as entry_of}
 
@@ -47,23 +53,32 @@ pub sound_job : (m : Module) (job : RunJob) → EvaluatedIsSound → IsChecked m
 sound_job m job law checked inside values short = λ b bytes same.
     sound_values m job.entry job.args job.cells law checked inside values.args values.cells b bytes (let n : length b ≡ job.length = same in omega arith)
 
-zeros_fit : (bounds : List Bound) → AllFit bounds (zeros (length bounds))
-zeros_fit [] = tt
-zeros_fit (bound ∷ bounds) = (omega arith, zeros_fit bounds)
+-- each version of a host job is the input's module, which was checked, or a module for which a text stands
+pub all_checked : (m : Module) → IsChecked m → ModulesAreChecked → (formats : List Module) → All (IsOrStands m) formats → All IsChecked formats
+all_checked m checked law formats stand = All-weaker (IsOrStands m) IsChecked (λ f h. one_checked f h) formats stand
+  where
+    one_checked : (f : Module) → IsOrStands m f → IsChecked f
+    one_checked f (inl is) = subst IsChecked (sym is) checked
+    one_checked f (inr stands) = law stands.0 f stands.1
 
-pub sound_host : (m : Module) (job : HostJob) → EvaluatedIsSound → IsChecked m → job.format ≡ m → HasHostValues m job → IsSoundHost job
-sound_host m job law checked by values = λ b bytes short.
-    let bounds = cells_bounds (entry_definition m job.entry.number) in
-    let cells : AllFit bounds (zeros job.cells) = subst (λ n. AllFit bounds (zeros n)) (sym values.cells) (zeros_fit bounds) in
-    let sound = sound_values m job.entry job.args (zeros job.cells) law checked values.entry values.args cells b bytes short in
-    subst (λ f. Throughout Sound f job.entry job.args (zeros job.cells) b) (sym by) sound
+-- what is said of all modules is said of a version's
+at_version : (formats : List Module) (n : ℕ) (f : Module) → All IsChecked formats → slice_get formats n ≡ Some f → IsChecked f
+at_version formats n f all is = subst IsChecked (get_or_from_slice_get formats n f f is) (all n f (slice_get_within formats n f is))
 
-pub fits_entry : (m : Module) (job : HostJob) → HasHostValues m job → FitsEntry m job
-fits_entry m job values =
-    let o = entry_definition m job.entry.number in
+pub sound_host : (m : Module) (job : HostJob) → EvaluatedIsSound → All IsChecked job.formats → HasHostValues m job → IsSoundHost job
+sound_host m job law checked values = λ n f entry version b bytes short.
+    let bounds = cells_bounds (entry_definition f entry.number) in
+    let own = values.each n f entry version in
+    let cells : AllFit bounds (zeros job.cells) = subst (λ n. AllFit bounds (zeros n)) (sym own.cells) (zeros_fit bounds) in
+    sound_values f entry job.args (zeros job.cells) law (at_version job.formats n f checked version.0) own.entry own.args cells b bytes short
+
+pub fits_versions : (m : Module) (job : HostJob) → HasHostValues m job → FitsVersions job
+fits_versions m job all = λ n f entry version.
+    let values = all.each n f entry version in
+    let o = entry_definition f entry.number in
     let cells : AllFit (cells_bounds o) (zeros job.cells) = subst (λ n. AllFit (cells_bounds o) (zeros n)) (sym values.cells) (zeros_fit (cells_bounds o)) in
     record {
-      entry = values.entry;
+      entry_is = values.entry;
       args = subst (λ (b : List Bound). AllFit b job.args) (same_args o) values.args;
       cells = subst (λ (b : List Bound). AllFit b (zeros job.cells)) (same_cells o) cells;
     }

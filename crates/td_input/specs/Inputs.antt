@@ -4,6 +4,7 @@ use Rattle.td_num.specs.Lists.{AreBytes}
 use Rattle.td_core.specs.Entries.{entry_definition}
 use Rattle.td_core.specs.Formed.{AllFit, params_at, cells_at}
 use Rattle.td_core.specs.declared.module.Module.{Module}
+use Rattle.td_core.specs.declared.module.Entry.{Entry}
 use Rattle.td_expr.specs.Sound.{Sound}
 use Rattle.td_meaning.specs.Throughout.{Throughout}
 use Rattle.td_front.specs.ModuleText.{IsModuleText, RefusedBy}
@@ -11,7 +12,7 @@ use Rattle.td_job.specs.declared.error.JobError.{JobError}
 use Rattle.td_job.specs.declared.run_job.RunJob.{RunJob}
 use Rattle.td_job.specs.Jobs.{IsRunJob, RefusedJob}
 use Rattle.td_posts.specs.declared.job.HostJob.{HostJob}
-use Rattle.td_posts.specs.Posts.{zeros}
+use Rattle.td_posts.specs.Posts.{IsVersion, zeros}
 use Rattle.td_host_job.specs.HostJobs.{IsHostJob, RefusedHostJob}
 use Rattle.td_input.specs.declared.refusal.Refusal.{Refusal}
 use Rattle.td_input.specs.declared.refusal.Refusal.TheVariants.{TooLong, NoJob, BadModule, BadJob}
@@ -51,12 +52,18 @@ IsHostInput = IsInputOf IsHostJob
 abbrev pub RefusesHost : List ℕ → Refusal → Type 0
 RefusesHost = RefusesInput RefusedHostJob
 
--- whatever bytes a message has, each expression that the meaning evaluates from cells of zeros lies in its type's range
+-- whatever bytes a message has, each expression that the meaning of a version evaluates from cells of zeros lies in its type's range
 abbrev pub IsSoundHost : HostJob → Type 0
-IsSoundHost job = (b : List ℕ) → AreBytes b → length b < 2 ^ 32 → Throughout Sound job.format job.entry job.args (zeros job.cells) b
+IsSoundHost job =
+    (n : ℕ) (m : Module) (entry : Entry) → IsVersion job n m entry
+    → (b : List ℕ) → AreBytes b → length b < 2 ^ 32 → Throughout Sound m entry job.args (zeros job.cells) b
 
 -- the entry point is the module's, each of its parameters has its value, and its cells are zeros, each in its range
-pub record FitsEntry (m : Module) (job : HostJob) : Type 0 where
-  pub entry : job.entry.number < length m.entries
-  pub args : AllFit (params_at (entry_definition m job.entry.number)) job.args
-  pub cells : AllFit (cells_at (entry_definition m job.entry.number)) (zeros job.cells)
+pub record FitsEntry (job : HostJob) (m : Module) (entry : Entry) : Type 0 where
+  pub entry_is : entry.number < length m.entries
+  pub args : AllFit (params_at (entry_definition m entry.number)) job.args
+  pub cells : AllFit (cells_at (entry_definition m entry.number)) (zeros job.cells)
+
+-- so it is for each version
+abbrev pub FitsVersions : HostJob → Type 0
+FitsVersions job = (n : ℕ) (m : Module) (entry : Entry) → IsVersion job n m entry → FitsEntry job m entry

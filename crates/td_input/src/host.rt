@@ -1,6 +1,7 @@
 //! The host job of an input, or why it has none.
 
-ghost use Rattle.std.specs.Prelude.{◌≡◌, ◌<◌, ◌^◌, ◌-◌, ℕ, Err, length, IfOk, IfErr, IsErr, IsErrOf};
+ghost use Rattle.std.specs.Prelude.{◌≡◌, ◌<◌, ◌^◌, ◌-◌, ℕ, Err, Some, length, slice_get, IfOk, IfErr, IsErr, IsErrOf};
+ghost use Rattle.std.specs.List.{All};
 ghost use Rattle.td_core.specs.declared.module.Module.{Module};
 ghost use Rattle.td_posts.specs.declared.job.HostJob.{HostJob};
 ghost use Rattle.td_posts.specs.Servable.{IsServable};
@@ -8,7 +9,7 @@ ghost use Rattle.td_input.specs.declared.refusal.Refusal.{Refusal};
 ghost use Rattle.td_input.specs.Causes.{HasCause, HasParts};
 ghost use Rattle.td_input.specs.Marker.{IsMarker};
 ghost use Rattle.td_front.specs.Checked.{IsChecked};
-ghost use Rattle.td_input.specs.Inputs.{IsHostInput, RefusesHost, IsSoundHost, FitsEntry};
+ghost use Rattle.td_input.specs.Inputs.{IsHostInput, RefusesHost, IsSoundHost, FitsVersions};
 
 use crate::refusal::{InputError, Refusal, of_job, of_module};
 use crate::split::{find_marker, job_part, module_part};
@@ -16,10 +17,11 @@ use std::alloc::Global;
 use td_arith::laws::evaluated_is_sound;
 use td_core::module::Module;
 use td_front::check_module;
+use td_front::laws::modules_are_checked;
 use td_host_job::host_job::read_host_job;
 use td_posts::job::HostJob;
 
-/// The module and the job of an input; the job has a copy of the module.
+/// The module and the job of an input; the job has a copy of the module as its version 0.
 #[derive(Drop)]
 pub struct HostInput {
     pub module: Module,
@@ -30,16 +32,16 @@ pub struct HostInput {
 ///
 /// `Refused`: there is no such line, the text is no module, or the job is none for it; the first of these. `NoMemory`:
 /// there was no memory for a token before that line, or for a job of a byte or more. The line is looked for without any, so
-/// where it is missing that is told in any case. The module
-/// is a checked one, the job is for it and fits its entry point, a host can serve it, and whatever bytes a message has, each expression that the module's meaning evaluates lies in its
-/// type's range.
+/// where it is missing that is told in any case. The modules of all versions are checked ones, of which version 0 is the input's
+/// own; the job fits the entry point of each, a host can serve it, and whatever bytes a message has, each expression that a
+/// version's meaning evaluates lies in its type's range.
 pub fn parse_host_input(alloc: Global, input: &[u8]) -> Result<HostInput, InputError>
     requires { length input.now < 2 ^ 32 - 1 }
     ensures input { IfOk result (λ given. IsHostInput input.now given.module given.job) }
     ensures servable { IfOk result (λ given. IsServable given.job) }
-    ensures checked { IfOk result (λ given. IsChecked given.module) }
-    ensures by { IfOk result (λ given. given.job.format ≡ given.module) }
-    ensures fits { IfOk result (λ given. FitsEntry given.module given.job) }
+    ensures checked { IfOk result (λ given. All IsChecked given.job.formats) }
+    ensures first { IfOk result (λ given. slice_get given.job.formats 0 ≡ Some given.module) }
+    ensures fits { IfOk result (λ given. FitsVersions given.job) }
     ensures sound { IfOk result (λ given. IsSoundHost given.job) }
     ensures cause { IfErr result (HasCause (RefusesHost input.now)) }
     ensures complete { (m : Module) (job : HostJob) → IsHostInput input.now m job → IfErr result (λ e. e ≡ InputError.NoMemory) }
@@ -48,6 +50,7 @@ pub fn parse_host_input(alloc: Global, input: &[u8]) -> Result<HostInput, InputE
     ensures memory { result ≡ Err InputError.NoMemory → HasParts input.now }
 {
     evaluated_is_sound();
+    modules_are_checked();
     let Some(place) = find_marker(input) else {
         return Err(InputError::Refused(Refusal::NoJob));
     };

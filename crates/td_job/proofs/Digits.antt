@@ -11,8 +11,8 @@ use Rattle.td_job.specs.declared.error.Key.{Key}
 use Rattle.td_job.specs.declared.error.JobRule.TheVariants as rule
 use Rattle.td_job.specs.declared.error.Path.TheVariants as path
 use Rattle.td_job.specs.declared.error.JobError.TheVariants.{Fault}
-use Rattle.td_job.specs.Fields.{IsFirst}
-use Rattle.td_job.specs.Jobs.{bytes_or_none, digit_faults}
+use Rattle.td_job.specs.Fields.{bytes_or_none, IsFirst}
+use Rattle.td_job.specs.Jobs.{digit_faults}
 
 both : (a b : Bool) → a ≡ true → b ≡ true → (a && b) ≡ false → ⊥
 both true true p q h = cc

@@ -1,11 +1,14 @@
--- Each list of bytes stands for a run job or is refused.
+-- Each list of bytes stands for a run job or is refused. Cited by other crates.
 use Rattle.std.proofs.Common.{◌≡◌, ℕ, zero, suc, ◌%◌, ◌==◌, ◌<◌, ◌^◌, List, [], ◌∷◌, length, Bool, true, false, if◌then◌else◌, Option, Some, None, Result, Ok, Err, ◌⊎◌, inl, inr, refl, ap, subst, arith, lit<}
 use Rattle.std.proofs.lemmas.Bool.{cases_lt}
 use Rattle.std.proofs.lemmas.Str.{IsUtf8-from_is_utf8, is_utf8-from_IsUtf8}
 use Rattle.std.proofs.lemmas.Slice.Eq.{bytes_eq-Decides}
 use Rattle.std.specs.Prelude.{bytes_eq, slice_get, IsUtf8}
 use Rattle.std.specs.Str.{is_utf8}
-use Rattle.serde_json.specs.Data.{Data}
+use Rattle.std.specs.List.{All}
+use Rattle.std.proofs.lemmas.List.Elements.{All-nil, All-head, All-tail, All-from_get_or}
+use Rattle.serde_json.specs.Data.{Data, null, boolean, number, string, array, object, Items, no_items, item}
+use Rattle.serde_json.specs.Find.{as_u64}
 use Rattle.serde_json.specs.Read.{read as read_text}
 use Rattle.hex.specs.Hex.{decode_of, decode_pairs}
 use Rattle.hex.specs.declared.error.FromHexError.{FromHexError}
@@ -15,19 +18,23 @@ use Rattle.td_core.specs.declared.module.Module.{Module}
 use Rattle.td_core.specs.declared.module.Entry.{Entry}
 use Rattle.td_core.specs.declared.module.TypeDef.{TypeDef}
 use Rattle.td_core.specs.Entries.{IsEntryNamed, HasName, entry_definition}
+use Rattle.td_values.specs.Datum.{data_of}
+use Rattle.td_values.specs.Spelling.{spelling}
+use Rattle.td_spelled.specs.Laws.{HoldsBytes, HoldBytes}
+use Rattle.td_spelled.proofs.Small.{spelled_are_bytes}
 use Rattle.td_job.specs.declared.error.Key.TheVariants as key
 use Rattle.td_job.specs.declared.error.Path.TheVariants as path
 use Rattle.td_job.specs.declared.error.JobError.{JobError}
 use Rattle.td_job.specs.declared.error.JobRule.TheVariants as rule
 use Rattle.td_job.specs.declared.error.JobError.TheVariants.{Fault}
 use Rattle.td_job.specs.declared.run_job.RunJob.{RunJob}
-use Rattle.td_job.specs.Fields.{Reads, text_of}
-use Rattle.td_job.specs.Stretches.{given_layout}
+use Rattle.td_job.specs.Fields.{Reads, field_of, text_of, bytes_or_none}
 use Rattle.td_job.specs.Values.{given_args, given_cells}
-use Rattle.td_job.specs.Jobs.{given_bytes, given_stores, job_words, spelled_bytes, bytes_or_none, EntryFault, IsEntry, FirstFaultOf, later_faults, length_faults, IsJob, IsRunJob, RefusedJobOf, RefusedJob}
+use Rattle.td_job.specs.Written.{number_datum, datum_of, datums_of}
+use Rattle.td_job.specs.Jobs.{given, given_by, given_stores, spelled_bytes, spelled_or_none, EntryFault, IsEntry, FirstFaultBy, FirstFaultOf, later_faults, length_faults, IsJob, IsRunJob, RefusedJobBy, RefusedJobOf, RefusedJob}
 use Rattle.td_job.proofs.Bytes.{AreBytes, filled}
 use Rattle.td_job.proofs.Numbers.{both_empty}
-use Rattle.td_job.proofs.Unique.{Later}
+use Rattle.td_job.proofs.Unique.{Later, LaterBy, by_definition}
 
 none_small : AreBytes []
 none_small i = lit< tt
@@ -44,6 +51,41 @@ decoded_small text (Err e) h = none_small
 pub spelled_small : (text : Option (List ℕ)) → AreBytes (spelled_bytes text)
 spelled_small None = none_small
 spelled_small (Some text) = decoded_small text (decode_of text) refl
+
+-- so are those in a value
+number_holds : (n : Option ℕ) → HoldsBytes (number_datum n)
+number_holds None = tt
+number_holds (Some n) = tt
+
+bytes_hold : (bytes : List ℕ) → AreBytes bytes → All (λ b. b < 256) bytes
+bytes_hold bytes small = All-from_get_or (λ b. b < 256) bytes 0 (λ i h. small i)
+
+mutual
+  datum_holds : (value : Data) → HoldsBytes (datum_of value)
+  datum_holds null = tt
+  datum_holds (boolean b) = tt
+  datum_holds (number n) = number_holds (as_u64 n)
+  datum_holds (string text) = bytes_hold (bytes_or_none (decode_of text)) (decoded_small text (decode_of text) refl)
+  datum_holds (array values) = data_hold values
+  datum_holds (object fields) = tt
+
+  data_hold : (values : Items) → HoldBytes (data_of (datums_of values))
+  data_hold no_items = tt
+  data_hold (item value values) = (datum_holds value, data_hold values)
+
+are_bytes : (bytes : List ℕ) → All (λ b. b < 256) bytes → AreBytes bytes
+are_bytes [] h i = lit< tt
+are_bytes (b ∷ bytes) h zero = All-head (λ b. b < 256) b bytes h
+are_bytes (b ∷ bytes) h (suc i) = are_bytes bytes (All-tail (λ b. b < 256) b bytes h) i
+
+-- and those that spell one
+pub written_bytes : (m : Module) (entry : Entry) (args : List ℕ) (value : Data) (o : Option (List ℕ)) → spelling m entry args (datum_of value) ≡ o → All (λ b. b < 256) (spelled_or_none o)
+written_bytes m entry args value None e = All-nil (λ b. b < 256)
+written_bytes m entry args value (Some bytes) e = spelled_are_bytes m entry args (datum_of value) bytes (datum_holds value) e
+
+written_small : (m : Module) (entry : Entry) (args : List ℕ) (value : Data) → AreBytes (spelled_or_none (spelling m entry args (datum_of value)))
+written_small m entry args value =
+    are_bytes (spelled_or_none (spelling m entry args (datum_of value))) (written_bytes m entry args value (spelling m entry args (datum_of value)) refl)
 
 same_name : (found : Option (List ℕ)) (name : List ℕ) → (found ≡ Some name) ⊎ (found ≡ Some name → ⊥)
 same_name None name = inr (λ h. cc)
@@ -105,45 +147,59 @@ has_length : (stretches : Option Data) (given : ℕ) (number : Option ℕ) → l
 has_length stretches given None h = absurd (cc)
 has_length stretches given (Some n) h = (n, refl)
 
-faultless_job : (m : Module) (job : Data) (entry : Entry) → IsEntry m (text_of key.Entry job) entry → later_faults (entry_definition m entry.number) job ≡ []
+-- what a job without a fault says of its message are bytes and a length
+has_message : (o : Option Data) (m : Module) (entry : Entry) (job : Data) → (given_by o m entry job).faults ≡ [] → AreBytes (given_by o m entry job).bytes × ((n : ℕ) × ((given_by o m entry job).length ≡ Some n))
+has_message None m entry job h =
+    let stretches = both_empty _ _ h in
+    let length = both_empty _ _ stretches.0 in
+    (spelled_small (text_of key.Bytes job), has_length _ _ _ length.1)
+has_message (Some value) m entry job h =
+    (written_small m entry (given_args (entry_definition m entry.number) job) value, (length (given_by (Some value) m entry job).bytes, refl))
+
+faultless_job : (m : Module) (job : Data) (entry : Entry) → IsEntry m (text_of key.Entry job) entry → later_faults m entry job ≡ []
     → (j : RunJob) × IsJob m job j
 faultless_job m job entry named faultless =
     let d = entry_definition m entry.number in
+    let g = given m entry job in
     let names = both_empty _ _ faultless in
     let stores = both_empty _ _ names.0 in
-    let stretches = both_empty _ _ stores.0 in
-    let length = both_empty _ _ stretches.0 in
-    let number = has_length _ _ _ length.1 in
-    let words = filled (given_bytes job) (job_words job) (spelled_small (text_of key.Bytes job)) in (
-      record { entry = entry; args = given_args d job; cells = given_cells d job; words = words.0; length = number.0; layout = given_layout job; stores = given_stores job },
-      record { named = named; faultless = faultless; args = refl; cells = refl; filled = words.1; as_long = number.1; layout = refl; stored = refl },
+    let fields = both_empty _ _ stores.0 in
+    let message = has_message (field_of key.Value job) m entry job fields.1 in
+    let words = filled g.bytes g.words message.0 in (
+      record { entry = entry; args = given_args d job; cells = given_cells d job; words = words.0; length = message.1.0; layout = g.layout; stores = given_stores job; written = g.written },
+      record { named = named; faultless = faultless; args = refl; cells = refl; filled = words.1; as_long = message.1.1; layout = refl; written = refl; stored = refl },
     )
 
-by_faults : (later : Later) (m : Module) (job : Data) (J : Type 0) → (entry : Entry) → IsEntry m (text_of key.Entry job) entry
-    → (later (entry_definition m entry.number) job ≡ [] → J) → (faults : List JobError) → later (entry_definition m entry.number) job ≡ faults
-    → J ⊎ ((e : JobError) × FirstFaultOf later m job e)
+by_faults : (later : LaterBy) (m : Module) (job : Data) (J : Type 0) → (entry : Entry) → IsEntry m (text_of key.Entry job) entry
+    → (later m entry job ≡ [] → J) → (faults : List JobError) → later m entry job ≡ faults
+    → J ⊎ ((e : JobError) × FirstFaultBy later m job e)
 by_faults later m job J entry named make [] h = inl (make h)
 by_faults later m job J entry named make (e ∷ others) h = inr (e, inr (entry, named, record { others = others; is = h }))
 
 -- a job has no fault, and then there is what is made of it, or a first one
-pub made_or_fault : (later : Later) (m : Module) (job : Data) (J : Type 0)
-    → ((entry : Entry) → IsEntry m (text_of key.Entry job) entry → later (entry_definition m entry.number) job ≡ [] → J)
-    → J ⊎ ((e : JobError) × FirstFaultOf later m job e)
-made_or_fault later m job J make =
+made_or_fault_by : (later : LaterBy) (m : Module) (job : Data) (J : Type 0)
+    → ((entry : Entry) → IsEntry m (text_of key.Entry job) entry → later m entry job ≡ [] → J)
+    → J ⊎ ((e : JobError) × FirstFaultBy later m job e)
+made_or_fault_by later m job J make =
     elim (entry_or_fault m (text_of key.Entry job)) [
-      | inl found ↦ by_faults later m job J found.0 found.1 (make found.0 found.1) (later (entry_definition m found.0.number) job) refl
+      | inl found ↦ by_faults later m job J found.0 found.1 (make found.0 found.1) (later m found.0 job) refl
       | inr wrong ↦ inr (wrong.0, inl wrong.1)
     ]
 
--- what bytes come to where each text that they stand for comes to a J or is refused
-Answered : Later → (Data → Type 0) → List ℕ → Module → Type 0
-Answered later J bytes m = ((job : Data) × Reads bytes job × J job) ⊎ ((e : JobError) × RefusedJobOf later bytes m e)
+pub made_or_fault : (later : Later) (m : Module) (job : Data) (J : Type 0)
+    → ((entry : Entry) → IsEntry m (text_of key.Entry job) entry → later (entry_definition m entry.number) job ≡ [] → J)
+    → J ⊎ ((e : JobError) × FirstFaultOf later m job e)
+made_or_fault later = made_or_fault_by (by_definition later)
 
-no_json : (later : Later) (J : Data → Type 0) (bytes : List ℕ) (m : Module) → ((job : Data) → Reads bytes job → ⊥) → Answered later J bytes m
+-- what bytes come to where each text that they stand for comes to a J or is refused
+Answered : LaterBy → (Data → Type 0) → List ℕ → Module → Type 0
+Answered later J bytes m = ((job : Data) × Reads bytes job × J job) ⊎ ((e : JobError) × RefusedJobBy later bytes m e)
+
+no_json : (later : LaterBy) (J : Data → Type 0) (bytes : List ℕ) (m : Module) → ((job : Data) → Reads bytes job → ⊥) → Answered later J bytes m
 unfolding Answered
 no_json later J bytes m none = inr (Fault rule.NotJson path.Job, inl (refl, none))
 
-by_value : (later : Later) (J : Data → Type 0) (bytes : List ℕ) (m : Module) → ((job : Data) → J job ⊎ ((e : JobError) × FirstFaultOf later m job e))
+by_value : (later : LaterBy) (J : Data → Type 0) (bytes : List ℕ) (m : Module) → ((job : Data) → J job ⊎ ((e : JobError) × FirstFaultBy later m job e))
     → IsUtf8 bytes → (value : Option Data) → read_text bytes ≡ value → Answered later J bytes m
 unfolding Answered
 by_value later J bytes m each text None h = no_json later J bytes m (λ job reads. let read = reads.1 in absurd (cc))
@@ -153,21 +209,25 @@ by_value later J bytes m each text (Some job) h =
       | inr bad ↦ inr (bad.0, inr (job, (text, h), bad.1))
     ]
 
-by_text : (later : Later) (J : Data → Type 0) (bytes : List ℕ) (m : Module) → ((job : Data) → J job ⊎ ((e : JobError) × FirstFaultOf later m job e))
+by_text : (later : LaterBy) (J : Data → Type 0) (bytes : List ℕ) (m : Module) → ((job : Data) → J job ⊎ ((e : JobError) × FirstFaultBy later m job e))
     → (test : Bool) → is_utf8 bytes ≡ test → Answered later J bytes m
 by_text later J bytes m each true h = by_value later J bytes m each (IsUtf8-from_is_utf8 bytes h) (read_text bytes) refl
 by_text later J bytes m each false h = no_json later J bytes m (λ job reads. let yes = is_utf8-from_IsUtf8 bytes reads.0 in absurd (cc))
 
 -- bytes stand for a text that comes to a J, or they are refused
+made_or_refused_by : (later : LaterBy) (J : Data → Type 0) (bytes : List ℕ) (m : Module) → ((job : Data) → J job ⊎ ((e : JobError) × FirstFaultBy later m job e))
+    → ((job : Data) × Reads bytes job × J job) ⊎ ((e : JobError) × RefusedJobBy later bytes m e)
+unfolding Answered
+made_or_refused_by later J bytes m each = by_text later J bytes m each (is_utf8 bytes) refl
+
 pub made_or_refused : (later : Later) (J : Data → Type 0) (bytes : List ℕ) (m : Module) → ((job : Data) → J job ⊎ ((e : JobError) × FirstFaultOf later m job e))
     → ((job : Data) × Reads bytes job × J job) ⊎ ((e : JobError) × RefusedJobOf later bytes m e)
-unfolding Answered
-made_or_refused later J bytes m each = by_text later J bytes m each (is_utf8 bytes) refl
+made_or_refused later = made_or_refused_by (by_definition later)
 
 pub always_one : (bytes : List ℕ) (m : Module) → ((j : RunJob) × IsRunJob bytes m j) ⊎ ((e : JobError) × RefusedJob bytes m e)
 always_one bytes m =
     let J : Data → Type 0 = λ job. (j : RunJob) × IsJob m job j in
-    elim (made_or_refused later_faults J bytes m (λ job. made_or_fault later_faults m job (J job) (faultless_job m job))) [
+    elim (made_or_refused_by later_faults J bytes m (λ job. made_or_fault_by later_faults m job (J job) (faultless_job m job))) [
       | inl good ↦ inl (good.2.0, (good.0, good.1, good.2.1))
       | inr bad ↦ inr bad
     ]

@@ -10,3 +10,4 @@ pub mod Texts
 pub mod Unique
 pub mod NamedJobs
 pub mod Forms
+pub mod Writing

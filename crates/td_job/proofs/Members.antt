@@ -1,4 +1,4 @@
--- Members with names of their own.
+-- Members with names of their own. Cited by other crates.
 use Rattle.std.proofs.Common.{◌≡◌, ℕ, ◌<◌, List, [], ◌∷◌, length, Bool, true, false, if◌then◌else◌, Option, Some, None, refl, ◌∙◌, arith, String, Global, string_bytes}
 use Rattle.std.specs.Prelude.{IsSomeAnd}
 use Rattle.serde_json.specs.View.{members_view}

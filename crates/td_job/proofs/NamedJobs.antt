@@ -184,7 +184,7 @@ entry_within m name entry h = named_within m (Some name) entry h
 pub one_named_job : (m : Module) (job : NamedJob) (a b : RunJob) → IsNamedJob m job a → IsNamedJob m job b → a ≡ b
 one_named_job m job a b ha hb =
     let entry = one_entry m (Some job.entry) a.entry b.entry ha.named hb.named in
-    same_jobs a b entry (ha.args ∙ sym hb.args) (ha.cells ∙ sym hb.cells) (ha.words ∙ sym hb.words) (ha.as_long ∙ sym hb.as_long) (ha.layout ∙ sym hb.layout) (ha.stored ∙ sym hb.stored)
+    same_jobs a b entry (ha.args ∙ sym hb.args) (ha.cells ∙ sym hb.cells) (ha.words ∙ sym hb.words) (ha.as_long ∙ sym hb.as_long) (ha.layout ∙ sym hb.layout) (ha.stored ∙ sym hb.stored) (ha.written ∙ sym hb.written)
 
 pub one_named_fault : (m : Module) (job : NamedJob) (a b : JobError) → FirstNamedFault m job a → FirstNamedFault m job b → a ≡ b
 one_named_fault m job a b (inl ha) (inl hb) = one_entry_fault m (Some job.entry) a b ha hb
@@ -208,8 +208,8 @@ by_named_faults : (m : Module) (job : NamedJob) (entry : Entry) → IsEntry m (S
     → ((j : RunJob) × IsNamedJob m job j) ⊎ ((e : JobError) × FirstNamedFault m job e)
 by_named_faults m job entry named [] h =
     inl (
-      record { entry = entry; args = job.args; cells = job.cells; words = job.words; length = job.length; layout = None; stores = job.stores },
-      record { named = named; faultless = h; args = refl; cells = refl; words = refl; as_long = refl; layout = refl; stored = refl },
+      record { entry = entry; args = job.args; cells = job.cells; words = job.words; length = job.length; layout = None; stores = job.stores; written = None },
+      record { named = named; faultless = h; args = refl; cells = refl; words = refl; as_long = refl; layout = refl; written = refl; stored = refl },
     )
 by_named_faults m job entry named (e ∷ others) h = inr (e, inr (entry, named, record { others = others; is = h }))
 

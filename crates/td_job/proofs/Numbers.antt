@@ -1,4 +1,4 @@
--- Lists of arguments and cells, element by element.
+-- Lists of arguments and cells, element by element. Cited by other crates.
 use Rattle.std.proofs.Common.{◌≡◌, ℕ, zero, suc, ◌+◌, ◌<◌, ◌≤◌, List, [], ◌∷◌, ◌++◌, length, drop, Bool, true, false, not, nat_eq, nat_lt, option_map, slice_get, get_or, Option, Some, None, Result, Ok, Err, refl, ap, ◌∙◌, arith}
 use Rattle.std.specs.Prelude.{replicate, OnErr}
 use Rattle.std.proofs.lemmas.List.{length-replicate}

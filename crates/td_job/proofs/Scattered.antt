@@ -2,6 +2,7 @@
 use Rattle.std.proofs.Common.{◌≡◌, ℕ, ◌+◌, ◌*◌, ◌<◌, ◌≤◌, ◌^◌, List, [], ◌∷◌, ◌++◌, length, length-append, Bool, true, false, not, nat_eq, nat_lt, Option, Some, None, refl, sym, ap, subst, ◌∙◌, arith, option_map}
 use Rattle.std.specs.List.{All}
 use Rattle.std.proofs.lemmas.Bool.Decides.{nat_tests}
+use Rattle.std.proofs.lemmas.Option.{same_Some}
 use Rattle.std.proofs.lemmas.List.Elements.{All-nil, All-cons, All-append, All-weaker}
 use Rattle.serde_json.specs.Data.{Data, Items, no_items, item}
 use Rattle.serde_json.specs.Events.{items_len}
@@ -23,8 +24,8 @@ use Rattle.td_job.specs.declared.error.JobRule.TheVariants as rule
 use Rattle.td_job.specs.declared.error.JobError.TheVariants.{Fault}
 use Rattle.td_job.specs.declared.run_job.RunJob.{RunJob}
 use Rattle.td_job.specs.Fields.{IsFirst, field_of, fault_if}
-use Rattle.td_job.specs.Stretches.{two_parts, spelled_stretch, stretch_faults, stretch_of, each_stretch, each_stretch_faults, sum_faults, layout_faults, stretches_faults, layout_of, words_by}
-use Rattle.td_job.specs.Jobs.{length_faults, given_bytes, IsJob, HasRoom}
+use Rattle.td_job.specs.Stretches.{two_parts, spelled_stretch, stretch_faults, stretch_of, each_stretch, each_stretch_faults, sum_faults, layout_faults, stretches_faults, layout_of, words_with, words_by}
+use Rattle.td_job.specs.Jobs.{length_faults, given_bytes, given_by, from_bytes, from_value, IsJob, IsJobWith, HasRoom}
 use Rattle.td_job.proofs.Elements.{same_count, limited, unlimited}
 use Rattle.td_job.proofs.Numbers.{both_empty, not_over, first_of_more}
 
@@ -151,31 +152,56 @@ words_fit (Some value) given n h = omega arith
 -- ---- the whole job
 
 -- a message has the length that the job says
-pub lies_there : (m : Module) (job : Data) (j : RunJob) → IsJob m job j → Lies j.length (length j.words) j.layout
-lies_there m job j h =
+lies_by : (o : Option Data) (m : Module) (job : Data) (j : RunJob) → IsJobWith (given_by o m j.entry job) m job j → Lies j.length (length j.words) j.layout
+lies_by None m job j h =
     let names = both_empty _ _ h.faultless in
     let stores = both_empty _ _ names.0 in
-    let stretches = both_empty _ _ stores.0 in
+    let fields = both_empty _ _ stores.0 in
+    let stretches = both_empty _ _ fields.1 in
     let given = length (given_bytes job) in
     let field = field_of key.Stretches job in
     let none = subst (λ (n : Option ℕ). stretches_faults given n field ≡ []) h.as_long stretches.1 in
     let words = h.filled.count ∙ ap (words_by field given) h.as_long in
     subst (Lies j.length (length j.words)) (sym h.layout) (lies given j.length (length j.words) field none words)
+lies_by (Some value) m job j h =
+    let bytes = (given_by (Some value) m j.entry job).bytes in
+    let long = same_Some (length bytes) j.length h.as_long in
+    let words : length j.words ≡ words_by None j.length (Some j.length) = h.filled.count ∙ ap words_with long in
+    subst (Lies j.length (length j.words)) (sym h.layout) (lies j.length j.length (length j.words) None refl words)
 
--- a job has room
-pub has_room : (m : Module) (job : Data) (j : RunJob) → IsJob m job j → length j.words < 2 ^ 32 → All (λ (s : PlannedStore). s.word < length j.words) j.stores → HasRoom j
+pub lies_there : (m : Module) (job : Data) (j : RunJob) → IsJob m job j → Lies j.length (length j.words) j.layout
+lies_there m job j h = lies_by (field_of key.Value job) m job j h
+
+-- a job of bytes has room
+pub has_room : (m : Module) (job : Data) (j : RunJob) → IsJobWith (from_bytes job) m job j → length j.words < 2 ^ 32 → All (λ (s : PlannedStore). s.word < length j.words) j.stores → HasRoom j
 has_room m job j h few inside =
     let names = both_empty _ _ h.faultless in
     let stores = both_empty _ _ names.0 in
-    let stretches = both_empty _ _ stores.0 in
+    let fields = both_empty _ _ stores.0 in
+    let stretches = both_empty _ _ fields.1 in
     let lengths = both_empty _ _ stretches.0 in
     let field = field_of key.Stretches job in
-    let there = lies_there m job j h in
+    let there = lies_by None m job j h in
     record {
       words = few;
       over = there.over;
       ends = there.ends;
       long = there.long;
       limit = short field (length (given_bytes job)) j.length (subst (λ (n : Option ℕ). length_faults field (length (given_bytes job)) n ≡ []) h.as_long lengths.1);
+      stores = inside;
+    }
+
+-- and so has a job of a value that isn't too long
+pub written_room : (m : Module) (job value : Data) (j : RunJob) → IsJobWith (from_value m j.entry job value) m job j → j.length ≤ MOST_BYTES → All (λ (s : PlannedStore). s.word < length j.words) j.stores → HasRoom j
+written_room m job value j h short inside =
+    let there = lies_by (Some value) m job j h in
+    let bytes = (from_value m j.entry job value).bytes in
+    let long = same_Some (length bytes) j.length h.as_long in
+    record {
+      words = omega (arith, short, h.filled.count, long);
+      over = there.over;
+      ends = there.ends;
+      long = there.long;
+      limit = short;
       stores = inside;
     }

@@ -1,6 +1,8 @@
 -- The codes and the paths of error lines (own rule).
-use Rattle.std.specs.Prelude.{ℕ, List, [], ◌++◌, Some, codes}
+use Rattle.std.specs.Prelude.{ℕ, List, [], ◌++◌, Some, flat_map, codes}
 use Rattle.td_core.specs.Paths.{indexed}
+use Rattle.td_values.specs.declared.error.WriteRule.{WriteRule}
+use Rattle.td_values.specs.declared.error.WriteRule.TheVariants as write
 use Rattle.td_job.specs.declared.error.Key.{Key}
 use Rattle.td_job.specs.declared.error.Key.TheVariants as key
 use Rattle.td_job.specs.declared.error.JobRule.{JobRule}
@@ -18,11 +20,14 @@ key_name key.Cells = codes "cells"
 key_name key.Bytes = codes "bytes"
 key_name key.Length = codes "length"
 key_name key.Stretches = codes "stretches"
+key_name key.Value = codes "value"
 key_name key.Stores = codes "stores"
 key_name key.Buffer = codes "buffer"
 key_name key.Workers = codes "workers"
 key_name key.Guests = codes "guests"
 key_name key.Script = codes "script"
+key_name key.Rings = codes "rings"
+key_name key.Swaps = codes "swaps"
 key_name key.Posts = codes "posts"
 key_name key.Words = codes "words"
 
@@ -35,13 +40,27 @@ rule_code rule.Digits = codes "J5"
 rule_code rule.NoWord = codes "J6"
 rule_code rule.PastBytes = codes "J7"
 rule_code rule.Limit = codes "J8"
+rule_code rule.Swap = codes "J9"
+rule_code rule.Written = codes "J10"
+
+-- what is wrong with a value that isn't written
+abbrev pub write_code : WriteRule → List ℕ
+write_code write.Shape = codes "E1"
+write_code write.Range = codes "E2"
+write_code (write.Broken reason) = codes "E3"
+write_code write.Size = codes "E4"
+write_code write.Long = codes "E5"
+
+-- a name, and places behind it, each in brackets
+abbrev pub placed : List ℕ → List ℕ → List ℕ
+placed name places = name ++ flat_map (λ place. indexed [] (Some place)) places
 
 -- after a guest's place in the list of guests and a dot, what stands within the guest
 abbrev pub guest_bytes : ℕ → List ℕ → List ℕ
 guest_bytes guest within = indexed (key_name key.Guests) (Some guest) ++ codes "." ++ within
 
 -- `job` for the whole of it, a field's name, an element's place in its list after that, or the name that no job has; and
--- the same within a guest
+-- the same within a guest; and of a value inside the field `value` its places, and after a blank what is wrong with it
 abbrev pub path_bytes : Path → List ℕ
 path_bytes path.Job = codes "job"
 path_bytes (path.Whole k) = key_name k
@@ -50,6 +69,7 @@ path_bytes (path.Unknown name) = name
 path_bytes (path.Script guest) = guest_bytes guest (key_name key.Script)
 path_bytes (path.Step guest index) = guest_bytes guest (indexed (key_name key.Script) (Some index))
 path_bytes (path.UnknownOf guest name) = guest_bytes guest name
+path_bytes (path.Written fault) = placed (key_name key.Value) fault.places ++ codes " " ++ write_code fault.rule
 
 abbrev pub path_of : JobError → List ℕ
 path_of (fault.Fault r place) = path_bytes place

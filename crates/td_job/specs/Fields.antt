@@ -1,5 +1,6 @@
 -- JSON values, the fields of a job, and lists of faults (own rule).
-use Rattle.std.specs.Prelude.{◌≡◌, ℕ, List, [], ◌∷◌, Bool, if◌then◌else◌, IsUtf8, Option, Some, None, option_and_then}
+use Rattle.std.specs.Prelude.{◌≡◌, ℕ, List, [], ◌∷◌, Bool, if◌then◌else◌, IsUtf8, Option, Some, None, Result, Ok, Err, option_and_then}
+use Rattle.hex.specs.declared.error.FromHexError.{FromHexError}
 use Rattle.serde_json.specs.Data.{Data}
 use Rattle.serde_json.specs.Read.{read as read_text}
 use Rattle.serde_json.specs.Find.{get, as_str, as_number, as_u64}
@@ -26,6 +27,11 @@ whole value = option_and_then as_u64 (as_number value)
 abbrev pub number_of : Key → Data → Option ℕ
 number_of name job = option_and_then whole (field_of name job)
 
+-- the bytes of a text of hexadecimal digits
+abbrev pub bytes_or_none : Result (List ℕ) FromHexError → List ℕ
+bytes_or_none (Ok bytes) = bytes
+bytes_or_none (Err e) = []
+
 -- a fault where a test says so
 abbrev pub fault_if : Bool → JobError → List JobError
 fault_if wrong e = if wrong then e ∷ [] else []
@@ -33,6 +39,11 @@ fault_if wrong e = if wrong then e ∷ [] else []
 abbrev pub fault_if_none : {A : Type 0} → Option A → JobError → List JobError
 fault_if_none None e = e ∷ []
 fault_if_none (Some a) e = []
+
+-- a fault where a field stands, of whatever form
+abbrev pub fault_if_there : Option Data → JobError → List JobError
+fault_if_there None e = []
+fault_if_there (Some value) e = e ∷ []
 
 -- e is the first of these faults
 pub record IsFirst (faults : List JobError) (e : JobError) : Type 0 where

@@ -1,9 +1,12 @@
 -- What a run job is, and what is wrong with one (own rule).
 --
--- A run job is a JSON object with the fields `entry`, `args`, `cells`, `bytes`, `length`, `stretches` and `stores`. Its faults
--- stand in that order, each field looked at for all that can be wrong with it (a list first for its length, then element by element,
--- and stretches then for their sum), and then the fields of other names; else at one place the lower code stands first. The answer
--- is the first fault. A job that is no object has no field.
+-- A run job is a JSON object with the fields `entry`, `args`, `cells`, `bytes`, `length`, `stretches`, `value` and `stores`. Its
+-- faults stand in that order, each field looked at for all that can be wrong with it (a list first for its length, then element by
+-- element, and stretches then for their sum), and then the fields of other names; else at one place the lower code stands first. The
+-- answer is the first fault. A job that is no object has no field.
+--
+-- The message lies in bytes that are given; or, where the field `value` stands, of whatever form, it is that value written by the entry
+-- point's type, and `bytes`, `length` and `stretches` must not stand beside it.
 use Rattle.std.specs.Prelude.{◌≡◌, ℕ, ◌+◌, ◌<◌, ◌≤◌, ◌^◌, List, [], ◌∷◌, ◌++◌, length, Bool, false, ◌||◌, nat_lt, nat_le, if◌then◌else◌, bytes_eq, Option, Some, None, option_and_then, Result, Ok, Err, ◌⊎◌}
 use Rattle.std.specs.List.{All}
 use Rattle.serde_json.specs.Data.{Data, Items, no_items, item, Members, no_members, member}
@@ -17,7 +20,10 @@ use Rattle.td_core.specs.declared.module.TypeDef.{TypeDef}
 use Rattle.td_core.specs.Entries.{IsEntryNamed, IsFirstNamed, entry_definition}
 use Rattle.td_core.specs.Formed.{AllFit}
 use Rattle.td_num.specs.Numbers.{rising_at}
+use Rattle.td_stream.specs.declared.stretch.Stretch.{Stretch}
 use Rattle.td_stream.specs.Layouts.{length_in, count_in, laid, counted, IsOver}
+use Rattle.td_values.specs.Spelling.{spelling}
+use Rattle.td_values.specs.Writing.{writing, whole as whole_numbers}
 use Rattle.td_sched.specs.declared.store.PlannedStore.{PlannedStore}
 use Rattle.td_job.specs.declared.error.Key.{Key}
 use Rattle.td_job.specs.declared.error.Key.TheVariants as key
@@ -30,10 +36,11 @@ use Rattle.td_job.specs.declared.run_job.RunJob.{RunJob}
 use Rattle.td_job.specs.declared.checks.TheConstants.{MOST_BYTES}
 use Rattle.td_job.specs.declared.stores.TheConstants.{MOST_STORES}
 use Rattle.td_job.specs.Errors.{key_name}
-use Rattle.td_job.specs.Fields.{Reads, field_of, text_of, whole, number_of, fault_if, fault_if_none, IsFirst}
-use Rattle.td_job.specs.Stretches.{is_past, words_by, stretches_faults, given_layout}
+use Rattle.td_job.specs.Fields.{Reads, field_of, text_of, whole, number_of, bytes_or_none, fault_if, fault_if_none, fault_if_there, IsFirst}
+use Rattle.td_job.specs.Stretches.{is_past, words_with, words_by, stretches_faults, given_layout}
 use Rattle.td_job.specs.Values.{args_bounds, cells_bounds, args_faults, cells_faults, given_args, given_cells}
 use Rattle.td_job.specs.Words.{IsFilled}
+use Rattle.td_job.specs.Written.{form_of, form_faults, datum_of, write_faults}
 
 -- `entry` is a text (J2), the name of an entry point (J3): of the first one with that name. (Entry points are numbered
 -- by 32 bits.)
@@ -53,10 +60,6 @@ digit_faults k (Err e) = Fault rule.Digits (path.Whole k) ∷ []
 abbrev pub bytes_faults : Key → Option (List ℕ) → List JobError
 bytes_faults k None = Fault rule.Form (path.Whole k) ∷ []
 bytes_faults k (Some text) = digit_faults k (decode_of text)
-
-abbrev pub bytes_or_none : Result (List ℕ) FromHexError → List ℕ
-bytes_or_none (Ok bytes) = bytes
-bytes_or_none (Err e) = []
 
 abbrev pub spelled_bytes : Option (List ℕ) → List ℕ
 spelled_bytes None = []
@@ -170,18 +173,89 @@ unknown_faults place (Some name) = Fault rule.Form (place name) ∷ []
 
 -- the fields of a run job
 abbrev pub run_keys : List Key
-run_keys = key.Entry ∷ key.Args ∷ key.Cells ∷ key.Bytes ∷ key.Length ∷ key.Stretches ∷ key.Stores ∷ []
+run_keys = key.Entry ∷ key.Args ∷ key.Cells ∷ key.Bytes ∷ key.Length ∷ key.Stretches ∷ key.Value ∷ key.Stores ∷ []
 
--- the faults of a job after those of `entry`, whose definition this is
-abbrev pub later_faults : Option TypeDef → Data → List JobError
-later_faults d job =
+-- what a job says of its message
+pub record Given : Type 0 where
+  -- the bytes that its words hold, and how many words there are
+  pub bytes : List ℕ
+  pub words : ℕ
+  -- how long the message is, and how it lies there
+  pub length : Option ℕ
+  pub layout : Option (List Stretch)
+  -- the bytes that were written, where it is of a value
+  pub written : Option (List ℕ)
+  -- what is wrong with the fields that say so
+  pub faults : List JobError
+
+-- by bytes, a length and stretches
+abbrev pub from_bytes : Data → Given
+from_bytes job = record {
+  bytes = given_bytes job;
+  words = job_words job;
+  length = number_of key.Length job;
+  layout = given_layout job;
+  written = None;
+  faults =
+      bytes_faults key.Bytes (text_of key.Bytes job)
+      ++ length_faults (field_of key.Stretches job) (length (given_bytes job)) (number_of key.Length job)
+      ++ stretches_faults (length (given_bytes job)) (number_of key.Length job) (field_of key.Stretches job);
+}
+
+-- what doesn't stand beside a value
+abbrev pub beside_faults : Data → List JobError
+beside_faults job =
+    fault_if_there (field_of key.Bytes job) (Fault rule.Form (path.Whole key.Bytes))
+    ++ fault_if_there (field_of key.Length job) (Fault rule.Form (path.Whole key.Length))
+    ++ fault_if_there (field_of key.Stretches job) (Fault rule.Form (path.Whole key.Stretches))
+
+-- the bytes that spell a value; none where there is no spelling
+abbrev pub spelled_or_none : Option (List ℕ) → List ℕ
+spelled_or_none None = []
+spelled_or_none (Some bytes) = bytes
+
+-- all of a message that is written
+abbrev pub of_written : List ℕ → List JobError → Given
+of_written bytes faults = record {
+  bytes = bytes;
+  words = words_with (length bytes);
+  length = Some (length bytes);
+  layout = None;
+  written = Some bytes;
+  faults = faults;
+}
+
+-- by a value, from these arguments and cells
+abbrev pub from_datum : Module → Entry → List ℕ → List ℕ → Data → Data → Given
+from_datum m entry args cells job value =
+    of_written (spelled_or_none (spelling m entry args (datum_of value)))
+    (beside_faults job ++ form_faults key.Value (form_of value) ++ write_faults (writing whole_numbers m entry args cells (datum_of value)))
+
+abbrev pub from_value : Module → Entry → Data → Data → Given
+from_value m entry job value = from_datum m entry (given_args (entry_definition m entry.number) job) (given_cells (entry_definition m entry.number) job) job value
+
+-- by what stands there
+abbrev pub given_by : Option Data → Module → Entry → Data → Given
+given_by None m entry job = from_bytes job
+given_by (Some value) m entry job = from_value m entry job value
+
+abbrev pub given : Module → Entry → Data → Given
+given m entry job = given_by (field_of key.Value job) m entry job
+
+-- the faults of a job after those of `entry`, whose definition this is, where it says this of its message
+abbrev pub faults_with : Given → Option TypeDef → Data → List JobError
+faults_with g d job =
     args_faults (args_bounds d) (field_of key.Args job)
     ++ cells_faults (cells_bounds d) (field_of key.Cells job)
-    ++ bytes_faults key.Bytes (text_of key.Bytes job)
-    ++ length_faults (field_of key.Stretches job) (length (given_bytes job)) (number_of key.Length job)
-    ++ stretches_faults (length (given_bytes job)) (number_of key.Length job) (field_of key.Stretches job)
-    ++ stores_faults (job_words job) (field_of key.Stores job)
+    ++ g.faults
+    ++ stores_faults g.words (field_of key.Stores job)
     ++ unknown_faults path.Unknown (first_unknown run_keys (as_object job))
+
+abbrev pub faults_by : Option Data → Module → Entry → Data → List JobError
+faults_by value m entry job = faults_with (given_by value m entry job) (entry_definition m entry.number) job
+
+abbrev pub later_faults : Module → Entry → Data → List JobError
+later_faults m entry job = faults_by (field_of key.Value job) m entry job
 
 -- the first fields of a run job, up to `length`, have no fault, and this is its entry point
 pub record BeginsWell (m : Module) (job : Data) (entry : Entry) : Type 0 where
@@ -196,32 +270,57 @@ pub record EndsWell (job : Data) : Type 0 where
   pub stretches : stretches_faults (length (given_bytes job)) (number_of key.Length job) (field_of key.Stretches job) ≡ []
   pub stores : stores_faults (job_words job) (field_of key.Stores job) ≡ []
 
+-- the first fields of a run job of a value, up to the value's form, have no fault, and this is its entry point
+pub record BeginsWithValue (m : Module) (job value : Data) (entry : Entry) : Type 0 where
+  pub named : IsEntry m (text_of key.Entry job) entry
+  pub args : args_faults (args_bounds (entry_definition m entry.number)) (field_of key.Args job) ≡ []
+  pub cells : cells_faults (cells_bounds (entry_definition m entry.number)) (field_of key.Cells job) ≡ []
+  pub alone : beside_faults job ≡ []
+  pub form : form_faults key.Value (form_of value) ≡ []
+
 -- the first fault of a job whose faults after those of `entry` are these
-abbrev pub FirstFaultOf : (Option TypeDef → Data → List JobError) → Module → Data → JobError → Type 0
-FirstFaultOf later m job e =
+abbrev pub FirstFaultBy : (Module → Entry → Data → List JobError) → Module → Data → JobError → Type 0
+FirstFaultBy later m job e =
     EntryFault m (text_of key.Entry job) e
-    ⊎ ((entry : Entry) × IsEntry m (text_of key.Entry job) entry × IsFirst (later (entry_definition m entry.number) job) e)
+    ⊎ ((entry : Entry) × IsEntry m (text_of key.Entry job) entry × IsFirst (later m entry job) e)
+
+-- the same, where they are those of the entry point's definition
+abbrev pub FirstFaultOf : (Option TypeDef → Data → List JobError) → Module → Data → JobError → Type 0
+FirstFaultOf later = FirstFaultBy (λ m entry job. later (entry_definition m entry.number) job)
 
 abbrev pub FirstFault : Module → Data → JobError → Type 0
-FirstFault = FirstFaultOf later_faults
+FirstFault = FirstFaultBy later_faults
 
--- memory may be lacking for a job: its first fields have no fault, and then it has none, fields of other names apart, or its
+-- memory may be lacking for a job of bytes: its first fields have no fault, and then it has none, fields of other names apart, or its
 -- stretches are of too many bytes for any memory
-pub record MayLackMemory (m : Module) (job : Data) : Type 0 where
+pub record MayLackForBytes (m : Module) (job : Data) : Type 0 where
   pub entry : Entry
   pub begins : BeginsWell m job entry
   pub rest : EndsWell job ⊎ (2 ^ 32 ≤ length (given_bytes job))
 
--- the run job that a job without a fault is
-pub record IsJob (m : Module) (job : Data) (j : RunJob) : Type 0 where
+-- and for one of a value: what stands up to the value's form has no fault
+abbrev pub MayLackBy : Option Data → Module → Data → Type 0
+MayLackBy None m job = MayLackForBytes m job
+MayLackBy (Some value) m job = (entry : Entry) × BeginsWithValue m job value entry
+
+abbrev pub MayLackMemory : Module → Data → Type 0
+MayLackMemory m job = MayLackBy (field_of key.Value job) m job
+
+-- the run job that a job without a fault is, where it says this of its message
+pub record IsJobWith (g : Given) (m : Module) (job : Data) (j : RunJob) : Type 0 where
   pub named : IsEntry m (text_of key.Entry job) j.entry
-  pub faultless : later_faults (entry_definition m j.entry.number) job ≡ []
+  pub faultless : faults_with g (entry_definition m j.entry.number) job ≡ []
   pub args : j.args ≡ given_args (entry_definition m j.entry.number) job
   pub cells : j.cells ≡ given_cells (entry_definition m j.entry.number) job
-  pub filled : IsFilled (given_bytes job) (job_words job) j.words
-  pub as_long : number_of key.Length job ≡ Some j.length
-  pub layout : j.layout ≡ given_layout job
+  pub filled : IsFilled g.bytes g.words j.words
+  pub as_long : g.length ≡ Some j.length
+  pub layout : j.layout ≡ g.layout
+  pub written : j.written ≡ g.written
   pub stored : j.stores ≡ given_stores job
+
+-- the run job that a job without a fault is
+abbrev pub IsJob : Module → Data → RunJob → Type 0
+IsJob m job j = IsJobWith (given m j.entry job) m job j
 
 -- the run job that the bytes stand for
 abbrev pub IsRunJob : List ℕ → Module → RunJob → Type 0
@@ -243,10 +342,13 @@ pub record HasValues (m : Module) (j : RunJob) : Type 0 where
   pub cells : AllFit (cells_bounds (entry_definition m j.entry.number)) j.cells
 
 -- how the bytes are refused: they aren't JSON (J1), or stand for a job with a fault, of which it is the first
-abbrev pub RefusedJobOf : (Option TypeDef → Data → List JobError) → List ℕ → Module → JobError → Type 0
-RefusedJobOf later bytes m e =
+abbrev pub RefusedJobBy : (Module → Entry → Data → List JobError) → List ℕ → Module → JobError → Type 0
+RefusedJobBy later bytes m e =
     ((e ≡ Fault rule.NotJson path.Job) × ((job : Data) → Reads bytes job → ⊥))
-    ⊎ ((job : Data) × Reads bytes job × FirstFaultOf later m job e)
+    ⊎ ((job : Data) × Reads bytes job × FirstFaultBy later m job e)
+
+abbrev pub RefusedJobOf : (Option TypeDef → Data → List JobError) → List ℕ → Module → JobError → Type 0
+RefusedJobOf later = RefusedJobBy (λ m entry job. later (entry_definition m entry.number) job)
 
 abbrev pub RefusedJob : List ℕ → Module → JobError → Type 0
-RefusedJob = RefusedJobOf later_faults
+RefusedJob = RefusedJobBy later_faults

@@ -1,9 +1,13 @@
 -- What holds of jobs and their faults.
-use Rattle.std.specs.Prelude.{◌≡◌, ℕ, List, ◌⊎◌}
+use Rattle.std.specs.Prelude.{◌≡◌, ℕ, List, None, ◌⊎◌}
 use Rattle.td_core.specs.declared.module.Module.{Module}
 use Rattle.td_job.specs.declared.error.JobError.{JobError}
 use Rattle.td_job.specs.declared.run_job.RunJob.{RunJob}
-use Rattle.td_job.specs.Jobs.{IsRunJob, RefusedJob}
+use Rattle.serde_json.specs.Data.{Data}
+use Rattle.td_core.specs.declared.module.Entry.{Entry}
+use Rattle.td_job.specs.declared.error.Key.TheVariants as key
+use Rattle.td_job.specs.Fields.{field_of}
+use Rattle.td_job.specs.Jobs.{IsRunJob, RefusedJob, from_bytes, given}
 use Rattle.td_job.specs.declared.named.NamedJob.{NamedJob}
 use Rattle.td_job.specs.Named.{IsNamedJob, FirstNamedFault}
 
@@ -38,3 +42,7 @@ NeverBothNamed = (m : Module) (job : NamedJob) (j : RunJob) (e : JobError) → I
 -- it is a run job or has a first fault
 abbrev pub AlwaysOneNamed : Type 0
 AlwaysOneNamed = (m : Module) (job : NamedJob) → ((j : RunJob) × IsNamedJob m job j) ⊎ ((e : JobError) × FirstNamedFault m job e)
+
+-- a job without a value says of its message what its bytes, length and stretches say
+abbrev pub GivenByBytes : Type 0
+GivenByBytes = (m : Module) (entry : Entry) (job : Data) → field_of key.Value job ≡ None → given m entry job ≡ from_bytes job

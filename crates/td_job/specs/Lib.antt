@@ -6,6 +6,7 @@ pub mod Parts
 pub mod Laws
 pub mod Slots
 pub mod Stretches
+pub mod Valued
 pub mod Values
 pub mod Words
 pub mod Written

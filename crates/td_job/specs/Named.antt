@@ -1,5 +1,5 @@
 -- Jobs that name their entry point by text, and what is wrong with one (own rule): what is wrong with the run job that a JSON
--- text of the same entry, arguments, cells, words, length and stores, without stretches, stands for, in the same order, by the same codes.
+-- text of the same entry, arguments, cells, words, length and stores, without stretches or a value, stands for, in the same order, by the same codes.
 use Rattle.std.specs.Prelude.{◌≡◌, ℕ, ◌+◌, List, [], ◌∷◌, ◌++◌, length, not, nat_eq, nat_lt, nat_le, Some, None, ◌⊎◌}
 use Rattle.td_core.specs.declared.module.Module.{Module}
 use Rattle.td_core.specs.declared.module.Entry.{Entry}
@@ -69,4 +69,5 @@ pub record IsNamedJob (m : Module) (job : NamedJob) (j : RunJob) : Type 0 where
   pub words : j.words ≡ job.words
   pub as_long : j.length ≡ job.length
   pub layout : j.layout ≡ None
+  pub written : j.written ≡ None
   pub stored : j.stores ≡ job.stores

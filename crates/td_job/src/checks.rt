@@ -5,8 +5,8 @@ ghost use Rattle.std.specs.List.{list_all};
 ghost use Rattle.hex.specs.Hex.{decode_of, is_hex_digit};
 ghost use Rattle.serde_json.specs.Find.{as_object};
 ghost use Rattle.serde_json.specs.View.{view};
-ghost use Rattle.td_job.specs.Fields.{field_of, text_of, number_of, IsFirst};
-ghost use Rattle.td_job.specs.Jobs.{EntryFault, IsEntry, bytes_faults, bytes_or_none, digit_faults, spelled_bytes, length_faults, is_known, first_unknown, unknown_faults};
+ghost use Rattle.td_job.specs.Fields.{field_of, text_of, number_of, bytes_or_none, IsFirst};
+ghost use Rattle.td_job.specs.Jobs.{EntryFault, IsEntry, bytes_faults, digit_faults, spelled_bytes, length_faults, is_known, first_unknown, unknown_faults};
 
 use crate::error::{JobError, JobRule, Key, Path};
 use crate::json::{number_of, text_of};

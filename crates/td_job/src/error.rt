@@ -2,12 +2,14 @@
 
 ghost use Rattle.std.specs.Prelude.{◌≡◌};
 ghost use Rattle.td_core.specs.Paths.{indexed};
-ghost use Rattle.td_job.specs.Errors.{rule_code, key_name, guest_bytes, path_bytes, code_of, path_of};
+ghost use Rattle.td_job.specs.Errors.{rule_code, write_code, key_name, guest_bytes, path_bytes, code_of, path_of};
 ghost use Rattle.td_job.specs.Parts.{parts_bytes};
 
 use std::alloc::AllocError;
 use std::fmt;
+use td_num::items::Items;
 use td_num::text::Text;
+use td_values::error::WriteRule;
 use thiserror::Error;
 
 /// The name of a field of a run job, of a host job or of a guest in one, or of a total over a host job.
@@ -25,6 +27,8 @@ pub enum Key {
     Length,
     /// The stretches of the bytes that are the message.
     Stretches,
+    /// The value that is written, whose bytes are the message.
+    Value,
     /// What others store to the words, and when; and the total of the stores of all guests.
     Stores,
     /// The bytes that the guests' messages lie in, as hexadecimal digits.
@@ -35,6 +39,10 @@ pub enum Key {
     Guests,
     /// What a guest does, step by step.
     Script,
+    /// The rings of buffers that messages are taken from.
+    Rings,
+    /// The module texts that replace one another while messages are validated.
+    Swaps,
     /// The total of the posts of all guests.
     Posts,
     /// The total of the words of all messages.
@@ -53,11 +61,14 @@ impl Key {
             Key::Bytes => "bytes",
             Key::Length => "length",
             Key::Stretches => "stretches",
+            Key::Value => "value",
             Key::Stores => "stores",
             Key::Buffer => "buffer",
             Key::Workers => "workers",
             Key::Guests => "guests",
             Key::Script => "script",
+            Key::Rings => "rings",
+            Key::Swaps => "swaps",
             Key::Posts => "posts",
             Key::Words => "words",
         }
@@ -84,6 +95,10 @@ pub enum JobRule {
     PastBytes,
     /// A limit is passed.
     Limit,
+    /// A module text that is to replace another is refused, or lacks the entry point as it is.
+    Swap,
+    /// The value isn't written.
+    Written,
 }
 
 impl JobRule {
@@ -100,6 +115,8 @@ impl JobRule {
             JobRule::NoWord => "J6",
             JobRule::PastBytes => "J7",
             JobRule::Limit => "J8",
+            JobRule::Swap => "J9",
+            JobRule::Written => "J10",
         }
     }
 
@@ -108,6 +125,43 @@ impl JobRule {
         ensures { result ≡ JobError.Fault self path }
     {
         JobError::Fault { rule: self, path }
+    }
+}
+
+/// The code of what is wrong with a value that isn't written, in error lines.
+pub fn write_code(rule: WriteRule) -> &'static str
+    ensures { result.now ≡ write_code rule }
+{
+    match rule {
+        WriteRule::Shape => "E1",
+        WriteRule::Range => "E2",
+        WriteRule::Broken(_) => "E3",
+        WriteRule::Size => "E4",
+        WriteRule::Long => "E5",
+    }
+}
+
+/// A value inside the value that a job gives, and what is wrong with it.
+#[derive(Drop)]
+pub struct ValueFault {
+    /// The places on the way to it, each from 0, the outermost first.
+    pub places: Items<usize>,
+    pub rule: WriteRule,
+}
+
+impl fmt::Display for ValueFault {
+    fn fmt<W: fmt::Write>(&self, f: &mut fmt::Formatter<W>) -> fmt::Result {
+        write!(f, "{}", Key::Value.name())?;
+        for place in self.places.as_slice() {
+            write!(f, "[{place}]")?;
+        }
+        write!(f, " {}", write_code(self.rule))
+    }
+}
+
+impl fmt::Debug for ValueFault {
+    fn fmt<W: fmt::Write>(&self, f: &mut fmt::Formatter<W>) -> fmt::Result {
+        write!(f, "{self}")
     }
 }
 
@@ -128,6 +182,8 @@ pub enum Path {
     Step { guest: usize, index: usize },
     /// A field of a guest that no guest has, by the bytes of its name.
     UnknownOf { guest: usize, name: Text },
+    /// A value inside the field `value`, and what is wrong with it.
+    Written(ValueFault),
 }
 
 /// An element of a list: the list's name, and the place in it, from 0.
@@ -137,34 +193,44 @@ pub struct ListElement<'a> {
     pub place: usize,
 }
 
-/// The path of an error line, in the parts that it is written of: the element that it goes on from, before a dot, where
-/// there is one; a name; and the place in a list, from 0, which stands after it in brackets.
+/// The path of an error line, in the parts that it is written of.
 #[derive(Clone, Copy)]
-pub struct PathParts<'a> {
-    pub within: Option<ListElement<'a>>,
-    pub name: &'a [u8],
-    pub index: Option<usize>,
+pub enum PathParts<'a> {
+    /// A name, and the place in a list, from 0, which stands after it in brackets, where there is one.
+    Name {
+        name: &'a [u8],
+        index: Option<usize>,
+    },
+    /// The same, after the element that it goes on from, and a dot.
+    Within {
+        element: ListElement<'a>,
+        name: &'a [u8],
+        index: Option<usize>,
+    },
+    /// A name, places in brackets, and after a blank the code of what is wrong there.
+    Inside {
+        name: &'a [u8],
+        places: &'a [usize],
+        code: &'a [u8],
+    },
 }
 
 impl<'a> PathParts<'a> {
     fn of(name: &'a [u8], index: Option<usize>) -> PathParts<'a>
         ensures { parts_bytes result ≡ indexed name.now index }
     {
-        PathParts {
-            within: None,
-            name,
-            index,
-        }
+        PathParts::Name { name, index }
     }
 
     fn of_guest(guest: usize, name: &'a [u8], index: Option<usize>) -> PathParts<'a>
         ensures { parts_bytes result ≡ guest_bytes guest (indexed name.now index) }
     {
-        PathParts {
-            within: Some(ListElement {
-                list: Key::Guests.name().as_bytes(),
-                place: guest,
-            }),
+        let element = ListElement {
+            list: Key::Guests.name().as_bytes(),
+            place: guest,
+        };
+        PathParts::Within {
+            element,
             name,
             index,
         }
@@ -185,6 +251,11 @@ impl Path {
             Path::Script { guest } => PathParts::of_guest(*guest, script, None),
             Path::Step { guest, index } => PathParts::of_guest(*guest, script, Some(*index)),
             Path::UnknownOf { guest, name } => PathParts::of_guest(*guest, name.as_slice(), None),
+            Path::Written(fault) => PathParts::Inside {
+                name: Key::Value.name().as_bytes(),
+                places: fault.places.as_slice(),
+                code: write_code(fault.rule).as_bytes(),
+            },
         }
     }
 }
@@ -207,6 +278,7 @@ impl fmt::Display for Path {
             Path::Script { guest } => write!(f, "guests[{guest}].script"),
             Path::Step { guest, index } => write!(f, "guests[{guest}].script[{index}]"),
             Path::UnknownOf { guest, name } => write!(f, "guests[{guest}].{}", shown(name)),
+            Path::Written(fault) => write!(f, "{fault}"),
         }
     }
 }

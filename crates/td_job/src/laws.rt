@@ -1,6 +1,6 @@
 //! Laws of jobs and their faults. They do nothing when they are called.
 
-ghost use Rattle.td_job.specs.Laws.{OneJobEach, OneFaultEach, NeverBoth, AlwaysOne, OneNamedJobEach, OneNamedFaultEach, NeverBothNamed, AlwaysOneNamed};
+ghost use Rattle.td_job.specs.Laws.{OneJobEach, OneFaultEach, NeverBoth, AlwaysOne, OneNamedJobEach, OneNamedFaultEach, NeverBothNamed, AlwaysOneNamed, GivenByBytes};
 
 /// The bytes of a job stand for at most one run job, or have at most one fault, and never both.
 pub fn one_answer_each()
@@ -24,4 +24,9 @@ pub fn one_named_answer_each()
 /// A job that names its entry point is a run job of a module, or it has a first fault.
 pub fn named_job_or_fault()
     ensures { AlwaysOneNamed }
+{}
+
+/// What a job without a value says of its message is what its bytes, its length and its stretches say.
+pub fn given_by_bytes()
+    ensures { GivenByBytes }
 {}

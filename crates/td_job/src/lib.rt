@@ -12,6 +12,7 @@ pub mod named;
 pub mod run_job;
 pub mod stores;
 pub mod stretches;
+pub mod valued;
 pub mod values;
 pub mod words;
 pub mod written;

@@ -20,7 +20,7 @@ use td_num::items::Items;
 use td_num::text::Text;
 use td_sched::store::PlannedStore;
 
-/// A message to validate, and from which entry point, by its name. The parts are those of a [`RunJob`] without a layout.
+/// A message to validate, and from which entry point, by its name. The parts are those of a [`RunJob`] of bytes without a layout.
 #[derive(Drop)]
 pub struct NamedJob {
     /// The name of the entry point.
@@ -160,6 +160,7 @@ impl NamedJob {
             length: self.length,
             layout: None,
             stores: self.stores,
+            written: None,
         })
     }
 }

@@ -1,22 +1,25 @@
 //! Run jobs.
 
-ghost use Rattle.std.specs.Prelude.{◌≡◌, ◌⊎◌, ◌+◌, ◌*◌, ◌<◌, length, Err, Some, IfOk, IfErr, MatchResult};
+ghost use Rattle.std.specs.Prelude.{◌≡◌, ◌⊎◌, ◌+◌, ◌*◌, ◌<◌, length, Err, Some, None, IfOk, IfErr, MatchResult, option_map};
 ghost use Rattle.serde_json.specs.View.{view};
 ghost use Rattle.td_job.specs.Fields.{number_of, text_of, IsFirst};
-ghost use Rattle.td_job.specs.Jobs.{bytes_faults, given_bytes, job_words, BeginsWell, EndsWell, IsJob, IsRunJob, HasRoom, HasValues, MayLackMemory, FirstFault, RefusedJob};
+ghost use Rattle.td_job.specs.Jobs.{bytes_faults, faults_by, from_bytes, given_bytes, job_words, BeginsWell, EndsWell, IsJob, IsJobWith, IsRunJob, HasRoom, HasValues, MayLackForBytes, MayLackMemory, FirstFault, FirstFaultBy, RefusedJob};
 ghost use Rattle.td_job.specs.Words.{IsFilled};
+ghost use Rattle.td_write.specs.Answers.{IsWritable};
 
 use crate::checks::{bytes_of, check_names, count_of, entry_of, length_of};
 use crate::error::{JobError, Key};
-use crate::json::read_json;
+use crate::json::{field_of, read_json};
 use crate::stores::{check_stores, stores_of};
 use crate::stretches::{check_stretches, layout_of};
+use crate::valued::job_of_value;
 use crate::values::{cells_of, check_args, check_cells, definition_of, params_of, values_of};
 use crate::words::fill_words;
 use serde_json::Value;
 use std::alloc::Global;
 use td_core::module::{Entry, Module};
 use td_num::items::Items;
+use td_num::text::Text;
 use td_sched::store::PlannedStore;
 use td_stream::layout::Layout;
 
@@ -38,20 +41,35 @@ pub struct RunJob {
     pub layout: Option<Layout>,
     /// What others store to the words, and before which load, in the order given.
     pub stores: Items<PlannedStore>,
+    /// The bytes of the message, where they were written of a value.
+    pub written: Option<Text>,
+}
+
+impl RunJob {
+    /// The bytes of the message, where they were written of a value. Takes no memory.
+    pub fn written_bytes(&self) -> Option<&[u8]>
+        ensures { option_map (λ bytes. bytes.now) result ≡ self.now.written }
+    {
+        match &self.written {
+            None => None,
+            Some(bytes) => Some(bytes.as_slice()),
+        }
+    }
 }
 
 /// The fields of a run job.
-const FIELDS: &[Key] = &[
+pub(crate) const FIELDS: &[Key] = &[
     Key::Entry,
     Key::Args,
     Key::Cells,
     Key::Bytes,
     Key::Length,
     Key::Stretches,
+    Key::Value,
     Key::Stores,
 ];
 
-/// What the fields of a job were found to say before any memory was taken.
+/// What the fields of a job of bytes were found to say before any memory was taken.
 #[derive(Clone, Copy)]
 struct Tested {
     entry: Entry,
@@ -63,7 +81,7 @@ struct Tested {
     words: u32,
 }
 
-/// Tests the fields of a job, those of other names apart. J2 to J8: the first fault of these. `NoMemory`: there are stretches, and
+/// Tests the fields of a job of bytes, those of other names apart. J2 to J8: the first fault of these. `NoMemory`: there are stretches, and
 /// 2^32 bytes or more. Takes no memory.
 fn check_fields(job: &Value, m: &Module) -> Result<Tested, JobError>
     ensures begins { IfOk result (λ x. BeginsWell m.now (view job.now) x.entry) }
@@ -71,8 +89,8 @@ fn check_fields(job: &Value, m: &Module) -> Result<Tested, JobError>
     ensures given { IfOk result (λ x. length (given_bytes (view job.now)) ≡ x.given) }
     ensures as_long { IfOk result (λ x. number_of Key.Length (view job.now) ≡ Some x.length) }
     ensures words { IfOk result (λ x. job_words (view job.now) ≡ x.words) }
-    ensures err { IfErr result (λ e. (e ≡ JobError.NoMemory) ⊎ FirstFault m.now (view job.now) e) }
-    ensures memory { result ≡ Err JobError.NoMemory → MayLackMemory m.now (view job.now) }
+    ensures err { IfErr result (λ e. (e ≡ JobError.NoMemory) ⊎ FirstFaultBy (faults_by None) m.now (view job.now) e) }
+    ensures memory { result ≡ Err JobError.NoMemory → MayLackForBytes m.now (view job.now) }
 {
     let entry = entry_of(job, m)?;
     let definition = definition_of(m, entry);
@@ -101,12 +119,13 @@ fn words_of(alloc: Global, job: &Value, count: u32) -> Result<Items<u64>, JobErr
     Ok(words)
 }
 
-/// The run job of a parsed text, or its first fault. All that is decided without memory is decided before any is taken.
-fn job_of(alloc: Global, job: &Value, m: &Module) -> Result<RunJob, JobError>
-    ensures ok { IfOk result (λ j. IsJob m.now (view job.now) j) }
+/// The run job of a parsed text that gives bytes, or its first fault. All that is decided without memory is decided before any is
+/// taken.
+fn job_of_bytes(alloc: Global, job: &Value, m: &Module) -> Result<RunJob, JobError>
+    ensures ok { IfOk result (λ j. IsJobWith (from_bytes (view job.now)) m.now (view job.now) j) }
     ensures room { IfOk result HasRoom }
-    ensures err { IfErr result (λ e. (e ≡ JobError.NoMemory) ⊎ FirstFault m.now (view job.now) e) }
-    ensures memory { result ≡ Err JobError.NoMemory → MayLackMemory m.now (view job.now) }
+    ensures err { IfErr result (λ e. (e ≡ JobError.NoMemory) ⊎ FirstFaultBy (faults_by None) m.now (view job.now) e) }
+    ensures memory { result ≡ Err JobError.NoMemory → MayLackForBytes m.now (view job.now) }
 {
     let tested = check_fields(job, m)?;
     check_names(alloc, job, FIELDS)?;
@@ -123,11 +142,28 @@ fn job_of(alloc: Global, job: &Value, m: &Module) -> Result<RunJob, JobError>
         length: tested.length,
         layout,
         stores,
+        written: None,
     })
+}
+
+/// The run job of a parsed text, or its first fault. What is decided without memory is decided before any is taken; what is wrong
+/// with a value is found by writing it.
+fn job_of(alloc: Global, job: &Value, m: &Module) -> Result<RunJob, JobError>
+    requires { IsWritable m.now }
+    ensures ok { IfOk result (λ j. IsJob m.now (view job.now) j) }
+    ensures room { IfOk result HasRoom }
+    ensures err { IfErr result (λ e. (e ≡ JobError.NoMemory) ⊎ FirstFault m.now (view job.now) e) }
+    ensures memory { result ≡ Err JobError.NoMemory → MayLackMemory m.now (view job.now) }
+{
+    match field_of(job, Key::Value) {
+        None => job_of_bytes(alloc, job, m),
+        Some(value) => job_of_value(alloc, job, value, m),
+    }
 }
 
 /// The run job that the bytes stand for, or their first fault.
 fn parsed_job(alloc: Global, bytes: &[u8], m: &Module) -> Result<RunJob, JobError>
+    requires { IsWritable m.now }
     ensures job { IfOk result (λ j. IsRunJob bytes.now m.now j) }
     ensures room { IfOk result HasRoom }
     ensures refused { IfErr result (λ e. (e ≡ JobError.NoMemory) ⊎ RefusedJob bytes.now m.now e) }
@@ -137,9 +173,11 @@ fn parsed_job(alloc: Global, bytes: &[u8], m: &Module) -> Result<RunJob, JobErro
     job_of(alloc, &job, m)
 }
 
-/// The run job that the bytes stand for. J1 to J8: their first fault, each exactly where the definition says so.
-/// `NoMemory`: there was no memory for it; never where there are no bytes.
+/// The run job that the bytes stand for. J1 to J8, J10: their first fault, each exactly where the definition says so.
+/// `NoMemory`: there was no memory for it; never where there are no bytes. The module is one that a value can be written by, as each is
+/// that a text stands for.
 pub fn read_run_job(alloc: Global, bytes: &[u8], m: &Module) -> Result<RunJob, JobError>
+    requires { IsWritable m.now }
     ensures job { IfOk result (λ j. IsRunJob bytes.now m.now j) }
     ensures room { IfOk result HasRoom }
     ensures entry { IfOk result (λ j. j.entry.number < length m.now.entries) }

@@ -5,8 +5,7 @@ ghost use Rattle.hex.specs.Hex.{decode_of};
 ghost use Rattle.serde_json.specs.Find.{as_array};
 ghost use Rattle.serde_json.specs.View.{view, items_view};
 ghost use Rattle.td_values.specs.DatumView.{datum_at};
-ghost use Rattle.td_job.specs.Jobs.{bytes_or_none};
-ghost use Rattle.td_job.specs.Fields.{IsFirst};
+ghost use Rattle.td_job.specs.Fields.{bytes_or_none, IsFirst};
 ghost use Rattle.td_job.specs.Written.{worse, form_faults, form_of, forms_of, datum_of, datums_of};
 
 use crate::checks::spells_bytes;

@@ -2,52 +2,15 @@
 
 use std::alloc::{AllocError, Global};
 use std::test::Fail;
-use td_core::module::{Body, Cell, CellKind, Module, NameId, Param, TypeDef};
+use td_front::check_module;
 use td_job::run_job::{RunJob, read_run_job};
-use td_num::items::Items;
-use td_num::number::Width;
-use td_num::text::Text;
 
-/// A module with the names `P`, `x` and `Q`, of which the first and the last are entry points. Each has a parameter of 16
-/// bits and a pointer's cell, but for `P`.
-fn named_module(alloc: Global) -> Result<Module, AllocError> {
-    let mut names = Items::new(alloc);
-    let mut definitions = Items::new(alloc);
-    for (place, name) in [&b"P"[..], &b"x"[..], &b"Q"[..]].iter().enumerate() {
-        names.push(Text::copy_of(alloc, name)?)?;
-        let name = NameId {
-            number: place as u32,
-        };
-        let param = Param {
-            name,
-            width: Width::Two,
-        };
-        let cell = Cell {
-            name,
-            field: None,
-            kind: CellKind::Pointer,
-        };
-        let count = place.min(1);
-        definitions.push(TypeDef {
-            name,
-            params: Items::copy_of(alloc, &[param][..count])?,
-            cells: Items::copy_of(alloc, &[cell][..count])?,
-            guard: None,
-            body: Body::Struct(Items::new(alloc)),
-        })?;
-    }
-    let entries = Items::copy_of(alloc, &[0, 2])?;
-    Ok(Module {
-        written: 3,
-        names,
-        listed: Items::new(alloc),
-        definitions,
-        entries,
-    })
-}
+/// A module with the entry points `P` and `Q`, of which the second has a parameter of 16 bits and a pointer's cell.
+const MODULE: &[u8] =
+    b"entrypoint typedef struct _P { UINT16 a; UINT16BE b { b >= 3 }; } P; entrypoint typedef struct _Q(UINT16 v, mutable PUINT8 *c) { UINT8 n; UINT8 d[n]; } Q;";
 
 /// An entry point's place, the arguments, cells and words, the length, each message word by its stretch and its word, where the
-/// job has a layout, and each store.
+/// job has a layout, each store, and what was written, where the message is of a value.
 fn job_line(alloc: Global, job: &RunJob) -> Result<String, AllocError> {
     let entry = job.entry.number;
     let args = job.args.as_slice();
@@ -69,11 +32,17 @@ fn job_line(alloc: Global, job: &RunJob) -> Result<String, AllocError> {
         let part = format!(in alloc; " store {before} {word} {value:016x}")?;
         line.push_str(part.as_str())?;
     }
+    if let Some(bytes) = job.written_bytes() {
+        let part = format!(in alloc; " written {bytes:?}")?;
+        line.push_str(part.as_str())?;
+    }
     Ok(line)
 }
 
 fn answer(alloc: Global, job: &[u8]) -> Result<String, Fail> {
-    let m = named_module(alloc)?;
+    let Ok(m) = check_module(alloc, MODULE) else {
+        return Ok("no module".to_string(alloc)?);
+    };
     match read_run_job(alloc, job, &m) {
         Ok(job) => Ok(job_line(alloc, &job)?),
         Err(error) => Ok(error.to_string(alloc)?),
@@ -104,6 +73,31 @@ const ROWS: &[(&[u8], &str)] = &[
         b"{\"entry\":\"P\",\"bytes\":\"00\",\"length\":1,\"stores\":[[0,0,\"0100000000000080\"],[0,0,\"\"]]}",
         "J5 stores[1]",
     ),
+    (
+        b"{\"entry\":\"P\",\"value\":[1,3],\"stores\":[[0,0,\"0100000000000080\"]]}",
+        "0 [] [] [50331649] 4 store 0 0 8000000000000001 written [1, 0, 0, 3]",
+    ),
+    (
+        b"{\"entry\":\"Q\",\"args\":[1],\"value\":[2,\"aAfF\"]}",
+        "1 [1] [0] [16755202] 3 written [2, 170, 255]",
+    ),
+    (b"{\"entry\":\"P\",\"value\":[1,2]}", "J10 value[1] E3"),
+    (b"{\"entry\":\"P\",\"value\":[1]}", "J10 value E1"),
+    (b"{\"entry\":\"P\",\"value\":[65536,3]}", "J10 value[0] E2"),
+    (
+        b"{\"entry\":\"Q\",\"args\":[1],\"value\":[2,\"aa\"]}",
+        "J10 value[1] E4",
+    ),
+    (
+        b"{\"entry\":\"P\",\"value\":[1,3],\"stores\":[[0,1,\"0100000000000080\"]]}",
+        "J6 stores[0]",
+    ),
+    (
+        b"{\"entry\":\"P\",\"value\":[true,\"z\"],\"length\":null}",
+        "J2 length",
+    ),
+    (b"{\"entry\":\"P\",\"value\":[\"z\",true]}", "J2 value"),
+    (b"{\"entry\":\"P\",\"value\":[\"z\",1]}", "J5 value"),
 ];
 
 #[test]

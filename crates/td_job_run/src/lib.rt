@@ -3,4 +3,5 @@
 //! the loads.
 #![tactic(auto)]
 
+pub mod looks;
 pub mod planned;

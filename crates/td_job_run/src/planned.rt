@@ -1,12 +1,14 @@
 //! A run by code on words to which others store by a plan.
 
-ghost use Rattle.std.specs.Prelude.{◌≡◌, ℕ, ◌<◌, ◌≤◌, ◌^◌, [], None, option_map, length as size_of, IfOk, IsErr, IsOk};
+ghost use Rattle.std.specs.Prelude.{◌≡◌, ℕ, ◌+◌, ◌<◌, ◌≤◌, ◌^◌, [], None, option_map, length as size_of, IfOk, IsErr, IsOk};
 ghost use Rattle.td_stream.specs.Layouts.{count_in, counted, laid, IsOver};
 ghost use Rattle.td_ir.specs.Entries.{Fits};
 ghost use Rattle.td_vm.specs.Frames.{IsArmed, outcome_in};
 ghost use Rattle.td_job_run.specs.Runs.{IsRunBy};
 
+use crate::looks::Looks;
 use std::alloc::{AllocError, Global};
+use std::sync::ledger::Ledger;
 use td_compiled::compiled::validate_recorded;
 use td_core::module::Entry;
 use td_core::outcome::{Outcome, Verdict};
@@ -151,6 +153,34 @@ fn run_laid(
         }
         Some(message) => run_prepared(code, frame, entry, args, cells, message, prepared),
     }
+}
+
+/// Runs code once over words that were prepared, on a message of `length` bytes, by the layout that they were prepared for or at their
+/// front; its loads are counted. As `run_prepared`, it has no allocator and no error.
+pub fn run_counted<L: Ledger>(
+    code: &Verified,
+    frame: &mut Frame,
+    entry: Entry,
+    args: &[u64],
+    cells: &[u64],
+    length: u32,
+    layout: Option<&Layout>,
+    prepared: Prepared<'_>,
+    looks: &mut Looks<L>,
+) -> Ran
+    requires armed { IsArmed code.now frame.old }
+    requires fits { Fits code.now entry args.now cells.now }
+    requires same { prepared.words.layout ≡ option_map (λ l. l.now) layout }
+    requires room { count_in (laid length (option_map (λ l. l.now) layout)) ≤ counted prepared.words.layout (size_of prepared.words.opening) }
+    ensures run { IsRunBy code.now
+        (record { entry = entry; args = args.now; cells = cells.now; length = length; layout = prepared.entry.words.layout; words = prepared.entry.words.opening; stores = prepared.entry.words.stores })
+        (outcome_in frame.new result.verdict) result.loads.list }
+    ensures armed { IsArmed code.now frame.new }
+    ensures counted { looks.new ≡ looks.old + size_of result.loads.list }
+{
+    let ran = run_laid(code, frame, entry, args, cells, length, layout, prepared);
+    looks.add(&ran.loads);
+    ran
 }
 
 /// Runs code once, in a frame that was armed for it, from an entry point that these arguments and cells fit, on a message of

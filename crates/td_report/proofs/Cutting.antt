@@ -1,4 +1,4 @@
--- Texts that a byte parts which stands in neither.
+-- Texts that a byte parts which stands in neither. Cited by other crates.
 use Rattle.std.proofs.Common.{◌≡◌, ℕ, ◌<◌, ◌≤◌, List, [], ◌∷◌, ◌++◌, refl, sym, ◌∙◌, append_assoc, arith, flat_map}
 use Rattle.td_report.specs.Report.{line}
 

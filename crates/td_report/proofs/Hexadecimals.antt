@@ -5,6 +5,7 @@ use Rattle.std.proofs.lemmas.Bool.{cases_lt}
 use Rattle.std.proofs.lemmas.Bool.Decides.{nat_tests}
 use Rattle.std.proofs.Math.Nat.{div-div-eq-div-mul}
 use Rattle.std.proofs.lemmas.Grind.{pow_more}
+use Rattle.td_num.proofs.Truths.{both_true}
 use Rattle.td_report.specs.Report.{hex_digit, hex_digits}
 use Rattle.td_report.proofs.Cutting.{Above}
 
@@ -23,29 +24,24 @@ all_right : are_right 16 ≡ true
 unfolding hex_digit is_right
 all_right = refl
 
-both : (a b : Bool) → a && b ≡ true → (a ≡ true) × (b ≡ true)
-both true true h = (refl, refl)
-both true false h = cc
-both false b h = cc
-
 right_below : (n d : ℕ) → are_right n ≡ true → d < n → is_right d ≡ true
 right_below zero d h less = absurd (omega arith)
 right_below (suc n) d h less = elim (cases_lt d n) [
-  | inl below ↦ right_below n d (both (is_right n) (are_right n) h).1 below
-  | inr above ↦ let same : n ≡ d = omega arith in let here = (both (is_right n) (are_right n) h).0 in rw (← same) here
+  | inl below ↦ right_below n d (both_true (is_right n) (are_right n) h).1 below
+  | inr above ↦ let same : n ≡ d = omega arith in let here = (both_true (is_right n) (are_right n) h).0 in rw (← same) here
 ]
 
 digit_value : (d : ℕ) → d < 16 → value_of (hex_digit d) ≡ d
 unfolding is_right
 digit_value d small =
-    let right = both (value_of (hex_digit d) == d) (nat_lt 10 (hex_digit d)) (right_below 16 d all_right small) in
+    let right = both_true (value_of (hex_digit d) == d) (nat_lt 10 (hex_digit d)) (right_below 16 d all_right small) in
     let same = right.0 in
     grind (arith, nat_tests)
 
 digit_above : (d : ℕ) → d < 16 → 10 < hex_digit d
 unfolding is_right
 digit_above d small =
-    let right = both (value_of (hex_digit d) == d) (nat_lt 10 (hex_digit d)) (right_below 16 d all_right small) in
+    let right = both_true (value_of (hex_digit d) == d) (nat_lt 10 (hex_digit d)) (right_below 16 d all_right small) in
     let high = right.1 in
     grind (arith, nat_tests)
 

@@ -1,6 +1,6 @@
 //! The lines of errors that have a path.
 
-ghost use Rattle.std.specs.Prelude.{◌≡◌, ◌++◌, [], None, Some, codes};
+ghost use Rattle.std.specs.Prelude.{◌≡◌, ◌++◌, [], None, Some, flat_map, codes};
 ghost use Rattle.td_core.specs.Paths.{indexed};
 ghost use Rattle.td_io.specs.States.{Writes};
 ghost use Rattle.td_report.specs.ErrorLine.{error_line, after_space};
@@ -71,4 +71,49 @@ pub fn inner_path_line<E: Sink>(
     write_path(err, list, Some(place))?;
     write_inner(err, name, index)?;
     write_pieces(err, &[b"\n"])
+}
+
+// Writes a name after a space, which stands there whatever the name.
+fn write_name<E: Sink>(err: &mut E, name: &[u8]) -> Result<(), WriteFault>
+    ensures { Writes (E.state err.old) (E.state err.new) (codes " " ++ name.now) result }
+{
+    write_pieces(err, &[b" ", name])
+}
+
+// Writes a place in a list, in brackets.
+fn write_place<E: Sink>(err: &mut E, place: usize) -> Result<(), WriteFault>
+    ensures { Writes (E.state err.old) (E.state err.new) (indexed [] (Some place)) result }
+{
+    let mut buffer = Buffer::new();
+    let place = buffer.format(place).as_bytes();
+    write_pieces(err, &[b"[", place, b"]"])
+}
+
+// Writes places one after the other, each in brackets.
+fn write_places<E: Sink>(err: &mut E, places: &[usize]) -> Result<(), WriteFault>
+    ensures { Writes (E.state err.old) (E.state err.new) (flat_map (λ place. indexed [] (Some place)) places.now) result }
+{
+    for place in places {
+        write_place(err, *place)?;
+    }
+    Ok(())
+}
+
+/// Writes the line of an error whose path goes into a value: `error`, its code, a name, after which stands in brackets each
+/// place on the way, from 0, and words. Takes no memory.
+///
+/// `WriteFault`: a write failed. What went out is a prefix of the line.
+pub fn value_line<E: Sink>(
+    code: &[u8],
+    name: &[u8],
+    places: &[usize],
+    words: &[u8],
+    err: &mut E,
+) -> Result<(), WriteFault>
+    ensures { Writes (E.state err.old) (E.state err.new) (error_line [] None code.now ((name.now ++ flat_map (λ place. indexed [] (Some place)) places.now) ++ codes " " ++ words.now)) result }
+{
+    write_code(err, code)?;
+    write_name(err, name)?;
+    write_places(err, places)?;
+    write_pieces(err, &[b" ", words, b"\n"])
 }

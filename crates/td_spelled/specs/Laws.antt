@@ -1,5 +1,6 @@
 -- Values, the bytes that spell them, and the meaning of these bytes.
 use Rattle.std.specs.Prelude.{◌≡◌, ℕ, ◌<◌, ◌≤◌, List, [], length, Option, Some, None, slice_get}
+use Rattle.std.specs.List.{All}
 use Rattle.td_core.specs.declared.module.TypeDef.{TypeDef}
 use Rattle.td_core.specs.declared.module.Module.{Module}
 use Rattle.td_core.specs.declared.module.Entry.{Entry}
@@ -11,7 +12,7 @@ use Rattle.td_kinds.specs.KindRules.{body_faults, kind_faults}
 use Rattle.td_meaning.specs.Meaning.{meaning}
 use Rattle.td_values.specs.declared.error.WriteRule.TheVariants.{Shape, Range, Broken, Size, Long}
 use Rattle.td_values.specs.declared.limits.TheConstants.{MOST_WRITTEN}
-use Rattle.td_values.specs.Datum.{Datum}
+use Rattle.td_values.specs.Datum.{Datum, Data, Number, Sequence, Bytes, Empty, End, More}
 use Rattle.td_values.specs.Spelling.{spelling}
 use Rattle.td_values.specs.Writing.{Written, Done, Refused, writing, whole}
 
@@ -43,3 +44,19 @@ WritingIsExact =
 -- in a formed module none of whose kinds is refused this is so
 abbrev pub KindsAreAdmitted : Type 0
 KindsAreAdmitted = (m : Module) → IsModuleFormed m → kind_faults m ≡ [] → AreKindsAdmitted m
+
+-- what stands in a value as bytes are bytes
+abbrev mutual
+  pub HoldsBytes : Datum → Type 0
+  HoldsBytes (Number n) = Unit {0}
+  HoldsBytes (Sequence vs) = HoldBytes vs
+  HoldsBytes (Bytes bytes) = All (λ b. b < 256) bytes
+  HoldsBytes Empty = Unit {0}
+
+  pub HoldBytes : Data → Type 0
+  HoldBytes End = Unit {0}
+  HoldBytes (More v vs) = HoldsBytes v × HoldBytes vs
+
+-- then what spells it are bytes too
+abbrev pub SpelledAreBytes : Type 0
+SpelledAreBytes = (m : Module) (entry : Entry) (args : List ℕ) (v : Datum) (bytes : List ℕ) → HoldsBytes v → spelling m entry args v ≡ Some bytes → All (λ b. b < 256) bytes

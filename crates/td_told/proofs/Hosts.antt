@@ -14,6 +14,7 @@ use Rattle.td_posts.specs.declared.job.Step.{Step}
 use Rattle.td_posts.specs.declared.job.Step.TheVariants.{Store, Post, Scatter}
 use Rattle.td_posts.specs.declared.mail.Mail.{Mail}
 use Rattle.td_posts.specs.Posts.{list_of, all_mails, stores_of, zeros}
+use Rattle.td_host_job.proofs.Zeros.{zeros_fit}
 use Rattle.td_host_job.specs.Steps.{SpelledStep, SpelledStore, SpelledPost, SpelledScatter, spelled_step, store_with, step_in, each_step}
 use Rattle.td_host_job.specs.Guests.{listed_in, listed_steps, given_script, each_script, listed_scripts}
 use Rattle.td_host_job.specs.HostJobs.{IsHost, IsShort}
@@ -86,23 +87,21 @@ host_jobs_are_sized keep bytes m j h =
 
 -- ---- outcomes
 
-zeros_fit : (bounds : List Bound) → AllFit bounds (zeros (length bounds))
-zeros_fit [] = tt
-zeros_fit (bound ∷ bounds) = (omega arith, zeros_fit bounds)
-
 -- a message of a host job is that of a run job to which nobody stores
 pub replies_are_told : RunsAreTold → RepliesAreTold
-replies_are_told runs m j message checked s bytes short =
-    let bounds = cells_bounds (entry_definition m j.entry.number) in
-    let cells : AllFit bounds (zeros j.cells) = subst (λ n. AllFit bounds (zeros n)) (sym s.kept.values.cells) (zeros_fit bounds) in
-    let run : RunJob = record { entry = j.entry; args = j.args; cells = zeros j.cells; words = []; length = length message; layout = None; stores = [] } in
-    let sized : IsSized m run = record {
-      entry = s.kept.values.entry;
-      values = record { args = s.kept.values.args; cells = cells };
+replies_are_told runs m j message n f entry version checked s bytes short =
+    let bounds = cells_bounds (entry_definition f entry.number) in
+    let values = s.kept.values.each n f entry version in
+    let cells : AllFit bounds (zeros j.cells) = subst (λ n. AllFit bounds (zeros n)) (sym values.cells) (zeros_fit bounds) in
+    let run : RunJob = record { entry = entry; args = j.args; cells = zeros j.cells; words = []; length = length message; layout = None; stores = []; written = None } in
+    let sized : IsSized f run = record {
+      entry = values.entry;
+      values = record { args = values.args; cells = cells };
       long = omega arith;
       limit = short;
       stretches = tt;
       words = All-nil (λ (word : ℕ). word < 2 ^ 64);
       stores = All-nil (λ (p : PlannedStore). p.value < 2 ^ 64);
+      written = tt;
     } in
-    runs m run message checked sized bytes refl
+    runs f run message checked sized bytes refl

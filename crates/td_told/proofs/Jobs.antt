@@ -22,14 +22,25 @@ use Rattle.td_job.specs.Fields.{Reads, field_of, number_of}
 use Rattle.td_job.specs.declared.error.JobError.TheVariants.{Fault}
 use Rattle.td_job.specs.declared.error.JobRule.TheVariants as rule
 use Rattle.td_job.specs.declared.error.Path.TheVariants as path
-use Rattle.td_job.specs.Values.{or_zero}
+use Rattle.td_job.specs.Values.{or_zero, given_args, given_cells}
+use Rattle.td_job.specs.Written.{datum_of}
+use Rattle.td_core.specs.Entries.{entry_definition}
+use Rattle.td_front.specs.Checked.{IsChecked}
+use Rattle.td_values.specs.declared.limits.TheConstants.{MOST_WRITTEN}
+use Rattle.td_values.specs.Spelling.{spelling}
+use Rattle.td_spelled.specs.Laws.{WritingIsExact, KindsAreAdmitted}
+use Rattle.td_write.specs.Answers.{IsWritable}
+use Rattle.td_report.specs.Laws.{IsWritten}
+use Rattle.td_job.specs.declared.checks.TheConstants.{MOST_BYTES}
 use Rattle.td_job.specs.Stretches.{spelled_stretch, stretch_of, each_stretch, layout_faults, stretches_faults, layout_of}
-use Rattle.td_job.specs.Jobs.{length_faults, given_bytes, Spelled, spelled_store, word_in, spelled_word, store_with, store_of, each_store, listed_stores, IsJob, IsRunJob}
+use Rattle.td_job.specs.Jobs.{length_faults, given_bytes, given_by, spelled_or_none, Spelled, spelled_store, word_in, spelled_word, store_with, store_of, each_store, listed_stores, IsJob, IsJobWith, IsRunJob}
 use Rattle.td_told.specs.Laws.{AreSized, IsSized, JobsAreSized}
 use Rattle.td_job.proofs.Bytes.{AreBytes, rising_small}
 use Rattle.td_job.proofs.Numbers.{both_empty, not_over}
 use Rattle.td_job.proofs.Scattered.{short, lies_there, one_at_most as few_of}
 use Rattle.td_job.proofs.Unique.{within, all_fit}
+use Rattle.td_job.proofs.Existing.{written_bytes}
+use Rattle.td_job.proofs.Writing.{faultless_short}
 use Rattle.td_told.proofs.Reading.{Small, SmallItems, read_small, field_small, list_small, stretches_low}
 
 -- ---- stores
@@ -92,24 +103,60 @@ stretches_sized : (given : ℕ) (n : Option ℕ) (o : Option Data) → IfSome o 
 stretches_sized given n None small h = tt
 stretches_sized given n (Some value) small h = layout_sized given (or_zero n) (as_array value) (list_small value small) h
 
-sized : (bytes : List ℕ) (m : Module) (job : Data) (j : RunJob) → Reads bytes job → IsRunJob bytes m j → IsJob m job j → IsSized m j
-sized bytes m job j reads run h =
+-- ---- the message
+
+record Shaped (j : RunJob) : Type 0 where
+  limit : j.length ≤ MOST_BYTES
+  stretches : AreSized j.layout
+  written : IsWritten j.written
+
+writable : (m : Module) → IsChecked m → IsWritable m
+writable m checked = record { formed = checked.formed; kinds = checked.kinds; safe = checked.safe }
+
+shaped : WritingIsExact → KindsAreAdmitted → (m : Module) (job : Data) (j : RunJob) (o : Option Data) → IsChecked m → Small job → IsJobWith (given_by o m j.entry job) m job j → Shaped j
+shaped law kinds m job j None checked small h =
     let names = both_empty _ _ h.faultless in
     let stores = both_empty _ _ names.0 in
-    let stretches = both_empty _ _ stores.0 in
+    let fields = both_empty _ _ stores.0 in
+    let stretches = both_empty _ _ fields.1 in
     let lengths = both_empty _ _ stretches.0 in
     let field = field_of key.Stretches job in
     let given = length (given_bytes job) in
-    let there = lies_there m job j h in
+    record {
+      limit = short field given j.length (subst (λ (n : Option ℕ). length_faults field given n ≡ []) h.as_long lengths.1);
+      stretches = subst AreSized (sym h.layout) (stretches_sized given (number_of key.Length job) field (field_small key.Stretches job small) stretches.1);
+      written = subst IsWritten (sym h.written) tt;
+    }
+shaped law kinds m job j (Some value) checked small h =
+    let d = entry_definition m j.entry.number in
+    let args = given_args d job in
+    let cells = given_cells d job in
+    let names = both_empty _ _ h.faultless in
+    let stores = both_empty _ _ names.0 in
+    let fields = both_empty _ _ stores.0 in
+    let writing = both_empty _ _ fields.1 in
+    let bytes = spelled_or_none (spelling m j.entry args (datum_of value)) in
+    let few : length bytes ≤ MOST_WRITTEN = faultless_short law kinds m j.entry args cells (datum_of value) (writable m checked) writing.1 in
+    let long = same_Some (length bytes) j.length h.as_long in
+    record {
+      limit = omega (arith, few, long);
+      stretches = subst AreSized (sym h.layout) tt;
+      written = subst IsWritten (sym h.written) (written_bytes m j.entry args value (spelling m j.entry args (datum_of value)) refl);
+    }
+
+sized : WritingIsExact → KindsAreAdmitted → (bytes : List ℕ) (m : Module) (job : Data) (j : RunJob) → IsChecked m → Reads bytes job → IsRunJob bytes m j → IsJob m job j → IsSized m j
+sized law kinds bytes m job j checked reads run h =
+    let message = shaped law kinds m job j (field_of key.Value job) checked (read_small bytes job reads) h in
     record {
       entry = within bytes m (Ok j) run;
       values = all_fit bytes m (Ok j) run;
-      long = there.long;
-      limit = short field given j.length (subst (λ (n : Option ℕ). length_faults field given n ≡ []) h.as_long lengths.1);
-      stretches = subst AreSized (sym h.layout) (stretches_sized given (number_of key.Length job) field (field_small key.Stretches job (read_small bytes job reads)) stretches.1);
+      long = (lies_there m job j h).long;
+      limit = message.limit;
+      stretches = message.stretches;
       words = All-from_get_or (λ word. word < 2 ^ 64) j.words 0 h.filled.fits;
       stores = subst (All SmallStore) (sym h.stored) (listed_small (option_and_then as_array (field_of key.Stores job)));
+      written = message.written;
     }
 
-pub jobs_are_sized : JobsAreSized
-jobs_are_sized bytes m j h = sized bytes m h.0 j h.1 h h.2
+pub jobs_are_sized : WritingIsExact → KindsAreAdmitted → JobsAreSized
+jobs_are_sized law kinds bytes m j checked h = sized law kinds bytes m h.0 j checked h.1 h h.2

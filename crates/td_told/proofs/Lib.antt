@@ -6,3 +6,4 @@ pub mod Reading
 pub mod Told
 pub mod Runs
 pub mod Hosts
+pub mod Words

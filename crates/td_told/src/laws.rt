@@ -6,14 +6,19 @@ use td_arith::laws::evaluated_is_sound;
 use td_endings::laws::endings_are_within;
 use td_host_job::laws::jobs_keep_limits;
 use td_meaning::laws::{frames_are_named, rejections_are_framed};
+use td_spelled::laws::{kinds_are_admitted, writing_is_exact};
 
-/// Of each run job the entry point is one of the module's, values fit their parameters and cells, the message is as long as
-/// said and not too long, its stretches are few and at places of 64 bits, and words and stores are of 64 bits.
+/// Of each run job of a checked module the entry point is one of the module's, values fit their parameters and cells, the message is
+/// as long as said and not too long, its stretches are few and at places of 64 bits, words and stores are of 64 bits, and what was
+/// written of a value are bytes.
 pub fn jobs_are_sized()
     ensures { JobsAreSized }
-{}
+{
+    writing_is_exact();
+    kinds_are_admitted();
+}
 
-/// Each host job keeps its limits (the entry point is one of the module's, values fit, messages, guests and posts are no more
+/// Each host job keeps its limits (the entry point of each version is one of its module's, values fit, messages, guests and posts are no more
 /// than a job may have), its posts' stretches are few and at places of 64 bits, and its words and stores are of 64 bits.
 pub fn host_jobs_are_sized()
     ensures { HostJobsAreSized }
@@ -36,7 +41,7 @@ pub fn runs_are_told()
     rejections_are_framed();
 }
 
-/// The outcome of a message of a good host job has named frames, numbers of 64 bits, and a value for each cell.
+/// The outcome that a version of a good host job has on a message has named frames, numbers of 64 bits, and a value for each cell.
 pub fn replies_are_told()
     ensures { RepliesAreTold }
 {

@@ -1,4 +1,4 @@
--- Writing in 64 bits, put in whole numbers: what was written is spelled and accepted, and what is refused isn't.
+-- Writing in 64 bits, put in whole numbers: what was written is spelled and accepted, and what is refused isn't. Cited by other crates.
 use Rattle.std.proofs.Common.{◌≡◌, ℕ, zero, suc, ◌+◌, ◌≤◌, ◌<◌, List, [], ◌∷◌, ◌++◌, length, refl, sym, ap, ◌∙◌, subst, arith, Option, Some, None}
 use Rattle.std.specs.Prelude.{slice_get}
 use Rattle.std.proofs.lemmas.Option.{none-some}

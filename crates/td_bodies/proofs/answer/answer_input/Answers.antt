@@ -9,9 +9,9 @@ answer_job-requires-clause-checked c =
 pub answer_job-requires-clause-entry : goal.answer_job-requires-clause-entry
 answer_job-requires-clause-entry c =
     let h = c.in-Ok.ensures.input in
-    (c.jobs_are_sized.ensures (job_part c.args.input.now h.place) c.in-Ok.parsed.«module» c.in-Ok.parsed.job h.good).entry
+    (c.jobs_are_sized.ensures (job_part c.args.input.now h.place) c.in-Ok.parsed.«module» c.in-Ok.parsed.job (answer_job-requires-clause-checked c) h.good).entry
 
 pub answer_job-requires-clause-values : goal.answer_job-requires-clause-values
 answer_job-requires-clause-values c =
     let h = c.in-Ok.ensures.input in
-    (c.jobs_are_sized.ensures (job_part c.args.input.now h.place) c.in-Ok.parsed.«module» c.in-Ok.parsed.job h.good).values
+    (c.jobs_are_sized.ensures (job_part c.args.input.now h.place) c.in-Ok.parsed.«module» c.in-Ok.parsed.job (answer_job-requires-clause-checked c) h.good).values

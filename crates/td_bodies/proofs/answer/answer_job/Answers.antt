@@ -1,4 +1,4 @@
-use Rattle.td_bodies.proofs.Jobs.{numbered}
+use Rattle.td_told.proofs.Words.{numbered}
 use Rattle.td_bodies.proofs.answer.answer_job.Goals as goal
 
 pub report_line-requires : goal.report_line-requires

@@ -5,7 +5,9 @@ use Rattle.td_job_run.specs.Runs.{IsRunBy}
 use Rattle.td_bodies.specs.Meant.{IsJobMeant}
 use Rattle.td_stream.specs.Layouts.{laid}
 use Rattle.td_stream.specs.Loads.{Inside}
-use Rattle.td_bodies.proofs.Jobs.{lowerable, job_fits, ends_with, over_with, input_by, run_is_meant, run_is_inside}
+use Rattle.td_coding.proofs.Means.{lowerable}
+use Rattle.td_told.proofs.Words.{ends_with, over_with}
+use Rattle.td_bodies.proofs.Jobs.{job_fits, input_by, run_is_meant, run_is_inside}
 use Rattle.td_bodies.proofs.bodies.run_compiled.Goals as goal
 
 pub lower-requires : goal.lower-requires

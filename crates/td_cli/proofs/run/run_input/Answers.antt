@@ -3,29 +3,29 @@ use Rattle.td_input.specs.Marker.{text_part, job_part}
 use Rattle.td_cli.proofs.run.run_input.Goals as goal
 
 pub returns-in_err-parsed-clause-complete : goal.returns-in_err-parsed-clause-complete
-returns-in_err-parsed-clause-complete c =
+returns-in_err-parsed-clause-complete g c =
     λ m job given.
     let p = err_from_is_err_and c.from_residual.result c.from_residual.ensures.1 in
     rw (p.1, p.2) (c.in_err-parsed.ensures.complete m job given)
 
 pub returns-in_err-parsed-clause-no_job : goal.returns-in_err-parsed-clause-no_job
-returns-in_err-parsed-clause-no_job c =
+returns-in_err-parsed-clause-no_job g c =
     λ none.
     let p = err_from_is_err_and c.from_residual.result c.from_residual.ensures.1 in
     let told = c.in_err-parsed.ensures.no_job none in
     cc (p.1, p.2, told)
 
-pub run_job-requires-clause-checked : goal.run_job-requires-clause-checked
-run_job-requires-clause-checked c =
+pub ready_input-requires-clause-checked : goal.ready_input-requires-clause-checked
+ready_input-requires-clause-checked g c =
     let h = c.in_ok-parsed.ensures.input in
     c.modules_are_checked.ensures (text_part c.args.input.now h.place) c.in_ok-parsed.parsed.«module» h.text
 
-pub run_job-requires-clause-entry : goal.run_job-requires-clause-entry
-run_job-requires-clause-entry c =
+pub run_ready-run-requires-clause-entry : goal.run_ready-run-requires-clause-entry
+run_ready-run-requires-clause-entry g c =
     let h = c.in_ok-parsed.ensures.input in
-    (c.jobs_are_sized.ensures (job_part c.args.input.now h.place) c.in_ok-parsed.parsed.«module» c.in_ok-parsed.parsed.job h.good).entry
+    (c.jobs_are_sized.ensures (job_part c.args.input.now h.place) c.in_ok-parsed.parsed.«module» c.in_ok-parsed.parsed.job (c.modules_are_checked.ensures (text_part c.args.input.now h.place) c.in_ok-parsed.parsed.«module» h.text) h.good).entry
 
-pub run_job-requires-clause-values : goal.run_job-requires-clause-values
-run_job-requires-clause-values c =
+pub run_ready-run-requires-clause-values : goal.run_ready-run-requires-clause-values
+run_ready-run-requires-clause-values g c =
     let h = c.in_ok-parsed.ensures.input in
-    (c.jobs_are_sized.ensures (job_part c.args.input.now h.place) c.in_ok-parsed.parsed.«module» c.in_ok-parsed.parsed.job h.good).values
+    (c.jobs_are_sized.ensures (job_part c.args.input.now h.place) c.in_ok-parsed.parsed.«module» c.in_ok-parsed.parsed.job (c.modules_are_checked.ensures (text_part c.args.input.now h.place) c.in_ok-parsed.parsed.«module» h.text) h.good).values

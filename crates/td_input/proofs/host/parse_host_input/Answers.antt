@@ -13,7 +13,7 @@ use Rattle.td_input.specs.Marker.{text_part, job_part}
 use Rattle.td_input.specs.Inputs.{RefusesHost}
 use Rattle.td_input.proofs.Memory.{module_memory, job_memory}
 use Rattle.td_input.proofs.Inputs.{text_errors, job_errors, nothing_refuses, module_cause, job_cause, no_error}
-use Rattle.td_input.proofs.Sounds.{sound_host, fits_entry}
+use Rattle.td_input.proofs.Sounds.{all_checked, sound_host, fits_versions}
 use Rattle.td_input.proofs.host.parse_host_input.Goals as goal
 use Rattle.td_num.proofs.Equals.{same_error}
 
@@ -54,13 +54,18 @@ returns-in-Ok-read_host_job-clause-refused c =
 
 pub returns-in-Ok-read_host_job-clause-sound : goal.returns-in-Ok-read_host_job-clause-sound
 returns-in-Ok-read_host_job-clause-sound c =
-    sound_host c.in-Ok.«module» c.in-Ok-read_host_job.job c.evaluated_is_sound.ensures c.in-Ok.ensures.checked c.in-Ok-read_host_job.ensures.job.2.by c.in-Ok-read_host_job.ensures.values
+    sound_host c.in-Ok.«module» c.in-Ok-read_host_job.job c.evaluated_is_sound.ensures
+    (all_checked c.in-Ok.«module» c.in-Ok.ensures.checked c.modules_are_checked.ensures c.in-Ok-read_host_job.job.formats c.in-Ok-read_host_job.ensures.values.stand) c.in-Ok-read_host_job.ensures.values
 
-pub returns-in-Ok-read_host_job-clause-by : goal.returns-in-Ok-read_host_job-clause-by
-returns-in-Ok-read_host_job-clause-by c = c.in-Ok-read_host_job.ensures.job.2.by
+pub returns-in-Ok-read_host_job-clause-checked : goal.returns-in-Ok-read_host_job-clause-checked
+returns-in-Ok-read_host_job-clause-checked c =
+    all_checked c.in-Ok.«module» c.in-Ok.ensures.checked c.modules_are_checked.ensures c.in-Ok-read_host_job.job.formats c.in-Ok-read_host_job.ensures.values.stand
+
+pub returns-in-Ok-read_host_job-clause-first : goal.returns-in-Ok-read_host_job-clause-first
+returns-in-Ok-read_host_job-clause-first c = c.in-Ok-read_host_job.ensures.values.first
 
 pub returns-in-Ok-read_host_job-clause-fits : goal.returns-in-Ok-read_host_job-clause-fits
-returns-in-Ok-read_host_job-clause-fits c = fits_entry c.in-Ok.«module» c.in-Ok-read_host_job.job c.in-Ok-read_host_job.ensures.values
+returns-in-Ok-read_host_job-clause-fits c = fits_versions c.in-Ok.«module» c.in-Ok-read_host_job.job c.in-Ok-read_host_job.ensures.values
 
 pub returns-in-Err-clause-memory : goal.returns-in-Err-clause-memory
 returns-in-Err-clause-memory c =

@@ -68,3 +68,8 @@ returns-in-Err-read_run_job-clause-memory c =
     let told = c.in-Err-read_run_job.ensures.memory (ap Err (job_memory c.in-Err-read_run_job.error c.of_job.result c.of_job.ensures (same_error _ _ same))) in
     let P : List ℕ → Type 0 = λ bytes. 0 < length bytes in
     (c.in-Some.place, c.in-Some.ensures, inr (subst P c.job_part.ensures told))
+
+pub read_run_job-requires : goal.read_run_job-requires
+read_run_job-requires c =
+    let checked = c.in-Ok.ensures.checked in
+    record { formed = checked.formed; kinds = checked.kinds; safe = checked.safe }
