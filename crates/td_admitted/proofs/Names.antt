@@ -1,4 +1,4 @@
--- What holds of the names among tokens holds of the names that are written in the tree which they spell.
+-- What holds of the names among tokens holds of the names that are written in the tree which they spell. Cited by other crates.
 use Rattle.std.proofs.Common.{◌≡◌, inl, inr, ℕ, Bool, true, false, List, [], ◌∷◌, ◌++◌, Option, Some, None, subst}
 use Rattle.td_num.specs.Lists.{Each}
 use Rattle.td_ast.specs.declared.token.Token.{Token}

@@ -1,7 +1,9 @@
+-- Cited by other crates.
 -- The names among the tokens of a text are words.
 use Rattle.std.proofs.Common.{◌≡◌, ℕ, Bool, true, false, ◌&&◌, List, [], ◌∷◌, Option, Some, None, refl, subst, bytes_eq}
 use Rattle.std.specs.Prelude.{if◌then◌else◌}
 use Rattle.td_num.specs.Lists.{Each}
+use Rattle.td_num.proofs.Truths.{both_true}
 use Rattle.td_ast.specs.declared.token.Token.{Token}
 use Rattle.td_ast.specs.declared.token.TokenKind.{TokenKind}
 use Rattle.td_ast.specs.declared.token.TokenKind.TheVariants.{Name}
@@ -20,28 +22,23 @@ OfToken P token = OfKind P token.kind
 
 -- ---- what is spelled by a table is no name
 
-abbrev is_fixed : TokenKind → Bool
+abbrev pub is_fixed : TokenKind → Bool
 is_fixed (Name text) = false
 is_fixed _ = true
 
-abbrev all_fixed : List Entry → Bool
+abbrev pub all_fixed : List Entry → Bool
 all_fixed [] = true
 all_fixed (e ∷ es) = is_fixed e.1 && all_fixed es
 
-both_true : (a b : Bool) → a && b ≡ true → (a ≡ true) × (b ≡ true)
-both_true true b h = (refl, h)
-both_true false b h = cc
-
-of_fixed : (P : List ℕ → Type 0) (kind : TokenKind) → is_fixed kind ≡ true → OfKind P kind
+pub of_fixed : (P : List ℕ → Type 0) (kind : TokenKind) → is_fixed kind ≡ true → OfKind P kind
 of_fixed P (Name text) h = absurd cc
 of_fixed P _ h = tt
 
 -- an answer that is no name
-AreFixed : Option TokenKind → Type 0
+abbrev pub AreFixed : Option TokenKind → Type 0
 AreFixed o = (kind : TokenKind) → o ≡ Some kind → is_fixed kind ≡ true
 
-in_table : (es : List Entry) (bytes : List ℕ) → all_fixed es ≡ true → AreFixed (kind_in es bytes)
-unfolding AreFixed
+pub in_table : (es : List Entry) (bytes : List ℕ) → all_fixed es ≡ true → AreFixed (kind_in es bytes)
 in_table [] bytes h kind e = absurd cc
 in_table (x ∷ es) bytes h kind e = by (both_true (is_fixed x.1) (all_fixed es) h).0 (in_table es bytes (both_true (is_fixed x.1) (all_fixed es) h).1 kind) (bytes_eq bytes x.0) e
   where
@@ -49,17 +46,16 @@ in_table (x ∷ es) bytes h kind e = by (both_true (is_fixed x.1) (all_fixed es)
     by own later true e = let same : x.1 ≡ kind = cc in subst (λ k. is_fixed k ≡ true) same own
     by own later false e = later e
 
-either_table : (a b : Option TokenKind) → AreFixed a → AreFixed b → AreFixed (or_else a b)
-unfolding AreFixed
+pub either_table : (a b : Option TokenKind) → AreFixed a → AreFixed b → AreFixed (or_else a b)
 either_table (Some x) b f g kind e = f kind e
 either_table None b f g kind e = g kind e
 
-keyword_fixed : (bytes : List ℕ) → AreFixed (keyword_kind bytes)
+pub keyword_fixed : (bytes : List ℕ) → AreFixed (keyword_kind bytes)
 keyword_fixed bytes =
     either_table (kind_in definition_words bytes) (or_else (kind_in expression_words bytes) (kind_in number_types bytes)) (in_table definition_words bytes refl)
     (either_table (kind_in expression_words bytes) (kind_in number_types bytes) (in_table expression_words bytes refl) (in_table number_types bytes refl))
 
-punctuation_fixed : (bytes : List ℕ) → AreFixed (punctuation_kind bytes)
+pub punctuation_fixed : (bytes : List ℕ) → AreFixed (punctuation_kind bytes)
 punctuation_fixed bytes =
     either_table (kind_in punctuation_of_two bytes) (single_kind bytes) (in_table punctuation_of_two bytes refl)
     (either_table (kind_in operators bytes) (kind_in delimiters bytes) (in_table operators bytes refl) (in_table delimiters bytes refl))
@@ -67,7 +63,6 @@ punctuation_fixed bytes =
 -- ---- tokens
 
 token_word : {kind : TokenKind} {bytes rest : List ℕ} → Begins kind bytes rest → OfKind IsName kind
-unfolding AreFixed
 token_word {kind} {bytes} (keyword_begins e) = of_fixed IsName kind (keyword_fixed bytes kind e)
 token_word (name_begins h) = h
 token_word (number_begins base h small ends) = tt

@@ -1,4 +1,4 @@
--- The limits of a text are limits of its module.
+-- The limits of a text are limits of its module. Cited by other crates.
 use Rattle.std.proofs.Common.{◌≡◌, ℕ, ◌+◌, ◌≤◌, Bool, List, [], ◌∷◌, ◌++◌, length, map, Option, Some, None, refl, sym, subst, arith, length-append}
 use Rattle.std.proofs.lemmas.List.{length-map}
 use Rattle.td_num.specs.Lists.{Each}

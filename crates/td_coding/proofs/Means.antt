@@ -1,3 +1,4 @@
+-- Cited by other crates.
 -- Lowered code does what a checked module means.
 use Rattle.std.proofs.Common.{◌≡◌, ℕ, ◌<◌, ◌^◌, List, length, Option, Some, Result, Ok, Err, IfOk, subst}
 use Rattle.td_num.specs.Lists.{AreBytes}

@@ -1,4 +1,4 @@
--- Words mean one command at most, and the number of `bench` is within its range.
+-- Words mean one command at most, and the number of `bench` is within its range. Cited by other crates.
 use Rattle.std.proofs.Common.{◌≡◌, ℕ, ◌≤◌, List, [], ◌∷◌, Option, Some, refl, sym, ap, ◌∙◌, arith}
 use Rattle.std.specs.Prelude.{if◌then◌else◌, ◌==◌}
 use Rattle.std.specs.Fmt.{decimal}

@@ -1,6 +1,5 @@
 -- The cells for a record's slots, from those that were worked out for the record.
 use Rattle.std.proofs.Common.{◌≡◌, ℕ, zero, suc, List, [], ◌∷◌, map, refl, ap, ◌∙◌}
-use Rattle.std.specs.Prelude.{Result, Ok, Err, OnOk}
 use Rattle.td_names.specs.Names.{number_of}
 use Rattle.td_rules.specs.declared.known.Slot.{Slot}
 use Rattle.td_rules.specs.declared.known.Known.{Known}
@@ -27,7 +26,3 @@ record_cells names k all p r same =
     ap (λ (x : List (List SlotCell)). map (part_cell (record { number = number_of names p })) (parts_at x r)) same
     ∙ ap (λ (x : List SlotCell). map (part_cell (record { number = number_of names p })) x) (parts_of names k k.records r)
     ∙ cells_of_parts names p (slots_at k r)
-
-pub on_ok : {T E P Q : Type 0} (r : Result T E) → (P → Q) → OnOk r P → OnOk r Q
-on_ok (Ok x) f p = f p
-on_ok (Err e) f p = tt

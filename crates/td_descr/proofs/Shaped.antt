@@ -2,6 +2,7 @@
 use Rattle.std.proofs.Common.{◌≡◌, ℕ, ◌<◌, ◌≤◌, ◌^◌, Bool, true, false, ◌&&◌, List, [], ◌∷◌, ◌++◌, slice_get, slice_index, slice_set, Option, Some, None, refl, sym, ap, ◌∙◌, subst, arith}
 use Rattle.std.specs.Prelude.{ℤ, pos, ◌-ℤ◌, int_lt}
 use Rattle.std.proofs.lemmas.Bool.{eqb-true, false≢true}
+use Rattle.td_num.proofs.Truths.{both_true}
 use Rattle.td_num.specs.declared.number.NumberType.{NumberType}
 use Rattle.td_num.specs.declared.number.Width.{Width}
 use Rattle.td_num.specs.declared.number.Width.TheVariants.{One, Two, Four, Eight}
@@ -31,10 +32,6 @@ use Rattle.td_meaning.specs.Meaning.{acted, ended}
 use Rattle.td_descr.specs.Format.{any_field}
 use Rattle.td_descr.specs.Shape.{is_level, is_rest, is_left, is_up_to, is_fit, is_done, is_delivery, delivered, undone, untested, is_four, is_two, is_little, holds, whole, alone, is_number, are_fields, is_struct, is_only, is_first, are_params, are_cells, ShapeFits}
 
-pub and_both : (x y : Bool) → (x && y) ≡ true → (x ≡ true) × (y ≡ true)
-and_both true y h = (refl, h)
-and_both false y h = absurd (false≢true h)
-
 -- ---- values
 abbrev at : List ℕ → ℕ → ℤ
 at env level = pos (slice_index env level)
@@ -53,7 +50,7 @@ level_value level (range_okay s o a) env h = absurd (false≢true h)
 
 rest_value : (e : Term) (env : List ℕ) → is_rest e ≡ true → value_of e env ≡ at env 0 -ℤ at env 2
 rest_value (compute Minus sp a b) env h =
-    let both = and_both (is_level 0 a) (is_level 2 b) h in
+    let both = both_true (is_level 0 a) (is_level 2 b) h in
     let x = level_value 0 a env both.0 in
     let y = level_value 2 b env both.1 in
     λ i. x i -ℤ y i
@@ -78,7 +75,7 @@ rest_value (range_okay s o a) env h = absurd (false≢true h)
 
 pub up_to_value : (one other : ℕ) (e : Term) (env : List ℕ) → is_up_to one other e ≡ true → value_of e env ≡ number_of (flip (int_lt (at env other) (at env one)))
 up_to_value one other (compare LessEqual a b) env h =
-    let both = and_both (is_level one a) (is_level other b) h in
+    let both = both_true (is_level one a) (is_level other b) h in
     let x = level_value one a env both.0 in
     let y = level_value other b env both.1 in
     λ i. number_of (flip (int_lt (y i) (x i)))
@@ -99,7 +96,7 @@ up_to_value one other (range_okay s o a) env h = absurd (false≢true h)
 
 left_value : (e : Term) (env : List ℕ) → is_left e ≡ true → value_of e env ≡ number_of (flip (int_lt (at env 0 -ℤ at env 2) (at env 3)))
 left_value (compare LessEqual a b) env h =
-    let both = and_both (is_level 3 a) (is_rest b) h in
+    let both = both_true (is_level 3 a) (is_rest b) h in
     let x = level_value 3 a env both.0 in
     let y = rest_value b env both.1 in
     λ i. number_of (flip (int_lt (y i) (x i)))
@@ -121,7 +118,7 @@ left_value (range_okay s o a) env h = absurd (false≢true h)
 pub fit_value : (e : Term) (env : List ℕ) → is_fit e ≡ true
     → value_of e env ≡ both_of (number_of (flip (int_lt (at env 0 -ℤ at env 2) (at env 3)))) (number_of (flip (int_lt (at env 1) (at env 3))))
 fit_value (both a b) env h =
-    let two = and_both (is_left a) (is_up_to 3 1 b) h in
+    let two = both_true (is_left a) (is_up_to 3 1 b) h in
     let x = left_value a env two.0 in
     let y = up_to_value 3 1 b env two.1 in
     λ i. both_of (x i) (y i)
@@ -147,8 +144,8 @@ done_is give_up h = absurd (false≢true h)
 delivery_is : (cell level : ℕ) (d : Deed) (env places cells : List ℕ) → is_delivery cell level d ≡ true
     → doing d env places cells ≡ On (slice_set cells (slice_index places cell) (slice_index env level))
 delivery_is cell level (set c e then) env places cells h =
-    let first = and_both _ _ h in
-    let rest = and_both (is_level level e) (is_done then) first.1 in
+    let first = both_true _ _ h in
+    let rest = both_true (is_level level e) (is_done then) first.1 in
     let same = eqb-true c cell first.0 in
     let value = level_value level e env rest.0 in
     ap (λ d. doing d env places (slice_set cells (slice_index places c) (natural (value_of e env)))) (done_is then rest.1)
@@ -190,7 +187,7 @@ little w = record { width = w; order = LittleEndian }
 
 holds_is : (w : Width) (width : Width → Bool) → ((x : Width) → width x ≡ true → x ≡ w) → (e : Element) (x : Extent) → holds width e x ≡ true → (e ≡ element.Number (little w)) × (x ≡ Once)
 holds_is w width is (element.Number t) Once h =
-    let both = and_both (width t.width) (is_little t.order) h in
+    let both = both_true (width t.width) (is_little t.order) h in
     let a = is t.width both.0 in
     let b = little_is t.order both.1 in
     (λ i. element.Number (record { width = a i; order = b i }), refl)
@@ -209,13 +206,13 @@ whole_is (Some bits) h = absurd (false≢true h)
 
 alone_is : (is : Part → Bool) (parts : List Part) → alone is parts ≡ true → (p : Part) × (parts ≡ p ∷ []) × (p.bits ≡ None) × (is p ≡ true)
 alone_is is [] h = absurd (false≢true h)
-alone_is is (p ∷ []) h = let both = and_both (whole p.bits) (is p) h in (p, refl, whole_is p.bits both.0, both.1)
+alone_is is (p ∷ []) h = let both = both_true (whole p.bits) (is p) h in (p, refl, whole_is p.bits both.0, both.1)
 alone_is is (p ∷ q ∷ parts) h = absurd (false≢true h)
 
 pub number_is : (w : Width) (width : Width → Bool) → ((x : Width) → width x ≡ true → x ≡ w) → (is : Part → Bool) (f : Field) → is_number width is f ≡ true
     → (p : Part) × (f ≡ any_field w p.name f.place p.refinement p.action) × (is p ≡ true)
 number_is w width only is f h =
-    let both = and_both (holds width f.element f.extent) (alone is f.parts) h in
+    let both = both_true (holds width f.element f.extent) (alone is f.parts) h in
     let e = holds_is w width only f.element f.extent both.0 in
     let a = alone_is is f.parts both.1 in
     let parts = a.1 ∙ ap (λ (bits : Option Bits). record a.0 { bits = bits } ∷ []) a.2 in
@@ -236,8 +233,8 @@ plain_struct d fields = record d { guard = None; body = Struct fields }
 pub only_is : (definitions : List TypeDef) → is_only definitions ≡ true → (d : TypeDef) × (fields : List Field) × (definitions ≡ plain_struct d fields ∷ []) × (are_fields fields ≡ true)
 only_is [] h = absurd (false≢true h)
 only_is (d ∷ []) h =
-    let outer = and_both (untested d.guard && is_struct d.body) (are_params d.params && are_cells d.cells) h in
-    let both = and_both (untested d.guard) (is_struct d.body) outer.0 in
+    let outer = both_true (untested d.guard && is_struct d.body) (are_params d.params && are_cells d.cells) h in
+    let both = both_true (untested d.guard) (is_struct d.body) outer.0 in
     let s = struct_is d.body both.1 in
     let g = untested_is d.guard both.0 in
     (d, s.0, (λ i. record d { guard = g i; body = s.1 i } ∷ []), s.2)
@@ -258,7 +255,7 @@ params_fit : (params : List Param) (room most : ℕ) → are_params params ≡ t
 params_fit [] room most h a b = absurd (false≢true h)
 params_fit (p ∷ []) room most h a b = absurd (false≢true h)
 params_fit (p ∷ q ∷ []) room most h a b =
-    let both = and_both (is_four p.width) (is_four q.width) h in
+    let both = both_true (is_four p.width) (is_four q.width) h in
     (four_fits p.width room both.0 a, (four_fits q.width most both.1 b, tt))
 params_fit (p ∷ q ∷ r ∷ params) room most h a b = absurd (false≢true h)
 
@@ -275,12 +272,12 @@ FitAt d room most = AllFit (params_at d) (room ∷ most ∷ []) × AllFit (cells
 fit_at : (definitions : List TypeDef) (room most : ℕ) → is_only definitions ≡ true → room < 2 ^ 32 → most < 2 ^ 32 → FitAt (slice_get definitions 0) room most
 fit_at [] room most h a b = absurd (false≢true h)
 fit_at (d ∷ []) room most h a b =
-    let outer = and_both (untested d.guard && is_struct d.body) (are_params d.params && are_cells d.cells) h in
-    let both = and_both (are_params d.params) (are_cells d.cells) outer.1 in
+    let outer = both_true (untested d.guard && is_struct d.body) (are_params d.params && are_cells d.cells) h in
+    let both = both_true (are_params d.params) (are_cells d.cells) outer.1 in
     (params_fit d.params room most both.0 a b, cells_fit d.cells both.1)
 fit_at (d ∷ e ∷ definitions) room most h a b = absurd (false≢true h)
 
 pub shape_fits : ShapeFits
 shape_fits m h room most a b =
-    let both = and_both (is_first m.entries) (is_only m.definitions) h in
+    let both = both_true (is_first m.entries) (is_only m.definitions) h in
     subst (λ (e : Option ℕ). FitAt (definition_at m e) room most) (sym (first_is m.entries both.0)) (fit_at m.definitions room most both.1 a b)

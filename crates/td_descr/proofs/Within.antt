@@ -2,6 +2,7 @@
 use Rattle.std.proofs.Common.{◌≡◌, ℕ, ◌+◌, ◌-◌, ◌≤◌, ◌<◌, ◌^◌, Bool, true, false, List, [], ◌∷◌, ◌++◌, length, nat_le, Option, Some, None, refl, sym, ap, ◌∙◌, subst, arith}
 use Rattle.std.specs.Prelude.{pos, ◌-ℤ◌, int_lt}
 use Rattle.std.proofs.lemmas.Bool.{ltb-false, false≢true}
+use Rattle.td_num.proofs.Truths.{both_true}
 use Rattle.td_num.specs.Numbers.{bytes_in, number_at, places_from}
 use Rattle.td_num.specs.Lists.{AreBytes}
 use Rattle.td_num.specs.declared.number.NumberType.{NumberType}
@@ -28,7 +29,7 @@ use Rattle.td_descr.specs.Ring.{desc_args, desc_cells, AreWithin}
 use Rattle.td_descr.specs.Format.{any_field, ring_module}
 use Rattle.td_descr.specs.Shape.{is_up_to, is_none, is_fit, tested, untested, delivered, undone, is_four, is_two, is_place, is_size, is_id, is_flags, is_reserved, is_number, are_fields, is_only, is_first, ShapeAcceptsWithin}
 use Rattle.td_descr.specs.Laws.{IsWorkedRing, DescriptorsLieWithin}
-use Rattle.td_descr.proofs.Shaped.{and_both, up_to_value, fit_value, delivered_is, undone_is, four_is, two_is, number_is, plain_struct, only_is, first_is}
+use Rattle.td_descr.proofs.Shaped.{up_to_value, fit_value, delivered_is, undone_is, four_is, two_is, number_is, plain_struct, only_is, first_is}
 
 pub worked : IsWorkedRing
 unfolding below fields_meaning parts_meaning
@@ -90,10 +91,10 @@ module _ (sets : List (List ℕ)) (senses : ℕ → Sense) (ty : NameId) (places
 up_to : (x y : ℕ) → truth_of (number_of (flip (int_lt (pos y) (pos x)))) ≡ true → x ≤ y
 up_to x y h = ltb-false y x (flip_true (int_lt (pos y) (pos x)) (sym (truth_number (flip (int_lt (pos y) (pos x)))) ∙ h))
 
-both_true : (x y : Bool) → truth_of (number_of (chosen x y false)) ≡ true → (x ≡ true) × (y ≡ true)
-both_true true true h = (refl, refl)
-both_true true false h = (refl, h)
-both_true false y h = (h, absurd (false≢true h))
+both_tested : (x y : Bool) → truth_of (number_of (chosen x y false)) ≡ true → (x ≡ true) × (y ≡ true)
+both_tested true true h = (refl, refl)
+both_tested true false h = (refl, h)
+both_tested false y h = (h, absurd (false≢true h))
 
 two_bytes : (b : List ℕ) (p : ℕ) → AreBytes b → number_at (little Two) b p < 2 ^ 16
 two_bytes b p bytes = let x = bytes p in let y = bytes (p + 1) in omega (arith, x, y)
@@ -109,7 +110,7 @@ size_means : (e : Option Term) (room most place size : ℕ) → place ≤ room �
 size_means None room most place size in_room h met = absurd (false≢true h)
 size_means (Some e) room most place size in_room h met =
     let true_now = ap truth_of (sym (fit_value e (room ∷ most ∷ place ∷ size ∷ []) h)) ∙ met in
-    let two = both_true (truth_of (number_of (flip (int_lt (pos room -ℤ pos place) (pos size))))) (truth_of (number_of (flip (int_lt (pos most) (pos size))))) true_now in
+    let two = both_tested (truth_of (number_of (flip (int_lt (pos room -ℤ pos place) (pos size))))) (truth_of (number_of (flip (int_lt (pos most) (pos size))))) true_now in
     (up_to size (room - place) (subst (λ z. truth_of (number_of (flip (int_lt z (pos size)))) ≡ true) (minus_is room place in_room) two.0), up_to size most two.1)
 
 fields_lie : (sets : List (List ℕ)) (senses : ℕ → Sense) (ty : NameId) (room most : ℕ) (b : List ℕ) → AreBytes b → (fields : List Field) → are_fields fields ≡ true
@@ -128,10 +129,10 @@ fields_lie sets senses ty room most b bytes (f ∷ g ∷ k ∷ l ∷ m ∷ []) h
     let size = number_at (little Four) b 4 in
     let number = number_at (little Two) b 8 in
     let flags = number_at (little Two) b 10 in
-    let h1 = and_both (is_number is_four is_place f) _ h in
-    let h2 = and_both (is_number is_four is_size g) _ h1.1 in
-    let h3 = and_both (is_number is_two is_id k) _ h2.1 in
-    let h4 = and_both (is_number is_two is_flags l) _ h3.1 in
+    let h1 = both_true (is_number is_four is_place f) _ h in
+    let h2 = both_true (is_number is_four is_size g) _ h1.1 in
+    let h3 = both_true (is_number is_two is_id k) _ h2.1 in
+    let h4 = both_true (is_number is_two is_flags l) _ h3.1 in
     let n1 = number_is Four is_four four_is is_place f h1.0 in
     let n2 = number_is Four is_four four_is is_size g h2.0 in
     let n3 = number_is Two is_two two_is is_id k h3.0 in
@@ -142,11 +143,11 @@ fields_lie sets senses ty room most b bytes (f ∷ g ∷ k ∷ l ∷ m ∷ []) h
     let p3 = n3.0 in
     let p4 = n4.0 in
     let p5 = n5.0 in
-    let t1 = and_both (tested (is_up_to 2 0) p1.refinement) (delivered 0 2 p1.action) n1.2 in
-    let t2 = and_both (tested is_fit p2.refinement) (delivered 1 3 p2.action) n2.2 in
-    let t3 = and_both (untested p3.refinement) (delivered 2 4 p3.action) n3.2 in
-    let t4 = and_both (tested is_none p4.refinement) (undone p4.action) n4.2 in
-    let t5 = and_both (untested p5.refinement) (undone p5.action) n5.2 in
+    let t1 = both_true (tested (is_up_to 2 0) p1.refinement) (delivered 0 2 p1.action) n1.2 in
+    let t2 = both_true (tested is_fit p2.refinement) (delivered 1 3 p2.action) n2.2 in
+    let t3 = both_true (untested p3.refinement) (delivered 2 4 p3.action) n3.2 in
+    let t4 = both_true (tested is_none p4.refinement) (undone p4.action) n4.2 in
+    let t5 = both_true (untested p5.refinement) (undone p5.action) n5.2 in
     let f5 = any_field Four p5.name m.place p5.refinement p5.action in
     let f4 = any_field Two p4.name l.place p4.refinement p4.action in
     let f3 = any_field Two p3.name k.place p3.refinement p3.action in
@@ -181,7 +182,7 @@ Lies listed room most b definitions entry =
 pub shaped : ShapeAcceptsWithin
 unfolding below fields_meaning
 shaped m h room most b bytes =
-    let both = and_both (is_first m.entries) (is_only m.definitions) h in
+    let both = both_true (is_first m.entries) (is_only m.definitions) h in
     let d = only_is m.definitions both.1 in
     subst (λ (x : List TypeDef × Option ℕ). Lies m.listed room most b x.0 x.1) (λ i. (sym d.2 i, sym (first_is m.entries both.0) i))
     (let here : Lies m.listed room most b (plain_struct d.0 d.1 ∷ []) (Some 0) = fields_lie m.listed (below m.listed (plain_struct d.0 d.1 ∷ []) 0) d.0.name room most b bytes d.1 d.3 in here)

@@ -1,4 +1,4 @@
--- Code that is written behind code.
+-- Code that is written behind code. Cited by other crates.
 use Rattle.std.proofs.Common.{◌≡◌, ℕ, ◌+◌, ◌<◌, ◌≤◌, List, [], ◌∷◌, ◌++◌, Bool, false, length, slice_set, refl, sym, ap, ◌∙◌, arith, append_assoc, append-nil, length-append, take}
 use Rattle.td_ir.specs.declared.instructions.Instr.{Instr}
 use Rattle.td_ir.specs.declared.instructions.Instr.TheVariants as i

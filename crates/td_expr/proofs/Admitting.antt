@@ -1,4 +1,4 @@
--- Where no operator is named, each is safe.
+-- Where no operator is named, each is safe. Cited by other crates.
 use Rattle.std.proofs.Common.{◌≡◌, Bool, true, false, refl, sym, List, ◌++◌, Option, Some, None}
 use Rattle.std.proofs.lemmas.Option.{none-some}
 use Rattle.td_expr.specs.declared.safety.Unsafe.{Unsafe}

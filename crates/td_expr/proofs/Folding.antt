@@ -1,4 +1,4 @@
--- Constant parts have their values in each environment, and expressions that are the same have one type and one value.
+-- Constant parts have their values in each environment, and expressions that are the same have one type and one value. Cited by other crates.
 use Rattle.std.proofs.Common.{◌≡◌, ℕ, Bool, true, false, cond, refl, sym, ap, subst, ◌∙◌, List, ℤ, pos, negsuc, Option, Some, None}
 use Rattle.std.specs.Prelude.{◌&&◌, nat_eq, nat_lt}
 use Rattle.std.specs.Prelude.{slice_index}

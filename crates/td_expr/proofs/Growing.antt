@@ -1,4 +1,4 @@
--- What holds of the values in scope holds when more values come into scope.
+-- What holds of the values in scope holds when more values come into scope. Cited by other crates.
 use Rattle.std.proofs.Common.{◌≡◌, ℕ, Bool, true, false, refl, sym, ap, subst, ◌∙◌, List, [], ◌∷◌, ◌++◌, length, pos}
 use Rattle.std.proofs.lemmas.List.{get_or_append_left}
 use Rattle.td_num.proofs.Equals.{three_same, two_same}

@@ -1,4 +1,4 @@
--- The facts of a condition that was evaluated hold, and they cut ranges that contain the value.
+-- The facts of a condition that was evaluated hold, and they cut ranges that contain the value. Cited by other crates.
 use Rattle.std.proofs.Common.{◌≡◌, ℕ, ◌<◌, ◌≤◌, Bool, true, false, ltb, refl, sym, ap, subst, ◌∙◌, inl, inr, arith, List, [], ◌∷◌, ◌++◌, ℤ, pos, negsuc}
 use Rattle.std.specs.Prelude.{◌-ℤ◌}
 use Rattle.std.proofs.lemmas.Bool.{ltb-false, false≢true, true≢false, or_cases}

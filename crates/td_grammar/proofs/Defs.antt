@@ -1,4 +1,4 @@
--- Definitions are exact and unambiguous.
+-- Definitions are exact and unambiguous. Cited by other crates.
 use Rattle.std.proofs.Common.{refl}
 use Rattle.td_ast.specs.declared.token.TokenKind.TheVariants as kinds
 use Rattle.td_grammar.specs.Sets.{only}

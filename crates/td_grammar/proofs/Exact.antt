@@ -1,4 +1,4 @@
--- What holds of a production that one token ahead decides.
+-- What holds of a production that one token ahead decides. Cited by other crates.
 use Rattle.std.proofs.Common.{◌≡◌, true, List, [], ◌∷◌, ◌++◌, length, ◌<◌, sym, ap, subst, ◌∙◌, append_assoc, ◌⊎◌}
 use Rattle.td_ast.specs.declared.token.Token.{Token}
 use Rattle.td_ast.specs.Kinds.{number_of_kind}

@@ -1,4 +1,4 @@
--- The levels of expressions are exact.
+-- The levels of expressions are exact. Cited by other crates.
 use Rattle.std.proofs.Common.{◌≡◌, ℕ, true, false, List, [], Option, Some, refl}
 use Rattle.td_ast.specs.declared.token.Span.{Span}
 use Rattle.td_ast.specs.declared.token.TokenKind.{TokenKind}

@@ -1,4 +1,4 @@
--- A list whose elements are parted by one kind of token, which may also stand after the last.
+-- A list whose elements are parted by one kind of token, which may also stand after the last. Cited by other crates.
 use Rattle.std.proofs.Common.{◌≡◌, ℕ, zero, suc, ◌≤◌, ◌<◌, Bool, true, false, cond, List, [], ◌∷◌, ◌++◌, length, refl, sym, ap, subst, ◌∙◌, append_assoc, arith, ◌⊎◌, inl, inr}
 use Rattle.std.proofs.lemmas.List.{append-nil, length-append}
 use Rattle.td_ast.specs.declared.token.Token.{Token}

@@ -1,4 +1,4 @@
--- What passes a depth of n within an expression has more than n counted tokens before it, itself among them.
+-- What passes a depth of n within an expression has more than n counted tokens before it, itself among them. Cited by other crates.
 use Rattle.std.proofs.Common.{◌≡◌, ℕ, zero, suc, ◌+◌, ◌≤◌, ◌<◌, Bool, true, false, cond, List, [], ◌∷◌, ◌++◌, refl, inl, inr, arith, ap}
 use Rattle.td_ast.specs.declared.token.Token.{Token}
 use Rattle.td_ast.specs.declared.token.Span.{Span}

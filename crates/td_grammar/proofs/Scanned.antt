@@ -1,4 +1,4 @@
--- The scan finds the token that is one too many, and nothing else.
+-- The scan finds the token that is one too many, and nothing else. Cited by other crates.
 use Rattle.std.proofs.Common.{◌≡◌, ℕ, zero, suc, ◌+◌, Bool, true, false, cond, eqb, List, [], ◌∷◌, ◌++◌, Option, Some, None, refl, sym, ap, ◌∙◌, inl, inr, arith}
 use Rattle.std.proofs.lemmas.Bool.{eqb-true}
 use Rattle.td_ast.specs.declared.token.Token.{Token}

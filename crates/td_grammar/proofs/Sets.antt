@@ -1,4 +1,4 @@
--- Sets of kinds that have nothing in common, and sets within others.
+-- Sets of kinds that have nothing in common, and sets within others. Cited by other crates.
 use Rattle.std.proofs.Common.{ℕ, Bool, true, false, List, [], ◌∷◌, if◌then◌else◌}
 use Rattle.td_grammar.specs.Sets.{member}
 

@@ -1,4 +1,4 @@
--- Productions that name themselves: what they say of one nested to some depth is what is said of them.
+-- Productions that name themselves: what they say of one nested to some depth is what is said of them. Cited by other crates.
 use Rattle.std.proofs.Common.{◌≡◌, ℕ, zero, suc, ◌+◌, ◌-◌, max, ◌≤◌, List, [], ◌∷◌, Option, Some, None, subst, inl, inr, arith}
 use Rattle.td_ast.specs.declared.token.Token.{Token}
 use Rattle.td_grammar.specs.Spelling.{SpellsBoth, SpellsMade, SpellsMaybe, SpellsAll, SpellsEither, NestedBelow, SpellsNested}

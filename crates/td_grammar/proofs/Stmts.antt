@@ -1,4 +1,4 @@
--- Statements and actions are exact.
+-- Statements and actions are exact. Cited by other crates.
 use Rattle.std.proofs.Common.{◌≡◌, ℕ, zero, suc, true, List, [], ◌∷◌, Some, refl}
 use Rattle.td_ast.specs.declared.token.Token.{Token}
 use Rattle.td_ast.specs.declared.token.Span.{Span}

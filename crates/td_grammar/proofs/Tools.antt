@@ -1,4 +1,4 @@
--- Lists of tokens, sets of kinds, and outcomes.
+-- Lists of tokens, sets of kinds, and outcomes. Cited by other crates.
 use Rattle.std.proofs.Common.{◌≡◌, ℕ, Bool, true, false, cond, eqb, eq-eqb, List, [], ◌∷◌, ◌++◌, refl, sym, append_assoc, ◌⊎◌, inl, inr}
 use Rattle.std.proofs.lemmas.Bool.{eqb-true, false_from_ne_true}
 use Rattle.std.proofs.lemmas.List.{append_cancel_right}

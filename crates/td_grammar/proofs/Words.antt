@@ -1,4 +1,4 @@
--- Productions of one token are exact.
+-- Productions of one token are exact. Cited by other crates.
 use Rattle.std.proofs.Common.{◌≡◌, ℕ, Bool, true, false, cond, List, [], ◌∷◌, Option, Some, None, refl, sym}
 use Rattle.std.proofs.lemmas.Bool.{eqb-true}
 use Rattle.td_num.specs.declared.number.Width.TheVariants as widths

@@ -1,4 +1,4 @@
--- Where routines begin.
+-- Where routines begin. Cited by other crates.
 use Rattle.std.proofs.Common.{◌≡◌, ℕ, zero, suc, ◌+◌, ◌-◌, ◌≤◌, List, [], ◌∷◌, map, refl, sym, ap, subst, arith, slice_index, slice_index_or}
 use Rattle.td_ir.specs.declared.tables.Parts.{Parts}
 use Rattle.td_ir.specs.declared.tables.Routine.{Routine}

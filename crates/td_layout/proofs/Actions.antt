@@ -14,22 +14,13 @@ use Rattle.td_grammar.specs.Grammar.{spelled_by}
 use Rattle.td_grammar.specs.Tokens.{word}
 use Rattle.td_grammar.specs.Actions.{assigned, if_of, braced_of, statement_body, SpellsStatement, action_of, action_kinds, action}
 use Rattle.td_grammar.proofs.Steady.{IsSteady, steady_self, steady_other, steady_both, steady_made, steady_maybe, steady_all, steady_either, nested_in}
+use Rattle.td_grammar.proofs.Stmts.{steady_statement}
 use Rattle.td_joined.specs.Pieces.{Word}
 use Rattle.td_layout.specs.Actions.{assigned_pieces, in_braces, statement_pieces, block_pieces, action_kind, statement_after, action_pieces}
 use Rattle.td_layout.specs.Unspanned.{unspanned_expression, unspanned_assigned, unspanned_statement, unspanned_block, unspanned_action}
 use Rattle.td_layout.proofs.Back.{Back, under, blank, both, made, left, right, alone, some, nil, more, good, list_back}
 use Rattle.td_layout.proofs.Words.{terminal_back, name_back, word_back}
 use Rattle.td_layout.proofs.Expressions.{expression_back}
-
-steady_braced : IsSteady (λ P. (braced_of (spelled_by P)).Spells)
-steady_braced = steady_made _ (steady_both (steady_other _) (steady_both (steady_all steady_self) (steady_other _)))
-
-pub steady_statement : IsSteady statement_body
-steady_statement =
-    steady_either (steady_other _) (steady_either (steady_other _) (steady_either (steady_other _)
-    (steady_either
-    (steady_made _ (steady_both (steady_other _) (steady_both (steady_other _) (steady_both (steady_other _) (steady_both (steady_other _) (steady_both steady_braced (steady_maybe (steady_made _ (steady_both (steady_other _) steady_braced)))))))))
-    (steady_either (steady_other _) (steady_other _)))))
 
 assigned_back : (a : Assigned) → Back assigned.Spells (assigned_pieces a) (λ r. unspanned_assigned r ≡ unspanned_assigned a)
 unfolding assigned

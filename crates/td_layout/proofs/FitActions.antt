@@ -17,7 +17,7 @@ use Rattle.td_grammar.specs.declared.limits.TheConstants.{BRACES}
 use Rattle.td_grammar.specs.Actions.{assigned, if_of, statement_from, braced_of, statement_body, SpellsStatement, statement_within, statement, action}
 use Rattle.td_grammar.proofs.Steady.{nested_out}
 use Rattle.td_grammar.proofs.Words.{terminal_known}
-use Rattle.td_layout.proofs.Actions.{steady_statement}
+use Rattle.td_grammar.proofs.Stmts.{steady_statement}
 use Rattle.td_layout.proofs.Light.{IsLight}
 use Rattle.td_layout.proofs.Sources.{NoPass, light}
 use Rattle.td_layout.proofs.KeptActions.{LightAssigned, FitsBy, EachIn, Fits, FitsAction}

@@ -1,4 +1,4 @@
--- A field, and what is left after it.
+-- A field, and what is left after it. Cited by other crates.
 use Rattle.std.proofs.Common.{⊎_elim, inl, inr, arith, ◌-◌, ◌≡◌, ℕ, ◌+◌, ◌<◌, ◌≤◌, Bool, true, false, List, [], ◌∷◌, length, refl, sym, ap, ◌∙◌}
 use Rattle.std.specs.Prelude.{◌⊎◌, nat_le}
 use Rattle.std.proofs.lemmas.Bool.{leb-false}

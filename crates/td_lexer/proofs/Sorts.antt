@@ -1,4 +1,4 @@
--- Sorts of bytes exclude one another, and what the spellings of the tables have in common.
+-- Sorts of bytes exclude one another, and what the spellings of the tables have in common. Cited by other crates.
 use Rattle.std.proofs.Common.{◌≡◌, ℕ, Bool, true, false, cond, eqb, List, [], ◌∷◌, Option, Some, None, refl, arith}
 use Rattle.std.specs.Prelude.{◌&&◌, not, bytes_eq, ◌⊎◌}
 use Rattle.std.proofs.Common.{inl, inr}

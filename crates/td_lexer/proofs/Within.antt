@@ -1,4 +1,4 @@
--- A lexeme is within the bytes.
+-- A lexeme is within the bytes. Cited by other crates.
 use Rattle.std.proofs.Common.{◌≡◌, ℕ, suc, ◌+◌, ◌≤◌, ◌<◌, Bool, true, false, cond, eqb, ltb, ◌^◌, List, [], ◌∷◌, length, take, drop, Option, Some, None, refl, arith, length-drop, length-take}
 use Rattle.std.specs.Prelude.{IfSome, ◌&&◌}
 use Rattle.std.proofs.lemmas.List.Sums.{take_while-cons}

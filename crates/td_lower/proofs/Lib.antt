@@ -1,5 +1,5 @@
 pub mod Standing
-mod Tabling
+pub mod Tabling
 pub mod Places
 pub mod Codes
 mod Rising

@@ -1,4 +1,4 @@
--- Where the routines of a module begin, and what stands there.
+-- Where the routines of a module begin, and what stands there. Cited by other crates.
 use Rattle.std.proofs.Common.{◌≡◌, ℕ, zero, suc, ◌+◌, ◌-◌, ◌<◌, ◌≤◌, List, [], ◌∷◌, ◌++◌, length, slice_index_or, slice_get, Option, Some, None, refl, sym, ap, subst, ◌∙◌, arith, length-append, append_assoc, append-nil}
 use Rattle.td_core.specs.declared.module.TypeDef.{TypeDef}
 use Rattle.td_ir.specs.declared.instructions.Instr.{Instr}

@@ -1,4 +1,4 @@
--- A checked module's definitions have room in the operands of instructions.
+-- A checked module's definitions have room in the operands of instructions. Cited by other crates.
 use Rattle.std.proofs.Common.{◌≡◌, ℕ, zero, suc, ◌+◌, ◌*◌, ◌≤◌, List, [], ◌∷◌, length, slice_get, Option, Some, None, subst, arith}
 use Rattle.td_core.specs.declared.module.Field.{Field}
 use Rattle.td_core.specs.declared.module.Case.{Case}

@@ -1,4 +1,4 @@
--- What arithmetic in 64 bits gives for a definition is made of those before it.
+-- What arithmetic in 64 bits gives for a definition is made of those before it. Cited by other crates.
 use Rattle.std.proofs.Common.{◌≡◌, ℕ, zero, suc, ◌<◌, ◌≤◌, List, refl, sym, ap, ◌∙◌, arith, inl, inr}
 use Rattle.std.proofs.lemmas.Bool.{eq-eqb, ne_eqb, cases_eq}
 use Rattle.std.specs.Prelude.{slice_get}

@@ -1,4 +1,4 @@
--- Facts of endings that accept.
+-- Facts of endings that accept. Cited by other crates.
 use Rattle.std.proofs.Common.{◌≡◌, ℕ, ◌+◌, ◌≤◌, Bool, true, false, List, refl, nat_le}
 use Rattle.std.proofs.lemmas.Bool.{leb-true}
 use Rattle.td_core.specs.declared.outcome.Reason.{Reason}

@@ -1,4 +1,4 @@
--- A sound expression has the value that arithmetic in 64 bits gives.
+-- A sound expression has the value that arithmetic in 64 bits gives. Cited by other crates.
 use Rattle.std.proofs.Common.{◌≡◌, ℕ, zero, suc, ◌+◌, ◌-◌, ◌*◌, ◌/◌, ◌%◌, ◌^◌, ◌<◌, min, Bool, true, false, List, refl, sym, ap, ◌∙◌, subst, arith, nat_lt, bit_and, bit_or, bit_xor, ℤ, pos}
 use Rattle.std.specs.Prelude.{◌-ℤ◌}
 use Rattle.std.proofs.lemmas.Bool.{ltb-true, ltb-false}

@@ -1,4 +1,4 @@
--- Zeros, and numbers up to a zero, turn by turn.
+-- Zeros, and numbers up to a zero, turn by turn. Cited by other crates.
 use Rattle.std.proofs.Common.{◌≡◌, ℕ, zero, suc, ◌+◌, ◌-◌, ◌*◌, ◌/◌, min, Bool, true, false, cond, Option, Some, None, List, [], ◌∷◌, ◌++◌, refl, sym, ap, ◌∙◌, arith, append_assoc}
 use Rattle.std.specs.Prelude.{nat_eq, nat_le, slice_index}
 use Rattle.std.proofs.lemmas.Bool.{false≢true}

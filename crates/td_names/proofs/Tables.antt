@@ -1,4 +1,4 @@
--- The entries of a map, by the bytes of their keys. Cited by other crates.
+-- The entries of a map, by the bytes of their keys.
 use Rattle.std.proofs.Common.{◌≡◌, ℕ, false, List, [], ◌∷◌, ◌++◌, Bool, true, Option, Some, None, is_some, if◌then◌else◌, refl, sym, ap, zero, suc, ◌+◌, length, take, ◌∙◌, subst, arith}
 use Rattle.std.specs.Str.{bytes_eq}
 use Rattle.std.specs.Ordering.{is_eq, nat_cmp}

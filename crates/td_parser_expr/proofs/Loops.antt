@@ -1,4 +1,4 @@
--- A loop that reads any number of a production fails with it.
+-- A loop that reads any number of a production fails with it. Cited by other crates.
 use Rattle.std.proofs.Common.{◌≡◌, true, false, List}
 use Rattle.td_ast.specs.declared.token.Token.{Token}
 use Rattle.td_grammar.specs.Sets.{comes}

@@ -1,4 +1,4 @@
--- What all passes and seats together posted, took and drew.
+-- What all passes and seats together posted, took and drew. Cited by other crates.
 use Rattle.std.proofs.Common.{◌≡◌, suc, List, [], ◌∷◌, length, refl, sym, ap, ◌∙◌, subst}
 use Rattle.std.specs.List.Sorted.{IsPermutation}
 use Rattle.std.proofs.lemmas.List.Sorted.{length_permutation}

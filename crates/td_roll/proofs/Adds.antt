@@ -1,4 +1,4 @@
--- A roll stays one where a part adds to its list, where a view changes in nothing that the roll sees, and where the head makes a
+-- A roll stays one where a part adds to its list, where a view changes in nothing that the roll sees, and where the head makes a. Cited by other crates.
 -- part.
 use Rattle.std.proofs.Common.{◌≡◌, ◌≢◌, ℕ, ◌+◌, List, [], ◌∷◌, ◌++◌, length, set, refl, sym, ap, ◌∙◌, subst, ⊎_elim, arith}
 use mathlib.Core.Option.{Option, none, some, some-injective, some-ne-none}

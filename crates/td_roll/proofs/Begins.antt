@@ -1,4 +1,4 @@
--- Rolls of one view.
+-- Rolls of one view. Cited by other crates.
 use Rattle.std.proofs.Common.{◌≡◌, [], ◌∷◌, refl, sym, ap, ◌∙◌, subst, arith}
 use mathlib.Core.Option.{Option, none, some, some-injective, some-ne-none}
 use Rattle.td_roll.specs.declared.parts.Part.{Part}

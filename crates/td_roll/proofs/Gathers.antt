@@ -1,4 +1,4 @@
--- A roll stays one where the head gathers a part, and what it then tells of the log.
+-- A roll stays one where the head gathers a part, and what it then tells of the log. Cited by other crates.
 use Rattle.std.proofs.Common.{◌≡◌, ◌≢◌, ◌⊎◌, ℕ, ◌+◌, List, [], ◌∷◌, ◌++◌, length, set, refl, sym, ap, ◌∙◌, subst, inl, inr, ⊎_elim, arith, length-append}
 use mathlib.Core.Option.{Option, none, some, some-injective, some-ne-none}
 use mathlib.Core.Logic.{dite}

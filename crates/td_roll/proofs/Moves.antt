@@ -1,4 +1,4 @@
--- A roll stays one where the head goes to another view.
+-- A roll stays one where the head goes to another view. Cited by other crates.
 use Rattle.std.proofs.Common.{◌≡◌, ◌≢◌, ℕ, List, [], ◌∷◌, ◌++◌, length, set, refl, sym, ap, ◌∙◌, ⊎_elim, arith}
 use mathlib.Core.Option.{Option, none, some, some-injective, some-ne-none}
 use lib.ListN.{get_elem?}

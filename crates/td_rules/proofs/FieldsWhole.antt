@@ -1,4 +1,4 @@
--- The fields of a tree's module are whole: bit fields lie in their numbers, refinements stand on numbers, arrays up to a
+-- The fields of a tree's module are whole: bit fields lie in their numbers, refinements stand on numbers, arrays up to a. Cited by other crates.
 -- zero have numbers, and enums have their values.
 use Rattle.std.proofs.Common.{◌≡◌, ◌⊎◌, inl, inr, ℕ, ◌+◌, ◌-◌, ◌*◌, ◌<◌, ◌≤◌, Bool, true, false, cond, ◌&&◌, if◌then◌else◌, List, [], ◌∷◌, ◌++◌, length, refl, sym, ap, ◌∙◌, subst, arith, Option, Some, None, is_some, nat_le, nat_lt, nat_eq, slice_get, length-append}
 use Rattle.std.proofs.lemmas.Bool.{leb-true, ltb-true, and_parts}

@@ -1,4 +1,4 @@
--- Each field of a tree's module has a part, and each entry point a definition.
+-- Each field of a tree's module has a part, and each entry point a definition. Cited by other crates.
 use Rattle.std.proofs.Common.{◌≡◌, ℕ, ◌+◌, ◌<◌, ◌≤◌, Bool, true, false, cond, List, [], ◌∷◌, ◌++◌, length, refl, sym, subst, arith, Option, Some, None, length-append}
 use Rattle.td_num.specs.declared.number.NumberType.{NumberType}
 use Rattle.td_num.specs.Lists.{Each}

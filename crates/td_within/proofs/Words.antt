@@ -13,6 +13,7 @@ use Rattle.td_lexer.specs.Splits.{IsName}
 use Rattle.td_image.specs.Format.{AreBytes}
 use Rattle.td_image.specs.Names as names
 use Rattle.td_image.specs.Within.{IsSpelled, AreApart}
+use Rattle.td_lower.proofs.Tabling.{no_where, no_switch}
 use Rattle.td_within.proofs.Lists.{get_end}
 use Rattle.td_num.proofs.Lists.{each_at, each_append}
 
@@ -82,12 +83,6 @@ apart_more ns x apart new i j name e f = by (get_end ns x i name e) (get_end ns 
     by (inl a) (inr b) = absurd (new i name a (sym b.1))
     by (inr a) (inl b) = absurd (new j name b (sym a.1))
     by (inr a) (inr b) = a.0 ∙ sym b.0
-
-no_where : (name : List ℕ) → IsName name → name ≡ codes "where" → ⊥
-no_where name h e = none-some kinds.Where (sym (subst (λ n. keyword_kind n ≡ None) e h.2))
-
-no_switch : (name : List ℕ) → IsName name → name ≡ codes "switch" → ⊥
-no_switch name h e = none-some kinds.Switch (sym (subst (λ n. keyword_kind n ≡ None) e h.2))
 
 pub all_apart : (ns : List (List ℕ)) → Each IsName ns → AreApart ns → AreApart (with_two ns)
 all_apart ns words apart =

@@ -4,7 +4,8 @@ use Rattle.td_rules.specs.Parameters.{cells_of}
 use Rattle.td_declarations.specs.declared.slots.SlotCell.{SlotCell}
 use Rattle.td_declarations.specs.Heads.{with_all_cells}
 use Rattle.td_declarations.specs.Slots.{part_cell}
-use Rattle.td_declarations.proofs.Cells.{record_cells, on_ok}
+use Rattle.td_names.proofs.Naming.{on_ok}
+use Rattle.td_declarations.proofs.Cells.{record_cells}
 use Rattle.td_declarations.proofs.parameters.push_cells.Goals as goal
 
 pub returns-in-Record : goal.returns-in-Record
