@@ -84,9 +84,16 @@ class Drawing:
         return notes, others
 
 
+def with_bytes(job, first):
+    """The job with the bytes that were written of its value, which the report's first line has."""
+    word, _, digits = first.partition(" ")
+    return {**job, "bytes": digits, "length": len(digits) // 2} if word == "bytes" else job
+
+
 def drawn(report, job):
     """The rows of the message's words, and the cells."""
-    drawing, lines = Drawing(job), report.splitlines()
+    lines = report.splitlines()
+    drawing = Drawing(with_bytes(job, lines[0]))
     loads = [line.split()[1:] for line in lines if line.startswith("load ")]
     order = {}
     for number, (*words, value) in enumerate(loads):

@@ -1,9 +1,10 @@
-"""A message field by field: the second reading's run, which keeps a row for each field that it reaches."""
+"""A message field by field: the second reading's run, which keeps a row for each field that it reaches; and the job of the value that spells it."""
 
 from types import SimpleNamespace as Row
 
-from reference import runs
+from reference import answers, runs
 from reference.scopes import bits_of
+from reference.spelled import as_json, value_that_spells
 
 # Of an array, or of what takes the rest, so many bytes are shown.
 MOST_BYTES = 12
@@ -96,14 +97,28 @@ def number_of(part, raw):
     return str(value) if value < 10 else "%d (0x%x)" % (value, value)
 
 
+def value_job(known, job, accepted, told):
+    """The job of the value that spells an accepted message, with the value's end and the message's length; else words that say why none does."""
+    number, arguments, cells = job
+    if accepted is None:
+        return "it isn't accepted"
+    value = value_that_spells(known.types, number, arguments, cells, told.bytes)
+    if value is None:
+        return "a bit is set that no bit field names"
+    made = {"entry": known.types[number].name, "args": arguments, "cells": cells, "value": as_json(value)}
+    made = {name: part for name, part in made.items() if name == "value" or (part and (name != "cells" or any(part)))}
+    return Row(job=made, end=accepted, length=told.length)
+
+
 def rows_of(known, job):
-    """The rows of a run with their notes, and its report."""
-    number, arguments, cells, layout, words, stores = job
+    """The rows of a run with their notes, its report, and the job of the value that spells the message, or why there is none."""
+    number, arguments, cells, layout, words, stores, written = job
     memory = runs.Memory(layout, words, stores)
     shown = Fields(known.types, memory)
-    frames = []
+    frames, accepted, before = [], None, list(cells)
     try:
-        verdict = "accept %d" % shown.definition(number, arguments, cells, list(range(len(cells))), 0, layout.length)
+        accepted = shown.definition(number, arguments, cells, list(range(len(cells))), 0, layout.length)
+        verdict = "accept %d" % accepted
     except runs.Rejected as failed:
         verdict = "reject %s %d" % (failed.reason, failed.position)
         frames = ["frame %s.%s %d" % frame for frame in failed.frames]
@@ -116,7 +131,8 @@ def rows_of(known, job):
     failed = [row for row in shown.rows if row.end is None]
     if failed:
         failed[-1].note = ("%s  <-- it failed here" % failed[-1].note).strip()
-    return shown.rows, "".join(line + "\n" for line in lines) + memory.lines()
+    value = value_job(known, (number, arguments, before), accepted, told)
+    return shown.rows, answers.written_line(written) + "".join(line + "\n" for line in lines) + memory.lines(), value
 
 
 def left_of(row):

@@ -8,12 +8,14 @@ NAME = r"[A-Za-z_][A-Za-z0-9_]*"
 SITE = re.compile(r"(%s)\.(%s)" % (NAME, NAME))
 CELL = re.compile(r"%s(\.%s)?" % (NAME, NAME))
 VALUE = re.compile(r"[0-9a-f]{16}")
+BYTES = re.compile(r"([0-9a-f]{2})+")
 MOST_STRETCHES = 64
+MOST_SWAPS = 16
 REASONS = ("notenough", "constraint", "impossible", "listsize", "action", "padding")
 MODULE_ERROR = re.compile(r"error ([A-Z][0-9]) ([0-9]+):([0-9]+) (.+)")
 INPUT_ERROR = re.compile(r"error (Z[0-9]) (.+)")
 # A name in a job is printed raw, and may have line feeds or be empty.
-JOB_ERROR = re.compile(r"error (J[0-9])(?: (.*))?", re.DOTALL)
+JOB_ERROR = re.compile(r"error (J[0-9]+)(?: (.*))?", re.DOTALL)
 OTHER_ERROR = re.compile(r"error (read|memory)")
 COUNTS = re.compile(r"ok definitions ([0-9]+) entries ([0-9]+)")
 
@@ -49,6 +51,16 @@ class Lines:
 
     def wrong(self, words):
         raise NoReport(self.at, words)
+
+
+def bytes_of(lines):
+    """The bytes that were written of a value; nothing where the message is of none."""
+    words = lines.words("bytes", 0, 1)
+    if words is None:
+        return {}
+    if words and not BYTES.fullmatch(words[0]):
+        lines.wrong("`%s` isn't lower-case hexadecimal digits, two for each byte" % words[0])
+    return {"bytes": "".join(words)}
 
 
 def verdict_of(lines):
@@ -106,15 +118,28 @@ def loads_of(lines):
     return found
 
 
-def run_of(lines):
+def run_of(lines, written={}):
     """The lines of one run."""
-    run = verdict_of(lines)
+    run = {**written, **verdict_of(lines)}
     frames = frames_of(lines)
     if (run["verdict"] == "reject") != bool(frames):
         raise NoReport(lines.at + 1, "a rejection has frames, and nothing else has")
     if frames:
         run["frames"] = frames
     return {**run, "out": cells_of(lines), "loads": loads_of(lines)}
+
+
+def version_of(lines, before):
+    """The version that a reply is under, as a field: all replies of a report have one, or none has."""
+    words = lines.words("version", 1)
+    if before is not None and ("version" in before) != bool(words):
+        raise NoReport(lines.at + (not words), "all replies have a line `version`, or none has")
+    if not words:
+        return {}
+    version = lines.number(words[0])
+    if version > MOST_SWAPS:
+        lines.wrong("there is no version %d: at most %d, from 0" % (version, MOST_SWAPS))
+    return {"version": version}
 
 
 def replies_of(lines):
@@ -125,7 +150,8 @@ def replies_of(lines):
         now = reply["guest"], reply["number"]
         if now not in ((before[0], before[1] + 1), (max(before[0] + 1, now[0]), 1)) or now[0] > 16 or before == (0, 0) and now[1] != 1:
             lines.wrong("reply %d %d doesn't follow %d %d: replies stand by guest and number, from 1" % (now + before))
-        found.append({**reply, **run_of(lines)})
+        version = version_of(lines, found[-1] if found else None)
+        found.append({**reply, **version, **run_of(lines)})
     return found
 
 
@@ -164,7 +190,7 @@ def value_of(written):
     if lines.lines[0].startswith("reply "):
         value = {"kind": "host", "replies": replies_of(lines)}
     else:
-        value = {"kind": "run", **run_of(lines)}
+        value = {"kind": "run", **run_of(lines, bytes_of(lines))}
     if lines.at < len(lines.lines):
         raise NoReport(lines.at + 1, "this line has no place here")
     return value

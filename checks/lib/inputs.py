@@ -2,6 +2,7 @@
 
 import json
 import random
+import re
 
 NUMBER_TYPES = ["UINT%d%s" % (bits, order) for bits in (8, 16, 32, 64) for order in ("", "BE")]
 NUMBERS = [0, 1, 2, 3, 4, 7, 8, 15, 16, 100, 127, 128, 255, 256, 1000, 65535, 65536, 2**32 - 1, 2**32, 2**63, 2**64 - 1]
@@ -16,6 +17,8 @@ OTHER_VALUES = [None, 1, [], [1], {}, "a", 1.5, -1, 2**64, True, [[0, 0]], [[0, 
 class Maker:
     def __init__(self, seed):
         self.random = random.Random(seed)
+        # Values are drawn apart, so that modules stay as they are without them.
+        self.drawn = random.Random("values of %d" % seed)
 
     def chance(self, share):
         return self.random.random() < share
@@ -317,11 +320,33 @@ class Maker:
             job[name] = self.pick(OTHER_VALUES)
         if self.chance(0.03):
             job["length"] = self.pick([count + 1, 2**32 + count, 2**64 - 1, count])
+        if self.drawn.random() < 0.08:
+            job = self.with_value(job)
         text = json.dumps(job, ensure_ascii=self.chance(0.5))
         if self.chance(0.03):
             place = self.random.randrange(len(text))
             text = text[:place] + self.pick(["", "}", '"', ",", "[", " ", "x", "\n"]) + text[place + 1 :]
         return text
+
+    def json_value(self, depth=0):
+        """A part of a job's value, nearly always one that some type may have."""
+        roll = self.drawn.random()
+        if roll < 0.02:
+            return self.drawn.choice([True, {}, -1, 1.5, 2**64, "0", "0g"])
+        if roll < 0.6:
+            return self.drawn.choice([0, 0, 1, 2, 3, 4, 7, 255, 256, 65536, 2**32, 2**64 - 1])
+        if roll < 0.8 or depth > 3:
+            return self.drawn.choice(["", "", "00", "aB", "0001", "ff" * 3, "00" * 8, None, None])
+        return [self.json_value(depth + 1) for _ in range(self.drawn.choice([0, 1, 1, 2, 2, 3, 4]))]
+
+    def with_value(self, job):
+        """A job with a value in the place of what says where its message lies; some of that stays now and then."""
+        stays = self.drawn.choice(["bytes", "length", "stretches"]) if self.drawn.random() < 0.05 else None
+        kept = {name: part for name, part in job.items() if name not in ("bytes", "length", "stretches") or name == stays}
+        listed = [self.json_value(1) for _ in range(self.drawn.choice([1, 1, 1, 2, 2, 3, 4, 5]))]
+        if self.drawn.random() < 0.5:
+            listed = [self.drawn.randrange(6) for _ in listed]
+        return {**kept, "value": listed if self.drawn.random() < 0.95 else self.json_value()}
 
     def post_list(self, length, given):
         """Stretches of a post; nearly always within the buffer."""
@@ -347,8 +372,27 @@ class Maker:
                 steps[-1] = self.pick([steps[-1][:2], steps[-1] + [0], ["stor", 0, "0" * 16], ["post", 0, "0"], "post", [0, 0, 0], {}, ["post", [0]], ["post", {}]])
         return steps
 
-    def host_job(self, most):
-        """A job of up to so many guests and workers."""
+    def near(self, module):
+        """A module text with another number or two, which may not be accepted."""
+        for _ in range(self.pick([0, 1, 1, 2])):
+            places = [place.span() for place in re.finditer(r"\b\d+\b", module)]
+            if places:
+                start, end = self.pick(places)
+                module = module[:start] + str(self.pick(NUMBERS[:12])) + module[end:]
+        return module
+
+    def swaps(self, module, near):
+        """What is to take a module's place, one after the other: of texts near it, or something else."""
+        found = [self.pick(near) for _ in range(self.pick([1, 1, 2, 3, 5, 16]))]
+        if self.chance(0.02):
+            return found * 17
+        if self.chance(0.08):
+            others = ["typedef", "", "é", module + "%%\n", re.sub(r"\bentrypoint\b", "", module), re.sub(r"\b([fxyz]\d+)\b", r"\1_", module)]
+            found[self.random.randrange(len(found))] = self.pick(others if self.chance(0.7) else OTHER_VALUES)
+        return found
+
+    def host_job(self, most, swaps=None):
+        """A job of up to so many guests and workers, which has these swaps."""
         entry = self.pick(self.entries) if self.entries and self.chance(0.99) else self.pick(["Q", "", "p"])
         count = self.pick([0, 1, 8, 9, 16, 17, 24, 24, 32, 40, 64])
         words = -(-count // 8)
@@ -361,12 +405,14 @@ class Maker:
         }
         if values or self.chance(0.1):
             job["args"] = [self.pick([0, 1, 2, 3, 5, 100, 255] + [256, 2**64] * self.chance(0.03)) for _ in values]
+        if swaps is not None:
+            job["swaps"] = swaps
         if self.chance(0.01):
             del job[self.pick(sorted(job))]
         if self.chance(0.02):
             job.update(self.pick([{"workers": 0}, {"workers": 17}, {"guests": []}, {"guests": [{"script": []}] * 17}]))
         if self.chance(0.02):
-            name = self.pick(["buffer", "workers", "guests", "entry", "args", "cells", "length", "zz", "A", "é", ""])
+            name = self.pick(["buffer", "workers", "guests", "entry", "args", "swaps", "cells", "length", "zz", "A", "é", ""])
             job[name] = self.pick(OTHER_VALUES + [[{}], [{"script": 0}]])
         if self.chance(0.02):
             guest = self.pick(job["guests"]) if isinstance(job.get("guests"), list) and job["guests"] else {}

@@ -8,7 +8,7 @@ from .reading import Module
 
 MODULE_ERROR = re.compile(r"error ([A-IK-Y][0-9]) ([0-9]+):([0-9]+) .*")
 # A name of a job is printed raw, so a path may have any bytes.
-OTHER_ERROR = re.compile(r"error ([JZ][0-9])(?: (.*))?", re.DOTALL)
+OTHER_ERROR = re.compile(r"error (J[0-9]{1,2}|Z[0-9])(?: (.*))?", re.DOTALL)
 OTHERS = {
     "error read": "Standard input couldn't be read: it is a folder, it is closed, or its device fails.",
     "error memory": "The program was out of memory, and wrote nothing but this line. The same input gives its answer where there is enough.",

@@ -1,18 +1,19 @@
-"""Help on J1 to J8, Z1 and Z2: jobs, and inputs as a whole. With the job itself it says what stands there."""
+"""Help on J1 to J10, Z1 and Z2: jobs, and inputs as a whole. With the job itself it says what stands there."""
 
 import difflib
 import json
 import re
 
-from reference.answers import module_of
 from reference.errors import ModuleError
 from reference.jobs import HEXADECIMAL
+from reference.modules import module_of
 
 from ..places import escaped, place_of
 
 MESSAGE = 1_048_576
-RUN_FIELDS = ("entry", "args", "cells", "bytes", "length", "stretches", "stores")
-HOST_FIELDS = ("entry", "args", "buffer", "workers", "guests")
+RUN_FIELDS = ("entry", "args", "cells", "bytes", "length", "stretches", "value", "stores")
+GIVEN_FIELDS = ("bytes", "length", "stretches")
+HOST_FIELDS = ("entry", "args", "buffer", "workers", "guests", "swaps")
 GUEST_FIELDS = ("script",)
 # The form of each field, and an example.
 FORMS = {
@@ -25,6 +26,7 @@ FORMS = {
     "length": ("a whole number of bytes, in digits alone", '"length":4'),
     "stretches": ("a list of up to 64 stretches; it may be left out", '"stretches":[[3,2],[0,2]]'),
     "stretches[i]": ("a list of two whole numbers, [place, size], both in bytes of `bytes`", "[3,2]"),
+    "value": ("made of whole numbers, lists, texts of hexadecimal digits and `null`; it stands in place of `bytes`, `length` and `stretches`", '"value":[1,3]'),
     "stores": ("a list; it may be left out", '"stores":[[1,0,"0100000400000000"]]'),
     "stores[i]": ("a list of two whole numbers and a text, [before, word, text]", '[1,0,"0100000400000000"]'),
     "buffer": ("a text of hexadecimal digits", '"buffer":"0100000300000000"'),
@@ -32,6 +34,8 @@ FORMS = {
     "guests": ("a list of 1 to 16 objects", '"guests":[{"script":[["post",0,4]]}]'),
     "guests[i]": ("an object with the field `script` alone", '{"script":[["post",0,4]]}'),
     "guests[i].script": ("a list of steps", '"script":[["store",0,"0100000300000000"],["post",0,4]]'),
+    "swaps": ("a list of up to 16 module texts; it may be left out", '"swaps":["entrypoint typedef struct _P { UINT16 x; } P;"]'),
+    "swaps[i]": ("a text, a module that takes the place of the one before it", '"entrypoint typedef struct _P { UINT16 x; } P;"'),
     "guests[i].script[i]": ('`["store", word, text]`, `["post", base, length]` or `["post", list]`, a list of `[place, size]`', '["post",0,4]'),
 }
 STEP = re.compile(r"\[(\d+)\]|([^.\[\]]+)")
@@ -88,7 +92,7 @@ class Job:
         return [self.known.types[number] for number in self.known.entries] if self.known is not None else []
 
     def is_host(self):
-        return isinstance(self.value, dict) and bool({"guests", "buffer", "workers"} & set(self.value))
+        return isinstance(self.value, dict) and bool({"guests", "buffer", "workers", "swaps"} & set(self.value))
 
 
 def values_wanted(made):
@@ -144,6 +148,8 @@ def field_wrong(job, path):
         near = difflib.get_close_matches(name.lower(), known, 1, 0.6)
         lines = ["A job has no field `%s`: its fields are %s." % (escaped(name.encode("utf-8", "surrogateescape")), ", ".join("`%s`" % field for field in known))]
         return lines + ["mend: write `%s`." % near[0] if near else "mend: take the field out."]
+    if form in GIVEN_FIELDS and isinstance(job.value, dict) and "value" in job.value and form in job.value:
+        return ["`%s` stands beside `value`, which stands in its place." % path, "mend: take `%s` out, or `value`." % path]
     wanted, example = FORMS[form]
     lines = ["`%s` is %s: %s." % (path, wanted, "as `%s`" % example)]
     if job.text is not None and job.fault is None:
@@ -156,7 +162,7 @@ def field_wrong(job, path):
         lines += [wanted_line(made, form) for made in job.entries()]
     if form == "length" and isinstance(job.value, dict) and isinstance(job.value.get("bytes"), str) and "length" not in job.value:
         return lines + ['mend: write `"length":%d`, all of its bytes; `td-run` fills it in.' % (len(job.value["bytes"]) // 2)]
-    return lines + (["mend: write it as the example does, outside of quotes." if form == "length" else "mend: write it as the example does."] if not job.entries() else [example_of(job.entries()[0], job.is_host() or form.startswith(("guests", "workers", "buffer")))])
+    return lines + (["mend: write it as the example does, outside of quotes." if form == "length" else "mend: write it as the example does."] if not job.entries() else [example_of(job.entries()[0], job.is_host() or form.startswith(("guests", "workers", "buffer", "swaps")))])
 
 
 def no_entry(job):
@@ -203,7 +209,25 @@ def text_at(job, path):
     return value if isinstance(value, str) else None
 
 
+def no_bytes(job):
+    lines = ["A text in `value` is an even number of hexadecimal digits, two for each byte; white space and `0x` are none."]
+    texts = [part for part in parts_of(job.value.get("value")) if isinstance(part, str)] if isinstance(job.value, dict) else []
+    wrong = next((text for text in texts if len(text) % 2 or any(char not in HEXADECIMAL for char in text)), None)
+    if wrong is not None:
+        lines.append("There stands `%s`." % shown(wrong))
+    return lines + ["mend: write each byte as two digits, and a number without quotes."]
+
+
+def parts_of(value):
+    """A value and all that stands in it, in order."""
+    yield value
+    for part in value if isinstance(value, list) else ():
+        yield from parts_of(part)
+
+
 def no_digits(job, path):
+    if path == "value":
+        return no_bytes(job)
     is_word = path not in ("bytes", "buffer")
     count = "exactly 16 hexadecimal digits, the word's 8 bytes in memory order" if is_word else "an even number of hexadecimal digits, two for each byte in the order of memory"
     lines = ["The text of `%s` is %s; white space and `0x` are none." % (path, count)]
@@ -222,6 +246,8 @@ def no_digits(job, path):
 def bytes_with_words(job, is_host):
     """How many bytes have the words that may be stored to, None where that can't be told; and whose they are."""
     field = "buffer" if is_host else "bytes" if "stretches" in job.value else None
+    if field is None and "value" in job.value:
+        return None, "what is written of the value"
     if field is None:
         return job.value.get("length"), "the message"
     text = job.value.get(field)
@@ -293,9 +319,11 @@ def past_a_limit(job, path):
     limits = {
         "length": ("A message has at most 1,048,576 bytes.", "validate the messages of a buffer one by one."),
         "stretches": ("A message has at most 64 stretches, empty ones too.", "take the empty ones out, and join those that lie behind each other."),
+        "value": ("What is written of a value has at most 1,048,576 bytes.", "write the message in parts, each validated alone."),
         "stores": ("A job has at most 65,536 stores, a host job as many of all its guests.", "give several jobs."),
         "workers": ("A host job has 1 to 16 workers.", 'write `"workers":2`.'),
         "guests": ("A host job has 1 to 16 guests.", 'write at least one: `"guests":[{"script":[["post",0,4]]}]`.'),
+        "swaps": ("A job has at most 16 swaps, so 17 versions with its own module.", "leave some out."),
         "posts": ("All guests post at most 4,096 messages.", "give several jobs."),
         "words": ("All messages that are posted have at most 1,048,576 words, each counted as often as it is posted.", "give several jobs."),
     }
@@ -303,9 +331,65 @@ def past_a_limit(job, path):
     lines = [said]
     if isinstance(job.value, dict):
         there, value = at_path(job.value, path)
-        if there:
-            lines.append("The job has %s." % (len(value) if isinstance(value, list) and path in ("stretches", "stores", "guests") else shown(value)))
+        if there and path != "value":
+            lines.append("The job has %s." % (len(value) if isinstance(value, list) and path in ("stretches", "stores", "guests", "swaps") else shown(value)))
     return lines + ["mend: " + mend]
+
+
+# What each code of a value says, and how it is mended.
+WRITTEN = {
+    "E1": ("has another shape than its type: another form, or another count of values; a list up to a zero ends at its only one",
+           "a number and an enum are a number, a struct and a casetype a list with a value for each field, bytes a text, `unit` is `null`."),
+    "E2": ("is a number that doesn't fit its type, or its bits", "write a smaller number."),
+    "E3": ("fails a test of the type: `where`, a refinement, an enum, the bound of a list up to a zero, a case that isn't there, or an action",
+           "write what the type accepts."),
+    "E4": ("is an array whose bytes aren't as many as its size says", "make the size, which stands before it in most formats, the count of these bytes."),
+}  # fmt: skip
+
+
+def not_written(job, place):
+    path, code = place.rsplit(" ", 1)
+    said, mend = WRITTEN[code]
+    lines = ["The value at `%s` %s." % (path, said)]
+    there, value = at_path(job.value, path) if isinstance(job.value, dict) else (False, None)
+    if there:
+        lines.append("There stands `%s`." % shown(value))
+    return lines + ["mend: " + mend]
+
+
+def first_other(old, new):
+    """The first place at which two lists differ, and what stands there: a text, `nothing` past an end."""
+    at = next((at for at, (one, other) in enumerate(zip(old, new)) if one != other), min(len(old), len(new)))
+    return [items[at] if at < len(items) else "nothing" for items in (old, new)]
+
+
+def not_the_same(made, other):
+    """Which argument or cell of a swap's entry point isn't that of the job's module."""
+    for what, list_of in (("argument", values_wanted), ("cell", cells_wanted)):
+        wanted, found = list_of(made), list_of(other)
+        if wanted != found:
+            return "Its `%s` has another %s: the job's module has %s, this text %s." % (made.name, what, *first_other(wanted, found))
+    return "It can take the place of the job's module, by a second reading."
+
+
+def no_swap(job, path):
+    lines = ["The text of `%s` can't take the place of the job's module." % path]
+    there, text = at_path(job.value, path) if isinstance(job.value, dict) else (False, None)
+    mend = "mend: give a module that `td check` accepts, with an entry point of the same name, arguments and cells; what lies between may differ."
+    if not there or not isinstance(text, str) or job.entry is None:
+        return lines + [mend]
+    try:
+        data = text.encode()
+        known = module_of(data)[1]
+    except UnicodeEncodeError:
+        return lines + [mend]
+    except ModuleError as error:
+        return lines + ["`td check` refuses it: error %s %s %s." % (error.code, place_of(data, error.at), error.words), "mend: put it right there; td-why tells more of the text alone."]
+    entries = [known.types[number] for number in known.entries]
+    other = next((made for made in entries if made.name == job.entry.name), None)
+    if other is None:
+        return lines + ["Its entry points: %s; the job's is `%s`." % (", ".join("`%s`" % made.name for made in entries) or "none", job.entry.name), mend]
+    return lines + [not_the_same(job.entry, other), mend]
 
 
 def input_as_a_whole(code, text):
@@ -326,12 +410,14 @@ PATHS = {
     "J2": ".*",
     "J3": "entry",
     "J4": r"(args|cells)(\[\d{1,5}\])?",
-    "J5": r"bytes|buffer|stores\[\d{1,5}\]|" + STEP_PATH,
+    "J5": r"bytes|buffer|value|stores\[\d{1,5}\]|" + STEP_PATH,
     "J6": r"stores\[\d{1,5}\]|" + STEP_PATH,
     "J7": r"length|stretches(\[\d{1,5}\])?|" + STEP_PATH,
-    "J8": "length|stretches|stores|workers|guests|posts|words|" + STEP_PATH,
+    "J8": "length|stretches|value|stores|workers|guests|swaps|posts|words|" + STEP_PATH,
+    "J9": r"swaps\[\d{1,2}\]",
+    "J10": r"value(\[\d{1,7}\])* E[1-4]",
 }
-BY_CODE = {"J2": field_wrong, "J4": wrong_values, "J5": no_digits, "J6": no_word, "J7": too_long, "J8": past_a_limit}
+BY_CODE = {"J2": field_wrong, "J4": wrong_values, "J5": no_digits, "J6": no_word, "J7": too_long, "J8": past_a_limit, "J9": no_swap, "J10": not_written}
 
 
 def help_of(text, code, path, job_text):

@@ -6,31 +6,21 @@ import threading
 from .errors import JobError, ModuleError
 from .hosts import Wrong, host_job_of, judge
 from .jobs import job_of
-from .rules import elaborated
+from .modules import module_of
 from .runs import Memory, run
-from .safety import check_safety
-from .sizes import check_counts, check_kinds, check_sizes
-from .tokens import tokens_of
-from .trees import Parser
 
 INPUT_LIMIT = 4_194_304
 
 
-def module_of(text):
-    """The trees of a module text, and what is known after the last."""
-    trees = Parser(tokens_of(text), len(text)).module()
-    check_counts(trees)
-    known = elaborated(trees)
-    check_kinds(known.types)
-    check_safety(known.types)
-    check_sizes(trees, known)
-    return trees, known
+def written_line(written):
+    """The bytes that were written of a value, where the job has one."""
+    return "" if written is None else " ".join(["bytes"] + [written.hex()] * (written != b"")) + "\n"
 
 
 def report_of(known, job):
-    number, arguments, cells, layout, words, stores = job
+    number, arguments, cells, layout, words, stores, written = job
     memory = Memory(layout, words, stores)
-    lines = run(known.types, number, arguments, cells, memory)
+    lines = written_line(written) + run(known.types, number, arguments, cells, memory)
     for (name, field, _), value in zip(known.types[number].cells, cells):
         lines += "out %s%s %d\n" % (name, "" if field is None else "." + field, value)
     return lines + memory.lines()
@@ -88,7 +78,7 @@ def hosted(text, report):
     def judged(known, job):
         job = host_job_of(job, known)
         try:
-            judge(known, job, report.decode())
+            judge(job, report.decode())
         except Wrong as wrong:
             return 3, b"", b"%s\n" % str(wrong).encode()
         return 0, b"", b""

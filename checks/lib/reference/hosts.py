@@ -1,5 +1,8 @@
 """Host jobs, and whether a report of one can be right."""
 
+import collections
+
+from .errors import JobError, ModuleError
 from .jobs import (
     MESSAGE_LIMIT,
     STORES_LIMIT,
@@ -15,21 +18,26 @@ from .jobs import (
     words_of,
 )
 from .layouts import STRETCHES_LIMIT, Layout, at_word
+from .modules import module_of
 from .runs import Memory, run
 
-FIELDS = {"entry", "args", "buffer", "workers", "guests"}
+FIELDS = {"entry", "args", "buffer", "workers", "guests", "swaps"}
 WORKERS_LIMIT = 16
 GUESTS_LIMIT = 16
 POSTS_LIMIT = 4_096
 WORDS_LIMIT = 1_048_576
+SWAPS_LIMIT = 16
+
+# A module that a message may be validated by: the types of its text, and the number of the entry point's among them.
+Version = collections.namedtuple("Version", "types entry")
 
 
 class HostJob:
-    """An entry point's type, its arguments, the words of the buffer, the number of workers, and the guests' scripts: lists
-    of `("store", word, value)` and `("post", layout)`."""
+    """The versions, of which the first is the job's module, the arguments, the words of the buffer, the number of workers, and the
+    guests' scripts: lists of `("store", word, value)` and `("post", layout)`."""
 
-    def __init__(self, entry, arguments, words, workers, scripts):
-        self.entry, self.arguments, self.words, self.workers, self.scripts = entry, arguments, words, workers, scripts
+    def __init__(self, versions, arguments, words, workers, scripts):
+        self.versions, self.arguments, self.words, self.workers, self.scripts = versions, arguments, words, workers, scripts
 
     def posts(self):
         """The guest, the number, the layout, and how many stores the guest made before it, of each post in the order of a report."""
@@ -107,6 +115,34 @@ def script_of(guest, path, words):
     return steps
 
 
+def taken_and_filled(made):
+    """What all versions of an entry point have in common: name and bits of each argument; name, field and bits of each cell."""
+    return [(parameter.name, parameter.bits) for parameter in made.parameters if not parameter.mutable], list(made.cells)
+
+
+def swap_of(text, made):
+    """The version that a module text is of this entry point; None where it can't take the place of the job's module."""
+    try:
+        known = module_of(text.encode())[1]
+        entry = entry_of({"entry": made.name}, known)
+    except (ModuleError, JobError):
+        return None
+    return Version(known.types, entry) if taken_and_filled(known.types[entry]) == taken_and_filled(made) else None
+
+
+def swaps_of(job, made):
+    """The versions that are published after the job's module, in their order."""
+    swaps, found = job.get("swaps", []), []
+    require(isinstance(swaps, list), "J2", "swaps")
+    require(len(swaps) <= SWAPS_LIMIT, "J8", "swaps")
+    for index, text in enumerate(swaps):
+        path = "swaps[%d]" % index
+        require(isinstance(text, str), "J2", path)
+        found.append(swap_of(text, made))
+        require(found[-1], "J9", path)
+    return found
+
+
 def host_job_of(text, known):
     job = object_of(text)
     entry = entry_of(job, known)
@@ -119,13 +155,14 @@ def host_job_of(text, known):
     require(isinstance(guests, list), "J2", "guests")
     require(1 <= len(guests) <= GUESTS_LIMIT, "J8", "guests")
     scripts = [script_of(guest, "guests[%d]" % index, len(words)) for index, guest in enumerate(guests)]
+    versions = [Version(known.types, entry), *swaps_of(job, known.types[entry])]
     check_names(job, FIELDS)
     steps = [step for script in scripts for step in script]
     posts = [step for step in steps if step[0] == "post"]
     require(len(posts) <= POSTS_LIMIT, "J8", "posts")
     require(len(steps) - len(posts) <= STORES_LIMIT, "J8", "stores")
     require(sum(len(layout.words) for _, layout in posts) <= WORDS_LIMIT, "J8", "words")
-    return HostJob(entry, arguments, words, workers, scripts)
+    return HostJob(versions, arguments, words, workers, scripts)
 
 
 class Wrong(Exception):
@@ -166,12 +203,34 @@ def loads_of(layout, lines):
     return [(layout.number_of([int(word) for word in words]), int(value, 16)) for *words, value in loads]
 
 
-def run_lines(known, job, layout, loads):
+def version_in(lines, count):
+    """The number of a reply's version, and the lines of its run. A line tells it where there are several."""
+    if count == 1:
+        return 0, lines
+    number = next((number for number in range(count) if lines[:1] == ["version %d\n" % number]), None)
+    if number is None:
+        raise Wrong("no line tells which of the %d versions it is under" % count)
+    return number, lines[1:]
+
+
+def workers_needed(numbers):
+    """By how few workers a guest's replies may be, under versions of these numbers: its posts are taken in order, and what one worker
+    looks at never falls. Each goes to the worker who saw the latest version among those that saw no later one."""
+    seen = []
+    for number in numbers:
+        able = [at for at, last in enumerate(seen) if last <= number]
+        at = max(able, key=seen.__getitem__) if able else len(seen)
+        seen[at : at + 1] = [number]
+    return len(seen)
+
+
+def run_lines(version, arguments, layout, loads):
     """The lines of the run's report of a message that carries these loads."""
-    cells = [0] * len(known.types[job.entry].cells)
+    own_cells = version.types[version.entry].cells
+    cells = [0] * len(own_cells)
     memory = Told(layout, loads)
-    lines = run(known.types, job.entry, job.arguments, cells, memory)
-    for (name, field, _), value in zip(known.types[job.entry].cells, cells):
+    lines = run(version.types, version.entry, arguments, cells, memory)
+    for (name, field, _), value in zip(own_cells, cells):
         lines += "out %s%s %d\n" % (name, "" if field is None else "." + field, value)
     return lines + memory.lines()
 
@@ -197,19 +256,31 @@ def judge_loads(job, guest, made, layout, loads):
             raise Wrong("no order of the stores has %s in word %d, one after the other" % (", ".join("%016x" % value for value in values), word))
 
 
-def judge(known, job, report):
-    """Raises `Wrong` where this can't be the report of the job: another reply than one for each post, a load of what can't stand in its
-    word then, words that don't rise, loads of one word that fit no order of the stores, or another run than that of a message that
-    carries the loads."""
+def judge_reply(job, post, lines):
+    """The number of the version that a reply to a post is under, where it can be one."""
+    guest, _, layout, made = post
+    number, lines = version_in(lines, len(job.versions))
+    loads = loads_of(layout, lines)
+    judge_loads(job, guest, made, layout, loads)
+    wanted = run_lines(job.versions[number], job.arguments, layout, loads)
+    if "".join(lines) != wanted:
+        raise Wrong("%r, but %r is wanted" % ("".join(lines), wanted))
+    return number
+
+
+def judge(job, report):
+    """Raises `Wrong` where this can't be the report of the job: another reply than one for each post, a version that there isn't, a
+    load of what can't stand in its word then, words that don't rise, loads of one word that fit no order of the stores, another run than
+    its version's of a message that carries the loads, or versions of a guest's replies that fall too often for the workers there are."""
     posts, replies = list(job.posts()), replies_of(report)
     if [name for name, _ in replies] != [(guest, number) for guest, number, _, _ in posts]:
         raise Wrong("the replies aren't the posts'")
-    for (guest, number, layout, made), (_, lines) in zip(posts, replies):
-        name, loads = "reply %d %d: " % (guest, number), loads_of(layout, lines)
+    numbers = collections.defaultdict(list)
+    for post, (_, lines) in zip(posts, replies):
         try:
-            judge_loads(job, guest, made, layout, loads)
-            wanted = run_lines(known, job, layout, loads)
+            numbers[post[0]].append(judge_reply(job, post, lines))
         except Wrong as wrong:
-            raise Wrong(name + str(wrong)) from None
-        if "".join(lines) != wanted:
-            raise Wrong(name + "%r, but %r is wanted" % ("".join(lines), wanted))
+            raise Wrong("reply %d %d: %s" % (*post[:2], wrong)) from None
+    for guest, own in numbers.items():
+        if workers_needed(own) > job.workers:
+            raise Wrong("guest %d: versions %s fall more often than %d workers can have them" % (guest, " ".join(map(str, own)), job.workers))

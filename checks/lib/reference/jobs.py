@@ -5,11 +5,12 @@ import math
 
 from .errors import JobError
 from .layouts import STRETCHES_LIMIT, Layout, plain
+from .writing import Refused, written
 
 HEXADECIMAL = set("0123456789abcdefABCDEF")
 MESSAGE_LIMIT = 1_048_576
 STORES_LIMIT = 65_536
-FIELDS = {"entry", "args", "cells", "bytes", "length", "stretches", "stores"}
+FIELDS = {"entry", "args", "cells", "bytes", "length", "stretches", "value", "stores"}
 
 
 def is_whole(value):
@@ -72,6 +73,9 @@ def object_of(text):
     """The fields of a job; none where it is another value than an object."""
     try:
         job = json.loads(text.decode("utf-8"), parse_int=whole_or_float, parse_float=finite, parse_constant=refuse_constant)
+        if b"\\ud" in text.lower():
+            # A lone surrogate is no character: a text with one has no bytes.
+            json.dumps(job, ensure_ascii=False).encode()
     except ValueError:
         raise JobError("J1", "job") from None
     return job if isinstance(job, dict) else {}
@@ -131,20 +135,58 @@ def layout_of(job, given):
     return layout, len(layout.words)
 
 
+def parts_in(value):
+    """A value, and all that stand in it."""
+    yield value
+    for inner in value if isinstance(value, list) else []:
+        yield from parts_in(inner)
+
+
+def as_value(value):
+    """The texts of a value as bytes."""
+    if isinstance(value, list):
+        return [as_value(inner) for inner in value]
+    return bytes.fromhex(value) if isinstance(value, str) else value
+
+
+def path_in(path):
+    return "value" + "".join("[%d]" % place for place in path)
+
+
+def written_of(job, types, entry, arguments, cells):
+    """The bytes that are written of a job's value."""
+    for name in ("bytes", "length", "stretches"):
+        require(name not in job, "J2", name)
+    parts = list(parts_in(job["value"]))
+    require(all(part is None or is_whole(part) or isinstance(part, (str, list)) for part in parts), "J2", "value")
+    require(all(is_digits(part) for part in parts if isinstance(part, str)), "J5", "value")
+    try:
+        return written(types, entry, arguments, cells, as_value(job["value"]))
+    except Refused as refused:
+        is_long = refused.code == "E5"
+        raise JobError(*("J8", "value") if is_long else ("J10", "%s %s" % (path_in(refused.path), refused.code))) from None
+
+
 def check_names(value, fields, path="%s"):
     others = sorted(set(value) - fields, key=str.encode)
     require(not others, "J2", path % others[0] if others else "")
 
 
 def job_of(text, known):
-    """The entry point's type, its arguments and cells, the message's layout, the words of memory, and the stores."""
+    """The entry point's type, its arguments and cells, the message's layout, the words of memory, the stores, and the bytes that were
+    written of a value; None where the job has none."""
     job = object_of(text)
     entry = entry_of(job, known)
     made = known.types[entry]
     arguments = arguments_of(job, made)
     cells = numbers_of(job, "cells", [2 ** (bits or 32) for _, _, bits in made.cells], True)
-    memory = bytes_of(job, "bytes")
-    layout, words = layout_of(job, len(memory))
+    told = written_of(job, known.types, entry, arguments, cells) if "value" in job else None
+    if told is None:
+        memory = bytes_of(job, "bytes")
+        layout, words = layout_of(job, len(memory))
+    else:
+        memory, layout = told, plain(len(told))
+        words = len(layout.words)
     stores = stores_of(job, words)
     check_names(job, FIELDS)
-    return entry, arguments, cells, layout, words_of(memory), stores
+    return entry, arguments, cells, layout, words_of(memory), stores, told
