@@ -1,6 +1,7 @@
 pub mod Answered
 pub mod Closing
 pub mod Complete
+pub mod LongNames
 pub mod Numeral
 pub mod Runs
 pub mod Sound

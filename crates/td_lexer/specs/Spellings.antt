@@ -1,11 +1,11 @@
 -- The fixed spellings of tokens, in the order of the grammar's page, "Tokens".
-use Rattle.std.specs.Prelude.{ℕ, List, [], ◌∷◌, Option, Some, None, codes, bytes_eq, if◌then◌else◌}
+use Rattle.std.specs.Prelude.{ℕ, Bool, List, [], ◌∷◌, Option, Some, None, is_some, codes, bytes_eq, if◌then◌else◌}
 use Rattle.td_num.specs.declared.number.Width.{Width}
 use Rattle.td_num.specs.declared.number.Width.TheVariants.{One, Two, Four, Eight}
 use Rattle.td_num.specs.declared.number.ByteOrder.{ByteOrder}
 use Rattle.td_num.specs.declared.number.ByteOrder.TheVariants.{LittleEndian, BigEndian}
 use Rattle.td_ast.specs.declared.token.TokenKind.{TokenKind}
-use Rattle.td_ast.specs.declared.token.TokenKind.TheVariants.{Int, Typedef, Struct, Casetype, Enum, Switch, Case, Default, Entrypoint, Output, Where, Mutable, Unit, AllBytes, AllZeros, Sizeof, This, If, Else, Return, Abort, Var, FieldPos, FieldPtr, IsRangeOkay, True, False, Pointer, Define, Act, Check, OnSuccess, ByteSize, SingleElement, Zeroterm, AndAnd, OrOr, EqualEqual, NotEqual, LessEqual, GreaterEqual, ShiftLeft, ShiftRight, Arrow, Plus, Minus, Star, Slash, Percent, Ampersand, Bar, Caret, Tilde, Bang, Less, Greater, Assign, Question, Colon, Semicolon, Comma, OpenParen, CloseParen, OpenBrace, CloseBrace, OpenBracket, CloseBracket}
+use Rattle.td_ast.specs.declared.token.TokenKind.TheVariants.{Int, Typedef, Struct, Casetype, Enum, Switch, Case, Default, Entrypoint, Output, Where, Mutable, Unit, AllBytes, AllZeros, Sizeof, This, If, Else, Return, Abort, Var, FieldPos, FieldPtr, IsRangeOkay, True, False, Pointer, Define, Act, Check, OnSuccess, ByteSize, SingleElement, Zeroterm, AndAnd, OrOr, EqualEqual, NotEqual, LessEqual, GreaterEqual, ShiftLeft, ShiftRight, Arrow, Plus, Minus, Star, Slash, Percent, Ampersand, Bar, Caret, Tilde, Bang, Less, Greater, Assign, Question, Colon, Semicolon, Comma, OpenParen, CloseParen, OpenBrace, CloseBrace, OpenBracket, CloseBracket, Dot}
 
 -- a spelling, and the token that it spells
 abbrev pub Entry : Type 0
@@ -80,11 +80,16 @@ abbrev pub delimiters : List Entry
 delimiters =
     (codes "?", Question) ∷ (codes ":", Colon) ∷ (codes ";", Semicolon) ∷ (codes ",", Comma)
     ∷ (codes "(", OpenParen) ∷ (codes ")", CloseParen) ∷ (codes "{", OpenBrace) ∷ (codes "}", CloseBrace)
-    ∷ (codes "[", OpenBracket) ∷ (codes "]", CloseBracket) ∷ []
+    ∷ (codes "[", OpenBracket) ∷ (codes "]", CloseBracket)
+    ∷ (codes ".", Dot) ∷ []
 
 -- the keyword that a word is
 abbrev pub keyword_kind : List ℕ → Option TokenKind
 keyword_kind word = or_else (kind_in definition_words word) (or_else (kind_in expression_words word) (kind_in number_types word))
+
+-- a word is a keyword
+abbrev pub is_keyword : List ℕ → Bool
+is_keyword word = is_some (keyword_kind word)
 
 -- the punctuation of one byte that bytes spell
 abbrev pub single_kind : List ℕ → Option TokenKind

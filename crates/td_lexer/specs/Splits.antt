@@ -18,6 +18,14 @@ use Rattle.td_lexer.specs.Numerals.{numeral_value}
 abbrev pub IsName : List ℕ → Type 0
 IsName bytes = (first_is is_letter bytes ≡ true) × (every is_word_byte bytes ≡ true) × (keyword_kind bytes ≡ None)
 
+-- two names joined by a dot (byte 46)
+abbrev pub IsDotted : List ℕ → Type 0
+IsDotted bytes = (part : List ℕ) × (own : List ℕ) × IsName part × IsName own × (bytes ≡ part ++ 46 ∷ own)
+
+-- a name of a module: one, or two joined by a dot, as modules of several parts have them
+abbrev pub IsLongName : List ℕ → Type 0
+IsLongName bytes = IsName bytes ⊎ IsDotted bytes
+
 -- a number: decimal digits, or `0x` or `0X` and hexadecimal digits
 abbrev pub IsNumeral : Base → List ℕ → Type 0
 IsNumeral Decimal bytes = (0 < length bytes) × (every is_digit bytes ≡ true)

@@ -96,6 +96,13 @@ fn keyword(word: &[u8]) -> Option<TokenKind>
     }
 }
 
+/// Whether a word is a keyword, and so no name.
+pub fn is_keyword(word: &[u8]) -> bool
+    ensures { result ≡ spellings.is_keyword word.now }
+{
+    keyword(word).is_some()
+}
+
 /// The token that a word is: a keyword, or else a name. `AllocError`: it is a name, and out of memory.
 fn word_kind(alloc: Global, word: &[u8]) -> Result<TokenKind, AllocError>
     ensures kind { IfOk result (λ kind. kind ≡ scanner.word_kind word.now) }

@@ -14,5 +14,6 @@ mod punctuation;
 mod table;
 
 pub use error::LexError;
+pub use keywords::is_keyword;
 pub use law::tokens_are_the_splitting;
 pub use lexing::lex;

@@ -1,6 +1,6 @@
 //! Names, numbered in the order in which they are seen first.
 
-ghost use Rattle.std.specs.Prelude.{◌≡◌, ◌<◌, false, [], OnOk, OnErr, IfOk, nat_le, length};
+ghost use Rattle.std.specs.Prelude.{◌≡◌, ◌<◌, false, [], OnOk, OnErr, IfOk, nat_le, length, take};
 ghost use Rattle.td_names.specs.Names.{with_name, is_seen, number_of};
 
 use crate::table::Table;
@@ -86,5 +86,19 @@ impl Names {
             texts.push(Text::copy_of(alloc, entry.0.as_slice())?)?;
         }
         Ok(texts)
+    }
+
+    /// How many names there are.
+    pub fn len(&self) -> usize
+        ensures { result ≡ length self.now }
+    {
+        self.table.len()
+    }
+
+    /// Keeps the first names, so many of them. Takes no memory.
+    pub fn truncate(&mut self, len: usize)
+        ensures { self.new ≡ take len self.old }
+    {
+        self.table.truncate(len);
     }
 }
