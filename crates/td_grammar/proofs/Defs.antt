@@ -5,7 +5,7 @@ use Rattle.td_grammar.specs.Sets.{only}
 use Rattle.td_grammar.specs.Expressions.{expr}
 use Rattle.td_grammar.specs.Actions.{action}
 use Rattle.td_grammar.specs.Listed.{listed}
-use Rattle.td_grammar.specs.Tokens.{constant, plain}
+use Rattle.td_grammar.specs.Tokens.{dotted, qualified, constant, plain}
 use Rattle.td_grammar.specs.Sequences.{some_of, in_parentheses}
 use Rattle.td_grammar.specs.Parameters.{target, param, head}
 use Rattle.td_grammar.specs.Fields.{type_tree, extent, refinement, field}
@@ -13,14 +13,20 @@ use Rattle.td_grammar.specs.Definitions.{closing, enum_head, subject, default_ca
 use Rattle.td_grammar.proofs.Exact.{IsExact}
 use Rattle.td_grammar.proofs.Proper.{IsProper, terminal_proper, name_proper, literal_proper, number_type_proper, expr_proper, action_proper, sequel, making_proper, or_proper, maybe_proper, all_proper, listed_proper}
 
+dotted_proper : IsProper dotted
+dotted_proper = making_proper _ _ (sequel (terminal_proper kinds.Dot refl) name_proper refl)
+
+qualified_proper : IsProper qualified
+qualified_proper = making_proper _ _ (sequel name_proper (maybe_proper dotted dotted_proper refl) refl)
+
 constant_proper : IsProper constant
-constant_proper = or_proper _ _ (making_proper _ _ literal_proper) (making_proper _ _ name_proper) refl refl refl
+constant_proper = or_proper _ _ (making_proper _ _ literal_proper) (making_proper _ _ qualified_proper) refl refl refl
 
 plain_proper : IsProper plain
-plain_proper = or_proper _ _ (making_proper _ _ number_type_proper) (making_proper _ _ name_proper) refl refl refl
+plain_proper = or_proper _ _ (making_proper _ _ number_type_proper) (making_proper _ _ qualified_proper) refl refl refl
 
 target_proper : IsProper target
-target_proper = or_proper _ _ (making_proper _ _ number_type_proper) (or_proper _ _ (making_proper _ _ (terminal_proper kinds.Pointer refl)) (making_proper _ _ name_proper) refl refl refl) refl refl refl
+target_proper = or_proper _ _ (making_proper _ _ number_type_proper) (or_proper _ _ (making_proper _ _ (terminal_proper kinds.Pointer refl)) (making_proper _ _ qualified_proper) refl refl refl) refl refl refl
 
 param_proper : IsProper param
 unfolding param
@@ -51,7 +57,7 @@ type_tree_proper =
     (or_proper _ _ (making_proper _ _ (terminal_proper kinds.Unit refl))
     (or_proper _ _ (making_proper _ _ (terminal_proper kinds.AllBytes refl))
     (or_proper _ _ (making_proper _ _ (terminal_proper kinds.AllZeros refl))
-    (making_proper _ _ (sequel name_proper arguments_proper refl)) refl refl refl) refl refl refl) refl refl refl) refl refl refl
+    (making_proper _ _ (sequel qualified_proper arguments_proper refl)) refl refl refl) refl refl refl) refl refl refl) refl refl refl
 
 extent_proper : IsProper extent
 unfolding extent expr
@@ -157,7 +163,7 @@ unfolding enumeration item
 enumeration_proper =
     making_proper _ _ (sequel enum_head_proper (sequel items_proper (sequel (terminal_proper kinds.CloseBrace refl) (maybe_proper _ (terminal_proper kinds.Semicolon refl) refl) refl) refl) refl)
 
-def_proper : IsProper def
+pub def_proper : IsProper def
 unfolding def define enumeration typedef casetype entrypoint output alias_rest struct_rest
 def_proper =
     or_proper _ _ define_proper (or_proper _ _ enumeration_proper (or_proper _ _ typedef_proper (or_proper _ _ (making_proper _ _ casetype_proper) (or_proper _ _ entrypoint_proper output_proper refl refl refl) refl refl refl) refl refl refl) refl refl refl) refl refl refl

@@ -79,7 +79,7 @@ module _ (group : Grammar Tree) (triple : Grammar (Tree × Tree × Tree × Span)
   un = un_from group triple
 
   un_named : un.Spells name_tree (named ∷ [])
-  un_named = (([], name_tree), refl, ([], named ∷ [], refl, refl, inr (inl (record { text = []; span = nowhere }, refl, (named, refl, refl)))))
+  un_named = (([], name_tree), refl, ([], named ∷ [], refl, refl, inr (inl (record { text = []; span = nowhere }, refl, ((record { text = []; span = nowhere }, None), refl, (named ∷ [], [], refl, (named, refl, refl), refl))))))
 
   ors_named : (ors un).Spells name_tree (named ∷ [])
   ors_named =

@@ -13,7 +13,7 @@ use Rattle.td_grammar.specs.Grammar.{Grammar, ◌then◌}
 use Rattle.td_grammar.specs.Tokens.{word}
 use Rattle.td_grammar.specs.Expressions.{level, leaning, comparing, sizeof_operand, opened, branched, prim_from, un_from, expr_from, products, sums, shifts, orders, equalities, bit_ands, bit_xors, bit_ors, ands, ors}
 use Rattle.td_grammar.specs.Operators.{unary_operator_of, product_operator_of, sum_operator_of, shift_operator_of, order_operator_of, equality_operator_of, bit_and_operator_of, bit_xor_operator_of, bit_or_operator_of, and_operator_of, or_operator_of, truth_of, unary_operator, and_kinds, bit_and_kinds, bit_or_kinds, bit_xor_kinds, equality_kinds, or_kinds, order_kinds, product_kinds, shift_kinds, sum_kinds, truth_kinds, unary_kinds}
-use Rattle.td_grammar.specs.Ahead.{begins, products_go_on, sums_go_on, shifts_go_on, orders_go_on, equalities_go_on, bit_ands_go_on, bit_xors_go_on, bit_ors_go_on, ands_go_on, ors_go_on}
+use Rattle.td_grammar.specs.Ahead.{begins, names_go_on, products_go_on, sums_go_on, shifts_go_on, orders_go_on, equalities_go_on, bit_ands_go_on, bit_xors_go_on, bit_ors_go_on, ands_go_on, ors_go_on}
 use Rattle.td_grammar.proofs.Sets.{disjoint, covered}
 use Rattle.td_grammar.proofs.Exact.{IsExact}
 use Rattle.td_grammar.proofs.Making.{making_exact}
@@ -21,7 +21,8 @@ use Rattle.td_grammar.proofs.Maybe.{maybe_exact}
 use Rattle.td_grammar.proofs.All.{all_exact}
 use Rattle.td_grammar.proofs.Either.{or_exact}
 use Rattle.td_grammar.proofs.Seen.{seen_exact}
-use Rattle.td_grammar.proofs.Words.{terminal_exact, name_exact, literal_exact, number_type_exact, word_exact, sequel}
+use Rattle.td_grammar.proofs.Words.{terminal_exact, literal_exact, number_type_exact, word_exact, sequel}
+use Rattle.td_grammar.proofs.Qualified.{qualified_exact}
 
 unary_known : (k : TokenKind) (a : _) → unary_operator_of k ≡ Some a → member unary_kinds (number_of_kind k) ≡ true
 unary_known kinds.Bang a e = refl
@@ -129,9 +130,9 @@ module _ (set : List ℕ) (meaning : TokenKind → Option BinaryOperator) (W : I
   comparing_exact : IsExact (comparing (word set meaning) (level goes_on g))
   comparing_exact = making_exact _ _ (sequel G (maybe_exact (word set meaning then level goes_on g) (sequel W G refl) refl) c)
 
-module _ (un : Grammar Tree) (U : IsExact (level [] un)) where
+module _ (un : Grammar Tree) (U : IsExact (level names_go_on un)) where
   pub products_exact : IsExact (level products_go_on (products un))
-  products_exact = level_exact products_go_on (products un) (leaning_exact _ _ product_word [] (un) U refl) refl refl refl
+  products_exact = level_exact products_go_on (products un) (leaning_exact _ _ product_word names_go_on (un) U refl) refl refl refl
 
   pub sums_exact : IsExact (level sums_go_on (sums un))
   sums_exact = level_exact sums_go_on (sums un) (leaning_exact _ _ sum_word products_go_on (products un) products_exact refl) refl refl refl
@@ -162,22 +163,22 @@ module _ (un : Grammar Tree) (U : IsExact (level [] un)) where
 
 pub sizeof_operand_exact : IsExact sizeof_operand
 sizeof_operand_exact =
-    or_exact _ _ (making_exact _ _ number_type_exact) (or_exact _ _ (making_exact _ _ name_exact) (making_exact _ _ (terminal_exact kinds.This refl)) refl refl refl) refl refl refl
+    or_exact _ _ (making_exact _ _ number_type_exact) (or_exact _ _ (making_exact _ _ qualified_exact) (making_exact _ _ (terminal_exact kinds.This refl)) refl refl refl) refl refl refl
 
 module _ (group : Grammar Tree) (triple : Grammar (Tree × Tree × Tree × Span)) (branches : Grammar (Span × Tree × Tree))
     (G : IsExact (opened group)) (T : IsExact (opened triple)) (B : IsExact (branched branches)) where
   prim_exact : IsExact (prim_from group triple)
   prim_exact =
       or_exact _ _ (making_exact _ _ literal_exact)
-      (or_exact _ _ (making_exact _ _ name_exact)
+      (or_exact _ _ (making_exact _ _ qualified_exact)
       (or_exact _ _ (making_exact _ _ truth_word)
       (or_exact _ _ (making_exact _ _ (terminal_exact kinds.FieldPos refl))
       (or_exact _ _ (making_exact _ _ (sequel (terminal_exact kinds.Sizeof refl) (sequel (terminal_exact kinds.OpenParen refl) (sequel sizeof_operand_exact (terminal_exact kinds.CloseParen refl) refl) refl) refl))
       (or_exact _ _ G (making_exact _ _ (sequel (terminal_exact kinds.IsRangeOkay refl) T refl)) refl refl refl)
       refl refl refl) refl refl refl) refl refl refl) refl refl refl) refl refl refl
 
-  pub un_exact : IsExact (level [] (un_from group triple))
-  un_exact = level_exact [] _ (making_exact _ _ (sequel (all_exact unary_operator unary_word refl refl) prim_exact refl)) refl refl refl
+  pub un_exact : IsExact (level names_go_on (un_from group triple))
+  un_exact = level_exact names_go_on _ (making_exact _ _ (sequel (all_exact unary_operator unary_word refl refl) prim_exact refl)) refl refl refl
 
   pub expr_from_exact : IsExact (expr_from group triple branches)
   expr_from_exact = making_exact _ _ (sequel (ors_exact (un_from group triple) un_exact) (maybe_exact _ B refl) refl)

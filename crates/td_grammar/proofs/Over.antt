@@ -11,7 +11,7 @@ use Rattle.td_grammar.specs.Sets.{member, only}
 use Rattle.td_grammar.specs.Limits.{count, PassesNever, PassesBoth, PassesAll, PassesEither, PassesFirst}
 use Rattle.td_grammar.specs.Scan.{counted}
 use Rattle.td_grammar.specs.Grammar.{Grammar, spelled_by, too_deep}
-use Rattle.td_grammar.specs.Tokens.{terminal}
+use Rattle.td_grammar.specs.Tokens.{terminal, qualified}
 use Rattle.td_grammar.specs.Expressions.{products, sums, shifts, orders, equalities, bit_ands, bit_xors, bit_ors, ands, group_of, triple_of, branches_of, SpellsExpr, leaning, comparing, prim_from, un_from, expr_from, expr_within, nested_expr}
 use Rattle.td_grammar.specs.Operators.{product_operator, sum_operator, shift_operator, order_operator, equality_operator, bit_and_operator, bit_xor_operator, bit_or_operator, and_operator, or_operator}
 use Rattle.td_grammar.proofs.Sets.{covered}
@@ -81,6 +81,9 @@ pub over_first : (set : List ℕ) → covered set counted ≡ true → IsOver ze
 over_first set c = record { over = λ tokens (t, e, m). let is : member counted (number_of_kind t.kind) ≡ true = covers set counted (number_of_kind t.kind) c m in rw (e, is) (omega arith) }
 
 module _ {n : ℕ} where
+  over_qualified : IsOver n qualified.Passes
+  over_qualified = over_both _ over_never (over_both _ over_never over_never)
+
   over_leaning : (operator : Grammar (BinaryOperator × Span)) (g : Grammar Tree) → IsOver n operator.Passes → IsOver n g.Passes → IsOver n (leaning operator g).Passes
   over_leaning operator g o p = over_both _ p (over_all _ (over_both _ o p))
 
@@ -89,8 +92,8 @@ module _ {n : ℕ} where
 
   over_prim : (group : Grammar Tree) (triple : Grammar (Tree × Tree × Tree × Span)) → IsOver n group.Passes → IsOver n triple.Passes → IsOver n (prim_from group triple).Passes
   over_prim group triple G T =
-      over_either over_never (over_either over_never (over_either over_never (over_either over_never
-      (over_either (over_both _ over_never (over_both _ over_never (over_both _ (over_either over_never (over_either over_never over_never)) over_never)))
+      over_either over_never (over_either over_qualified (over_either over_never (over_either over_never
+      (over_either (over_both _ over_never (over_both _ over_never (over_both _ (over_either over_never (over_either over_qualified over_never)) over_never)))
       (over_either G (over_both _ over_never T))))))
 
   pub over_expr_from : (group : Grammar Tree) (triple : Grammar (Tree × Tree × Tree × Span)) (branches : Grammar (Span × Tree × Tree)) → IsOver n group.Passes → IsOver n triple.Passes → IsOver n branches.Passes → IsOver n (expr_from group triple branches).Passes

@@ -14,7 +14,7 @@ use Rattle.td_grammar.specs.Limits.{count}
 use Rattle.td_grammar.specs.declared.limits.TheConstants.{OPERATORS}
 use Rattle.td_grammar.specs.Scan.{counted, outside, closed, still, after, scan, scan_on}
 use Rattle.td_grammar.specs.Grammar.{Grammar, spelled_by, one}
-use Rattle.td_grammar.specs.Tokens.{terminal, name, literal, number_type, word}
+use Rattle.td_grammar.specs.Tokens.{terminal, name, qualified, literal, number_type, word}
 use Rattle.td_grammar.specs.Expressions.{sizeof_operand, leaning, comparing, products, sums, shifts, orders, equalities, bit_ands, bit_xors, bit_ors, ands, prim_from, un_from, group_of, triple_of, branches_of, expr_body, SpellsExpr, expr, nested_expr}
 use Rattle.td_grammar.specs.Operators.{truth_of, unary_operator, product_operator, sum_operator, shift_operator, order_operator, equality_operator, bit_and_operator, bit_xor_operator, bit_or_operator, and_operator, or_operator, truth_kinds, unary_kinds}
 use Rattle.td_grammar.proofs.Sets.{disjoint, covered}
@@ -172,6 +172,9 @@ known_by g G t a s = G.begun a t [] s
 closed_name : IsClosed name.Spells
 closed_name = closed_one (only any_name) _ (λ t a e. known_by name name_exact t a (t, refl, e)) refl
 
+closed_qualified : IsClosed qualified.Spells
+closed_qualified = closed_made _ (closed_both closed_name (closed_maybe (closed_made _ (closed_both (closed_terminal kinds.Dot refl) closed_name))))
+
 closed_leaning : (operator : Grammar (BinaryOperator × Span)) (g : Grammar Tree) → IsClosed operator.Spells → IsClosed g.Spells → IsClosed (leaning operator g).Spells
 closed_leaning operator g o p = closed_made _ (closed_both p (closed_all (closed_both o p)))
 
@@ -189,12 +192,12 @@ module _ (P : Relation Tree) (p : IsClosed P) where
   closed_branches = closed_made _ (closed_both (closed_terminal kinds.Question refl) (closed_both p (closed_both (closed_terminal kinds.Colon refl) p)))
 
   closed_sizeof : IsClosed sizeof_operand.Spells
-  closed_sizeof = closed_either (closed_made _ (closed_one (only any_number_type) _ (λ t a e. known_by number_type number_type_exact t a (t, refl, e)) refl)) (closed_either (closed_made _ closed_name) (closed_made _ (closed_terminal kinds.This refl)))
+  closed_sizeof = closed_either (closed_made _ (closed_one (only any_number_type) _ (λ t a e. known_by number_type number_type_exact t a (t, refl, e)) refl)) (closed_either (closed_made _ closed_qualified) (closed_made _ (closed_terminal kinds.This refl)))
 
   closed_prim : IsClosed (prim_from (group_of (spelled_by P)) (triple_of (spelled_by P))).Spells
   closed_prim =
       closed_either (closed_made _ (closed_one (only any_number) _ (λ t a e. known_by literal literal_exact t a (t, refl, e)) refl))
-      (closed_either (closed_made _ closed_name)
+      (closed_either (closed_made _ closed_qualified)
       (closed_either (closed_made _ (closed_one truth_kinds _ (λ t a e. known_by (word truth_kinds truth_of) truth_word t a (t, refl, e)) refl))
       (closed_either (closed_made _ (closed_terminal kinds.FieldPos refl))
       (closed_either (closed_made _ (closed_both (closed_terminal kinds.Sizeof refl) (closed_parentheses (closing_both (kept closed_sizeof) closing_terminal))))
