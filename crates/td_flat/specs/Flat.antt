@@ -1,0 +1,55 @@
+-- An input as one tree (own rule): that of a module is itself, that of parts has their definitions, part by part in the
+-- order of parts, each with the names of the whole.
+use Rattle.std.specs.Prelude.{◌≡◌, ℕ, List, [], flat_map, Option, Some, None, slice_get}
+use Rattle.td_ast.specs.declared.token.Span.{Span}
+use Rattle.td_ast.specs.declared.definitions.Def.{Def}
+use Rattle.td_ast.specs.declared.definitions.ModuleTree.{ModuleTree}
+use Rattle.td_ast.specs.declared.parts.PartTree.{PartTree}
+use Rattle.td_ast.specs.declared.parts.InputTree.{InputTree}
+use Rattle.td_ast.specs.declared.parts.InputTree.TheVariants.{Module, Parts}
+use Rattle.td_flat.specs.declared.error.FlatError.{FlatError}
+use Rattle.td_flat.specs.declared.error.FlatError.TheVariants.{Twice, Cycle, NoMemory}
+use Rattle.td_flat.specs.Definitions.{flat_part}
+use Rattle.td_order.specs.Order.{order}
+use Rattle.td_flat.specs.Order.{graph_of, first_twice, IsFirstCyclic, NoCycle}
+
+abbrev pub flat_or_none : Option PartTree → List Def
+flat_or_none None = []
+flat_or_none (Some p) = flat_part p
+
+abbrev pub flat_at : List PartTree → ℕ → List Def
+flat_at parts i = flat_or_none (slice_get parts i)
+
+abbrev pub flat_parts : List PartTree → ModuleTree
+flat_parts parts = record { definitions = flat_map (flat_at parts) (order (graph_of parts)) }
+
+abbrev pub flat : InputTree → ModuleTree
+flat (Module tree) = tree
+flat (Parts parts) = flat_parts parts
+
+-- all definitions in the order of the text, as they are written: what is counted (X1)
+abbrev pub written : InputTree → ModuleTree
+written (Module tree) = tree
+written (Parts parts) = record { definitions = flat_map (λ p. p.definitions) parts }
+
+-- a part has the name of an earlier one, first at this place
+abbrev pub IsTwice : InputTree → Span → Type 0
+IsTwice (Module tree) at = ⊥
+IsTwice (Parts parts) at = first_twice [] parts ≡ Some at
+
+-- distinct names, and uses in a cycle, first at this place
+abbrev pub IsCycle : InputTree → Span → Type 0
+IsCycle (Module tree) at = ⊥
+IsCycle (Parts parts) at = (first_twice [] parts ≡ None) × IsFirstCyclic parts at
+
+-- neither comes
+abbrev pub IsLinked : InputTree → Type 0
+IsLinked (Module tree) = Unit {0}
+IsLinked (Parts parts) = (first_twice [] parts ≡ None) × NoCycle parts
+
+-- why there is no tree
+abbrev pub IsFault : InputTree → FlatError → Type 0
+IsFault input (Twice at) = IsTwice input at
+IsFault input (Cycle at) = IsCycle input at
+IsFault (Module tree) NoMemory = ⊥
+IsFault (Parts parts) NoMemory = Unit {0}

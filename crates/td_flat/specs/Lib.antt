@@ -1,0 +1,10 @@
+pub mod Names
+pub mod Expressions
+pub mod Definitions
+pub mod Uses
+pub mod Order
+pub mod Lower
+pub mod Firsts
+pub mod Flat
+pub mod Laws
+pub mod Rows

@@ -1,0 +1,86 @@
+//! The tree of an input.
+
+ghost use Rattle.std.specs.Prelude.{◌≡◌, ◌<◌, ◌^◌, ◌++◌, None, Some, IfOk, IfErr, OnOk, MatchOption, flat_map, length, slice_get};
+ghost use Rattle.td_ast.specs.declared.parts.InputTree.TheVariants as InputTree;
+ghost use Rattle.td_flat.specs.Flat.{flat, flat_at, IsLinked, IsFault};
+
+use crate::cycle::first_cyclic;
+use crate::error::FlatError;
+use crate::graph::{all_uses, graph_of, names_of};
+use crate::parts::add_part;
+use std::alloc::{AllocError, Global};
+use td_ast::definitions::{Def, ModuleTree};
+use td_ast::parts::{InputTree, PartTree};
+use td_num::items::Items;
+use td_order::order::order;
+
+fn part_at(parts: &[PartTree], number: u32) -> Option<&PartTree>
+    ensures { MatchOption result (slice_get parts.now number ≡ None) (λ part. slice_get parts.now number ≡ Some part.now) }
+{
+    parts.get(number as usize)
+}
+
+#[tactic(auto, using(crate::proofs::Among::found_at))]
+fn add_at(
+    alloc: Global,
+    whole: &mut Items<Def>,
+    parts: &[PartTree],
+    number: u32,
+) -> Result<(), AllocError>
+    ensures { OnOk result (whole.new ≡ whole.old ++ flat_at parts.now number) }
+{
+    match part_at(parts, number) {
+        None => Ok(()),
+        Some(part) => {
+            add_part(alloc, whole, part)?;
+            Ok(())
+        }
+    }
+}
+
+// The definitions of parts, in this order.
+fn definitions(alloc: Global, parts: &[PartTree], numbers: &[u32]) -> Result<Items<Def>, AllocError>
+    ensures { IfOk result (λ whole. whole ≡ flat_map (flat_at parts.now) numbers.now) }
+{
+    let mut whole = Items::new(alloc);
+    for number in numbers {
+        add_at(alloc, &mut whole, parts, *number)?;
+    }
+    Ok(whole)
+}
+
+/// The tree of parts, which stay as they are; the errors are those of `flatten`.
+pub fn flat_parts(alloc: Global, parts: &[PartTree]) -> Result<ModuleTree, FlatError>
+    requires { length parts.now < 2 ^ 32 }
+    ensures ok { IfOk result (λ tree. IsLinked (InputTree.Parts parts.now) × (tree ≡ flat (InputTree.Parts parts.now))) }
+    ensures err { IfErr result (IsFault (InputTree.Parts parts.now)) }
+{
+    let names = names_of(alloc, parts)?;
+    let all = all_uses(alloc, parts)?;
+    let graph = graph_of(alloc, &names, all.as_slice())?;
+    if let Some(span) = first_cyclic(alloc, graph.as_slice(), &names, all.as_slice())? {
+        return Err(FlatError::Cycle { span });
+    }
+    let numbers = order(alloc, graph.as_slice())?;
+    let definitions = definitions(alloc, parts, numbers.as_slice())?;
+    Ok(ModuleTree { definitions })
+}
+
+/// The tree of an input: a module's own, or the definitions of parts, each part after those that it uses, with the names
+/// that they have in the whole text; places stay. `FlatError::Twice` names the first part that has the name of an earlier
+/// one (N2), `FlatError::Cycle` the first use of a part that reaches, by uses, the part in which it is used (N5), where no
+/// name is twice. `FlatError::NoMemory`: there are parts, and out of memory.
+pub fn flatten(alloc: Global, input: InputTree) -> Result<ModuleTree, FlatError>
+    ensures ok { IfOk result (λ tree. IsLinked input × (tree ≡ flat input)) }
+    ensures err { IfErr result (IsFault input) }
+{
+    match input {
+        InputTree::Module(tree) => Ok(tree),
+        InputTree::Parts(parts) => {
+            if parts.len() > u32::MAX as usize {
+                return Err(FlatError::NoMemory);
+            }
+            flat_parts(alloc, parts.as_slice())
+        }
+    }
+}

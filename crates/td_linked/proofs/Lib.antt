@@ -1,0 +1,6 @@
+pub mod Answers
+pub mod Words
+pub mod Sizes
+pub mod Picked
+pub mod Counted
+pub mod Whole

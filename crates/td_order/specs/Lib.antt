@@ -1,0 +1,4 @@
+pub mod Order
+pub mod Flags
+pub mod Waiting
+pub mod Heights
