@@ -1,6 +1,7 @@
 pub mod Tokens
 pub mod Names
 pub mod Words
+pub mod Types
 pub mod Expressions
 pub mod Fields
 pub mod Sizes

@@ -13,6 +13,7 @@ use Rattle.td_ast.specs.declared.definitions.SlotTree.{SlotTree}
 use Rattle.td_ast.specs.declared.definitions.CaseTree.{CaseTree}
 use Rattle.td_ast.specs.declared.definitions.Def.{Def}
 use Rattle.td_ast.specs.declared.definitions.ModuleTree.{ModuleTree}
+use Rattle.td_ast.specs.declared.parts.PartTree.{PartTree}
 use Rattle.td_ast.specs.Trees.{Tree}
 use Rattle.td_core.specs.WellFormed.{OfSome}
 use Rattle.td_grammar.specs.Grammar.{Grammar, ◌then◌, ◌making◌, maybe, all_of, ◌or◌}
@@ -25,6 +26,7 @@ use Rattle.td_grammar.specs.Actions.{action}
 use Rattle.td_grammar.specs.Parameters.{target, param, head}
 use Rattle.td_grammar.specs.Fields.{type_tree, extent, refinement, field}
 use Rattle.td_grammar.specs.Definitions.{closing, case_tree, item, slot, define, enum_head, enumeration, struct_rest, subject, default_case, cases, casetype, alias_rest, plainly, typedef, entrypoint, output, def, module_text}
+use Rattle.td_grammar.specs.Parts.{module_word, part}
 use Rattle.td_rules.specs.Modules.{param_name}
 use Rattle.td_rules.specs.Written.{params_written, fields_written, cases_written, default_written, slots_written, definition_written, definitions_written, names_written}
 use Rattle.td_admitted.proofs.Tokens.{OfKind, OfToken}
@@ -267,3 +269,16 @@ module _ (P : List ℕ → Type 0) where
   pub spelled_names : (t : ModuleTree) (tokens : List Token) → module_text.Spells t tokens → Each (OfToken P) tokens → Each P (names_written t)
   unfolding Gives
   spelled_names t tokens spelled h = module_gives t tokens spelled h
+
+  -- ---- parts
+
+  abbrev pub OfPart : PartTree → Type 0
+  OfPart p = P p.name.text × Each P (definitions_written p.definitions)
+
+  part_gives : Gives part OfPart
+  unfolding part
+  part_gives = made _ _ _ OfPart (later module_word _ _ (both name (all_of def) _ _ name_gives (each def OfDefinition def_gives))) (λ a h. (h.0, of_definitions a.1.1 h.1))
+
+  pub spelled_parts : (parts : List PartTree) (tokens : List Token) → (some_of part).Spells parts tokens → Each (OfToken P) tokens → Each OfPart parts
+  unfolding Gives
+  spelled_parts parts tokens spelled h = some part OfPart part_gives parts tokens spelled h

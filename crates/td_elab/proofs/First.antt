@@ -1,11 +1,15 @@
 -- The first of a list of breaches.
-use Rattle.std.proofs.Common.{length, ◌≡◌, ℕ, Bool, true, false, if◌then◌else◌, nat_lt, nat_eq, List, [], ◌∷◌, Option, Some, None, Contains, All, ◌⊎◌, inl, inr, subst, refl, sym, ap, ◌∙◌, arith}
+use Rattle.std.proofs.Common.{length, ◌≡◌, ℕ, Bool, true, false, if◌then◌else◌, nat_lt, nat_eq, List, [], ◌∷◌, ◌++◌, Option, Some, None, Contains, All, ◌⊎◌, inl, inr, subst, refl, sym, ap, ◌∙◌, arith}
 use Rattle.std.proofs.lemmas.Bool.Decides.{nat_tests}
-use Rattle.std.proofs.lemmas.List.Elements.{All-nil, All-cons, All-contains, Contains-get_or, Contains-append_right}
+use Rattle.std.proofs.lemmas.List.Elements.{All-nil, All-cons, All-append, All-contains, Contains-get_or, Contains-append_left, Contains-append_right}
 use Rattle.td_rules.specs.declared.breach.Rule.{Rule}
 use Rattle.td_rules.specs.declared.breach.Rule.TheVariants.{Unknown, Twice, NotReadable, WrongArgs, Mismatch, Narrowing, NotConstant, BadAction}
 use Rattle.td_rules.specs.declared.breach.Breach.{Breach}
+use Rattle.td_ast.specs.declared.definitions.Def.{Def}
+use Rattle.td_rules.specs.declared.known.Known.{Known}
 use Rattle.td_rules.specs.Breach.{rank, is_sooner, first_of, IsFirst}
+use Rattle.td_rules.specs.Definitions.{definition_breaches, after, definitions_breaches}
+use Rattle.td_elab.specs.Firsts.{breaches_each, first_among, all_of, IsFirstIn, AreRising}
 
 -- one step of the order: the first numbers decide, and where they are equal the rest does
 abbrev step : ℕ → ℕ → Bool → Bool
@@ -146,3 +150,57 @@ some_first bs = by (first_of None bs) refl
     by : (o : Option Breach) → first_of None bs ≡ o → (bs ≡ []) ⊎ ((b : Breach) × IsFirst b bs)
     by None e = inl (none_found bs e)
     by (Some b) e = inr (b, found_first bs b e)
+
+-- ---- of several definitions
+
+abbrev nothing : Option Breach
+nothing = None
+
+pub found_first_in : (bss : List (List Breach)) (o : Option Breach) (f : Breach) → first_among o bss ≡ Some f → (o ≡ Some f) ⊎ ((o ≡ nothing) × IsFirstIn f bss)
+found_first_in [] o f e = inl e
+found_first_in (bs ∷ bss) (Some a) f e = elim (found_first_in bss (Some a) f e) [ inl h ↦ inl h | inr h ↦ absurd (cc (h.0)) ]
+found_first_in (bs ∷ bss) None f e = by (found_first_in bss (first_of None bs) f e)
+  where
+    by : (first_of None bs ≡ Some f) ⊎ ((first_of None bs ≡ nothing) × IsFirstIn f bss) → (nothing ≡ Some f) ⊎ ((nothing ≡ nothing) × (IsFirst f bs ⊎ ((bs ≡ []) × IsFirstIn f bss)))
+    by (inl h) = inr (refl, inl (found_first bs f h))
+    by (inr h) = inr (refl, inr (none_found bs h.0, h.1))
+
+pub none_found_in : (bss : List (List Breach)) (o : Option Breach) → first_among o bss ≡ None → (o ≡ None) × (all_of bss ≡ [])
+none_found_in [] o e = (e, refl)
+none_found_in (bs ∷ bss) (Some a) e = absurd (cc ((none_found_in bss (Some a) e).0))
+none_found_in (bs ∷ bss) None e = let h = none_found_in bss (first_of None bs) e in (refl, rw (none_found bs h.0, h.1) refl)
+
+pub first_is_there : (bss : List (List Breach)) (b : Breach) → IsFirstIn b bss → Contains (all_of bss) b
+first_is_there [] b h = absurd h
+first_is_there (bs ∷ bss) b (inl h) = Contains-append_left bs (all_of bss) b h.0
+first_is_there (bs ∷ bss) b (inr h) = Contains-append_right bs (all_of bss) b (first_is_there bss b h.1)
+
+pub one_first_in : (bss : List (List Breach)) (a b : Breach) → IsFirstIn a bss → IsFirstIn b bss → a ≡ b
+one_first_in [] a b h k = absurd h
+one_first_in (bs ∷ bss) a b (inl h) (inl k) = one_first bs a b h k
+one_first_in (bs ∷ bss) a b (inl h) (inr k) = absurd (none_among bs a k.0 h.0)
+one_first_in (bs ∷ bss) a b (inr h) (inl k) = absurd (none_among bs b h.0 k.0)
+one_first_in (bs ∷ bss) a b (inr h) (inr k) = one_first_in bss a b h.1 k.1
+
+pub some_first_in : (bss : List (List Breach)) → (all_of bss ≡ []) ⊎ ((b : Breach) × IsFirstIn b bss)
+some_first_in bss = by (first_among None bss) refl
+  where
+    by : (o : Option Breach) → first_among None bss ≡ o → (all_of bss ≡ []) ⊎ ((b : Breach) × IsFirstIn b bss)
+    by None e = inl (none_found_in bss None e).1
+    by (Some b) e = elim (found_first_in bss None b e) [ inl h ↦ absurd (cc h) | inr h ↦ inr (b, h.1) ]
+
+pub each_is_all : (names : List (List ℕ)) (k : Known) (ds : List Def) → all_of (breaches_each names k ds) ≡ definitions_breaches names k ds
+each_is_all names k [] = refl
+each_is_all names k (d ∷ ds) = ap (λ bs. definition_breaches names k d ++ bs) (each_is_all names (after names k d) ds)
+
+all_from : (P : Breach → Type 0) (bs : List Breach) → ((b : Breach) → Contains bs b → P b) → All P bs
+all_from P [] h = All-nil P
+all_from P (b ∷ bs) h = All-cons P b bs (h b (Contains-get_or (b ∷ bs) 0 b (omega arith))) (all_from P bs (λ c k. h c (Contains-append_right (b ∷ []) bs c k)))
+
+pub first_of_all : (bss : List (List Breach)) (b : Breach) → AreRising bss → IsFirstIn b bss → IsFirst b (all_of bss)
+first_of_all [] b r h = absurd h
+first_of_all (bs ∷ bss) b r (inl h) =
+    (Contains-append_left bs (all_of bss) b h.0, All-append (λ c. is_sooner c b ≡ false) bs (all_of bss) h.1 (all_from (λ c. is_sooner c b ≡ false) (all_of bss) (λ c k. r.0 b c h.0 k)))
+first_of_all (bs ∷ bss) b r (inr h) =
+    let rest = first_of_all bss b r.1 h.1 in
+    rw (h.0) rest

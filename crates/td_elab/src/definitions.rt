@@ -10,8 +10,9 @@ ghost use Rattle.td_rules.specs.ExprRules.{test_breaches};
 ghost use Rattle.td_rules.specs.Fields.{fields_breaches, fields_taken, fields_core};
 ghost use Rattle.td_rules.specs.Records.{after_record, record_breaches};
 ghost use Rattle.td_rules.specs.Casetypes.{switch_breaches, switch_taken, switch_core};
-ghost use Rattle.td_rules.specs.Definitions.{with_names, entry_more, with_type, struct_scope, struct_breaches, after_struct, casetype_breaches, after_casetype, definition_breaches, after, definitions_breaches, known_after};
+ghost use Rattle.td_rules.specs.Definitions.{with_names, entry_more, with_type, struct_scope, struct_breaches, after_struct, casetype_breaches, after_casetype, definition_breaches, after, known_after};
 ghost use Rattle.td_elab.specs.Heads.{announced, with_definition};
+ghost use Rattle.td_elab.specs.Firsts.{breaches_each, earlier, first_among};
 
 use crate::casetypes::switch;
 use std::alloc::{AllocError, Global};
@@ -298,7 +299,17 @@ fn definition(
     }
 }
 
-/// What is known after all definitions; their breaches are noted. `AllocError`: there is one, and out of memory.
+/// What was found in an earlier definition stays, and else there is what was found in this one.
+fn keep_earlier(findings: &mut Findings, own: Findings)
+    ensures { findings.new.first ≡ earlier findings.old.first own.first }
+{
+    if findings.first.is_none() {
+        findings.first = own.first;
+    }
+}
+
+/// What is known after all definitions; of their breaches the first of the first definition that has one is noted.
+/// `AllocError`: there is one, and out of memory.
 pub fn definitions(
     alloc: Global,
     names: &Names,
@@ -306,13 +317,15 @@ pub fn definitions(
     findings: &mut Findings,
 ) -> Result<Known, AllocError>
     ensures known { IfOk result (λ k. k ≡ known_after names.now nothing_known trees.now) }
-    ensures first { OnOk result (findings.new.first ≡ first_of findings.old.first (definitions_breaches names.now nothing_known trees.now)) }
+    ensures first { OnOk result (findings.new.first ≡ first_among findings.old.first (breaches_each names.now nothing_known trees.now)) }
     ensures memory { OnErr result (0 < length trees.now) }
 {
     let mut known = nothing_known(alloc);
     let mut slots = Items::new(alloc);
     for tree in trees {
-        definition(alloc, names, &mut known, &mut slots, tree, findings)?;
+        let mut own = Findings::new();
+        definition(alloc, names, &mut known, &mut slots, tree, &mut own)?;
+        keep_earlier(findings, own);
     }
     Ok(known)
 }

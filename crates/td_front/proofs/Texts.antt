@@ -1,7 +1,9 @@
 -- What a text is answered: it stands for one module or has one refusal.
-use Rattle.std.proofs.Common.{◌≡◌, ℕ, List, Result, Ok, Err, ◌⊎◌, inl, inr, ◌↔◌, refl, sym, ap, ◌∙◌}
+use Rattle.std.proofs.Common.{◌≡◌, ℕ, List, Result, Ok, Err, ◌⊎◌, inl, inr, ◌↔◌, refl, sym, ap, subst, ◌∙◌}
 use Rattle.td_ast.specs.declared.token.Token.{Token}
 use Rattle.td_ast.specs.declared.definitions.ModuleTree.{ModuleTree}
+use Rattle.td_ast.specs.declared.parts.InputTree.{InputTree}
+use Rattle.td_ast.specs.declared.parts.InputTree.TheVariants.{Module as Parsed}
 use Rattle.td_core.specs.declared.module.Module.{Module}
 use Rattle.td_lexer.specs.declared.error.LexError.{LexError}
 use Rattle.td_lexer.specs.declared.error.LexError.TheVariants.{BadByte as BadByteAt, OpenComment as OpenCommentAt, BigNumber as BigNumberAt, NoMemory as NoTokens}
@@ -9,18 +11,21 @@ use Rattle.td_lexer.specs.Scanner.{tokens_of}
 use Rattle.td_lexer.specs.Splits.{Splits, IsRefused}
 use Rattle.td_grammar.specs.Spelling.{IsFirstRefused}
 use Rattle.td_grammar.specs.Limits.{IsFirstDeep, IsWithinLimits}
-use Rattle.td_grammar.specs.Definitions.{module_text}
+use Rattle.td_grammar.specs.Parts.{input_text}
 use Rattle.td_grammar.specs.Laws.{Answer, Tree, Refused, TooDeep, EachAnswered, OneTree, OneRefused, OneTooDeep, NeverBoth as NeverBothSpelled}
 use Rattle.td_rules.specs.Modules.{module_of}
-use Rattle.td_elab.specs.Laws.{OneIsFirst, SomeIsFirst}
+use Rattle.td_flat.specs.Flat.{flat, IsLinked}
 use Rattle.td_front.specs.declared.error.FrontError.{FrontError}
-use Rattle.td_front.specs.declared.error.FrontError.TheVariants.{BadByte, OpenComment, BigNumber, Unexpected, Deep, Limit, Broken, ZeroElement, RestNotLast, Unsafe, NoMemory}
+use Rattle.td_front.specs.declared.error.FrontError.TheVariants.{BadByte, OpenComment, BigNumber, Unexpected, Deep, Limit, Broken, Cycle, ZeroElement, RestNotLast, Unsafe, NoMemory}
 use Rattle.td_front.specs.Errors.{of_lexing}
-use Rattle.td_front.specs.Passes.{RefusesTree}
+use Rattle.td_front.specs.Passes.{IsAdmitted, RefusesTree}
+use Rattle.td_front.specs.Inputs.{HasInputCounts, IsAdmittedInput, RefusesInput}
 use Rattle.td_front.specs.ModuleText.{SpellsTree, IsModuleText, beginning_of, RefusedTree, RefusedBy}
-use Rattle.td_front.proofs.Trees.{Judgement, judged, admitted_judged, refused_judged, Decided, decided}
+use Rattle.td_front.specs.Laws.{IsAnsweredAs}
+use Rattle.td_front.proofs.Trees.{Judgement, Decided, decided}
+use Rattle.td_front.proofs.Inputs.{Parting, judged_input, admitted_input, refused_input, DecidedInput, decided_input, alone_refused}
 
--- what the crates below say of tokens, trees and breaches
+-- what the crates below say of tokens, trees, breaches and parts
 pub record Below : Type 0 where
   pub tokens : (text : List ℕ) (tokens : List Token) → (tokens_of text ≡ Ok tokens) ↔ Splits text tokens
   pub refusals : (text : List ℕ) (error : LexError) → (tokens_of text ≡ Err error) ↔ IsRefused text error
@@ -29,13 +34,12 @@ pub record Below : Type 0 where
   pub one_refused : OneRefused
   pub one_deep : OneTooDeep
   pub never_both : NeverBothSpelled
-  pub one_first : OneIsFirst
-  pub some_first : SomeIsFirst
+  pub parting : Parting
 
 -- ---- the answer
 
-abbrev parsed : Below → (text : List ℕ) (tokens : List Token) → Answer module_text tokens → Judgement
-parsed below text tokens (Tree tree spelled within) = judged below.some_first tree
+abbrev parsed : Below → (text : List ℕ) (tokens : List Token) → Answer input_text tokens → Judgement
+parsed below text tokens (Tree input spelled within) = judged_input below.parting input
 parsed below text tokens (Refused place first within) = Err (Unexpected place (beginning_of text tokens place))
 parsed below text tokens (TooDeep place first) = Err (Deep place (beginning_of text tokens place))
 
@@ -51,25 +55,25 @@ to_parsed below text tokens split = ap (lexed below text) ((below.tokens text to
 
 -- ---- trees
 
-deep_within : (tokens : List Token) (place : ℕ) → IsFirstDeep module_text.Passes tokens place → IsWithinLimits module_text.Passes tokens → ⊥
+deep_within : (tokens : List Token) (place : ℕ) → IsFirstDeep input_text.Passes tokens place → IsWithinLimits input_text.Passes tokens → ⊥
 deep_within tokens place deep within = within place deep.within deep.here
 
-parsed_tree : (below : Below) (text : List ℕ) (tokens : List Token) (tree : ModuleTree) → module_text.Spells tree tokens → IsWithinLimits module_text.Passes tokens → (a : Answer module_text tokens) → parsed below text tokens a ≡ judged below.some_first tree
-parsed_tree below text tokens tree spelled within (Tree other also w) = ap (judged below.some_first) (below.one_tree tokens other tree also spelled)
-parsed_tree below text tokens tree spelled within (Refused place first w) = absurd (below.never_both tokens tree place spelled first)
-parsed_tree below text tokens tree spelled within (TooDeep place first) = absurd (deep_within tokens place first within)
+parsed_tree : (below : Below) (text : List ℕ) (tokens : List Token) (input : InputTree) → input_text.Spells input tokens → IsWithinLimits input_text.Passes tokens → (a : Answer input_text tokens) → parsed below text tokens a ≡ judged_input below.parting input
+parsed_tree below text tokens input spelled within (Tree other also w) = ap (judged_input below.parting) (below.one_tree tokens other input also spelled)
+parsed_tree below text tokens input spelled within (Refused place first w) = absurd (below.never_both tokens input place spelled first)
+parsed_tree below text tokens input spelled within (TooDeep place first) = absurd (deep_within tokens place first within)
 
-to_judged : (below : Below) (text : List ℕ) (tree : ModuleTree) → SpellsTree text tree → answer below text ≡ judged below.some_first tree
-to_judged below text tree h = to_parsed below text h.tokens h.split ∙ parsed_tree below text h.tokens tree h.spelled h.within (below.answered h.tokens)
+to_judged : (below : Below) (text : List ℕ) (input : InputTree) → SpellsTree text input → answer below text ≡ judged_input below.parting input
+to_judged below text input h = to_parsed below text h.tokens h.split ∙ parsed_tree below text h.tokens input h.spelled h.within (below.answered h.tokens)
 
 -- ---- tokens that spell none
 
-parsed_refused : (below : Below) (text : List ℕ) (tokens : List Token) (place : ℕ) → IsFirstRefused module_text.Spells tokens place → IsWithinLimits module_text.Passes tokens → (a : Answer module_text tokens) → parsed below text tokens a ≡ Err (Unexpected place (beginning_of text tokens place))
+parsed_refused : (below : Below) (text : List ℕ) (tokens : List Token) (place : ℕ) → IsFirstRefused input_text.Spells tokens place → IsWithinLimits input_text.Passes tokens → (a : Answer input_text tokens) → parsed below text tokens a ≡ Err (Unexpected place (beginning_of text tokens place))
 parsed_refused below text tokens place first within (Tree tree spelled w) = absurd (below.never_both tokens tree place spelled first)
 parsed_refused below text tokens place first within (Refused other also w) = ap (λ (p : ℕ). let r : Judgement = Err (Unexpected p (beginning_of text tokens p)) in r) (below.one_refused tokens other place also first)
 parsed_refused below text tokens place first within (TooDeep other deep) = absurd (deep_within tokens other deep within)
 
-parsed_deep : (below : Below) (text : List ℕ) (tokens : List Token) (place : ℕ) → IsFirstDeep module_text.Passes tokens place → (a : Answer module_text tokens) → parsed below text tokens a ≡ Err (Deep place (beginning_of text tokens place))
+parsed_deep : (below : Below) (text : List ℕ) (tokens : List Token) (place : ℕ) → IsFirstDeep input_text.Passes tokens place → (a : Answer input_text tokens) → parsed below text tokens a ≡ Err (Deep place (beginning_of text tokens place))
 parsed_deep below text tokens place deep (Tree tree spelled w) = absurd (deep_within tokens place deep w)
 parsed_deep below text tokens place deep (Refused other also w) = absurd (deep_within tokens place deep w)
 parsed_deep below text tokens place deep (TooDeep other also) = ap (λ (p : ℕ). let r : Judgement = Err (Deep p (beginning_of text tokens p)) in r) (below.one_deep tokens other place also deep)
@@ -78,13 +82,13 @@ parsed_deep below text tokens place deep (TooDeep other also) = ap (λ (p : ℕ)
 
 stands_answer : (below : Below) (text : List ℕ) (m : Module) → IsModuleText text m → answer below text ≡ Ok m
 stands_answer below text m h =
-    to_judged below text h.tree h.spells ∙ admitted_judged below.some_first h.tree h.admitted ∙ ap (λ (x : Module). let r : Judgement = Ok x in r) (sym h.module_is)
+    to_judged below text h.input h.spells ∙ admitted_input below.parting h.input h.admitted ∙ ap (λ (x : Module). let r : Judgement = Ok x in r) (sym h.module_is)
 
 lexed_answer : (below : Below) (text : List ℕ) (l : LexError) → IsRefused text l → answer below text ≡ Err (of_lexing l)
 lexed_answer below text l h = ap (lexed below text) ((below.refusals text l).1 h)
 
 tree_answer : (below : Below) (text : List ℕ) (e : FrontError) → RefusedTree text e → answer below text ≡ Err e
-tree_answer below text e h = to_judged below text h.0 h.1 ∙ refused_judged below.one_first below.some_first h.0 e h.2
+tree_answer below text e h = to_judged below text h.0 h.1 ∙ refused_input below.parting h.0 e h.2
 
 refused_answer : (below : Below) (text : List ℕ) (e : FrontError) → RefusedBy text e → answer below text ≡ Err e
 refused_answer below text (BadByte at) h = lexed_answer below text (BadByteAt at) h
@@ -96,6 +100,7 @@ refused_answer below text (Deep token at) h =
     to_parsed below text h.0 h.1 ∙ parsed_deep below text h.0 token h.2 (below.answered h.0) ∙ ap (λ (n : ℕ). let r : Judgement = Err (Deep token n) in r) (sym h.3)
 refused_answer below text (Limit limit span) h = tree_answer below text (Limit limit span) h
 refused_answer below text (Broken rule span) h = tree_answer below text (Broken rule span) h
+refused_answer below text (Cycle span) h = tree_answer below text (Cycle span) h
 refused_answer below text (ZeroElement span) h = tree_answer below text (ZeroElement span) h
 refused_answer below text (RestNotLast span) h = tree_answer below text (RestNotLast span) h
 refused_answer below text (Unsafe span op) h = tree_answer below text (Unsafe span op) h
@@ -112,30 +117,37 @@ one_refusal below text e f h k = let one = refused_answer below text e h in let 
 pub never_both : Below → (text : List ℕ) (m : Module) (e : FrontError) → IsModuleText text m → RefusedBy text e → ⊥
 never_both below text m e h k = let one = stands_answer below text m h in let two = refused_answer below text e k in cc
 
--- a refusal of the tree is one of the text
-pub of_tree : (text : List ℕ) (tree : ModuleTree) → SpellsTree text tree → (e : FrontError) → RefusesTree tree e → RefusedBy text e
-of_tree text tree spells (BadByte at) h = absurd h
-of_tree text tree spells (OpenComment at) h = absurd h
-of_tree text tree spells (BigNumber at) h = absurd h
-of_tree text tree spells (Unexpected token at) h = absurd h
-of_tree text tree spells (Deep token at) h = absurd h
-of_tree text tree spells (Limit limit span) h = (tree, spells, h)
-of_tree text tree spells (Broken rule span) h = (tree, spells, h)
-of_tree text tree spells (ZeroElement span) h = (tree, spells, h)
-of_tree text tree spells (RestNotLast span) h = (tree, spells, h)
-of_tree text tree spells (Unsafe span op) h = (tree, spells, h)
-of_tree text tree spells NoMemory h = absurd h
+-- neither by counts, nor by parts, nor by the one tree
+nowhere : {A B : Type 0} → ⊥ ⊎ (A × (⊥ ⊎ (B × ⊥))) → ⊥
+nowhere (inl h) = h
+nowhere (inr (has, inl h)) = h
+nowhere (inr (has, inr (linked, h))) = h
+
+-- a refusal of what it spells is one of the text
+pub of_input : (text : List ℕ) (input : InputTree) → SpellsTree text input → (e : FrontError) → RefusesInput input e → RefusedBy text e
+of_input text input spells (BadByte at) h = absurd (nowhere h)
+of_input text input spells (OpenComment at) h = absurd (nowhere h)
+of_input text input spells (BigNumber at) h = absurd (nowhere h)
+of_input text input spells (Unexpected token at) h = absurd (nowhere h)
+of_input text input spells (Deep token at) h = absurd (nowhere h)
+of_input text input spells (Limit limit span) h = (input, spells, h)
+of_input text input spells (Broken rule span) h = (input, spells, h)
+of_input text input spells (Cycle span) h = (input, spells, h)
+of_input text input spells (ZeroElement span) h = (input, spells, h)
+of_input text input spells (RestNotLast span) h = (input, spells, h)
+of_input text input spells (Unsafe span op) h = (input, spells, h)
+of_input text input spells NoMemory h = absurd (nowhere h)
 
 abbrev pub OneOfBoth : List ℕ → Type 0
 OneOfBoth text = ((m : Module) × IsModuleText text m) ⊎ ((e : FrontError) × RefusedBy text e)
 
-tree_decided : (text : List ℕ) (tree : ModuleTree) → SpellsTree text tree → Decided tree → OneOfBoth text
-tree_decided text tree spells (inl admitted) = inl (module_of tree, record { tree = tree; spells = spells; admitted = admitted; module_is = refl })
-tree_decided text tree spells (inr (e, h)) = inr (e, of_tree text tree spells e h)
+input_decided : (text : List ℕ) (input : InputTree) → SpellsTree text input → DecidedInput input → OneOfBoth text
+input_decided text input spells (inl admitted) = inl (module_of (flat input), record { input = input; spells = spells; admitted = admitted; module_is = refl })
+input_decided text input spells (inr (e, h)) = inr (e, of_input text input spells e h)
 
-tokens_decided : Below → (text : List ℕ) (tokens : List Token) → Splits text tokens → Answer module_text tokens → OneOfBoth text
-tokens_decided below text tokens split (Tree tree spelled within) =
-    tree_decided text tree (record { tokens = tokens; split = split; spelled = spelled; within = within }) (decided below.some_first tree)
+tokens_decided : Below → (text : List ℕ) (tokens : List Token) → Splits text tokens → Answer input_text tokens → OneOfBoth text
+tokens_decided below text tokens split (Tree input spelled within) =
+    input_decided text input (record { tokens = tokens; split = split; spelled = spelled; within = within }) (decided_input below.parting input)
 tokens_decided below text tokens split (Refused place first within) = inr (Unexpected place (beginning_of text tokens place), (tokens, split, first, within, refl))
 tokens_decided below text tokens split (TooDeep place first) = inr (Deep place (beginning_of text tokens place), (tokens, split, first, refl))
 
@@ -151,3 +163,32 @@ always_one below text = by (tokens_of text) refl
     by : (r : Result (List Token) LexError) → tokens_of text ≡ r → OneOfBoth text
     by (Ok tokens) e = tokens_decided below text tokens ((below.tokens text tokens).0 e) (below.answered tokens)
     by (Err l) e = lexed_decided text l ((below.refusals text l).0 e)
+
+-- ---- as the one tree
+
+-- a text that stands for what its tree does, and is refused as it is
+answered_as : Below → (text : List ℕ) (tree : ModuleTree) → (IsAdmitted tree → IsModuleText text (module_of tree)) → ((e : FrontError) → RefusesTree tree e → RefusedBy text e) → IsAnsweredAs text tree
+answered_as below text tree admitted refused = by (decided below.parting.firsts tree)
+  where
+    by : Decided tree → IsAnsweredAs text tree
+    by (inl a) = record {
+      stands = λ m. (
+        (λ h. (a, one_module below text m (module_of tree) h (admitted a))),
+        (λ h. subst (IsModuleText text) (sym h.1) (admitted h.0)),
+      );
+      refused = λ e. ((λ h. absurd (never_both below text (module_of tree) e (admitted a) h)), refused e);
+    }
+    by (inr (f, r)) = record {
+      stands = λ m. ((λ h. absurd (never_both below text m f h (refused f r))), (λ h. subst (IsModuleText text) (sym h.1) (admitted h.0)));
+      refused = λ e. ((λ h. subst (RefusesTree tree) (one_refusal below text f e (refused f r) h) r), refused e);
+    }
+
+pub parts_flat : Below → (text : List ℕ) (input : InputTree) → SpellsTree text input → HasInputCounts input → IsLinked input → IsAnsweredAs text (flat input)
+parts_flat below text input spells has linked =
+    answered_as below text (flat input) (λ a. record { input = input; spells = spells; admitted = (has, linked, a); module_is = refl })
+    (λ e h. of_input text input spells e (inr (has, inr (linked, h))))
+
+pub modules_alone : Below → (text : List ℕ) (tree : ModuleTree) → SpellsTree text (Parsed tree) → IsAnsweredAs text tree
+modules_alone below text tree spells =
+    answered_as below text tree (λ a. record { input = Parsed tree; spells = spells; admitted = (a.0.0.0.0, tt, a); module_is = refl })
+    (λ e h. of_input text (Parsed tree) spells e (alone_refused tree e h))

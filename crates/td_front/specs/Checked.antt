@@ -1,13 +1,14 @@
 -- What holds of each module that a text stands for (own rule). Layers above rest on this alone, and never look into trees.
-use Rattle.std.specs.Prelude.{◌≡◌, ◌≤◌, ℕ, List, [], length, Some, None, slice_get}
+use Rattle.std.specs.Prelude.{◌≡◌, ◌⊎◌, ◌≤◌, ℕ, List, [], length, Some, None, slice_get}
 use Rattle.td_num.specs.Lists.{Each}
 use Rattle.td_core.specs.declared.module.Module.{Module}
 use Rattle.td_core.specs.Formed.{IsModuleFormed}
 use Rattle.td_core.specs.declared.limits.TheConstants.{MOST_NODES, MOST_DEPTH, MOST_WEIGHT}
+use Rattle.td_core.specs.Entries.{name_bytes}
 use Rattle.td_core.specs.Weights.{depth_of, definitions_nodes, weight_of}
 use Rattle.td_core.specs.WellFormed.{EachField, IsWhole, IsFieldWhole, IsDefinitionSorted, IsDefinitionNamed, IsWithin}
 use Rattle.td_sizes.specs.Sizes.{IsFieldStepped}
-use Rattle.td_lexer.specs.Splits.{IsName}
+use Rattle.td_lexer.specs.Splits.{IsName, IsDotted, IsLongName}
 use Rattle.td_kinds.specs.KindRules.{kind_faults}
 use Rattle.td_arith.specs.SafeModule.{module_unsafe}
 
@@ -29,8 +30,10 @@ pub record IsChecked (m : Module) : Type 0 where
   -- each name in a definition has its bytes, and no other name has them
   pub named : Each (IsDefinitionNamed (length m.names)) m.definitions
   pub apart : AreApart m.names
-  -- each name is a letter or `_`, then letters, digits and `_`, and no keyword
-  pub words : Each IsName m.names
+  -- each name is a letter or `_`, then letters, digits and `_`, and no keyword, or two such joined by a dot
+  pub words : Each IsLongName m.names
+  -- those of types are all words, or all two joined by a dot
+  pub types : Each (λ d. IsName (name_bytes m d.name)) m.definitions ⊎ Each (λ d. IsDotted (name_bytes m d.name)) m.definitions
   -- definitions, parameters, cells, fields and cases are no more than a text may have
   pub within : IsWithin m
   -- nor are nodes, the depth of each definition, and its weight

@@ -6,6 +6,9 @@ use Rattle.td_lexer.specs.declared.error.LexError.TheVariants.{BadByte as BadByt
 use Rattle.td_parser.specs.declared.error.ParseError.{ParseError}
 use Rattle.td_parser.specs.declared.error.ParseError.TheVariants.{Unexpected as UnexpectedToken, Deep as DeepToken, NoMemory as NoTree}
 use Rattle.td_limits.specs.declared.limits.Excess.{Excess}
+use Rattle.td_flat.specs.declared.error.FlatError.{FlatError}
+use Rattle.td_flat.specs.declared.error.FlatError.TheVariants.{Twice as TwiceAt, Cycle as CycleAt, NoMemory as NotFlat}
+use Rattle.td_rules.specs.declared.breach.Rule.TheVariants.{Twice}
 use Rattle.td_elab.specs.declared.elaborate.ElabError.{ElabError}
 use Rattle.td_elab.specs.declared.elaborate.ElabError.TheVariants.{Broken as BrokenAt, NoMemory as NoModule}
 use Rattle.td_kinds.specs.declared.error.KindError.{KindError}
@@ -13,7 +16,7 @@ use Rattle.td_kinds.specs.declared.error.KindError.TheVariants.{ZeroElement as Z
 use Rattle.td_arith.specs.declared.error.ArithError.{ArithError}
 use Rattle.td_arith.specs.declared.error.ArithError.TheVariants.{Unsafe as UnsafeAt, NoMemory as NoSafety}
 use Rattle.td_front.specs.declared.error.FrontError.{FrontError}
-use Rattle.td_front.specs.declared.error.FrontError.TheVariants.{BadByte, OpenComment, BigNumber, Unexpected, Deep, Limit, Broken, ZeroElement, RestNotLast, Unsafe, NoMemory}
+use Rattle.td_front.specs.declared.error.FrontError.TheVariants.{BadByte, OpenComment, BigNumber, Unexpected, Deep, Limit, Broken, Cycle, ZeroElement, RestNotLast, Unsafe, NoMemory}
 use Rattle.td_front.specs.ModuleText.{beginning_of}
 
 abbrev pub of_lexing : LexError → FrontError
@@ -30,6 +33,12 @@ of_parsing text tokens NoTree = NoMemory
 
 abbrev pub of_excess : Excess → FrontError
 of_excess e = Limit e.limit e.span
+
+-- of parts
+abbrev pub of_flattening : FlatError → FrontError
+of_flattening (TwiceAt span) = Broken Twice span
+of_flattening (CycleAt span) = Cycle span
+of_flattening NotFlat = NoMemory
 
 abbrev pub of_elaboration : ElabError → FrontError
 of_elaboration (BrokenAt rule span) = Broken rule span

@@ -1,9 +1,16 @@
 -- What holds of module texts and their refusals.
-use Rattle.std.specs.Prelude.{◌≡◌, ℕ, List, ◌⊎◌}
+use Rattle.std.specs.Prelude.{◌≡◌, ◌↔◌, ℕ, List, ◌⊎◌}
+use Rattle.td_ast.specs.declared.definitions.ModuleTree.{ModuleTree}
+use Rattle.td_ast.specs.declared.parts.InputTree.{InputTree}
+use Rattle.td_ast.specs.declared.parts.InputTree.TheVariants.{Module as Parsed}
 use Rattle.td_core.specs.declared.module.Module.{Module}
+use Rattle.td_rules.specs.Modules.{module_of}
+use Rattle.td_flat.specs.Flat.{flat, IsLinked}
 use Rattle.td_front.specs.declared.error.FrontError.{FrontError}
 use Rattle.td_front.specs.Checked.{IsChecked}
-use Rattle.td_front.specs.ModuleText.{IsModuleText, RefusedBy}
+use Rattle.td_front.specs.Passes.{IsAdmitted, RefusesTree}
+use Rattle.td_front.specs.Inputs.{HasInputCounts}
+use Rattle.td_front.specs.ModuleText.{IsModuleText, RefusedBy, SpellsTree}
 
 -- a text stands for at most one module
 abbrev pub OneModuleEach : Type 0
@@ -24,3 +31,16 @@ AlwaysOne = (text : List ℕ) → ((m : Module) × IsModuleText text m) ⊎ ((e 
 -- what holds of each module for which a text stands
 abbrev pub ModulesAreChecked : Type 0
 ModulesAreChecked = (text : List ℕ) (m : Module) → IsModuleText text m → IsChecked m
+
+-- A text is answered as its tree is: it stands for the module of an admitted tree, with the tree's refusals, and no others.
+pub record IsAnsweredAs (text : List ℕ) (tree : ModuleTree) : Type 0 where
+  pub stands : (m : Module) → IsModuleText text m ↔ (IsAdmitted tree × (m ≡ module_of tree))
+  pub refused : (e : FrontError) → RefusedBy text e ↔ RefusesTree tree e
+
+-- Where no count is passed and parts are linked, the text is answered as the one tree that the parts are, at the same places.
+abbrev pub PartsAreAnsweredFlat : Type 0
+PartsAreAnsweredFlat = (text : List ℕ) (input : InputTree) → SpellsTree text input → HasInputCounts input → IsLinked input → IsAnsweredAs text (flat input)
+
+-- a text without parts is answered as its tree
+abbrev pub ModulesAreAnsweredAlone : Type 0
+ModulesAreAnsweredAlone = (text : List ℕ) (tree : ModuleTree) → SpellsTree text (Parsed tree) → IsAnsweredAs text tree

@@ -1,4 +1,5 @@
 pub mod Passes
+pub mod Inputs
 pub mod ModuleText
 pub mod Laws
 pub mod Errors

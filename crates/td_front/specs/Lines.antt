@@ -7,7 +7,7 @@ use Rattle.td_limits.specs.declared.limits.Limit.TheVariants as limit
 use Rattle.td_rules.specs.declared.breach.Rule.{Rule}
 use Rattle.td_rules.specs.declared.breach.Rule.TheVariants as rule
 use Rattle.td_front.specs.declared.error.FrontError.{FrontError}
-use Rattle.td_front.specs.declared.error.FrontError.TheVariants.{BadByte, OpenComment, BigNumber, Unexpected, Deep, Limit, Broken, ZeroElement, RestNotLast, Unsafe, NoMemory}
+use Rattle.td_front.specs.declared.error.FrontError.TheVariants.{BadByte, OpenComment, BigNumber, Unexpected, Deep, Limit, Broken, Cycle, ZeroElement, RestNotLast, Unsafe, NoMemory}
 
 -- the byte of the text at which it stands
 abbrev pub place_of : FrontError → ℕ
@@ -18,6 +18,7 @@ place_of (Unexpected token at) = at
 place_of (Deep token at) = at
 place_of (Limit limit span) = span.from
 place_of (Broken rule span) = span.from
+place_of (Cycle span) = span.from
 place_of (ZeroElement span) = span.from
 place_of (RestNotLast span) = span.from
 place_of (Unsafe span op) = span.from
@@ -77,6 +78,7 @@ code_of (Unexpected token at) = codes "P1"
 code_of (Deep token at) = codes "P2"
 code_of (Limit limit span) = codes "X1"
 code_of (Broken rule span) = rule_code rule
+code_of (Cycle span) = codes "N5"
 code_of (ZeroElement span) = codes "K1"
 code_of (RestNotLast span) = codes "K2"
 code_of (Unsafe span op) = codes "A1"
@@ -91,6 +93,7 @@ words_of (Unexpected token at) = codes "unexpected token"
 words_of (Deep token at) = codes "too deep"
 words_of (Limit limit span) = limit_words limit
 words_of (Broken rule span) = rule_words rule
+words_of (Cycle span) = codes "module cycle"
 words_of (ZeroElement span) = codes "element may be empty"
 words_of (RestNotLast span) = codes "rest not last"
 words_of (Unsafe span op) = unsafe_words op

@@ -4,13 +4,13 @@ use Rattle.std.specs.Prelude.{◌≡◌, ◌⊎◌, [], Some, None}
 use Rattle.td_ast.specs.declared.definitions.ModuleTree.{ModuleTree}
 use Rattle.td_limits.specs.Counts.{counts_passed}
 use Rattle.td_limits.specs.Sizes.{sizes_passed}
-use Rattle.td_rules.specs.Breach.{IsFirst}
 use Rattle.td_rules.specs.Modules.{breaches, module_of}
+use Rattle.td_elab.specs.Firsts.{IsFirstIn, breaches_in}
 use Rattle.td_kinds.specs.declared.error.KindFault.TheVariants as kind
 use Rattle.td_kinds.specs.KindRules.{kind_faults, first_fault}
 use Rattle.td_arith.specs.SafeModule.{module_unsafe}
 use Rattle.td_front.specs.declared.error.FrontError.{FrontError}
-use Rattle.td_front.specs.declared.error.FrontError.TheVariants.{BadByte, OpenComment, BigNumber, Unexpected, Deep, Limit, Broken, ZeroElement, RestNotLast, Unsafe, NoMemory}
+use Rattle.td_front.specs.declared.error.FrontError.TheVariants.{BadByte, OpenComment, BigNumber, Unexpected, Deep, Limit, Broken, Cycle, ZeroElement, RestNotLast, Unsafe, NoMemory}
 
 -- no limit by count is passed
 abbrev pub HasCounts : ModuleTree → Type 0
@@ -32,7 +32,8 @@ HasSafety tree = HasKinds tree × (module_unsafe (module_of tree) ≡ None)
 abbrev pub IsAdmitted : ModuleTree → Type 0
 IsAdmitted tree = HasSafety tree × (sizes_passed tree ≡ None)
 
--- The refusal of a tree: that of the first pass that refuses it, and in that pass the first in the order of the text.
+-- The refusal of a tree: that of the first pass that refuses it, and in that pass the first in the order of the tree, in
+-- which definitions stand in the order of the text, or of parts in theirs.
 abbrev pub RefusesTree : ModuleTree → FrontError → Type 0
 RefusesTree tree (BadByte at) = ⊥
 RefusesTree tree (OpenComment at) = ⊥
@@ -42,7 +43,8 @@ RefusesTree tree (Deep token at) = ⊥
 RefusesTree tree (Limit limit span) =
     (counts_passed tree ≡ Some (record { limit = limit; span = span }))
     ⊎ (HasSafety tree × (sizes_passed tree ≡ Some (record { limit = limit; span = span })))
-RefusesTree tree (Broken rule span) = HasCounts tree × IsFirst (record { rule = rule; span = span }) (breaches tree)
+RefusesTree tree (Broken rule span) = HasCounts tree × IsFirstIn (record { rule = rule; span = span }) (breaches_in tree)
+RefusesTree tree (Cycle span) = ⊥
 RefusesTree tree (ZeroElement span) = HasModule tree × (first_fault (kind_faults (module_of tree)) ≡ Some (kind.ZeroElement span))
 RefusesTree tree (RestNotLast span) = HasModule tree × (first_fault (kind_faults (module_of tree)) ≡ Some (kind.RestNotLast span))
 RefusesTree tree (Unsafe span op) = HasKinds tree × (module_unsafe (module_of tree) ≡ Some (record { span = span; op = op }))

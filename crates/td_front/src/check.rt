@@ -1,7 +1,6 @@
 //! The module for which a text stands.
 
 ghost use Rattle.std.specs.Prelude.{◌≡◌, ◌<◌, ◌≤◌, ◌-◌, ◌^◌, ◌⊎◌, Err, length, IfOk, IfErr, MatchResult};
-ghost use Rattle.td_ast.specs.declared.definitions.ModuleTree.{ModuleTree};
 ghost use Rattle.td_core.specs.declared.module.Module.{Module};
 ghost use Rattle.td_lexer.specs.Splits.{Splits, HasToken};
 ghost use Rattle.td_front.specs.Checked.{IsChecked};
@@ -11,27 +10,28 @@ ghost use Rattle.td_front.specs.declared.error.FrontError.{FrontError};
 
 use crate::error::FrontError;
 use crate::laws::{modules_are_checked, one_answer_each};
-use crate::passes::{check_counts, check_kinds, check_safety, check_sizes, module_of};
+use crate::passes::input_module;
 use std::alloc::Global;
-use td_ast::definitions::ModuleTree;
+use td_ast::parts::InputTree;
 use td_ast::token::Token;
 use td_core::module::Module;
-use td_grammar::laws::one_tree;
-use td_lexer::lex;
+use td_grammar::laws::{either_form, one_tree};
+use td_lexer::{lex, tokens_are_the_splitting};
 use td_parser::{ParseError, parse};
 
-/// The tree that a text spells, and the module for which the tree stands.
+/// The module or the parts that a text spells, and the module for which they stand.
 #[derive(Drop)]
-pub struct CheckedTree {
-    pub tree: ModuleTree,
+pub struct CheckedInput {
+    pub input: InputTree,
     pub module: Module,
 }
 
 /// The module for which a text stands.
 ///
 /// Where it stands for none, the error is the first refusal: of its bytes as tokens, of the tokens as a tree, of the
-/// counts of the tree, of its names, types, constants and actions, of the kinds of its module, of its operators, or of
-/// its sizes; in each of these passes the first in the order of the text. `NoMemory`: out of memory for a token or what it
+/// counts of the tree, of the names and uses of its parts, of its names, types, constants and actions, of the kinds of its
+/// module, of its operators, or of its sizes; in each of these passes the first in the order of the text, and after the
+/// pass over parts the first in their order. `NoMemory`: out of memory for a token or what it
 /// became; so it never comes of a text of white space and comments, nor of one that is refused before its first token.
 pub fn check_module(alloc: Global, text: &[u8]) -> Result<Module, FrontError>
     requires { length text.now < 2 ^ 32 - 1 }
@@ -48,16 +48,16 @@ pub fn check_module(alloc: Global, text: &[u8]) -> Result<Module, FrontError>
     // Memory runs out only where the text begins with a token, after white space and comments.
     ensures memory { result ≡ Err FrontError.NoMemory → HasToken text.now }
 {
-    match check_tree(alloc, text) {
+    match check_input(alloc, text) {
         Ok(checked) => Ok(checked.module),
         Err(error) => Err(error),
     }
 }
 
-/// The tree that a text spells, and the module for which it stands; otherwise what `check_module` answers, under the same clauses.
-pub fn check_tree(alloc: Global, text: &[u8]) -> Result<CheckedTree, FrontError>
+/// What a text spells, and the module for which it stands; otherwise what `check_module` answers, under the same clauses.
+pub fn check_input(alloc: Global, text: &[u8]) -> Result<CheckedInput, FrontError>
     requires { length text.now < 2 ^ 32 - 1 }
-    ensures stands { IfOk result (λ found. IsTextOf text.now found.tree found.module) }
+    ensures stands { IfOk result (λ found. IsTextOf text.now found.input found.module) }
     ensures complete { (m : Module) → IsModuleText text.now m → MatchResult result (λ found. found.module ≡ m) (λ e. e ≡ FrontError.NoMemory) }
     ensures refused { IfErr result (λ e. (e ≡ FrontError.NoMemory) ⊎ RefusedBy text.now e) }
     ensures exact { (e : FrontError) → RefusedBy text.now e → MatchResult result (λ found. ⊥) (λ found. (found ≡ e) ⊎ (found ≡ FrontError.NoMemory)) }
@@ -69,17 +69,17 @@ pub fn check_tree(alloc: Global, text: &[u8]) -> Result<CheckedTree, FrontError>
     checked(alloc, text)
 }
 
-// The tree and the module, or the refusal, of which there is but one.
-fn checked(alloc: Global, text: &[u8]) -> Result<CheckedTree, FrontError>
+// What the text spells and the module, or the refusal, of which there is but one.
+fn checked(alloc: Global, text: &[u8]) -> Result<CheckedInput, FrontError>
     requires { length text.now < 2 ^ 32 - 1 }
-    ensures stands { IfOk result (λ found. IsTextOf text.now found.tree found.module) }
+    ensures stands { IfOk result (λ found. IsTextOf text.now found.input found.module) }
     ensures refused { IfErr result (λ e. (e ≡ FrontError.NoMemory) ⊎ RefusedBy text.now e) }
     ensures memory { result ≡ Err FrontError.NoMemory → HasToken text.now }
 {
     let tokens = tokens(alloc, text)?;
-    let tree = tree(alloc, text, tokens.as_slice())?;
-    let module = passed(alloc, text, &tree)?;
-    Ok(CheckedTree { tree, module })
+    let input = input(alloc, text, tokens.as_slice())?;
+    let module = passed(alloc, text, &input)?;
+    Ok(CheckedInput { input, module })
 }
 
 // The tokens of a text.
@@ -96,35 +96,33 @@ fn tokens(alloc: Global, text: &[u8]) -> Result<Vec<Token>, FrontError>
     }
 }
 
-// The tree that the tokens of a text spell.
-fn tree(alloc: Global, text: &[u8], tokens: &[Token]) -> Result<ModuleTree, FrontError>
+// What the tokens of a text spell.
+fn input(alloc: Global, text: &[u8], tokens: &[Token]) -> Result<InputTree, FrontError>
     requires short { length text.now < 2 ^ 32 - 1 }
     requires few { length tokens.now ≤ length text.now }
     requires tokens { Splits text.now tokens.now }
-    ensures tree { IfOk result (λ tree. SpellsTree text.now tree) }
+    ensures spelled { IfOk result (λ input. SpellsTree text.now input) }
     ensures refused { IfErr result (λ e. (e ≡ FrontError.NoMemory) ⊎ RefusedBy text.now e) }
     ensures memory { result ≡ Err FrontError.NoMemory → HasToken text.now }
 {
     match parse(alloc, tokens) {
-        Ok(tree) => Ok(tree),
+        Ok(input) => Ok(input),
         Err(error) => Err(of_parsing(text, tokens, error)),
     }
 }
 
-// The module of a text's tree, which passes each pass.
-fn passed(alloc: Global, text: &[u8], tree: &ModuleTree) -> Result<Module, FrontError>
-    requires { SpellsTree text.now tree.now }
-    ensures stands { IfOk result (λ m. IsTextOf text.now tree.now m) }
+// The module of what a text spells, which passes each pass.
+fn passed(alloc: Global, text: &[u8], input: &InputTree) -> Result<Module, FrontError>
+    requires short { length text.now < 2 ^ 32 - 1 }
+    requires spelled { SpellsTree text.now input.now }
+    ensures stands { IfOk result (λ m. IsTextOf text.now input.now m) }
     ensures refused { IfErr result (λ e. (e ≡ FrontError.NoMemory) ⊎ RefusedBy text.now e) }
     ensures memory { result ≡ Err FrontError.NoMemory → HasToken text.now }
 {
+    tokens_are_the_splitting();
     one_tree();
-    check_counts(tree)?;
-    let found = module_of(alloc, tree)?;
-    check_kinds(alloc, tree, &found)?;
-    check_safety(alloc, tree, &found)?;
-    check_sizes(alloc, tree)?;
-    Ok(found)
+    either_form();
+    input_module(alloc, input)
 }
 
 // An error of the parser over the tokens of a text, as an error of the whole. Takes no memory.

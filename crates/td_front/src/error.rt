@@ -5,6 +5,7 @@ use td_arith::error::ArithError;
 use td_ast::token::Span;
 use td_core::expressions::Binary;
 use td_elab::elaborate::ElabError;
+use td_flat::error::FlatError;
 use td_kinds::error::KindError;
 use td_lexer::LexError;
 use td_limits::{Excess, Limit};
@@ -35,9 +36,12 @@ pub enum FrontError {
     /// X1: a limit is passed in the definition with this name.
     #[error("{}", limit_words(*limit))]
     Limit { limit: Limit, span: Span },
-    /// N1 to N4, Y1 to Y4: a rule is broken there.
+    /// N1 to N4, Y1 to Y4: a rule is broken there. N2 comes of a part too that has the name of an earlier one.
     #[error("{rule}")]
     Broken { rule: Rule, span: Span },
+    /// N5: a part is named here that uses, by itself or by other parts, the part in which it is named.
+    #[error("module cycle")]
+    Cycle { span: Span },
     /// K1: an element of the byte-sized array of this field may be empty.
     #[error("element may be empty")]
     ZeroElement { span: Span },
@@ -78,6 +82,24 @@ impl From<Excess> for FrontError {
         FrontError::Limit {
             limit: excess.limit,
             span: excess.span,
+        }
+    }
+}
+
+impl From<FlatError> for FrontError {
+    ghost use Rattle.std.specs.Prelude.{◌≡◌};
+    ghost use Rattle.td_front.specs.Errors.{of_flattening};
+
+    ghost from_gives = { λ flattening e. e ≡ of_flattening flattening };
+
+    fn from(error: FlatError) -> FrontError {
+        match error {
+            FlatError::Twice { span } => FrontError::Broken {
+                rule: Rule::Twice,
+                span,
+            },
+            FlatError::Cycle { span } => FrontError::Cycle { span },
+            FlatError::NoMemory => FrontError::NoMemory,
         }
     }
 }

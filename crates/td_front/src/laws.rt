@@ -1,14 +1,16 @@
 //! Laws of module texts and their refusals. They do nothing when they are called.
 
-ghost use Rattle.td_front.specs.Laws.{OneModuleEach, OneRefusalEach, NeverBoth, AlwaysOne, ModulesAreChecked};
+ghost use Rattle.td_front.specs.Laws.{OneModuleEach, OneRefusalEach, NeverBoth, AlwaysOne, ModulesAreChecked, PartsAreAnsweredFlat, ModulesAreAnsweredAlone};
 
 use td_admitted::laws::{
     depths_are_within, modules_are_within, names_are_words, nodes_are_within, steps_are_sizes,
-    weights_are_within,
+    types_are_alike, weights_are_within,
 };
-use td_elab::laws::{one_is_first, some_is_first};
+use td_elab::laws::{breaches_are_all, one_is_first, some_is_first};
+use td_flat::laws::each_answered as each_linked;
 use td_grammar::laws::{each_answered, never_both, one_refused, one_too_deep, one_tree};
 use td_lexer::tokens_are_the_splitting;
+use td_linked::laws::one_answer_each as one_of_each;
 use td_rules::laws::{
     fields_are_whole, modules_are_formed, modules_are_named, modules_are_sorted, modules_are_whole,
     names_are_apart,
@@ -28,6 +30,9 @@ pub fn one_answer_each()
     never_both();
     one_is_first();
     some_is_first();
+    breaches_are_all();
+    each_linked();
+    one_of_each();
 }
 
 /// A text stands for a module, or it has a refusal.
@@ -42,6 +47,28 @@ pub fn module_or_refusal()
     never_both();
     one_is_first();
     some_is_first();
+    breaches_are_all();
+    each_linked();
+    one_of_each();
+}
+
+/// Where no count is passed and neither breach of parts comes, a text is answered as the one tree that its parts are, at the
+/// same places; a text without parts is answered as its tree.
+pub fn parts_are_answered_flat()
+    ensures parts { PartsAreAnsweredFlat }
+    ensures alone { ModulesAreAnsweredAlone }
+{
+    tokens_are_the_splitting();
+    each_answered();
+    one_tree();
+    one_refused();
+    one_too_deep();
+    never_both();
+    one_is_first();
+    some_is_first();
+    breaches_are_all();
+    each_linked();
+    one_of_each();
 }
 
 /// What holds of each module for which a text stands: names are words and have their places, operators are safe, sizes are
@@ -56,6 +83,7 @@ pub fn modules_are_checked()
     modules_are_named();
     names_are_apart();
     names_are_words();
+    types_are_alike();
     modules_are_within();
     nodes_are_within();
     depths_are_within();

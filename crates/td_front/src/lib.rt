@@ -8,6 +8,6 @@ pub mod laws;
 mod line;
 mod passes;
 
-pub use check::{CheckedTree, check_module, check_tree};
+pub use check::{CheckedInput, check_input, check_module};
 pub use error::FrontError;
 pub use line::{ErrorLine, line_of};

@@ -98,6 +98,7 @@ pub fn line_of(error: &FrontError) -> Option<ErrorLine>
         FrontError::Deep { at, .. } => (*at, "P2", "too deep"),
         FrontError::Limit { limit, span } => (span.from, "X1", limit_words(*limit)),
         FrontError::Broken { rule, span } => (span.from, rule_code(*rule), rule_words(*rule)),
+        FrontError::Cycle { span } => (span.from, "N5", "module cycle"),
         FrontError::ZeroElement { span } => (span.from, "K1", "element may be empty"),
         FrontError::RestNotLast { span } => (span.from, "K2", "rest not last"),
         FrontError::Unsafe { span, op } => (span.from, "A1", unsafe_words(*op)),

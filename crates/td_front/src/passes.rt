@@ -1,7 +1,11 @@
-//! The passes over a tree and its module, each with the refusals that are its own.
+//! The passes over an input, its one tree and its module, each with the refusals that are its own.
 
-ghost use Rattle.std.specs.Prelude.{◌≡◌, ◌⊎◌, ◌<◌, None, Err, length, OnOk, IfOk, IfErr};
+ghost use Rattle.std.specs.Prelude.{◌≡◌, ◌⊎◌, ◌<◌, ◌^◌, None, Err, length, OnOk, IfOk, IfErr};
+ghost use Rattle.td_ast.specs.declared.parts.InputTree.TheVariants as InputTree;
+ghost use Rattle.td_flat.specs.Flat.{flat, written, IsLinked};
+ghost use Rattle.td_limits.specs.Counts.{counts_passed};
 ghost use Rattle.td_front.specs.Passes.{HasCounts, HasModule, HasKinds, HasSafety, IsAdmitted, RefusesTree};
+ghost use Rattle.td_front.specs.Inputs.{HasInputCounts, HasFewParts, IsAdmittedInput, IsFilled, RefusedByCounts, RefusedByParts, RefusesInput};
 ghost use Rattle.td_front.specs.declared.error.FrontError.{FrontError};
 ghost use Rattle.td_rules.specs.Modules.{module_of};
 
@@ -9,25 +13,51 @@ use crate::error::FrontError;
 use std::alloc::Global;
 use td_arith::modules::arith;
 use td_ast::definitions::ModuleTree;
+use td_ast::parts::{InputTree, PartTree};
 use td_core::module::Module;
 use td_elab::elaborate::elaborate;
+use td_flat::flatten::flat_parts;
 use td_kinds::modules::kinds;
-use td_limits::{counts_passed, sizes_passed};
+use td_limits::{Excess, counts_passed, counts_passed_in, sizes_passed};
+use td_linked::laws::counts_stay;
 
-/// Tests the limits of a tree by count: X1. Takes no memory.
-pub(crate) fn check_counts(tree: &ModuleTree) -> Result<(), FrontError>
-    ensures ok { OnOk result (HasCounts tree.now) }
-    ensures err { IfErr result (RefusesTree tree.now) }
+/// The first limit by count that an input passes, in the order of the text. Takes no memory.
+fn input_counts_passed(input: &InputTree) -> Option<Excess>
+    ensures { result ≡ counts_passed (written input.now) }
 {
-    match counts_passed(tree) {
+    match input {
+        InputTree::Module(tree) => counts_passed(tree),
+        InputTree::Parts(parts) => counts_passed_in(parts.as_slice()),
+    }
+}
+
+/// Tests the limits of an input by count: X1. Takes no memory.
+fn check_counts(input: &InputTree) -> Result<(), FrontError>
+    ensures ok { OnOk result (HasInputCounts input.now) }
+    ensures err { IfErr result (RefusedByCounts input.now) }
+{
+    match input_counts_passed(input) {
         None => Ok(()),
         Some(excess) => Err(FrontError::from(excess)),
     }
 }
 
+/// The one tree of parts: N2 of parts, N5. `NoMemory`: out of memory for it.
+fn flat(alloc: Global, parts: &[PartTree]) -> Result<ModuleTree, FrontError>
+    requires { length parts.now < 2 ^ 32 }
+    ensures linked { OnOk result (IsLinked (InputTree.Parts parts.now)) }
+    ensures tree { IfOk result (λ tree. tree ≡ flat (InputTree.Parts parts.now)) }
+    ensures err { IfErr result (λ e. (e ≡ FrontError.NoMemory) ⊎ RefusedByParts (InputTree.Parts parts.now) e) }
+{
+    match flat_parts(alloc, parts) {
+        Ok(tree) => Ok(tree),
+        Err(error) => Err(FrontError::from(error)),
+    }
+}
+
 /// The module for which a tree stands: N1 to N4, Y1 to Y4. `NoMemory`: there is a definition, and there was no memory for the
 /// module.
-pub(crate) fn module_of(alloc: Global, tree: &ModuleTree) -> Result<Module, FrontError>
+fn module_of(alloc: Global, tree: &ModuleTree) -> Result<Module, FrontError>
     requires { HasCounts tree.now }
     ensures ok { OnOk result (HasModule tree.now) }
     ensures value { IfOk result (λ m. m ≡ module_of tree.now) }
@@ -41,7 +71,7 @@ pub(crate) fn module_of(alloc: Global, tree: &ModuleTree) -> Result<Module, Fron
 }
 
 /// Tests the kinds of a tree's module: K1, K2. `NoMemory`: there is a definition, and there was no memory for its kind.
-pub(crate) fn check_kinds(alloc: Global, tree: &ModuleTree, m: &Module) -> Result<(), FrontError>
+fn check_kinds(alloc: Global, tree: &ModuleTree, m: &Module) -> Result<(), FrontError>
     requires stands { HasModule tree.now }
     requires m { m.now ≡ module_of tree.now }
     ensures ok { OnOk result (HasKinds tree.now) }
@@ -55,7 +85,7 @@ pub(crate) fn check_kinds(alloc: Global, tree: &ModuleTree, m: &Module) -> Resul
 }
 
 /// Tests the operators of a tree's module: A1. `NoMemory`: there is a definition, and there was no memory to look at it.
-pub(crate) fn check_safety(alloc: Global, tree: &ModuleTree, m: &Module) -> Result<(), FrontError>
+fn check_safety(alloc: Global, tree: &ModuleTree, m: &Module) -> Result<(), FrontError>
     requires kinds { HasKinds tree.now }
     requires m { m.now ≡ module_of tree.now }
     ensures ok { OnOk result (HasSafety tree.now) }
@@ -69,7 +99,7 @@ pub(crate) fn check_safety(alloc: Global, tree: &ModuleTree, m: &Module) -> Resu
 }
 
 /// Tests the limits of a tree by size: X1. `NoMemory`: there is a definition, and there was no memory for its name.
-pub(crate) fn check_sizes(alloc: Global, tree: &ModuleTree) -> Result<(), FrontError>
+fn check_sizes(alloc: Global, tree: &ModuleTree) -> Result<(), FrontError>
     requires { HasSafety tree.now }
     ensures ok { OnOk result (IsAdmitted tree.now) }
     ensures err { IfErr result (λ e. (e ≡ FrontError.NoMemory) ⊎ RefusesTree tree.now e) }
@@ -79,5 +109,48 @@ pub(crate) fn check_sizes(alloc: Global, tree: &ModuleTree) -> Result<(), FrontE
         Ok(None) => Ok(()),
         Ok(Some(excess)) => Err(FrontError::from(excess)),
         Err(_) => Err(FrontError::NoMemory),
+    }
+}
+
+/// The module of a tree that passes the passes after the counts. `NoMemory`: there is a definition, and out of memory.
+fn tree_module(alloc: Global, tree: &ModuleTree) -> Result<Module, FrontError>
+    requires { HasCounts tree.now }
+    ensures admitted { OnOk result (IsAdmitted tree.now) }
+    ensures value { IfOk result (λ m. m ≡ module_of tree.now) }
+    ensures err { IfErr result (λ e. (e ≡ FrontError.NoMemory) ⊎ RefusesTree tree.now e) }
+    ensures memory { result ≡ Err FrontError.NoMemory → 0 < length tree.now.definitions }
+{
+    let found = module_of(alloc, tree)?;
+    check_kinds(alloc, tree, &found)?;
+    check_safety(alloc, tree, &found)?;
+    check_sizes(alloc, tree)?;
+    Ok(found)
+}
+
+/// The module of parts that pass no limit by count. `NoMemory`: out of memory.
+fn parts_module(alloc: Global, parts: &[PartTree]) -> Result<Module, FrontError>
+    requires few { length parts.now < 2 ^ 32 }
+    requires counts { HasInputCounts (InputTree.Parts parts.now) }
+    ensures admitted { OnOk result (IsAdmittedInput (InputTree.Parts parts.now)) }
+    ensures value { IfOk result (λ m. m ≡ module_of (flat (InputTree.Parts parts.now))) }
+    ensures err { IfErr result (λ e. (e ≡ FrontError.NoMemory) ⊎ RefusesInput (InputTree.Parts parts.now) e) }
+{
+    counts_stay();
+    let tree = flat(alloc, parts)?;
+    tree_module(alloc, &tree)
+}
+
+/// The module of an input that is admitted, or its refusal. `NoMemory`: there is a part or a definition, and out of memory.
+pub(crate) fn input_module(alloc: Global, input: &InputTree) -> Result<Module, FrontError>
+    requires { HasFewParts input.now }
+    ensures admitted { OnOk result (IsAdmittedInput input.now) }
+    ensures value { IfOk result (λ m. m ≡ module_of (flat input.now)) }
+    ensures err { IfErr result (λ e. (e ≡ FrontError.NoMemory) ⊎ RefusesInput input.now e) }
+    ensures memory { result ≡ Err FrontError.NoMemory → IsFilled input.now }
+{
+    check_counts(input)?;
+    match input {
+        InputTree::Module(tree) => tree_module(alloc, tree),
+        InputTree::Parts(parts) => parts_module(alloc, parts.as_slice()),
     }
 }

@@ -1,11 +1,12 @@
 -- The limits of a text by count (own rules), each at the name of the definition in which it is passed: at one place in
 -- the order of `Limit`.
-use Rattle.std.specs.Prelude.{ℕ, ◌+◌, max, List, [], ◌∷◌, ◌++◌, map, length, Option, Some, None}
+use Rattle.std.specs.Prelude.{ℕ, ◌+◌, ◌≤◌, max, List, [], ◌∷◌, ◌++◌, map, flat_map, length, Option, Some, None}
 use Rattle.td_ast.specs.declared.fields.FieldTree.{FieldTree}
 use Rattle.td_ast.specs.declared.definitions.CaseTree.{CaseTree}
 use Rattle.td_ast.specs.declared.definitions.Def.{Def}
 use Rattle.td_ast.specs.declared.definitions.Def.TheVariants.{Define, Enum, Alias, Struct, Casetype, Output}
 use Rattle.td_ast.specs.declared.definitions.ModuleTree.{ModuleTree}
+use Rattle.td_ast.specs.declared.parts.PartTree.{PartTree}
 use Rattle.td_core.specs.declared.limits.TheConstants.{MOST_DEFINITIONS, MOST_FIELDS, MOST_CASES, MOST_PARAMETERS, MOST_NODES, MOST_ACTION_NODES}
 use Rattle.td_limits.specs.declared.limits.Limit.TheVariants.{Definitions, Fields, Cases, Parameters, Nodes, Action}
 use Rattle.td_limits.specs.declared.limits.Excess.{Excess}
@@ -80,3 +81,15 @@ count_excesses n nodes (d ∷ ds) =
 -- the first limit by count that a text passes
 abbrev pub counts_passed : ModuleTree → Option Excess
 counts_passed tree = first_excess (count_excesses 0 0 tree.definitions)
+
+-- the definitions of parts in the order of the text
+abbrev pub definitions_in : List PartTree → List Def
+definitions_in parts = flat_map (λ p. p.definitions) parts
+
+-- the first that they pass
+abbrev pub counts_passed_in : List PartTree → Option Excess
+counts_passed_in parts = first_excess (count_excesses 0 0 (definitions_in parts))
+
+-- as many definitions as a text may have, with as many nodes
+abbrev pub AreWithin : ℕ → ℕ → Type 0
+AreWithin n nodes = (n ≤ MOST_DEFINITIONS) × (nodes ≤ MOST_NODES)

@@ -1,7 +1,8 @@
 //! The limits by count.
 
-ghost use Rattle.std.specs.Prelude.{◌≡◌, ◌+◌, length};
-ghost use Rattle.td_limits.specs.Counts.{count_cases, count_params, counts_passed, default_count, definition_counts, longest_case, most_action, most_fields};
+ghost use Rattle.std.specs.Prelude.{◌≡◌, ◌+◌, ◌++◌, List, Some, length, IfOk, MatchResult};
+ghost use Rattle.td_ast.specs.declared.definitions.Def.{Def};
+ghost use Rattle.td_limits.specs.Counts.{AreWithin, count_cases, count_excesses, count_params, counts_passed, counts_passed_in, default_count, definition_counts, longest_case, most_action, most_fields};
 ghost use Rattle.td_limits.specs.Excesses.{capped, definition_name, first_excess};
 
 use crate::limits::{Excess, Limit, excess_over};
@@ -9,6 +10,7 @@ use crate::longest_action::most_action;
 use crate::nodes::definition_nodes;
 use td_ast::definitions::{CaseTree, Def, ModuleTree};
 use td_ast::fields::FieldTree;
+use td_ast::parts::PartTree;
 use td_ast::token::Span;
 use td_core::limits::{
     MOST_ACTION_NODES, MOST_CASES, MOST_DEFINITIONS, MOST_FIELDS, MOST_NODES, MOST_PARAMETERS,
@@ -118,20 +120,63 @@ fn definition_counts(n: u64, nodes: u64, definition: &Def) -> Option<Excess>
     excess_over(MOST_ACTION_NODES, action, Limit::Action, span)
 }
 
+/// How many definitions there are so far, and how many nodes they have.
+#[derive(Clone, Copy)]
+struct Counted {
+    definitions: u64,
+    nodes: u64,
+}
+
+const NONE_COUNTED: Counted = Counted {
+    definitions: 0,
+    nodes: 0,
+};
+
+// Counts definitions that stand after those which were counted. The error is the first limit by count that they pass.
+fn count_on(before: Counted, definitions: &[Def]) -> Result<Counted, Excess>
+    requires { AreWithin before.definitions before.nodes }
+    ensures passed { (more : List Def) → MatchResult result
+        (λ after. first_excess (count_excesses after.definitions after.nodes more) ≡ first_excess (count_excesses before.definitions before.nodes (definitions.now ++ more)))
+        (λ excess. Some excess ≡ first_excess (count_excesses before.definitions before.nodes (definitions.now ++ more))) }
+    ensures within { IfOk result (λ after. AreWithin after.definitions after.nodes) }
+{
+    let mut count = before.definitions;
+    let mut nodes = before.nodes;
+    for definition in definitions {
+        count = count.saturating_add(1);
+        nodes = nodes.saturating_add(definition_nodes(definition));
+        match definition_counts(count, nodes, definition) {
+            None => {}
+            Some(excess) => return Err(excess),
+        }
+    }
+    Ok(Counted {
+        definitions: count,
+        nodes,
+    })
+}
+
 /// The first limit by count that a text passes: how many definitions it has, how many fields a struct, case or record, how
 /// many cases a casetype, how many parameters a definition, how many nodes all, and how many an action. Takes no memory.
 pub fn counts_passed(tree: &ModuleTree) -> Option<Excess>
     ensures { result ≡ counts_passed tree.now }
 {
-    let definitions = tree.definitions.as_slice();
-    let mut count = 0u64;
-    let mut nodes = 0u64;
-    for definition in definitions {
-        count = count.saturating_add(1);
-        nodes = nodes.saturating_add(definition_nodes(definition));
-        let passed = definition_counts(count, nodes, definition);
-        if passed.is_some() {
-            return passed;
+    match count_on(NONE_COUNTED, tree.definitions.as_slice()) {
+        Ok(_) => None,
+        Err(excess) => Some(excess),
+    }
+}
+
+/// The first limit by count that the definitions of parts pass, one part after the other in the order of the text. Takes
+/// no memory.
+pub fn counts_passed_in(parts: &[PartTree]) -> Option<Excess>
+    ensures { result ≡ counts_passed_in parts.now }
+{
+    let mut so_far = NONE_COUNTED;
+    for part in parts {
+        match count_on(so_far, part.definitions.as_slice()) {
+            Ok(after) => so_far = after,
+            Err(excess) => return Some(excess),
         }
     }
     None

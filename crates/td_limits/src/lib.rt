@@ -11,7 +11,7 @@ mod nodes;
 mod sizes;
 mod weights;
 
-pub use counts::counts_passed;
+pub use counts::{counts_passed, counts_passed_in};
 pub use limits::{Excess, Limit};
 pub use measures::{Measure, NameSort};
 pub use sizes::sizes_passed;

@@ -1,5 +1,8 @@
-use Rattle.td_admitted.proofs.Words.{names_are_words}
+use Rattle.td_admitted.proofs.Words.{names_are_words, plain_names_are_words}
 use Rattle.td_admitted.proofs.laws.names_are_words.Goals as goal
 
-pub returns : goal.returns
-returns c = names_are_words c.names_are_written.ensures
+pub returns-clause-all : goal.returns-clause-all
+returns-clause-all c = names_are_words c.names_are_written.ensures c.either_form.ensures.form c.names_stay_words.ensures
+
+pub returns-clause-plain : goal.returns-clause-plain
+returns-clause-plain c = plain_names_are_words c.names_are_written.ensures c.either_form.ensures.form

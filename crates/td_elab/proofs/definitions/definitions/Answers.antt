@@ -1,7 +1,7 @@
-use Rattle.std.proofs.Common.{sym, ap, ◌∙◌, ◌+◌, drop, arith}
+use Rattle.std.proofs.Common.{None, sym, ap, ◌∙◌, ◌+◌, drop, arith}
 use Rattle.td_rules.specs.Breach.{first_of}
-use Rattle.td_rules.specs.Definitions.{after, definition_breaches, definitions_breaches, known_after}
-use Rattle.td_typing.proofs.Steps.{first_append}
+use Rattle.td_rules.specs.Definitions.{definition_breaches, known_after}
+use Rattle.td_elab.specs.Firsts.{breaches_each, earlier, first_among}
 use Rattle.td_elab.proofs.definitions.definitions.Goals as goal
 use Rattle.td_num.proofs.Truths.{all_dropped as done}
 use Rattle.td_num.proofs.Lists.{drop_next as split}
@@ -18,9 +18,9 @@ loop-tree-preserved c =
       slots = d.slots;
       known = ap (λ k. known_after names k rest) d.known ∙ ap (λ r. known_after names l.known r) (sym s) ∙ l.invariant.known;
       first =
-          (λ i. first_of (d.first i) (definitions_breaches names (d.known i) rest))
-          ∙ sym (first_append l.findings.first (definition_breaches names l.known x) (definitions_breaches names (after names l.known x) rest))
-          ∙ ap (λ r. first_of l.findings.first (definitions_breaches names l.known r)) (sym s)
+          ap (λ o. first_among o (breaches_each names c.definition.new.known rest)) (c.keep_earlier.ensures ∙ ap (λ o. earlier l.findings.first o) (d.first ∙ ap (λ o. first_of o (definition_breaches names l.known x)) c.new-own.ensures))
+          ∙ ap (λ k. first_among (earlier l.findings.first (first_of None (definition_breaches names l.known x))) (breaches_each names k rest)) d.known
+          ∙ ap (λ r. first_among l.findings.first (breaches_each names l.known r)) (sym s)
           ∙ l.invariant.first;
     }
 
@@ -32,4 +32,4 @@ returns-clause-known c =
 pub returns-clause-first : goal.returns-clause-first
 returns-clause-first c =
     let l = c.loop-tree in
-    ap (λ r. first_of l.findings.first (definitions_breaches c.args.names.now l.known r)) (sym (done c.args.trees.now l.tree-index (omega arith))) ∙ l.invariant.first
+    ap (λ r. first_among l.findings.first (breaches_each c.args.names.now l.known r)) (sym (done c.args.trees.now l.tree-index (omega arith))) ∙ l.invariant.first

@@ -1,33 +1,15 @@
-use Rattle.std.proofs.Common.{refl}
-use Rattle.td_core.specs.declared.module.Module.{Module}
-use Rattle.td_front.proofs.Memory.{handed_on, refusal_told, tree_token}
+use Rattle.td_front.proofs.Memory.{input_token}
+use Rattle.td_front.proofs.Passing.{few_inputs, stands_from, refused_from}
 use Rattle.td_front.proofs.check.passed.Goals as goal
-use Rattle.td_num.proofs.Equals.{same_error}
+
+pub input_module-requires : goal.input_module-requires
+input_module-requires c = few_inputs c.either_form.ensures.form c.tokens_are_the_splitting.ensures.tokens c.args.text.now c.args.input.now c.requires.short c.requires.spelled
 
 pub returns-clause-stands : goal.returns-clause-stands
-returns-clause-stands c =
-    (record { tree = c.args.tree.now; spells = c.requires; admitted = c.in_ok-check_sizes.ensures.ok; module_is = c.in_ok-found.ensures.value }, refl)
+returns-clause-stands c = stands_from c.args.text.now c.args.input.now c.requires.spelled c.input_module.result c.input_module.ensures.admitted c.input_module.ensures.value
 
-pub returns-in_err-check_counts-clause-memory : goal.returns-in_err-check_counts-clause-memory
-returns-in_err-check_counts-clause-memory c =
-    handed_on {A = Module} c.from_residual.result _ _ c.from_residual.ensures.1 (λ same. absurd (refusal_told c.args.tree.now _ c.in_err-check_counts.ensures.err (same_error _ _ same)))
+pub returns-clause-refused : goal.returns-clause-refused
+returns-clause-refused c = refused_from c.args.text.now c.args.input.now c.requires.spelled c.input_module.result c.input_module.ensures.err
 
-pub returns-in_err-found-clause-memory : goal.returns-in_err-found-clause-memory
-returns-in_err-found-clause-memory c =
-    handed_on c.from_residual-in_err-found.result _ _ c.from_residual-in_err-found.ensures.1
-    (λ same. tree_token c.one_tree.ensures c.args.text.now c.args.tree.now c.requires (c.in_err-found.ensures.memory same))
-
-pub returns-in_err-check_kinds-clause-memory : goal.returns-in_err-check_kinds-clause-memory
-returns-in_err-check_kinds-clause-memory c =
-    handed_on c.from_residual-in_err-check_kinds.result _ _ c.from_residual-in_err-check_kinds.ensures.1
-    (λ same. tree_token c.one_tree.ensures c.args.text.now c.args.tree.now c.requires (c.in_err-check_kinds.ensures.memory same))
-
-pub returns-in_err-check_safety-clause-memory : goal.returns-in_err-check_safety-clause-memory
-returns-in_err-check_safety-clause-memory c =
-    handed_on c.from_residual-in_err-check_safety.result _ _ c.from_residual-in_err-check_safety.ensures.1
-    (λ same. tree_token c.one_tree.ensures c.args.text.now c.args.tree.now c.requires (c.in_err-check_safety.ensures.memory same))
-
-pub returns-in_err-check_sizes-clause-memory : goal.returns-in_err-check_sizes-clause-memory
-returns-in_err-check_sizes-clause-memory c =
-    handed_on c.from_residual-in_err-check_sizes.result _ _ c.from_residual-in_err-check_sizes.ensures.1
-    (λ same. tree_token c.one_tree.ensures c.args.text.now c.args.tree.now c.requires (c.in_err-check_sizes.ensures.memory same))
+pub returns-clause-memory : goal.returns-clause-memory
+returns-clause-memory c = λ same. input_token c.one_tree.ensures c.either_form.ensures.form c.args.text.now c.args.input.now c.requires.spelled (c.input_module.ensures.memory same)

@@ -11,7 +11,10 @@ returns c =
       one_refused = c.one_refused.ensures;
       one_deep = c.one_too_deep.ensures;
       never_both = c.never_both.ensures;
-      one_first = c.one_is_first.ensures;
-      some_first = c.some_is_first.ensures;
+      parting = record {
+        firsts = record { one = c.one_is_first.ensures; some = c.some_is_first.ensures; all = c.breaches_are_all.ensures };
+        answered = c.each_answered-2.ensures;
+        once = c.one_answer_each.ensures;
+      };
     } in
     always_one below
