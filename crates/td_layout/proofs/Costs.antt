@@ -11,6 +11,7 @@ use Rattle.td_ast.specs.declared.expressions.BinaryOperator.{BinaryOperator}
 use Rattle.td_ast.specs.declared.expressions.BinaryOperator.TheVariants as operators
 use Rattle.td_ast.specs.declared.expressions.SizeofOperand.{SizeofOperand}
 use Rattle.td_ast.specs.declared.expressions.SizeofOperand.TheVariants as operands
+use Rattle.td_ast.specs.declared.names.Name as names
 use Rattle.td_ast.specs.Trees.{Tree, Number, Truth, Name, FieldPos, Sizeof, RangeOkay, Unary, Binary, Choice, spanned, over, span_of}
 use Rattle.td_ast.specs.Kinds.{number_of_kind, is_kind}
 use Rattle.td_grammar.specs.Sets.{member}
@@ -23,6 +24,8 @@ use Rattle.td_grammar.specs.Expressions.{lean, binary, compared, leaning, compar
 use Rattle.td_grammar.proofs.Over.{count-append}
 use Rattle.td_joined.specs.Pieces.{Piece, Word, Blank, kinds_of}
 use Rattle.td_layout.specs.Operators.{binary_kind, left_of, right_of}
+use Rattle.td_layout.specs.Sequences.{optional}
+use Rattle.td_layout.specs.Names.{before_dot, after_dot, dotted_pieces}
 use Rattle.td_layout.specs.Expressions.{tree_level, in_group, fitted, expression_pieces}
 use Rattle.td_layout.proofs.Tokens.{kinds_append}
 use Rattle.td_layout.proofs.Light.{cost_of}
@@ -115,13 +118,24 @@ spanned_own s (Unary q o p a) = refl
 spanned_own s (Binary q o p a b) = refl
 spanned_own s (Choice q p a b c) = refl
 
+name_by : (first : List ℕ) (o : Option (List ℕ)) → cost (Word (kinds.Name first) ∷ optional dotted_pieces o) ≡ 0
+name_by first None = refl
+name_by first (Some second) = refl
+
+pub name_cost : (s : Span) (n : names.Name) → placed 0 (Name s n) ≡ 0
+name_cost s n = name_by (before_dot n.text) (after_dot n.text)
+
 pub truth_cost : (s : Span) (b : Bool) → placed 0 (Truth s b) ≡ 0
 truth_cost s true = refl
 truth_cost s false = refl
 
+operand_by : (first : List ℕ) (o : Option (List ℕ)) → cost (Word kinds.OpenParen ∷ ((Word (kinds.Name first) ∷ optional dotted_pieces o) ++ Word kinds.CloseParen ∷ [])) ≡ 1
+operand_by first None = refl
+operand_by first (Some second) = refl
+
 pub sizeof_cost : (s w : Span) (o : SizeofOperand) (p : Span) → placed 0 (Sizeof s w o p) ≡ 1
 sizeof_cost s w (operands.Number n) p = refl
-sizeof_cost s w (operands.Name l) p = refl
+sizeof_cost s w (operands.Name l) p = operand_by (before_dot l) (after_dot l)
 sizeof_cost s w operands.This p = refl
 
 -- ---- costs of spellings

@@ -16,11 +16,11 @@ use Rattle.td_grammar.proofs.Steady.{nested_in}
 use Rattle.td_grammar.proofs.Exprs.{steady_expr}
 use Rattle.td_joined.specs.Pieces.{Piece, Word, Blank, kinds_of}
 use Rattle.td_layout.specs.Operators.{unary_kind, binary_kind, level_of, left_of, right_of}
-use Rattle.td_layout.specs.Expressions.{tree_level, in_group, fitted, truth_kind, operand_kind, expression_pieces}
+use Rattle.td_layout.specs.Expressions.{tree_level, in_group, fitted, truth_kind, operand_pieces, expression_pieces}
 use Rattle.td_layout.specs.Unspanned.{nowhere, unspanned_expression}
 use Rattle.td_layout.proofs.Tokens.{kinds_append, split_kinds, first_kind}
 use Rattle.td_layout.proofs.Back.{Back, under, blank, both, made, left, right, some}
-use Rattle.td_layout.proofs.Words.{terminal_back, name_back, literal_back, number_back, word_back}
+use Rattle.td_layout.proofs.Words.{terminal_back, qualified_back, named_back, literal_back, number_back, word_back}
 use Rattle.td_layout.proofs.Levels.{at, climb_to, left_small, right_small, tree_small}
 use Rattle.td_layout.proofs.Joins.{join, un_join}
 
@@ -96,9 +96,9 @@ truth_back : (s : Span) (b : Bool) → Back (at 0) (Word (truth_kind b) ∷ []) 
 truth_back s true = right (right (left (made (word_back truth_kinds truth_of kinds.True true refl) (λ x g. truth_same s x.1 x.0 true g))))
 truth_back s false = right (right (left (made (word_back truth_kinds truth_of kinds.False false refl) (λ x g. truth_same s x.1 x.0 false g))))
 
-operand_back : (o : SizeofOperand) → Back sizeof_operand.Spells (Word (operand_kind o) ∷ []) (λ x. x.0 ≡ o)
+operand_back : (o : SizeofOperand) → Back sizeof_operand.Spells (operand_pieces o) (λ x. x.0 ≡ o)
 operand_back (operands.Number n) = left (made (number_back (record { number = n; span = nowhere })) (λ r g. ap (λ (x : NumberTree). operands.Number x.number) g))
-operand_back (operands.Name l) = right (left (made (name_back (record { text = l; span = nowhere })) (λ r g. ap (λ (x : names.Name). operands.Name x.text) g)))
+operand_back (operands.Name l) = right (left (made (qualified_back l) (λ r g. ap (λ (t : List ℕ). operands.Name t) g)))
 operand_back operands.This = right (right (made (terminal_back kinds.This refl) (λ r g. refl)))
 
 -- ---- a tree's own pieces
@@ -115,7 +115,7 @@ chosen_same s q a b c x (Some y) p h = cc (p, h.0, h.1)
 level_back : (tree : Tree) → Back (at (tree_level tree)) (expression_pieces tree) (Same tree)
 level_back (Number s n b) = left (made (literal_back (record { value = n; base = b; span = s })) (λ r g. ap (λ (x : Literal). Number nowhere x.value x.base) g))
 level_back (Truth s b) = truth_back s b
-level_back (Name s n) = right (left (made (name_back n) (λ r g. ap (λ (x : names.Name). Name nowhere x) g)))
+level_back (Name s n) = right (left (made (named_back n) (λ r g. ap (λ (x : names.Name). Name nowhere x) g)))
 level_back (FieldPos s p) = right (right (right (left (made (terminal_back kinds.FieldPos refl) (λ r g. refl)))))
 level_back (Sizeof s w o p) =
     right (right (right (right (left (made

@@ -1,5 +1,5 @@
 -- Parameters and fields read back.
-use Rattle.std.proofs.Common.{◌≡◌, ℕ, [], ◌∷◌, refl, ap}
+use Rattle.std.proofs.Common.{◌≡◌, ℕ, [], ◌∷◌, ◌++◌, refl, ap}
 use Rattle.td_ast.specs.declared.token.Span.{Span}
 use Rattle.td_ast.specs.declared.token.TokenKind.TheVariants as kinds
 use Rattle.td_ast.specs.declared.names.Name.{Name}
@@ -24,21 +24,21 @@ use Rattle.td_grammar.specs.Actions.{action}
 use Rattle.td_grammar.specs.Parameters.{target, param, head}
 use Rattle.td_grammar.specs.Fields.{type_tree, extent, refinement, field}
 use Rattle.td_layout.specs.Expressions.{expression_pieces}
-use Rattle.td_layout.specs.Parameters.{target_piece, parameter_pieces, condition_pieces, head_pieces}
+use Rattle.td_layout.specs.Parameters.{target_pieces, parameter_pieces, condition_pieces, head_pieces}
 use Rattle.td_layout.specs.Fields.{type_pieces, extent_pieces, refinement_pieces, action_after, field_pieces, field_line}
 use Rattle.td_layout.specs.Unspanned.{nowhere, unspanned_expression, unspanned_target, unspanned_parameter, unspanned_head, unspanned_type, unspanned_extent, unspanned_action, unspanned_field}
 use Rattle.td_layout.proofs.Back.{Back, blank, deep, ended, both, made, left, right, maybe_back}
-use Rattle.td_layout.proofs.Words.{terminal_back, name_back, literal_back, number_back, plain_back}
+use Rattle.td_layout.proofs.Words.{terminal_back, name_back, qualified_back, named_back, literal_back, number_back, plain_back}
 use Rattle.td_layout.proofs.Expressions.{expression_back}
 use Rattle.td_layout.proofs.Actions.{action_back}
 use Rattle.td_layout.proofs.Sequences.{parentheses_back}
 
 -- ---- parameters
 
-target_back : (t : TargetTree) → Back target.Spells (target_piece t ∷ []) (λ r. unspanned_target r ≡ unspanned_target t)
+target_back : (t : TargetTree) → Back target.Spells (target_pieces t) (λ r. unspanned_target r ≡ unspanned_target t)
 target_back (targets.Number n) = left (made (number_back n) (λ r e. ap (λ (x : NumberTree). targets.Number x) e))
 target_back (targets.Pointer s) = right (left (made (terminal_back kinds.Pointer refl) (λ r e. refl)))
-target_back (targets.Named n) = right (right (made (name_back n) (λ r e. ap (λ (x : Name). targets.Named x) e)))
+target_back (targets.Named n) = right (right (made (named_back n) (λ r e. ap (λ (x : Name). targets.Named x) e)))
 
 pub parameter_back : (p : ParamTree) → Back param.Spells (parameter_pieces p) (λ r. unspanned_parameter r ≡ unspanned_parameter p)
 unfolding param
@@ -65,7 +65,7 @@ kind_back s types.Unit = right (left (made (terminal_back kinds.Unit refl) (λ r
 kind_back s types.AllBytes = right (right (left (made (terminal_back kinds.AllBytes refl) (λ r e. refl))))
 kind_back s types.AllZeros = right (right (right (left (made (terminal_back kinds.AllZeros refl) (λ r e. refl)))))
 kind_back s (types.Named text arguments) =
-    right (right (right (right (made (both (name_back (record { text = text; span = nowhere })) (parentheses_back expr expression_pieces unspanned_expression expression_back arguments)) (λ x g. cc (ap (λ (n : Name). n.text) g.0, g.1))))))
+    right (right (right (right (made (both (qualified_back text) (parentheses_back expr expression_pieces unspanned_expression expression_back arguments)) (λ x g. cc (g.0, g.1))))))
 
 type_back : (t : TypeTree) → Back type_tree.Spells (type_pieces t.kind) (λ r. unspanned_type r ≡ unspanned_type t)
 type_back t = kind_back t.span t.kind

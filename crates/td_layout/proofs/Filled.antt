@@ -29,7 +29,7 @@ all_filled : {A : Type 0} (P : A → List Token → Type 0) (F : A → Type 0) �
 all_filled P F f [] tokens s = tt
 all_filled P F f (x ∷ xs) tokens s = (f x s.0 s.3, all_filled P F f xs s.1 s.4)
 
-each_some : {A : Type 0} (g : Grammar A) (F : A → Type 0) → ((x : A) (tokens : List Token) → g.Spells x tokens → F x) → (xs : List A) (tokens : List Token) → (some_of g).Spells xs tokens → Each F xs
+pub each_some : {A : Type 0} (g : Grammar A) (F : A → Type 0) → ((x : A) (tokens : List Token) → g.Spells x tokens → F x) → (xs : List A) (tokens : List Token) → (some_of g).Spells xs tokens → Each F xs
 each_some g F f xs tokens (x, e, s) = subst (Each F) e (f x.0 s.0 s.3, all_filled g.Spells F f x.1 s.1 s.4)
 
 case_filled : (c : CaseTree) (tokens : List Token) → case_tree.Spells c tokens → IsFilled c.fields

@@ -131,7 +131,7 @@ entrypoint_fits : (d : Def) (tokens : List Token) → entrypoint.Spells d tokens
 unfolding entrypoint
 entrypoint_fits d tokens (x, e, s) w = subst FitsDefinition e (entry_rest_fits x.1 s.1 s.4 (tail_of x.0 tokens s.0 s.1 s.2 s.3 w) true)
 
-definition_fits : (d : Def) (tokens : List Token) → def.Spells d tokens → NoPass def.Passes tokens → FitsDefinition d
+pub definition_fits : (d : Def) (tokens : List Token) → def.Spells d tokens → NoPass def.Passes tokens → FitsDefinition d
 unfolding def
 definition_fits d tokens (inl s) w = define_fits d tokens s
 definition_fits d tokens (inr (inl s)) w = enum_fits d tokens s

@@ -15,7 +15,8 @@ use Rattle.td_grammar.specs.Tokens.{terminal, constant}
 use Rattle.td_grammar.specs.Listed.{SpellsList}
 use Rattle.td_grammar.specs.Definitions.{item, define, enumeration, alias_rest}
 use Rattle.td_joined.specs.Pieces.{Word, Blank, LineEnd, kinds_of}
-use Rattle.td_layout.specs.Sequences.{name_piece, plain_piece}
+use Rattle.td_layout.specs.Sequences.{name_piece}
+use Rattle.td_layout.specs.Names.{plain_pieces}
 use Rattle.td_layout.specs.Definitions.{define_pieces, value_pieces, item_pieces, item_lines, enum_pieces}
 use Rattle.td_layout.specs.Unspanned.{unspanned_constant, unspanned_item, unspanned_number, unspanned_name, unspanned_definition}
 use Rattle.td_layout.proofs.Tokens.{kinds_append, split_kinds, first_kind}
@@ -83,6 +84,6 @@ enum_back d f =
     (λ x g. cc (g.0.0, g.0.1, g.1.0))
 
 -- after "typedef"
-pub alias_back : (d : AliasTree) → Back alias_rest.Spells (Blank ∷ plain_piece d.target ∷ Blank ∷ name_piece d.name ∷ Word kinds.Semicolon ∷ LineEnd ∷ []) (λ r. unspanned_definition r ≡ unspanned_definition (defs.Alias d))
+pub alias_back : (d : AliasTree) → Back alias_rest.Spells (Blank ∷ (plain_pieces d.target ++ Blank ∷ name_piece d.name ∷ Word kinds.Semicolon ∷ LineEnd ∷ [])) (λ r. unspanned_definition r ≡ unspanned_definition (defs.Alias d))
 unfolding alias_rest
 alias_back d = made (both (blank (plain_back d.target)) (both (blank (name_back d.name)) (ended (terminal_back kinds.Semicolon refl)))) (λ x g. cc (g.0, g.1.0))

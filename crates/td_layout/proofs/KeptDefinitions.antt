@@ -34,7 +34,7 @@ use Rattle.td_layout.proofs.Sequences.{IsFilled}
 use Rattle.td_layout.proofs.Items.{define_back, enum_back, alias_back}
 use Rattle.td_layout.proofs.Definitions.{SameDefinition, SameCases, struct_of, casetype_of, closing_back, output_back}
 use Rattle.td_layout.proofs.Kept.{Kept, blank, line, deep, ended, both, made, none, some, first, into, each_kept, IfAny}
-use Rattle.td_layout.proofs.Plainly.{Never, plainly, never_one, never_both, never_all, never_either, terminal_kept, name_kept, constant_kept}
+use Rattle.td_layout.proofs.Plainly.{Never, plainly, never_one, never_both, never_all, never_either, never_qualified, terminal_kept, name_kept, constant_kept}
 use Rattle.td_layout.proofs.Light.{IsLight, expression_kept}
 use Rattle.td_layout.proofs.KeptFields.{FitsField, head_kept, line_kept}
 
@@ -183,7 +183,7 @@ define_never = never_both _ never_one (never_both _ never_one never_one)
 
 alias_never : Never alias_rest.Passes
 unfolding alias_rest
-alias_never = never_both _ (never_either never_one never_one) (never_both _ never_one never_one)
+alias_never = never_both _ (never_either never_one never_qualified) (never_both _ never_one never_one)
 
 output_never : Never output.Passes
 unfolding output slot
@@ -194,7 +194,7 @@ output_never =
 
 item_never : Never item.Passes
 unfolding item
-item_never = never_both _ never_one (never_both _ never_one (never_either never_one never_one))
+item_never = never_both _ never_one (never_both _ never_one (never_either never_one never_qualified))
 
 enumeration_never : Never enumeration.Passes
 unfolding enumeration

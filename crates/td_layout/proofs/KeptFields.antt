@@ -3,7 +3,6 @@ use Rattle.std.proofs.Common.{◌≡◌, ℕ, true, false, List, [], ◌∷◌, 
 use Rattle.td_num.specs.Lists.{Each}
 use Rattle.td_ast.specs.declared.token.Span.{Span}
 use Rattle.td_ast.specs.declared.token.TokenKind.TheVariants as kinds
-use Rattle.td_ast.specs.declared.names.Name.{Name}
 use Rattle.td_ast.specs.declared.names.NumberTree.{NumberTree}
 use Rattle.td_ast.specs.declared.names.Literal.{Literal}
 use Rattle.td_ast.specs.declared.parameters.ParamTree.{ParamTree}
@@ -29,13 +28,14 @@ use Rattle.td_grammar.proofs.Defs.{param_exact}
 use Rattle.td_joined.specs.Pieces.{Piece}
 use Rattle.td_layout.specs.Sequences.{comma}
 use Rattle.td_layout.specs.Sequences as sequences
+use Rattle.td_layout.specs.Names.{before_dot}
 use Rattle.td_layout.specs.Expressions.{expression_pieces}
 use Rattle.td_layout.specs.Parameters.{parameter_pieces, condition_pieces, head_pieces}
 use Rattle.td_layout.specs.Fields.{type_pieces, extent_pieces, refinement_pieces, action_after, field_pieces, field_line}
 use Rattle.td_layout.specs.Unspanned.{nowhere, unspanned_expression, unspanned_parameter, unspanned_head, unspanned_type, unspanned_extent, unspanned_action, unspanned_field}
 use Rattle.td_layout.proofs.Fields.{parameter_back}
 use Rattle.td_layout.proofs.Kept.{Kept, blank, deep, ended, both, made, none, some, into, each_kept, maybe_kept, IfAny}
-use Rattle.td_layout.proofs.Plainly.{plainly, never_one, never_both, never_either, terminal_kept, name_kept, literal_kept, number_kept}
+use Rattle.td_layout.proofs.Plainly.{plainly, never_one, never_both, never_either, never_qualified, terminal_kept, name_kept, qualified_kept, literal_kept, number_kept}
 use Rattle.td_layout.proofs.Light.{IsLight, expression_kept}
 use Rattle.td_layout.proofs.KeptActions.{FitsAction, action_kept}
 
@@ -99,7 +99,7 @@ arguments_kept xs f = parentheses_kept expr expression_pieces unspanned_expressi
 parameter_kept : (p : ParamTree) → Unit {0} → Kept param (parameter_pieces p) (λ r. unspanned_parameter r ≡ unspanned_parameter p)
 unfolding param
 parameter_kept p is =
-    plainly param_exact (never_either (never_both _ (never_either never_one never_one) never_one) (never_both _ never_one (never_both _ (never_either never_one (never_either never_one never_one)) (never_both _ never_one never_one))))
+    plainly param_exact (never_either (never_both _ (never_either never_one never_qualified) never_one) (never_both _ never_one (never_both _ (never_either never_one (never_either never_one never_qualified)) (never_both _ never_one never_one))))
     (parameter_back p)
 
 each_parameter : (xs : List ParamTree) → Each (λ p. Unit {0}) xs
@@ -132,8 +132,8 @@ kind_kept s types.Unit f = into type_tree kinds.Unit (made (λ at. record { span
 kind_kept s types.AllBytes f = into type_tree kinds.AllBytes (made (λ at. record { span = at; kind = types.AllBytes }) (terminal_kept kinds.AllBytes refl) (λ r e. refl)) refl (λ t ts e. rw e refl) refl refl
 kind_kept s types.AllZeros f = into type_tree kinds.AllZeros (made (λ at. record { span = at; kind = types.AllZeros }) (terminal_kept kinds.AllZeros refl) (λ r e. refl)) refl (λ t ts e. rw e refl) refl refl
 kind_kept s (types.Named text arguments) f =
-    into type_tree (kinds.Name text) (made (λ (name, arguments). record { span = name.span; kind = types.Named name.text arguments })
-    (both (name_kept (record { text = text; span = nowhere })) (arguments_kept arguments f) refl) (λ x g. cc (ap (λ (n : Name). n.text) g.0, g.1)))
+    into type_tree (kinds.Name (before_dot text)) (made (λ (name, arguments). record { span = name.span; kind = types.Named name.text arguments })
+    (both (qualified_kept text) (arguments_kept arguments f) refl) (λ x g. cc (g.0, g.1)))
     refl (λ t ts e. rw e refl) refl refl
 
 type_kept : (t : TypeTree) → FitsType t.kind → Kept type_tree (type_pieces t.kind) (λ r. unspanned_type r ≡ unspanned_type t)

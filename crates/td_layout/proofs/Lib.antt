@@ -1,4 +1,5 @@
 pub mod Tokens
+pub mod Dots
 pub mod Back
 pub mod Words
 pub mod Levels
@@ -10,7 +11,7 @@ pub mod Fields
 pub mod Items
 pub mod Definitions
 pub mod Filled
-pub mod Modules
+pub mod Inputs
 pub mod Clean
 pub mod Kept
 pub mod Plainly

@@ -27,20 +27,23 @@ use Rattle.td_ast.specs.declared.definitions.SlotKind.TheVariants as slots
 use Rattle.td_ast.specs.declared.definitions.SlotTree.{SlotTree}
 use Rattle.td_ast.specs.declared.definitions.Def.{Def}
 use Rattle.td_ast.specs.declared.definitions.Def.TheVariants as defs
-use Rattle.td_ast.specs.declared.definitions.ModuleTree.{ModuleTree}
+use Rattle.td_ast.specs.declared.parts.PartTree.{PartTree}
+use Rattle.td_ast.specs.declared.parts.InputTree.{InputTree}
+use Rattle.td_ast.specs.declared.parts.InputTree.TheVariants.{Module, Parts}
 use Rattle.td_ast.specs.Trees as trees
 use Rattle.td_ast.specs.Trees.{Tree}
 use Rattle.td_ast.specs.Statements as statements
 use Rattle.td_ast.specs.Statements.{Statement, Statements}
 use Rattle.td_joined.specs.Pieces.{Piece, LineEnd, text_of}
-use Rattle.td_layout.specs.Sequences.{comma, constant_piece, plain_piece, indented, parted_by, in_parentheses, optional}
+use Rattle.td_layout.specs.Sequences.{comma, indented, parted_by, in_parentheses, optional}
+use Rattle.td_layout.specs.Names.{constant_pieces, plain_pieces}
 use Rattle.td_layout.specs.Operators.{left_of, right_of}
 use Rattle.td_layout.specs.Expressions.{tree_level, fitted, expression_pieces}
 use Rattle.td_layout.specs.Actions.{assigned_pieces, statement_pieces, block_pieces, statement_after, action_pieces}
-use Rattle.td_layout.specs.Parameters.{target_piece, parameter_pieces, condition_pieces, head_pieces}
+use Rattle.td_layout.specs.Parameters.{target_pieces, parameter_pieces, condition_pieces, head_pieces}
 use Rattle.td_layout.specs.Fields.{type_pieces, extent_pieces, refinement_pieces, action_after, field_pieces, field_line}
-use Rattle.td_layout.specs.Definitions.{value_pieces, item_pieces, item_lines, case_lines, default_lines, slot_piece, slot_line, struct_pieces, casetype_pieces, definition_pieces, layout}
-use Rattle.td_layout.specs.Unspanned.{unspanned_constant, unspanned_plain, unspanned_expression, unspanned_assigned, unspanned_statement, unspanned_block, unspanned_action, unspanned_target, unspanned_parameter, unspanned_head, unspanned_kind, unspanned_extent, unspanned_field, unspanned_item, unspanned_struct, unspanned_case, unspanned_casetype, unspanned_slot_kind, unspanned_slot, unspanned_definition, unspanned}
+use Rattle.td_layout.specs.Definitions.{value_pieces, item_pieces, item_lines, case_lines, default_lines, slot_piece, slot_line, struct_pieces, casetype_pieces, definition_pieces, definition_lines, part_lines, layout}
+use Rattle.td_layout.specs.Unspanned.{unspanned_constant, unspanned_plain, unspanned_expression, unspanned_assigned, unspanned_statement, unspanned_block, unspanned_action, unspanned_target, unspanned_parameter, unspanned_head, unspanned_kind, unspanned_extent, unspanned_field, unspanned_item, unspanned_struct, unspanned_case, unspanned_casetype, unspanned_slot_kind, unspanned_slot, unspanned_definition, unspanned_part, unspanned}
 use Rattle.td_layout.specs.Laws.{SameText}
 
 -- ---- several
@@ -67,11 +70,11 @@ parentheses_same p un same (x ∷ xs) =
     let inside = parted_same comma p un same (x ∷ xs) in
     cc (inside)
 
-constant_same : (c : ConstTree) → constant_piece (unspanned_constant c) ≡ constant_piece c
+constant_same : (c : ConstTree) → constant_pieces (unspanned_constant c) ≡ constant_pieces c
 constant_same (constants.Number n) = refl
 constant_same (constants.Named n) = refl
 
-plain_same : (c : PlainTree) → plain_piece (unspanned_plain c) ≡ plain_piece c
+plain_same : (c : PlainTree) → plain_pieces (unspanned_plain c) ≡ plain_pieces c
 plain_same (plains.Number n) = refl
 plain_same (plains.Named n) = refl
 
@@ -130,7 +133,7 @@ action_same a = cc (flat_same statement_after unspanned_statement after_same a.s
 
 -- ---- parameters and fields
 
-target_same : (t : TargetTree) → target_piece (unspanned_target t) ≡ target_piece t
+target_same : (t : TargetTree) → target_pieces (unspanned_target t) ≡ target_pieces t
 target_same (targets.Number n) = refl
 target_same (targets.Pointer s) = refl
 target_same (targets.Named n) = refl
@@ -218,8 +221,15 @@ definition_same (defs.Struct d) = struct_same d
 definition_same (defs.Casetype d) = casetype_same d
 definition_same (defs.Output d) = cc (flat_same slot_line unspanned_slot slot_same d.slots)
 
-layout_same : (tree : ModuleTree) → layout (unspanned tree) ≡ layout tree
-layout_same tree = parted_same (LineEnd ∷ []) definition_pieces unspanned_definition definition_same tree.definitions
+definitions_same : (ds : List Def) → definition_lines (map unspanned_definition ds) ≡ definition_lines ds
+definitions_same ds = parted_same (LineEnd ∷ []) definition_pieces unspanned_definition definition_same ds
+
+part_same : (p : PartTree) → part_lines (unspanned_part p) ≡ part_lines p
+part_same p = cc (definitions_same p.definitions)
+
+layout_same : (input : InputTree) → layout (unspanned input) ≡ layout input
+layout_same (Module tree) = definitions_same tree.definitions
+layout_same (Parts parts) = parted_same (LineEnd ∷ []) part_lines unspanned_part part_same parts
 
 pub same_text : SameText
 same_text a b e = ap text_of (sym (layout_same a) ∙ (ap layout e ∙ layout_same b))

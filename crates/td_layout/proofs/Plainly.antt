@@ -1,5 +1,5 @@
 -- Productions in which no limit is looked at are kept where they read back.
-use Rattle.std.proofs.Common.{◌≡◌, true, List, [], ◌∷◌, ◌++◌, refl, inl, inr}
+use Rattle.std.proofs.Common.{◌≡◌, ℕ, true, List, [], ◌∷◌, ◌++◌, refl, inl, inr}
 use Rattle.td_ast.specs.declared.token.Token.{Token}
 use Rattle.td_ast.specs.declared.token.TokenKind.{TokenKind}
 use Rattle.td_ast.specs.declared.names.Name.{Name}
@@ -9,16 +9,18 @@ use Rattle.td_ast.specs.declared.names.ConstTree.{ConstTree}
 use Rattle.td_ast.specs.Kinds.{is_kind}
 use Rattle.td_grammar.specs.Limits.{PassesNever, PassesBoth, PassesAll, PassesEither}
 use Rattle.td_grammar.specs.Grammar.{Grammar}
-use Rattle.td_grammar.specs.Tokens.{terminal, name, literal, number_type, constant}
+use Rattle.td_grammar.specs.Tokens.{terminal, name, literal, number_type, qualified, constant}
 use Rattle.td_grammar.proofs.Exact.{IsExact}
 use Rattle.td_grammar.proofs.Making.{making_exact}
 use Rattle.td_grammar.proofs.Either.{or_exact}
 use Rattle.td_grammar.proofs.Words.{terminal_exact, name_exact, literal_exact, number_type_exact}
+use Rattle.td_grammar.proofs.Qualified.{qualified_exact}
 use Rattle.td_joined.specs.Pieces.{Piece, Word}
-use Rattle.td_layout.specs.Sequences.{name_piece, literal_piece, number_piece, constant_piece}
+use Rattle.td_layout.specs.Sequences.{name_piece, literal_piece, number_piece}
+use Rattle.td_layout.specs.Names.{qualified_pieces, constant_pieces}
 use Rattle.td_layout.specs.Unspanned.{unspanned_name, unspanned_literal, unspanned_number, unspanned_constant}
 use Rattle.td_layout.proofs.Back.{Back}
-use Rattle.td_layout.proofs.Words.{terminal_back, name_back, literal_back, number_back, constant_back}
+use Rattle.td_layout.proofs.Words.{terminal_back, name_back, literal_back, number_back, qualified_back, constant_back}
 use Rattle.td_layout.proofs.Clean.{Clean, Begun}
 use Rattle.td_layout.proofs.Kept.{Kept}
 
@@ -72,8 +74,14 @@ literal_kept n = plainly literal_exact never_one (literal_back n)
 pub number_kept : (n : NumberTree) → Kept number_type (number_piece n ∷ []) (λ r. unspanned_number r ≡ unspanned_number n)
 number_kept n = plainly number_type_exact never_one (number_back n)
 
-pub constant_exact : IsExact constant
-constant_exact = or_exact _ _ (making_exact _ _ literal_exact) (making_exact _ _ name_exact) refl refl refl
+pub never_qualified : Never qualified.Passes
+never_qualified = never_both _ never_one (never_both _ never_one never_one)
 
-pub constant_kept : (c : ConstTree) → Kept constant (constant_piece c ∷ []) (λ r. unspanned_constant r ≡ unspanned_constant c)
-constant_kept c = plainly constant_exact (never_either never_one never_one) (constant_back c)
+pub qualified_kept : (text : List ℕ) → Kept qualified (qualified_pieces text) (λ r. r.text ≡ text)
+qualified_kept text = plainly qualified_exact never_qualified (qualified_back text)
+
+pub constant_exact : IsExact constant
+constant_exact = or_exact _ _ (making_exact _ _ literal_exact) (making_exact _ _ qualified_exact) refl refl refl
+
+pub constant_kept : (c : ConstTree) → Kept constant (constant_pieces c) (λ r. unspanned_constant r ≡ unspanned_constant c)
+constant_kept c = plainly constant_exact (never_either never_one never_qualified) (constant_back c)

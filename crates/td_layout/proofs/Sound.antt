@@ -10,10 +10,12 @@ use Rattle.td_ast.specs.declared.token.TokenKind.TheVariants as kinds
 use Rattle.td_ast.specs.declared.names.Name.{Name}
 use Rattle.td_ast.specs.declared.names.Literal.{Literal}
 use Rattle.td_grammar.specs.Spelling.{SpellsBoth, SpellsMade, SpellsMaybe, SpellsAll, SpellsEither}
-use Rattle.td_grammar.specs.Tokens.{terminal, name, name_of, literal, literal_of, number_type, constant, plain}
+use Rattle.td_grammar.specs.Tokens.{terminal, name, name_of, literal, literal_of, number_type, qualified_by, dotted, qualified, constant, plain}
 use Rattle.td_joined.specs.Pieces.{Piece, Word, Blank, LineEnd, kinds_of}
 use Rattle.td_joined.specs.Joining.{IsSpellable}
-use Rattle.td_layout.specs.Sequences.{name_piece, literal_piece, number_piece, constant_piece, plain_piece, indented, optional}
+use Rattle.td_layout.specs.Sequences.{name_piece, literal_piece, number_piece, indented, optional}
+use Rattle.td_layout.specs.Names.{qualified_pieces, constant_pieces, plain_pieces}
+use Rattle.td_layout.proofs.Dots.{no_dot, one_dot}
 use Rattle.td_layout.proofs.Tokens.{kinds_in, kinds_append}
 
 -- each of these kinds can be spelled
@@ -134,8 +136,29 @@ literal_sound = record { sound = λ n tokens (t, e, m) f. (subst IsSpellable (li
 pub number_sound : Sound number_type.Spells (λ n. number_piece n ∷ [])
 number_sound = record { sound = λ n tokens m f. (tt, tt) }
 
-pub constant_sound : Sound constant.Spells (λ c. constant_piece c ∷ [])
-constant_sound = either (made literal_sound (λ x h. h)) (made name_sound (λ x h. h))
+-- ---- names that may be qualified
 
-pub plain_sound : Sound plain.Spells (λ c. plain_piece c ∷ [])
-plain_sound = either (made number_sound (λ x h. h)) (made name_sound (λ x h. h))
+dotted_sound : Sound dotted.Spells (λ n. name_piece n ∷ [])
+dotted_sound = made (both (terminal_sound kinds.Dot tt) name_sound) (λ x h. h.1)
+
+fine_qualified : (first : Name) (o : Option Name) (tokens : List Token) → IsSpellable (kinds.Name first.text) → SpellsMaybe dotted.Spells o tokens → AreSpellable (kinds_in tokens) → Fine (qualified_pieces (qualified_by first o).text)
+fine_qualified first None tokens is s f = let no = no_dot first.text is.1 in rw (no.0, no.1) (is, tt)
+fine_qualified first (Some second) tokens is s f =
+    let dot = one_dot first.text second.text is.1 in
+    let other = dotted_sound.sound second tokens s f in
+    rw (dot.0, dot.1) (is, (tt, other))
+
+pub qualified_sound : Sound qualified.Spells (λ n. qualified_pieces n.text)
+qualified_sound = record { sound = by_parts }
+  where
+    by_parts : (n : Name) (tokens : List Token) → qualified.Spells n tokens → AreSpellable (kinds_in tokens) → Fine (qualified_pieces n.text)
+    by_parts n tokens (x, e, (u, v, d, p, q)) f =
+        let h = parts tokens u v d f in
+        let first = name_sound.sound x.0 u p h.0 in
+        subst (λ (m : Name). Fine (qualified_pieces m.text)) e (fine_qualified x.0 x.1 v first.0 q h.1)
+
+pub constant_sound : Sound constant.Spells constant_pieces
+constant_sound = either (made literal_sound (λ x h. h)) (made qualified_sound (λ x h. h))
+
+pub plain_sound : Sound plain.Spells plain_pieces
+plain_sound = either (made number_sound (λ x h. h)) (made qualified_sound (λ x h. h))

@@ -1,5 +1,5 @@
 -- The canonical text of a module can be spelled where the tokens that spell it can.
-use Rattle.std.proofs.Common.{Bool, true, false, List, [], ◌∷◌, ◌++◌, Option, subst, inl, inr}
+use Rattle.std.proofs.Common.{Bool, true, false, List, [], ◌∷◌, ◌++◌, Option, Some, None, codes, refl, subst, inl, inr}
 use Rattle.std.specs.Prelude.{flat_map}
 use Rattle.td_ast.specs.declared.token.Token.{Token}
 use Rattle.td_ast.specs.declared.token.TokenKind.TheVariants as kinds
@@ -10,19 +10,23 @@ use Rattle.td_ast.specs.declared.definitions.ItemTree.{ItemTree}
 use Rattle.td_ast.specs.declared.definitions.CaseTree.{CaseTree}
 use Rattle.td_ast.specs.declared.definitions.SlotKind.TheVariants as slots
 use Rattle.td_ast.specs.declared.definitions.Def.{Def}
-use Rattle.td_ast.specs.declared.definitions.ModuleTree.{ModuleTree}
+use Rattle.td_ast.specs.declared.parts.InputTree.{InputTree}
+use Rattle.td_ast.specs.declared.parts.InputTree.TheVariants.{Parts}
 use Rattle.td_ast.specs.Trees.{Tree}
 use Rattle.td_grammar.specs.Sets.{only}
 use Rattle.td_grammar.specs.Spelling.{SpellsAll}
 use Rattle.td_grammar.specs.Grammar.{Grammar, ◌then◌, ◌making◌, ◌or◌}
+use Rattle.td_grammar.specs.Grammar as grammar
+use Rattle.td_grammar.specs.Sequences.{some_of}
+use Rattle.td_grammar.specs.Parts.{module_word, part, alone, or_empty, input_text}
 use Rattle.td_grammar.specs.Tokens.{terminal, number_type}
 use Rattle.td_grammar.specs.Listed.{SpellsList}
-use Rattle.td_grammar.specs.Definitions.{closing, case_tree, item, slot, subject, default_case, cases, define, enumeration, alias_rest, struct_rest, casetype, plainly, typedef, entrypoint, output, def, module_text}
+use Rattle.td_grammar.specs.Definitions.{closing, case_tree, item, slot, subject, default_case, cases, define, enumeration, alias_rest, struct_rest, casetype, plainly, typedef, entrypoint, output, def}
 use Rattle.td_joined.specs.Pieces.{Piece, Word, Blank, LineEnd}
 use Rattle.td_layout.specs.Sequences.{name_piece, number_piece, indented, optional, parted_by}
 use Rattle.td_layout.specs.Parameters.{head_pieces}
 use Rattle.td_layout.specs.Fields.{field_line}
-use Rattle.td_layout.specs.Definitions.{value_pieces, item_pieces, item_lines, entry_pieces, closing_pieces, subject_pieces, case_lines, default_lines, slot_piece, slot_line, definition_pieces, layout}
+use Rattle.td_layout.specs.Definitions.{value_pieces, item_pieces, item_lines, entry_pieces, closing_pieces, subject_pieces, case_lines, default_lines, slot_piece, slot_line, definition_pieces, definition_lines, part_lines, layout}
 use Rattle.td_layout.specs.Laws.{KeepsSpellings}
 use Rattle.td_layout.proofs.Tokens.{kinds_in}
 use Rattle.td_layout.proofs.Sound.{AreSpellable, Fine, Sound, fine_append, parts, blank, line, deep, ended, both, made, either, maybe, all, terminal_sound, name_sound, literal_sound, number_sound, constant_sound, plain_sound}
@@ -161,13 +165,37 @@ definition_sound : Sound def.Spells definition_pieces
 unfolding def
 definition_sound = either define_sound (either (record { sound = fine_enum }) (either typedef_sound (either casetype_sound (either entrypoint_sound output_sound))))
 
-fine_definitions : (ds : List Def) (tokens : List Token) → SpellsAll def.Spells ds tokens → AreSpellable (kinds_in tokens) → Fine (parted_by (LineEnd ∷ []) definition_pieces ds)
+-- ---- inputs
+
+fine_definitions : (ds : List Def) (tokens : List Token) → SpellsAll def.Spells ds tokens → AreSpellable (kinds_in tokens) → Fine (definition_lines ds)
 fine_definitions [] tokens s f = tt
 fine_definitions (d ∷ ds) tokens (u, v, e, s, r) f =
     let h = parts tokens u v e f in
     fine_append (definition_pieces d) (flat_map (λ x. (LineEnd ∷ []) ++ definition_pieces x) ds) (definition_sound.sound d u s h.0)
     ((all {p = λ x. (LineEnd ∷ []) ++ definition_pieces x} (line definition_sound)).sound ds v r h.1)
 
-pub module_keeps_spellings : KeepsSpellings
-unfolding module_text
-module_keeps_spellings tree source (ds, e, s) f = subst (λ (t : ModuleTree). Fine (layout t)) e (fine_definitions ds source s f)
+definitions_sound : Sound (SpellsAll def.Spells) definition_lines
+definitions_sound = record { sound = fine_definitions }
+
+module_sound : Sound module_word.Spells (λ s. Word (kinds.Name (codes "module")) ∷ [])
+module_sound = record { sound = λ s tokens m f. ((refl, refl, refl), tt) }
+
+part_sound : Sound part.Spells part_lines
+unfolding part
+part_sound = made (both module_sound (both (blank name_sound) (line (line definitions_sound)))) (λ x h. h)
+
+parted_sound : {A : Type 0} (g : Grammar A) (p : A → List Piece) → Sound g.Spells p → Sound (some_of g).Spells (parted_by (LineEnd ∷ []) p)
+parted_sound g p s = made (both s (all {p = λ x. (LineEnd ∷ []) ++ p x} (line s))) (λ x h. h)
+
+input_sound : Sound input_text.Spells layout
+unfolding input_text
+input_sound =
+    made {p = λ o. layout (or_empty o)} (record { sound = by_form }) (λ o h. h)
+  where
+    by_form : (o : Option InputTree) (tokens : List Token) → (grammar.maybe ((some_of def making alone) or (some_of part making Parts))).Spells o tokens → AreSpellable (kinds_in tokens) → Fine (layout (or_empty o))
+    by_form None tokens s f = tt
+    by_form (Some i) tokens (inl (ds, e, s)) f = subst (λ (i : InputTree). Fine (layout i)) e ((parted_sound def definition_pieces definition_sound).sound ds tokens s f)
+    by_form (Some i) tokens (inr (ps, e, s)) f = subst (λ (i : InputTree). Fine (layout i)) e ((parted_sound part part_lines part_sound).sound ps tokens s f)
+
+pub input_keeps_spellings : KeepsSpellings
+input_keeps_spellings input source s f = input_sound.sound input source s f

@@ -16,9 +16,9 @@ use Rattle.td_grammar.specs.Expressions.{expr_body, group_of, triple_of, branche
 use Rattle.td_joined.specs.Pieces.{Piece, Word, Blank}
 use Rattle.td_joined.specs.Joining.{IsSpellable}
 use Rattle.td_layout.specs.Operators.{unary_kind, binary_kind, left_of, right_of}
-use Rattle.td_layout.specs.Expressions.{tree_level, in_group, fitted, truth_kind, operand_kind, expression_pieces}
+use Rattle.td_layout.specs.Expressions.{tree_level, in_group, fitted, truth_kind, operand_pieces, expression_pieces}
 use Rattle.td_layout.proofs.Tokens.{kinds_in}
-use Rattle.td_layout.proofs.Sound.{AreSpellable, Fine, Sound, fine_append, fine_left, parts, blank, both, made, either, terminal_sound, name_sound, literal_sound, number_sound}
+use Rattle.td_layout.proofs.Sound.{AreSpellable, Fine, Sound, fine_append, fine_left, parts, blank, both, made, either, terminal_sound, qualified_sound, literal_sound, number_sound}
 
 -- ---- trees
 
@@ -96,8 +96,8 @@ module _ (operator : Grammar (BinaryOperator × Span)) (g : Grammar Tree) (s : S
 
 -- ---- by what the expressions in it are
 
-operand_sound : Sound sizeof_operand.Spells (λ x. Word (operand_kind x.0) ∷ [])
-operand_sound = either (made number_sound (λ x h. h)) (either (made name_sound (λ x h. h)) (made (terminal_sound kinds.This tt) (λ x h. h)))
+operand_sound : Sound sizeof_operand.Spells (λ x. operand_pieces x.0)
+operand_sound = either (made number_sound (λ x h. h)) (either (made qualified_sound (λ x h. h)) (made (terminal_sound kinds.This tt) (λ x h. h)))
 
 truth_sound : Sound truth.Spells (λ x. Word (truth_kind x.0) ∷ [])
 truth_sound = record { sound = λ x tokens m f. (truth_fixed x.0, tt) }
@@ -122,7 +122,7 @@ module _ (P : Tree → List Token → Type 0) (inner : Sound P expression_pieces
 
   prim_sound : Sound (prim_from (group_of (spelled_by P)) (triple_of (spelled_by P))).Spells expression_pieces
   prim_sound =
-      either (made literal_sound (λ x h. h)) (either (made name_sound (λ x h. h)) (either (made truth_sound (λ x h. h)) (either (made (terminal_sound kinds.FieldPos tt) (λ x h. h))
+      either (made literal_sound (λ x h. h)) (either (made qualified_sound (λ x h. h)) (either (made truth_sound (λ x h. h)) (either (made (terminal_sound kinds.FieldPos tt) (λ x h. h))
       (either (made (both (terminal_sound kinds.Sizeof tt) (both (terminal_sound kinds.OpenParen tt) (both operand_sound (terminal_sound kinds.CloseParen tt)))) (λ x h. h))
       (either group_sound (made (both (terminal_sound kinds.IsRangeOkay tt) triple_sound) (λ x h. h)))))))
 

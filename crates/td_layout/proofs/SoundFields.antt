@@ -11,9 +11,9 @@ use Rattle.td_joined.specs.Pieces.{Piece, Word}
 use Rattle.td_layout.specs.Sequences.{comma, parted_by}
 use Rattle.td_layout.specs.Sequences as sequences
 use Rattle.td_layout.specs.Expressions.{expression_pieces}
-use Rattle.td_layout.specs.Parameters.{target_piece, parameter_pieces, condition_pieces, head_pieces}
+use Rattle.td_layout.specs.Parameters.{target_pieces, parameter_pieces, condition_pieces, head_pieces}
 use Rattle.td_layout.specs.Fields.{type_pieces, extent_pieces, refinement_pieces, action_after, field_pieces, field_line}
-use Rattle.td_layout.proofs.Sound.{Fine, Sound, blank, deep, ended, both, made, either, maybe, all, terminal_sound, name_sound, literal_sound, number_sound, plain_sound}
+use Rattle.td_layout.proofs.Sound.{Fine, Sound, blank, deep, ended, both, made, either, maybe, all, terminal_sound, name_sound, qualified_sound, literal_sound, number_sound, plain_sound}
 use Rattle.td_layout.proofs.SoundExpressions.{expression_sound}
 use Rattle.td_layout.proofs.SoundActions.{action_sound}
 
@@ -42,8 +42,8 @@ parentheses_sound g p s =
 
 -- ---- parameters
 
-target_sound : Sound target.Spells (λ t. target_piece t ∷ [])
-target_sound = either (made number_sound (λ x h. h)) (either (made (terminal_sound kinds.Pointer tt) (λ x h. h)) (made name_sound (λ x h. h)))
+target_sound : Sound target.Spells target_pieces
+target_sound = either (made number_sound (λ x h. h)) (either (made (terminal_sound kinds.Pointer tt) (λ x h. h)) (made qualified_sound (λ x h. h)))
 
 parameter_sound : Sound param.Spells parameter_pieces
 unfolding param
@@ -62,7 +62,7 @@ type_sound : Sound type_tree.Spells (λ t. type_pieces t.kind)
 unfolding type_tree
 type_sound =
     either (made number_sound (λ x h. h)) (either (made (terminal_sound kinds.Unit tt) (λ x h. h)) (either (made (terminal_sound kinds.AllBytes tt) (λ x h. h)) (either (made (terminal_sound kinds.AllZeros tt) (λ x h. h))
-    (made (both name_sound (parentheses_sound expr expression_pieces expression_sound)) (λ x h. h)))))
+    (made (both qualified_sound (parentheses_sound expr expression_pieces expression_sound)) (λ x h. h)))))
 
 extent_sound : Sound extent.Spells extent_pieces
 unfolding extent

@@ -17,7 +17,7 @@ use Rattle.td_grammar.proofs.Over.{count-append, nth_counted}
 use Rattle.td_layout.proofs.Light.{IsLight}
 use Rattle.td_layout.proofs.Levels.{tree_small}
 use Rattle.td_layout.proofs.Ranks.{product_is, sum_is, shift_is, order_is, equality_is, bit_and_is, bit_xor_is, bit_or_is, and_is, or_is, unary_counts}
-use Rattle.td_layout.proofs.Costs.{own, placed, placed_most, placed_own, placed_looser, unary_cost, choice_cost, range_cost, spanned_own, truth_cost, sizeof_cost, Costs, opening_counts, leaning_costs, comparing_costs}
+use Rattle.td_layout.proofs.Costs.{own, placed, placed_most, placed_own, placed_looser, unary_cost, choice_cost, range_cost, spanned_own, name_cost, truth_cost, sizeof_cost, Costs, opening_counts, leaning_costs, comparing_costs}
 
 -- by what the expressions in it cost
 module _ (P : Tree → List Token → Type 0) (inner : (a : Tree) (tokens : List Token) → P a tokens → own a ≤ count counted tokens) where
@@ -67,7 +67,7 @@ module _ (P : Tree → List Token → Type 0) (inner : (a : Tree) (tokens : List
     where
       by_case : (a : Tree) (tokens : List Token) → (prim_from group triple).Spells a tokens → placed 0 a ≤ count counted tokens
       by_case a tokens (inl (n, e, s)) = omega (arith, ap (placed 0) e)
-      by_case a tokens (inr (inl (n, e, s))) = omega (arith, ap (placed 0) e)
+      by_case a tokens (inr (inl (n, e, s))) = omega (arith, ap (placed 0) e, name_cost n.span n)
       by_case a tokens (inr (inr (inl (x, e, s)))) = omega (arith, ap (placed 0) e, truth_cost x.1 x.0)
       by_case a tokens (inr (inr (inr (inl (x, e, s))))) = omega (arith, ap (placed 0) e)
       by_case a tokens (inr (inr (inr (inr (inl (x, e, (u, v, d, q, (w, z, f, r, t)))))))) =

@@ -1,5 +1,6 @@
--- Productions of one token read back.
-use Rattle.std.proofs.Common.{◌≡◌, true, List, [], ◌∷◌, Option, Some, refl, ap}
+-- Productions of one token and names read back.
+use Rattle.std.proofs.Common.{◌≡◌, true, ℕ, List, [], ◌∷◌, Option, Some, None, refl, ap, ◌∙◌}
+use Rattle.std.specs.Prelude.{option_map}
 use Rattle.td_ast.specs.declared.token.Token.{Token}
 use Rattle.td_ast.specs.declared.token.TokenKind.{TokenKind}
 use Rattle.td_ast.specs.declared.token.TokenKind.TheVariants as kinds
@@ -11,12 +12,15 @@ use Rattle.td_ast.specs.declared.names.ConstTree.TheVariants as constants
 use Rattle.td_ast.specs.declared.names.PlainTree.{PlainTree}
 use Rattle.td_ast.specs.declared.names.PlainTree.TheVariants as plains
 use Rattle.td_ast.specs.Kinds.{is_kind}
-use Rattle.td_grammar.specs.Tokens.{terminal, name, literal, number_type, word, constant, plain}
+use Rattle.td_grammar.specs.Grammar.{maybe}
+use Rattle.td_grammar.specs.Tokens.{terminal, name, literal, number_type, word, qualified_by, dotted, qualified, constant, plain}
 use Rattle.td_joined.specs.Pieces.{Word}
-use Rattle.td_layout.specs.Sequences.{name_piece, literal_piece, number_piece, constant_piece, plain_piece}
-use Rattle.td_layout.specs.Unspanned.{unspanned_name, unspanned_literal, unspanned_number, unspanned_constant, unspanned_plain}
+use Rattle.td_layout.specs.Sequences.{name_piece, literal_piece, number_piece, optional}
+use Rattle.td_layout.specs.Names.{before_dot, after_dot, dotted_pieces, qualified_pieces, constant_pieces, plain_pieces}
+use Rattle.td_layout.specs.Unspanned.{nowhere, unspanned_name, unspanned_literal, unspanned_number, unspanned_constant, unspanned_plain}
 use Rattle.td_layout.proofs.Tokens.{one_token}
-use Rattle.td_layout.proofs.Back.{Back, made, left, right}
+use Rattle.td_layout.proofs.Dots.{joined, joined_again}
+use Rattle.td_layout.proofs.Back.{Back, good, both, made, left, right, none, some}
 
 terminal_spelled : (k : TokenKind) → is_kind k k ≡ true → (tokens : List Token) (t : Token) → tokens ≡ t ∷ [] → t.kind ≡ k → (terminal k).Spells t.span tokens
 terminal_spelled k is tokens t e f = (t, e, rw (f, is) refl)
@@ -49,10 +53,38 @@ word_spelled set meaning k a is tokens t e f = (t, e, rw (f, is) refl)
 pub word_back : {A : Type 0} (set : List _) (meaning : TokenKind → Option A) (k : TokenKind) (a : A) → meaning k ≡ Some a → Back (word set meaning).Spells (Word k ∷ []) (λ x. x.0 ≡ a)
 word_back set meaning k a is = record { read = λ tokens e. let p = one_token tokens k e in ((a, p.0.span), word_spelled set meaning k a is tokens p.0 p.1 p.2, refl) }
 
-pub constant_back : (c : ConstTree) → Back constant.Spells (constant_piece c ∷ []) (λ r. unspanned_constant r ≡ unspanned_constant c)
-constant_back (constants.Number n) = left (made (literal_back n) (λ r e. ap (λ (x : Literal). constants.Number x) e))
-constant_back (constants.Named n) = right (made (name_back n) (λ r e. ap (λ (x : Name). constants.Named x) e))
+-- ---- names that may be qualified
 
-pub plain_back : (c : PlainTree) → Back plain.Spells (plain_piece c ∷ []) (λ r. unspanned_plain r ≡ unspanned_plain c)
+abbrev named : List ℕ → Name
+named text = record { text = text; span = nowhere }
+
+abbrev texts : Option Name → Option (List ℕ)
+texts o = option_map (λ (n : Name). n.text) o
+
+dotted_back : (o : Option (List ℕ)) → Back (maybe dotted).Spells (optional dotted_pieces o) (λ r. texts r ≡ o)
+dotted_back None = good none (λ r e. ap texts e)
+dotted_back (Some text) =
+    some (made {H = λ (n : Name). n.text ≡ text} (both (terminal_back kinds.Dot refl) (name_back (named text))) (λ x g. ap (λ (n : Name). n.text) g.1))
+    (λ r e. ap (λ (t : List ℕ). Some t) e)
+
+qualified_text : (first : Name) (o : Option Name) → (qualified_by first o).text ≡ joined first.text (texts o)
+qualified_text first None = refl
+qualified_text first (Some second) = refl
+
+both_texts : (text : List ℕ) (first : Name) (o : Option Name) → first.text ≡ before_dot text → texts o ≡ after_dot text → (qualified_by first o).text ≡ text
+both_texts text first o e f = qualified_text first o ∙ rw (e, f) (joined_again text)
+
+pub qualified_back : (text : List ℕ) → Back qualified.Spells (qualified_pieces text) (λ r. r.text ≡ text)
+qualified_back text =
+    made (both (name_back (named (before_dot text))) (dotted_back (after_dot text))) (λ x g. both_texts text x.0 x.1 (ap (λ (n : Name). n.text) g.0) g.1)
+
+pub named_back : (n : Name) → Back qualified.Spells (qualified_pieces n.text) (λ r. unspanned_name r ≡ unspanned_name n)
+named_back n = good (qualified_back n.text) (λ r e. ap named e)
+
+pub constant_back : (c : ConstTree) → Back constant.Spells (constant_pieces c) (λ r. unspanned_constant r ≡ unspanned_constant c)
+constant_back (constants.Number n) = left (made (literal_back n) (λ r e. ap (λ (x : Literal). constants.Number x) e))
+constant_back (constants.Named n) = right (made (named_back n) (λ r e. ap (λ (x : Name). constants.Named x) e))
+
+pub plain_back : (c : PlainTree) → Back plain.Spells (plain_pieces c) (λ r. unspanned_plain r ≡ unspanned_plain c)
 plain_back (plains.Number n) = left (made (number_back n) (λ r e. ap (λ (x : NumberTree). plains.Number x) e))
-plain_back (plains.Named n) = right (made (name_back n) (λ r e. ap (λ (x : Name). plains.Named x) e))
+plain_back (plains.Named n) = right (made (named_back n) (λ r e. ap (λ (x : Name). plains.Named x) e))

@@ -1,5 +1,5 @@
--- The canonical text of a module.
-use Rattle.std.specs.Prelude.{ℕ, Bool, true, false, List, [], ◌∷◌, ◌++◌, flat_map}
+-- The canonical text of an input: a module, or parts.
+use Rattle.std.specs.Prelude.{ℕ, Bool, true, false, List, [], ◌∷◌, ◌++◌, flat_map, codes}
 use Rattle.td_ast.specs.declared.token.TokenKind.TheVariants as kinds
 use Rattle.td_ast.specs.declared.names.Name.{Name}
 use Rattle.td_ast.specs.declared.names.ConstTree.{ConstTree}
@@ -17,10 +17,13 @@ use Rattle.td_ast.specs.declared.definitions.SlotTree.{SlotTree}
 use Rattle.td_ast.specs.declared.definitions.OutputTree.{OutputTree}
 use Rattle.td_ast.specs.declared.definitions.Def.{Def}
 use Rattle.td_ast.specs.declared.definitions.Def.TheVariants as defs
-use Rattle.td_ast.specs.declared.definitions.ModuleTree.{ModuleTree}
+use Rattle.td_ast.specs.declared.parts.PartTree.{PartTree}
+use Rattle.td_ast.specs.declared.parts.InputTree.{InputTree}
+use Rattle.td_ast.specs.declared.parts.InputTree.TheVariants.{Module, Parts}
 use Rattle.td_ast.specs.Trees.{Tree}
 use Rattle.td_joined.specs.Pieces.{Piece, Word, Blank, LineEnd, text_of}
-use Rattle.td_layout.specs.Sequences.{name_piece, literal_piece, number_piece, constant_piece, plain_piece, indented, parted_by, optional}
+use Rattle.td_layout.specs.Sequences.{name_piece, literal_piece, number_piece, indented, parted_by, optional}
+use Rattle.td_layout.specs.Names.{constant_pieces, plain_pieces}
 use Rattle.td_layout.specs.Expressions.{expression_pieces}
 use Rattle.td_layout.specs.Parameters.{head_pieces}
 use Rattle.td_layout.specs.Fields.{field_line}
@@ -31,7 +34,7 @@ define_pieces define = Word kinds.Define ∷ Blank ∷ name_piece define.name �
 
 -- ` = 1`
 abbrev pub value_pieces : ConstTree → List Piece
-value_pieces value = Blank ∷ Word kinds.Assign ∷ Blank ∷ constant_piece value ∷ []
+value_pieces value = Blank ∷ Word kinds.Assign ∷ Blank ∷ constant_pieces value
 
 -- `A = 1`
 abbrev pub item_pieces : ItemTree → List Piece
@@ -51,7 +54,7 @@ enum_pieces enum =
 
 -- `typedef T U;`
 abbrev pub alias_pieces : AliasTree → List Piece
-alias_pieces alias = Word kinds.Typedef ∷ Blank ∷ plain_piece alias.target ∷ Blank ∷ name_piece alias.name ∷ Word kinds.Semicolon ∷ LineEnd ∷ []
+alias_pieces alias = Word kinds.Typedef ∷ Blank ∷ (plain_pieces alias.target ++ Blank ∷ name_piece alias.name ∷ Word kinds.Semicolon ∷ LineEnd ∷ [])
 
 -- `entrypoint ` where it is one
 abbrev pub entry_pieces : Bool → List Piece
@@ -78,7 +81,7 @@ subject_pieces subject =
 
 -- `case K:` and its fields
 abbrev pub case_lines : CaseTree → List Piece
-case_lines case_tree = indented 2 (Word kinds.Case ∷ Blank ∷ constant_piece case_tree.constant ∷ Word kinds.Colon ∷ LineEnd ∷ flat_map (field_line 3) case_tree.fields)
+case_lines case_tree = indented 2 (Word kinds.Case ∷ Blank ∷ (constant_pieces case_tree.constant ++ Word kinds.Colon ∷ LineEnd ∷ flat_map (field_line 3) case_tree.fields))
 
 -- `default:` and its fields
 abbrev pub default_lines : List FieldTree → List Piece
@@ -117,10 +120,19 @@ definition_pieces (defs.Struct struct) = struct_pieces struct
 definition_pieces (defs.Casetype casetype) = casetype_pieces casetype
 definition_pieces (defs.Output output) = output_pieces output
 
--- the pieces of a module's canonical text: those of its definitions, with an empty line between two
-abbrev pub layout : ModuleTree → List Piece
-layout tree = parted_by (LineEnd ∷ []) definition_pieces tree.definitions
+-- definitions, with an empty line between two
+abbrev pub definition_lines : List Def → List Piece
+definition_lines definitions = parted_by (LineEnd ∷ []) definition_pieces definitions
 
--- the canonical text of a module, its bytes
-abbrev pub canonical_text : ModuleTree → List ℕ
-canonical_text tree = text_of (layout tree)
+-- `module M`, an empty line, its definitions
+abbrev pub part_lines : PartTree → List Piece
+part_lines part = Word (kinds.Name (codes "module")) ∷ Blank ∷ name_piece part.name ∷ LineEnd ∷ LineEnd ∷ definition_lines part.definitions
+
+-- the pieces of an input's canonical text: a module's definitions, or the parts with an empty line between two
+abbrev pub layout : InputTree → List Piece
+layout (Module tree) = definition_lines tree.definitions
+layout (Parts parts) = parted_by (LineEnd ∷ []) part_lines parts
+
+-- the canonical text of an input, its bytes
+abbrev pub canonical_text : InputTree → List ℕ
+canonical_text input = text_of (layout input)

@@ -1,4 +1,4 @@
--- A module and its canonical text, letter by letter: a row to compare the definition with.
+-- A module, parts, and their canonical texts, letter by letter: rows to compare the definition with.
 use Rattle.std.specs.Prelude.{◌≡◌, ℕ, true, List, [], ◌∷◌, ◌++◌, flat_map, Some, None, codes}
 use Rattle.td_num.specs.declared.number.NumberType.{NumberType}
 use Rattle.td_num.specs.declared.number.Width.TheVariants as widths
@@ -19,6 +19,9 @@ use Rattle.td_ast.specs.declared.fields.ExtentTree.TheVariants as extents
 use Rattle.td_ast.specs.declared.fields.FieldTree.{FieldTree}
 use Rattle.td_ast.specs.declared.definitions.Def.{Def}
 use Rattle.td_ast.specs.declared.definitions.Def.TheVariants as defs
+use Rattle.td_ast.specs.declared.definitions.ModuleTree.{ModuleTree}
+use Rattle.td_ast.specs.declared.parts.PartTree.{PartTree}
+use Rattle.td_ast.specs.declared.parts.InputTree.TheVariants.{Module, Parts}
 use Rattle.td_ast.specs.Trees as trees
 use Rattle.td_ast.specs.Trees.{Tree}
 use Rattle.td_ast.specs.Statements as statements
@@ -103,10 +106,13 @@ structure =
 abbrev lines : List (List ℕ) → List ℕ
 lines texts = flat_map (λ text. text ++ 10 ∷ []) texts
 
+abbrev worked : ModuleTree
+worked = record { definitions = constant ∷ enumeration ∷ structure ∷ [] }
+
 -- the canonical text of these three definitions
 abbrev pub WorkedText : Type 0
 WorkedText =
-    canonical_text (record { definitions = constant ∷ enumeration ∷ structure ∷ [] })
+    canonical_text (Module worked)
     ≡ lines (
     codes "#define K 0xff"
     ∷ codes ""
@@ -119,5 +125,30 @@ WorkedText =
     ∷ codes "    UINT8 a { (a + 1) * (n - (a - 1)) == !(a << 2) } {:act};"
     ∷ codes "    T(n, r) b[:byte-size n] {:check r->F = field_ptr; if (a) { } else { return true; }};"
     ∷ codes "} S;"
+    ∷ []
+    )
+
+abbrev alias : Def
+alias = defs.Alias (record { target = plains.Named (named (codes "B.U")); name = named (codes "V") })
+
+abbrev part : List ℕ → List Def → PartTree
+part name definitions = record { name = named name; definitions = definitions }
+
+-- the canonical text of three parts, of which the last two have no definitions
+abbrev pub WorkedParts : Type 0
+WorkedParts =
+    canonical_text (Parts (part (codes "A") (alias ∷ constant ∷ []) ∷ part (codes "B") [] ∷ part (codes "C") [] ∷ []))
+    ≡ lines (
+    codes "module A"
+    ∷ codes ""
+    ∷ codes "typedef B.U V;"
+    ∷ codes ""
+    ∷ codes "#define K 0xff"
+    ∷ codes ""
+    ∷ codes "module B"
+    ∷ codes ""
+    ∷ codes ""
+    ∷ codes "module C"
+    ∷ codes ""
     ∷ []
     )

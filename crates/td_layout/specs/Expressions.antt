@@ -8,7 +8,7 @@ use Rattle.td_ast.specs.declared.expressions.SizeofOperand.TheVariants as operan
 use Rattle.td_ast.specs.Trees.{Tree, Number, Truth, Name, FieldPos, Sizeof, RangeOkay, Unary, Binary, Choice}
 use Rattle.td_joined.specs.Pieces.{Piece, Word, Blank}
 use Rattle.td_layout.specs.Operators.{unary_kind, binary_kind, level_of, left_of, right_of}
-use Rattle.td_layout.specs.Sequences.{name_piece}
+use Rattle.td_layout.specs.Names.{qualified_pieces}
 
 -- how tightly a tree binds
 abbrev pub tree_level : Tree → ℕ
@@ -35,18 +35,18 @@ abbrev pub truth_kind : Bool → TokenKind
 truth_kind true = kinds.True
 truth_kind false = kinds.False
 
-abbrev pub operand_kind : SizeofOperand → TokenKind
-operand_kind (operands.Number type) = kinds.Int type
-operand_kind (operands.Name text) = kinds.Name text
-operand_kind operands.This = kinds.This
+abbrev pub operand_pieces : SizeofOperand → List Piece
+operand_pieces (operands.Number type) = Word (kinds.Int type) ∷ []
+operand_pieces (operands.Name text) = qualified_pieces text
+operand_pieces operands.This = Word kinds.This ∷ []
 
 -- Binary operators, `?` and `:` have a blank on both sides, unary ones none; a comma has one after it.
 abbrev pub expression_pieces : Tree → List Piece
 expression_pieces (Number s n b) = Word (kinds.Number n b) ∷ []
 expression_pieces (Truth s b) = Word (truth_kind b) ∷ []
-expression_pieces (Name s n) = name_piece n ∷ []
+expression_pieces (Name s n) = qualified_pieces n.text
 expression_pieces (FieldPos s p) = Word kinds.FieldPos ∷ []
-expression_pieces (Sizeof s w o p) = Word kinds.Sizeof ∷ Word kinds.OpenParen ∷ Word (operand_kind o) ∷ Word kinds.CloseParen ∷ []
+expression_pieces (Sizeof s w o p) = Word kinds.Sizeof ∷ Word kinds.OpenParen ∷ (operand_pieces o ++ Word kinds.CloseParen ∷ [])
 expression_pieces (RangeOkay s a b c) =
     Word kinds.IsRangeOkay ∷ Word kinds.OpenParen ∷ (expression_pieces a ++ Word kinds.Comma ∷ Blank ∷ (expression_pieces b
     ++ Word kinds.Comma ∷ Blank ∷ (expression_pieces c ++ Word kinds.CloseParen ∷ [])))

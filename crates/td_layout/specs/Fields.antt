@@ -10,6 +10,7 @@ use Rattle.td_ast.specs.declared.fields.FieldTree.{FieldTree}
 use Rattle.td_ast.specs.Trees.{Tree}
 use Rattle.td_joined.specs.Pieces.{Piece, Word, Blank, LineEnd}
 use Rattle.td_layout.specs.Sequences.{name_piece, literal_piece, indented, in_parentheses, optional}
+use Rattle.td_layout.specs.Names.{qualified_pieces}
 use Rattle.td_layout.specs.Expressions.{expression_pieces}
 use Rattle.td_layout.specs.Actions.{action_pieces}
 
@@ -19,7 +20,7 @@ type_pieces (types.Number type) = Word (kinds.Int type) ∷ []
 type_pieces types.Unit = Word kinds.Unit ∷ []
 type_pieces types.AllBytes = Word kinds.AllBytes ∷ []
 type_pieces types.AllZeros = Word kinds.AllZeros ∷ []
-type_pieces (types.Named text arguments) = Word (kinds.Name text) ∷ in_parentheses expression_pieces arguments
+type_pieces (types.Named text arguments) = qualified_pieces text ++ in_parentheses expression_pieces arguments
 
 -- `[e]`, `[:byte-size e]` and the like, ` : 4`
 abbrev pub extent_pieces : ExtentTree → List Piece

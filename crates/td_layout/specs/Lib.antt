@@ -1,5 +1,6 @@
 pub mod Operators
 pub mod Sequences
+pub mod Names
 pub mod Expressions
 pub mod Actions
 pub mod Parameters

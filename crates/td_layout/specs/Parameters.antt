@@ -8,18 +8,19 @@ use Rattle.td_ast.specs.declared.parameters.ParamTree.TheVariants as params
 use Rattle.td_ast.specs.declared.parameters.HeadTree.{HeadTree}
 use Rattle.td_ast.specs.Trees.{Tree}
 use Rattle.td_joined.specs.Pieces.{Piece, Word, Blank}
-use Rattle.td_layout.specs.Sequences.{name_piece, number_piece, plain_piece, in_parentheses, optional}
+use Rattle.td_layout.specs.Sequences.{name_piece, number_piece, in_parentheses, optional}
+use Rattle.td_layout.specs.Names.{qualified_pieces, plain_pieces}
 use Rattle.td_layout.specs.Expressions.{expression_pieces}
 
-abbrev pub target_piece : TargetTree → Piece
-target_piece (targets.Number type) = number_piece type
-target_piece (targets.Pointer span) = Word kinds.Pointer
-target_piece (targets.Named name) = name_piece name
+abbrev pub target_pieces : TargetTree → List Piece
+target_pieces (targets.Number type) = number_piece type ∷ []
+target_pieces (targets.Pointer span) = Word kinds.Pointer ∷ []
+target_pieces (targets.Named name) = qualified_pieces name.text
 
 -- `UINT32 a` or `mutable O *r`
 abbrev pub parameter_pieces : ParamTree → List Piece
-parameter_pieces (params.Value type name) = plain_piece type ∷ Blank ∷ name_piece name ∷ []
-parameter_pieces (params.Mutable target name) = Word kinds.Mutable ∷ Blank ∷ target_piece target ∷ Blank ∷ Word kinds.Star ∷ name_piece name ∷ []
+parameter_pieces (params.Value type name) = plain_pieces type ++ Blank ∷ name_piece name ∷ []
+parameter_pieces (params.Mutable target name) = Word kinds.Mutable ∷ Blank ∷ (target_pieces target ++ Blank ∷ Word kinds.Star ∷ name_piece name ∷ [])
 
 -- ` where e`
 abbrev pub condition_pieces : Tree → List Piece

@@ -4,12 +4,9 @@ use Rattle.td_ast.specs.declared.token.TokenKind.TheVariants as kinds
 use Rattle.td_ast.specs.declared.names.Name.{Name}
 use Rattle.td_ast.specs.declared.names.Literal.{Literal}
 use Rattle.td_ast.specs.declared.names.NumberTree.{NumberTree}
-use Rattle.td_ast.specs.declared.names.ConstTree.{ConstTree}
-use Rattle.td_ast.specs.declared.names.ConstTree.TheVariants as constants
-use Rattle.td_ast.specs.declared.names.PlainTree.{PlainTree}
-use Rattle.td_ast.specs.declared.names.PlainTree.TheVariants as plains
 use Rattle.td_joined.specs.Pieces.{Piece, Word, Blank}
 
+-- of a name that is never qualified: that of a definition, a local, a slot
 abbrev pub name_piece : Name → Piece
 name_piece name = Word (kinds.Name name.text)
 
@@ -18,14 +15,6 @@ literal_piece literal = Word (kinds.Number literal.value literal.base)
 
 abbrev pub number_piece : NumberTree → Piece
 number_piece type = Word (kinds.Int type.number)
-
-abbrev pub constant_piece : ConstTree → Piece
-constant_piece (constants.Number literal) = literal_piece literal
-constant_piece (constants.Named name) = name_piece name
-
-abbrev pub plain_piece : PlainTree → Piece
-plain_piece (plains.Number type) = number_piece type
-plain_piece (plains.Named name) = name_piece name
 
 -- a level of indentation is four blanks
 abbrev pub indented : ℕ → List Piece → List Piece

@@ -36,6 +36,9 @@ use Rattle.td_ast.specs.declared.definitions.OutputTree.{OutputTree}
 use Rattle.td_ast.specs.declared.definitions.Def.{Def}
 use Rattle.td_ast.specs.declared.definitions.Def.TheVariants as defs
 use Rattle.td_ast.specs.declared.definitions.ModuleTree.{ModuleTree}
+use Rattle.td_ast.specs.declared.parts.PartTree.{PartTree}
+use Rattle.td_ast.specs.declared.parts.InputTree.{InputTree}
+use Rattle.td_ast.specs.declared.parts.InputTree.TheVariants.{Module, Parts}
 use Rattle.td_ast.specs.Trees as trees
 use Rattle.td_ast.specs.Trees.{Tree}
 use Rattle.td_ast.specs.Statements as statements
@@ -196,6 +199,13 @@ unspanned_definition (defs.Struct struct) = defs.Struct (unspanned_struct struct
 unspanned_definition (defs.Casetype casetype) = defs.Casetype (unspanned_casetype casetype)
 unspanned_definition (defs.Output output) = defs.Output (unspanned_output output)
 
--- a module without its places
-abbrev pub unspanned : ModuleTree → ModuleTree
-unspanned tree = record { definitions = map unspanned_definition tree.definitions }
+abbrev pub unspanned_module : ModuleTree → ModuleTree
+unspanned_module tree = record { definitions = map unspanned_definition tree.definitions }
+
+abbrev pub unspanned_part : PartTree → PartTree
+unspanned_part part = record { name = unspanned_name part.name; definitions = map unspanned_definition part.definitions }
+
+-- an input without its places
+abbrev pub unspanned : InputTree → InputTree
+unspanned (Module tree) = Module (unspanned_module tree)
+unspanned (Parts parts) = Parts (map unspanned_part parts)

@@ -6,7 +6,7 @@ ghost use Rattle.td_ast.specs.declared.token.TokenKind.TheVariants as kinds;
 ghost use Rattle.td_joined.specs.Pieces.{Blank, LineEnd, Word, text_of};
 ghost use Rattle.td_layout.specs.Definitions as layouts;
 ghost use Rattle.td_layout.specs.Parameters.{head_pieces};
-ghost use Rattle.td_layout.specs.Sequences.{name_piece, optional, parted_by};
+ghost use Rattle.td_layout.specs.Sequences.{name_piece, optional};
 ghost use Rattle.td_print.specs.Writing.{after_comma, piece_text};
 
 use crate::expressions::write_expression;
@@ -289,10 +289,10 @@ fn write_others(out: &mut Printer, others: &[Def]) -> Result<(), AllocError>
     Ok(())
 }
 
-/// Writes the definitions of a module.
+/// Writes the definitions of a module or of a part.
 pub(crate) fn write_definitions(out: &mut Printer, definitions: &[Def]) -> Result<(), AllocError>
     ensures memory { OnErr result (0 < length definitions.now) }
-    ensures text { OnOk result (out.new ≡ out.old ++ text_of (parted_by (LineEnd ∷ []) layouts.definition_pieces definitions.now)) }
+    ensures text { OnOk result (out.new ≡ out.old ++ text_of (layouts.definition_lines definitions.now)) }
 {
     match definitions {
         [] => Ok(()),

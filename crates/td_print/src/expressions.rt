@@ -4,12 +4,12 @@
 ghost use Rattle.std.specs.Prelude.{◌≡◌, [], ◌∷◌, ◌++◌, OnOk, flat_map};
 ghost use Rattle.td_ast.specs.declared.token.TokenKind.TheVariants as kinds;
 ghost use Rattle.td_joined.specs.Pieces.{Word, spelling, text_of};
-ghost use Rattle.td_layout.specs.Expressions.{expression_pieces, fitted, operand_kind, tree_level, truth_kind};
+ghost use Rattle.td_layout.specs.Expressions.{expression_pieces, fitted, operand_pieces, tree_level, truth_kind};
 ghost use Rattle.td_layout.specs.Sequences.{comma, in_parentheses};
 
 use crate::operators::{binary_sign, left_of, level_of, right_of, unary_sign};
 use crate::printer::Printer;
-use crate::words::{number_word, write_name};
+use crate::words::{number_word, write_qualified};
 use std::alloc::AllocError;
 use td_ast::expressions::{Expr, ExprKind, SizeofOperand};
 
@@ -42,22 +42,31 @@ fn truth_word(truth: bool) -> &'static [u8]
     if truth { b"true" } else { b"false" }
 }
 
-fn operand_word(operand: &SizeofOperand) -> &[u8]
-    ensures { result.now ≡ spelling (operand_kind operand.now) }
+fn write_sized(out: &mut Printer, operand: &SizeofOperand) -> Result<(), AllocError>
+    ensures { OnOk result (out.new ≡ out.old ++ text_of (operand_pieces operand.now)) }
 {
     match operand {
-        SizeofOperand::Number(number) => number_word(*number),
-        SizeofOperand::Name(text) => text.as_slice(),
-        SizeofOperand::This => b"this",
+        SizeofOperand::Number(number) => {
+            out.write(number_word(*number))?;
+            Ok(())
+        }
+        SizeofOperand::Name(text) => {
+            write_qualified(out, text)?;
+            Ok(())
+        }
+        SizeofOperand::This => {
+            out.write(b"this")?;
+            Ok(())
+        }
     }
 }
 
 // `sizeof(operand)`
 fn write_sizeof(out: &mut Printer, operand: &SizeofOperand) -> Result<(), AllocError>
-    ensures { OnOk result (out.new ≡ out.old ++ text_of (Word kinds.Sizeof ∷ Word kinds.OpenParen ∷ Word (operand_kind operand.now) ∷ Word kinds.CloseParen ∷ [])) }
+    ensures { OnOk result (out.new ≡ out.old ++ text_of (Word kinds.Sizeof ∷ Word kinds.OpenParen ∷ (operand_pieces operand.now ++ Word kinds.CloseParen ∷ []))) }
 {
     out.write(b"sizeof(")?;
-    out.write(operand_word(operand))?;
+    write_sized(out, operand)?;
     out.write(b")")?;
     Ok(())
 }
@@ -121,7 +130,7 @@ pub(crate) fn write_expression(out: &mut Printer, e: &Expr) -> Result<(), AllocE
             Ok(())
         }
         ExprKind::Name(name) => {
-            write_name(out, name)?;
+            write_qualified(out, &name.text)?;
             Ok(())
         }
         ExprKind::FieldPos(_) => {

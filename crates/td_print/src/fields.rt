@@ -11,7 +11,7 @@ ghost use Rattle.td_layout.specs.Sequences.{optional};
 use crate::actions::write_action;
 use crate::expressions::{write_arguments, write_expression};
 use crate::printer::Printer;
-use crate::words::{number_word, write_name};
+use crate::words::{number_word, write_name, write_qualified};
 use std::alloc::AllocError;
 use td_ast::actions::ActionTree;
 use td_ast::expressions::Expr;
@@ -38,7 +38,7 @@ fn write_type(out: &mut Printer, kind: &TypeKind) -> Result<(), AllocError>
             Ok(())
         }
         TypeKind::Named(name, arguments) => {
-            out.write(name.as_slice())?;
+            write_qualified(out, name)?;
             write_arguments(out, arguments.as_slice())?;
             Ok(())
         }

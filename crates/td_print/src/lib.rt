@@ -8,6 +8,7 @@ mod expressions;
 mod fields;
 mod operators;
 mod parameters;
+mod parts;
 mod printer;
 mod printing;
 mod words;

@@ -3,19 +3,18 @@
 
 ghost use Rattle.std.specs.Prelude.{◌≡◌, ◌++◌, OnOk, flat_map};
 ghost use Rattle.td_joined.specs.Pieces.{text_of};
-ghost use Rattle.td_layout.specs.Parameters.{condition_pieces, head_pieces, parameter_pieces, target_piece};
+ghost use Rattle.td_layout.specs.Parameters.{condition_pieces, head_pieces, parameter_pieces, target_pieces};
 ghost use Rattle.td_layout.specs.Sequences.{comma, in_parentheses, optional};
-ghost use Rattle.td_print.specs.Writing.{piece_text};
 
 use crate::expressions::write_expression;
 use crate::printer::Printer;
-use crate::words::{number_word, write_name, write_plain};
+use crate::words::{number_word, write_name, write_plain, write_qualified};
 use std::alloc::AllocError;
 use td_ast::expressions::Expr;
 use td_ast::parameters::{HeadTree, ParamTree, TargetTree};
 
 fn write_target(out: &mut Printer, target: &TargetTree) -> Result<(), AllocError>
-    ensures { OnOk result (out.new ≡ out.old ++ piece_text (target_piece target.now)) }
+    ensures { OnOk result (out.new ≡ out.old ++ text_of (target_pieces target.now)) }
 {
     match target {
         TargetTree::Number(tree) => {
@@ -27,7 +26,7 @@ fn write_target(out: &mut Printer, target: &TargetTree) -> Result<(), AllocError
             Ok(())
         }
         TargetTree::Named(name) => {
-            write_name(out, name)?;
+            write_qualified(out, &name.text)?;
             Ok(())
         }
     }

@@ -1,22 +1,23 @@
-//! The canonical text of a module.
+//! The canonical text of an input.
 #![tactic(auto, using(crate::proofs::Texts::texts))]
 
-ghost use Rattle.std.specs.Prelude.{◌≡◌, ◌<◌, length, IfOk, OnErr};
+ghost use Rattle.std.specs.Prelude.{◌≡◌, IfOk, OnErr};
 ghost use Rattle.td_layout.specs.Definitions.{canonical_text};
+ghost use Rattle.td_print.specs.Writing.{HasLines};
 
-use crate::definitions::write_definitions;
+use crate::parts::write_input;
 use crate::printer::Printer;
 use std::alloc::{AllocError, Global};
-use td_ast::definitions::ModuleTree;
+use td_ast::parts::InputTree;
 use td_num::text::Text;
 
-/// The canonical text of a module: one form for all texts that spell the same tree, its places aside. In time linear in the
-/// tree. `AllocError`: there is a definition, and out of memory.
-pub fn print(alloc: Global, tree: &ModuleTree) -> Result<Text, AllocError>
-    ensures text { IfOk result (λ text. text ≡ canonical_text tree.now) }
-    ensures memory { OnErr result (0 < length tree.now.definitions) }
+/// The canonical text of a module, or of parts: one form for all texts that spell the same tree, its places aside. In time
+/// linear in the tree. `AllocError`: there is a definition or a part, and out of memory.
+pub fn print(alloc: Global, input: &InputTree) -> Result<Text, AllocError>
+    ensures text { IfOk result (λ text. text ≡ canonical_text input.now) }
+    ensures memory { OnErr result (HasLines input.now) }
 {
     let mut out = Printer::new(alloc);
-    write_definitions(&mut out, tree.definitions.as_slice())?;
+    write_input(&mut out, input)?;
     Ok(out.into_text())
 }

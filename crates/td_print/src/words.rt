@@ -1,15 +1,15 @@
-//! Names, constants and types that are one token.
+//! Names, constants, and types without arguments.
 #![tactic(auto, using(crate::proofs::Texts::texts))]
 
 ghost use Rattle.std.specs.Prelude.{◌≡◌, ◌++◌, OnOk};
-ghost use Rattle.td_joined.specs.Pieces.{type_spelling};
-ghost use Rattle.td_layout.specs.Sequences.{constant_piece, plain_piece};
-ghost use Rattle.td_print.specs.Writing.{piece_text};
+ghost use Rattle.td_joined.specs.Pieces.{text_of, type_spelling};
+ghost use Rattle.td_layout.specs.Names.{constant_pieces, plain_pieces, qualified_pieces};
 
 use crate::printer::Printer;
 use std::alloc::AllocError;
 use td_ast::names::{ConstTree, Name, PlainTree};
 use td_num::number::{ByteOrder, NumberType, Width};
+use td_num::text::Text;
 
 /// The word of a number type.
 pub(crate) fn number_word(number: NumberType) -> &'static [u8]
@@ -27,7 +27,7 @@ pub(crate) fn number_word(number: NumberType) -> &'static [u8]
     }
 }
 
-/// Writes a name.
+/// Writes a name that is never qualified.
 pub(crate) fn write_name(out: &mut Printer, name: &Name) -> Result<(), AllocError>
     ensures { OnOk result (out.new ≡ out.old ++ name.now.text) }
 {
@@ -35,9 +35,17 @@ pub(crate) fn write_name(out: &mut Printer, name: &Name) -> Result<(), AllocErro
     Ok(())
 }
 
+/// Writes a name that may be qualified: its text, which has the dot then.
+pub(crate) fn write_qualified(out: &mut Printer, text: &Text) -> Result<(), AllocError>
+    ensures { OnOk result (out.new ≡ out.old ++ text_of (qualified_pieces text.now)) }
+{
+    out.write(text.as_slice())?;
+    Ok(())
+}
+
 /// Writes a constant.
 pub(crate) fn write_constant(out: &mut Printer, constant: &ConstTree) -> Result<(), AllocError>
-    ensures { OnOk result (out.new ≡ out.old ++ piece_text (constant_piece constant.now)) }
+    ensures { OnOk result (out.new ≡ out.old ++ text_of (constant_pieces constant.now)) }
 {
     match constant {
         ConstTree::Number(literal) => {
@@ -45,7 +53,7 @@ pub(crate) fn write_constant(out: &mut Printer, constant: &ConstTree) -> Result<
             Ok(())
         }
         ConstTree::Named(name) => {
-            write_name(out, name)?;
+            write_qualified(out, &name.text)?;
             Ok(())
         }
     }
@@ -53,7 +61,7 @@ pub(crate) fn write_constant(out: &mut Printer, constant: &ConstTree) -> Result<
 
 /// Writes a plain type.
 pub(crate) fn write_plain(out: &mut Printer, plain: &PlainTree) -> Result<(), AllocError>
-    ensures { OnOk result (out.new ≡ out.old ++ piece_text (plain_piece plain.now)) }
+    ensures { OnOk result (out.new ≡ out.old ++ text_of (plain_pieces plain.now)) }
 {
     match plain {
         PlainTree::Number(tree) => {
@@ -61,7 +69,7 @@ pub(crate) fn write_plain(out: &mut Printer, plain: &PlainTree) -> Result<(), Al
             Ok(())
         }
         PlainTree::Named(name) => {
-            write_name(out, name)?;
+            write_qualified(out, &name.text)?;
             Ok(())
         }
     }

@@ -1,4 +1,4 @@
--- The pieces of a module glue to nothing.
+-- The pieces of an input glue to nothing.
 use Rattle.std.proofs.Common.{◌≡◌, ℕ, Bool, true, false, List, [], ◌∷◌, ◌++◌, Option, Some, None, refl, sym, ap, subst, ◌∙◌, append_assoc}
 use Rattle.std.specs.Prelude.{flat_map}
 use Rattle.std.proofs.lemmas.List.{append-nil}
@@ -23,29 +23,36 @@ use Rattle.td_ast.specs.declared.definitions.SlotTree.{SlotTree}
 use Rattle.td_ast.specs.declared.definitions.OutputTree.{OutputTree}
 use Rattle.td_ast.specs.declared.definitions.Def.{Def}
 use Rattle.td_ast.specs.declared.definitions.Def.TheVariants as defs
-use Rattle.td_ast.specs.declared.definitions.ModuleTree.{ModuleTree}
+use Rattle.td_ast.specs.declared.parts.PartTree.{PartTree}
+use Rattle.td_ast.specs.declared.parts.InputTree.{InputTree}
+use Rattle.td_ast.specs.declared.parts.InputTree.TheVariants.{Module, Parts}
 use Rattle.td_ast.specs.Trees.{Tree}
 use Rattle.td_joined.specs.Pieces.{Piece, Word, Blank, LineEnd}
 use Rattle.td_joined.specs.Joining.{glues_to}
-use Rattle.td_layout.specs.Sequences.{name_piece, constant_piece, plain_piece, indented, optional, parted_by}
+use Rattle.td_layout.specs.Sequences.{name_piece, indented, optional, parted_by}
+use Rattle.td_layout.specs.Names.{constant_pieces, plain_pieces}
 use Rattle.td_layout.specs.Expressions.{expression_pieces}
 use Rattle.td_layout.specs.Parameters.{head_pieces}
 use Rattle.td_layout.specs.Fields.{field_line}
-use Rattle.td_layout.specs.Definitions.{define_pieces, value_pieces, item_pieces, item_lines, enum_pieces, alias_pieces, entry_pieces, closing_pieces, struct_pieces, subject_pieces, case_lines, default_lines, cases_lines, casetype_pieces, slot_piece, slot_line, output_pieces, definition_pieces, layout}
-use Rattle.td_reread.proofs.Loose.{IsLoose, Closes, before_nothing, before_blank, before_line, before_sign, each_closes}
+use Rattle.td_layout.specs.Definitions.{define_pieces, value_pieces, item_pieces, item_lines, enum_pieces, alias_pieces, entry_pieces, closing_pieces, struct_pieces, subject_pieces, case_lines, default_lines, cases_lines, casetype_pieces, slot_piece, slot_line, output_pieces, definition_pieces, definition_lines, part_lines, layout}
+use Rattle.td_reread.proofs.Loose.{IsLoose, Closes, before_blank, before_line, before_sign, qualified_loose, qualified_then, each_closes, parted_loose}
 use Rattle.td_reread.proofs.LooseExpressions.{inner_loose, expression_loose}
 use Rattle.td_reread.proofs.LooseActions.{before_body}
 use Rattle.td_reread.proofs.LooseFields.{head_closes, line_one, line_three}
 
--- ---- one token
+-- ---- names and types
 
-constant_loose : (constant : ConstTree) (after : List Piece) → Closes after → IsLoose (constant_piece constant ∷ after)
+constant_loose : (constant : ConstTree) (after : List Piece) → Closes after → IsLoose (constant_pieces constant ++ after)
 constant_loose (constants.Number literal) after closes = (closes.words (kinds.Number literal.value literal.base) refl, closes.loose)
-constant_loose (constants.Named name) after closes = (closes.words (kinds.Name name.text) refl, closes.loose)
+constant_loose (constants.Named name) after closes = qualified_loose name.text after closes
 
-plain_loose : (plain : PlainTree) (after : List Piece) → Closes after → IsLoose (plain_piece plain ∷ after)
-plain_loose (plains.Number type) after closes = (closes.words (kinds.Int type.number) refl, closes.loose)
-plain_loose (plains.Named name) after closes = (closes.words (kinds.Name name.text) refl, closes.loose)
+constant_then : (constant : ConstTree) (rest after : List Piece) → Closes (rest ++ after) → IsLoose ((constant_pieces constant ++ rest) ++ after)
+constant_then (constants.Number literal) rest after closes = (closes.words (kinds.Number literal.value literal.base) refl, closes.loose)
+constant_then (constants.Named name) rest after closes = qualified_then name.text rest after closes
+
+plain_then : (plain : PlainTree) (rest after : List Piece) → Closes (rest ++ after) → IsLoose ((plain_pieces plain ++ rest) ++ after)
+plain_then (plains.Number type) rest after closes = (closes.words (kinds.Int type.number) refl, closes.loose)
+plain_then (plains.Named name) rest after closes = qualified_then name.text rest after closes
 
 slot_loose : (kind : SlotKind) (after : List Piece) → Closes after → IsLoose (slot_piece kind ∷ after)
 slot_loose (slots.Number type) after closes = (closes.words (kinds.Int type.number) refl, closes.loose)
@@ -68,11 +75,11 @@ define_loose define after loose = (refl, (refl, (refl, loose)))
 
 alias_loose : (alias : AliasTree) (after : List Piece) → IsLoose after → IsLoose (alias_pieces alias ++ after)
 alias_loose alias after loose =
-    (refl, plain_loose alias.target (Blank ∷ name_piece alias.name ∷ Word kinds.Semicolon ∷ LineEnd ∷ after) (before_blank (name_piece alias.name ∷ Word kinds.Semicolon ∷ LineEnd ∷ after) (refl, (refl, loose))))
+    (refl, plain_then alias.target (Blank ∷ name_piece alias.name ∷ Word kinds.Semicolon ∷ LineEnd ∷ []) after (before_blank (name_piece alias.name ∷ Word kinds.Semicolon ∷ LineEnd ∷ after) (refl, (refl, loose))))
 
 value_closes : (value : Option ConstTree) (after : List Piece) → Closes after → Closes (optional value_pieces value ++ after)
 value_closes None after closes = closes
-value_closes (Some value) after closes = before_blank (Word kinds.Assign ∷ Blank ∷ constant_piece value ∷ after) (refl, constant_loose value after closes)
+value_closes (Some value) after closes = before_blank (Word kinds.Assign ∷ Blank ∷ (constant_pieces value ++ after)) (refl, constant_loose value after closes)
 
 item_loose : (item : ItemTree) (after : List Piece) → Closes after → IsLoose (item_pieces item ++ after)
 item_loose item after closes = let value = value_closes item.value after closes in (value.words (kinds.Name item.name.text) refl, value.loose)
@@ -124,8 +131,8 @@ case_closes : (case_tree : CaseTree) (after : List Piece) → Closes after → C
 case_closes case_tree after closes =
     let fields = each_closes (field_line 3) line_three case_tree.fields after closes in
     let colon = before_sign kinds.Colon (LineEnd ∷ (flat_map (field_line 3) case_tree.fields ++ after)) refl refl refl refl refl refl (refl, fields.loose) in
-    before_blank (Blank ∷ Blank ∷ Blank ∷ Blank ∷ Blank ∷ Blank ∷ Blank ∷ Word kinds.Case ∷ Blank ∷ constant_piece case_tree.constant ∷ Word kinds.Colon ∷ LineEnd ∷ (flat_map (field_line 3) case_tree.fields ++ after))
-    (refl, constant_loose case_tree.constant (Word kinds.Colon ∷ LineEnd ∷ (flat_map (field_line 3) case_tree.fields ++ after)) colon)
+    before_blank (Blank ∷ Blank ∷ Blank ∷ Blank ∷ Blank ∷ Blank ∷ Blank ∷ Word kinds.Case ∷ Blank ∷ ((constant_pieces case_tree.constant ++ Word kinds.Colon ∷ LineEnd ∷ flat_map (field_line 3) case_tree.fields) ++ after))
+    (refl, constant_then case_tree.constant (Word kinds.Colon ∷ LineEnd ∷ flat_map (field_line 3) case_tree.fields) after colon)
 
 default_closes : (default : Option (List FieldTree)) (after : List Piece) → Closes after → Closes (optional default_lines default ++ after)
 default_closes None after closes = closes
@@ -182,7 +189,7 @@ output_loose output after loose =
     let slots = each_closes slot_line slot_closes output.slots last (closing_closes output.name after loose) in
     rw (append_assoc (flat_map slot_line output.slots) (closing_pieces output.name) after) (refl, (refl, (refl, (refl, (refl, slots.loose)))))
 
--- ---- modules
+-- ---- inputs
 
 definition_loose : (definition : Def) (after : List Piece) → IsLoose after → IsLoose (definition_pieces definition ++ after)
 definition_loose (defs.Define define) after loose = define_loose define after loose
@@ -192,12 +199,12 @@ definition_loose (defs.Struct struct) after loose = struct_loose struct after lo
 definition_loose (defs.Casetype casetype) after loose = casetype_loose casetype after loose
 definition_loose (defs.Output output) after loose = output_loose output after loose
 
-definitions_loose : (definitions : List Def) → IsLoose (parted_by (LineEnd ∷ []) definition_pieces definitions)
-definitions_loose [] = tt
-definitions_loose (definition ∷ others) =
-    let f : Def → List Piece = λ d. (LineEnd ∷ []) ++ definition_pieces d in
-    let rest : Closes (flat_map f others ++ []) = each_closes f (λ d after c. before_line (definition_pieces d ++ after) (definition_loose d after c.loose)) others [] before_nothing in
-    definition_loose definition (flat_map f others) (subst IsLoose (append-nil (flat_map f others)) rest.loose)
+definitions_loose : (definitions : List Def) (after : List Piece) → IsLoose after → IsLoose (definition_lines definitions ++ after)
+definitions_loose definitions after loose = parted_loose definition_pieces definition_loose definitions after loose
 
-pub layout_loose : (tree : ModuleTree) → IsLoose (layout tree)
-layout_loose tree = definitions_loose tree.definitions
+part_loose : (part : PartTree) (after : List Piece) → IsLoose after → IsLoose (part_lines part ++ after)
+part_loose part after loose = (refl, (refl, definitions_loose part.definitions after loose))
+
+pub layout_loose : (input : InputTree) → IsLoose (layout input)
+layout_loose (Module tree) = subst IsLoose (append-nil (definition_lines tree.definitions)) (definitions_loose tree.definitions [] tt)
+layout_loose (Parts parts) = subst IsLoose (append-nil (parted_by (LineEnd ∷ []) part_lines parts)) (parted_loose part_lines part_loose parts [] tt)

@@ -12,8 +12,8 @@ use Rattle.td_joined.specs.Pieces.{Piece, Word, Blank}
 use Rattle.td_joined.specs.Joining.{glues_to}
 use Rattle.td_layout.specs.Operators.{unary_kind, binary_kind, left_of, right_of}
 use Rattle.td_layout.specs.Sequences.{comma, parted_by, in_parentheses}
-use Rattle.td_layout.specs.Expressions.{tree_level, in_group, expression_pieces, operand_kind}
-use Rattle.td_reread.proofs.Loose.{IsLoose, Closes, Opens, before_blank, before_sign, each_closes}
+use Rattle.td_layout.specs.Expressions.{tree_level, in_group, expression_pieces, operand_pieces}
+use Rattle.td_reread.proofs.Loose.{IsLoose, Closes, Opens, before_blank, before_sign, qualified_loose, qualified_then, each_closes}
 
 -- ---- what an expression begins with
 
@@ -75,9 +75,9 @@ unary_loose : (o : UnaryOperator) (bare : Bool) (tree : Tree) → Loose tree →
 unary_loose Not bare tree loose after closes = (group_begun kinds.Bang bang_opens bare tree (expression_begun kinds.Bang bang_opens tree) after, group_loose bare tree loose after closes)
 unary_loose Complement bare tree loose after closes = (group_begun kinds.Tilde tilde_opens bare tree (expression_begun kinds.Tilde tilde_opens tree) after, group_loose bare tree loose after closes)
 
-sizeof_loose : (o : SizeofOperand) (after : List Piece) → Closes after → IsLoose (Word kinds.Sizeof ∷ Word kinds.OpenParen ∷ Word (operand_kind o) ∷ Word kinds.CloseParen ∷ after)
+sizeof_loose : (o : SizeofOperand) (after : List Piece) → Closes after → IsLoose (Word kinds.Sizeof ∷ Word kinds.OpenParen ∷ ((operand_pieces o ++ Word kinds.CloseParen ∷ []) ++ after))
 sizeof_loose (operands.Number type) after closes = (refl, (refl, (refl, (closes.group, closes.loose))))
-sizeof_loose (operands.Name text) after closes = (refl, (refl, (refl, (closes.group, closes.loose))))
+sizeof_loose (operands.Name text) after closes = (refl, (refl, qualified_then text (Word kinds.CloseParen ∷ []) after (before_paren after closes)))
 sizeof_loose operands.This after closes = (refl, (refl, (refl, (closes.group, closes.loose))))
 
 -- after `(`: an expression, and what closes it
@@ -91,7 +91,7 @@ pub expression_loose : (tree : Tree) → Loose tree
 expression_loose (Number s n b) after closes = (closes.words (kinds.Number n b) refl, closes.loose)
 expression_loose (Truth s true) after closes = (closes.words kinds.True refl, closes.loose)
 expression_loose (Truth s false) after closes = (closes.words kinds.False refl, closes.loose)
-expression_loose (Name s n) after closes = (closes.words (kinds.Name n.text) refl, closes.loose)
+expression_loose (Name s n) after closes = qualified_loose n.text after closes
 expression_loose (FieldPos s p) after closes = (closes.words kinds.FieldPos refl, closes.loose)
 expression_loose (Sizeof s w o p) after closes = sizeof_loose o after closes
 expression_loose (RangeOkay s a b c) after closes =

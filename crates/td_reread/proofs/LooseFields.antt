@@ -21,7 +21,7 @@ use Rattle.td_layout.specs.Expressions.{expression_pieces}
 use Rattle.td_layout.specs.Actions.{action_pieces}
 use Rattle.td_layout.specs.Parameters.{parameter_pieces, condition_pieces, head_pieces}
 use Rattle.td_layout.specs.Fields.{type_pieces, extent_pieces, refinement_pieces, action_after, field_pieces, field_line}
-use Rattle.td_reread.proofs.Loose.{IsLoose, Closes, before_blank, before_line, before_sign}
+use Rattle.td_reread.proofs.Loose.{IsLoose, Closes, before_blank, before_line, before_sign, qualified_then}
 use Rattle.td_reread.proofs.LooseExpressions.{expression_begun, expression_loose, paren_opens, bracket_opens, parentheses_close}
 use Rattle.td_reread.proofs.LooseActions.{before_semicolon, action_loose}
 
@@ -34,10 +34,12 @@ parameter_begun (params.Mutable target name) after = refl
 
 parameter_loose : (parameter : ParamTree) (after : List Piece) → Closes after → IsLoose (parameter_pieces parameter ++ after)
 parameter_loose (params.Value (plains.Number type) name) after closes = (refl, (closes.words (kinds.Name name.text) refl, closes.loose))
-parameter_loose (params.Value (plains.Named type) name) after closes = (refl, (closes.words (kinds.Name name.text) refl, closes.loose))
+parameter_loose (params.Value (plains.Named type) name) after closes =
+    qualified_then type.text (Blank ∷ name_piece name ∷ []) after (before_blank (name_piece name ∷ after) (closes.words (kinds.Name name.text) refl, closes.loose))
 parameter_loose (params.Mutable (targets.Number type) name) after closes = (refl, (refl, (refl, (closes.words (kinds.Name name.text) refl, closes.loose))))
 parameter_loose (params.Mutable (targets.Pointer span) name) after closes = (refl, (refl, (refl, (closes.words (kinds.Name name.text) refl, closes.loose))))
-parameter_loose (params.Mutable (targets.Named type) name) after closes = (refl, (refl, (refl, (closes.words (kinds.Name name.text) refl, closes.loose))))
+parameter_loose (params.Mutable (targets.Named type) name) after closes =
+    (refl, qualified_then type.text (Blank ∷ Word kinds.Star ∷ name_piece name ∷ []) after (before_blank (Word kinds.Star ∷ name_piece name ∷ after) (refl, (closes.words (kinds.Name name.text) refl, closes.loose))))
 
 condition_closes : (condition : Option Tree) (after : List Piece) → Closes after → Closes (optional condition_pieces condition ++ after)
 condition_closes None after closes = closes
@@ -56,8 +58,7 @@ type_loose types.Unit after closes = (closes.words kinds.Unit refl, closes.loose
 type_loose types.AllBytes after closes = (closes.words kinds.AllBytes refl, closes.loose)
 type_loose types.AllZeros after closes = (closes.words kinds.AllZeros refl, closes.loose)
 type_loose (types.Named text arguments) after closes =
-    let given = parentheses_close expression_pieces (expression_begun kinds.OpenParen paren_opens) expression_loose arguments after closes in
-    (given.words (kinds.Name text) refl, given.loose)
+    qualified_then text (in_parentheses expression_pieces arguments) after (parentheses_close expression_pieces (expression_begun kinds.OpenParen paren_opens) expression_loose arguments after closes)
 
 -- a size, and the bracket that closes it
 size_loose : (size : Tree) (after : List Piece) → Closes after → IsLoose (expression_pieces size ++ Word kinds.CloseBracket ∷ after)

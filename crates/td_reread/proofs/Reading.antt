@@ -2,7 +2,7 @@
 use Rattle.std.proofs.Common.{◌≡◌, ℕ, ◌+◌, ◌<◌, ◌^◌, List, [], ◌∷◌, ◌++◌, length, map, Option, Some, None, refl, sym, subst, inl, inr, cond}
 use Rattle.td_ast.specs.declared.token.Token.{Token}
 use Rattle.td_ast.specs.declared.token.TokenKind.{TokenKind}
-use Rattle.td_ast.specs.declared.definitions.ModuleTree.{ModuleTree}
+use Rattle.td_ast.specs.declared.parts.InputTree.{InputTree}
 use Rattle.std.specs.Prelude.{◌⊎◌, ◌↔◌, bytes_eq, true, false, Bool, Result, Ok}
 use Rattle.td_num.specs.Lists.{Each}
 use Rattle.td_lexer.specs.Spellings.{Entry, kind_in, keyword_kind, or_else, definition_words, expression_words, number_types, marked_words, punctuation_of_two, operators, delimiters, single_kind, punctuation_kind}
@@ -11,7 +11,7 @@ use Rattle.td_lexer.specs.Scanner.{tokens_of}
 use Rattle.td_lexer.specs.Splits.{Begins, Stands, SplitsUpTo, Splits}
 use Rattle.td_lexer.specs.Splits.Begins.{keyword_begins, name_begins, number_begins, marked_begins, punctuation_begins}
 use Rattle.td_lexer.specs.Splits.SplitsUpTo.{splits_here, splits_passed, splits_token}
-use Rattle.td_grammar.specs.Definitions.{module_text}
+use Rattle.td_grammar.specs.Parts.{input_text}
 use Rattle.td_joined.specs.Pieces.{kinds_of, Piece, Word, Blank, LineEnd}
 use Rattle.td_joined.specs.Joining.{IsSpellable, PiecesAreSplit}
 use Rattle.td_layout.specs.Definitions.{layout, canonical_text}
@@ -59,7 +59,7 @@ punctuation_fine bytes kind e =
     (in_table punctuation_of_two bytes kind (tt, (tt, (tt, (tt, (tt, (tt, (tt, (tt, (tt, tt))))))))))
     (either_table (kind_in operators bytes) (kind_in delimiters bytes) kind
     (in_table operators bytes kind (tt, (tt, (tt, (tt, (tt, (tt, (tt, (tt, (tt, (tt, (tt, (tt, (tt, tt))))))))))))))
-    (in_table delimiters bytes kind (tt, (tt, (tt, (tt, (tt, (tt, (tt, (tt, (tt, (tt, tt)))))))))))) e
+    (in_table delimiters bytes kind (tt, (tt, (tt, (tt, (tt, (tt, (tt, (tt, (tt, (tt, (tt, tt))))))))))))) e
 
 begun_fine : {kind : TokenKind} {bytes rest : List ℕ} → Begins kind bytes rest → IsSpellable kind
 begun_fine {kind} {bytes} (keyword_begins e) = keyword_fine bytes kind e
@@ -99,14 +99,14 @@ one_list split text a b h g = same (tokens_of text) ((split text a).1 h) ((split
     same : (r : Result (List Token) LexError) → r ≡ Ok a → r ≡ Ok b → a ≡ b
     same r e f = cc
 
-pub one_tree_each : TokensAreOne → OneTree → (text : List ℕ) (a b : ModuleTree) → IsTextOf text a → IsTextOf text b → a ≡ b
+pub one_tree_each : TokensAreOne → OneTree → (text : List ℕ) (a b : InputTree) → IsTextOf text a → IsTextOf text b → a ≡ b
 one_tree_each split one text a b h g =
-    let S : List Token → Type 0 = λ t. module_text.Spells a t in
+    let S : List Token → Type 0 = λ t. input_text.Spells a t in
     one g.0 a b (subst S (one_list split text h.0 g.0 h.1 g.1) h.2) g.2
 
 pub stay_tidy : TokensAreOne → OneTree → IsReadBack → SameText → StaysTidy
 stay_tidy split one back forget text tree read h again =
     let r = back text tree h in
     let same : r.0 ≡ read = one_tree_each split one (canonical_text tree) r.0 read r.1 again in
-    let P : ModuleTree → Type 0 = λ t. unspanned t ≡ unspanned tree in
+    let P : InputTree → Type 0 = λ t. unspanned t ≡ unspanned tree in
     forget read tree (subst P same r.2)

@@ -1,5 +1,5 @@
-use Rattle.td_layout.proofs.Modules.{module_reads_back}
+use Rattle.td_layout.proofs.Inputs.{input_reads_back}
 use Rattle.td_layout.proofs.laws.reads_back.Goals as goal
 
 pub returns : goal.returns
-returns c = module_reads_back
+returns c = input_reads_back
