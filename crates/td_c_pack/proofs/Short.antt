@@ -8,7 +8,7 @@ use Rattle.td_rules.specs.declared.breach.Rule.{Rule}
 use Rattle.td_rules.specs.declared.breach.Rule.TheVariants as rule
 use Rattle.td_front.specs.Lines.{code_of, words_of, rule_code, rule_words, limit_words, unsafe_words}
 use Rattle.td_front.specs.declared.error.FrontError.{FrontError}
-use Rattle.td_front.specs.declared.error.FrontError.TheVariants.{BadByte, OpenComment, BigNumber, Unexpected, Deep, Limit, Broken, ZeroElement, RestNotLast, Unsafe, NoMemory}
+use Rattle.td_front.specs.declared.error.FrontError.TheVariants.{BadByte, OpenComment, BigNumber, Unexpected, Deep, Limit, Broken, Cycle, ZeroElement, RestNotLast, Unsafe, NoMemory}
 
 rule_code_short : (r : Rule) → length (rule_code r) < 8
 rule_code_short rule.Unknown = omega arith
@@ -61,6 +61,7 @@ code_short (Unexpected token at) = omega arith
 code_short (Deep token at) = omega arith
 code_short (Limit l span) = omega arith
 code_short (Broken r span) = rule_code_short r
+code_short (Cycle span) = omega arith
 code_short (ZeroElement span) = omega arith
 code_short (RestNotLast span) = omega arith
 code_short (Unsafe span op) = omega arith
@@ -74,6 +75,7 @@ words_short (Unexpected token at) = omega arith
 words_short (Deep token at) = omega arith
 words_short (Limit l span) = limit_short l
 words_short (Broken r span) = rule_short r
+words_short (Cycle span) = omega arith
 words_short (ZeroElement span) = omega arith
 words_short (RestNotLast span) = omega arith
 words_short (Unsafe span op) = unsafe_short op

@@ -6,11 +6,11 @@ use Rattle.td_core.specs.declared.outcome.Outcome.{Outcome}
 use Rattle.td_stream.specs.declared.load.Load.{Load}
 use Rattle.td_runs.specs.Runs.{RunsAreOne}
 use Rattle.td_ast.specs.declared.token.Token.{Token}
-use Rattle.td_ast.specs.declared.definitions.ModuleTree.{ModuleTree}
+use Rattle.td_ast.specs.declared.parts.InputTree.{InputTree}
 use Rattle.td_lexer.specs.declared.error.LexError.{LexError}
 use Rattle.td_lexer.specs.Scanner.{tokens_of}
 use Rattle.td_lexer.specs.Splits.{Splits}
-use Rattle.td_grammar.specs.Definitions.{module_text}
+use Rattle.td_grammar.specs.Parts.{input_text}
 use Rattle.td_grammar.specs.Laws.{OneTree}
 use Rattle.td_layout.specs.Definitions.{canonical_text}
 use Rattle.td_front.specs.ModuleText.{SpellsTree, IsModuleText}
@@ -76,13 +76,13 @@ one_list split text a b h g = same (tokens_of text) ((split text a).1 h) ((split
     same : (r : Result (List Token) LexError) → r ≡ Ok a → r ≡ Ok b → a ≡ b
     same r e f = cc
 
-tree_of_text : TokensAreOne → OneTree → (text : List ℕ) (a b : ModuleTree) → SpellsTree text a → SpellsTree text b → a ≡ b
+tree_of_text : TokensAreOne → OneTree → (text : List ℕ) (a b : InputTree) → SpellsTree text a → SpellsTree text b → a ≡ b
 tree_of_text split one text a b h g =
-    let S : List Token → Type 0 = λ t. module_text.Spells a t in
+    let S : List Token → Type 0 = λ t. input_text.Spells a t in
     one g.tokens a b (subst S (one_list split text h.tokens g.tokens h.split g.split) h.spelled) g.spelled
 
 one_tidy : TokensAreOne → OneTree → (input a b : List ℕ) → IsTidy input a → IsTidy input b → a ≡ b
-one_tidy split one input a b h g = h.2 ∙ ap canonical_text (tree_of_text split one input h.1.tree g.1.tree h.1.spells g.1.spells) ∙ sym g.2
+one_tidy split one input a b h g = h.2 ∙ ap canonical_text (tree_of_text split one input h.1.input g.1.input h.1.spells g.1.spells) ∙ sym g.2
 
 -- ---- code
 

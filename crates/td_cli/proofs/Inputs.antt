@@ -19,6 +19,7 @@ check_cause input (front.Unexpected token at) (inr refused) = refused
 check_cause input (front.Deep token at) (inr refused) = refused
 check_cause input (front.Limit limit span) (inr refused) = refused
 check_cause input (front.Broken rule span) (inr refused) = refused
+check_cause input (front.Cycle span) (inr refused) = refused
 check_cause input (front.ZeroElement span) (inr refused) = refused
 check_cause input (front.RestNotLast span) (inr refused) = refused
 check_cause input (front.Unsafe span op) (inr refused) = refused

@@ -48,9 +48,9 @@ RefusesCheck input (BadJob e) = ⊥
 
 -- ---- tidy
 
--- the text is the canonical one of the tree that the input spells, and the input stands for a module
+-- the text is the canonical one of the module or the parts that the input spells, and the input stands for a module
 abbrev pub IsTidy : List ℕ → List ℕ → Type 0
-IsTidy input text = (m : Module) × (stands : IsModuleText input m) × (text ≡ canonical_text stands.tree)
+IsTidy input text = (m : Module) × (stands : IsModuleText input m) × (text ≡ canonical_text stands.input)
 
 -- ---- code and pack
 

@@ -14,7 +14,7 @@ use crate::finish::finish_tidy;
 use crate::status::Status;
 use crate::tool::INPUT_LIMIT;
 use std::alloc::{AllocError, Global};
-use td_front::check_tree;
+use td_front::check_input;
 use td_input::refusal::{InputError, of_module};
 use td_io::Sink;
 use td_num::text::Text;
@@ -28,9 +28,9 @@ fn tidy_input(alloc: Global, input: &[u8]) -> Result<Text, InputError>
     ensures complete { (m : Module) → IsModuleText input.now m → IfErr result (λ e. e ≡ InputError.NoMemory) }
     ensures refused { (refusal : Refusal) → RefusesCheck input.now refusal → IsErr result }
 {
-    match check_tree(alloc, input) {
+    match check_input(alloc, input) {
         Err(error) => Err(of_module(error)),
-        Ok(checked) => match print(alloc, &checked.tree) {
+        Ok(checked) => match print(alloc, &checked.input) {
             Ok(text) => Ok(text),
             Err(AllocError) => Err(InputError::NoMemory),
         },

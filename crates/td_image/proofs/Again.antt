@@ -1,5 +1,5 @@
 -- What is read can be written: code of version 1, turned, is within the limits of the version that is written.
-use Rattle.std.proofs.Common.{◌≡◌, ℕ, zero, suc, ◌-◌, ◌^◌, ◌≤◌, ◌<◌, Bool, true, false, ◌&&◌, ◌||◌, List, [], ◌∷◌, length, map, take, drop, refl, sym, subst, ◌∙◌, arith}
+use Rattle.std.proofs.Common.{◌≡◌, ℕ, zero, suc, ◌-◌, ◌^◌, ◌≤◌, ◌<◌, Bool, true, false, ◌&&◌, ◌||◌, not, List, [], ◌∷◌, length, map, take, drop, refl, sym, subst, ◌∙◌, arith}
 use Rattle.std.specs.Prelude.{nat_le, nat_lt, ◌==◌, cond}
 use Rattle.std.proofs.lemmas.Bool.{leb-true, le-leb}
 use Rattle.td_num.specs.Lists.{Each}
@@ -20,6 +20,8 @@ use Rattle.td_image.specs.declared.version.ImageVersion.{ImageVersion}
 use Rattle.td_image.specs.declared.version.ImageVersion.TheVariants.{First, Second}
 use Rattle.td_image.specs.declared.version.Spelled.{Spelled}
 use Rattle.td_image.specs.Format.{Format, all_fit}
+use Rattle.td_names.specs.Names.{is_seen, with_name}
+use Rattle.td_image.specs.Names.{is_name, are_two_names}
 use Rattle.td_image.specs.Instructions.{fields_of}
 use Rattle.td_image.specs.Image as format
 use Rattle.td_image.specs.Within.{HasSmallOperands}
@@ -128,6 +130,19 @@ sets_more left more (xs ∷ xss) le h =
     let l = leb-true (length xs) left h.0.0.1 in
     (((h.0.0.0, le-leb (length xs) more (omega (arith, l, le))), h.0.1), sets_more (left - length xs) (more - length xs) xss (omega (arith, le)) h.1)
 
+-- a name of version 1 is one of version 2
+name_again : (name : List ℕ) (rest more : Bool) → ((is_name name || false) && rest) ≡ true → ((is_name name || more) && rest) ≡ true
+name_again name rest more h = by (is_name name) rest h
+  where
+    by : (b r : Bool) → ((b || false) && r) ≡ true → ((b || more) && r) ≡ true
+    by true r e = e
+    by false r e = absurd cc
+
+names_again : (seen xs : List (List ℕ)) → all_fit (format.name First) with_name seen xs → all_fit (format.name Second) with_name seen xs
+unfolding all_fit format.name
+names_again seen [] h = tt
+names_again seen (x ∷ xs) h = ((h.0.0, (h.0.1.0, name_again x (not (is_seen seen x)) (are_two_names x) h.0.1.1)), names_again (with_name seen x) xs h.1)
+
 turned_with : (p : Parts) → IsDivided p → IsCode (turned p) → FitsAs First p → FitsAs Second (turned p)
 unfolding format.image format.header
 turned_with p D C ((m, (o, (z, (n, (s, (a, (t, (r, (e, i))))))))), (names, (sites, (maps, (sets, (routines, (entries, instructions))))))) =
@@ -145,7 +160,7 @@ turned_with p D C ((m, (o, (z, (n, (s, (a, (t, (r, (e, i))))))))), (names, (site
     let new = each_at (format.site Second ns rs).Fits (sites_below p rs) _ (λ k lt. site_fits ns rs (site_of (turned p) k) (omega (arith, ns_few)) (omega (arith, rs_few)) (C.sites k lt)) in
     let left = subst (λ (l : ℕ). all_fit (format.routine ns) format.after_routine (record { left = l; more = rs }) p.routines) (sym same) routines.1 in (
       (m, ((omega arith, refl), (z, (rows_more _ n, (most_fits (length (sites_below p rs)) MOST_ROWS row (omega arith), (rows_more _ a, (rows_more _ t, (rows_more _ r, (rows_more _ e, count))))))))),
-      (names, ((refl, each_fits (format.site Second ns rs) (sites_below p rs) new), (maps, ((sets.0, sets_more FIRST_NUMBERS MOST_NUMBERS p.sets (omega arith) sets.1), ((routines.0, left), (entries, (refl, each_fits format.instruction (code_below p rs) (code_fits p D rs (omega arith) (fits_each format.instruction p.instructions instructions.1))))))))),
+      ((names.0, names_again [] p.names names.1), ((refl, each_fits (format.site Second ns rs) (sites_below p rs) new), (maps, ((sets.0, sets_more FIRST_NUMBERS MOST_NUMBERS p.sets (omega arith) sets.1), ((routines.0, left), (entries, (refl, each_fits format.instruction (code_below p rs) (code_fits p D rs (omega arith) (fits_each format.instruction p.instructions instructions.1))))))))),
     )
 
 fits_again : (v : ImageVersion) (p : Parts) → FitsAs v p → FitsAs Second (code_in v p)

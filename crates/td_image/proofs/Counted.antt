@@ -7,8 +7,9 @@ use Rattle.td_image.specs.declared.fault.Cause.{Cause}
 use Rattle.td_image.specs.declared.fault.Cause.TheVariants.{Magic, Field}
 use Rattle.td_image.specs.declared.limits.TheConstants.{MAGIC}
 use Rattle.td_image.specs.declared.counts.Counts.{Counts}
+use Rattle.td_image.specs.declared.version.ImageVersion.{ImageVersion}
 use Rattle.td_image.specs.Format.{◌>>=◌, Format, HasFront, number, text, allowed, ◌then◌, made, read_all}
-use Rattle.td_image.specs.Names.{is_name}
+use Rattle.td_image.specs.Names.{is_image_name}
 use Rattle.td_image.specs.Versions.{most_rows, most_instructions}
 use Rattle.td_image.specs.Image.{constant, version, header, name, counts_of, image}
 use Rattle.td_image.specs.Answer.{MayRunOut}
@@ -47,10 +48,10 @@ header_free =
     then_free _ _ (choice_free w32 (λ n. nat_le n (most_rows v))) (λ sets. then_free _ _ (choice_free w32 (λ n. nat_le n (most_rows v))) (λ routines. then_free _ _ (choice_free w32 (λ n. nat_le n (most_rows v))) (λ entries.
     choice_free w32 (λ n. nat_le n (most_instructions v) && (nat_lt 0 routines || (n == 0)))))))))))))
 
-name_free : (seen : List (List ℕ)) → IsFree (name seen)
+name_free : (v : ImageVersion) (seen : List (List ℕ)) → IsFree (name v seen)
 unfolding name
-name_free seen =
-    made_free (λ x. x.1) (λ xs. (length xs, xs)) _ (then_free (allowed Field (λ n. nat_le 1 n) (number w32)) (λ n. allowed Field (λ t. is_name t && not (is_seen seen t)) (text n))
+name_free v seen =
+    made_free (λ x. x.1) (λ xs. (length xs, xs)) _ (then_free (allowed Field (λ n. nat_le 1 n) (number w32)) (λ n. allowed Field (λ t. is_image_name v t && not (is_seen seen t)) (text n))
     (choice_free w32 (λ n. nat_le 1 n)) (λ n. record { none = λ bytes out. out }))
 
 -- where so many are read, the first one is
@@ -61,7 +62,7 @@ first_read f next (suc n) s bytes xs rest some e =
     let p = bind_ok ((f s).read bytes) (λ x. read_all f next n (next s x.0) x.1 >>= λ y. Ok (x.0 ∷ y.0, y.1)) (xs, rest) e in
     (p.0.0, p.0.1, p.1)
 
-pub none_for_counts : (bytes : List ℕ) → MayRunOut bytes → (counts : Counts) × (rest : List ℕ) × (header.read bytes ≡ Ok (counts, rest)) × (0 < counts.names → HasFront (name []) rest)
+pub none_for_counts : (bytes : List ℕ) → MayRunOut bytes → (counts : Counts) × (rest : List ℕ) × (header.read bytes ≡ Ok (counts, rest)) × (0 < counts.names → HasFront (name counts.version []) rest)
 unfolding image
 none_for_counts bytes (inl out) = elim out [
   | inl front ↦ absurd (header_free.none bytes front)
@@ -71,10 +72,10 @@ none_for_counts bytes (inl out) = elim out [
     p.2,
     λ some. elim p.3 [
       | inl row ↦ elim row.1 [
-        | inl within ↦ absurd ((name_free []).none p.1 within)
+        | inl within ↦ absurd ((name_free p.0.version []).none p.1 within)
         | inr front ↦ front
       ]
-      | inr q ↦ first_read name with_name p.0.names [] p.1 q.0 q.1 some q.2
+      | inr q ↦ first_read (name p.0.version) with_name p.0.names [] p.1 q.0 q.1 some q.2
     ],
   )
 ]
@@ -82,5 +83,5 @@ none_for_counts bytes (inr (p, (s, (fits, same), is))) = (
   counts_of s.version s.parts,
   _,
   ap header.read same ∙ header_exact.again (counts_of s.version s.parts) _ fits.0,
-  λ some. first_read name with_name (length s.parts.names) [] _ s.parts.names _ some ((names_exact (length s.parts.names)).again s.parts.names _ fits.1.0),
+  λ some. first_read (name s.version) with_name (length s.parts.names) [] _ s.parts.names _ some ((names_exact s.version (length s.parts.names)).again s.parts.names _ fits.1.0),
 )

@@ -34,7 +34,7 @@ pub site_same : (n r : ℕ) (x : Site) → (format.site Second n r).bytes x ≡ 
 unfolding format.site
 site_same n r x = refl
 
-pub name_same : (s : List (List ℕ)) (x : List ℕ) → (format.name s).bytes x ≡ rows.name x
+pub name_same : (s : List (List ℕ)) (x : List ℕ) → (format.name Second s).bytes x ≡ rows.name x
 unfolding format.name
 name_same s x = refl
 
@@ -98,7 +98,7 @@ header_flat p = refl
 pub image_flat : (p : Parts) → format.image.bytes (written p) ≡ format.header.bytes (format.counts_of Second p) ++ rows.tables p
 unfolding format.image
 image_flat p =
-    let n = flat format.name with_name rows.name name_same [] p.names in
+    let n = flat (format.name Second) with_name rows.name name_same [] p.names in
     let s = flat (λ (s : Unit {0}). format.site Second (length p.names) (length p.routines)) (λ s x. s) rows.site (λ s x. site_same (length p.names) (length p.routines) x) tt p.sites in
     let m = flat_times (length p.maps) format.map_format p.maps in
     let t = flat format.set (λ left x. left - length x) rows.set set_same MOST_NUMBERS p.sets in

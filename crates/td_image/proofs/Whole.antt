@@ -21,7 +21,7 @@ use Rattle.td_image.specs.declared.routines.Room.{Room}
 use Rattle.td_image.specs.declared.operands.Fields.{Fields}
 use Rattle.td_image.specs.Format.{Format, number, text, allowed, ◌then◌, times}
 use Rattle.td_image.specs.Instructions.{has_x, has_a, has_b, has_c, has_t, has_site, has_k, instruction_of, fields_of}
-use Rattle.td_image.specs.Names.{is_name}
+use Rattle.td_image.specs.Names.{is_image_name}
 use Rattle.td_image.specs.Image.{constant, up_to, place, counted, version, count, site_routine, header, name, names, name_place, site, map_format, rises, element, elements, set, sets, is_length, after_routine, routine, routines, is_width, bits_of, width_of, width, param, field_of, field_number, cell_field, kind_of, kind_bits, cell_kind, cell, routine_of, entry, operand, fields, instruction, counts_of, image}
 use Rattle.td_image.proofs.Exact.{IsExact, IsWide, wide8, wide16, wide32, wide64, number_exact, since_exact, text_exact, allowed_exact, then_exact, made_exact, within_exact, each_exact}
 use Rattle.td_image.proofs.Twentysix.{given_back, keep, kept_by}
@@ -46,14 +46,14 @@ counted_exact {A} count items C I len =
 pub times_exact : {A : Type 0} (n : ℕ) (g : Format A) → IsExact g → IsExact (times n g)
 times_exact n g G = each_exact (λ (s : Unit {0}). g) (λ s x. s) (λ s. G) n tt
 
-pub name_exact : (seen : List (List ℕ)) → IsExact (name seen)
+pub name_exact : (v : ImageVersion) (seen : List (List ℕ)) → IsExact (name v seen)
 unfolding name
-name_exact seen =
-    counted_exact (allowed Field (λ n. nat_le 1 n) (number w32)) (λ n. allowed Field (λ t. is_name t && not (is_seen seen t)) (text n))
-    (choice_exact w32 wide32 (λ n. nat_le 1 n)) (λ n. allowed_exact Field (λ t. is_name t && not (is_seen seen t)) (text n) (text_exact n)) (λ n xs fits. fits.0.0)
+name_exact v seen =
+    counted_exact (allowed Field (λ n. nat_le 1 n) (number w32)) (λ n. allowed Field (λ t. is_image_name v t && not (is_seen seen t)) (text n))
+    (choice_exact w32 wide32 (λ n. nat_le 1 n)) (λ n. allowed_exact Field (λ t. is_image_name v t && not (is_seen seen t)) (text n) (text_exact n)) (λ n xs fits. fits.0.0)
 
-pub names_exact : (n : ℕ) → IsExact (names n)
-names_exact n = each_exact name with_name name_exact n []
+pub names_exact : (v : ImageVersion) (n : ℕ) → IsExact (names v n)
+names_exact v n = each_exact (name v) with_name (name_exact v) n []
 
 pub name_place_exact : (n : ℕ) → IsExact (name_place n)
 name_place_exact n = made_exact _ _ _ (place_exact n) (λ a fits. refl) (λ b. refl)
@@ -213,7 +213,7 @@ same_counts c p n s m t r e i = rw (n, s, m, t, r, e, i) refl
 pub image_exact : IsExact image
 unfolding image
 image_exact =
-    made_exact _ _ _ (then_exact _ _ header_exact (λ c. then_exact _ _ (names_exact c.names) (λ names. then_exact _ _ (times_exact c.sites (site c.version c.names c.routines) (site_exact c.version c.names c.routines)) (λ sites.
+    made_exact _ _ _ (then_exact _ _ header_exact (λ c. then_exact _ _ (names_exact c.version c.names) (λ names. then_exact _ _ (times_exact c.sites (site c.version c.names c.routines) (site_exact c.version c.names c.routines)) (λ sites.
     then_exact _ _ (times_exact c.maps map_format map_exact) (λ maps. then_exact _ _ (sets_exact c.version c.sets) (λ sets. then_exact _ _ (routines_exact c.names c.routines c.instructions) (λ routines.
     then_exact _ _ (times_exact c.entries (entry c.names routines) (entry_exact c.names routines)) (λ entries. times_exact c.instructions instruction instruction_exact))))))))
     (λ (c, (names, (sites, (maps, (sets, (routines, (entries, instructions))))))) (h, (n, (s, (m, (t, (r, (e, i))))))).

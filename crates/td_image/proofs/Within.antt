@@ -29,7 +29,7 @@ use Rattle.td_image.specs.declared.limits.TheConstants.{MOST_ROWS, MOST_INSTRUCT
 use Rattle.td_image.specs.declared.operands.Fields.{Fields}
 use Rattle.td_image.specs.Format.{Format, number, all_fit}
 use Rattle.td_image.specs.Instructions.{has_x, has_a, has_b, has_c, has_t, has_site, has_k, fields_of}
-use Rattle.td_image.specs.Names.{is_name}
+use Rattle.td_image.specs.Names.{is_image_name}
 use Rattle.td_image.specs.declared.version.ImageVersion.TheVariants.{Second}
 use Rattle.td_image.specs.Answer.{written}
 use Rattle.td_image.specs.Image as format
@@ -59,16 +59,16 @@ each_fits g (x ∷ xs) fits = (fits.0, each_fits g xs fits.1)
 
 -- ---- names
 
-some_bytes : (name : List ℕ) → is_name name ≡ true → 1 ≤ length name
+some_bytes : (name : List ℕ) → is_image_name Second name ≡ true → 1 ≤ length name
 some_bytes [] e = absurd cc
 some_bytes (b ∷ bs) e = omega arith
 
-name_fits : (seen : List (List ℕ)) (name : List ℕ) → IsSpelled name → is_seen seen name ≡ false → (format.name seen).Fits name
+name_fits : (seen : List (List ℕ)) (name : List ℕ) → IsSpelled name → is_seen seen name ≡ false → (format.name Second seen).Fits name
 unfolding format.name
 name_fits seen name spelled unseen =
     let some : nat_le 1 (length name) ≡ true = le-leb 1 (length name) (some_bytes name spelled.word) in
     let few : length name < 2 ^ 32 = spelled.few in
-    let allowed : (is_name name && not (is_seen seen name)) ≡ true = and_both (is_name name) (not (is_seen seen name)) spelled.word (ap not unseen) in
+    let allowed : (is_image_name Second name && not (is_seen seen name)) ≡ true = and_both (is_image_name Second name) (not (is_seen seen name)) spelled.word (ap not unseen) in
     ((few, some), ((refl, spelled.bytes), allowed))
 
 unseen_after : (seen : List (List ℕ)) (x y : List ℕ) → is_seen seen x ≡ false → is_seen seen y ≡ false → (y ≡ x → ⊥) → is_seen (with_name seen x) y ≡ false
@@ -76,7 +76,7 @@ unseen_after seen x y ex ey never =
     let apart : bytes_eq y x ≡ false = false_by (bytes_eq y x) (λ e. never ((bytes_eq-Decides y x).0 e)) in
     rw ex (list_any-append (bytes_eq y) seen (x ∷ []) ∙ rw (ey, apart) refl)
 
-names_fit : (seen xs : List (List ℕ)) → Each IsSpelled xs → ((k : ℕ) (name : List ℕ) → slice_get xs k ≡ Some name → is_seen seen name ≡ false) → AreApart xs → all_fit format.name with_name seen xs
+names_fit : (seen xs : List (List ℕ)) → Each IsSpelled xs → ((k : ℕ) (name : List ℕ) → slice_get xs k ≡ Some name → is_seen seen name ≡ false) → AreApart xs → all_fit (format.name Second) with_name seen xs
 unfolding all_fit
 names_fit seen [] spelled unseen apart = tt
 names_fit seen (x ∷ xs) spelled unseen apart =

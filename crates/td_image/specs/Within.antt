@@ -7,11 +7,12 @@ use Rattle.td_image.specs.declared.limits.TheConstants.{MOST_ROWS, MOST_INSTRUCT
 use Rattle.td_image.specs.declared.operands.Fields.{Fields}
 use Rattle.td_image.specs.Format.{AreBytes}
 use Rattle.td_image.specs.Instructions.{fields_of}
-use Rattle.td_image.specs.Names.{is_name}
+use Rattle.td_image.specs.declared.version.ImageVersion.TheVariants.{Second}
+use Rattle.td_image.specs.Names.{is_image_name}
 
--- a letter or `_`, and then letters, digits and `_`
+-- a name of the version that is written
 pub record IsSpelled (name : List ℕ) : Type 0 where
-  pub word : is_name name ≡ true
+  pub word : is_image_name Second name ≡ true
   pub bytes : AreBytes name
   pub few : length name < 2 ^ 32
 

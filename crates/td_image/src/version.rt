@@ -12,9 +12,9 @@ use td_ir::tables::Parts;
 /// A version of the format. All that distinguishes one from another is a function of it.
 #[derive(Clone, Copy)]
 pub enum ImageVersion {
-    /// A site names no routine.
+    /// A site names no routine, and no name has a dot.
     First,
-    /// A site names its routine, and the limits are larger.
+    /// A site names its routine, a name may be two, joined by a dot, and the limits are larger.
     Second,
 }
 
@@ -50,6 +50,16 @@ pub(crate) fn most_numbers(version: ImageVersion) -> usize
     match version {
         ImageVersion::First => FIRST_NUMBERS,
         ImageVersion::Second => MOST_NUMBERS,
+    }
+}
+
+/// Whether a name may be two, joined by a dot.
+pub(crate) fn has_dots(version: ImageVersion) -> bool
+    ensures { result ≡ versions.has_dots version }
+{
+    match version {
+        ImageVersion::First => false,
+        ImageVersion::Second => true,
     }
 }
 

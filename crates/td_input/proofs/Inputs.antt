@@ -78,6 +78,7 @@ module_cause Bad input n (front.Unexpected token at) marker (inr refused) = (n, 
 module_cause Bad input n (front.Deep token at) marker (inr refused) = (n, marker, refused)
 module_cause Bad input n (front.Limit limit span) marker (inr refused) = (n, marker, refused)
 module_cause Bad input n (front.Broken rule span) marker (inr refused) = (n, marker, refused)
+module_cause Bad input n (front.Cycle span) marker (inr refused) = (n, marker, refused)
 module_cause Bad input n (front.ZeroElement span) marker (inr refused) = (n, marker, refused)
 module_cause Bad input n (front.RestNotLast span) marker (inr refused) = (n, marker, refused)
 module_cause Bad input n (front.Unsafe span op) marker (inr refused) = (n, marker, refused)

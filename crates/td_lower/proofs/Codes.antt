@@ -15,7 +15,7 @@ use Rattle.td_core.specs.declared.module.TypeDef.{TypeDef}
 use Rattle.td_core.specs.declared.module.Module.{Module}
 use Rattle.td_core.specs.WellFormed.{OfSome, EachField, HasParts, IsWhole, IsNameThere, IsDefinitionNamed}
 use Rattle.td_meaning.specs.Meaning as meaning
-use Rattle.td_lexer.specs.Splits.{IsName}
+use Rattle.td_lexer.specs.Splits.{IsLongName}
 use Rattle.td_ir.specs.declared.tables.EntryPoint.{EntryPoint}
 use Rattle.td_ir.specs.declared.tables.Parts.{Parts}
 use Rattle.td_ir.specs.declared.tables.Site.{Site}
@@ -162,7 +162,7 @@ entry_at ds [] n place h = absurd (cc)
 entry_at ds (p ∷ ps) zero place h = (let same : p ≡ place = cc in ap (entry_for ds) same)
 entry_at ds (p ∷ ps) (suc n) place h = entry_at ds ps n place h
 
-module _ (c : Parts) (m : Module) (w : IsWritten c m) (whole : IsWhole m) (named : Each (IsDefinitionNamed (length m.names)) m.definitions) (words : Each IsName m.names)
+module _ (c : Parts) (m : Module) (w : IsWritten c m) (whole : IsWhole m) (named : Each (IsDefinitionNamed (length m.names)) m.definitions) (words : Each IsLongName m.names)
     (law : LayingOut) (some : BlocksHaveCode) where
   names_are : length c.names ≡ length m.names + 2
   names_are = (let x = ap length w.names in let y = length-append m.names (codes "where" ∷ codes "switch" ∷ []) in omega (arith, x, y))

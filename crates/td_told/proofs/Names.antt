@@ -1,9 +1,8 @@
 -- The names of a checked module are such that a report can be read back.
-use Rattle.std.proofs.Common.{◌≡◌, ◌≢◌, inl, inr, ℕ, ◌<◌, ◌≤◌, Bool, true, false, ◌&&◌, ◌||◌, ◌==◌, nat_le, List, [], ◌∷◌, length, Option, Some, None, refl, sym, subst, arith}
+use Rattle.std.proofs.Common.{◌≡◌, ◌≢◌, ◌⊎◌, inl, inr, ℕ, suc, ◌<◌, ◌≤◌, Bool, true, false, ◌&&◌, ◌||◌, ◌==◌, nat_le, List, [], ◌∷◌, length, map, Option, Some, None, refl, sym, subst, arith}
 use Rattle.std.specs.Prelude.{codes}
-use Rattle.std.specs.List.{All}
+use Rattle.std.specs.List.{All, Contains}
 use Rattle.std.proofs.lemmas.Bool.{leb-true, eqb-true}
-use Rattle.std.proofs.lemmas.Option.{none-some}
 use Rattle.std.proofs.lemmas.List.Elements.{All-nil, All-cons}
 use Rattle.td_num.specs.Lists.{Each}
 use Rattle.td_ast.specs.declared.token.TokenKind.TheVariants as kinds
@@ -21,10 +20,11 @@ use Rattle.td_core.specs.declared.outcome.Spot.TheVariants.{Field, Where, Switch
 use Rattle.td_core.specs.declared.outcome.TraceFrame.{TraceFrame}
 use Rattle.td_core.specs.WellFormed.{OfSome, EachField, IsNameThere, IsDefinitionNamed}
 use Rattle.td_lexer.specs.Bytes.{is_word_byte, every}
-use Rattle.td_lexer.specs.Spellings.{keyword_kind}
-use Rattle.td_lexer.specs.Splits.{IsName}
+use Rattle.td_lexer.specs.Splits.{IsName, IsDotted, IsLongName}
+use Rattle.td_lexer.proofs.LongNames.{no_keyword}
+use Rattle.td_core.specs.Entries.{name_bytes}
 use Rattle.td_meaning.specs.Framing.{OneOf, IsPartName, IsDefaultName, IsBodyName, IsSpotOf, IsFrameOf}
-use Rattle.td_report.specs.Laws.{IsWordByte, IsNamed, IsNamedSpot, IsNamedField, IsNamedFrame, IsNamedCell}
+use Rattle.td_report.specs.Laws.{IsWordByte, IsWord, AreTwoWords, type_names, IsNamed, IsNamedSpot, IsNamedField, IsNamedFrame, IsNamedCell}
 
 -- ---- words
 
@@ -52,17 +52,32 @@ word_of [] h = All-nil IsWordByte
 word_of (b ∷ bytes) h =
     All-cons IsWordByte b bytes (word_byte b (first (is_word_byte b) (every is_word_byte bytes) h)) (word_of bytes (second (is_word_byte b) (every is_word_byte bytes) h))
 
-pub words_of : (names : List (List ℕ)) → Each IsName names → All (λ name. All IsWordByte name) names
-words_of [] h = All-nil (λ name. All IsWordByte name)
-words_of (x ∷ xs) h = All-cons (λ name. All IsWordByte name) x xs (word_of x h.0.1) (words_of xs h.1)
+two_words_of : (bytes : List ℕ) → IsDotted bytes → AreTwoWords bytes
+two_words_of bytes (part, own, first, second, is) = (part, own, word_of part first.1, word_of own second.1, is)
 
-no_spot : (name : List ℕ) → IsName name → (name ≢ codes "where") × (name ≢ codes "switch")
-no_spot name h = (
-  λ e. none-some kinds.Where (sym (subst (λ n. keyword_kind n ≡ None) e h.2)),
-  λ e. none-some kinds.Switch (sym (subst (λ n. keyword_kind n ≡ None) e h.2)),
-)
+long_word_of : (bytes : List ℕ) → IsLongName bytes → IsWord bytes ⊎ AreTwoWords bytes
+long_word_of bytes (inl name) = inl (word_of bytes name.1)
+long_word_of bytes (inr two) = inr (two_words_of bytes two)
 
-pub no_spots : (names : List (List ℕ)) → Each IsName names → All (λ name. (name ≢ codes "where") × (name ≢ codes "switch")) names
+pub words_of : (names : List (List ℕ)) → Each IsLongName names → All (λ name. IsWord name ⊎ AreTwoWords name) names
+words_of [] h = All-nil (λ name. IsWord name ⊎ AreTwoWords name)
+words_of (x ∷ xs) h = All-cons (λ name. IsWord name ⊎ AreTwoWords name) x xs (long_word_of x h.0) (words_of xs h.1)
+
+-- what holds of the bytes of each type's name holds of those of all names of types
+types_are : (P Q : List ℕ → Type 0) (m : Module) → ((bytes : List ℕ) → P bytes → Q bytes) → (ds : List TypeDef) → Each (λ d. P (name_bytes m d.name)) ds → All (λ name. Q (name_bytes m name)) (map (λ d. d.name) ds)
+types_are P Q m turns [] h = All-nil (λ name. Q (name_bytes m name))
+types_are P Q m turns (d ∷ ds) h =
+    All-cons (λ name. Q (name_bytes m name)) d.name (map (λ d. d.name) ds) (turns (name_bytes m d.name) h.0) (types_are P Q m turns ds h.1)
+
+pub types_of : (m : Module) → Each (λ d. IsName (name_bytes m d.name)) m.definitions ⊎ Each (λ d. IsDotted (name_bytes m d.name)) m.definitions
+    → All (λ name. IsWord (name_bytes m name)) (type_names m) ⊎ All (λ name. AreTwoWords (name_bytes m name)) (type_names m)
+types_of m (inl plain) = inl (types_are IsName IsWord m (λ bytes h. word_of bytes h.1) m.definitions plain)
+types_of m (inr dotted) = inr (types_are IsDotted AreTwoWords m two_words_of m.definitions dotted)
+
+no_spot : (name : List ℕ) → IsLongName name → (name ≢ codes "where") × (name ≢ codes "switch")
+no_spot name h = (λ e. no_keyword name (codes "where") kinds.Where refl refl h e, λ e. no_keyword name (codes "switch") kinds.Switch refl refl h e)
+
+pub no_spots : (names : List (List ℕ)) → Each IsLongName names → All (λ name. (name ≢ codes "where") × (name ≢ codes "switch")) names
 no_spots [] h = All-nil (λ name. (name ≢ codes "where") × (name ≢ codes "switch"))
 no_spots (x ∷ xs) h = All-cons (λ name. (name ≢ codes "where") × (name ≢ codes "switch")) x xs (no_spot x h.0) (no_spots xs h.1)
 
@@ -102,12 +117,17 @@ frame_named m frame [] h each = absurd h
 frame_named m frame (d ∷ ds) (inl h) each = (subst (IsNamed m) (sym h.ty) each.0.own, spot_named m d frame.field h.spot each.0)
 frame_named m frame (d ∷ ds) (inr h) each = frame_named m frame ds h each.1
 
+frame_of_type : (frame : TraceFrame) (ds : List TypeDef) → OneOf (λ d. IsFrameOf d frame) ds → Contains (map (λ d. d.name) ds) frame.ty
+frame_of_type frame [] h = absurd h
+frame_of_type frame (d ∷ ds) (inl h) = (0, omega arith, sym h.ty)
+frame_of_type frame (d ∷ ds) (inr h) = (let at = frame_of_type frame ds h in (suc at.0, omega (arith, at.1), at.2))
+
 pub frames_named : (m : Module) (end : ℕ) (trace : List TraceFrame) → end < 18446744073709551616 → Each (λ f. f.start ≤ end) trace → Each (λ frame. OneOf (λ d. IsFrameOf d frame) m.definitions) trace
     → Each (IsDefinitionNamed (length m.names)) m.definitions → All (IsNamedFrame m) trace
 frames_named m end [] low starts h each = All-nil (IsNamedFrame m)
 frames_named m end (f ∷ fs) low starts h each =
     let names = frame_named m f m.definitions h.0 each in
-    All-cons (IsNamedFrame m) f fs (record { ty = names.0; field = names.1; start = omega (arith, low, starts.0) }) (frames_named m end fs low starts.1 h.1 each)
+    All-cons (IsNamedFrame m) f fs (record { ty = names.0; of_type = frame_of_type f m.definitions h.0; field = names.1; start = omega (arith, low, starts.0) }) (frames_named m end fs low starts.1 h.1 each)
 
 field_named : (m : Module) (o : Option NameId) → OfSome (IsNameThere (length m.names)) o → IsNamedField m o
 field_named m None h = tt

@@ -8,6 +8,7 @@ mod Sets
 mod Tables
 mod Words
 mod Tokens
+mod Lengths
 mod Sorts
 mod Steps
 mod Knowns

@@ -1,5 +1,5 @@
 -- The names of a module are no more than the nodes of its text, and no longer than the text.
-use Rattle.std.proofs.Common.{◌≡◌, ℕ, zero, suc, ◌+◌, ◌≤◌, Bool, true, false, if◌then◌else◌, List, [], ◌∷◌, ◌++◌, length, Contains, Option, Some, None, subst, arith, length-append}
+use Rattle.std.proofs.Common.{◌≡◌, ℕ, ◌+◌, ◌≤◌, Bool, true, false, if◌then◌else◌, List, [], ◌∷◌, ◌++◌, length, Option, Some, None, arith, length-append}
 use Rattle.td_num.specs.Lists.{Each}
 use Rattle.td_ast.specs.declared.token.Token.{Token}
 use Rattle.td_ast.specs.declared.fields.FieldTree.{FieldTree}
@@ -10,7 +10,10 @@ use Rattle.td_ast.specs.declared.definitions.Def.{Def}
 use Rattle.td_ast.specs.declared.definitions.Def.TheVariants.{Define, Enum, Alias, Struct, Casetype, Output}
 use Rattle.td_ast.specs.declared.definitions.ModuleTree.{ModuleTree}
 use Rattle.td_lexer.specs.Splits.{Splits}
-use Rattle.td_grammar.specs.Definitions.{module_text}
+use Rattle.td_grammar.specs.Parts.{input_text}
+use Rattle.td_grammar.specs.Laws.{EitherForm}
+use Rattle.td_flat.specs.Flat.{flat}
+use Rattle.td_ast.specs.declared.parts.InputTree.{InputTree}
 use Rattle.td_limits.specs.declared.limits.Limit.TheVariants as limit
 use Rattle.td_limits.specs.Excesses.{above, first_excess, definition_name}
 use Rattle.td_limits.specs.Nodes.{inner_nodes, fields_nodes, default_nodes, cases_nodes, definition_nodes}
@@ -22,9 +25,10 @@ use Rattle.td_rules.specs.Modules.{StandsFor, param_name, see_params, see_fields
 use Rattle.td_rules.specs.Written.{names_written}
 use Rattle.td_rules.specs.Laws.{NamesAreWritten}
 use Rattle.td_admitted.proofs.Fields.{sum_total}
-use Rattle.td_admitted.proofs.Names.{spelled_names}
-use Rattle.td_within.proofs.Tokens.{IsShort, splitting_short}
+use Rattle.td_within.proofs.Tokens.{IsShort}
+use Rattle.td_within.proofs.Lengths.{flat_short}
 use Rattle.td_within.proofs.Knowns.{all_nodes}
+use Rattle.td_num.proofs.Lists.{all_among}
 use Rattle.td_limits.proofs.Counting.{none_both, above_none as not_above}
 
 -- ---- how many nodes
@@ -115,16 +119,7 @@ names_few t = (let x = all_count [] t.definitions in omega (arith, x))
 
 -- ---- how long they are
 
-module _ (P : List ℕ → Type 0) where
-  among : (xs : List (List ℕ)) (x : List ℕ) → Each P xs → Contains xs x → P x
-  among [] x h (k, lt, e) = absurd (omega (arith, lt))
-  among (y ∷ ys) x h (zero, lt, e) = subst P e h.0
-  among (y ∷ ys) x h (suc k, lt, e) = among ys x h.1 (k, omega (arith, lt), e)
-
-  all_among : (xs ys : List (List ℕ)) → Each P xs → Each (Contains xs) ys → Each P ys
-  all_among xs [] h c = tt
-  all_among xs (y ∷ ys) h c = (among xs y h c.0, all_among xs ys h c.1)
-
-pub names_short : NamesAreWritten → (text : List ℕ) (tokens : List Token) (t : ModuleTree) (m : Module) → Splits text tokens → module_text.Spells t tokens → StandsFor t m → Each (λ name. length name ≤ length text) m.names
-names_short written text tokens t m split spelled stands =
-    all_among (IsShort (length text)) (names_written t) m.names (spelled_names (IsShort (length text)) t tokens spelled (splitting_short text tokens split)) (written t m stands)
+pub names_short : NamesAreWritten → EitherForm → (text : List ℕ) (tokens : List Token) (input : InputTree) (m : Module) → Splits text tokens → input_text.Spells input tokens → StandsFor (flat input) m
+    → Each (λ name. length name ≤ length text) m.names
+names_short written form text tokens input m split spelled stands =
+    all_among (IsShort (length text)) (names_written (flat input)) m.names (flat_short form text tokens input split spelled) (written (flat input) m stands)

@@ -4,6 +4,9 @@ use Rattle.td_num.specs.Lists.{Each}
 use Rattle.td_ast.specs.declared.definitions.ModuleTree.{ModuleTree}
 use Rattle.td_rules.specs.Modules.{breaches, module_of}
 use Rattle.td_rules.specs.Laws.{NamesAreWritten}
+use Rattle.td_grammar.specs.Laws.{EitherForm}
+use Rattle.td_flat.specs.Flat.{flat}
+use Rattle.td_front.specs.Passes.{IsAdmitted}
 use Rattle.td_admitted.specs.Laws.{HasLimits}
 use Rattle.td_admitted.proofs.Within.{modules_are_within}
 use Rattle.td_within.specs.Small.{IsSmall}
@@ -29,10 +32,12 @@ small_tree t limits none short =
       steps = own.steps;
     }
 
-pub modules_are_small : NamesAreWritten → ModulesAreSmall
-modules_are_small law text m short h =
-    let none = h.admitted.0.0.0.1 in
-    let limits : HasLimits h.tree = record { counts = h.admitted.0.0.0.0; sizes = h.admitted.1 } in
-    let names = names_short law text h.spells.tokens h.tree m h.spells.split h.spells.spelled (none, h.module_is) in
+pub modules_are_small : NamesAreWritten → EitherForm → ModulesAreSmall
+modules_are_small law form text m short h =
+    let tree = flat h.input in
+    let admitted : IsAdmitted tree = h.admitted.2 in
+    let none = admitted.0.0.0.1 in
+    let limits : HasLimits tree = record { counts = admitted.0.0.0.0; sizes = admitted.1 } in
+    let names = names_short law form text h.spells.tokens h.input m h.spells.split h.spells.spelled (none, h.module_is) in
     let few : Each (λ name. length name < 2 ^ 32) m.names = each_map (λ name. length name ≤ length text) (λ name. length name < 2 ^ 32) m.names (λ name l. omega (arith, l, short)) names in
-    subst IsSmall (sym h.module_is) (small_tree h.tree limits none (subst (λ x. Each (λ name. length name < 2 ^ 32) x.names) h.module_is few))
+    subst IsSmall (sym h.module_is) (small_tree tree limits none (subst (λ x. Each (λ name. length name < 2 ^ 32) x.names) h.module_is few))

@@ -1,21 +1,22 @@
 -- The names of a module's code are spelled as an image's, and no two are the same.
-use Rattle.std.proofs.Common.{◌≡◌, ◌⊎◌, inl, inr, ℕ, zero, suc, ◌^◌, ◌<◌, Bool, true, false, ◌&&◌, ◌||◌, List, [], ◌∷◌, ◌++◌, length, codes, Some, None, slice_get, refl, sym, ap, ◌∙◌, subst, arith, append_assoc, cond}
-use Rattle.std.specs.Prelude.{◌==◌, nat_le, take_while}
+use Rattle.std.proofs.Common.{◌≡◌, ◌⊎◌, inl, inr, ℕ, zero, suc, ◌+◌, ◌^◌, ◌<◌, Bool, true, false, ◌&&◌, ◌||◌, not, List, [], ◌∷◌, ◌++◌, length, length-append, take, drop, codes, Some, slice_get, refl, sym, ap, ◌∙◌, subst, arith, append_assoc, cond}
+use Rattle.std.specs.Prelude.{◌==◌, nat_le, take_while, is_some}
+use Rattle.std.specs.List.{position_or_len, before_first, after_first}
+use Rattle.std.proofs.lemmas.List.{take_at, drop_at}
 use Rattle.std.proofs.lemmas.Bool.{leb-true, and_parts}
 use Rattle.std.proofs.lemmas.Bool.Decides.{Decides-eqb}
 use Rattle.std.proofs.lemmas.List.Sums.{take_while-cons}
-use Rattle.std.proofs.lemmas.Option.{none-some}
 use Rattle.td_num.specs.Lists.{Each}
-use Rattle.td_ast.specs.declared.token.TokenKind.TheVariants as kinds
 use Rattle.td_lexer.specs.Bytes.{is_letter, is_digit, is_word_byte, every, first_is}
-use Rattle.td_lexer.specs.Spellings.{keyword_kind}
-use Rattle.td_lexer.specs.Splits.{IsName}
+use Rattle.td_lexer.specs.Spellings.{is_keyword}
+use Rattle.td_lexer.specs.Splits.{IsName, IsLongName}
 use Rattle.td_image.specs.Format.{AreBytes}
 use Rattle.td_image.specs.Names as names
 use Rattle.td_image.specs.Within.{IsSpelled, AreApart}
 use Rattle.td_lower.proofs.Tabling.{no_where, no_switch}
 use Rattle.td_within.proofs.Lists.{get_end}
 use Rattle.td_num.proofs.Lists.{each_at, each_append}
+use Rattle.td_num.proofs.Truths.{or_left, or_right}
 
 -- ---- spelling
 
@@ -58,17 +59,71 @@ bytes_low (b ∷ bs) h zero = low_byte b (and_parts (is_word_byte b) (every is_w
 bytes_low (b ∷ bs) h (suc i) = bytes_low bs (and_parts (is_word_byte b) (every is_word_byte bs) h).1 i
 
 spelled : (name : List ℕ) → first_is is_letter name ≡ true → every is_word_byte name ≡ true → length name < 2 ^ 32 → IsSpelled name
-spelled name first all few = record { word = word_is name first all; bytes = bytes_low name all; few = few }
+spelled name first all few = record { word = or_left (names.is_name name) (names.are_two_names name) (word_is name first all); bytes = bytes_low name all; few = few }
 
-each_spelled : (ns : List (List ℕ)) → Each IsName ns → Each (λ n. length n < 2 ^ 32) ns → Each IsSpelled ns
+-- ---- two names, joined by a dot
+
+no_dot : (b : ℕ) → is_word_byte b ≡ true → not (b == 46) ≡ true
+no_dot b h = by (b == 46) refl
+  where
+    by : (c : Bool) → (b == 46) ≡ c → not c ≡ true
+    by false e = refl
+    by true e = (let low : is_word_byte 46 ≡ true = subst (λ x. is_word_byte x ≡ true) ((Decides-eqb b 46).0 e) h in absurd cc)
+
+dot_at : (part own : List ℕ) → every is_word_byte part ≡ true → position_or_len names.is_dot (part ++ 46 ∷ own) ≡ length part
+dot_at [] own h = refl
+dot_at (b ∷ bs) own h =
+    let both = and_parts (is_word_byte b) (every is_word_byte bs) h in
+    let further = dot_at bs own both.1 in
+    let one_more : 1 + position_or_len names.is_dot (bs ++ 46 ∷ own) ≡ length (b ∷ bs) = omega (arith, further) in
+    ap (λ c. cond c (1 + position_or_len names.is_dot (bs ++ 46 ∷ own)) 0) (no_dot b both.0) ∙ one_more
+
+before : (part own : List ℕ) → every is_word_byte part ≡ true → before_first names.is_dot (part ++ 46 ∷ own) ≡ part
+before part own h = ap (λ n. take n (part ++ 46 ∷ own)) (dot_at part own h) ∙ take_at part (46 ∷ own) (length part) refl
+
+behind : (part own : List ℕ) → every is_word_byte part ≡ true → after_first names.is_dot (part ++ 46 ∷ own) ≡ own
+behind part own h =
+    let count : length (part ++ 46 ∷ []) ≡ length part + 1 = length-append part (46 ∷ []) in
+    ap (λ n. drop (n + 1) (part ++ 46 ∷ own)) (dot_at part own h)
+    ∙ ap (drop (length part + 1)) (sym (append_assoc part (46 ∷ []) own))
+    ∙ drop_at (part ++ 46 ∷ []) own (length part + 1) count
+
+plain : (name : List ℕ) → IsName name → names.is_plain name ≡ true
+plain name h =
+    let word = word_is name h.0 h.1 in
+    let none : not (is_keyword name) ≡ true = ap (λ o. not (is_some o)) h.2 in
+    ap (λ b. b && not (is_keyword name)) word ∙ none
+
+two_names : (part own : List ℕ) → IsName part → IsName own → names.are_two_names (part ++ 46 ∷ own) ≡ true
+two_names part own first second =
+    ap (λ l. names.is_plain l && names.is_plain (after_first names.is_dot (part ++ 46 ∷ own))) (before part own first.1)
+    ∙ ap (λ l. names.is_plain part && names.is_plain l) (behind part own first.1)
+    ∙ ap (λ b. b && names.is_plain own) (plain part first)
+    ∙ plain own second
+
+two_low : (part own : List ℕ) → every is_word_byte part ≡ true → every is_word_byte own ≡ true → AreBytes (part ++ 46 ∷ own)
+two_low [] own first second zero = omega arith
+two_low [] own first second (suc i) = bytes_low own second i
+two_low (b ∷ bs) own first second zero = low_byte b (and_parts (is_word_byte b) (every is_word_byte bs) first).0
+two_low (b ∷ bs) own first second (suc i) = two_low bs own (and_parts (is_word_byte b) (every is_word_byte bs) first).1 second i
+
+long_spelled : (name : List ℕ) → IsLongName name → length name < 2 ^ 32 → IsSpelled name
+long_spelled name (inl h) few = spelled name h.0 h.1 few
+long_spelled name (inr (part, own, first, second, is)) few = record {
+  word = or_right (names.is_name name) (names.are_two_names name) (ap names.are_two_names is ∙ two_names part own first second);
+  bytes = subst AreBytes (sym is) (two_low part own first.1 second.1);
+  few = few;
+}
+
+each_spelled : (ns : List (List ℕ)) → Each IsLongName ns → Each (λ n. length n < 2 ^ 32) ns → Each IsSpelled ns
 each_spelled [] h few = tt
-each_spelled (n ∷ ns) h few = (spelled n h.0.0 h.0.1 few.0, each_spelled ns h.1 few.1)
+each_spelled (n ∷ ns) h few = (long_spelled n h.0 few.0, each_spelled ns h.1 few.1)
 
 -- the names of a module, and two keywords
 abbrev with_two : List (List ℕ) → List (List ℕ)
 with_two ns = ns ++ (codes "where" ∷ codes "switch" ∷ [])
 
-pub all_spelled : (ns : List (List ℕ)) → Each IsName ns → Each (λ n. length n < 2 ^ 32) ns → Each IsSpelled (with_two ns)
+pub all_spelled : (ns : List (List ℕ)) → Each IsLongName ns → Each (λ n. length n < 2 ^ 32) ns → Each IsSpelled (with_two ns)
 all_spelled ns h few =
     each_append IsSpelled ns (codes "where" ∷ codes "switch" ∷ []) (each_spelled ns h few)
     (spelled (codes "where") refl refl (omega arith), (spelled (codes "switch") refl refl (omega arith), tt))
@@ -84,14 +139,14 @@ apart_more ns x apart new i j name e f = by (get_end ns x i name e) (get_end ns 
     by (inr a) (inl b) = absurd (new j name b (sym a.1))
     by (inr a) (inr b) = a.0 ∙ sym b.0
 
-pub all_apart : (ns : List (List ℕ)) → Each IsName ns → AreApart ns → AreApart (with_two ns)
+pub all_apart : (ns : List (List ℕ)) → Each IsLongName ns → AreApart ns → AreApart (with_two ns)
 all_apart ns words apart =
-    let first : AreApart (ns ++ codes "where" ∷ []) = apart_more ns (codes "where") apart (λ n name e. no_where name (each_at IsName ns n name words e)) in
+    let first : AreApart (ns ++ codes "where" ∷ []) = apart_more ns (codes "where") apart (λ n name e. no_where name (each_at IsLongName ns n name words e)) in
     let different : codes "where" ≡ codes "switch" → ⊥ = λ e. cc in
     let new : (n : ℕ) (name : List ℕ) → slice_get (ns ++ codes "where" ∷ []) n ≡ Some name → name ≡ codes "switch" → ⊥ =
     λ n name e. each_at (λ x. x ≡ codes "switch" → ⊥) (ns ++ codes "where" ∷ []) n name (each_append (λ x. x ≡ codes "switch" → ⊥) ns (codes "where" ∷ []) (none_is ns words) (different, tt)) e in
     subst AreApart (append_assoc ns (codes "where" ∷ []) (codes "switch" ∷ [])) (apart_more (ns ++ codes "where" ∷ []) (codes "switch") first new)
   where
-    none_is : (xs : List (List ℕ)) → Each IsName xs → Each (λ x. x ≡ codes "switch" → ⊥) xs
+    none_is : (xs : List (List ℕ)) → Each IsLongName xs → Each (λ x. x ≡ codes "switch" → ⊥) xs
     none_is [] h = tt
     none_is (x ∷ xs) h = (no_switch x h.0, none_is xs h.1)

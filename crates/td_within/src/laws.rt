@@ -2,6 +2,7 @@
 
 ghost use Rattle.td_within.specs.Laws.{ModulesAreSmall, CodeIsWithin};
 
+use td_grammar::laws::either_form;
 use td_rules::laws::names_are_written;
 
 /// The module of a text whose length is a number of 32 bits has no more names, enums and entry points than a text may have,
@@ -10,6 +11,7 @@ pub fn modules_are_small()
     ensures { ModulesAreSmall }
 {
     names_are_written();
+    either_form();
 }
 
 /// The code of such a module is within the format of images: its tables are no longer than an image's, it has no more

@@ -7,4 +7,4 @@ use Rattle.td_image.proofs.Kept.{Begun}
 use Rattle.td_image.proofs.tables.names_of.Given as goal
 
 abbrev pub invariant-loop : goal.invariant-loop
-invariant-loop l = (with_front l.rows (read_all format.name with_name (l.count - l.counter) l.seen l.rest) ≡ (format.names l.count).read l.bytes) × Begun format.name [] l.seen l.bytes l.rest
+invariant-loop l = (with_front l.rows (read_all (format.name l.fn.version) with_name (l.count - l.counter) l.seen l.rest) ≡ (format.names l.fn.version l.count).read l.bytes) × Begun (format.name l.fn.version) [] l.seen l.bytes l.rest
