@@ -5,9 +5,9 @@ import re
 import sys
 import threading
 
-from . import TOP
+from . import TOP, linked
 from .explain import Unknown, help_of
-from .places import NoPlace, escaped, shown
+from .places import NoPlace, escaped, shown, visible
 
 # A job's error has a path, which may look like a place.
 ERROR = re.compile(rb"error (?:(J[0-9]{1,2}|Z[0-9])|([A-Z][0-9]) ([0-9]+):([0-9]+))(?: .*)?", re.DOTALL)
@@ -85,9 +85,20 @@ def help_lines(text, line, job=None):
 
 
 def place_lines(text, line):
-    """The line of an error's place with its caret; none where the line names no place."""
+    """The line of an error's place with its caret, behind the place in its file where the text was made of several; none where the line
+    names no place."""
     match = ERROR.fullmatch(line)
-    return [shown(text, int(match[3]), int(match[4]))] if match and match[3] else []
+    if not match or not match[3]:
+        return []
+    number, column = int(match[3]), int(match[4])
+
+    def called(place):
+        origin = linked.origin(text, place)
+        return str(origin[1] if origin else place)
+
+    row = shown(text, number, column, called)
+    in_file = linked.place_in_file(text, number, column)
+    return [row] if in_file is None else [visible(os.fsencode(in_file)), row]
 
 
 def page_line(line):

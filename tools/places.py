@@ -41,9 +41,9 @@ def width(text):
     return places
 
 
-def shown(text, number, column):
-    """The line of this number with a caret under the byte of this column. Of a place at the end of the text, on an empty line,
-    the last line that isn't empty stands above it."""
+def shown(text, number, column, called=str):
+    """The line of this number with a caret under the byte of this column; `called` gives the number that is shown for a line's. Of a place
+    at the end of the text, on an empty line, the last line that isn't empty stands above it."""
     lines = (text if text.endswith(b"\n") else text + b"\n").split(b"\n")
     if not 1 <= number <= len(lines) or not 1 <= column <= len(lines[number - 1]) + 1:
         raise NoPlace
@@ -57,8 +57,8 @@ def shown(text, number, column):
     ends = not after and not b"".join(lines[number:])
     if ends and not before.strip():
         above = [place for place in range(1, number) if lines[place - 1].strip()][-1:]
-        rows = ["%*d | %s" % (len(str(number)), place, visible(lines[place - 1])[: MOST_BEFORE + MOST_AFTER]) for place in above]
-    head = "%d | " % number
+        rows = ["%*s | %s" % (len(called(number)), called(place), visible(lines[place - 1])[: MOST_BEFORE + MOST_AFTER]) for place in above]
+    head = called(number) + " | "
     caret = " " * (len(head) + width(before)) + "^" + (" the text ends here" if ends else "")
     return "\n".join(rows + [(head + before + after).rstrip(), caret])
 

@@ -5,7 +5,8 @@ import re
 LARGEST = 2**64 - 1
 NUMBER = re.compile(r"0|[1-9][0-9]*")
 NAME = r"[A-Za-z_][A-Za-z0-9_]*"
-SITE = re.compile(r"(%s)\.(%s)" % (NAME, NAME))
+# A type of a module of several parts has the part's name before its own.
+SITE = re.compile(r"(%s(?:\.%s)?)\.(%s)" % (NAME, NAME, NAME))
 CELL = re.compile(r"%s(\.%s)?" % (NAME, NAME))
 VALUE = re.compile(r"[0-9a-f]{16}")
 BYTES = re.compile(r"([0-9a-f]{2})+")

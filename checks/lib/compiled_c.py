@@ -136,7 +136,9 @@ class Validator:
             structs.append(kind(*[cells[number] for number, _ in members]))
         outcome = Outcome(reason=-1)
         given = [NUMBERS[bits](value) for (_, bits), value in zip(params, arguments)] + [ctypes.byref(struct) for struct in structs]
-        call = getattr(self.library, "%s_validate_%s" % (self.name, self.code.name(self.code.routines[routine][0])))
+        # In the names of C a `_` stands in the place of the dot that the types of parts have.
+        entry_name = self.code.name(self.code.routines[routine][0]).replace(".", "_")
+        call = getattr(self.library, "%s_validate_%s" % (self.name, entry_name))
         call.restype = ctypes.c_bool
         if self.is_watched:
             self.watch(words, length, overwrites, stores)

@@ -9,7 +9,7 @@ NUMBERS = [0, 1, 2, 3, 4, 7, 8, 15, 16, 100, 127, 128, 255, 256, 1000, 65535, 65
 WHITE_SPACE = [" "] * 5 + ["\n", "\t", "\r\n", "/* c */", "/**/", "/* %% */", "// line\n", ""]
 STRAY_TOKENS = (
     "@ # #define {:act {:act- {:check [:byte-size [:byte-sizes == = { } ; , ( ) casetype 0x 12a 0xg $ é * / -> && UINT8 x 7 /* \0"
-    " where unit all_bytes all_zeros sizeof this if return abort field_pos true PUINT8 18446744073709551616 : ? ! ~ enum case"
+    " . A.T0 module where unit all_bytes all_zeros sizeof this if return abort field_pos true PUINT8 18446744073709551616 : ? ! ~ enum case"
 ).split(" ")
 OTHER_VALUES = [None, 1, [], [1], {}, "a", 1.5, -1, 2**64, True, [[0, 0]], [[0, 0, "00"]], [[0.0, 0, "0" * 16]], [300], [0, 0]]
 
@@ -17,8 +17,9 @@ OTHER_VALUES = [None, 1, [], [1], {}, "a", 1.5, -1, 2**64, True, [[0, 0]], [[0, 
 class Maker:
     def __init__(self, seed):
         self.random = random.Random(seed)
-        # Values are drawn apart, so that modules stay as they are without them.
+        # Values are drawn apart, so that modules stay as they are without them; and so is whether a text has parts.
         self.drawn = random.Random("values of %d" % seed)
+        self.parted = random.Random("parts of %d" % seed)
 
     def chance(self, share):
         return self.random.random() < share
@@ -239,9 +240,11 @@ class Maker:
         self.count += 1
         return self.count
 
-    def module(self):
+    def begin(self):
         self.count, self.types, self.numbers, self.constants, self.records = 0, [], set(), [], {}
         self.parameters, self.entries, self.values, self.cells, self.start, self.unit = {}, [], [], [], False, None
+
+    def definitions(self):
         tokens = []
         for _ in range(self.pick([1, 1, 2, 3, 4])):
             tokens += self.definition()
@@ -249,6 +252,48 @@ class Maker:
             tokens += ["entrypoint", "typedef", "struct", "_P", *self.head("P"), "{", *self.fields(), "}", "P", ";"]
             self.parameters["P"] = self.own_kinds
             self.entries.append("P")
+        return tokens
+
+    def part_names(self):
+        """Names of parts, of which two are the same now and then; some are those of other things too."""
+        names = self.random.sample(["A", "B", "C", "module", "T0", "P", "x1", "K0", "_a"], self.pick([1, 2, 2, 3, 4]))
+        return [self.pick(names) for _ in names] if self.chance(0.04) else names
+
+    def in_part(self, part):
+        """What a part defined, as the parts behind it name it: types, those of numbers, constants, records, parameters, entry points."""
+        full = "%s.%%s" % part
+        own = {name for name in self.types + self.constants + list(self.records) + self.entries if "." not in name}
+        plain = lambda names: [full % name for name in names if name in own]  # noqa: E731
+        found = [plain(self.types), set(plain(self.numbers)), plain(self.constants), plain(self.entries)]
+        return found + [{full % name: given[name] for name in given if name in own} for given in (self.records, self.parameters)]
+
+    def parts(self):
+        """The tokens of a text of several parts: each names what the parts that were made before it define, and they stand in any order."""
+        texts, known = [], [[], set(), [], [], {}, {}]
+        for part in self.part_names():
+            self.begin()
+            self.types, self.numbers, self.constants = list(known[0]), set(known[1]), list(known[2])
+            self.records, self.parameters = dict(known[4]), dict(known[5])
+            tokens = self.definitions() if self.chance(0.92) else []
+            own = self.in_part(part)
+            known = [had + new if isinstance(had, list) else had | new for had, new in zip(known, own)]
+            texts.append(["module", part, *tokens])
+        if self.chance(0.04):
+            # A name of a part that stands where the parts are made later, or nowhere, or of one that defines nothing so.
+            text = self.pick(texts)
+            text += ["typedef", "%s.%s" % (self.pick([text[1] for text in texts] + ["Q"]), self.pick(["T0", "P", "K0", "zz"])), "Q0", ";"]
+        self.random.shuffle(texts)
+        self.types, self.numbers, self.constants, self.entries, self.records, self.parameters = known
+        tokens = [token for text in texts for token in text]
+        # A dot is a token, so a blank may stand beside it.
+        return [piece for token in tokens for piece in (token.replace(".", " . ").split() if "." in token and self.chance(0.3) else [token])]
+
+    def module(self):
+        if self.parted.random() < 0.2:
+            tokens = self.parts()
+        else:
+            self.begin()
+            tokens = self.definitions()
         place = self.random.randrange(len(tokens)) if tokens else 0
         if self.chance(0.03):
             del tokens[place]

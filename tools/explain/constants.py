@@ -76,7 +76,7 @@ def not_constant(module):
                 "`sizeof(this)` is the size of the struct's leading fields, and there is no struct here.",
                 "mend: write the number, or `sizeof(T)` of a struct that holds those fields; in a casetype take it as a parameter.",
             ]
-        found = watch.known.globals.get(operand[1])
+        found = watch.known.own(module.name_at(operand[2]))
         why = why_not_constant(watch.known.types, found.number) if found is not None and found.kind == "type" else "it has none"
         return ["`sizeof` is of a type of one size, and `%s` has none: %s." % (operand[1], why), "mend: `sizeof` a type that holds the fields of one size alone."]
     if token[0] == "NUM":
@@ -84,15 +84,15 @@ def not_constant(module):
             for field in fields:
                 if field.width and field.width[2] == at:
                     return width_of_bits(module, field)
-    word = token[1]
-    found = watch.known.globals.get(word)
+    word = module.name_at(at)
+    found = watch.known.own(word)
     lines = ["`%s` is %s, and a constant must stand here: a number, a name from `#define`, or a member of an enum." % (word, "no constant" if found is None else "a " + found.kind)]
     return lines + ["mend: write its number, or `#define` a constant and name that."]
 
 
 def width_of_bits(module, field):
     name = field.type[1]
-    found = module.watch.known.globals.get(name)
+    found = module.watch.known.own(name)
     base = name if name in NUMBER_TYPES else getattr(found, "base", "UINT64")
     width, most = field.width[1], bits_of(base)
     lines = ["A bit field of `%s` has 1 to %d bits, and not %d." % (base, most, width)]

@@ -39,11 +39,20 @@ class AskingParser(Parser):
         # The first token of the last whole expression, and the one after its last.
         self.ended = None, None
 
+    # `module` is a kind here, though it is a NAME: where it is asked for no other NAME may stand.
     def next_is(self, *kinds):
         if self.place != self.asked_at:
             self.asked, self.asked_at = [], self.place
         self.asked += [kind for kind in kinds if kind not in self.asked]
         return super().next_is(*kinds)
+
+    def begins_part(self):
+        self.next_is("module")
+        return super().begins_part()
+
+    def part(self):
+        self.open = []
+        return super().part()
 
     def definition(self):
         first = self.place
@@ -77,7 +86,7 @@ def may_stand(parser):
     """The kinds of token that may stand where the parser was refused, in the order of the page on tokens; `end` is the text's end."""
     kinds = set(parser.asked)
     signs = [sign for sign in PUNCTUATION if sign not in OPERATORS]
-    order = list(CLASSES) + signs + sorted(KEYWORDS) + ["#define"] + list(ARRAY_WORDS) + list(ACTION_WORDS) + OPERATORS
+    order = list(CLASSES) + signs + sorted(KEYWORDS) + ["module", "#define"] + list(ARRAY_WORDS) + list(ACTION_WORDS) + OPERATORS
     found = [kind for kind in order if kind in kinds]
     # A definition may begin where a module may end.
     return found + ["end"] if [name for name, _ in parser.open] == ["definition"] and parser.open[0][1] == parser.place else found

@@ -123,7 +123,7 @@ def completion(here):
     for _ in range(MOST_ENDING):
         parser = AskingParser(tokens, here.at)
         try:
-            parser.module()
+            parser.input()
             return " ".join(words).replace(" ;", ";")
         except ModuleError:
             kind = next((kind for kind in ENDING if kind in parser.asked), None)
@@ -152,7 +152,7 @@ def sign_missing(here):
     """A sign or keyword without which nothing goes on."""
     for kind in here.asked:
         edit = (here.at, here.at, kind + " ")
-        if kind not in ("NAME", "NUM", "INT", "end") and len(here.asked) <= MOST_ASKED and here.module.mends(edit):
+        if kind not in ("NAME", "NUM", "INT", "end", "module", ".") and len(here.asked) <= MOST_ASKED and here.module.mends(edit):
             return advise("`%s` is missing: write it before `%s`." % (kind, here.word()), edit)
     return None
 

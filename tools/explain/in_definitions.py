@@ -6,8 +6,8 @@ from types import SimpleNamespace as Advice
 FIRST_WORDS = {
     "extern": "There is no `extern`: deliver what the function needs by an out-parameter, and call it when the message was accepted.",
     "static_assert": "There are no static assertions: write a `where` over constants, as `where (sizeof(H) == 6)`.",
-    "module": "There is one text: put the other module's definitions first (`cat Base.3d Derived.3d`), and take this line out.",
-    "open": "There is one text: put the other module's definitions first (`cat Base.3d Derived.3d`), and take this line out.",
+    "module": "A text is one module, or it has parts alone: begin the definitions before this one by `module` and a name, too.",
+    "open": "Names of another part aren't opened: take this line out, and write `Base.T` for the `T` of the part `Base`.",
     "export": "There is no `export`: take the word out.",
     "aligned": "There is no `aligned`: take the word out, and write C's padding as fields, as `UINT8 padding[3];`.",
     "generic": "There are no generic types: write a type for each.",
@@ -168,6 +168,15 @@ def struct_without_typedef(here):
     return advise(said, *edits)
 
 
+def other_module(here):
+    """`module B = Base`."""
+    if here.kind != "=" or here.word(-2) != "module" or here.kind_at(-1) != "NAME":
+        return None
+    other = here.word(1)
+    said = "A part has the name that stands behind `module`, and no other: take this line out, and write `%s.T` for the `T` of the part `%s`."
+    return advise(said % (other, other))
+
+
 def first_word(here):
     """A word that begins a definition in another language."""
     if here.innermost() != "definition" or here.kind != "NAME" or "typedef" not in here.asked:
@@ -247,6 +256,7 @@ RULES = [
     constant_value,
     after_constant,
     struct_without_typedef,
+    other_module,
     first_word,
     function,
     other_names,

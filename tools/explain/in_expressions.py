@@ -150,6 +150,20 @@ def bare_assignment(here):
     return None
 
 
+def dot(here):
+    """A dot that joins no two names: `r.f = 1;`, `1.5`, the name of what is defined."""
+    if here.kind != ".":
+        return None
+    if here.innermost() == "statement" and "->" in here.asked:
+        said = "A record's field is written by `->`: write `%s->%s`." % (here.word(-1), here.word(1))
+        return advise(said, (here.begin(), here.end(), "->"))
+    if here.kind_at(-1) == "NUM":
+        return advise("Numbers are whole: take the dot out.")
+    if here.kind_at(-2) == ".":
+        return advise("A name has one dot at most, behind its part's: `%s.%s`." % (here.word(-3), here.word(-1)))
+    return advise("A name with a dot is one that another part defines: what is named here has letters, digits and `_` alone.")
+
+
 def returned_nothing(here):
     if here.kind == ";" and here.kind_at(-1) == "return":
         return advise("A `return` gives a truth value: `return true;` goes on, `return false;` fails as `action`.", (here.end(-1), here.end(-1), " true"))
@@ -171,5 +185,6 @@ RULES = [
     variable,
     loop,
     bare_assignment,
+    dot,
     returned_nothing,
 ]

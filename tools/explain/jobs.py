@@ -175,7 +175,11 @@ def no_entry(job):
     if not names:
         return lines + ["The module has no entry point.", "mend: write `entrypoint` before the `typedef` or `casetype` of the type that is to be run."]
     lines.append("The module's entry points: %s." % ", ".join("`%s`" % name for name in names))
-    near = difflib.get_close_matches(str(job.value.get("entry")).lstrip("_"), names, 1, 0.4) if isinstance(job.value, dict) else names[:1]
+    given = str(job.value.get("entry")).lstrip("_") if isinstance(job.value, dict) else names[0]
+    of_parts = [name for name in names if name.partition(".")[2] == given]
+    if of_parts:
+        return lines + ['mend: write `"entry":"%s"`: of a text of parts the name stands behind its part\'s and a dot.' % of_parts[0]]
+    near = difflib.get_close_matches(given, names, 1, 0.4)
     return lines + ['mend: write `"entry":"%s"`, the name after the `}` and not the one after `struct`.' % (near or names)[0]]
 
 

@@ -1,4 +1,4 @@
-"""Help on N1, N2, N3, N4: names."""
+"""Help on N1 to N5: names."""
 
 import difflib
 
@@ -59,14 +59,109 @@ def names_here(module):
     watch, at = module.watch, module.error.at
     scopes = [scope for _, _, scope in watch.walked] + [found[1] for found in [watch.field_at] if found]
     local = set().union(*[scope.names for scope in scopes]) if scopes else set()
-    return local, {name for name, place in watch.first_places.items() if place < at}
+    return local, {name for name, place in own_names(module).items() if place < at}
+
+
+def own_names(module):
+    """The names that the part of the refusal defines, by their places; all of a module without parts."""
+    begun = module.full("")
+    return {name[len(begun) :]: place for name, place in module.watch.first_places.items() if name.startswith(begun) and "." not in name[len(begun) :]}
+
+
+def names_of_part(module, part):
+    """The names that a part defines, each by its place."""
+    begun = part + "."
+    return {name[len(begun) :]: place for name, place in module.watch.first_places.items() if name.startswith(begun)}
+
+
+def unknown_qualified(module):
+    """Of a qualified name: there is no such part, or it has no such name."""
+    at = module.error.at
+    part, _, name = module.name_at(at).partition(".")
+    parts = [found.name[1] for found in module.parts if found.name is not None]
+    local, known = names_here(module)
+    if part in local and part not in parts:
+        return [
+            "A field of a field has no name here: `%s` is validated as a type of its own, which tells nothing but that it was accepted." % part,
+            "mend: write the fields of `%s` in this struct, and name `%s`; or hand what its test needs to its type as an argument." % (part, name),
+        ]
+    if not parts and name in known:
+        return ["This text is one module, and its names have no dot.", "mend: write `%s`." % name]
+    if not parts:
+        return [
+            "`%s.%s` is the name `%s` of a part `%s`, and this text is one module without parts." % (part, name, name, part),
+            "mend: begin each part of the text by `module` and its name; `td-link` does so with several files.",
+        ]
+    if part not in parts:
+        near = difflib.get_close_matches(part, parts, 1, NEAR)
+        said = "No part of this text is called `%s`; its parts are %s." % (part, quoted(parts[:MOST_NAMES]))
+        does = near and module.mends((at, at + len(part), near[0]))
+        return [said, "mend: write `%s.%s`." % (near[0], name) if does else "mend: add it to the text: `module %s`, and its definitions." % part]
+    names = names_of_part(module, part)
+    near = difflib.get_close_matches(name, names, 1, NEAR)
+    lines = ["The part `%s` defines no `%s`; it defines %s." % (part, name, quoted(list(names)[:MOST_NAMES]) or "nothing")]
+    return lines + ["mend: write `%s.%s`." % (part, near[0]) if near else "mend: define `%s` in the part `%s`." % (name, part)]
+
+
+def name_of_another_part(module, word):
+    """Of a plain name that another part defines; none where no part does."""
+    own = module.part_at(module.error.at)
+    for part in [found.name[1] for found in module.parts if found.name is not None and found.name[1] != own]:
+        if word in names_of_part(module, part):
+            place, new = names_of_part(module, part)[word], "%s.%s" % (part, word)
+            lines = ["`%s` is defined in the part `%s`, at %s: a plain name is looked up in its own part." % (word, part, module.place(place))]
+            does = module.mends((module.error.at, module.error.at + len(word), new))
+            return lines + ["mend: write `%s`." % new if does else "mend: define it here, too, or in a part that both use."]
+    return []
+
+
+def part_twice(module):
+    word, at = module.name_at(module.error.at), module.error.at
+    first = next(part.name[2] for part in module.parts if part.name[1] == word)
+    assert first < at
+    return [
+        "A part `%s` stands first at %s." % (word, module.place(first)),
+        "mend: put these definitions into it, or give this part another name, as `%s`, here and where it is meant." % free_name(module, word),
+    ]
+
+
+def module_cycle(module):
+    """The way by uses from the part that is named back to the one in which the name stands."""
+    at = module.error.at
+    name = module.name_at(at)
+    used = name.split(".")[0]
+    own = module.part_at(at)
+    if used == own:
+        plain = name.split(".")[1]
+        said = "`%s` names the part in which it stands, and a part can't use itself." % name
+        return [said, "mend: write `%s`: a plain name is looked up in its own part." % plain]
+    uses = {part.name[1]: [found for found in part.qualified] for part in module.parts}
+    came, waiting = {used: None}, [used]
+    for part in waiting:
+        for other, place in uses.get(part, []):
+            if other in uses and other not in came:
+                came[other] = (part, place)
+                waiting.append(other)
+    steps, part = [], own
+    while came[part] is not None:
+        before, place = came[part]
+        steps.append("`%s` uses `%s` at %s" % (before, part, module.place(place)))
+        part = before
+    return [
+        "The part `%s` uses `%s` here, and so they wait for each other: %s." % (own, used, ", ".join(reversed(steps))),
+        "mend: put what both need into a part of its own, which uses neither of them.",
+    ]
 
 
 def unknown_name(module):
     text, at = module.text, module.error.at
     word = word_at(text, at)
+    if "." in module.name_at(at):
+        return unknown_qualified(module)
     local, known = names_here(module)
-    lines = []
+    lines = name_of_another_part(module, word)
+    if lines:
+        return lines
     if word in TRUTH:
         return ["There is no type for truth values: they stand in conditions alone.",
                 "mend: take a `UINT8`, test it by `!= 0`, and give `(.. ? 1 : 0)` as its argument."]  # fmt: skip
@@ -133,6 +228,8 @@ def wider_bits(module, word):
 
 
 def name_twice(module):
+    if module.watch is None:
+        return part_twice(module)
     at, text = module.error.at, module.text
     own, first, last = module.definition_at(at)
     index = module.index_at(at)
@@ -143,7 +240,8 @@ def name_twice(module):
     if own is not None and own.kind == "casetype" and module.token(index - 1)[0] == "case":
         return case_twice(module, own, at)
     word = word_at(text, at)
-    firsts = [(module.watch.first_places[word], "name of a definition, constant or member")] if word in module.watch.first_places else []
+    full = module.full(word)
+    firsts = [(module.watch.first_places[full], "name of a definition, constant or member")] if full in module.watch.first_places else []
     if own is not None:
         firsts += [(name[2], what) for name, what, _ in parts_of(own) if name[1] == word]
     earlier = sorted((place, what) for place, what in firsts if place < at)
@@ -166,7 +264,7 @@ def free_name(module, word):
 def constant_number(module, token):
     if token[0] == "NUM":
         return token[1]
-    found = module.watch.known.globals.get(token[1])
+    found = module.watch.known.own(token[1])
     return getattr(found, "value", None)
 
 
@@ -327,4 +425,5 @@ def what_is(word, parameter):
 
 
 def help_of(module):
-    return {"N1": unknown_name, "N2": name_twice, "N3": not_readable, "N4": wrong_arguments}[module.error.code](module)
+    helps = {"N1": unknown_name, "N2": name_twice, "N3": not_readable, "N4": wrong_arguments, "N5": module_cycle}
+    return helps[module.error.code](module)

@@ -5,13 +5,15 @@ import bisect
 from reference.answers import module_of
 from reference.errors import ModuleError
 from reference.expressions import Typing
+from reference.parts import linked
 from reference.rules import Elaborator
-from reference.scopes import Breaches
+from reference.scopes import Breaches, full_name
 from reference.sizes import check_counts
 from reference.tokens import tokens_of
 from reference.trees import LEVELS, Parser
 
-from ..places import place_of, visible
+from ..linked import place_of
+from ..places import visible
 from .grammar import AskingParser
 
 
@@ -69,7 +71,7 @@ class Watch(Elaborator):
         return super().applied(scope, found, field, noted)
 
     def declare(self, name, stands_for, literal=False):
-        self.first_places.setdefault(name[1], name[2])
+        self.first_places.setdefault(self.known.full(name[1]), name[2])
         super().declare(name, stands_for, literal)
 
     def field(self, scope, field, taken, every):
@@ -83,7 +85,7 @@ class Module:
 
     def __init__(self, text):
         self.text, self.error = text, refusal_of(text)
-        self.tokens, self.trees, self.parser, self.watch = [], [], None, None
+        self.tokens, self.trees, self.parts, self.parser, self.watch = [], [], [], None, None
         if self.error is not None:
             self.look()
 
@@ -94,14 +96,17 @@ class Module:
         if self.error.code[0] == "L":
             return
         try:
-            self.trees = self.parser.module()
+            self.parts = self.parser.input()
+            self.trees = [tree for part in self.parts for tree in part.definitions]
+            if self.error.code == "X1" and refused_by_counts(self.trees):
+                return
+            self.trees = linked(self.parts)
         except ModuleError:
-            return
-        if self.error.code == "X1" and refused_by_counts(self.trees):
             return
         self.watch = Watch(self.error.at)
         for tree in self.trees:
             self.watch.definition(tree)
+        self.watch.known.part = self.part_at(self.error.at)
 
     # ---- Tokens.
 
@@ -183,8 +188,26 @@ class Module:
         return None, index, index
 
     def definition_named(self, name):
-        """The first definition of a name."""
-        return next((tree for tree in self.trees if tree.name[1] == name), None)
+        """The first definition of a name, as it stands at the place of the refusal."""
+        full = self.full(name)
+        return next((tree for tree in self.trees if full_name(tree.part, tree.name[1]) == full), None)
+
+    # ---- Parts.
+
+    def part_at(self, at):
+        """The name of the part in which a place lies; None in a module without parts."""
+        found = [part.name[1] for part in self.parts if part.name is not None and part.name[2] <= at]
+        return found[-1] if found else None
+
+    def full(self, name):
+        """A name at the place of the refusal, with its part's."""
+        return full_name(self.part_at(self.error.at), name)
+
+    def name_at(self, at):
+        """The name that begins at a place: two where a dot joins them."""
+        index = self.index_at(at)
+        is_two = self.token(index)[0] == "NAME" and self.token(index + 1)[0] == "." and self.token(index + 2)[0] == "NAME"
+        return self.token(index)[1] + ("." + self.token(index + 2)[1] if is_two else "")
 
 
 def tokens_before(text, at):

@@ -1,6 +1,7 @@
 """Help on K1, K2 and X1: sizes, and limits."""
 
 from reference.sizes import COUNTS, Sizing, action_nodes, definition_nodes, element_kind, field_kind, field_lists, fields_kind, tree_fields
+from reference.scopes import full_name
 
 from .spelling import quoted
 
@@ -100,6 +101,9 @@ def limit_passed(module):
     place = next(place for place, (tree, _, _) in enumerate(module.parser.definitions) if tree.name[2] == module.error.at)
     tree = module.parser.definitions[place][0]
     trees = [found for found, _, _ in module.parser.definitions[: place + 1]]
+    if which in ("cells", "depth", "weight"):
+        # Sizes are told in the order in which parts are taken.
+        trees = module.trees[: next(place for place, found in enumerate(module.trees) if found is tree) + 1]
     count = BY_LIMIT[which](module, tree, trees)
     return count + ["mend: " + MENDS[which]]
 
@@ -155,17 +159,18 @@ def sizes_of(module, trees):
     sizing, seen = Sizing(module.watch.known), {}
     for place, one in enumerate(trees):
         sizing.sizes.append(sizing.definition(one, seen))
-        seen[one.name[1]] = place
+        seen[full_name(one.part, one.name[1])] = place
     return sizing.sizes
 
 
 def depth(module, tree, trees):
     sizes = sizes_of(module, trees)
     wanted, at, chain = sizes[-1].depth, len(trees) - 1, [tree.name[1]]
-    by_name = {one.name[1]: place for place, one in enumerate(trees)}
+    by_name = {full_name(one.part, one.name[1]): place for place, one in enumerate(trees)}
     while wanted > 1:
-        _, first, last = module.parser.definitions[at]
-        named = [by_name[token[1]] for token in module.tokens[first : last + 1] if token[0] == "NAME" and by_name.get(token[1], at) < at]
+        _, first, last = module.definition_at(trees[at].name[2])
+        names = [full_name(trees[at].part, module.name_at(token[2])) for token in module.tokens[first : last + 1] if token[0] == "NAME"]
+        named = [by_name[name] for name in names if by_name.get(name, at) < at]
         at = next((place for place in named if sizes[place].depth == wanted - 1), None)
         if at is None:
             break

@@ -1,7 +1,7 @@
 """Help on Y1 and Y2: numbers, truth values and types, and what is wider than its place."""
 
 from reference.expressions import COMPARED, is_number, type_alone
-from reference.scopes import bits_of
+from reference.scopes import bits_of, full_name
 from reference.sizes import tree_fields
 from reference.tokens import NUMBER_TYPES
 
@@ -149,7 +149,7 @@ def parameter_of_wrong_type(module, own):
     if parameter is None:
         return []
     name = parameter.type[1]
-    found = module.watch.known.globals.get(name)
+    found = module.watch.known.own(name)
     lines = ["`%s` is %s, and `%s` takes another sort of type." % (name, STANDS_FOR.get(getattr(found, "kind", ""), "no type"), parameter_text(parameter))]
     if parameter.mutable:
         said = "a cell is of a number type, `PUINT8` or an output record; for an enum write its number type"
@@ -204,7 +204,7 @@ def bits_of_target(module, own, statement):
         record = module.definition_named(parameter.type[1])
         token = next(slot.type for slot in record.slots if slot.name[1] == statement.field[1])
     name = token[1]
-    found = module.watch.known.globals.get(name)
+    found = module.watch.known.own(name)
     base = name if name in NUMBER_TYPES else getattr(found, "base", None)
     return (0 if token[0] == "PUINT8" else bits_of(base) if base else None), token
 
@@ -251,7 +251,7 @@ def mismatch(module):
     if watch.field_at and watch.field_at[0].type[2] == at:
         return field_of_wrong_type(module, *watch.field_at)
     if own is not None and own.kind == "alias":
-        kind = STANDS_FOR.get(getattr(watch.known.globals.get(own.target[1]), "kind", ""), "no type")
+        kind = STANDS_FOR.get(getattr(watch.known.own(own.target[1]), "kind", ""), "no type")
         said = "`%s` is %s: another name is of a number type, an enum, or a type without parameters." % (own.target[1], kind)
         return [said, "mend: write `%s` itself where `%s` would stand." % (own.target[1], own.name[1])]
     return parameter_of_wrong_type(module, own) or size_of_no_type(module)
@@ -291,7 +291,7 @@ def argument_too_wide(module, found, field, scope):
     tree = next(tree for tree in module.trees if tree.kind in ("struct", "casetype") and tree.name[2] == module.watch.known.types[found.number].at)
     parameter, argument = next((parameter, argument) for parameter, argument in zip(tree.parameters, field.arguments) if argument.first == at)
     bits = type_alone(module.watch.sort_of(argument, scope))
-    base = parameter.type[1] if parameter.type[0] == "INT" else module.watch.known.globals[parameter.type[1]].base
+    base = parameter.type[1] if parameter.type[0] == "INT" else module.watch.known.globals[full_name(tree.part, parameter.type[1])].base
     lines = [width_said(module, argument, bits, "the parameter `%s` of `%s`" % (parameter_text(parameter), name), bits_of(base))]
     new = wider(bits, base)
     edit = (parameter.type[2], parameter.type[2] + len(parameter.type[1]), new)

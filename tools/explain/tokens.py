@@ -2,16 +2,13 @@
 
 import re
 
-from reference.errors import ModuleError
-
 from ..places import visible
-from .grammar import open_at
 
 SUFFIX = re.compile(rb"(0[xX][0-9a-fA-F]+|[0-9]+)([A-Za-z_][A-Za-z0-9_]*)")
 C_SUFFIX = re.compile(r"(?i)(u|l|ul|lu|ull|llu|ll|uy|us|y|s)")
 LARGEST = 2**64 - 1
 DIRECTIVES = {
-    "include": "There is one text: put the other file's definitions before these (`cat Base.3d Derived.3d`).",
+    "include": "There is one text: give both to `td-link`, which makes each a part, and write `Base.T` for the other's `T`.",
     "if": "There is no `#if`: run `cpp -P` over the text first, or take a parameter and a casetype.",
     "pragma": "There are no pragmas: take the line out.",
     "undef": "A constant stays: give the other one another name.",
@@ -59,30 +56,6 @@ def character(module, at):
     return ["mend: " + said]
 
 
-def dot(module, at):
-    """Of a dot."""
-    before = re.search(rb"([A-Za-z_][A-Za-z0-9_]*)$", module.text[:at])
-    after = re.match(rb"\.([A-Za-z_][A-Za-z0-9_]*)", module.text[at:])
-    if not before or not after:
-        return ["mend: A name has letters, digits and `_` alone, and numbers are whole."]
-    owner, name = before[1].decode(), after[1].decode()
-    if in_expression(module):
-        return [
-            "A field of a field has no name here: `%s` is validated as a type of its own, which tells nothing but that it was accepted." % owner,
-            "mend: write the fields of `%s` in this struct, and name `%s`; or hand what its test needs to its type as an argument." % (owner, name),
-        ]
-    return ["mend: There is one text, and names of other files have no dot: put that file's definitions first (`cat Base.3d Derived.3d`), and write `%s`." % name]
-
-
-def in_expression(module):
-    """Whether the tokens so far end in an expression."""
-    try:
-        module.parser.module()
-    except ModuleError:
-        return open_at(module.parser)[-1][0] == "whole"
-    return False
-
-
 def bad_byte(module):
     text, at = module.text, module.error.at
     byte = text[at : at + 1]
@@ -96,8 +69,6 @@ def bad_byte(module):
     said = ["No token begins with the byte 0x%02x%s." % (byte[0], " (`%s`)" % byte.decode() if 32 < byte[0] < 127 else "")]
     if byte == b"'":
         return said + character(module, at)
-    if byte == b".":
-        return said + dot(module, at)
     if byte == b"#":
         word = re.match(rb"#\s*([a-z]*)", text[at:])[1].decode()
         word = {"ifdef": "if", "ifndef": "if", "elif": "if", "else": "if", "endif": "if"}.get(word, word)

@@ -1,6 +1,6 @@
 """Entry points of code as C functions: their declarations for a header, and their bodies."""
 
-from .names import escaped, unique
+from .names import escaped, undotted, unique
 from .routines import function_name
 
 NO_FIELD = 0xFFFFFFFF
@@ -34,7 +34,7 @@ class Entry:
         self.code = code
         self.routine, params, cells = code.entries[number]
         self.type = code.name(code.routines[self.routine][0])
-        self.function = unique("%s_validate_%s" % (prefix, self.type), functions)
+        self.function = unique("%s_validate_%s" % (prefix, undotted(self.type)), functions)
         self.taken = set()
         self.params = [(unique(escaped(code.name(name)), self.taken), bits) for name, bits in params]
         self.numbers, self.records, self.parameters, self.places = [], {}, [], []
@@ -49,7 +49,7 @@ class Entry:
             self.numbers += [own] if bits == 0 else []
             return
         if name not in self.records:
-            title = unique("%s_%s_%s" % (prefix, self.type, name), titles)
+            title = unique("%s_%s_%s" % (prefix, undotted(self.type), name), titles)
             self.records[name] = Record(unique(escaped(name), self.taken), title)
             self.parameters.append("struct %s *%s" % (title, self.records[name].name))
         self.places.append((self.records[name].add(self.code.name(field), bits), bits))

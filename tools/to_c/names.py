@@ -31,6 +31,11 @@ def escaped(name):
     return name + "_" if name in KEYWORDS or TAKEN.fullmatch(name) else name
 
 
+def undotted(name):
+    """A name of a part's type, which has a dot, as a piece of a name of C: a `_` stands in the dot's place."""
+    return name.replace(".", "_")
+
+
 def unique(name, taken):
     """The name, with as many `_` behind it as make it another one than those that are taken; it is taken then."""
     while name in taken:

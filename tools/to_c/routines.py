@@ -2,6 +2,8 @@
 
 import re
 
+from .names import undotted
+
 REASONS = ("TD_NOT_ENOUGH", "TD_IMPOSSIBLE", "TD_LIST_SIZE", "TD_ACTION", "TD_CONSTRAINT", "TD_PADDING")
 # What each operator computes of two registers, and of one with itself where a compiler would warn of that.
 OPERATORS = (
@@ -25,7 +27,7 @@ def number(value):
 
 
 def function_name(code, routine):
-    return "routine_%d_%s" % (routine, code.name(code.routines[routine][0]))
+    return "routine_%d_%s" % (routine, undotted(code.name(code.routines[routine][0])))
 
 
 class Routine:

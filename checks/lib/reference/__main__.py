@@ -1,6 +1,6 @@
-"""Answers an input as `td check` and `td run` do, by the second reading of the language: no program, no proof.
+"""Answers an input as `td check`, `td tidy` and `td run` do, by the second reading of the language: no program, no proof.
 
-usage: python3 checks/lib/reference check < MODULE
+usage: python3 checks/lib/reference check|tidy < MODULE
        python3 checks/lib/reference run < INPUT
        python3 checks/lib/reference host REPORT < INPUT
 
@@ -24,7 +24,7 @@ def report_in(path):
 def main():
     words = sys.argv[1:]
     is_host = len(words) == 2 and words[0] == "host"
-    if words not in (["check"], ["run"]) and not is_host:
+    if words not in (["check"], ["tidy"], ["run"]) and not is_host:
         sys.stderr.write(__doc__[__doc__.index("usage: ") : __doc__.index("\n\nThe exit")] + "\n")
         return 2
     told = report_in(words[1]) if is_host else None

@@ -3,6 +3,7 @@
 import sys
 import threading
 
+from .canonical import canonical
 from .errors import JobError, ModuleError
 from .hosts import Wrong, host_job_of, judge
 from .jobs import job_of
@@ -53,6 +54,13 @@ def checked(text):
     return 0, b"ok definitions %d entries %d\n" % (len(trees), len(known.entries)), b""
 
 
+def tidied(text):
+    try:
+        return 0, canonical(text).encode(), b""
+    except ModuleError as error:
+        return refusal(text, error)
+
+
 def of_input(text, answered):
     """What is answered to the module and the job of an input, or what refuses it."""
     parts = parts_of(text)
@@ -90,7 +98,7 @@ def answer(text, command="run"):
     """The exit status, and what is written to standard output and to standard error."""
     if len(text) > INPUT_LIMIT:
         return 1, b"", b"error Z1 input too long\n"
-    return {"run": reported, "check": checked}[command](text)
+    return {"run": reported, "check": checked, "tidy": tidied}[command](text)
 
 
 def with_room(work):

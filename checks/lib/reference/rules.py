@@ -23,7 +23,7 @@ class Elaborator:
         return local("none")
 
     def is_literal(self, name):
-        found = self.known.globals.get(name)
+        found = self.known.own(name)
         return found is not None and found.kind in ("constant", "member")
 
     # ---- Types.
@@ -202,9 +202,9 @@ class Elaborator:
     # ---- Definitions.
 
     def declare(self, name, stands_for, literal=False):
-        known = self.known
-        self.breaches.note_if(name[1] in known.globals or (literal and name[1] in known.used), "N2", name[2])
-        known.globals.setdefault(name[1], stands_for)
+        known, full = self.known, self.known.full(name[1])
+        self.breaches.note_if(full in known.globals or (literal and full in known.used), "N2", name[2])
+        known.globals.setdefault(full, stands_for)
 
     def constant(self, scope, token):
         """The number at a constant's place; None where it is none."""
@@ -234,7 +234,7 @@ class Elaborator:
 
     def alias(self, tree):
         kind, name, at = tree.target
-        target = meaning("number", None, base=name) if kind == "INT" else self.known.globals.get(name)
+        target = meaning("number", None, base=name) if kind == "INT" else self.known.own(name)
         good = target is not None and target.kind in ("number", "enum", "type")
         if good and target.kind == "type" and self.known.types[target.number].parameters:
             good = False
@@ -250,7 +250,7 @@ class Elaborator:
             name = slot.name[1]
             self.breaches.note_if(any(name == other for other, _ in slots) or self.is_literal(name), "N2", slot.name[2])
             slots.append((name, 0 if slot.type[0] == "PUINT8" else bits_of(slot.type[1])))
-        self.known.used.update(name for name, _ in slots)
+        self.known.used.update(self.known.full(name) for name, _ in slots)
         self.declare(tree.name, meaning("record", self.known.count, slots=slots))
 
     def cases(self, tree, scope, taken, every):
@@ -282,15 +282,15 @@ class Elaborator:
             typing = self.typing(scope)
             sort, guard = typing.walk(tree.guard)
             typing.wanted(tree.guard, sort, True)
-        made = Record(name=tree.name[1], at=tree.name[2], parameters=parameters, cells=cells, guard=guard)
+        made = Record(name=self.known.full(tree.name[1]), at=tree.name[2], parameters=parameters, cells=cells, guard=guard)
         made.switch, made.cases, made.default, made.fields = None, [], None, None
         every = set(taken)
         if tree.kind == "struct":
             made.fields = self.fields(scope, tree.fields, taken, every)
         else:
             made.switch, made.cases, made.default = self.cases(tree, scope, taken, every)
-        self.known.used.update(parameter.name[1] for parameter in tree.parameters)
-        self.known.used.update(self.names)
+        self.known.used.update(self.known.full(parameter.name[1]) for parameter in tree.parameters)
+        self.known.used.update(map(self.known.full, self.names))
         self.declare(tree.name, meaning("type", self.known.count, number=len(self.known.types)))
         if tree.entry:
             self.known.entries.append(len(self.known.types))
@@ -298,6 +298,7 @@ class Elaborator:
         self.known.types.append(made)
 
     def definition(self, tree):
+        self.known.part, self.breaches.turn = tree.part, tree.turn
         if tree.kind == "define":
             self.declare(tree.name, meaning("constant", self.known.count, value=tree.value[1]), literal=True)
         elif tree.kind == "enum":

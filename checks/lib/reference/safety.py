@@ -165,17 +165,22 @@ def fields_unsafe(fields, facts):
                 yield from block_unsafe(part.action, facts)
 
 
+def type_unsafe(made):
+    facts = []
+    if made.guard is not None:
+        yield from unsafe(made.guard, [])
+        facts = facts_of(made.guard, True)
+    yield from unsafe(made.switch, facts)
+    for fields in field_lists(made):
+        yield from fields_unsafe(fields, facts)
+
+
 def module_unsafe(types):
+    """Type by type, each by places."""
     for made in types:
-        facts = []
-        if made.guard is not None:
-            yield from unsafe(made.guard, [])
-            facts = facts_of(made.guard, True)
-        yield from unsafe(made.switch, facts)
-        for fields in field_lists(made):
-            yield from fields_unsafe(fields, facts)
+        yield from sorted(type_unsafe(made))
 
 
 def check_safety(types):
-    for at, operator in sorted(module_unsafe(types))[:1]:
+    for at, operator in module_unsafe(types):
         raise ModuleError("A1", at, "unsafe " + operator)

@@ -18,13 +18,13 @@ RULES = {
 
 
 class Breaches:
-    """The rules that are broken. The earliest place is named, and of several rules there the first."""
+    """The rules that are broken. Of the part that is taken first the earliest place is named, and of several rules there the first."""
 
     def __init__(self):
-        self.found = []
+        self.found, self.turn = [], 0
 
     def note(self, rule, at):
-        self.found.append((at, rule))
+        self.found.append((self.turn, at, rule))
 
     def note_if(self, test, rule, at):
         if test:
@@ -32,7 +32,7 @@ class Breaches:
 
     def refuse_first(self):
         if self.found:
-            at, rule = min(self.found)
+            _, at, rule = min(self.found)
             raise ModuleError(rule, at, RULES[rule])
 
 
@@ -66,16 +66,28 @@ class Scope:
         self.levels += 1
 
 
+def full_name(part, name):
+    """The name of a definition, as it is known in all parts: a qualified name already says its part."""
+    return name if part is None or "." in name else part + "." + name
+
+
 class Known:
-    """What is known after the definitions so far."""
+    """What is known after the definitions so far, each by its full name; and the part that is looked at, None in a module without."""
 
     def __init__(self):
-        self.globals, self.used, self.count = {}, set(), 0
+        self.globals, self.used, self.count, self.part = {}, set(), 0, None
         self.types, self.entries = [], []
+
+    def full(self, name):
+        return full_name(self.part, name)
+
+    def own(self, name):
+        """What a name stands for where no local has it."""
+        return self.globals.get(self.full(name))
 
     def find(self, scope, name):
         """A local hides a definition."""
-        return scope.names.get(name) or self.globals.get(name)
+        return scope.names.get(name) or self.own(name)
 
 
 def bits_of(type_name):

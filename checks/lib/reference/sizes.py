@@ -3,7 +3,7 @@
 from types import SimpleNamespace as Record
 
 from .errors import ModuleError
-from .scopes import bits_of
+from .scopes import bits_of, full_name
 from .values import constant_of
 
 SIZE_LIMIT = 2**32
@@ -139,10 +139,10 @@ class Sizing:
     """The depth and weight of each definition, by what each name in its text names; a local hides a definition."""
 
     def __init__(self, known):
-        self.known, self.sizes = known, []
+        self.known, self.sizes, self.part = known, [], None
 
     def used(self, name, hidden, seen):
-        found = None if name in hidden else seen.get(name)
+        found = None if name in hidden else seen.get(full_name(self.part, name))
         return self.sizes[found] if found is not None else Record(depth=0, weight=0)
 
     def names_in(self, tree):
@@ -186,7 +186,7 @@ class Sizing:
         return self.used(token[1], hidden, seen).depth if token is not None and token[0] == "NAME" else 0
 
     def definition(self, tree, seen):
-        depth, weight, hidden = 0, 32, set()
+        depth, weight, hidden, self.part = 0, 32, set(), tree.part
         if tree.kind == "enum":
             inner = dict(seen)
             for item in tree.items:
@@ -217,7 +217,7 @@ def check_sizes(trees, known):
     for place, tree in enumerate(trees):
         size = sizing.definition(tree, seen)
         sizing.sizes.append(size)
-        seen[tree.name[1]] = place
+        seen[full_name(tree.part, tree.name[1])] = place
         cells = len(next(types).cells) if tree.kind in ("struct", "casetype") else 0
         for which, passed in (("cells", cells > 64), ("depth", size.depth > 32), ("weight", size.weight > 2**40)):
             if passed:

@@ -10,7 +10,7 @@ KEYWORDS = set(
 )
 # A number type's bytes, and whether the byte of most weight stands first.
 NUMBER_TYPES = {"UINT%d%s" % (8 * width, order): (width, order == "BE") for width in (1, 2, 4, 8) for order in ("", "BE")}
-PUNCTUATION = "&& || == != <= >= << >> -> + - * / % & | ^ ~ ! < > = ? : ; , ( ) { } [ ]".split()
+PUNCTUATION = "&& || == != <= >= << >> -> + - * / % & | ^ ~ ! < > = ? : ; , . ( ) { } [ ]".split()
 # These stand only where no letter, digit, `_` or `-` follows.
 ACTION_WORDS = ("{:act", "{:check", "{:on-success")
 ARRAY_WORDS = ("[:byte-size", "[:byte-size-single-element-array", "[:zeroterm-byte-size-at-most")

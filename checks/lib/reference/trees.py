@@ -16,6 +16,7 @@ class Parser:
     def __init__(self, tokens, end):
         self.tokens, self.end, self.place = tokens, end, 0
         self.counted, self.braces = 0, 0
+        self.qualified = []
 
     def at(self):
         return self.tokens[self.place][2] if self.place < len(self.tokens) else self.end
@@ -31,6 +32,14 @@ class Parser:
 
     def take_if(self, *kinds):
         return self.take(*kinds) if self.next_is(*kinds) else None
+
+    def take_named(self, *kinds):
+        """One of these tokens. A NAME may go on with a dot and a second one: together they are a NAME at the place of the first."""
+        kind, spelling, at = self.take(*kinds)
+        if kind == "NAME" and self.take_if("."):
+            self.qualified.append((spelling, at))
+            spelling += "." + self.take("NAME")[1]
+        return kind, spelling, at
 
     def take_counted(self, *kinds):
         """An operator or an opening parenthesis of an expression."""
@@ -84,11 +93,11 @@ class Parser:
             inner = self.expression()
             self.take(")")
             return Tree(**{**vars(inner), "first": opening[2]})
-        token = self.take("NUM", "true", "false", "NAME", "field_pos", "sizeof", "is_range_okay", "(")
+        token = self.take_named("NUM", "true", "false", "NAME", "field_pos", "sizeof", "is_range_okay", "(")
         tree = Tree(kind=token[0], first=token[2], at=token[2], value=token[1], parts=[])
         if token[0] == "sizeof":
             self.take_counted("(")
-            tree.operand = self.take("INT", "NAME", "this")
+            tree.operand = self.take_named("INT", "NAME", "this")
             self.take(")")
         if token[0] == "is_range_okay":
             self.take_counted("(")
@@ -126,7 +135,8 @@ class Parser:
             tree.test = self.whole()
             self.take(")")
             tree.one = self.block()
-            tree.other = self.block() if self.take_if("else") else []
+            tree.has_other = self.take_if("else") is not None
+            tree.other = self.block() if tree.has_other else []
             return tree
         if token[0] == "*":
             tree.name = self.take("NAME")
@@ -163,7 +173,7 @@ class Parser:
         return found
 
     def field(self):
-        base = self.take("INT", "unit", "all_bytes", "all_zeros", "NAME")
+        base = self.take_named("INT", "unit", "all_bytes", "all_zeros", "NAME")
         tree = Tree(type=base, arguments=self.arguments() if base[0] == "NAME" else [])
         tree.name = self.take("NAME")
         tree.array, tree.size, tree.width, tree.refinement, tree.action = None, None, None, None, None
@@ -202,13 +212,13 @@ class Parser:
 
     def parameter(self):
         if self.take_if("mutable"):
-            cell = self.take("INT", "PUINT8", "NAME")
+            cell = self.take_named("INT", "PUINT8", "NAME")
             self.take("*")
             return Tree(mutable=True, type=cell, name=self.take("NAME"))
-        return Tree(mutable=False, type=self.take("INT", "NAME"), name=self.take("NAME"))
+        return Tree(mutable=False, type=self.take_named("INT", "NAME"), name=self.take("NAME"))
 
     def constant(self):
-        return self.take("NUM", "NAME")
+        return self.take_named("NUM", "NAME")
 
     def named_end(self, tree):
         self.take("}")
@@ -218,8 +228,7 @@ class Parser:
 
     def struct(self, entry):
         self.take("struct")
-        self.take("NAME")
-        tree = Tree(kind="struct", entry=entry)
+        tree = Tree(kind="struct", entry=entry, tag=self.take("NAME"))
         tree.parameters, tree.guard = self.head()
         self.take("{")
         tree.fields = self.fields("}")
@@ -227,8 +236,7 @@ class Parser:
 
     def casetype(self, entry):
         self.take("casetype")
-        self.take("NAME")
-        tree = Tree(kind="casetype", entry=entry, cases=[], default=None)
+        tree = Tree(kind="casetype", entry=entry, tag=self.take("NAME"), cases=[], default=None)
         tree.parameters, tree.guard = self.head()
         for kind in ("{", "switch", "("):
             self.take(kind)
@@ -261,9 +269,10 @@ class Parser:
         return tree
 
     def output(self):
-        for kind in ("output", "typedef", "struct", "NAME", "{"):
+        for kind in ("output", "typedef", "struct"):
             self.take(kind)
-        tree = Tree(kind="output", slots=[])
+        tree = Tree(kind="output", tag=self.take("NAME"), slots=[])
+        self.take("{")
         while not tree.slots or not self.next_is("}"):
             base = self.take("INT", "PUINT8")
             tree.slots.append(Tree(type=base, name=self.take("NAME")))
@@ -288,13 +297,32 @@ class Parser:
         self.take("typedef")
         if self.next_is("struct"):
             return self.struct(False)
-        target = self.take("INT", "NAME")
+        target = self.take_named("INT", "NAME")
         tree = Tree(kind="alias", target=target, name=self.take("NAME"))
         self.take(";")
         return tree
 
-    def module(self):
+    def begins_part(self):
+        """Whether the word `module` stands here: a NAME, which begins a part where a definition may stand."""
+        return self.place < len(self.tokens) and self.tokens[self.place][:2] == ("NAME", "module")
+
+    def part(self):
+        """A part: its name, its definitions, and the qualified names in it, each as its first name and the place."""
+        self.take("NAME")
+        tree = Tree(name=self.take("NAME"), definitions=[])
+        self.qualified = []
+        while self.place < len(self.tokens) and not self.begins_part():
+            tree.definitions.append(self.definition())
+        tree.qualified = self.qualified
+        return tree
+
+    def input(self):
+        """The parts of an input. A module is one without a name."""
         found = []
+        if not self.begins_part():
+            while self.place < len(self.tokens):
+                found.append(self.definition())
+            return [Tree(name=None, definitions=found, qualified=self.qualified)]
         while self.place < len(self.tokens):
-            found.append(self.definition())
+            found.append(self.part())
         return found

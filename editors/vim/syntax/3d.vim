@@ -10,10 +10,13 @@ syntax iskeyword a-z,A-Z,48-57,_
 
 " A byte that begins no token, and a number that runs into a name.
 syntax match threedError "[^ \t\r0-9A-Za-z_(){}\[\]<>=!&|^~+*/%?:;,.-]"
-syntax match threedError "\."
+" So is a dot behind which no name stands.
+syntax match threedError "\.\%(\_s*[A-Za-z_/]\)\@!"
 syntax match threedError "\<\d\w*"
 
 syntax keyword threedStructure typedef struct casetype enum output mutable entrypoint where
+" It begins a part where a name follows and is no field: it is no keyword.
+syntax match threedStructure "^\s*\zsmodule\ze\s\+\h\w*\>\%(\s*[:;{\[]\)\@!"
 syntax keyword threedConditional switch if else
 syntax keyword threedLabel case default
 syntax keyword threedStatement return abort var
