@@ -1,5 +1,9 @@
--- The types of expressions.
-use Rattle.std.specs.Prelude.{ℕ, ◌^◌, cond, nat_le}
+-- The types of expressions, and `UINT8`.
+use Rattle.std.specs.Prelude.{ℕ, ◌^◌, Bool, true, false, cond, nat_le}
+use Rattle.td_num.specs.declared.number.Width.{Width}
+use Rattle.td_num.specs.declared.number.Width.TheVariants.{One}
+use Rattle.td_num.specs.declared.number.ByteOrder.{ByteOrder}
+use Rattle.td_num.specs.declared.number.ByteOrder.TheVariants.{LittleEndian}
 use Rattle.td_core.specs.Term.{Term, number, name, complement, negation, compute, compare, both, either, choice, range_okay}
 use Rattle.td_core.specs.declared.expressions.Scalar.{Scalar}
 use Rattle.td_core.specs.declared.expressions.Scalar.TheVariants.{Truth, Eight, Sixteen, ThirtyTwo, SixtyFour}
@@ -45,3 +49,8 @@ type_of (both a b) = Truth
 type_of (either a b) = Truth
 type_of (choice c a b) = wider (type_of a) (type_of b)
 type_of (range_okay s o a) = Truth
+
+-- `UINT8`
+abbrev pub is_octet : Width → ByteOrder → Bool
+is_octet One LittleEndian = true
+is_octet width order = false

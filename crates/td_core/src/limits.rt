@@ -1,6 +1,6 @@
-//! What a module and its text hold at most: the one home of these nine numbers (own rule). Each is refused by td_limits, as X1 at
-//! the name of the definition in which it is passed: the first six by count, before names and types are looked at, the last three
-//! by size. The verifier refuses code past two of them; the format of images has numbers of its own.
+//! What a module and its text hold at most: the one home of these ten numbers (own rule). Each but the room of a
+//! copy buffer is refused by td_limits, as X1 at the name of the definition in which it is passed: the first six by count, before
+//! names and types are looked at, the last three by size. The verifier refuses code past two of them; the format of images has numbers of its own.
 
 /// Definitions of a text: X1 `limit definitions`.
 pub const MOST_DEFINITIONS: u64 = 4_000;
@@ -18,6 +18,8 @@ pub const MOST_NODES: u64 = 60_000;
 pub const MOST_ACTION_NODES: u64 = 20_000;
 /// Cells of a definition: X1 `limit cells`.
 pub const MOST_CELLS: u64 = 64;
+/// The room of a copy buffer, in bytes.
+pub const MOST_ROOM: u64 = 65_536;
 /// Definitions within one another: X1 `limit depth`. Routines within one another: rule V3.
 pub const MOST_DEPTH: u64 = 32;
 /// The weight of a definition, which bounds how many instructions its code has: X1 `limit weight`. Of a routine: rule V6.

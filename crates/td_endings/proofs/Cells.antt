@@ -58,17 +58,17 @@ on_both (Rejected reason q trace cells) P Q h g = tt
 
 -- ---- cells
 
-set_small : (cells : List ℕ) (i v : ℕ) → v < 2 ^ 64 → Each (λ x. x < 2 ^ 64) cells → Each (λ x. x < 2 ^ 64) (slice_set cells i v)
+pub set_small : (cells : List ℕ) (i v : ℕ) → v < 2 ^ 64 → Each (λ x. x < 2 ^ 64) cells → Each (λ x. x < 2 ^ 64) (slice_set cells i v)
 set_small [] i v lt h = tt
 set_small (c ∷ cs) zero v lt h = (lt, h.1)
 set_small (c ∷ cs) (suc i) v lt h = (h.0, set_small cs i v lt h.1)
 
-set_count : (cells : List ℕ) (i v : ℕ) → length (slice_set cells i v) ≡ length cells
+pub set_count : (cells : List ℕ) (i v : ℕ) → length (slice_set cells i v) ≡ length cells
 set_count [] i v = refl
 set_count (c ∷ cs) zero v = refl
 set_count (c ∷ cs) (suc i) v = ap suc (set_count cs i v)
 
-number_small : (e : Term) (env : List ℕ) → Sound e env → natural_of e env < 2 ^ 64
+pub number_small : (e : Term) (env : List ℕ) → Sound e env → natural_of e env < 2 ^ 64
 number_small e env s = let lt = below_limit (type_of e) (value_of e env) (in_type e env s) in omega (arith, lt, limit_small (type_of e))
 
 abbrev pub EffectCells : ℕ → Effect → Type 0

@@ -1,25 +1,27 @@
 -- How what stands in a field ends.
-use Rattle.std.proofs.Common.{◌≡◌, ℕ, zero, suc, ◌+◌, ◌-◌, ◌/◌, ◌<◌, ◌≤◌, min, Bool, true, false, cond, List, map, refl, subst, arith, Option, Some, None, nat_eq, nat_le, slice_index, mul-le-mul_right, div-mul-le_self}
+use Rattle.std.proofs.Common.{◌≡◌, ℕ, zero, suc, ◌+◌, ◌-◌, ◌/◌, ◌^◌, ◌∙◌, ◌<◌, ◌≤◌, min, Bool, true, false, cond, List, [], ◌∷◌, length, map, refl, ap, subst, arith, Option, Some, None, nat_eq, nat_le, slice_index, slice_set, mul-le-mul_right, div-mul-le_self}
+use Rattle.std.proofs.lemmas.Option.{none-some, same_Some}
 use Rattle.td_num.specs.Numbers.{bytes_in, number_at, places_from}
 use Rattle.td_num.specs.Lists.{is_among}
 use Rattle.td_core.specs.declared.module.Element.{Element}
 use Rattle.td_core.specs.declared.module.Element.TheVariants.{Number, Listed, Named, Unit as UnitElement, Rest, Zeros}
 use Rattle.td_core.specs.declared.module.Extent.{Extent}
 use Rattle.td_core.specs.declared.module.Extent.TheVariants.{Once, Filling, OnceFilling, UpToZero}
+use Rattle.td_core.specs.declared.module.CopyOut.{CopyOut}
 use Rattle.td_core.specs.declared.outcome.Reason.TheVariants.{Constraint, ListSize}
 use Rattle.td_core.specs.Outcome.{Behavior, Ending, accepted, after_reading, and_then}
 use Rattle.td_expr.specs.Sound.{Sound}
 use Rattle.td_meaning.specs.Doing.{natural_of}
-use Rattle.td_meaning.specs.Meaning.{Sense, numbers_at, first_where, demanded, taken, values_of, byte_type, is_nonzero, zeros_end, values, element_meaning, elements, divides, equals, zero_end, element_up_to_zero, shape_meaning}
-use Rattle.td_meaning.specs.Throughout.{Through, OnEnding, OnElement, OnElements, OnShape}
+use Rattle.td_meaning.specs.Meaning.{Sense, numbers_at, first_where, demanded, taken, values_of, byte_type, is_nonzero, zeros_end, values, element_meaning, elements, divides, equals, zero_end, element_up_to_zero, shape_meaning, with_copy, content_meaning}
+use Rattle.td_meaning.specs.Throughout.{Through, OnEnding, OnElement, OnElements, OnShape, OnContent}
 use Rattle.td_endings.specs.Endings.{AreCells, IsEndingWithin}
-use Rattle.td_endings.proofs.Cells.{within_more, within_then, within_demanded, within_taken, demanded_at, on_both}
+use Rattle.td_endings.proofs.Cells.{within_more, within_then, within_demanded, within_taken, demanded_at, on_both, set_small, set_count, number_small}
 use Rattle.td_meaning.proofs.Filling.{found_below, count_of}
 
 -- a definition ends so, where what it evaluates lies in its range
 abbrev pub IsGood : ℕ → List ℕ → Sense → Through → Type 0
 IsGood count message sense through =
-    (args places cells : List ℕ) (p end : ℕ) → p ≤ end → AreCells count cells → through args places cells message p end → IsEndingWithin end count (sense args places cells message p end).ending
+    (args places cells : List ℕ) (p end : ℕ) → p ≤ end → end < 2 ^ 64 → AreCells count cells → through args places cells message p end → IsEndingWithin end count (sense args places cells message p end).ending
 
 zeros_within : (end count p : ℕ) (message cells : List ℕ) → p ≤ end → AreCells count cells → (o : Option ℕ) → first_where is_nonzero (numbers_at byte_type message p (end - p)) ≡ o → IsEndingWithin end count (zeros_end o end p cells).ending
 zeros_within end count p message cells le small None e = (omega arith, small)
@@ -36,20 +38,20 @@ zero_within end count w bound p cells (Some k) h le small =
     (omega (arith, more, room, le), small)
 
 module _ (count : ℕ) (sets : List (List ℕ)) (senses : ℕ → Sense) (throughs : ℕ → Through) (message : List ℕ) (good : (j : ℕ) → IsGood count message (senses j) (throughs j)) (env places : List ℕ) where
-  element_within : (element : Element) (start end p : ℕ) (cells : List ℕ) → start ≤ end → p ≤ end → AreCells count cells → OnElement Sound throughs element env places message end p cells
+  element_within : (element : Element) (start end p : ℕ) (cells : List ℕ) → start ≤ end → p ≤ end → end < 2 ^ 64 → AreCells count cells → OnElement Sound throughs element env places message end p cells
       → IsEndingWithin end count (element_meaning sets senses element env places message start end p cells).ending
-  element_within (Number type) start end p cells before le small h = within_taken end count (bytes_in type.width) start p cells before small
-  element_within (Listed base k) start end p cells before le small h =
+  element_within (Number type) start end p cells before le low small h = within_taken end count (bytes_in type.width) start p cells before small
+  element_within (Listed base k) start end p cells before le low small h =
       let ok = is_among (values_of sets k) (number_at base message p) in
       let first = taken (bytes_in base.width) start end p cells in
       within_then end count first.ending first.reads (λ q cells. after_reading (places_from p (bytes_in base.width)) (demanded Constraint ok start q cells))
       (λ q more. q ≡ p + bytes_in base.width) (within_taken end count (bytes_in base.width) start p cells before small)
       (demanded_at _ (nat_le (p + bytes_in base.width) end) start (p + bytes_in base.width) cells)
       (λ q more at few on. within_demanded end count Constraint ok start q more before (λ t. at) few)
-  element_within (Named j args own) start end p cells before le small h = good j (values args env) (map (slice_index places) own) cells p end le small h.1
-  element_within UnitElement start end p cells before le small h = (le, small)
-  element_within Rest start end p cells before le small h = (omega arith, small)
-  element_within Zeros start end p cells before le small h = zeros_within end count p message cells le small (first_where is_nonzero (numbers_at byte_type message p (end - p))) refl
+  element_within (Named j args own) start end p cells before le low small h = good j (values args env) (map (slice_index places) own) cells p end le low small h.1
+  element_within UnitElement start end p cells before le low small h = (le, small)
+  element_within Rest start end p cells before le low small h = (omega arith, small)
+  element_within Zeros start end p cells before le low small h = zeros_within end count p message cells le small (first_where is_nonzero (numbers_at byte_type message p (end - p))) refl
 
   elements_within : (through : ℕ → List ℕ → Type 0) (each : ℕ → List ℕ → Behavior) (start end : ℕ) → start ≤ end
       → ((q : ℕ) (cells : List ℕ) → q ≤ end → AreCells count cells → through q cells → IsEndingWithin end count (each q cells).ending)
@@ -78,10 +80,10 @@ module _ (count : ℕ) (sets : List (List ℕ)) (senses : ℕ → Sense) (throug
   up_to_zero_within Rest size end p cells le small = (le, (tt, small))
   up_to_zero_within Zeros size end p cells le small = (le, (tt, small))
 
-  pub shape_within : (element : Element) (extent : Extent) (end p : ℕ) (cells : List ℕ) → p ≤ end → AreCells count cells → OnShape Sound sets senses throughs element extent env places message end p cells
+  pub shape_within : (element : Element) (extent : Extent) (end p : ℕ) (cells : List ℕ) → p ≤ end → end < 2 ^ 64 → AreCells count cells → OnShape Sound sets senses throughs element extent env places message end p cells
       → IsEndingWithin end count (shape_meaning sets senses element extent env places message end p cells).ending
-  shape_within element Once end p cells le small h = element_within element p end p cells le le small h
-  shape_within element (Filling size step) end p cells le small h =
+  shape_within element Once end p cells le low small h = element_within element p end p cells le le low small h
+  shape_within element (Filling size step) end p cells le low small h =
       let m = natural_of size env in
       let each = element_meaning sets senses element env places message p in
       let ok = divides step m in
@@ -91,12 +93,13 @@ module _ (count : ℕ) (sets : List (List ℕ)) (senses : ℕ → Sense) (throug
       (within_taken end count m p p cells le small) (on_both room.ending (λ q more. q ≡ p + m) Then (demanded_at _ (nat_le (p + m) end) p (p + m) cells) h.1)
       (λ q more at few on.
       let enough : p ≤ q = omega (arith, on.0) in
+      let short : q < 2 ^ 64 = omega (arith, at, low) in
       let test = demanded ListSize ok p p more in
       let Elements : ℕ → List ℕ → Type 0 = OnElements Sound (OnElement Sound throughs element env places message q) (each q) (suc m) q in
       within_more q end count (and_then test (elements (each q) (suc m) p q)).ending at
       (within_then q count test.ending test.reads (elements (each q) (suc m) p q) Elements (within_demanded q count ListSize ok p p more enough (λ t. enough) few) on.1
-      (λ r last there few on. elements_within (OnElement Sound throughs element env places message q) (each q) p q enough (λ x cells at small g. element_within element p q x cells enough at small g) (suc m) r last there few on)))
-  shape_within element (OnceFilling size step) end p cells le small h =
+      (λ r last there few on. elements_within (OnElement Sound throughs element env places message q) (each q) p q enough (λ x cells at small g. element_within element p q x cells enough at short small g) (suc m) r last there few on)))
+  shape_within element (OnceFilling size step) end p cells le low small h =
       let m = natural_of size env in
       let each = element_meaning sets senses element env places message p in
       let ok = equals step m in
@@ -106,14 +109,35 @@ module _ (count : ℕ) (sets : List (List ℕ)) (senses : ℕ → Sense) (throug
       (within_taken end count m p p cells le small) (on_both room.ending (λ q more. q ≡ p + m) Then (demanded_at _ (nat_le (p + m) end) p (p + m) cells) h.1)
       (λ q more at few on.
       let enough : p ≤ q = omega (arith, on.0) in
+      let short : q < 2 ^ 64 = omega (arith, at, low) in
       let test = demanded ListSize ok p p more in
       let rest : ℕ → List ℕ → Behavior = λ x more. and_then (each q x more) (λ r more. demanded ListSize (nat_eq r q) p r more) in
       within_more q end count (and_then test rest).ending at
       (within_then q count test.ending test.reads rest (OnElement Sound throughs element env places message q) (within_demanded q count ListSize ok p p more enough (λ t. enough) few) on.1
       (λ x last there few on. within_then q count (each q x last).ending (each q x last).reads (λ r more. demanded ListSize (nat_eq r q) p r more) (λ r more. Unit {0})
-      (element_within element p q x last enough there few on) (anywhere (each q x last).ending) (λ r final here few on. within_demanded q count ListSize (nat_eq r q) p r final enough (λ t. here) few))))
+      (element_within element p q x last enough there short few on) (anywhere (each q x last).ending) (λ r final here few on. within_demanded q count ListSize (nat_eq r q) p r final enough (λ t. here) few))))
     where
       anywhere : (o : Ending) → OnEnding o (λ r more. Unit {0})
       anywhere (Rattle.td_core.specs.Outcome.Accepted q cells) = tt
       anywhere (Rattle.td_core.specs.Outcome.Rejected reason q trace cells) = tt
-  shape_within element (UpToZero size) end p cells le small h = up_to_zero_within element (natural_of size env) end p cells le small
+  shape_within element (UpToZero size) end p cells le low small h = up_to_zero_within element (natural_of size env) end p cells le small
+
+  copy_cells : (c : CopyOut) (p n : ℕ) (cells : List ℕ) → p < 2 ^ 64 → n < 2 ^ 64 → AreCells count cells → AreCells count (with_copy c places p n cells)
+  copy_cells c p n cells low few small =
+      let i = slice_index places c.cell in
+      let j = slice_index places (c.cell + 1) in
+      let once = slice_set cells i p in
+      (set_count once j n ∙ set_count cells i p ∙ small.0, set_small once j n few (set_small cells i p low small.1))
+
+  pub content_within : (element : Element) (extent : Extent) (copy : Option CopyOut) (end p : ℕ) (cells : List ℕ) → p ≤ end → end < 2 ^ 64 → AreCells count cells
+      → OnContent Sound sets senses throughs element extent copy env places message end p cells → IsEndingWithin end count (content_meaning sets senses element extent copy env places message end p cells).ending
+  content_within element extent None end p cells le low small h = shape_within element extent end p cells le low small h
+  content_within element (Filling size step) (Some c) end p cells le low small h =
+      let m = natural_of size env in
+      let room = taken m p end p cells in
+      let start : p < 2 ^ 64 = omega (arith, le, low) in
+      within_then end count room.ending room.reads (λ q more. after_reading (places_from p m) (accepted q (with_copy c places p m more))) (λ q more. q ≡ p + m)
+      (within_taken end count m p p cells le small) (demanded_at _ (nat_le (p + m) end) p (p + m) cells) (λ q more at few on. (at, copy_cells c p m more start (number_small size env h.0) few))
+  content_within element Once (Some c) end p cells le low small h = shape_within element Once end p cells le low small h
+  content_within element (OnceFilling size step) (Some c) end p cells le low small h = shape_within element (OnceFilling size step) end p cells le low small h
+  content_within element (UpToZero size) (Some c) end p cells le low small h = shape_within element (UpToZero size) end p cells le low small h

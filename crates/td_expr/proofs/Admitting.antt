@@ -2,6 +2,7 @@
 use Rattle.std.proofs.Common.{◌≡◌, Bool, true, false, refl, sym, List, ◌++◌, Option, Some, None}
 use Rattle.std.proofs.lemmas.Option.{none-some}
 use Rattle.td_expr.specs.declared.safety.Unsafe.{Unsafe}
+use Rattle.td_expr.specs.declared.safety.Unsafe.TheVariants.{Operator}
 use Rattle.td_core.specs.Term.{Term, number, name, complement, negation, compute, compare, both, either, choice, range_okay}
 use Rattle.td_expr.specs.Facts.{Fact, facts_of}
 use Rattle.td_expr.specs.Safe.{is_safe, AllSafe, first, unless_safe, first_unsafe}
@@ -22,7 +23,7 @@ all_safe (name i w most) fs h = tt
 all_safe (complement a) fs h = all_safe a fs h
 all_safe (negation a) fs h = all_safe a fs h
 all_safe (compute op span a b) fs h =
-    let u : Unsafe = record { span = span; op = op } in
+    let u : Unsafe = Operator span op in
     let here = unless_safe (is_safe fs op a b) u in
     let l = neither (first_unsafe fs a) (first here (first_unsafe fs b)) h in
     let m = neither here (first_unsafe fs b) l.1 in

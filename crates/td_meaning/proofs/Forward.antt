@@ -9,6 +9,7 @@ use Rattle.td_core.specs.Term.{Term}
 use Rattle.td_core.specs.declared.module.NameId.{NameId}
 use Rattle.td_core.specs.declared.module.Element.{Element}
 use Rattle.td_core.specs.declared.module.Element.TheVariants.{Number, Listed, Named, Unit as UnitElement, Rest, Zeros}
+use Rattle.td_core.specs.declared.module.CopyOut.{CopyOut}
 use Rattle.td_core.specs.declared.module.Extent.{Extent}
 use Rattle.td_core.specs.declared.module.Extent.TheVariants.{Once, Filling, OnceFilling, UpToZero}
 use Rattle.td_core.specs.declared.module.Field.{Field}
@@ -20,22 +21,22 @@ use Rattle.td_core.specs.declared.outcome.Reason.TheVariants.{NotEnough, Constra
 use Rattle.td_core.specs.Outcome.{Behavior, FramePlace, Ending, Accepted, Rejected, accepted, rejected, and_then, onward, within, after_reading}
 use Rattle.td_meaning.specs.Doing.{natural_of, is_true}
 use Rattle.td_meaning.specs.Naming.{is_needed}
-use Rattle.td_meaning.specs.Meaning.{Sense, values, values_of, taken, demanded, is_nonzero, byte_type, zeros_end, first_where, looked_at, one_more, run_of, numbers_at, zeros_meaning, element_meaning, elements, divides, equals, zero_end, up_to_zero, element_up_to_zero, shape_meaning, refined, parts_meaning, field_number, number_places, extended, field_place, where_place, first_name, fields_meaning, case_for, chosen_meaning, body_meaning, definition_meaning, below, pick, entry_place, meaning}
+use Rattle.td_meaning.specs.Meaning.{Sense, values, values_of, taken, demanded, is_nonzero, byte_type, zeros_end, first_where, looked_at, one_more, run_of, numbers_at, zeros_meaning, element_meaning, elements, divides, equals, zero_end, up_to_zero, element_up_to_zero, shape_meaning, with_copy, copied_meaning, content_meaning, refined, parts_meaning, field_number, number_places, extended, field_place, where_place, first_name, fields_meaning, case_for, chosen_meaning, body_meaning, definition_meaning, below, pick, entry_place, meaning}
 use Rattle.td_meaning.specs.Throughout.{OnEnding}
 use Rattle.td_meaning.specs.Deciding.{SameAt}
 use Rattle.td_meaning.specs.Forward.{IsAt, ReadsGoForward, ReadsAreWithin}
 use Rattle.td_meaning.proofs.Ending.{on_map, on_within}
-use Rattle.td_meaning.proofs.Inside.{Among, Inside, wider, inside_then, inside_within, inside_demanded, taken_at, elements_inside, parts_inside, AllInside, element_inside, shape_inside, fields_inside, below_inside, unframed}
+use Rattle.td_meaning.proofs.Inside.{Among, Inside, wider, inside_then, inside_within, inside_demanded, taken_at, elements_inside, parts_inside, AllInside, element_inside, shape_inside, content_inside, fields_inside, below_inside, unframed}
 use Rattle.td_meaning.proofs.Deciding.{number_same, looked_more, reads_decide}
 
 -- Places
 
-at_left : (k : ℕ) (xs ys : List ℕ) → IsAt k xs → IsAt k (xs ++ ys)
+pub at_left : (k : ℕ) (xs ys : List ℕ) → IsAt k xs → IsAt k (xs ++ ys)
 at_left k [] ys h = absurd h
 at_left k (x ∷ xs) ys (inl e) = inl e
 at_left k (x ∷ xs) ys (inr h) = inr (at_left k xs ys h)
 
-at_right : (k : ℕ) (xs ys : List ℕ) → IsAt k ys → IsAt k (xs ++ ys)
+pub at_right : (k : ℕ) (xs ys : List ℕ) → IsAt k ys → IsAt k (xs ++ ys)
 at_right k [] ys h = h
 at_right k (x ∷ xs) ys h = inr (at_right k xs ys h)
 
@@ -415,13 +416,45 @@ module _ (b c : List ℕ) (q : ℕ) (alike : (k : ℕ) → k < q → slice_index
     field_number_alike Rest extent env places end p r cells more e le = refl
     field_number_alike Zeros extent env places end p r cells more e le = refl
 
+    content_near : (element : Element) (extent : Extent) (copy : Option CopyOut) (env places : List ℕ) (end p : ℕ) (cells : List ℕ) → p ≤ end
+        → Near (content_meaning sets senses element extent copy env places b end p cells) (content_meaning sets senses element extent copy env places c end p cells)
+    content_near element extent None env places end p cells le = shape_near element extent env places end p cells le
+    content_near element (Filling size step) (Some o) env places end p cells le = inl refl
+    content_near element Once (Some o) env places end p cells le = shape_near element Once env places end p cells le
+    content_near element (OnceFilling size step) (Some o) env places end p cells le = shape_near element (OnceFilling size step) env places end p cells le
+    content_near element (UpToZero size) (Some o) env places end p cells le = shape_near element (UpToZero size) env places end p cells le
+
+    content_numbers : (need : Bool) (element : Element) (extent : Extent) (copy : Option CopyOut) (env places : List ℕ) (end p : ℕ) (cells : List ℕ)
+        → (content_meaning sets senses element extent copy env places b end p cells ≡ content_meaning sets senses element extent copy env places c end p cells) ⊎ (number_places need element extent p ≡ [])
+    content_numbers need element extent None env places end p cells = numbers need element extent env places end p cells
+    content_numbers need element (Filling size step) (Some o) env places end p cells = inl refl
+    content_numbers need element Once (Some o) env places end p cells = numbers need element Once env places end p cells
+    content_numbers need element (OnceFilling size step) (Some o) env places end p cells = numbers need element (OnceFilling size step) env places end p cells
+    content_numbers need element (UpToZero size) (Some o) env places end p cells = numbers need element (UpToZero size) env places end p cells
+
+    filling_alike : (element : Element) (size : Term) (step : Option ℕ) (p : ℕ) → field_number element (Filling size step) b p ≡ field_number element (Filling size step) c p
+    filling_alike (Number type) size step p = refl
+    filling_alike (Listed base k) size step p = refl
+    filling_alike (Named j args own) size step p = refl
+    filling_alike UnitElement size step p = refl
+    filling_alike Rest size step p = refl
+    filling_alike Zeros size step p = refl
+
+    content_number_alike : (element : Element) (extent : Extent) (copy : Option CopyOut) (env places : List ℕ) (end p r : ℕ) (cells more : List ℕ)
+        → (content_meaning sets senses element extent copy env places b end p cells).ending ≡ Accepted r more → r ≤ q → field_number element extent b p ≡ field_number element extent c p
+    content_number_alike element extent None env places end p r cells more e le = field_number_alike element extent env places end p r cells more e le
+    content_number_alike element (Filling size step) (Some o) env places end p r cells more e le = filling_alike element size step p
+    content_number_alike element Once (Some o) env places end p r cells more e le = field_number_alike element Once env places end p r cells more e le
+    content_number_alike element (OnceFilling size step) (Some o) env places end p r cells more e le = field_number_alike element (OnceFilling size step) env places end p r cells more e le
+    content_number_alike element (UpToZero size) (Some o) env places end p r cells more e le = field_number_alike element (UpToZero size) env places end p r cells more e le
+
     fields_near : (ty : NameId) (fs : List Field) (env places : List ℕ) (end p : ℕ) (cells : List ℕ) → p ≤ end → Near (fields_meaning sets senses ty fs env places b end p cells) (fields_meaning sets senses ty fs env places c end p cells)
     unfolding fields_meaning
     fields_near ty [] env places end p cells le = inl refl
     fields_near ty (x ∷ later) env places end p cells le =
         let site = field_place ty (first_name x.parts) p in
-        let t = shape_meaning sets senses x.element x.extent env places b end p cells in
-        let u = shape_meaning sets senses x.element x.extent env places c end p cells in
+        let t = content_meaning sets senses x.element x.extent x.copy env places b end p cells in
+        let u = content_meaning sets senses x.element x.extent x.copy env places c end p cells in
         let v = field_number x.element x.extent b p in
         let v' = field_number x.element x.extent c p in
         let reads = number_places (is_needed (length env) x.parts later) x.element x.extent p in
@@ -430,8 +463,8 @@ module _ (b c : List ℕ) (q : ℕ) (alike : (k : ℕ) → k < q → slice_index
         inside_then r end (parts_meaning ty p n x.parts env places r more) (fields_meaning sets senses ty later (extended env n x.parts) places message end)
         (parts_inside ty p n r end x.parts env places r more (omega arith) hi)
         (λ s last f from to. wider s end r end (fields_meaning sets senses ty later (extended env n x.parts) places message end s last) from (omega arith) (fields_inside message sets senses i ty later (extended env n x.parts) places end s last to)) in
-        let ti = inside_within p end site t (shape_inside b sets senses one x.element x.extent env places end p cells le) in
-        let ui = inside_within p end site u (shape_inside c sets senses other x.element x.extent env places end p cells le) in
+        let ti = inside_within p end site t (content_inside b sets senses one x.element x.extent x.copy env places end p cells le) in
+        let ui = inside_within p end site u (content_inside c sets senses other x.element x.extent x.copy env places end p cells le) in
         let rest_near : (r : ℕ) (more : List ℕ) → r ≤ end → (r ≤ q → v ≡ v') → Near (go b v r more) (go c v' r more) = λ r more hi same.
         elim (cases_lt q r) [
           | inl past ↦ inr (apart_from r end (go b v r more) (go c v' r more) past (rest_inside b one v r more hi) (rest_inside c other v' r more hi))
@@ -442,8 +475,8 @@ module _ (b c : List ℕ) (q : ℕ) (alike : (k : ℕ) → k < q → slice_index
               fields_near ty later (extended env v x.parts) places end s last at.1))
         ] in
         let number_same_at : (r : ℕ) (more : List ℕ) → (within site t).ending ≡ Accepted r more → r ≤ q → v ≡ v' = λ r more e before.
-        field_number_alike x.element x.extent env places end p r cells more (unframed b sets senses one site t.ending r more e) before in
-        elim (numbers (is_needed (length env) x.parts later) x.element x.extent env places end p cells) [
+        content_number_alike x.element x.extent x.copy env places end p r cells more (unframed b sets senses one site t.ending r more e) before in
+        elim (content_numbers (is_needed (length env) x.parts later) x.element x.extent x.copy env places end p cells) [
           | inl e ↦ subst (λ s. Near (and_then (within site t) (λ r cells. after_reading reads (go b v r cells))) (and_then (within site s) (λ r cells. after_reading reads (go c v' r cells)))) e
               (near_after (within site t) (λ r cells. after_reading reads (go b v r cells)) (λ r cells. after_reading reads (go c v' r cells))
               (λ r more f.
@@ -451,7 +484,7 @@ module _ (b c : List ℕ) (q : ℕ) (alike : (k : ℕ) → k < q → slice_index
               near_reading reads (go b v r more) (go c v' r more) (rest_near r more at.1 (number_same_at r more f))))
           | inr none ↦ subst (λ xs. Near (and_then (within site t) (λ r cells. after_reading xs (go b v r cells))) (and_then (within site u) (λ r cells. after_reading xs (go c v' r cells)))) (sym none)
               (followed site t u (λ r cells. after_reading [] (go b v r cells)) (λ r cells. after_reading [] (go c v' r cells)) p end
-              (shape_near x.element x.extent env places end p cells le) ti ui
+              (content_near x.element x.extent x.copy env places end p cells le) ti ui
               (λ r more lo hi. rest_inside b one v r more hi) (λ r more lo hi. rest_inside c other v' r more hi)
               (λ r more f hi. rest_near r more hi (number_same_at r more f)))
         ]

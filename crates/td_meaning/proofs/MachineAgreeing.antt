@@ -8,6 +8,7 @@ use Rattle.td_core.specs.Types.{limit, type_of}
 use Rattle.td_core.specs.declared.module.NameId.{NameId}
 use Rattle.td_core.specs.declared.module.Element.{Element}
 use Rattle.td_core.specs.declared.module.Element.TheVariants.{Number, Listed, Named, Unit as UnitElement, Rest, Zeros}
+use Rattle.td_core.specs.declared.module.CopyOut.{CopyOut}
 use Rattle.td_core.specs.declared.module.Extent.{Extent}
 use Rattle.td_core.specs.declared.module.Extent.TheVariants.{Once, Filling, OnceFilling, UpToZero}
 use Rattle.td_core.specs.declared.module.Part.{Part}
@@ -19,7 +20,7 @@ use Rattle.td_expr.specs.Value.{chosen, flip}
 use Rattle.td_meaning.specs.Doing.{Effect, On, Returned, Aborted, after, either_way}
 use Rattle.td_meaning.specs.Naming.{some_name, in_option, part_names, parts_name, element_names, extent_names, field_names, fields_name, is_needed}
 use Rattle.td_meaning.specs.Meaning.{Sense, demanded, filled, filled_once, element_up_to_zero, ended, bits_of, field_place, field_number, number_places, first_name, extended}
-use Rattle.td_meaning.specs.Machine.{truth_number, is_truth, applied, compared_by, range_okay_by, value_of, values, is_met, doing, acted, checked, with_part, parts_meaning, element_meaning, shape_meaning, fields_meaning}
+use Rattle.td_meaning.specs.Machine.{truth_number, is_truth, applied, compared_by, range_okay_by, value_of, values, is_met, doing, acted, checked, with_part, parts_meaning, element_meaning, shape_meaning, copied_meaning, content_meaning, fields_meaning}
 use Rattle.td_meaning.proofs.Agreeing.{Agree, weaker, on_left, on_right, agree_more}
 use Rattle.td_num.proofs.Truths.{or_right, or_cases, or_left}
 
@@ -214,6 +215,13 @@ module _ (sets : List (List ℕ)) (senses : ℕ → Sense) (message : List ℕ) 
       λ i. filled_once (e i p) step (v i) end p cells
   shape_same el (UpToZero size) env other places end p cells a s = ap (λ v. element_up_to_zero el v message end p cells) (value_same size env other s)
 
+  content_same : (el : Element) (extent : Extent) (copy : Option CopyOut) (env other places : List ℕ) (end p : ℕ) (cells : List ℕ) → Agree (λ i. element_names i el) env other → Agree (λ i. extent_names i extent) env other → content_meaning sets senses el extent copy env places message end p cells ≡ content_meaning sets senses el extent copy other places message end p cells
+  content_same el extent None env other places end p cells a s = shape_same el extent env other places end p cells a s
+  content_same el (Filling size step) (Some c) env other places end p cells a s = ap (λ n. copied_meaning c places n end p cells) (value_same size env other s)
+  content_same el Once (Some c) env other places end p cells a s = shape_same el Once env other places end p cells a s
+  content_same el (OnceFilling size step) (Some c) env other places end p cells a s = shape_same el (OnceFilling size step) env other places end p cells a s
+  content_same el (UpToZero size) (Some c) env other places end p cells a s = shape_same el (UpToZero size) env other places end p cells a s
+
   pub fields_same : (ty : NameId) (fs : List Field) (env other places : List ℕ) (end p : ℕ) (cells : List ℕ) → Agree (λ i. fields_name i fs) env other → fields_meaning sets senses ty fs env places message end p cells ≡ fields_meaning sets senses ty fs other places message end p cells
   unfolding fields_meaning
   fields_same ty [] env other places end p cells a = refl
@@ -226,11 +234,11 @@ module _ (sets : List (List ℕ)) (senses : ℕ → Sense) (message : List ℕ) 
       ]) in
       let n = field_number f.element f.extent message p in
       let place = field_place ty (first_name f.parts) p in
-      let shape = shape_same f.element f.extent env other places end p cells
+      let shape = content_same f.element f.extent f.copy env other places end p cells
       (on_left (λ i. element_names i f.element) (λ i. extent_names i f.extent || parts_name i f.parts) env other own)
       (on_left (λ i. extent_names i f.extent) (λ i. parts_name i f.parts) env other own') in
       let rest = λ (k : ℕ) (v : List ℕ) (q : ℕ) (c : List ℕ). after_reading (number_places (is_needed k f.parts later) f.element f.extent p) (and_then (parts_meaning ty p n f.parts v places q c) (fields_meaning sets senses ty later (extended v n f.parts) places message end)) in
-      then_alike (within place (shape_meaning sets senses f.element f.extent env places message end p cells)) (within place (shape_meaning sets senses f.element f.extent other places message end p cells))
+      then_alike (within place (content_meaning sets senses f.element f.extent f.copy env places message end p cells)) (within place (content_meaning sets senses f.element f.extent f.copy other places message end p cells))
       (rest (length env) env) (rest (length other) other)
       (ap (within place) shape)
       (λ q c. ap (λ k. rest k env q c) a.long

@@ -1,12 +1,17 @@
 -- Cited by other crates.
 -- Where each expression that the meaning evaluates is sound, the meaning is the one that arithmetic in 64 bits gives.
-use Rattle.std.proofs.Common.{◌≡◌, ℕ, zero, suc, Bool, true, false, cond, List, [], ◌∷◌, ◌++◌, length, map, Option, Some, None, refl, ap, ◌∙◌}
-use Rattle.std.specs.Prelude.{slice_get, slice_index, slice_set, nat_eq}
+use Rattle.std.proofs.Common.{◌≡◌, ℕ, zero, suc, ◌≤◌, min, ℤ, pos, negsuc, nat_lt, subst, arith, Bool, true, false, cond, List, [], ◌∷◌, ◌++◌, length, map, Option, Some, None, refl, ap, ◌∙◌}
+use Rattle.std.proofs.lemmas.Bool.{ltb-true, ltb-false}
+use Rattle.std.specs.Prelude.{◌-ℤ◌, slice_get, slice_index, slice_set, nat_eq}
 use Rattle.td_num.specs.Numbers.{places_from}
+use Rattle.td_core.specs.declared.expressions.Scalar.{Scalar}
+use Rattle.td_core.specs.declared.expressions.Scalar.TheVariants.{ThirtyTwo}
+use Rattle.td_core.specs.Types.{wider, type_of}
 use Rattle.td_core.specs.Term.{Term, Deed, done, set, keep, fork, answer, give_up}
 use Rattle.td_core.specs.declared.module.NameId.{NameId}
 use Rattle.td_core.specs.declared.module.Element.{Element}
 use Rattle.td_core.specs.declared.module.Element.TheVariants.{Number, Listed, Named, Unit as UnitElement, Rest, Zeros}
+use Rattle.td_core.specs.declared.module.CopyOut.{CopyOut}
 use Rattle.td_core.specs.declared.module.Extent.{Extent}
 use Rattle.td_core.specs.declared.module.Extent.TheVariants.{Once, Filling, OnceFilling, UpToZero}
 use Rattle.td_core.specs.declared.module.Part.{Part}
@@ -18,16 +23,18 @@ use Rattle.td_core.specs.declared.module.Module.{Module}
 use Rattle.td_core.specs.declared.module.Entry.{Entry}
 use Rattle.td_core.specs.declared.outcome.Reason.TheVariants.{Constraint, ListSize}
 use Rattle.td_core.specs.Outcome.{Ending, Accepted, Rejected, Behavior, accepted, after_reading, onward, and_then, within}
-use Rattle.td_expr.specs.Sound.{Sound}
+use Rattle.td_expr.specs.Value.{natural, value_of as whole_value}
+use Rattle.td_expr.specs.Sound.{Fits, Sound}
 use Rattle.td_meaning.specs.Doing.{Effect, On, Returned, Aborted, after, either_way, natural_of, is_true}
 use Rattle.td_meaning.specs.Doing as whole
 use Rattle.td_meaning.specs.Naming.{is_needed}
-use Rattle.td_meaning.specs.Meaning.{Sense, taken, demanded, elements, filled, filled_once, element_up_to_zero, divides, equals, ended, refined, field_place, field_number, number_places, first_name, extended, case_for, where_place, pick, entry_place}
+use Rattle.td_meaning.specs.Meaning.{Sense, taken, demanded, elements, filled, filled_once, element_up_to_zero, divides, equals, ended, refined, field_place, field_number, number_places, first_name, extended, case_for, where_place, pick, entry_place, with_copy}
 use Rattle.td_meaning.specs.Meaning as whole_of
-use Rattle.td_meaning.specs.Throughout.{Through, OnEnding, OnEffect, OnOption, OnAll, OnDeed, OnAction, OnParts, OnElement, OnElements, OnShape, OnFields, OnChosen, OnBody, OnDefinition, pick_through, through_below, Throughout}
-use Rattle.td_meaning.specs.Machine.{values, is_met, doing, acted, checked, with_part, parts_meaning, element_meaning, shape_meaning, fields_meaning, body_fields, chosen_meaning, definition_meaning, below}
+use Rattle.td_meaning.specs.Throughout.{Through, OnEnding, OnEffect, OnOption, OnAll, OnDeed, OnAction, OnParts, OnElement, OnElements, OnShape, OnContent, spare, OnFields, OnChosen, OnBody, OnDefinition, pick_through, through_below, Throughout}
+use Rattle.td_meaning.specs.Machine.{values, is_met, doing, acted, checked, with_part, parts_meaning, element_meaning, shape_meaning, copied_meaning, content_meaning, fields_meaning, body_fields, chosen_meaning, definition_meaning, below}
 use Rattle.td_meaning.proofs.Ending.{on_map, on_within}
 use Rattle.td_meaning.proofs.MachineValues.{natural_is, truth_is}
+use Rattle.td_num.proofs.Equals.{minus_under}
 
 -- One after the other
 
@@ -104,6 +111,20 @@ parts_is ty start n (x ∷ xs) env places q cells h =
     (ap (within place) (checked_is x env1 places start q cells h.0 h.1.0))
     (on_within place u.ending (λ q cells. go q cells ≡ next q cells) (on_map u.ending (OnParts Sound start n xs env1 places) (λ q cells. go q cells ≡ next q cells) h.1.1 (λ q cells k. parts_is ty start n xs env1 places q cells k)))
 
+-- Copies
+
+at_most : (w : Scalar) (r : ℕ) (z : ℤ) → Fits w (pos r -ℤ z) → natural z ≤ r
+at_most w r (negsuc n) h = omega arith
+at_most w r (pos n) h = by (nat_lt r n) refl
+  where
+    by : (c : Bool) → nat_lt r n ≡ c → n ≤ r
+    by true e = absurd (subst (Fits w) (minus_under r n (ltb-true r n e)) h)
+    by false e = ltb-false r n e
+
+-- a size has room where the room less it is in range
+pub has_room : (c : CopyOut) (size : Term) (env : List ℕ) → Sound (spare c size) env → natural_of size env ≤ c.room
+has_room c size env h = at_most (wider ThirtyTwo (type_of size)) c.room (whole_value size env) h.0
+
 -- Elements and arrays
 
 pub record Same (senses means : ℕ → Sense) (throughs : ℕ → Through) : Type 0 where
@@ -166,6 +187,18 @@ module _ (sets : List (List ℕ)) (senses means : ℕ → Sense) (throughs : ℕ
       (λ b e o. ap (λ x. and_then x (rest q)) (element_is el env places message p q b e o)))))
   shape_is el (UpToZero size) env places message end p cells h = λ i. element_up_to_zero el (natural_is size env h i) message end p cells
 
+  content_is : (el : Element) (extent : Extent) (copy : Option CopyOut) (env places message : List ℕ) (end p : ℕ) (cells : List ℕ) → OnContent Sound sets means throughs el extent copy env places message end p cells
+      → content_meaning sets senses el extent copy env places message end p cells ≡ whole_of.content_meaning sets means el extent copy env places message end p cells
+  content_is el extent None env places message end p cells h = shape_is el extent env places message end p cells h
+  content_is el (Filling size step) (Some c) env places message end p cells h =
+      let n = natural_of size env in
+      let e : min n c.room ≡ n = omega (arith, has_room c size env h.1) in
+      (λ i. copied_meaning c places (natural_is size env h.0 i) end p cells)
+      ∙ (λ i. and_then (taken n p end p cells) (λ q cells. after_reading (places_from p (e i)) (accepted q (with_copy c places p (e i) cells))))
+  content_is el Once (Some c) env places message end p cells h = shape_is el Once env places message end p cells h
+  content_is el (OnceFilling size step) (Some c) env places message end p cells h = shape_is el (OnceFilling size step) env places message end p cells h
+  content_is el (UpToZero size) (Some c) env places message end p cells h = shape_is el (UpToZero size) env places message end p cells h
+
   fields_is : (ty : NameId) (fs : List Field) (env places message : List ℕ) (end p : ℕ) (cells : List ℕ) → OnFields Sound sets means throughs ty fs env places message end p cells → fields_meaning sets senses ty fs env places message end p cells ≡ whole_of.fields_meaning sets means ty fs env places message end p cells
   unfolding fields_meaning whole_of.fields_meaning
   fields_is ty [] env places message end p cells h = refl
@@ -174,12 +207,12 @@ module _ (sets : List (List ℕ)) (senses means : ℕ → Sense) (throughs : ℕ
       let env1 = extended env n f.parts in
       let reads = number_places (is_needed (length env) f.parts later) f.element f.extent p in
       let place = field_place ty (first_name f.parts) p in
-      let u = whole_of.shape_meaning sets means f.element f.extent env places message end p cells in
+      let u = whole_of.content_meaning sets means f.element f.extent f.copy env places message end p cells in
       let go = λ (q : ℕ) (c : List ℕ). after_reading reads (and_then (parts_meaning ty p n f.parts env places q c) (fields_meaning sets senses ty later env1 places message end)) in
       let next = λ (q : ℕ) (c : List ℕ). after_reading reads (and_then (whole_of.parts_meaning ty p n f.parts env places q c) (whole_of.fields_meaning sets means ty later env1 places message end)) in
       let On = λ (q : ℕ) (c : List ℕ). OnParts Sound p n f.parts env places q c × OnEnding (whole_of.parts_meaning ty p n f.parts env places q c).ending (OnFields Sound sets means throughs ty later env1 places message end) in
-      and_then_is (within place (shape_meaning sets senses f.element f.extent env places message end p cells)) (within place u) go next
-      (ap (within place) (shape_is f.element f.extent env places message end p cells h.0))
+      and_then_is (within place (content_meaning sets senses f.element f.extent f.copy env places message end p cells)) (within place u) go next
+      (ap (within place) (content_is f.element f.extent f.copy env places message end p cells h.0))
       (on_within place u.ending (λ q c. go q c ≡ next q c) (on_map u.ending On (λ q c. go q c ≡ next q c) h.1
       (λ q c k.
       let v = whole_of.parts_meaning ty p n f.parts env places q c in

@@ -9,6 +9,7 @@ use Rattle.td_core.specs.Term.{Term, Deed}
 use Rattle.td_core.specs.declared.module.NameId.{NameId}
 use Rattle.td_core.specs.declared.module.Element.{Element}
 use Rattle.td_core.specs.declared.module.Element.TheVariants.{Number, Listed, Named, Unit as UnitElement, Rest, Zeros}
+use Rattle.td_core.specs.declared.module.CopyOut.{CopyOut}
 use Rattle.td_core.specs.declared.module.Extent.{Extent}
 use Rattle.td_core.specs.declared.module.Extent.TheVariants.{Once, Filling, OnceFilling, UpToZero}
 use Rattle.td_core.specs.declared.module.Part.{Part}
@@ -24,7 +25,7 @@ use Rattle.td_core.specs.Outcome.{Behavior, FramePlace, Ending, Accepted, Reject
 use Rattle.td_core.specs.WellFormed.{OfSome, EachField, HasParts}
 use Rattle.td_meaning.specs.Doing.{Effect, On, Returned, Aborted, doing, natural_of, is_true}
 use Rattle.td_meaning.specs.Naming.{is_needed}
-use Rattle.td_meaning.specs.Meaning.{Sense, values, values_of, taken, demanded, is_nonzero, byte_type, zeros_end, first_where, numbers_at, element_meaning, elements, divides, equals, zero_end, element_up_to_zero, shape_meaning, refined, ended, acted, checked, parts_meaning, bits_of, field_number, number_places, extended, field_place, where_place, switch_place, first_name, fields_meaning, case_for, chosen_meaning, body_meaning, definition_meaning, below, pick, entry_place}
+use Rattle.td_meaning.specs.Meaning.{Sense, values, values_of, taken, demanded, is_nonzero, byte_type, zeros_end, first_where, numbers_at, element_meaning, elements, divides, equals, zero_end, element_up_to_zero, shape_meaning, with_copy, copied_meaning, content_meaning, refined, ended, acted, checked, parts_meaning, bits_of, field_number, number_places, extended, field_place, where_place, switch_place, first_name, fields_meaning, case_for, chosen_meaning, body_meaning, definition_meaning, below, pick, entry_place}
 use Rattle.td_meaning.specs.Framing.{OneOf, IsPartName, IsDefaultName, IsBodyName, HasGuard, IsCasetype, IsSpotOf, IsFrameOf, LastIs, AreNamed, FramesAreNamed}
 use Rattle.td_num.proofs.Lists.{each_push as each_more}
 
@@ -153,6 +154,16 @@ module _ (ds : List TypeDef) where
         (λ t final. demanded_shown ListSize (nat_eq t q) p t final)))
     shape_shown element (UpToZero size) env places message end p cells = up_to_zero_shown element (natural_of size env) message end p cells
 
+    content_shown : (element : Element) (extent : Extent) (copy : Option CopyOut) (env places message : List ℕ) (end p : ℕ) (cells : List ℕ) → Shown (content_meaning sets senses element extent copy env places message end p cells).ending
+    content_shown element extent None env places message end p cells = shape_shown element extent env places message end p cells
+    content_shown element (Filling size step) (Some c) env places message end p cells =
+        let m = natural_of size env in
+        shown_then (taken m p end p cells).ending (taken m p end p cells).reads (λ q more. after_reading (places_from p m) (accepted q (with_copy c places p m more))) (demanded_shown NotEnough (nat_le (p + m) end) p (p + m) cells)
+        (λ q more. tt)
+    content_shown element Once (Some c) env places message end p cells = shape_shown element Once env places message end p cells
+    content_shown element (OnceFilling size step) (Some c) env places message end p cells = shape_shown element (OnceFilling size step) env places message end p cells
+    content_shown element (UpToZero size) (Some c) env places message end p cells = shape_shown element (UpToZero size) env places message end p cells
+
     parts_named : (start v : ℕ) (ps : List Part) (env places : List ℕ) (q : ℕ) (cells : List ℕ) → Each (λ part. IsBodyName part.name d.body) ps → AreNamed ds d (parts_meaning d.name start v ps env places q cells).ending
     unfolding parts_meaning
     parts_named start v [] env places q cells h = tt
@@ -176,12 +187,12 @@ module _ (ds : List TypeDef) where
     unfolding fields_meaning
     fields_named [] env places message end p cells h = tt
     fields_named (x ∷ later) env places message end p cells h =
-        let shape = shape_meaning sets senses x.element x.extent env places message end p cells in
+        let shape = content_meaning sets senses x.element x.extent x.copy env places message end p cells in
         let v = field_number x.element x.extent message p in
         named_then (within (field_place d.name (first_name x.parts) p) shape).ending shape.reads
         (λ q more. after_reading (number_places (is_needed (length env) x.parts later) x.element x.extent p)
         (and_then (parts_meaning d.name p v x.parts env places q more) (fields_meaning sets senses d.name later (extended env v x.parts) places message end)))
-        (framed (field_place d.name (first_name x.parts) p) shape.ending refl (first_named x.parts h.0.0 h.0.1) (shape_shown x.element x.extent env places message end p cells))
+        (framed (field_place d.name (first_name x.parts) p) shape.ending refl (first_named x.parts h.0.0 h.0.1) (content_shown x.element x.extent x.copy env places message end p cells))
         (λ q more. named_then (parts_meaning d.name p v x.parts env places q more).ending (parts_meaning d.name p v x.parts env places q more).reads (fields_meaning sets senses d.name later (extended env v x.parts) places message end)
         (parts_named p v x.parts env places q more h.0.1)
         (λ r last. fields_named later (extended env v x.parts) places message end r last h.1))

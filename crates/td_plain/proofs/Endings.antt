@@ -11,10 +11,10 @@ use Rattle.td_core.specs.declared.module.Entry.{Entry}
 use Rattle.td_core.specs.declared.outcome.TraceFrame.{TraceFrame}
 use Rattle.td_core.specs.declared.outcome.Verdict.{Verdict}
 use Rattle.td_core.specs.declared.outcome.Verdict.TheVariants.{Accept, Reject}
-use Rattle.td_core.specs.Outcome.{Ending, Accepted, Rejected, Behavior, plain, accepted, rejected, after_reading, onward, and_then, ending_within, within, outcome_of}
+use Rattle.td_core.specs.Outcome.{Ending, Accepted, Rejected, Behavior, plain, accepted, rejected, after_reading, onward, and_then, ending_within, within}
 use Rattle.td_meaning.specs.Naming.{is_needed}
 use Rattle.td_meaning.specs.Meaning.{Sense, demanded, elements, field_place, field_number, number_places, first_name, extended, filled_once, equals, entry_place, numbers_at, run_of, first_where, looked_at, is_nonzero, byte_type, zeros_end, zeros_meaning}
-use Rattle.td_meaning.specs.Machine.{below, fields_meaning, shape_meaning, parts_meaning}
+use Rattle.td_meaning.specs.Machine.{below, fields_meaning, content_meaning, parts_meaning}
 use Rattle.td_meaning.proofs.MachineMeaning.{meaning}
 use Rattle.td_meaning.specs.Verdicts.{ending_of, IsAt}
 use Rattle.td_meaning.proofs.Filling.{taken_long, taken_short}
@@ -41,12 +41,12 @@ then_same (Accept pos) trace cells go next h = ap (after_reading []) (h pos refl
 then_same (Reject reason pos) trace cells go next h = refl
 
 -- a field, by how its bytes end
-pub field_by : (sets : List (List ℕ)) (senses : ℕ → Sense) (ty : NameId) (f : Field) (later : List Field) (env places b : List ℕ) (end p : ℕ) (cells : List ℕ) (o : Ending) → ending_within (field_place ty (first_name f.parts) p) (shape_meaning sets senses f.element f.extent env places b end p cells).ending ≡ o → (fields_meaning sets senses ty (f ∷ later) env places b end p cells).ending ≡ (and_then (plain o) (λ q cells. and_then (parts_meaning ty p (field_number f.element f.extent b p) f.parts env places q cells) (fields_meaning sets senses ty later (extended env (field_number f.element f.extent b p) f.parts) places b end))).ending
+pub field_by : (sets : List (List ℕ)) (senses : ℕ → Sense) (ty : NameId) (f : Field) (later : List Field) (env places b : List ℕ) (end p : ℕ) (cells : List ℕ) (o : Ending) → ending_within (field_place ty (first_name f.parts) p) (content_meaning sets senses f.element f.extent f.copy env places b end p cells).ending ≡ o → (fields_meaning sets senses ty (f ∷ later) env places b end p cells).ending ≡ (and_then (plain o) (λ q cells. and_then (parts_meaning ty p (field_number f.element f.extent b p) f.parts env places q cells) (fields_meaning sets senses ty later (extended env (field_number f.element f.extent b p) f.parts) places b end))).ending
 unfolding fields_meaning
 field_by sets senses ty f later env places b end p cells o e =
     let rest = λ (q : ℕ) (cells : List ℕ). and_then (parts_meaning ty p (field_number f.element f.extent b p) f.parts env places q cells) (fields_meaning sets senses ty later (extended env (field_number f.element f.extent b p) f.parts) places b end) in
     let reads = number_places (is_needed (length env) f.parts later) f.element f.extent p in
-    then_by (within (field_place ty (first_name f.parts) p) (shape_meaning sets senses f.element f.extent env places b end p cells)) o (λ q cells. after_reading reads (rest q cells)) e
+    then_by (within (field_place ty (first_name f.parts) p) (content_meaning sets senses f.element f.extent f.copy env places b end p cells)) o (λ q cells. after_reading reads (rest q cells)) e
     ∙ unread o reads rest
   where
     unread : (o : Ending) (reads : List ℕ) (rest : ℕ → List ℕ → Behavior) → (and_then (plain o) (λ q cells. after_reading reads (rest q cells))).ending ≡ (and_then (plain o) rest).ending
@@ -89,8 +89,3 @@ entry_is m entry args cells b place bound places end get same at ends =
 -- no byte is left
 pub zeros_over : (b : List ℕ) (end p : ℕ) (cells : List ℕ) → end - p ≡ 0 → zeros_meaning b end p cells ≡ accepted end cells
 zeros_over b end p cells e = ap (λ n. after_reading (run_of byte_type p (looked_at (first_where is_nonzero (numbers_at byte_type b p n)) n)) (zeros_end (first_where is_nonzero (numbers_at byte_type b p n)) end p cells)) e
-
--- the outcome of an ending
-pub outcome_is : (v : Verdict) (trace : List TraceFrame) (cells : List ℕ) → ((q : ℕ) → v ≡ Accept q → trace ≡ []) → record { verdict = v; trace = trace; cells = cells } ≡ outcome_of (ending_of v trace cells)
-outcome_is (Accept pos) trace cells h = λ k. record { verdict = Accept pos; trace = h pos refl k; cells = cells }
-outcome_is (Reject reason pos) trace cells h = refl

@@ -1,15 +1,19 @@
 //! The plain program.
 
-ghost use Rattle.std.specs.Prelude.{◌≡◌, ◌<◌, ◌^◌, IfOk, MatchOption, slice_get, Some, None, length};
-ghost use Rattle.td_core.specs.Outcome.{outcome_of};
+ghost use Rattle.std.specs.Prelude.{◌≡◌, ℕ, ◌<◌, ◌≤◌, ◌^◌, [], IfOk, MatchOption, slice_get, Some, None, length, take, drop};
+ghost use Rattle.td_core.specs.Entries.{entry_definition};
+ghost use Rattle.td_core.specs.Outcome.{copies_by};
+ghost use Rattle.td_meaning.specs.Copies.{buffers_at, opened, outcome};
+ghost use Rattle.td_meaning.specs.Verdicts.{ending_of};
 ghost use Rattle.td_expr.specs.Sound.{Sound};
 ghost use Rattle.td_meaning.specs.Meaning.{meaning};
 ghost use Rattle.td_meaning.specs.Throughout.{Throughout};
 
+use crate::copies::copies_by;
 use crate::types::{Walk, named};
 use std::alloc::{AllocError, Global};
 use td_core::module::{Entry, Module};
-use td_core::outcome::{Outcome, Reason, Verdict};
+use td_core::outcome::{Outcome, Reason, Trace, Verdict};
 use td_meaning::parameters::places_below;
 use td_num::items::Items;
 
@@ -21,31 +25,51 @@ fn entry_place(m: &Module, entry: Entry) -> Option<u32>
     m.entries.as_slice().get(entry.number as usize).copied()
 }
 
-/// What the module says of a message from an entry point: its verdict, the frames of its failure and the cells as they
-/// then are. It holds on each message on which every expression that the meaning evaluates lies in its type's range, as
-/// in a module that passed the safety rule. `AllocError`: there was no memory for them.
-pub fn meaning(
+// How many copy buffers an entry point has.
+fn buffers_at(m: &Module, entry: Entry) -> usize
+    ensures { result ≡ buffers_at (entry_definition m.now entry.number) }
+{
+    match m.entries.as_slice().get(entry.number as usize) {
+        None => 0,
+        Some(place) => match m.definitions.as_slice().get(*place as usize) {
+            None => 0,
+            Some(definition) => definition.buffers.len(),
+        },
+    }
+}
+
+// The cells of an entry point, with those of its copy buffers, which hold nothing at first.
+fn opened(alloc: Global, m: &Module, entry: Entry, cells: &[u64]) -> Result<Vec<u64>, AllocError>
+    ensures { IfOk result (λ all. all.items ≡ opened m.now entry cells.now) }
+{
+    let mut all = Vec::from_slice(alloc, cells)?;
+    for k in 0..buffers_at(m, entry) {
+        all.push(0)?;
+        all.push(0)?;
+    }
+    Ok(all)
+}
+
+// How the message ends, over all cells.
+fn verdict_of(
     alloc: Global,
     m: &Module,
     entry: Entry,
     args: &[u64],
-    cells: &[u64],
     bytes: &[u8],
-) -> Result<Outcome, AllocError>
-    requires { length bytes.now < 2 ^ 32 }
-    ensures { IfOk result (λ o. Throughout Sound m.now entry args.now cells.now bytes.now
-        → o ≡ outcome_of (meaning m.now entry args.now cells.now bytes.now).ending) }
+    cells: &mut [u64],
+    trace: &mut Trace,
+) -> Result<Verdict, AllocError>
+    requires small { length bytes.now < 2 ^ 32 }
+    requires empty_trace { trace.old ≡ [] }
+    ensures ending { IfOk result (λ v. Throughout Sound m.now entry args.now cells.old bytes.now
+        → (meaning m.now entry args.now cells.old bytes.now).ending ≡ ending_of v trace.new cells.new) }
+    ensures empty_trace { IfOk result (λ v. (q : ℕ) → v ≡ Verdict.Accept q → trace.new ≡ []) }
 {
-    let mut left = Vec::from_slice(alloc, cells)?;
-    let mut trace = Items::new(alloc);
     let Some(place) = entry_place(m, entry) else {
-        return Ok(Outcome {
-            verdict: Verdict::Reject {
-                reason: Reason::Impossible,
-                pos: 0,
-            },
-            trace,
-            cells: Items::of(left),
+        return Ok(Verdict::Reject {
+            reason: Reason::Impossible,
+            pos: 0,
         });
     };
     let places = places_below(alloc, cells.len())?;
@@ -56,18 +80,47 @@ pub fn meaning(
         places: places.as_slice(),
         message: bytes,
     };
-    let verdict = named(
-        &walk,
-        place,
-        args,
-        bytes.len() as u32,
-        0,
-        left.as_mut_slice(),
-        &mut trace,
-    )?;
+    named(&walk, place, args, bytes.len() as u32, 0, cells, trace)
+}
+
+// The outcome, of which the first cells are the entry point's.
+fn outcome_from(
+    alloc: Global,
+    verdict: Verdict,
+    trace: Trace,
+    all: &[u64],
+    count: usize,
+    bytes: &[u8],
+) -> Result<Outcome, AllocError>
+    requires { count ≤ length all.now }
+    ensures { IfOk result (λ o. o ≡ record { verdict = verdict; trace = trace; cells = take count all.now; copies = copies_by bytes.now (drop count all.now) }) }
+{
+    let (own, rest) = all.split_at(count);
     Ok(Outcome {
         verdict,
         trace,
-        cells: Items::of(left),
+        cells: Items::copy_of(alloc, own)?,
+        copies: copies_by(alloc, bytes, rest)?,
     })
+}
+
+/// What the module says of a message from an entry point: its verdict, the frames of its failure, and the cells and the
+/// copies as they then are. It holds on each message on which every expression that the meaning evaluates lies in its
+/// type's range, as in a module that passed the safety rule. `AllocError`: there was no memory for them.
+pub fn meaning(
+    alloc: Global,
+    m: &Module,
+    entry: Entry,
+    args: &[u64],
+    cells: &[u64],
+    bytes: &[u8],
+) -> Result<Outcome, AllocError>
+    requires { length bytes.now < 2 ^ 32 }
+    ensures { IfOk result (λ o. Throughout Sound m.now entry args.now (opened m.now entry cells.now) bytes.now
+        → o ≡ outcome m.now entry args.now cells.now bytes.now) }
+{
+    let mut all = opened(alloc, m, entry, cells)?;
+    let mut trace = Items::new(alloc);
+    let verdict = verdict_of(alloc, m, entry, args, bytes, all.as_mut_slice(), &mut trace)?;
+    Ok(outcome_from(alloc, verdict, trace, all.as_slice(), cells.len(), bytes)?)
 }

@@ -3,11 +3,12 @@
 ghost use Rattle.std.specs.Prelude.{◌≡◌, ℕ, suc, ◌∷◌, ◌-◌, List, [], IfOk, Some};
 ghost use Rattle.td_core.specs.declared.module.Field.{Field};
 ghost use Rattle.td_core.specs.Outcome.{Ending, plain, and_then};
-ghost use Rattle.td_meaning.specs.Machine.{below, definition_meaning, fields_meaning, shape_meaning, element_meaning};
+ghost use Rattle.td_meaning.specs.Machine.{below, definition_meaning, fields_meaning, content_meaning, shape_meaning, element_meaning};
 ghost use Rattle.td_meaning.specs.Meaning.{elements, filled, filled_once};
 ghost use Rattle.td_meaning.specs.Verdicts.{ending_of};
 
 use crate::arrays::{unfit, up_to_zero};
+use crate::copies::copied;
 use crate::enums::listed_number;
 use crate::numbers::{field_number, pass, place_after};
 use crate::zeros::zeros;
@@ -171,16 +172,7 @@ fn one_field(
     ensures empty_trace { IfOk result (λ v. (q : ℕ) → v ≡ Verdict.Accept q → trace.new ≡ []) }
 {
     let parts = field.parts.as_slice();
-    let verdict = shape(
-        walk,
-        &field.element,
-        &field.extent,
-        env.as_slice(),
-        end,
-        start,
-        cells,
-        trace,
-    )?;
+    let verdict = content(walk, field, env.as_slice(), end, start, cells, trace)?;
     match framed(verdict, ty, Spot::Field(first_name(parts)), start, trace)? {
         Verdict::Accept { pos } => {
             let value = field_number(&field.element, &field.extent, walk.message, start);
@@ -188,6 +180,39 @@ fn one_field(
         }
         Verdict::Reject { reason, pos } => Ok(Verdict::Reject { reason, pos }),
     }
+}
+
+// What stands in a field, and where it goes.
+#[cycle(types)]
+fn content(
+    walk: &Walk<'_, '_, '_>,
+    field: &Field,
+    env: &[u64],
+    end: u32,
+    start: u32,
+    cells: &mut [u64],
+    trace: &mut Trace,
+) -> Result<Verdict, AllocError>
+    requires empty_trace { trace.old ≡ [] }
+    ensures ending { IfOk result (λ v. (content_meaning walk.now.m.now.listed (below walk.now.m.now.listed walk.now.m.now.definitions walk.now.bound) field.now.element field.now.extent field.now.copy env.now walk.now.places.now walk.now.message.now end start cells.old).ending
+        ≡ ending_of v trace.new cells.new) }
+    ensures empty_trace { IfOk result (λ v. (q : ℕ) → v ≡ Verdict.Accept q → trace.new ≡ []) }
+{
+    if let Some(copy) = field.copy {
+        if let Extent::Filling { size, .. } = &field.extent {
+            return Ok(copied(copy, value_of(size, env), walk.places, end, start, cells));
+        }
+    }
+    Ok(shape(
+        walk,
+        &field.element,
+        &field.extent,
+        env,
+        end,
+        start,
+        cells,
+        trace,
+    )?)
 }
 
 // An element, or an array of them.

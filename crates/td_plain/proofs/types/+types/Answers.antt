@@ -10,7 +10,7 @@ use Rattle.td_core.specs.declared.outcome.Reason.TheVariants.{Impossible}
 use Rattle.td_core.specs.declared.outcome.Verdict.{Verdict}
 use Rattle.td_core.specs.Outcome.{Ending, Behavior, Rejected, plain, and_then, ending_within}
 use Rattle.td_meaning.specs.Meaning.{elements, filled, field_number, extended, field_place, first_name}
-use Rattle.td_meaning.specs.Machine.{below, fields_meaning, shape_meaning, element_meaning, parts_meaning}
+use Rattle.td_meaning.specs.Machine.{below, fields_meaning, content_meaning, shape_meaning, element_meaning, parts_meaning}
 use Rattle.td_meaning.specs.Verdicts.{ending_of, frame_place}
 use Rattle.td_meaning.proofs.Below.{below_past}
 use Rattle.td_plain.proofs.Endings.{empty_at, then_same, field_by, elements_over, elements_done, elements_on}
@@ -100,7 +100,7 @@ named-returns-in-None-clause-ending t c =
 
 pub one_field-check_parts-requires : goal.one_field-check_parts-requires
 one_field-check_parts-requires t c =
-    let at = empty_at c.in_ok-verdict.verdict c.shape.new.trace c.in_ok-verdict.ensures.empty_trace in
+    let at = empty_at c.in_ok-verdict.verdict c.content.new.trace c.in_ok-verdict.ensures.empty_trace in
     record { empty_trace = (accepted_at c.in_ok-pos.field-0 c.in-Accept.pos at.0 c.framed.new.trace c.in-Accept.is (c.in_ok-pos.ensures.at at.0 at.1)).1 }
 
 pub one_field-returns-in-Reject-clause-ending : goal.one_field-returns-in-Reject-clause-ending
@@ -108,11 +108,11 @@ one_field-returns-in-Reject-clause-ending t c = λ later.
     let a = c.args in
     let f : FieldDef = a.field.now in
     let env : List ℕ = a.env.now.items in
-    let cells = c.shape.new.cells in
+    let cells = c.content.new.cells in
     let v : Verdict = c.in_ok-verdict.verdict in
     let name : c.first_name.result ≡ first_name f.parts = c.first_name.ensures ∙ ap first_name c.as_slice-parts.ensures in
-    let scope = ap (λ vs. (shape_meaning a.walk.now.m.now.listed (below a.walk.now.m.now.listed a.walk.now.m.now.definitions a.walk.now.bound) f.element f.extent vs a.walk.now.places.now a.walk.now.message.now a.end a.start a.cells.now).ending) (sym c.as_slice.ensures.value) in
-    let framed = ap (ending_within (field_place a.ty (first_name f.parts) a.start)) (scope ∙ c.in_ok-verdict.ensures.ending) ∙ (λ k. ending_within (frame_place a.ty (Field (sym name k)) a.start) (ending_of v c.shape.new.trace cells)) ∙ sym (c.in_ok-pos.ensures.ending cells) in
+    let scope = ap (λ vs. (content_meaning a.walk.now.m.now.listed (below a.walk.now.m.now.listed a.walk.now.m.now.definitions a.walk.now.bound) f.element f.extent f.copy vs a.walk.now.places.now a.walk.now.message.now a.end a.start a.cells.now).ending) (sym c.as_slice.ensures.value) in
+    let framed = ap (ending_within (field_place a.ty (first_name f.parts) a.start)) (scope ∙ c.in_ok-verdict.ensures.ending) ∙ (λ k. ending_within (frame_place a.ty (Field (sym name k)) a.start) (ending_of v c.content.new.trace cells)) ∙ sym (c.in_ok-pos.ensures.ending cells) in
     let n = field_number f.element f.extent a.walk.now.message.now a.start in
     let rest = λ (q : ℕ) (cells : List ℕ). and_then (parts_meaning a.ty a.start n f.parts env a.walk.now.places.now q cells) (fields_meaning a.walk.now.m.now.listed (below a.walk.now.m.now.listed a.walk.now.m.now.definitions a.walk.now.bound) a.ty later (extended env n f.parts) a.walk.now.places.now a.walk.now.message.now a.end) in
     field_by a.walk.now.m.now.listed (below a.walk.now.m.now.listed a.walk.now.m.now.definitions a.walk.now.bound) a.ty f later env a.walk.now.places.now a.walk.now.message.now a.end a.start a.cells.now _ framed
@@ -123,11 +123,11 @@ one_field-returns-in_ok-check_parts-in-Accept-clause-ending t c = λ later.
     let a = c.args in
     let f : FieldDef = a.field.now in
     let env : List ℕ = a.env.now.items in
-    let cells = c.shape.new.cells in
+    let cells = c.content.new.cells in
     let v : Verdict = c.in_ok-verdict.verdict in
     let name : c.first_name.result ≡ first_name f.parts = c.first_name.ensures ∙ ap first_name c.as_slice-parts.ensures in
-    let scope = ap (λ vs. (shape_meaning a.walk.now.m.now.listed (below a.walk.now.m.now.listed a.walk.now.m.now.definitions a.walk.now.bound) f.element f.extent vs a.walk.now.places.now a.walk.now.message.now a.end a.start a.cells.now).ending) (sym c.as_slice.ensures.value) in
-    let framed = ap (ending_within (field_place a.ty (first_name f.parts) a.start)) (scope ∙ c.in_ok-verdict.ensures.ending) ∙ (λ k. ending_within (frame_place a.ty (Field (sym name k)) a.start) (ending_of v c.shape.new.trace cells)) ∙ sym (c.in_ok-pos.ensures.ending cells) in
+    let scope = ap (λ vs. (content_meaning a.walk.now.m.now.listed (below a.walk.now.m.now.listed a.walk.now.m.now.definitions a.walk.now.bound) f.element f.extent f.copy vs a.walk.now.places.now a.walk.now.message.now a.end a.start a.cells.now).ending) (sym c.as_slice.ensures.value) in
+    let framed = ap (ending_within (field_place a.ty (first_name f.parts) a.start)) (scope ∙ c.in_ok-verdict.ensures.ending) ∙ (λ k. ending_within (frame_place a.ty (Field (sym name k)) a.start) (ending_of v c.content.new.trace cells)) ∙ sym (c.in_ok-pos.ensures.ending cells) in
     let n = field_number f.element f.extent a.walk.now.message.now a.start in
     let next = λ (vs : List ℕ). fields_meaning a.walk.now.m.now.listed (below a.walk.now.m.now.listed a.walk.now.m.now.definitions a.walk.now.bound) a.ty later vs a.walk.now.places.now a.walk.now.message.now a.end in
     let rest = λ (q : ℕ) (cells : List ℕ). and_then (parts_meaning a.ty a.start n f.parts env a.walk.now.places.now q cells) (next (extended env n f.parts)) in

@@ -21,14 +21,17 @@ decreases-once_filling l = 20 * l.walk.now.bound + 3
 abbrev pub decreases-shape : goal.decreases-shape
 decreases-shape l = 20 * l.walk.now.bound + 4
 
+abbrev pub decreases-content : goal.decreases-content
+decreases-content l = 20 * l.walk.now.bound + 5
+
 abbrev pub decreases-one_field : goal.decreases-one_field
-decreases-one_field l = 20 * l.walk.now.bound + 5
+decreases-one_field l = 20 * l.walk.now.bound + 6
 
 abbrev pub decreases-fields_in_order : goal.decreases-fields_in_order
-decreases-fields_in_order l = 20 * l.walk.now.bound + 6
+decreases-fields_in_order l = 20 * l.walk.now.bound + 7
 
 abbrev pub decreases-defined : goal.decreases-defined
-decreases-defined l = 20 * l.walk.now.bound + 7
+decreases-defined l = 20 * l.walk.now.bound + 8
 
 -- what is left of the fields decides the whole
 abbrev pub invariant-fields_in_order-loop-field : goal.invariant-fields_in_order-loop-field
