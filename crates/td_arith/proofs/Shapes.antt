@@ -1,5 +1,8 @@
 -- Cited by other crates.
 -- Each expression that a field's shape evaluates is sound, and a field ends before the end.
+use Rattle.std.specs.Prelude.{int_lt, pos}
+use Rattle.td_expr.specs.declared.safety.Unsafe.TheVariants.{Room}
+use Rattle.td_expr.specs.Range.{range_of}
 use Rattle.std.proofs.Common.{◌≡◌, ℕ, zero, suc, ◌+◌, ◌-◌, ◌/◌, ◌^◌, ◌<◌, ◌≤◌, Bool, true, false, cond, min, List, [], ◌∷◌, length, map, refl, sym, ap, subst, arith, Option, Some, None, slice_get, slice_index, nat_eq}
 use Rattle.std.proofs.lemmas.Option.{none-some, same_Some}
 use Rattle.std.proofs.Math.Nat.{div-mul-le_self, mul-le-mul_right}
@@ -11,7 +14,9 @@ use Rattle.td_core.specs.declared.module.Element.{Element}
 use Rattle.td_core.specs.declared.module.Element.TheVariants.{Number, Listed, Named, Unit as UnitElement, Rest, Zeros}
 use Rattle.td_core.specs.declared.module.Extent.{Extent}
 use Rattle.td_core.specs.declared.module.Extent.TheVariants.{Once, Filling, OnceFilling, UpToZero}
+use Rattle.td_core.specs.declared.module.CopyOut.{CopyOut}
 use Rattle.td_core.specs.declared.module.TypeDef.{TypeDef}
+use Rattle.td_core.specs.WellFormed.{OfSome}
 use Rattle.td_core.specs.declared.outcome.Reason.TheVariants.{Constraint, ListSize}
 use Rattle.td_core.specs.Outcome.{Behavior, accepted, and_then, after_reading}
 use Rattle.td_expr.specs.Facts.{Fact}
@@ -19,11 +24,12 @@ use Rattle.td_expr.specs.Safe.{first_unsafe}
 use Rattle.td_expr.specs.Sound.{Sound}
 use Rattle.td_expr.proofs.Admitting.{neither}
 use Rattle.td_meaning.specs.Doing.{natural_of}
-use Rattle.td_arith.specs.SafeModule.{list_unsafe, element_unsafe, extent_unsafe}
-use Rattle.td_core.specs.Formed.{Bound, AllFit, AreArgsFormed, AreCellsFormed, params_at, cells_at, IsElementFormed, IsExtentFormed}
-use Rattle.td_meaning.specs.Meaning.{Sense, values, values_of, taken, demanded, is_nonzero, byte_type, zeros_end, first_where, one_more, numbers_at, element_meaning, elements, divides, equals, zero_end, up_to_zero, element_up_to_zero, shape_meaning}
-use Rattle.td_meaning.specs.Throughout.{Through, OnEnding, OnAll, OnElement, OnElements, OnShape}
+use Rattle.td_arith.specs.SafeModule.{list_unsafe, element_unsafe, extent_unsafe, room_unsafe, copy_unsafe}
+use Rattle.td_core.specs.Formed.{Bound, AllFit, AreArgsFormed, AreCellsFormed, params_at, own_at, IsElementFormed, IsExtentFormed}
+use Rattle.td_meaning.specs.Meaning.{Sense, values, values_of, taken, demanded, is_nonzero, byte_type, zeros_end, first_where, one_more, numbers_at, element_meaning, elements, divides, equals, zero_end, up_to_zero, element_up_to_zero, shape_meaning, with_copy, content_meaning}
+use Rattle.td_meaning.specs.Throughout.{Through, OnEnding, OnAll, OnElement, OnElements, OnShape, OnContent}
 use Rattle.td_arith.proofs.Fitting.{Stand, stand_at}
+use Rattle.td_arith.proofs.Copies.{CopyStands, within_room, spare_sound, copy_fits}
 use Rattle.td_arith.proofs.States.{State, sound, number_fits}
 use Rattle.td_meaning.proofs.Ending.{Between, on_then, on_map, on_demanded, on_taken}
 
@@ -60,7 +66,7 @@ taken_between all n start end p cells f =
     (λ q more h. let e = h.0 in ((omega (arith, e), h.1.0), h.1.1))
 
 module _ (sets : List (List ℕ)) (senses : ℕ → Sense) (throughs : ℕ → Through) (ds : List TypeDef) (n : ℕ) (message : List ℕ)
-    (good : (j : ℕ) → j < n → IsGood message (params_at (slice_get ds j)) (cells_at (slice_get ds j)) (senses j) (throughs j))
+    (good : (j : ℕ) → j < n → IsGood message (params_at (slice_get ds j)) (own_at (slice_get ds j)) (senses j) (throughs j))
     (all bounds scope : List Bound) (facts : List Fact) (env places : List ℕ) (s : State scope facts env) (st : Stand all bounds places) where
   pub element_sound : (element : Element) (start end p : ℕ) (cells : List ℕ) → IsElementFormed ds n bounds scope element → element_unsafe facts element ≡ None → p ≤ end → end < 2 ^ 32 → AllFit all cells
       → OnElement Sound throughs element env places message end p cells × OnEnding (element_meaning sets senses element env places message start end p cells).ending (Between all p end)
@@ -74,7 +80,7 @@ module _ (sets : List (List ℕ)) (senses : ℕ → Sense) (throughs : ℕ → T
   )
   element_sound (Named j args own) start end p cells form u le low f =
       let a = args_fit scope facts env (params_at (slice_get ds j)) args form.1.0 s u in
-      let g = good j form.0 all (values args env) (map (slice_index places) own) cells p end a.1 (cells_stand all bounds places (cells_at (slice_get ds j)) own form.1.1 st) f le low in
+      let g = good j form.0 all (values args env) (map (slice_index places) own) cells p end a.1 (cells_stand all bounds places (own_at (slice_get ds j)) own form.1.1 st) f le low in
       ((a.0, g.0), g.1)
   element_sound UnitElement start end p cells form u le low f = (tt, ((omega arith, le), f))
   element_sound Rest start end p cells form u le low f = (tt, ((le, omega arith), f))
@@ -198,3 +204,26 @@ module _ (sets : List (List ℕ)) (senses : ℕ → Sense) (throughs : ℕ → T
       )
   shape_sound element (UpToZero size) end p cells form sized u v le low f =
       (sound scope facts env size s sized v, element_up_to_zero_between element (natural_of size env) end p cells le f)
+
+  has_room : (c : CopyOut) (b : Bool) → room_unsafe c b ≡ None → b ≡ false
+  has_room c true u = absurd (none-some (Room c.span) (sym u))
+  has_room c false u = refl
+
+  pub content_sound : (element : Element) (extent : Extent) (copy : Option CopyOut) (end p : ℕ) (cells : List ℕ) → IsElementFormed ds n bounds scope element → IsExtentFormed scope extent
+      → OfSome (CopyStands bounds) copy → element_unsafe facts element ≡ None → extent_unsafe facts extent ≡ None → copy_unsafe facts copy extent ≡ None → p ≤ end → end < 2 ^ 32 → AllFit all cells
+      → OnContent Sound sets senses throughs element extent copy env places message end p cells
+      × OnEnding (content_meaning sets senses element extent copy env places message end p cells).ending (Between all p end)
+  content_sound element extent None end p cells form sized held u v w le low f = shape_sound element extent end p cells form sized u v le low f
+  content_sound element (Filling size step) (Some c) end p cells form sized held u v w le low f =
+      let m = natural_of size env in
+      let g = sound scope facts env size s sized v in
+      let fit = within_room scope facts env size c.room s sized v (has_room c (int_lt (pos c.room) (range_of facts size).high) w) in
+      let start : p < 2 ^ 32 = omega (arith, le, low) in (
+        (g, spare_sound c size env held.room g fit),
+        on_then (taken m p end p cells).ending (taken m p end p cells).reads (λ q more. after_reading (places_from p m) (accepted q (with_copy c places p m more)))
+            (λ q more. (q ≡ p + m) × ((q ≤ end) × AllFit all more)) (Between all p end) (on_taken all m p end p cells f)
+            (λ q more h. let e = h.0 in ((omega (arith, e), h.1.0), copy_fits all bounds places c p m more st held start fit h.1.1)),
+      )
+  content_sound element Once (Some c) end p cells form sized held u v w le low f = shape_sound element Once end p cells form sized u v le low f
+  content_sound element (OnceFilling size step) (Some c) end p cells form sized held u v w le low f = shape_sound element (OnceFilling size step) end p cells form sized u v le low f
+  content_sound element (UpToZero size) (Some c) end p cells form sized held u v w le low f = shape_sound element (UpToZero size) end p cells form sized u v le low f

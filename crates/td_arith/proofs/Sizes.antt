@@ -11,6 +11,7 @@ use Rattle.td_core.specs.declared.module.Element.{Element}
 use Rattle.td_core.specs.declared.module.Element.TheVariants.{Number, Listed, Named, Unit as UnitElement, Rest, Zeros}
 use Rattle.td_core.specs.declared.module.Extent.{Extent}
 use Rattle.td_core.specs.declared.module.Extent.TheVariants.{Once, Filling, OnceFilling, UpToZero}
+use Rattle.td_core.specs.declared.module.CopyOut.{CopyOut}
 use Rattle.td_core.specs.declared.module.Part.{Part}
 use Rattle.td_core.specs.declared.module.Field.{Field}
 use Rattle.td_core.specs.declared.module.Case.{Case}
@@ -26,7 +27,7 @@ use Rattle.td_core.specs.declared.kind.Kind.{Kind}
 use Rattle.td_kinds.specs.Kinds.{up_to, exactly, at_least, on_both, joined, element_kind, sized_kind, field_kind, fields_kind, default_kind, spanned_with, cases_kind, body_kind, definition_kind, kinds_below, pick_kind}
 use Rattle.td_meaning.specs.Doing.{Effect, On, Returned, Aborted, doing, natural_of, is_true}
 use Rattle.td_meaning.specs.Naming.{is_needed}
-use Rattle.td_meaning.specs.Meaning.{Sense, values, values_of, taken, demanded, is_nonzero, byte_type, zeros_end, first_where, numbers_at, element_meaning, elements, divides, equals, zero_end, element_up_to_zero, shape_meaning, refined, ended, acted, checked, parts_meaning, bits_of, field_number, number_places, extended, field_place, where_place, first_name, fields_meaning, case_for, chosen_meaning, body_meaning, definition_meaning, below, pick}
+use Rattle.td_meaning.specs.Meaning.{Sense, values, values_of, taken, demanded, is_nonzero, byte_type, zeros_end, first_where, numbers_at, element_meaning, elements, divides, equals, zero_end, element_up_to_zero, shape_meaning, with_copy, content_meaning, refined, ended, acted, checked, parts_meaning, bits_of, field_number, number_places, extended, field_place, where_place, first_name, fields_meaning, case_for, chosen_meaning, body_meaning, definition_meaning, below, pick}
 use Rattle.td_meaning.specs.Throughout.{OnEnding}
 use Rattle.td_kinds.specs.KindRules.{kinds_of}
 use Rattle.td_arith.specs.Sizes.{UpTo, Sized, SizesHold, ElementsMoveOn}
@@ -177,18 +178,30 @@ module _ (sets : List (List ℕ)) (kinds : ℕ → Kind) (senses : ℕ → Sense
       any (Rejected r position trace more) = tt
   shape_sized element (UpToZero size) env places message end p cells le = up_to_zero_sized element (natural_of size env) message end p cells le
 
+  content_sized : (element : Element) (extent : Extent) (copy : Option CopyOut) (env places message : List ℕ) (end p : ℕ) (cells : List ℕ) → p ≤ end
+      → OnEnding (content_meaning sets senses element extent copy env places message end p cells).ending (Sized (field_kind kinds element extent) p end)
+  content_sized element extent None env places message end p cells le = shape_sized element extent env places message end p cells le
+  content_sized element (Filling size step) (Some c) env places message end p cells le =
+      let m = natural_of size env in
+      let There : ℕ → List ℕ → Type 0 = λ q more. (q ≡ p + m) × (q ≤ end) in
+      on_then (taken m p end p cells).ending (taken m p end p cells).reads (λ q more. after_reading (places_from p m) (accepted q (with_copy c places p m more)))
+      There (Sized (sized_kind (constant_of size)) p end) (taken_sized m p end p cells) (λ q more h. sized_bytes size env p end q (with_copy c places p m more) h.0 h.1)
+  content_sized element Once (Some c) env places message end p cells le = shape_sized element Once env places message end p cells le
+  content_sized element (OnceFilling size step) (Some c) env places message end p cells le = shape_sized element (OnceFilling size step) env places message end p cells le
+  content_sized element (UpToZero size) (Some c) env places message end p cells le = shape_sized element (UpToZero size) env places message end p cells le
+
   -- Fields
 
   field_sized : (ty : NameId) (f : Field) (env places message : List ℕ) (end p : ℕ) (cells : List ℕ) (go : ℕ → List ℕ → Behavior) (K : Kind) → p ≤ end
       → ((q : ℕ) (more : List ℕ) → Sized (field_kind kinds f.element f.extent) p end q more → OnEnding (go q more).ending (Sized K p end)) → (reads : List ℕ)
-      → OnEnding (and_then (within (field_place ty (first_name f.parts) p) (shape_meaning sets senses f.element f.extent env places message end p cells))
+      → OnEnding (and_then (within (field_place ty (first_name f.parts) p) (content_meaning sets senses f.element f.extent f.copy env places message end p cells))
       (λ q cells. after_reading reads (and_then (parts_meaning ty p (field_number f.element f.extent message p) f.parts env places q cells) go))).ending (Sized K p end)
   field_sized ty f env places message end p cells go K le next reads =
-      let shape = shape_meaning sets senses f.element f.extent env places message end p cells in
+      let shape = content_meaning sets senses f.element f.extent f.copy env places message end p cells in
       let v = field_number f.element f.extent message p in
       on_then (within (field_place ty (first_name f.parts) p) shape).ending shape.reads (λ q cells. after_reading reads (and_then (parts_meaning ty p v f.parts env places q cells) go))
       (Sized (field_kind kinds f.element f.extent) p end) (Sized K p end)
-      (on_within (field_place ty (first_name f.parts) p) shape.ending (Sized (field_kind kinds f.element f.extent) p end) (shape_sized f.element f.extent env places message end p cells le))
+      (on_within (field_place ty (first_name f.parts) p) shape.ending (Sized (field_kind kinds f.element f.extent) p end) (content_sized f.element f.extent f.copy env places message end p cells le))
       (λ q more h. on_then (parts_meaning ty p v f.parts env places q more).ending (parts_meaning ty p v f.parts env places q more).reads go (Stays q) (Sized K p end) (parts_stay ty p v f.parts env places q more)
       (λ r last e. next r last (subst (λ z. Sized (field_kind kinds f.element f.extent) p end z last) (sym e) h)))
 

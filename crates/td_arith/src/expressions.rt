@@ -4,6 +4,7 @@ ghost use Rattle.std.specs.Prelude.{◌≡◌, ◌||◌, ◌+ℤ◌, ◌*ℤ◌,
 ghost use Rattle.td_core.specs.Types.{limit, bits, type_of, wider};
 ghost use Rattle.td_expr.specs.Facts.{some_fact};
 ghost use Rattle.td_expr.specs.Value.{flip};
+ghost use Rattle.td_expr.specs.declared.safety.Unsafe.TheVariants.{Operator};
 ghost use Rattle.td_expr.specs.Range.{narrowed, whole, computed_range, range_of};
 ghost use Rattle.td_expr.specs.Safe.{is_safe, is_below, first, unless_safe, says_sum, says_up_to, says_not_zero};
 ghost use Rattle.td_ranges.specs.Ends.{range_in, spanned};
@@ -129,12 +130,12 @@ pub(crate) fn is_safe(
 
 /// The operator as a finding, unless it is safe.
 pub(crate) fn unless(safe: bool, span: Span, op: Binary) -> Option<Unsafe>
-    ensures { result ≡ unless_safe safe (record { span = span; op = op }) }
+    ensures { result ≡ unless_safe safe (Operator span op) }
 {
     if safe {
         None
     } else {
-        Some(Unsafe { span, op })
+        Some(Unsafe::Operator { span, op })
     }
 }
 

@@ -3,16 +3,16 @@
 ghost use Rattle.std.specs.Prelude.{◌≡◌, ◌≢◌, ◌<◌, None, length, IfOk, OnOk, OnErr, IsSomeAnd};
 ghost use Rattle.td_core.specs.Copying.{HasOperands};
 ghost use Rattle.td_arith.specs.Known.{facts_in};
-ghost use Rattle.td_arith.specs.SafeModule.{option_unsafe, known_after, list_unsafe, element_unsafe, extent_unsafe, part_unsafe, parts_unsafe, known_after_parts, field_unsafe, fields_unsafe};
+ghost use Rattle.td_arith.specs.SafeModule.{option_unsafe, known_after, list_unsafe, element_unsafe, extent_unsafe, part_unsafe, parts_unsafe, known_after_parts, room_unsafe, copy_unsafe, field_unsafe, fields_unsafe};
 
 use crate::actions::action_unsafe;
 use crate::comparisons::Known;
 use crate::expressions::first_of;
 use crate::learning::learn_condition;
-use crate::walk::expression_unsafe;
+use crate::walk::{expression_unsafe, passes};
 use std::alloc::{AllocError, Global};
 use td_core::expressions::CoreExpr;
-use td_core::module::{Element, Extent, Field, Part};
+use td_core::module::{CopyOut, Element, Extent, Field, Part};
 use td_expr::safety::Unsafe;
 
 /// The first operator of a test that isn't safe, where there is a test. On `Ok` what is known is as before. `AllocError`:
@@ -142,7 +142,37 @@ fn parts_unsafe<'a>(
     Ok(found)
 }
 
-/// A field: its element's arguments, its size, its parts.
+/// A copy as a finding, where its bytes may pass the room.
+fn room_of(copy: CopyOut, passes: bool) -> Option<Unsafe>
+    ensures { result ≡ room_unsafe copy passes }
+{
+    if passes {
+        Some(Unsafe::Room { span: copy.span })
+    } else {
+        None
+    }
+}
+
+/// A copy of an array by bytes.
+fn copy_unsafe<'a>(
+    alloc: Global,
+    copy: Option<CopyOut>,
+    extent: &'a Extent,
+    known: &mut Vec<Known<'a>>,
+) -> Result<Option<Unsafe>, AllocError>
+    ensures first { IfOk result (λ u. u ≡ copy_unsafe (facts_in known.old.items) copy extent.now) }
+    ensures same { OnOk result (known.new.items ≡ known.old.items) }
+{
+    match (copy, extent) {
+        (Some(c), Extent::Filling { size, .. }) => {
+            let greater = passes(alloc, c.room, size, known)?;
+            Ok(room_of(c, greater))
+        }
+        _ => Ok(None),
+    }
+}
+
+/// A field: its element's arguments, its size, its copy, its parts.
 fn field_unsafe<'a>(
     alloc: Global,
     field: &'a Field,
@@ -154,6 +184,7 @@ fn field_unsafe<'a>(
 {
     let element = element_unsafe(alloc, &field.element, known)?;
     let extent = extent_unsafe(alloc, &field.extent, known)?;
+    let copy = copy_unsafe(alloc, field.copy, &field.extent, known)?;
     let parts = parts_unsafe(alloc, field.parts.as_slice(), known)?;
-    Ok(first_of(element, first_of(extent, parts)))
+    Ok(first_of(element, first_of(extent, first_of(copy, parts))))
 }

@@ -10,8 +10,9 @@ use std::alloc::{AllocError, Global};
 use td_core::module::{Module, TypeDef};
 use td_expr::safety::Unsafe;
 
-/// Whether each operator of a module is safe under the facts at its place. Else the error names the first in the order of
-/// the text that isn't. `NoMemory`: there is a definition, and there was no memory to look at it.
+/// Whether each operator of a module is safe under the facts at its place, and each copy has room. Else the error names
+/// the first in the order of the text that isn't, or has none. `NoMemory`: there is a definition, and there was no memory
+/// to look at it.
 pub fn arith(alloc: Global, m: &Module) -> Result<(), ArithError>
     ensures admitted { IfOk result (λ _. module_unsafe m.now ≡ None) }
     ensures cause { IfErr result (λ e. IsCause (module_unsafe m.now) e) }
@@ -27,7 +28,8 @@ fn answer(found: Option<Unsafe>) -> Result<(), ArithError>
     ensures named { result ≢ Err ArithError.NoMemory }
 {
     match found {
-        Some(Unsafe { span, op }) => Err(ArithError::Unsafe { span, op }),
+        Some(Unsafe::Operator { span, op }) => Err(ArithError::Unsafe { span, op }),
+        Some(Unsafe::Room { span }) => Err(ArithError::Room { span }),
         None => Ok(()),
     }
 }

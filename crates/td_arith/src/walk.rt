@@ -1,10 +1,11 @@
 //! The first operator of an expression that isn't safe. Ranges are worked out of the operands of operators that compute, and of
 //! what these are made of, alone: for each of them all that is known is gone through.
 
-ghost use Rattle.std.specs.Prelude.{◌≡◌, ◌++◌, IfOk, OnOk, OnErr, true, false};
+ghost use Rattle.std.specs.Prelude.{◌≡◌, ◌++◌, pos, int_lt, IfOk, OnOk, OnErr, true, false};
 ghost use Rattle.td_core.specs.Copying.{HasOperands};
 ghost use Rattle.td_core.specs.Types.{type_of};
 ghost use Rattle.td_expr.specs.Facts.{facts_of};
+ghost use Rattle.td_expr.specs.declared.safety.Unsafe.TheVariants.{Operator};
 ghost use Rattle.td_expr.specs.Range.{narrowed, computed_range, range_of};
 ghost use Rattle.td_expr.specs.Safe.{is_safe, first, first_unsafe, unless_safe};
 ghost use Rattle.td_ranges.specs.Ends.{range_in, spanned};
@@ -19,6 +20,7 @@ use td_ast::token::Span;
 use td_core::expressions::{Binary, CoreExpr, Node};
 use td_expr::safety::Unsafe;
 use td_ranges::ends::{Ends, up_to};
+use td_whole::whole::Whole;
 
 /// What a look at an expression tells: its range, and its first operator that isn't safe.
 #[derive(Drop)]
@@ -186,7 +188,7 @@ fn look_operands<'a>(
     ensures right { IfOk result (λ o. range_in o.right ≡ range_of (facts_in known.old.items) b.now) }
     ensures first { IfOk result (λ o. o.unsafe_at ≡
         first (first_unsafe (facts_in known.old.items) a.now)
-        (first (unless_safe (is_safe (facts_in known.old.items) op a.now b.now) (record { span = span; op = op }))
+        (first (unless_safe (is_safe (facts_in known.old.items) op a.now b.now) (Operator span op))
         (first_unsafe (facts_in known.old.items) b.now))) }
     ensures same { OnOk result (known.new.items ≡ known.old.items) }
 {
@@ -217,7 +219,7 @@ fn look_computed<'a>(
         (range_of (facts_in known.old.items) b.now))) }
     ensures first { IfOk result (λ s. s.unsafe_at ≡
         first (first_unsafe (facts_in known.old.items) a.now)
-        (first (unless_safe (is_safe (facts_in known.old.items) op a.now b.now) (record { span = span; op = op }))
+        (first (unless_safe (is_safe (facts_in known.old.items) op a.now b.now) (Operator span op))
         (first_unsafe (facts_in known.old.items) b.now))) }
     ensures same { OnOk result (known.new.items ≡ known.old.items) }
 {
@@ -279,4 +281,19 @@ fn look_under<'a>(
     let seen = look(alloc, e, known)?;
     known.truncate(before);
     Ok(seen)
+}
+
+/// Whether an expression may be greater than a number where conditions are known to hold. On `Ok` the list of them is as
+/// before.
+pub(crate) fn passes<'a>(
+    alloc: Global,
+    most: u32,
+    e: &'a CoreExpr,
+    known: &mut Vec<Known<'a>>,
+) -> Result<bool, AllocError>
+    ensures passes { IfOk result (λ b. b ≡ int_lt (pos most) (range_of (facts_in known.old.items) e.now).high) }
+    ensures same { OnOk result (known.new.items ≡ known.old.items) }
+{
+    let size = look(alloc, e, known)?;
+    Whole::small(i128::from(most)).is_below(alloc, &size.ends.high)
 }

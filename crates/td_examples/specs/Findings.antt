@@ -4,6 +4,7 @@ use Rattle.td_ast.specs.declared.definitions.Def.{Def}
 use Rattle.td_ast.specs.declared.definitions.ModuleTree.{ModuleTree}
 use Rattle.td_core.specs.declared.expressions.Binary.{Binary}
 use Rattle.td_expr.specs.declared.safety.Unsafe.{Unsafe}
+use Rattle.td_expr.specs.declared.safety.Unsafe.TheVariants.{Operator, Room}
 use Rattle.td_kinds.specs.declared.error.KindFault.{KindFault}
 use Rattle.td_kinds.specs.KindRules.{kind_faults, first_fault}
 use Rattle.td_limits.specs.declared.limits.Limit.{Limit}
@@ -25,9 +26,11 @@ AreFound found rows = map (λ r. found r.0) rows ≡ map (λ r. r.1) rows
 
 -- ---- the safety rule: the first operator that isn't safe, and its place
 
+-- no tree has a copy, which could lack room
 abbrev operator_at : Option Unsafe → Option (Binary × ℕ)
 operator_at None = None
-operator_at (Some u) = Some (u.op, u.span.from)
+operator_at (Some (Operator span op)) = Some (op, span.from)
+operator_at (Some (Room span)) = None
 
 abbrev pub SafetyRow : Type 0
 SafetyRow = List Def × Option (Binary × ℕ)

@@ -31,7 +31,7 @@ abbrev big : Width → Element
 big w = Number (record { width = w; order = BigEndian })
 
 abbrev field_at : Element → Extent → List Part → Span → Field
-field_at element extent parts place = record { element = element; extent = extent; parts = parts; place = place }
+field_at element extent parts place = record { element = element; extent = extent; copy = None; parts = parts; place = place }
 
 abbrev param_of : ℕ → Width → Param
 param_of n w = record { name = id n; width = w }
@@ -40,7 +40,7 @@ abbrev cell_of : ℕ → Width → Cell
 cell_of n w = record { name = id n; field = None; kind = NumberCell w }
 
 abbrev definition_from : ℕ → List Param → List Cell → Body → TypeDef
-definition_from n params cells body = record { name = id n; params = params; cells = cells; guard = None; body = body }
+definition_from n params cells body = record { name = id n; params = params; cells = cells; buffers = []; guard = None; body = body }
 
 -- written definitions, names, values of enums, definitions, entry points
 abbrev module_from : ℕ → List (List ℕ) → List (List ℕ) → List TypeDef → List ℕ → Module
