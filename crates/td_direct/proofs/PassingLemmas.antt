@@ -22,7 +22,7 @@ use Rattle.td_core.specs.Outcome.{accepted, after_reading, and_then, within}
 use Rattle.td_expr.specs.Naming.{names, deed_names}
 use Rattle.td_meaning.specs.Naming.{in_option, part_names, parts_name, element_names, extent_names, field_names, fields_name, is_needed}
 use Rattle.td_meaning.specs.Meaning.{demanded, filled, filled_once, divides, equals, field_place, field_number, number_places, first_name, extended}
-use Rattle.td_meaning.specs.Machine.{value_of, is_met, below, body_fields, chosen_meaning, definition_meaning, element_meaning, shape_meaning, parts_meaning, with_part, acted, fields_meaning}
+use Rattle.td_meaning.specs.Machine.{value_of, is_met, below, body_fields, chosen_meaning, content_meaning, definition_meaning, element_meaning, shape_meaning, parts_meaning, with_part, acted, fields_meaning}
 use Rattle.td_direct.specs.Arrays.{once_rest}
 use Rattle.td_direct.specs.Passing.{IsPassed, AreSizes, passes_all, IsShapePassed, ArePlainParts, AreQuiet}
 use Rattle.td_direct.proofs.TypeLemmas.{filled_fit, once_fit, window_pass}
@@ -90,7 +90,8 @@ fields_pass m bound ty (f ∷ later) env places b end p size cells h room =
     let at : p + first + rest ≡ p + size = omega (arith, sum) in
     let unread : is_needed (length env) f.parts later ≡ false = unneeded (length env) f.parts later q.parts (λ i. quiet_fields_name m bound i later rest h.others) in
     let go = λ (need : List ℕ) (r : ℕ) (c : List ℕ). after_reading need (and_then (parts_meaning ty p n f.parts env places r c) (fields_meaning m.listed senses ty later (extended env n f.parts) places b end)) in
-    (λ k. and_then (within (field_place ty (first_name f.parts) p) (q.shape env places b end p cells fits k)) (go (number_places (unread k) f.element f.extent p)))
+    (λ k. and_then (within (field_place ty (first_name f.parts) p) (content_meaning m.listed senses f.element f.extent (q.copy k) env places b end p cells)) (go (number_places (is_needed (length env) f.parts later) f.element f.extent p)))
+    ∙ (λ k. and_then (within (field_place ty (first_name f.parts) p) (q.shape env places b end p cells fits k)) (go (number_places (unread k) f.element f.extent p)))
     ∙ (λ k. go (nothing_read f.element f.extent p k) (p + first) cells)
     ∙ (λ k. and_then (parts_pass ty p n f.parts env places (p + first) cells q.parts k) (fields_meaning m.listed senses ty later (extended env n f.parts) places b end))
     ∙ fields_pass m bound ty later (extended env n f.parts) places b end (p + first) rest cells h.others left

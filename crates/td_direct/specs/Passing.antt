@@ -41,6 +41,7 @@ ArePlainParts (p ∷ ps) = ((p.refinement ≡ None) × (p.action ≡ None)) × A
 
 -- a field of this size that names nothing and is passed over without a look
 pub record IsQuiet (m : Module) (bound : ℕ) (f : Field) (size : ℕ) : Type 0 where
+  pub copy : f.copy ≡ None
   pub shape : IsShapePassed m bound f.element f.extent size
   pub element : (i : ℕ) → element_names i f.element ≡ false
   pub extent : (i : ℕ) → extent_names i f.extent ≡ false

@@ -1,5 +1,5 @@
 //! Which definitions are passed over without a look: structs without a `where`, of fields of constant size that aren't
-//! tested, read or named.
+//! tested, read, copied or named.
 
 ghost use Rattle.std.specs.Prelude.{◌≡◌, ℕ, ◌+◌, ◌<◌, ◌≤◌, List, length, IfOk, OnErr, IfSome, true, false, Some};
 ghost use Rattle.td_core.specs.Outcome.{accepted};
@@ -78,7 +78,7 @@ fn quiet_size(types: &Types, bound: usize, field: &Field) -> Option<u64>
     ensures { IfSome result (λ size. IsQuiet types.now.module.now bound field.now size) }
 {
     let size = passed_shape(types, bound, &field.element, &field.extent)?;
-    if names_nothing(&field.element) && are_plain(field.parts.as_slice()) {
+    if field.copy.is_none() && names_nothing(&field.element) && are_plain(field.parts.as_slice()) {
         Some(size)
     } else {
         None

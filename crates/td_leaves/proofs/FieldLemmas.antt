@@ -1,5 +1,5 @@
 -- A field, and what is left after it. Cited by other crates.
-use Rattle.std.proofs.Common.{⊎_elim, inl, inr, arith, ◌-◌, ◌≡◌, ℕ, ◌+◌, ◌<◌, ◌≤◌, Bool, true, false, List, [], ◌∷◌, length, refl, sym, ap, ◌∙◌}
+use Rattle.std.proofs.Common.{⊎_elim, inl, inr, arith, ◌-◌, ◌≡◌, ℕ, ◌+◌, ◌<◌, ◌≤◌, Bool, true, false, List, [], ◌∷◌, length, refl, sym, ap, ◌∙◌, Option, Some, None}
 use Rattle.std.specs.Prelude.{◌⊎◌, nat_le}
 use Rattle.std.proofs.lemmas.Bool.{leb-false}
 use Rattle.td_num.specs.Numbers.{bytes_in, number_at, places_from}
@@ -8,6 +8,7 @@ use Rattle.td_num.specs.Lists.{is_among}
 use Rattle.td_core.specs.declared.module.NameId.{NameId}
 use Rattle.td_core.specs.declared.module.Element.{Element}
 use Rattle.td_core.specs.declared.module.Element.TheVariants.{Number, Listed, Named, Unit as UnitElement, Rest, Zeros}
+use Rattle.td_core.specs.declared.module.CopyOut.{CopyOut}
 use Rattle.td_core.specs.declared.module.Extent.{Extent}
 use Rattle.td_core.specs.declared.module.Extent.TheVariants.{Once, Filling, OnceFilling, UpToZero}
 use Rattle.td_core.specs.declared.module.Field.{Field}
@@ -17,7 +18,7 @@ use Rattle.td_core.specs.declared.outcome.Verdict.TheVariants.{Accept, Reject}
 use Rattle.td_core.specs.Outcome.{Ending, Accepted, Rejected, Behavior, plain, after_reading, and_then, ending_within, within, accepted, rejected}
 use Rattle.td_meaning.specs.Naming.{is_needed}
 use Rattle.td_meaning.specs.Meaning.{Sense, taken, demanded, values_of, field_number, number_places, places_if, field_place, first_name}
-use Rattle.td_meaning.specs.Machine.{listed_meaning, shape_meaning, fields_meaning}
+use Rattle.td_meaning.specs.Machine.{listed_meaning, shape_meaning, content_meaning, fields_meaning}
 use Rattle.td_meaning.specs.Verdicts.{ending_of, IsRejection}
 use Rattle.td_meaning.proofs.MachineAgreeing.{unneeded}
 use Rattle.td_leaves.specs.Step.{rest_meaning}
@@ -45,12 +46,19 @@ listed_failed base values b start end p cells seen v within bad h =
     (λ other. inr other)
     (failed_by v (nat_le (p + w) end) (is_among values (number_at base b p)) (places_from p w) start (p + w) cells seen bad h)
 
+-- only arrays by bytes are copied
+content_once : (sets : List (List ℕ)) (senses : ℕ → Sense) (el : Element) (copy : Option CopyOut) (env places b : List ℕ) (end p : ℕ) (cells : List ℕ)
+    → content_meaning sets senses el Once copy env places b end p cells ≡ shape_meaning sets senses el Once env places b end p cells
+content_once sets senses el None env places b end p cells = refl
+content_once sets senses el (Some c) env places b end p cells = refl
+
 module _ (sets : List (List ℕ)) (senses : ℕ → Sense) (ty : NameId) (f : Field) (later : List Field) (env places b : List ℕ) (end p : ℕ) (cells : List ℕ) where
   -- a number, by what its bytes say
   number_by : (type : NumberType) (t : Behavior) → f.element ≡ Number type → f.extent ≡ Once → taken (bytes_in type.width) p end p cells ≡ t → fields_meaning sets senses ty (f ∷ later) env places b end p cells ≡ and_then (within (field_place ty (first_name f.parts) p) t) (λ q cells. after_reading (places_if (is_needed (length env) f.parts later) (places_from p (bytes_in type.width))) (rest_meaning sets senses ty f.parts later env (number_at type b p) places b end p q cells))
   unfolding fields_meaning
   number_by type t e o h =
-      (λ i. and_then (within (field_place ty (first_name f.parts) p) (shape_meaning sets senses (e i) (o i) env places b end p cells)) (λ q cells. after_reading (number_places (is_needed (length env) f.parts later) (e i) (o i) p) (rest_meaning sets senses ty f.parts later env (field_number (e i) (o i) b p) places b end p q cells)))
+      (λ i. and_then (within (field_place ty (first_name f.parts) p) (content_meaning sets senses (e i) (o i) f.copy env places b end p cells)) (λ q cells. after_reading (number_places (is_needed (length env) f.parts later) (e i) (o i) p) (rest_meaning sets senses ty f.parts later env (field_number (e i) (o i) b p) places b end p q cells)))
+      ∙ ap (λ t. and_then (within (field_place ty (first_name f.parts) p) t) (λ q cells. after_reading (places_if (is_needed (length env) f.parts later) (places_from p (bytes_in type.width))) (rest_meaning sets senses ty f.parts later env (number_at type b p) places b end p q cells))) (content_once sets senses (Number type) f.copy env places b end p cells)
       ∙ ap (λ t. and_then (within (field_place ty (first_name f.parts) p) t) (λ q cells. after_reading (places_if (is_needed (length env) f.parts later) (places_from p (bytes_in type.width))) (rest_meaning sets senses ty f.parts later env (number_at type b p) places b end p q cells))) h
 
   -- a number without its bytes
@@ -78,14 +86,15 @@ module _ (sets : List (List ℕ)) (senses : ℕ → Sense) (ty : NameId) (f : Fi
   pub listed_by : (base : NumberType) (k : ℕ) → f.element ≡ Listed base k → f.extent ≡ Once → fields_meaning sets senses ty (f ∷ later) env places b end p cells ≡ and_then (within (field_place ty (first_name f.parts) p) (listed_meaning base (values_of sets k) b p end p cells)) (rest_meaning sets senses ty f.parts later env (number_at base b p) places b end p)
   unfolding fields_meaning
   listed_by base k e o =
-      λ i. and_then (within (field_place ty (first_name f.parts) p) (shape_meaning sets senses (e i) (o i) env places b end p cells)) (λ q cells. after_reading (number_places (is_needed (length env) f.parts later) (e i) (o i) p) (rest_meaning sets senses ty f.parts later env (field_number (e i) (o i) b p) places b end p q cells))
+      (λ i. and_then (within (field_place ty (first_name f.parts) p) (content_meaning sets senses (e i) (o i) f.copy env places b end p cells)) (λ q cells. after_reading (number_places (is_needed (length env) f.parts later) (e i) (o i) p) (rest_meaning sets senses ty f.parts later env (field_number (e i) (o i) b p) places b end p q cells)))
+      ∙ ap (λ t. and_then (within (field_place ty (first_name f.parts) p) t) (rest_meaning sets senses ty f.parts later env (number_at base b p) places b end p)) (content_once sets senses (Listed base k) f.copy env places b end p cells)
 
   -- a field that brings no number into scope
-  pub plain_by : IsPlain f.extent f.element → fields_meaning sets senses ty (f ∷ later) env places b end p cells ≡ and_then (within (field_place ty (first_name f.parts) p) (shape_meaning sets senses f.element f.extent env places b end p cells)) (rest_meaning sets senses ty f.parts later env 0 places b end p)
+  pub plain_by : IsPlain f.extent f.element → fields_meaning sets senses ty (f ∷ later) env places b end p cells ≡ and_then (within (field_place ty (first_name f.parts) p) (content_meaning sets senses f.element f.extent f.copy env places b end p cells)) (rest_meaning sets senses ty f.parts later env 0 places b end p)
   unfolding fields_meaning
   plain_by h =
       let need = is_needed (length env) f.parts later in
-      λ i. and_then (within (field_place ty (first_name f.parts) p) (shape_meaning sets senses f.element f.extent env places b end p cells)) (λ q cells. after_reading (no_places need f.extent f.element p h i) (rest_meaning sets senses ty f.parts later env (no_number f.extent f.element b p h i) places b end p q cells))
+      λ i. and_then (within (field_place ty (first_name f.parts) p) (content_meaning sets senses f.element f.extent f.copy env places b end p cells)) (λ q cells. after_reading (no_places need f.extent f.element p h i) (rest_meaning sets senses ty f.parts later env (no_number f.extent f.element b p h i) places b end p q cells))
     where
       no_number : (extent : Extent) (element : Element) (b : List ℕ) (p : ℕ) → IsPlain extent element → field_number element extent b p ≡ 0
       no_number Once (Number type) b p h = absurd h

@@ -1,0 +1,24 @@
+-- Buffers for the copies of a validation.
+use Rattle.std.specs.Prelude.{◌≡◌, ℕ, ◌≤◌, List, [], ◌∷◌, length, Option, Some, None}
+use Rattle.td_core.specs.Entries.{entry_definition}
+use Rattle.td_core.specs.declared.module.Buffer.{Buffer}
+use Rattle.td_core.specs.declared.module.Entry.{Entry}
+use Rattle.td_core.specs.declared.module.Module.{Module}
+use Rattle.td_core.specs.declared.module.TypeDef.{TypeDef}
+use Rattle.td_stream.specs.Copies.{BufferView}
+
+-- an empty buffer for each copy parameter, in order, with at least its room
+abbrev pub AreBuffersFor : List Buffer → List BufferView → Type 0
+AreBuffersFor [] [] = Unit {0}
+AreBuffersFor [] (v ∷ vs) = ⊥
+AreBuffersFor (b ∷ bs) [] = ⊥
+AreBuffersFor (b ∷ bs) (v ∷ vs) = (v.held ≡ []) × ((b.room ≤ v.room) × AreBuffersFor bs vs)
+
+-- so many cells and these buffers are those of a definition
+abbrev pub AreOfDefinition : Option TypeDef → ℕ → List BufferView → Type 0
+AreOfDefinition None cells buffers = buffers ≡ []
+AreOfDefinition (Some d) cells buffers = (cells ≡ length d.cells) × AreBuffersFor d.buffers buffers
+
+-- those of an entry point; one that the module doesn't have has no buffers
+abbrev pub AreOfEntry : Module → Entry → ℕ → List BufferView → Type 0
+AreOfEntry m entry cells buffers = AreOfDefinition (entry_definition m entry.number) cells buffers
