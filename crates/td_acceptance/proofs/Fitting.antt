@@ -8,7 +8,7 @@ use Rattle.td_num.specs.Lists.{Each}
 use Rattle.td_core.specs.declared.module.NameId.{NameId}
 use Rattle.td_core.specs.declared.expressions.Scalar.{Scalar}
 use Rattle.td_core.specs.Term.{Deed, done, set, keep, fork, answer, give_up}
-use Rattle.td_core.specs.Formed.{Bound, Takes, IsDeedFormed, IsActionFormed, ArePartsFormed, part_bound, parts_scope, AreCellsFormed, cells_at, IsElementFormed, AreFieldsFormed, AreCasesFormed, IsDefaultFormed, IsBodyFormed, given}
+use Rattle.td_core.specs.Formed.{Bound, Takes, IsDeedFormed, IsActionFormed, ArePartsFormed, part_bound, parts_scope, AreCellsFormed, own_at, IsElementFormed, AreFieldsFormed, AreCasesFormed, IsDefaultFormed, IsBodyFormed, given}
 use Rattle.td_core.specs.WellFormed.{OfSome, EachField, HasParts, AreBitsOf, AreParts, AreFieldParts, IsEnumThere, IsFieldWhole}
 use Rattle.td_core.specs.Weights.{of_named, fields_depth, default_depth, cases_depth, body_depth}
 use Rattle.td_core.specs.declared.kind.Kind.{Kind}
@@ -133,7 +133,7 @@ more_than_none zero h = absurd (cc)
 more_than_none (suc k) h = grind (arith, nat_tests)
 
 module _ (c : Parts) (depth : ℕ → ℕ) (n : ℕ) (ds : List TypeDef) (count : ℕ) (E : ℕ → ℕ) (kinds : ℕ → Kind) (cells : List Bound)
-    (own_cells : length cells ≡ (routine_of c n).cells) (their_cells : (j : ℕ) → j < n → length (cells_at (slice_get ds j)) ≡ (routine_of c j).cells)
+    (own_cells : length cells ≡ (routine_of c n).cells) (their_cells : (j : ℕ) → j < n → length (own_at (slice_get ds j)) ≡ (routine_of c j).cells)
     (sets : count ≤ length c.sets) (deeper : (j : ℕ) → j < n → depth j ≤ E j) where
   element_fits : (site : ℕ) (scope : List Bound) (element : Element) → IsElementFormed ds n cells scope element → IsEnumThere count element → Mapped c site element → of_named E element + 1 ≤ depth n
       → ElementFits c depth (λ j. nat_lt 0 (kinds j).least) n site element
@@ -141,7 +141,7 @@ module _ (c : Parts) (depth : ℕ → ℕ) (n : ℕ) (ds : List TypeDef) (count 
   element_fits site scope (ListedElement base v) h l s d = omega (arith, l, sets)
   element_fits site scope (NamedElement j args own) h l s d = (
     (let x = deeper j h.0 in omega (arith, x, d)),
-    (s, (owned cells (cells_at (slice_get ds j)) own h.1.1 ∙ their_cells j h.0, subst (λ x. AreBelow x own) own_cells (own_below cells (cells_at (slice_get ds j)) own h.1.1))),
+    (s, (owned cells (own_at (slice_get ds j)) own h.1.1 ∙ their_cells j h.0, subst (λ x. AreBelow x own) own_cells (own_below cells (own_at (slice_get ds j)) own h.1.1))),
   )
   element_fits site scope UnitElement h l s d = tt
   element_fits site scope Rest h l s d = tt

@@ -10,7 +10,9 @@ use Rattle.td_core.specs.declared.module.Body.{Body as BodyDef}
 use Rattle.td_core.specs.declared.module.Body.TheVariants.{Struct as StructDef, Casetype as CasetypeDef}
 use Rattle.td_core.specs.declared.module.TypeDef.{TypeDef}
 use Rattle.td_core.specs.declared.module.Module.{Module}
-use Rattle.td_core.specs.Formed.{cell_bound, cell_bounds, cells_at, param_bounds}
+use Rattle.td_core.specs.Formed.{own_bounds, own_at, param_bounds}
+use Rattle.td_core.specs.Copies.{IsDefinitionCopyless}
+use Rattle.td_core.proofs.Copyless.{visible_count}
 use Rattle.td_core.specs.WellFormed.{OfSome, EachField, HasParts, IsFieldWhole}
 use Rattle.td_core.specs.Weights.{definition_depth, body_depth, depth_of, definition_weight, weight_of, below_by, either_number}
 use Rattle.td_kinds.specs.Kinds.{kinds_below, definition_kind, body_kind, pick_kind}
@@ -157,16 +159,19 @@ module _ (c : Parts) (units : ℕ → ℕ) (m : Module) (a : IsAdmissible m) (l 
       let z = same_by definition_depth m.definitions n j h k in
       omega (arith, y, z)
 
-  their_cells : (n j : ℕ) → n ≤ length m.definitions → j < n → length (cells_at (slice_get m.definitions j)) ≡ (routine_of c j).cells
+  own_count : (n : ℕ) (d : TypeDef) → slice_get m.definitions n ≡ Some d → length (own_bounds d) ≡ length d.cells
+  own_count n d e = visible_count d (each_at IsDefinitionCopyless m.definitions n d a.copyless e).buffers
+
+  their_cells : (n j : ℕ) → n ≤ length m.definitions → j < n → length (own_at (slice_get m.definitions j)) ≡ (routine_of c j).cells
   their_cells n j h k =
       let x = got m.definitions j (omega (arith, h, k)) in
-      ap (λ o. length (cells_at o)) x.1 ∙ (mapped (λ (y : Cell). cell_bound y.kind) x.0.cells ∙ sym (q.cells j x.0 x.1))
+      ap (λ o. length (own_at o)) x.1 ∙ (own_count j x.0 x.1 ∙ sym (q.cells j x.0 x.1))
 
   fits_at : (n : ℕ) (d : TypeDef) → n < length m.definitions → slice_get m.definitions n ≡ Some d → BodyFits c depth busy n (first_site m.definitions n + 2) d.body
   fits_at n d h e =
       let deep = some_deep n h d e in
-      body_fits c depth n m.definitions (length m.listed) (below_by definition_depth m.definitions n) (kinds_of m) (cell_bounds d.cells)
-      (mapped (λ (y : Cell). cell_bound y.kind) d.cells ∙ sym (q.cells n d e)) (λ j k. their_cells n j (omega (arith, h)) k) q.sets (λ j k. deeper n j (omega (arith, h)) k)
+      body_fits c depth n m.definitions (length m.listed) (below_by definition_depth m.definitions n) (kinds_of m) (own_bounds d)
+      (own_count n d e ∙ sym (q.cells n d e)) (λ j k. their_cells n j (omega (arith, h)) k) q.sets (λ j k. deeper n j (omega (arith, h)) k)
       d.name (first_site m.definitions n + 1) (first_site m.definitions n + 2) (param_bounds d.params) d.body
       (a.formed n d e).1 (each_at (λ x. EachField (IsFieldWhole (length m.listed)) x.body) m.definitions n d a.fields e) (sited_at n d h e).1 (no_faults (kinds_of m) m.definitions n d a.kinds e) (omega (arith, deep))
 

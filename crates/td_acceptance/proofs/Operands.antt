@@ -1,7 +1,6 @@
 -- Cells and bits of a definition.
 use Rattle.std.proofs.Common.{◌≡◌, ℕ, ◌≤◌, List, [], ◌∷◌, length, slice_get, Option, Some, None, arith}
 use Rattle.td_num.specs.Lists.{Each}
-use Rattle.td_core.specs.declared.module.Cell.{Cell}
 use Rattle.td_core.specs.declared.module.Bits.{Bits}
 use Rattle.td_core.specs.declared.module.Part.{Part}
 use Rattle.td_core.specs.declared.module.Field.{Field}
@@ -10,13 +9,14 @@ use Rattle.td_core.specs.declared.module.Body.{Body}
 use Rattle.td_core.specs.declared.module.Body.TheVariants.{Struct, Casetype}
 use Rattle.td_core.specs.declared.module.TypeDef.{TypeDef}
 use Rattle.td_core.specs.declared.module.Module.{Module}
-use Rattle.td_core.specs.Formed.{Bound, cell_bound, cell_bounds, param_bounds, parts_scope, AreFieldsFormed, AreCasesFormed, IsDefaultFormed, IsBodyFormed}
+use Rattle.td_core.specs.Formed.{Bound, own_bounds, param_bounds, parts_scope, AreFieldsFormed, AreCasesFormed, IsDefaultFormed, IsBodyFormed}
 use Rattle.td_core.specs.WellFormed.{OfSome, EachField, IsFieldWhole}
 use Rattle.td_blocks.specs.Tops.{fields_cells, default_cells, cases_cells, body_cells, bits_end, parts_bits, fields_bits, default_bits, cases_bits, body_bits}
 use Rattle.td_acceptance.proofs.Fit.{BitsFit}
 use Rattle.td_acceptance.specs.Modules.{IsAdmissible}
 use Rattle.td_acceptance.proofs.Fitting.{parts_within, parts_fit}
-use Rattle.td_acceptance.proofs.Modules.{mapped}
+use Rattle.td_core.specs.Copies.{IsDefinitionCopyless}
+use Rattle.td_core.proofs.Copyless.{visible_count}
 use Rattle.td_num.proofs.Lists.{each_at}
 
 fields_within : (ds : List TypeDef) (n : ℕ) (cells scope : List Bound) (fs : List Field) → AreFieldsFormed ds n cells scope fs → fields_cells fs ≤ length cells
@@ -62,6 +62,6 @@ body_end count (Casetype e cases o) h = let x = cases_end count cases h.0 in let
 
 pub operands_fit : (m : Module) (n : ℕ) (d : TypeDef) → IsAdmissible m → slice_get m.definitions n ≡ Some d → (body_cells d.body ≤ length d.cells) × (body_bits d.body ≤ 64)
 operands_fit m n d a e =
-    let x = body_within m.definitions n (cell_bounds d.cells) (param_bounds d.params) d.body (a.formed n d e).1 in
-    let l = mapped (λ (y : Cell). cell_bound y.kind) d.cells in
+    let x = body_within m.definitions n (own_bounds d) (param_bounds d.params) d.body (a.formed n d e).1 in
+    let l = visible_count d (each_at IsDefinitionCopyless m.definitions n d a.copyless e).buffers in
     (omega (arith, x, l), body_end (length m.listed) d.body (each_at (λ y. EachField (IsFieldWhole (length m.listed)) y.body) m.definitions n d a.fields e))

@@ -8,7 +8,7 @@ use Rattle.td_core.specs.declared.outcome.Verdict.TheVariants.{Accept}
 use Rattle.td_stream.specs.declared.load.Load.{Load}
 use Rattle.td_stream.specs.declared.stretch.Stretch.{Stretch}
 use Rattle.td_stream.specs.Loads.{Carries}
-use Rattle.td_meaning.specs.Meaning.{outcome}
+use Rattle.td_meaning.specs.Copies.{outcome}
 use Rattle.td_leaves.specs.Outcomes.{IsMeant}
 use Rattle.td_values.specs.Datum.{Datum}
 use Rattle.td_spelled.specs.Laws.{HoldsBytes}

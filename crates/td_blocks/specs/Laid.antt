@@ -2,14 +2,16 @@
 use Rattle.std.specs.Prelude.{◌≡◌, ℕ, ◌<◌, length, Some, slice_get}
 use Rattle.td_core.specs.declared.module.TypeDef.{TypeDef}
 use Rattle.td_core.specs.declared.module.Module.{Module}
+use Rattle.td_core.specs.Copies.{IsCopyless}
 use Rattle.td_ir.specs.declared.tables.Parts.{Parts}
 use Rattle.td_ir.specs.Tables.{routine_of, entry_of, first_of}
 use Rattle.td_blocks.specs.Block.{Stands, size}
 use Rattle.td_blocks.specs.Lowered.{block_of}
 use Rattle.td_blocks.specs.Placed.{params_of}
 
--- routine n is definition n's block, with as many parameters; entry point n is the module's, with its parameters and cells
+-- nothing is copied, for which there is no code yet; routine n is definition n's block, with as many parameters; entry point n is the module's, with its parameters and cells
 pub record IsLaid (c : Parts) (units : ℕ → ℕ) (m : Module) : Type 0 where
+  pub copyless : IsCopyless m
   pub count : length c.routines ≡ length m.definitions
   pub stands : (n : ℕ) → n < length m.definitions → Stands c (first_of c n) 0 (block_of units m.definitions n)
   pub sizes : (n : ℕ) → n < length m.definitions → (routine_of c n).length ≡ size (block_of units m.definitions n)

@@ -8,8 +8,7 @@ use Rattle.td_core.specs.declared.module.Entry.{Entry}
 use Rattle.td_core.specs.Entries.{entry_definition}
 use Rattle.td_core.specs.Formed.{AllFit, params_at, cells_at}
 use Rattle.td_arith.specs.Laws.{EvaluatedIsSound}
-use Rattle.td_expr.specs.Sound.{Sound}
-use Rattle.td_meaning.specs.Throughout.{Throughout}
+use Rattle.td_meaning.specs.Copies.{IsSoundOn}
 use Rattle.td_front.specs.Checked.{IsChecked}
 use Rattle.td_ir.specs.declared.tables.Parts.{Parts}
 use Rattle.td_lowered.specs.CodeRun.{IsCodeOf, ArgumentsFit}
@@ -21,6 +20,7 @@ use Rattle.td_core.proofs.Found.{entry_found as entry_of}
 pub lowerable : (m : Module) → IsChecked m → IsLowerable m
 lowerable m h = record {
   ready = record { formed = h.formed; sorted = h.sorted; fields = h.fields; steps = h.steps; kinds = h.kinds };
+  copyless = h.copyless;
   whole = h.whole;
   named = h.named;
   words = h.words;
@@ -33,7 +33,7 @@ lowerable m h = record {
 -- each expression that the meaning evaluates lies in its type's range, whatever the message's bytes are
 sound_values : (m : Module) (entry : Entry) (args cells : List ℕ) → EvaluatedIsSound → IsChecked m → entry.number < length m.entries
     → AllFit (params_at (entry_definition m entry.number)) args → AllFit (cells_at (entry_definition m entry.number)) cells
-    → (b : List ℕ) → AreBytes b → length b < 2 ^ 32 → Throughout Sound m entry args cells b
+    → (b : List ℕ) → AreBytes b → length b < 2 ^ 32 → IsSoundOn m entry args cells b
 sound_values m entry args cells law checked inside fits_args fits_cells b bytes short =
     let place = got m.entries entry.number inside in
     let there : place.0 < length m.definitions = each_at (λ p. p < length m.definitions) m.entries entry.number place.0 checked.whole.entries place.1 in
@@ -41,7 +41,7 @@ sound_values m entry args cells law checked inside fits_args fits_cells b bytes 
     let same : entry_definition m entry.number ≡ Some d.0 = entry_of m entry.number place.0 d.0 place.1 d.1 in
     let P : Option TypeDef → Type 0 = λ o. AllFit (params_at o) args in
     let Q : Option TypeDef → Type 0 = λ o. AllFit (cells_at o) cells in
-    law m entry place.0 d.0 args cells b checked.formed checked.safe place.1 d.1 (subst P same fits_args) (subst Q same fits_cells) bytes short
+    law m entry place.0 d.0 args cells b checked.formed checked.copying checked.safe place.1 d.1 (subst P same fits_args) (subst Q same fits_cells) bytes short
 
 pub does : (c : Parts) (m : Module) → EvaluatedIsSound → ArgumentsFit → IsChecked m → IsCodeOf c m → MeansModule c m → DoesWhatItMeans c m
 does c m law fitting checked code means = λ entry args cells message inside fits_args fits_cells bytes short.

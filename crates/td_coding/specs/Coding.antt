@@ -6,6 +6,7 @@ use Rattle.td_core.specs.declared.module.Entry.{Entry}
 use Rattle.td_core.specs.Entries.{entry_definition}
 use Rattle.td_core.specs.Formed.{AllFit, params_at, cells_at}
 use Rattle.td_meaning.specs.Meaning.{meaning}
+use Rattle.td_meaning.specs.Copies.{opened}
 use Rattle.td_ir.specs.declared.tables.Parts.{Parts}
 use Rattle.td_ir.specs.Listing.{listing}
 use Rattle.td_ir.specs.Run.{run}
@@ -27,7 +28,7 @@ DoesWhatItMeans c m =
     entry.number < length m.entries →
     AllFit (params_at (entry_definition m entry.number)) args → AllFit (cells_at (entry_definition m entry.number)) cells →
     AreBytes message → length message < 2 ^ 32 →
-    IsMeaning (run c entry args cells message) (meaning m entry args cells message)
+    IsMeaning (run c entry args cells message) (meaning m entry args (opened m entry cells) message)
 
 -- the code that is written of the module, down to its names; the verifier accepts it, and it does so
 pub record IsCodeFor (c : Parts) (m : Module) : Type 0 where

@@ -173,6 +173,7 @@ fn structure(
         name: NameId { number },
         params: head.params,
         cells: head.cells,
+        buffers: Items::new(alloc),
         guard: inner.guard,
         body: inner.body,
     };
@@ -239,6 +240,7 @@ fn casetype(
         name: NameId { number },
         params: head.params,
         cells: head.cells,
+        buffers: Items::new(alloc),
         guard: inner.guard,
         body: inner.body,
     };

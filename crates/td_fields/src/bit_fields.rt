@@ -83,6 +83,7 @@ fn whole_field(alloc: Global, flat: FlatField) -> Result<Field, AllocError>
     Ok(Field {
         element: flat.element,
         extent: flat.extent,
+        copy: None,
         parts,
         place: flat.place,
     })
@@ -95,6 +96,7 @@ fn unit_field(unit: OpenUnit) -> Field
     Field {
         element: Element::Number(unit.room.base),
         extent: Extent::Once,
+        copy: None,
         parts: unit.parts,
         place: unit.place,
     }

@@ -14,4 +14,5 @@ mod weights;
 pub use counts::{counts_passed, counts_passed_in};
 pub use limits::{Excess, Limit};
 pub use measures::{Measure, NameSort};
+pub use nodes::definition_nodes;
 pub use sizes::sizes_passed;

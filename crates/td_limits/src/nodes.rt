@@ -186,8 +186,8 @@ pub(crate) fn head_nodes(head: &HeadTree) -> u64
     option_nodes(&head.condition).saturating_add(head.params.len() as u64)
 }
 
-/// The nodes of a definition.
-pub(crate) fn definition_nodes(definition: &Def) -> u64
+/// The nodes of a definition; the greatest number, where they are more. Takes no memory.
+pub fn definition_nodes(definition: &Def) -> u64
     ensures { result ≡ capped (definition_nodes definition.now) }
 {
     match definition {

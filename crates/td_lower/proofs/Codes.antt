@@ -13,6 +13,7 @@ use Rattle.td_core.specs.declared.module.Body.{Body}
 use Rattle.td_core.specs.declared.module.Body.TheVariants.{Struct, Casetype}
 use Rattle.td_core.specs.declared.module.TypeDef.{TypeDef}
 use Rattle.td_core.specs.declared.module.Module.{Module}
+use Rattle.td_core.specs.Copies.{IsCopyless}
 use Rattle.td_core.specs.WellFormed.{OfSome, EachField, HasParts, IsWhole, IsNameThere, IsDefinitionNamed}
 use Rattle.td_meaning.specs.Meaning as meaning
 use Rattle.td_lexer.specs.Splits.{IsLongName}
@@ -162,7 +163,7 @@ entry_at ds [] n place h = absurd (cc)
 entry_at ds (p ∷ ps) zero place h = (let same : p ≡ place = cc in ap (entry_for ds) same)
 entry_at ds (p ∷ ps) (suc n) place h = entry_at ds ps n place h
 
-module _ (c : Parts) (m : Module) (w : IsWritten c m) (whole : IsWhole m) (named : Each (IsDefinitionNamed (length m.names)) m.definitions) (words : Each IsLongName m.names)
+module _ (c : Parts) (m : Module) (w : IsWritten c m) (copyless : IsCopyless m) (whole : IsWhole m) (named : Each (IsDefinitionNamed (length m.names)) m.definitions) (words : Each IsLongName m.names)
     (law : LayingOut) (some : BlocksHaveCode) where
   names_are : length c.names ≡ length m.names + 2
   names_are = (let x = ap length w.names in let y = length-append m.names (codes "where" ∷ codes "switch" ∷ []) in omega (arith, x, y))
@@ -228,6 +229,7 @@ module _ (c : Parts) (m : Module) (w : IsWritten c m) (whole : IsWhole m) (named
 
   pub is_laid : IsLaid c (units_of m) m
   is_laid = record {
+    copyless = copyless;
     count = count_is;
     stands = λ n h. stands_at c (units_of m) m.definitions w.routines w.instructions law n h;
     sizes = λ n h. length_is c (units_of m) m.definitions w.routines w.instructions n h;

@@ -6,8 +6,7 @@ use Rattle.td_core.specs.Entries.{entry_definition}
 use Rattle.td_core.specs.Formed.{AllFit, params_at, cells_at}
 use Rattle.td_core.specs.Outcome.{Behavior, Ending, Accepted, Rejected}
 use Rattle.td_meaning.specs.Meaning.{meaning}
-use Rattle.td_meaning.specs.Throughout.{Throughout}
-use Rattle.td_expr.specs.Sound.{Sound}
+use Rattle.td_meaning.specs.Copies.{opened, IsSoundOn}
 use Rattle.td_ir.specs.declared.tables.Parts.{Parts}
 use Rattle.td_ir.specs.WellFormed.{IsCode}
 use Rattle.td_ir.specs.State.{Way, Returned, Failed, Exit}
@@ -41,8 +40,8 @@ pub record IsCodeOf (c : Parts) (m : Module) : Type 0 where
 abbrev pub CodeMeans : Type 0
 CodeMeans =
     (c : Parts) (m : Module) (entry : Entry) (args cells message : List ℕ) →
-    IsCodeOf c m → Fits c entry args cells → length message < 2 ^ 32 → Throughout Sound m entry args cells message →
-    IsMeaning (run c entry args cells message) (meaning m entry args cells message)
+    IsCodeOf c m → Fits c entry args cells → length message < 2 ^ 32 → IsSoundOn m entry args cells message →
+    IsMeaning (run c entry args cells message) (meaning m entry args (opened m entry cells) message)
 
 -- arguments and cells that fit the module's entry point fit that of its code
 abbrev pub ArgumentsFit : Type 0

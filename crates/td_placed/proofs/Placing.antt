@@ -20,7 +20,7 @@ use Rattle.td_core.specs.declared.module.Body.{Body}
 use Rattle.td_core.specs.declared.module.Body.TheVariants.{Struct, Casetype}
 use Rattle.td_core.specs.declared.module.TypeDef.{TypeDef}
 use Rattle.td_core.specs.declared.kind.Kind.{Kind}
-use Rattle.td_core.specs.Formed.{Bound, IsScoped, IsOptionScoped, IsDeedFormed, IsActionFormed, given, whole, param_bounds, cell_bounds, part_bound, parts_scope, ArePartsFormed, AreArgsFormed, params_at, IsElementFormed, IsExtentFormed, AreFieldsFormed, AreCasesFormed, IsDefaultFormed, IsBodyFormed}
+use Rattle.td_core.specs.Formed.{Bound, IsScoped, IsOptionScoped, IsDeedFormed, IsActionFormed, given, whole, param_bounds, own_bounds, part_bound, parts_scope, ArePartsFormed, AreArgsFormed, params_at, IsElementFormed, IsExtentFormed, AreFieldsFormed, AreCasesFormed, IsDefaultFormed, IsBodyFormed}
 use Rattle.td_core.specs.WellFormed.{OfSome, EachField, IsSorted, IsDeedSorted, IsElementSorted, IsExtentSorted, IsPartSorted, IsFieldSorted, IsSwitchSorted, IsDefinitionSorted, AreBitsOf, AreParts, AreFieldParts, IsRefinable, IsZeroEnded, IsFieldWhole}
 use Rattle.td_expr.specs.Same.{constant_of}
 use Rattle.td_meaning.specs.Naming.{is_needed}
@@ -183,7 +183,7 @@ module _ (ds : List TypeDef) (n count : ℕ) (kinds : ℕ → Kind) (cells : Lis
   element_placed Zeros scope L le s b r h = tt
 
   elements_placed : (f : Field) (size : Term) (step : Option ℕ) (last : Bool) (element : Element) (scope : List Bound) (L : ℕ) → length scope ≡ L → IsElementFormed ds n cells scope element → IsElementSorted element → terms_top (suc t) (terms_of element) ≤ R
-      → field_faults kinds (record { element = element; extent = Filling size step; parts = f.parts; place = f.place }) last ≡ [] → ElementsPlaced n (params_of ds) R L t element
+      → field_faults kinds (record { element = element; extent = Filling size step; copy = f.copy; parts = f.parts; place = f.place }) last ≡ [] → ElementsPlaced n (params_of ds) R L t element
   elements_placed f size step last (Number type) scope L le s b h k = tt
   elements_placed f size step last (Listed base v) scope L le s b h k = tt
   elements_placed f size step last (Named d args own) scope L le s b h k =
@@ -223,7 +223,7 @@ module _ (ds : List TypeDef) (n count : ℕ) (kinds : ℕ → Kind) (cells : Lis
   number_ended Zeros size h = absurd h
 
   shape_placed : (element : Element) (extent : Extent) (f : Field) (last : Bool) (scope : List Bound) (L : ℕ) → length scope ≡ L → IsElementFormed ds n cells scope element → IsExtentFormed scope extent → IsElementSorted element → IsExtentSorted extent
-      → HasSteps element extent → IsZeroEnded element extent → field_faults kinds (record { element = element; extent = extent; parts = f.parts; place = f.place }) last ≡ [] → shape_top t element extent ≤ R
+      → HasSteps element extent → IsZeroEnded element extent → field_faults kinds (record { element = element; extent = extent; copy = f.copy; parts = f.parts; place = f.place }) last ≡ [] → shape_top t element extent ≤ R
       → ShapePlaced n (params_of ds) R L t element extent
   shape_placed element Once f last scope L le s x b y w z k h =
       element_placed element scope L le s b (under_left (t + 2) (terms_top (suc t) (terms_of element)) R h) (under_right (t + 2) (terms_top (suc t) (terms_of element)) R h)
@@ -402,7 +402,7 @@ definitions_are_placed m n d R t ready there levels tops =
       levels = omega (arith, levels, above);
       room = omega (arith, g1);
       guard = test_placed (param_bounds d.params) d.guard L (suc t) R le form.0 sorted.guard (under_left tg tb R g2);
-      inside = body_placed ds n (length m.listed) (kinds_of m) (cell_bounds d.cells) t R t d.body (param_bounds d.params) L le form.1 sorted.switch sorted.fields
+      inside = body_placed ds n (length m.listed) (kinds_of m) (own_bounds d) t R t d.body (param_bounds d.params) L le form.1 sorted.switch sorted.fields
           (each_at (λ d. EachField (IsFieldWhole (length m.listed)) d.body) ds n d ready.fields there)
           (each_at (λ d. EachField IsFieldStepped d.body) ds n d ready.steps there)
           (faults_at (kinds_of m) ds n d ready.kinds there) levels (under_right tg tb R g2);

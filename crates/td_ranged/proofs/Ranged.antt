@@ -19,11 +19,12 @@ use Rattle.td_core.specs.declared.module.Body.{Body}
 use Rattle.td_core.specs.declared.module.Body.TheVariants.{Struct, Casetype}
 use Rattle.td_core.specs.declared.module.TypeDef.{TypeDef}
 use Rattle.td_core.specs.Outcome.{Behavior}
-use Rattle.td_core.specs.Formed.{Bound, AllFit, IsOptionScoped, IsElementFormed, IsExtentFormed, ArePartsFormed, AreFieldsFormed, AreCasesFormed, IsDefaultFormed, IsBodyFormed, IsDefinitionFormed, bits_bound, part_bound, parts_scope, param_bounds, cell_bounds, params_at, cells_at}
+use Rattle.td_core.specs.Formed.{Bound, AllFit, IsOptionScoped, IsElementFormed, IsExtentFormed, ArePartsFormed, AreFieldsFormed, AreCasesFormed, IsDefaultFormed, IsBodyFormed, IsDefinitionFormed, bits_bound, part_bound, parts_scope, param_bounds, own_bounds, params_at, own_at}
 use Rattle.td_expr.specs.Facts.{Fact}
 use Rattle.td_expr.specs.Sound.{Sound}
 use Rattle.td_expr.specs.Safe.{first_unsafe, first}
 use Rattle.td_expr.proofs.Admitting.{neither}
+use Rattle.td_meaning.specs.Copies.{opened}
 use Rattle.td_meaning.specs.Doing.{natural_of}
 use Rattle.td_meaning.specs.Machine as machine
 use Rattle.td_meaning.specs.Meaning.{values, values_of, refined, checked, acted, parts_meaning, bits_of, extended, case_for, pick, entry_place}
@@ -31,13 +32,13 @@ use Rattle.td_meaning.specs.Throughout.{OnEnding, OnAction}
 use Rattle.td_meaning.proofs.Ending.{on_then, on_map}
 use Rattle.td_meaning.proofs.MachineValues.{natural_is}
 use Rattle.td_meaning.proofs.MachineMeaning.{values_is, refined_is, checked_is, parts_is}
-use Rattle.td_arith.specs.SafeModule.{option_unsafe, known_after, action_unsafe, part_unsafe, parts_unsafe, known_after_parts, element_unsafe, extent_unsafe, field_unsafe, fields_unsafe, cases_unsafe, default_unsafe, body_unsafe, definition_unsafe}
+use Rattle.td_arith.specs.SafeModule.{option_unsafe, known_after, action_unsafe, part_unsafe, parts_unsafe, known_after_parts, element_unsafe, extent_unsafe, copy_unsafe, field_unsafe, fields_unsafe, cases_unsafe, default_unsafe, body_unsafe, definition_unsafe}
 use Rattle.td_arith.proofs.Fitting.{Stand, fit_length}
 use Rattle.td_arith.proofs.States.{State, pushed, sound}
 use Rattle.td_arith.proofs.Numbers.{bits_small, no_bits}
 use Rattle.td_arith.proofs.Parts.{parts_sound, option_sound, refined_stays, action_sound}
 use Rattle.td_arith.proofs.Shapes.{args_fit, cells_stand}
-use Rattle.td_arith.proofs.Evaluated.{each_safe, stand_after}
+use Rattle.td_arith.proofs.Evaluated.{each_safe, stand_after, opened_fits}
 use Rattle.td_values.specs.declared.error.WriteRule.TheVariants.{Shape, Range, Long}
 use Rattle.td_values.specs.declared.limits.TheConstants.{MOST_WRITTEN}
 use Rattle.td_values.specs.Datum.{Datum, Number, Sequence, Bytes, Empty, list_of}
@@ -80,7 +81,7 @@ number_small sets writers element.Rest x env places path p cells v s more u d bi
 number_small sets writers element.Zeros x env places path p cells v s more u d bits = no_bits bits
 
 module _ (sets : List (List ℕ)) (ours means : ℕ → Writer) (ds : List TypeDef) (n : ℕ)
-    (good : (j : ℕ) → j < n → IsSame (params_at (slice_get ds j)) (cells_at (slice_get ds j)) (ours j) (means j))
+    (good : (j : ℕ) → j < n → IsSame (params_at (slice_get ds j)) (own_at (slice_get ds j)) (ours j) (means j))
     (all bounds : List Bound) (places : List ℕ) (st : Stand all bounds places) where
   bytes_alike : (scope : List Bound) (facts : List Fact) (env : List ℕ) → State scope facts env → (e : Element) (path : List ℕ) (p : ℕ) (cells : List ℕ) (v : Datum) → IsElementFormed ds n bounds scope e → element_unsafe facts e ≡ None → p ≤ MOST_WRITTEN → AllFit all cells
       → Same all p (element_bytes in_machine ours e env places path p cells v) (element_bytes whole means e env places path p cells v)
@@ -88,7 +89,7 @@ module _ (sets : List (List ℕ)) (ours means : ℕ → Writer) (ds : List TypeD
   bytes_alike scope facts env s (element.Listed base k) path p cells v form u le f = number_same all base path p cells v f
   bytes_alike scope facts env s (element.Named j args own) path p cells v form u le f =
       let a = args_fit scope facts env (params_at (slice_get ds j)) args form.1.0 s u in
-      let g = good j form.0 all (values args env) (map (slice_index places) own) cells path p v a.1 (cells_stand all bounds places (cells_at (slice_get ds j)) own form.1.1 st) f le in
+      let g = good j form.0 all (values args env) (map (slice_index places) own) cells path p v a.1 (cells_stand all bounds places (own_at (slice_get ds j)) own form.1.1 st) f le in
       ((λ i. ours j (values_is args env a.0 i) (map (slice_index places) own) cells path p v) ∙ g.0, g.1)
   bytes_alike scope facts env s element.Unit path p cells v form u le f = unit_same all path p cells v le f
   bytes_alike scope facts env s element.Rest path p cells v form u le f = bytes_same all path p cells v f
@@ -178,9 +179,10 @@ module _ (sets : List (List ℕ)) (ours means : ℕ → Writer) (ds : List TypeD
     fields_same [] scope facts env path i p cells (v ∷ vs) form s u le f = (refl, tt)
     fields_same (x ∷ later) scope facts env path i p cells vs form s u le f =
         let one = neither (field_unsafe facts x) (fields_unsafe (known_after_parts facts x.parts) later) u in
-        let two = neither (element_unsafe facts x.element) (first (extent_unsafe facts x.extent) (parts_unsafe facts x.parts)) one.0 in
-        let three = neither (extent_unsafe facts x.extent) (parts_unsafe facts x.parts) two.1 in
-        by two.0 three.0 three.1 (unit_type x.element x.extent) refl vs
+        let two = neither (element_unsafe facts x.element) (first (extent_unsafe facts x.extent) (first (copy_unsafe facts x.copy x.extent) (parts_unsafe facts x.parts))) one.0 in
+        let three = neither (extent_unsafe facts x.extent) (first (copy_unsafe facts x.copy x.extent) (parts_unsafe facts x.parts)) two.1 in
+        let four = neither (copy_unsafe facts x.copy x.extent) (parts_unsafe facts x.parts) three.1 in
+        by two.0 three.0 four.1 (unit_type x.element x.extent) refl vs
         (λ env i p cells vs s le f. fields_same later (parts_scope x.element x.extent scope x.parts) (known_after_parts facts x.parts) env path i p cells vs form.1.1.1 s one.1 le f)
       where
         by : element_unsafe facts x.element ≡ None → extent_unsafe facts x.extent ≡ None → parts_unsafe facts x.parts ≡ None → (o : Option NumberType) → unit_type x.element x.extent ≡ o → (vs : List Datum)
@@ -277,22 +279,22 @@ module _ (sets : List (List ℕ)) (ours means : ℕ → Writer) (ds : List TypeD
       (ap (λ k. chosen_written in_machine sets ours d.name (case_for k cases default) args places path p more vs) same ∙ c.0, c.1))
 
 definition_same : (sets : List (List ℕ)) (ours means : ℕ → Writer) (ds : List TypeDef) (n : ℕ)
-    → ((j : ℕ) → j < n → IsSame (params_at (slice_get ds j)) (cells_at (slice_get ds j)) (ours j) (means j))
+    → ((j : ℕ) → j < n → IsSame (params_at (slice_get ds j)) (own_at (slice_get ds j)) (ours j) (means j))
     → (o : Option TypeDef) → ((d : TypeDef) → o ≡ Some d → IsDefinitionFormed ds n d × (definition_unsafe d ≡ None))
-    → IsSame (params_at o) (cells_at o) (definition_written in_machine sets ours o) (definition_written whole sets means o)
+    → IsSame (params_at o) (own_at o) (definition_written in_machine sets ours o) (definition_written whole sets means o)
 definition_same sets ours means ds n good None h all args places more path p x fits st f le = (refl, tt)
 definition_same sets ours means ds n good (Some d) h all args places more path p (Number v) fits st f le = (refl, tt)
 definition_same sets ours means ds n good (Some d) h all args places more path p (Sequence vs) fits st f le =
     let form = (h d refl).0 in
     let u = neither (option_unsafe [] d.guard) (body_unsafe (known_after [] d.guard) d.body) (h d refl).1 in
-    body_same sets ours means ds n good all (cell_bounds d.cells) places st d d.body args path p more (list_of vs) form.0 form.1 u.0 u.1 fits le f
+    body_same sets ours means ds n good all (own_bounds d) places st d d.body args path p more (list_of vs) form.0 form.1 u.0 u.1 fits le f
 definition_same sets ours means ds n good (Some d) h all args places more path p (Bytes bytes) fits st f le = (refl, tt)
 definition_same sets ours means ds n good (Some d) h all args places more path p Empty fits st f le = (refl, tt)
 
 -- the definitions below n, one after the other
 all_same : (sets : List (List ℕ)) (ds : List TypeDef)
     → ((n : ℕ) (d : TypeDef) → slice_get ds n ≡ Some d → IsDefinitionFormed ds n d × (definition_unsafe d ≡ None))
-    → (n j : ℕ) → j < n → IsSame (params_at (slice_get ds j)) (cells_at (slice_get ds j)) (writers_below in_machine sets ds n j) (writers_below whole sets ds n j)
+    → (n j : ℕ) → j < n → IsSame (params_at (slice_get ds j)) (own_at (slice_get ds j)) (writers_below in_machine sets ds n j) (writers_below whole sets ds n j)
 unfolding writers_below
 all_same sets ds h zero j less = absurd (omega (arith, less))
 all_same sets ds h (suc n) j less =
@@ -301,23 +303,25 @@ all_same sets ds h (suc n) j less =
     by (nat_eq j n) refl own (earlier j)
   where
     by : (b : Bool) → nat_eq j n ≡ b
-        → IsSame (params_at (slice_get ds n)) (cells_at (slice_get ds n)) (definition_written in_machine sets (writers_below in_machine sets ds n) (slice_get ds n)) (definition_written whole sets (writers_below whole sets ds n) (slice_get ds n))
-        → (j < n → IsSame (params_at (slice_get ds j)) (cells_at (slice_get ds j)) (writers_below in_machine sets ds n j) (writers_below whole sets ds n j))
-        → IsSame (params_at (slice_get ds j)) (cells_at (slice_get ds j))
+        → IsSame (params_at (slice_get ds n)) (own_at (slice_get ds n)) (definition_written in_machine sets (writers_below in_machine sets ds n) (slice_get ds n)) (definition_written whole sets (writers_below whole sets ds n) (slice_get ds n))
+        → (j < n → IsSame (params_at (slice_get ds j)) (own_at (slice_get ds j)) (writers_below in_machine sets ds n j) (writers_below whole sets ds n j))
+        → IsSame (params_at (slice_get ds j)) (own_at (slice_get ds j))
         (pick b (definition_written in_machine sets (writers_below in_machine sets ds n) (slice_get ds n)) (writers_below in_machine sets ds n j))
         (pick b (definition_written whole sets (writers_below whole sets ds n) (slice_get ds n)) (writers_below whole sets ds n j))
-    by true e own rest = subst (λ k. IsSame (params_at (slice_get ds k)) (cells_at (slice_get ds k)) (definition_written in_machine sets (writers_below in_machine sets ds n) (slice_get ds n)) (definition_written whole sets (writers_below whole sets ds n) (slice_get ds n))) (sym (eqb-true j n e)) own
+    by true e own rest = subst (λ k. IsSame (params_at (slice_get ds k)) (own_at (slice_get ds k)) (definition_written in_machine sets (writers_below in_machine sets ds n) (slice_get ds n)) (definition_written whole sets (writers_below whole sets ds n) (slice_get ds n))) (sym (eqb-true j n e)) own
     by false e own rest = let apart = eqb-false j n e in rest (omega (arith, less, apart))
 
 pub writing_is_in_range : WritingIsInRange
-writing_is_in_range m entry place d args cells v formed safe at is fits room =
+writing_is_in_range m entry place d args visible v formed safe at is fits fit =
+    let cells = opened m entry visible in
+    let room = opened_fits m entry place d visible at is fit in
     let within : place < length m.definitions = slice_get_within m.definitions place d is in
-    let bounds = cells_at (Some d) in
+    let bounds = own_at (Some d) in
     let stands : Stand bounds bounds (places_from 0 (length cells)) = subst (λ k. Stand bounds bounds (places_from 0 k)) (fit_length bounds cells room) (stand_after [] bounds) in
     let good = all_same m.listed m.definitions (λ n x e. (formed n x e, each_safe m.definitions n x safe e)) (length m.definitions) place within in
     let told = good bounds args (places_from 0 (length cells)) cells [] 0 v
     (subst (λ o. AllFit (params_at o) args) (sym is) fits)
-    (subst (λ o. Stand bounds (cells_at o) (places_from 0 (length cells))) (sym is) stands) room (omega arith) in
+    (subst (λ o. Stand bounds (own_at o) (places_from 0 (length cells))) (sym is) stands) room (omega arith) in
     (λ k. writers_below in_machine m.listed m.definitions (length m.definitions) (entry_place (at k) (length m.definitions)) args (places_from 0 (length cells)) cells [] 0 v)
     ∙ told.0
     ∙ (λ k. writers_below whole m.listed m.definitions (length m.definitions) (entry_place (sym at k) (length m.definitions)) args (places_from 0 (length cells)) cells [] 0 v)

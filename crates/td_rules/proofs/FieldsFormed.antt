@@ -4,6 +4,8 @@ use Rattle.std.proofs.Math.Nat.{pow-le-pow_right}
 use Rattle.std.proofs.lemmas.Bool.{leb-true, ltb-true, and_parts, false≢true}
 use Rattle.std.proofs.lemmas.Nat.{pow_pos}
 use Rattle.std.proofs.lemmas.Option.{none-some, same_Some, slice_get_within}
+use Rattle.td_num.specs.Lists.{Each}
+use Rattle.td_num.proofs.Lists.{each_at}
 use Rattle.td_num.specs.Numbers.{bytes_in}
 use Rattle.td_num.specs.declared.number.Width.{Width}
 use Rattle.td_num.specs.declared.number.Width.TheVariants.{One, Two, Four, Eight}
@@ -32,7 +34,9 @@ use Rattle.td_core.specs.declared.module.Part.{Part}
 use Rattle.td_core.specs.declared.module.Field.{Field}
 use Rattle.td_core.specs.declared.module.TypeDef.{TypeDef}
 use Rattle.td_core.specs.Types.{bits, limit, type_of}
-use Rattle.td_core.specs.Formed.{Bound, scalar_of, whole, cell_bound, param_bounds, cell_bounds, bits_bound, part_bound, parts_scope, IsScoped, IsOptionScoped, IsActionFormed, ArePartsFormed, AreArgsFormed, AreCellsFormed, params_at, cells_at, IsElementFormed, IsExtentFormed, AreFieldsFormed}
+use Rattle.td_core.specs.Formed.{Bound, scalar_of, whole, cell_bound, param_bounds, cell_bounds, bits_bound, part_bound, parts_scope, IsScoped, IsOptionScoped, IsActionFormed, ArePartsFormed, AreArgsFormed, AreCellsFormed, params_at, own_at, IsElementFormed, IsExtentFormed, AreFieldsFormed}
+use Rattle.td_core.specs.Copies.{IsDefinitionCopyless}
+use Rattle.td_core.proofs.Copyless.{visible}
 use Rattle.td_rules.specs.declared.fields.Readable.{Readable}
 use Rattle.td_rules.specs.declared.fields.FlatField.{FlatField}
 use Rattle.td_rules.specs.declared.fields.OpenUnit.{OpenUnit}
@@ -265,7 +269,7 @@ readable_cells : (s : Scope) (x : List ℕ) (v : Option Readable) → (with_read
 readable_cells s x None = refl
 readable_cells s x (Some v) = refl
 
-module _ (all : List TypeDef) (k : Known) (same : (j : ℕ) (d : TypeDef) → slice_get k.definitions j ≡ Some d → slice_get all j ≡ Some d) where
+module _ (all : List TypeDef) (k : Known) (same : (j : ℕ) (d : TypeDef) → slice_get k.definitions j ≡ Some d → slice_get all j ≡ Some d) (none : Each IsDefinitionCopyless all) where
   abbrev n : ℕ
   n = length k.definitions
 
@@ -284,7 +288,8 @@ module _ (all : List TypeDef) (k : Known) (same : (j : ℕ) (d : TypeDef) → sl
                 slice_get_within k.definitions j d e,
                 (
                   subst (λ o. AreArgsFormed bounds (params_at o) es) (sym a) (args_formed bounds d.params es h u.0),
-                  subst (λ o. AreCellsFormed (bounds_of s.cells) (cells_at o) own) (sym a) (cells_formed s.cells d.cells own u.1),
+                  subst (λ o. AreCellsFormed (bounds_of s.cells) (own_at o) own) (sym a)
+                      (subst (λ bs. AreCellsFormed (bounds_of s.cells) bs own) (sym (visible d (each_at IsDefinitionCopyless all j d none a).buffers)) (cells_formed s.cells d.cells own u.1)),
                 ),
               )
 

@@ -1,5 +1,6 @@
 pub mod Scopes
 pub mod DeedsFormed
+pub mod Copyless
 pub mod FieldsFormed
 pub mod ModulesFormed
 pub mod Whole

@@ -2,6 +2,7 @@
 use Rattle.std.proofs.Common.{◌≡◌, ◌⊎◌, inl, inr, ℕ, zero, suc, ◌+◌, ◌-◌, ◌<◌, ◌≤◌, List, [], ◌∷◌, ◌++◌, length, map, refl, sym, ap, ◌∙◌, subst, arith, Option, Some, None, slice_get, length-append, append_assoc}
 use Rattle.std.proofs.lemmas.List.{length-map}
 use Rattle.std.proofs.lemmas.Option.{same_Some, slice_get_within}
+use Rattle.td_num.specs.Lists.{Each}
 use Rattle.td_num.specs.declared.number.NumberType.{NumberType}
 use Rattle.td_num.specs.declared.number.Width.{Width}
 use Rattle.td_ast.specs.declared.fields.FieldTree.{FieldTree}
@@ -35,7 +36,10 @@ use Rattle.td_rules.specs.Parameters.{no_head, plain_width, cell_type, slot_kind
 use Rattle.td_rules.specs.Casetypes.{cases_core, default_core}
 use Rattle.td_rules.specs.Definitions.{struct_head, struct_scope, struct_core, casetype_head, casetype_core, after, known_after}
 use Rattle.td_rules.specs.Modules.{names_of, module_of}
-use Rattle.td_rules.specs.Laws.{ModulesAreFormed}
+use Rattle.td_core.specs.Copies.{IsDefinitionCopyless}
+use Rattle.td_rules.proofs.Copyless.{after_copyless, known_copyless, modules_are_copyless}
+use Rattle.td_core.proofs.Copyless.{visible, copyless_is_copying}
+use Rattle.td_rules.specs.Laws.{ModulesAreFormed, ModulesAreCopying}
 use Rattle.td_rules.proofs.Scopes.{bounds_of, slot_bound, IsRowThere, IsLocalThere, AreLocalsThere, IsScope, get_more, get_end, value_scope, whole_small, whole_pos, locals_declared, locals_cells, core_scoped, option_scoped}
 use Rattle.td_rules.proofs.FieldsFormed.{fields_formed}
 
@@ -128,14 +132,14 @@ first_there k = record { scope = record { locals = tt; start = tt; levels = refl
 
 -- Definitions
 
-module _ (all : List TypeDef) (k : Known) (same : (j : ℕ) (d : TypeDef) → slice_get k.definitions j ≡ Some d → slice_get all j ≡ Some d) (names : List (List ℕ)) where
+module _ (all : List TypeDef) (k : Known) (same : (j : ℕ) (d : TypeDef) → slice_get k.definitions j ≡ Some d → slice_get all j ≡ Some d) (none : Each IsDefinitionCopyless all) (names : List (List ℕ)) where
   cases_formed : (bounds : List Bound) (s : Scope) (cs : List CaseTree) → IsScope k bounds s → AreCasesFormed all (length k.definitions) (bounds_of s.cells) bounds (cases_core names k s cs)
   cases_formed bounds s [] h = tt
-  cases_formed bounds s (c ∷ cs) h = (fields_formed all k same names bounds s c.fields h, cases_formed bounds s cs h)
+  cases_formed bounds s (c ∷ cs) h = (fields_formed all k same none names bounds s c.fields h, cases_formed bounds s cs h)
 
   default_formed : (bounds : List Bound) (s : Scope) (d : Option (List FieldTree)) → IsScope k bounds s → IsDefaultFormed all (length k.definitions) (bounds_of s.cells) bounds (default_core names k s d)
   default_formed bounds s None h = tt
-  default_formed bounds s (Some fs) h = fields_formed all k same names bounds s fs h
+  default_formed bounds s (Some fs) h = fields_formed all k same none names bounds s fs h
 
   cells_bounds : (h : Head) → IsHead k h → bounds_of h.scope.cells ≡ cell_bounds h.cells
   cells_bounds h g = ap bounds_of g.cells ∙ bounds_cells h.cells
@@ -148,7 +152,7 @@ module _ (all : List TypeDef) (k : Known) (same : (j : ℕ) (d : TypeDef) → sl
       let bounds = param_bounds h.params in
       let ok : IsScope k bounds s = record { locals = g.scope.locals; start = g.scope.start; levels = g.scope.levels } in (
         option_scoped k bounds s d.head.condition ok,
-        subst (λ c. IsBodyFormed all (length k.definitions) c bounds (struct_core names k d).body) (cells_bounds h g) (fields_formed all k same names bounds s d.fields ok),
+        subst (λ c. IsBodyFormed all (length k.definitions) c bounds (struct_core names k d).body) (cells_bounds h g ∙ sym (visible (struct_core names k d) refl)) (fields_formed all k same none names bounds s d.fields ok),
       )
 
   casetype_formed : (d : CasetypeTree) → IsDefinitionFormed all (length k.definitions) (casetype_core names k d)
@@ -157,7 +161,7 @@ module _ (all : List TypeDef) (k : Known) (same : (j : ℕ) (d : TypeDef) → sl
       let g = head_there names k no_head d.head.params (first_there k) in
       let bounds = param_bounds h.params in (
         option_scoped k bounds h.scope d.head.condition g.scope,
-        subst (λ c. IsBodyFormed all (length k.definitions) c bounds (casetype_core names k d).body) (cells_bounds h g)
+        subst (λ c. IsBodyFormed all (length k.definitions) c bounds (casetype_core names k d).body) (cells_bounds h g ∙ sym (visible (casetype_core names k d) refl))
             (core_scoped k bounds h.scope d.subject g.scope, (cases_formed bounds h.scope d.cases g.scope, default_formed bounds h.scope d.default g.scope)),
       )
 
@@ -206,24 +210,27 @@ step names k d own ds n x is formed le e later =
       | inr p ↦ later (omega (arith, p, count))
     ]
 
-all_formed : (names : List (List ℕ)) (k : Known) (ds : List Def) (n : ℕ) (x : TypeDef) → length k.definitions ≤ n → slice_get (known_after names k ds).definitions n ≡ Some x
+all_formed : (names : List (List ℕ)) (k : Known) (ds : List Def) (n : ℕ) (x : TypeDef) → Each IsDefinitionCopyless k.definitions → length k.definitions ≤ n → slice_get (known_after names k ds).definitions n ≡ Some x
     → IsDefinitionFormed (known_after names k ds).definitions n x
-all_formed names k [] n x le e = let within = slice_get_within k.definitions n x e in absurd (omega (arith, le, within))
-all_formed names k (Define d ∷ ds) n x le e = all_formed names (after names k (Define d)) ds n x le e
-all_formed names k (Enum d ∷ ds) n x le e = all_formed names (after names k (Enum d)) ds n x (subst (λ z. length z ≤ n) (sym (enum_keeps k d)) le) e
-all_formed names k (Alias d ∷ ds) n x le e = all_formed names (after names k (Alias d)) ds n x le e
-all_formed names k (Output d ∷ ds) n x le e = all_formed names (after names k (Output d)) ds n x le e
-all_formed names k (Struct d ∷ ds) n x le e =
+all_formed names k [] n x c le e = let within = slice_get_within k.definitions n x e in absurd (omega (arith, le, within))
+all_formed names k (Define d ∷ ds) n x c le e = all_formed names (after names k (Define d)) ds n x c le e
+all_formed names k (Enum d ∷ ds) n x c le e = all_formed names (after names k (Enum d)) ds n x (after_copyless names k (Enum d) c) (subst (λ z. length z ≤ n) (sym (enum_keeps k d)) le) e
+all_formed names k (Alias d ∷ ds) n x c le e = all_formed names (after names k (Alias d)) ds n x c le e
+all_formed names k (Output d ∷ ds) n x c le e = all_formed names (after names k (Output d)) ds n x c le e
+all_formed names k (Struct d ∷ ds) n x c le e =
     step names k (Struct d) (struct_core names k d) ds n x refl
-    (struct_formed (known_after names k (Struct d ∷ ds)).definitions k (λ j y h. keeps names k (Struct d ∷ ds) j y h) names d)
-    le e (λ less. all_formed names (after names k (Struct d)) ds n x less e)
-all_formed names k (Casetype d ∷ ds) n x le e =
+    (struct_formed (known_after names k (Struct d ∷ ds)).definitions k (λ j y h. keeps names k (Struct d ∷ ds) j y h) (known_copyless names k (Struct d ∷ ds) c) names d)
+    le e (λ less. all_formed names (after names k (Struct d)) ds n x (after_copyless names k (Struct d) c) less e)
+all_formed names k (Casetype d ∷ ds) n x c le e =
     step names k (Casetype d) (casetype_core names k d) ds n x refl
-    (casetype_formed (known_after names k (Casetype d ∷ ds)).definitions k (λ j y h. keeps names k (Casetype d ∷ ds) j y h) names d)
-    le e (λ less. all_formed names (after names k (Casetype d)) ds n x less e)
+    (casetype_formed (known_after names k (Casetype d ∷ ds)).definitions k (λ j y h. keeps names k (Casetype d ∷ ds) j y h) (known_copyless names k (Casetype d ∷ ds) c) names d)
+    le e (λ less. all_formed names (after names k (Casetype d)) ds n x (after_copyless names k (Casetype d) c) less e)
 
 pub module_formed : (t : ModuleTree) → IsModuleFormed (module_of t)
-module_formed t n d e = all_formed (names_of t) nothing_known t.definitions n d (omega arith) e
+module_formed t n d e = all_formed (names_of t) nothing_known t.definitions n d tt (omega arith) e
 
 pub modules_are_formed : ModulesAreFormed
 modules_are_formed t m s = subst IsModuleFormed (sym s.1) (module_formed t)
+
+pub modules_are_copying : ModulesAreCopying
+modules_are_copying t m s = copyless_is_copying m (modules_are_formed t m s) (modules_are_copyless t m s)

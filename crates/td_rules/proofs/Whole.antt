@@ -52,7 +52,7 @@ module _ (P : Field → Type 0) (Q : FlatField → Type 0) (U : OpenUnit → Typ
 
 -- Parts
 
-any_flat : (xs : List FlatField) → Each (λ x. Unit {0}) xs
+pub any_flat : (xs : List FlatField) → Each (λ x. Unit {0}) xs
 any_flat [] = tt
 any_flat (x ∷ xs) = (tt, any_flat xs)
 

@@ -4,6 +4,7 @@ use Rattle.td_num.specs.Lists.{Each}
 use Rattle.td_ast.specs.declared.definitions.ModuleTree.{ModuleTree}
 use Rattle.td_core.specs.declared.module.Module.{Module}
 use Rattle.td_core.specs.Formed.{IsModuleFormed}
+use Rattle.td_core.specs.Copies.{IsCopying, IsCopyless}
 use Rattle.td_core.specs.WellFormed.{EachField, IsWhole, IsFieldWhole, IsDefinitionSorted, IsDefinitionNamed}
 use Rattle.td_rules.specs.Modules.{StandsFor}
 use Rattle.td_rules.specs.Written.{names_written}
@@ -16,6 +17,14 @@ OneModule = (t : ModuleTree) (a b : Module) → StandsFor t a → StandsFor t b 
 -- earlier, with arguments and cells that match; and what is assigned fits its cell
 abbrev pub ModulesAreFormed : Type 0
 ModulesAreFormed = (t : ModuleTree) (m : Module) → StandsFor t m → IsModuleFormed m
+
+-- nothing is copied, as no text says it yet
+abbrev pub ModulesAreCopyless : Type 0
+ModulesAreCopyless = (t : ModuleTree) (m : Module) → StandsFor t m → IsCopyless m
+
+-- what is copied is bytes, and has the room that it says
+abbrev pub ModulesAreCopying : Type 0
+ModulesAreCopying = (t : ModuleTree) (m : Module) → StandsFor t m → IsCopying m
 
 -- each field has at least one part, and each entry point a definition
 abbrev pub ModulesAreWhole : Type 0

@@ -12,7 +12,7 @@ use Rattle.td_core.specs.declared.module.Case.{Case}
 use Rattle.td_core.specs.declared.module.Body.{Body}
 use Rattle.td_core.specs.declared.module.Body.TheVariants.{Struct, Casetype}
 use Rattle.td_core.specs.declared.module.TypeDef.{TypeDef}
-use Rattle.td_core.specs.Formed.{Bound, IsElementFormed, AreFieldsFormed, AreCasesFormed, IsDefaultFormed, IsBodyFormed, parts_scope, param_bounds, cell_bounds}
+use Rattle.td_core.specs.Formed.{Bound, IsElementFormed, AreFieldsFormed, AreCasesFormed, IsDefaultFormed, IsBodyFormed, parts_scope, param_bounds, own_bounds}
 use Rattle.td_kinds.specs.Kinds.{element_kind, field_kind, kinds_below}
 use Rattle.td_kinds.specs.KindRules.{is_filled, fault_if, is_empty, fields_faults, cases_faults, default_faults, body_faults, definitions_faults, kinds_of}
 use Rattle.td_kinds.specs.declared.error.KindFault.TheVariants.{ZeroElement, RestNotLast}
@@ -81,5 +81,5 @@ kinds_are_admitted m formed faultless n d e =
     let whole : n + (length ds - n) ≡ length ds = omega (arith, lt) in
     let same = λ (j : ℕ) (h : j < n). sym (below_more ds n (length ds - n) j h) ∙ ap (λ k. kinds_below ds k j) whole in
     let formed_here = formed n d e in
-    body_same ds n (kinds_below ds n) (kinds_of m) same (cell_bounds d.cells) (param_bounds d.params) d.body formed_here.1
+    body_same ds n (kinds_below ds n) (kinds_of m) same (own_bounds d) (param_bounds d.params) d.body formed_here.1
     ∙ found_faultless (kinds_of m) ds n d e faultless

@@ -16,7 +16,8 @@ use Rattle.td_meaning.proofs.Zeros.{zeros_none, zeros_on}
 use Rattle.td_values.specs.declared.error.WriteRule.TheVariants.{Range, Broken, Long}
 use Rattle.td_values.specs.declared.limits.TheConstants.{MOST_WRITTEN}
 use Rattle.td_values.specs.Datum.{Datum, Number, Sequence, Bytes, Empty, list_of}
-use Rattle.td_values.specs.Bytes.{number_bytes, fits, is_octet}
+use Rattle.td_core.specs.Types.{is_octet}
+use Rattle.td_values.specs.Bytes.{number_bytes, fits}
 use Rattle.td_values.specs.Spelling.{only, sized, is_some_size, spelled_number, spelled_bytes, spelled_zeros, spelled_items, spelled_list}
 use Rattle.td_values.specs.Writing.{Written, Done, wanted, of_size, has_room, number_written, of_enum, bytes_written, zeros_written, items_written, list_written}
 use Rattle.td_spelled.specs.Laws.{FailsFor}

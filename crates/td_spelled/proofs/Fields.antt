@@ -5,7 +5,7 @@ use Rattle.std.proofs.lemmas.Bool.{leb-true, leb-false, eqb-true, eq-eqb, and_pa
 use Rattle.std.proofs.lemmas.Option.{none-some, same_Some}
 use Rattle.td_num.specs.Numbers.{bytes_in, number_at, places_from}
 use Rattle.td_num.specs.declared.number.NumberType.{NumberType}
-use Rattle.td_num.specs.Lists.{is_among}
+use Rattle.td_num.specs.Lists.{Each, is_among}
 use Rattle.td_core.specs.declared.kind.Kind.{Kind}
 use Rattle.td_core.specs.declared.module.NameId.{NameId}
 use Rattle.td_core.specs.declared.module.Element.{Element}
@@ -17,18 +17,19 @@ use Rattle.td_core.specs.declared.module.Field.{Field}
 use Rattle.td_core.specs.declared.outcome.Reason.{Reason}
 use Rattle.td_core.specs.declared.outcome.Reason.TheVariants.{Constraint, ListSize}
 use Rattle.td_core.specs.Outcome.{Ending, Accepted, Behavior, and_then, after_reading, ending_within}
+use Rattle.td_core.specs.Types.{is_octet}
 use Rattle.td_expr.specs.Same.{constant_of}
 use Rattle.td_kinds.specs.Kinds.{element_kind, sized_kind, field_kind, fields_kind}
 use Rattle.td_kinds.specs.KindRules.{is_filled, fault_if, is_empty, field_faults, fields_faults}
 use Rattle.td_kinds.specs.declared.error.KindFault.{KindFault}
 use Rattle.td_kinds.specs.declared.error.KindFault.TheVariants.{ZeroElement, RestNotLast}
 use Rattle.td_meaning.specs.Doing.{natural_of}
-use Rattle.td_meaning.specs.Meaning.{Sense, values, values_of, taken, demanded, element_meaning, elements, filled, filled_once, divides, equals, shape_meaning, parts_meaning, extended, field_place, first_name, field_number, fields_meaning, pick}
+use Rattle.td_meaning.specs.Meaning.{Sense, values, values_of, taken, demanded, element_meaning, elements, filled, filled_once, divides, equals, shape_meaning, content_meaning, parts_meaning, extended, field_place, first_name, field_number, fields_meaning, pick}
 use Rattle.td_values.specs.declared.error.WriteRule.{WriteRule}
 use Rattle.td_values.specs.declared.error.WriteRule.TheVariants.{Shape, Range, Broken, Size, Long}
 use Rattle.td_values.specs.declared.limits.TheConstants.{MOST_WRITTEN}
 use Rattle.td_values.specs.Datum.{Datum, Number, Sequence, Bytes, Empty}
-use Rattle.td_values.specs.Bytes.{number_bytes, fits, is_octet, unit_type, unit_number, makes_unit, are_bits_of}
+use Rattle.td_values.specs.Bytes.{number_bytes, fits, unit_type, unit_number, makes_unit, are_bits_of}
 use Rattle.td_values.specs.Spelling.{Spelling, only, joined, spelled_element, spelled_bytes, spelled_list, spelled_contents, fills, fills_once, spelled_shape, number_in, part_numbers, spelled_parts, spelled_whole, spelled_field, spelled_fields}
 use Rattle.td_values.specs.Writing.{Written, Done, Refused, Writer, after_writing, wanted, tested, has_room, bytes_written, list_written, element_bytes, is_listed, element_written, contents_written, shape_written, parts_written, unit_then, whole_written, field_written, fields_written, whole}
 use Rattle.td_spelled.specs.Laws.{FailsFor}
@@ -243,40 +244,45 @@ module _ (sets : List (List ℕ)) (kinds : ℕ → Kind) (senses : ℕ → Sense
   -- Fields
 
   module _ (ty : NameId) where
-    field_accepts : (f : Field) (later : List Field) (env places b : List ℕ) (end p : ℕ) (cells : List ℕ) (n q r : ℕ) (more last : List ℕ) → field_number f.element f.extent b p ≡ n
+    -- a field that isn't copied
+    alone_is : (f : Field) → f.copy ≡ None → (env places b : List ℕ) (end p : ℕ) (cells : List ℕ)
+        → content_meaning sets senses f.element f.extent f.copy env places b end p cells ≡ shape_meaning sets senses f.element f.extent env places b end p cells
+    alone_is f none env places b end p cells = ap (λ o. content_meaning sets senses f.element f.extent o env places b end p cells) none
+
+    field_accepts : (f : Field) (later : List Field) → f.copy ≡ None → (env places b : List ℕ) (end p : ℕ) (cells : List ℕ) (n q r : ℕ) (more last : List ℕ) → field_number f.element f.extent b p ≡ n
         → (shape_meaning sets senses f.element f.extent env places b end p cells).ending ≡ Accepted q more → (parts_meaning ty p n f.parts env places q more).ending ≡ Accepted r last
         → (fields_meaning sets senses ty (f ∷ later) env places b end p cells).ending ≡ (fields_meaning sets senses ty later (extended env n f.parts) places b end r last).ending
     unfolding fields_meaning
-    field_accepts f later env places b end p cells n q r more last e h g =
-        let shape = shape_meaning sets senses f.element f.extent env places b end p cells in
+    field_accepts f later none env places b end p cells n q r more last e h g =
+        let shape = content_meaning sets senses f.element f.extent f.copy env places b end p cells in
         let place = field_place ty (first_name f.parts) p in
-        accepts_then (ending_within place shape.ending) shape.reads _ q more (accepts_within place shape.ending q more h)
+        accepts_then (ending_within place shape.ending) shape.reads _ q more (accepts_within place shape.ending q more (ap (λ (x : Behavior). x.ending) (alone_is f none env places b end p cells) ∙ h))
         ∙ ap (λ k. (and_then (parts_meaning ty p k f.parts env places q more) (fields_meaning sets senses ty later (extended env k f.parts) places b end)).ending) e
         ∙ accepts_then (parts_meaning ty p n f.parts env places q more).ending (parts_meaning ty p n f.parts env places q more).reads (fields_meaning sets senses ty later (extended env n f.parts) places b end) r last g
 
-    field_then : (f : Field) (later : List Field) (env places b : List ℕ) (end p : ℕ) (cells : List ℕ) (n q : ℕ) (more : List ℕ) → field_number f.element f.extent b p ≡ n
+    field_then : (f : Field) (later : List Field) → f.copy ≡ None → (env places b : List ℕ) (end p : ℕ) (cells : List ℕ) (n q : ℕ) (more : List ℕ) → field_number f.element f.extent b p ≡ n
         → (shape_meaning sets senses f.element f.extent env places b end p cells).ending ≡ Accepted q more
         → (fields_meaning sets senses ty (f ∷ later) env places b end p cells).ending ≡ (and_then (parts_meaning ty p n f.parts env places q more) (fields_meaning sets senses ty later (extended env n f.parts) places b end)).ending
     unfolding fields_meaning
-    field_then f later env places b end p cells n q more e h =
-        let shape = shape_meaning sets senses f.element f.extent env places b end p cells in
+    field_then f later none env places b end p cells n q more e h =
+        let shape = content_meaning sets senses f.element f.extent f.copy env places b end p cells in
         let place = field_place ty (first_name f.parts) p in
-        accepts_then (ending_within place shape.ending) shape.reads _ q more (accepts_within place shape.ending q more h)
+        accepts_then (ending_within place shape.ending) shape.reads _ q more (accepts_within place shape.ending q more (ap (λ (x : Behavior). x.ending) (alone_is f none env places b end p cells) ∙ h))
         ∙ ap (λ k. (and_then (parts_meaning ty p k f.parts env places q more) (fields_meaning sets senses ty later (extended env k f.parts) places b end)).ending) e
 
-    shape_fails : (reason : Reason) (f : Field) (later : List Field) (env places b : List ℕ) (end p : ℕ) (cells : List ℕ) → FailsFor reason (shape_meaning sets senses f.element f.extent env places b end p cells).ending
+    shape_fails : (reason : Reason) (f : Field) (later : List Field) → f.copy ≡ None → (env places b : List ℕ) (end p : ℕ) (cells : List ℕ) → FailsFor reason (shape_meaning sets senses f.element f.extent env places b end p cells).ending
         → FailsFor reason (fields_meaning sets senses ty (f ∷ later) env places b end p cells).ending
     unfolding fields_meaning
-    shape_fails reason f later env places b end p cells h =
-        let shape = shape_meaning sets senses f.element f.extent env places b end p cells in
+    shape_fails reason f later none env places b end p cells h =
+        let shape = content_meaning sets senses f.element f.extent f.copy env places b end p cells in
         let place = field_place ty (first_name f.parts) p in
-        fails_then reason (ending_within place shape.ending) shape.reads _ (fails_within reason place shape.ending h)
+        fails_then reason (ending_within place shape.ending) shape.reads _ (fails_within reason place shape.ending (subst (λ (x : Behavior). FailsFor reason x.ending) (sym (alone_is f none env places b end p cells)) h))
 
-    parts_fail : (reason : Reason) (f : Field) (later : List Field) (env places b : List ℕ) (end p : ℕ) (cells : List ℕ) (n q : ℕ) (more : List ℕ) → field_number f.element f.extent b p ≡ n
+    parts_fail : (reason : Reason) (f : Field) (later : List Field) → f.copy ≡ None → (env places b : List ℕ) (end p : ℕ) (cells : List ℕ) (n q : ℕ) (more : List ℕ) → field_number f.element f.extent b p ≡ n
         → (shape_meaning sets senses f.element f.extent env places b end p cells).ending ≡ Accepted q more → FailsFor reason (parts_meaning ty p n f.parts env places q more).ending
         → FailsFor reason (fields_meaning sets senses ty (f ∷ later) env places b end p cells).ending
-    parts_fail reason f later env places b end p cells n q more e h g =
-        subst (FailsFor reason) (sym (field_then f later env places b end p cells n q more e h))
+    parts_fail reason f later none env places b end p cells n q more e h g =
+        subst (FailsFor reason) (sym (field_then f later none env places b end p cells n q more e h))
         (fails_then reason (parts_meaning ty p n f.parts env places q more).ending (parts_meaning ty p n f.parts env places q more).reads (fields_meaning sets senses ty later (extended env n f.parts) places b end) g)
 
     -- where a field may end
@@ -317,14 +323,14 @@ module _ (sets : List (List ℕ)) (kinds : ℕ → Kind) (senses : ℕ → Sense
         → Told (UpTo (fields_kind kinds later).rest) p (fields_written whole sets writers ty later env places path i p cells vs) (spelled_fields spells later env vs) (λ b end. (fields_meaning sets senses ty later env places b end p cells).ending)
 
     -- a field that isn't a unit
-    whole_told : (f : Field) (later : List Field) → unit_type f.element f.extent ≡ None → fields_faults kinds (f ∷ later) ≡ [] → Next later
+    whole_told : (f : Field) (later : List Field) → f.copy ≡ None → unit_type f.element f.extent ≡ None → fields_faults kinds (f ∷ later) ≡ [] → Next later
         → (env places path : List ℕ) (i p : ℕ) (cells : List ℕ) (vs : List Datum) → p ≤ MOST_WRITTEN
         → Told (UpTo (fields_kind kinds (f ∷ later)).rest) p
         (whole_written whole sets writers ty f env places path i p cells vs (λ env i p cells vs. fields_written whole sets writers ty later env places path i p cells vs))
         (spelled_whole (spelled_shape spells f.element f.extent env) (number_in f.element f.extent) vs (λ n vs. spelled_fields spells later (extended env n f.parts) vs))
         (λ b end. (fields_meaning sets senses ty (f ∷ later) env places b end p cells).ending)
-    whole_told f later u k next env places path i p cells [] le = refl
-    whole_told f later u k next env places path i p cells (v ∷ vs) le =
+    whole_told f later none u k next env places path i p cells [] le = refl
+    whole_told f later none u k next env places path i p cells (v ∷ vs) le =
         let n = number_in f.element f.extent v in
         let at = path ++ i ∷ [] in
         let Q = UpTo (fields_kind kinds (f ∷ later)).rest in
@@ -339,8 +345,8 @@ module _ (sets : List (List ℕ)) (kinds : ℕ → Kind) (senses : ℕ → Sense
         (λ b end. (fields_meaning sets senses ty (f ∷ later) env places b end p cells).ending)
         (λ s t end e g fit. field_fit f later p (p + length s) (length t) end k (nothing_left later (extended env n f.parts) vs t g) fit)
         (λ b s t post more end e g at fit m.
-        (field_then f later env places b end p cells n (p + length s) more (number_seen f.element f.extent env b s (t ++ post) p v u e at) m, moved (fields_kind kinds (f ∷ later)).rest p (p + length s) (p + length s + length t) end fit))
-        (λ reason b s t post end e g at fit m. shape_fails reason f later env places b end p cells m)
+        (field_then f later none env places b end p cells n (p + length s) more (number_seen f.element f.extent env b s (t ++ post) p v u e at) m, moved (fields_kind kinds (f ∷ later)).rest p (p + length s) (p + length s + length t) end fit))
+        (λ reason b s t post end e g at fit m. shape_fails reason f later none env places b end p cells m)
         (shape_told f.element f.extent env places at p cells v (last_only kinds f (is_empty later) (nil_parts (field_faults kinds f (is_empty later)) _ k).0).0 le)
         (λ s more e in_limit.
         told_tested Q (p + length s) (p + length s) (after (p + length s) more).ending at
@@ -386,12 +392,12 @@ module _ (sets : List (List ℕ)) (kinds : ℕ → Kind) (senses : ℕ → Sense
     meant f later env places p cells b end = (fields_meaning sets senses ty (f ∷ later) env places b end p cells).ending
 
     -- where all of a unit's parts passed
-    unit_passed : (t : NumberType) (f : Field) (later : List Field) → f.element ≡ element.Number t → f.extent ≡ Once → Next later
+    unit_passed : (t : NumberType) (f : Field) (later : List Field) → f.copy ≡ None → f.element ≡ element.Number t → f.extent ≡ Once → Next later
         → (env places path : List ℕ) (i p : ℕ) (cells ns : List ℕ) (rest : List Datum) (more : List ℕ) → p ≤ MOST_WRITTEN
         → ((n : ℕ) → are_bits_of n f.parts ns ≡ true → ((parts_meaning ty p n f.parts env places (p + bytes_in t.width) cells).ending ≡ Accepted (p + bytes_in t.width) more) × (extended env n f.parts ≡ env ++ ns))
         → Told (UpTo (fields_kind kinds (f ∷ later)).rest) p (after_unit t f later places path p ns (env ++ ns) (i + length ns) more rest)
         (only (makes_unit t f.parts ns) (joined (Some (number_bytes t (unit_number f.parts ns))) (then_spelled f later env (unit_number f.parts ns) rest))) (meant f later env places p cells)
-    unit_passed t f later is once next env places path i p cells ns rest more le told =
+    unit_passed t f later none is once next env places path i p cells ns rest more le told =
         let w = bytes_in t.width in
         let n = unit_number f.parts ns in
         let bytes : List ℕ = number_bytes t n in
@@ -421,22 +427,22 @@ module _ (sets : List (List ℕ)) (kinds : ℕ → Kind) (senses : ℕ → Sense
         (λ b u post end g at fit.
         let in_end : p + w ≤ end = omega (arith, len, before (fields_kind kinds (f ∷ later)).rest p (p + length bytes + length u) end fit) in
         let seen = unit_seen t f env places b (u ++ post) end p cells n is once two.0 at in_end in (
-          field_accepts f later env places b end p cells n (p + w) (p + w) cells more seen.0 seen.1 known.0
+          field_accepts f later none env places b end p cells n (p + w) (p + w) cells more seen.0 seen.1 known.0
               ∙ ap (λ x. (fields_meaning sets senses ty later x places b end (p + w) more).ending) known.1,
           later_fit f later p (p + length bytes) (p + length bytes + length u) end fit,
         ))
         (subst (λ q. Told R q rest_written (then_spelled f later env n rest) means) at_end scoped))))
 
-    unit_by : (t : NumberType) (f : Field) (later : List Field) → f.element ≡ element.Number t → f.extent ≡ Once → Next later
+    unit_by : (t : NumberType) (f : Field) (later : List Field) → f.copy ≡ None → f.element ≡ element.Number t → f.extent ≡ Once → Next later
         → (env places path : List ℕ) (i p : ℕ) (cells : List ℕ) (vs : List Datum) → p ≤ MOST_WRITTEN
         → (w : Written) → PartsTold t f.parts env vs w (after_unit t f later places path p) i ty places p cells
         → Told (UpTo (fields_kind kinds (f ∷ later)).rest) p w (spelled_parts t f.parts (part_numbers t f.parts vs) (then_spelled f later env)) (meant f later env places p cells)
-    unit_by t f later is once next env places path i p cells vs le w (passed ns rest more e we told) =
+    unit_by t f later none is once next env places path i p cells vs le w (passed ns rest more e we told) =
         let Q = UpTo (fields_kind kinds (f ∷ later)).rest in
         subst (λ x. Told Q p x (spelled_parts t f.parts (part_numbers t f.parts vs) (then_spelled f later env)) (meant f later env places p cells)) (sym we)
         (subst (λ x. Told Q p (after_unit t f later places path p ns (env ++ ns) (i + length ns) more rest) (spelled_parts t f.parts x (then_spelled f later env)) (meant f later env places p cells)) (sym e)
-        (unit_passed t f later is once next env places path i p cells ns rest more le told))
-    unit_by t f later is once next env places path i p cells vs le w (failed reason at we told) =
+        (unit_passed t f later none is once next env places path i p cells ns rest more le told))
+    unit_by t f later none is once next env places path i p cells vs le w (failed reason at we told) =
         let Q = UpTo (fields_kind kinds (f ∷ later)).rest in
         let own : Told Q p (Refused (Broken reason) at) (spelled_parts t f.parts (part_numbers t f.parts vs) (then_spelled f later env)) (meant f later env places p cells) = λ b s post end e here fit.
         let u = unit_some t f.parts (part_numbers t f.parts vs) (then_spelled f later env) s e in
@@ -445,16 +451,16 @@ module _ (sets : List (List ℕ)) (kinds : ℕ → Kind) (senses : ℕ → Sense
         let here' : drop p b ≡ number_bytes t n ++ (u.2 ++ post) = here ∙ ap (λ x. x ++ post) u.6 ∙ append_assoc (number_bytes t n) u.2 post in
         let in_end : p + bytes_in t.width ≤ end = omega (arith, number_length t n, ap length u.6, length-append (number_bytes t n) u.2, before (fields_kind kinds (f ∷ later)).rest p (p + length s) end fit) in
         let seen = unit_seen t f env places b (u.2 ++ post) end p cells n is once two.0 here' in_end in
-        parts_fail reason f later env places b end p cells n (p + bytes_in t.width) cells seen.0 seen.1 (told u.0 u.1 n u.3 two.1) in
+        parts_fail reason f later none env places b end p cells n (p + bytes_in t.width) cells seen.0 seen.1 (told u.0 u.1 n u.3 two.1) in
         subst (λ x. Told Q p x (spelled_parts t f.parts (part_numbers t f.parts vs) (then_spelled f later env)) (meant f later env places p cells)) (sym we) own
-    unit_by t f later is once next env places path i p cells vs le w (long at we past) =
+    unit_by t f later none is once next env places path i p cells vs le w (long at we past) =
         let Q = UpTo (fields_kind kinds (f ∷ later)).rest in
         let own : Told Q p (Refused Long at) (spelled_parts t f.parts (part_numbers t f.parts vs) (then_spelled f later env)) (meant f later env places p cells) = λ s e.
         let u = unit_some t f.parts (part_numbers t f.parts vs) (then_spelled f later env) s e in
         let n = unit_number f.parts u.0 in
         omega (arith, past, number_length t n, ap length u.6, length-append (number_bytes t n) u.2) in
         subst (λ x. Told Q p x (spelled_parts t f.parts (part_numbers t f.parts vs) (then_spelled f later env)) (meant f later env places p cells)) (sym we) own
-    unit_by t f later is once next env places path i p cells vs le w (wrong rule at we kind e) =
+    unit_by t f later none is once next env places path i p cells vs le w (wrong rule at we kind e) =
         let Q = UpTo (fields_kind kinds (f ∷ later)).rest in
         subst (λ x. Told Q p x (spelled_parts t f.parts (part_numbers t f.parts vs) (then_spelled f later env)) (meant f later env places p cells)) (sym we)
         (told_wrong Q p rule at (spelled_parts t f.parts (part_numbers t f.parts vs) (then_spelled f later env)) (meant f later env places p cells) kind (ap (λ x. spelled_parts t f.parts x (then_spelled f later env)) e))
@@ -474,22 +480,22 @@ module _ (sets : List (List ℕ)) (kinds : ℕ → Kind) (senses : ℕ → Sense
     unit_is element.Rest x t h = absurd (none-some t h)
     unit_is element.Zeros x t h = absurd (none-some t h)
 
-    pub fields_told : (fs : List Field) → fields_faults kinds fs ≡ []
+    pub fields_told : (fs : List Field) → Each (λ f. f.copy ≡ None) fs → fields_faults kinds fs ≡ []
         → (env places path : List ℕ) (i p : ℕ) (cells : List ℕ) (vs : List Datum) → p ≤ MOST_WRITTEN
         → Told (UpTo (fields_kind kinds fs).rest) p (fields_written whole sets writers ty fs env places path i p cells vs) (spelled_fields spells fs env vs) (λ b end. (fields_meaning sets senses ty fs env places b end p cells).ending)
     unfolding fields_written spelled_fields
-    fields_told [] k env places path i p cells [] le =
+    fields_told [] alone k env places path i p cells [] le =
         let same : p ≡ p + 0 = omega arith in
         (refl, (omega (arith, le), λ b post end at fit. none_meant env places b end p cells ∙ ap (λ q. Accepted q cells) same))
-    fields_told [] k env places path i p cells (v ∷ vs) le = refl
-    fields_told (f ∷ later) k env places path i p cells vs le =
-        by (unit_type f.element f.extent) refl (fields_told later (nil_parts (field_faults kinds f (is_empty later)) (fields_faults kinds later) k).1)
+    fields_told [] alone k env places path i p cells (v ∷ vs) le = refl
+    fields_told (f ∷ later) alone k env places path i p cells vs le =
+        by (unit_type f.element f.extent) refl (fields_told later alone.1 (nil_parts (field_faults kinds f (is_empty later)) (fields_faults kinds later) k).1)
       where
         by : (o : Option NumberType) → unit_type f.element f.extent ≡ o → Next later
             → Told (UpTo (fields_kind kinds (f ∷ later)).rest) p
             (field_written whole sets writers ty o f env places path i p cells vs (λ env i p cells vs. fields_written whole sets writers ty later env places path i p cells vs))
             (spelled_field spells o f env vs (λ n vs. spelled_fields spells later (extended env n f.parts) vs)) (meant f later env places p cells)
-        by None e next = whole_told f later e k next env places path i p cells vs le
+        by None e next = whole_told f later alone.0 e k next env places path i p cells vs le
         by (Some t) e next =
             let two = unit_is f.element f.extent t e in
-            unit_by t f later two.0 two.1 next env places path i p cells vs le (parts_written whole t f.parts env places path i p cells vs (after_unit t f later places path p)) (parts_told t ty places path p f.parts env i cells vs (after_unit t f later places path p))
+            unit_by t f later alone.0 two.0 two.1 next env places path i p cells vs le (parts_written whole t f.parts env places path i p cells vs (after_unit t f later places path p)) (parts_told t ty places path p f.parts env i cells vs (after_unit t f later places path p))

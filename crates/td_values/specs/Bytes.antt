@@ -1,8 +1,6 @@
 -- The bytes of a number, and which numbers fit (3D manual, "Base types"; own rule for bits).
 use Rattle.std.specs.Prelude.{ℕ, zero, suc, ◌+◌, ◌*◌, ◌/◌, ◌%◌, ◌^◌, Bool, true, false, ◌&&◌, nat_eq, nat_le, List, [], ◌∷◌, Option, Some, None}
 use Rattle.td_num.specs.Numbers.{bytes_in, byte_of}
-use Rattle.td_num.specs.declared.number.Width.{Width}
-use Rattle.td_num.specs.declared.number.Width.TheVariants.{One}
 use Rattle.td_num.specs.declared.number.ByteOrder.{ByteOrder}
 use Rattle.td_num.specs.declared.number.ByteOrder.TheVariants.{LittleEndian, BigEndian}
 use Rattle.td_num.specs.declared.number.NumberType.{NumberType}
@@ -12,6 +10,7 @@ use Rattle.td_core.specs.declared.module.Extent.{Extent}
 use Rattle.td_core.specs.declared.module.Extent.TheVariants.{Once}
 use Rattle.td_core.specs.declared.module.Bits.{Bits}
 use Rattle.td_core.specs.declared.module.Part.{Part}
+use Rattle.td_core.specs.Types.{is_octet}
 use Rattle.td_core.specs.Formed.{bits_bound}
 use Rattle.td_meaning.specs.Meaning.{bits_of}
 
@@ -35,11 +34,6 @@ number_bytes t n = ordered_bytes t.order (bytes_in t.width) n
 -- a number fits its type, or its bits
 abbrev pub fits : NumberType → Option Bits → ℕ → Bool
 fits t bits n = nat_le n (bits_bound t.width bits).most
-
--- `UINT8`
-abbrev pub is_octet : Width → ByteOrder → Bool
-is_octet One LittleEndian = true
-is_octet width order = false
 
 abbrev pub is_byte : Element → Bool
 is_byte (element.Number t) = is_octet t.width t.order

@@ -85,7 +85,7 @@ module _ (c : Parts) (m : Module) (h : IsChecked m) (s : IsSmall m) (w : IsWritt
     instructions = omega (arith, instructions_few);
     spelled = subst (Each IsSpelled) (sym w.names) (all_spelled m.names h.words s.short);
     apart = subst AreApart (sym w.names) (all_apart m.names h.words h.apart);
-    small_maps = subst (Each IsSmallMap) (sym w.maps) (maps_small m.definitions h.within.each h.formed);
+    small_maps = subst (Each IsSmallMap) (sym w.maps) (maps_small m.definitions h.within.each h.copyless h.formed);
     numbers = sets_small IsWord m.listed c.sets w.sets s.numbers;
     few_numbers = let a = sets_few m.listed c.sets w.sets in let b = s.values in omega (arith, a, b);
     small_routines = routines_are;

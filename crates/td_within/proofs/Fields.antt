@@ -3,7 +3,7 @@ use Rattle.std.proofs.Common.{ℕ, zero, suc, ◌+◌, ◌^◌, ◌<◌, List, [
 use Rattle.td_num.specs.Lists.{Each}
 use Rattle.td_core.specs.declared.expressions.Scalar.TheVariants as scalar
 use Rattle.td_core.specs.Term.{Term, Deed}
-use Rattle.td_core.specs.Formed.{Bound, whole, part_bound, parts_scope, param_bounds, cell_bounds, params_at, IsScoped, IsOptionScoped, IsActionFormed, ArePartsFormed, IsElementFormed, IsExtentFormed, AreFieldsFormed, AreCasesFormed, IsDefaultFormed, IsBodyFormed, IsDefinitionFormed}
+use Rattle.td_core.specs.Formed.{Bound, whole, part_bound, parts_scope, param_bounds, own_bounds, params_at, IsScoped, IsOptionScoped, IsActionFormed, ArePartsFormed, IsElementFormed, IsExtentFormed, AreFieldsFormed, AreCasesFormed, IsDefaultFormed, IsBodyFormed, IsDefinitionFormed}
 use Rattle.td_core.specs.WellFormed.{OfSome, EachField}
 use Rattle.td_core.specs.declared.module.Element.{Element}
 use Rattle.td_core.specs.declared.module.Element.TheVariants.{Number as NumberElement, Listed as ListedElement, Named as NamedElement, Unit as UnitElement, Rest, Zeros}
@@ -179,4 +179,4 @@ module _ (ds : List TypeDef) (n t : ℕ) (few : n < 2 ^ 32) (low : suc t < 2 ^ 1
   pub definition_roomy : (first : ℕ) (d : TypeDef) → IsDefinitionFormed ds n d → HasSmallCases d.body → EachField IsFieldSmall d.body → AreRoomy (body (definition_body first t d))
   definition_roomy first d f v s =
       guard_roomy (param_bounds d.params) first d.guard (body_of t (first + 1) (first + 2) (length d.params) d.body) f.0
-      (body_roomy (cell_bounds d.cells) (param_bounds d.params) (first + 1) (first + 2) (length d.params) d.body f.1 v s)
+      (body_roomy (own_bounds d) (param_bounds d.params) (first + 1) (first + 2) (length d.params) d.body f.1 v s)

@@ -11,8 +11,9 @@ use Rattle.td_core.specs.declared.module.Case.{Case}
 use Rattle.td_core.specs.declared.module.Body.{Body}
 use Rattle.td_core.specs.declared.module.Body.TheVariants.{Struct, Casetype}
 use Rattle.td_core.specs.declared.module.TypeDef.{TypeDef}
-use Rattle.td_core.specs.Formed.{Bound, cell_bound, cell_bounds, param_bounds, parts_scope, cells_at, AreCellsFormed, IsElementFormed, AreFieldsFormed, AreCasesFormed, IsDefaultFormed, IsBodyFormed, IsDefinitionFormed}
+use Rattle.td_core.specs.Formed.{Bound, own_bounds, param_bounds, parts_scope, own_at, AreCellsFormed, IsElementFormed, AreFieldsFormed, AreCasesFormed, IsDefaultFormed, IsBodyFormed, IsDefinitionFormed}
 use Rattle.td_core.specs.Weights.{head_nodes, body_nodes, definitions_nodes}
+use Rattle.td_core.specs.Copies.{IsDefinitionCopyless}
 use Rattle.td_core.specs.WellFormed.{DefinitionWithin, HasParts, EachField}
 use Rattle.td_blocks.specs.Block.{size, code}
 use Rattle.td_blocks.specs.Lowered.{definition_block, block_of, first_site}
@@ -24,6 +25,7 @@ use Rattle.td_image.specs.Within.{IsSmallMap, IsSmallRoutine}
 use Rattle.td_within.proofs.Blocks.{IsRoomy, AreRoomy, code_roomy}
 use Rattle.td_within.proofs.Sizes.{definition_size}
 use Rattle.td_num.proofs.Lists.{got, each_at, each_append}
+use Rattle.td_core.proofs.Copyless.{visible_count}
 use Rattle.td_core.proofs.Found.{cells_mapped as map_count}
 use Rattle.td_blocks.proofs.Laying.{code_size}
 use Rattle.td_lower.proofs.Codes.{there}
@@ -42,21 +44,21 @@ map_numbers cells [] (k ∷ ks) few h = absurd h
 map_numbers cells (b ∷ bs) [] few h = absurd h
 map_numbers cells (b ∷ bs) (k ∷ ks) few h = (let x = there cells k b h.0 in omega (arith, x, few), map_numbers cells bs ks few h.1)
 
-module _ (ds : List TypeDef) (within : Each DefinitionWithin ds) (n : ℕ) where
-  cells_few : (j : ℕ) (o : Option TypeDef) → slice_get ds j ≡ o → length (cells_at o) ≤ 64
+module _ (ds : List TypeDef) (within : Each DefinitionWithin ds) (none : Each IsDefinitionCopyless ds) (n : ℕ) where
+  cells_few : (j : ℕ) (o : Option TypeDef) → slice_get ds j ≡ o → length (own_at o) ≤ 64
   cells_few j None e = omega arith
   cells_few j (Some d) e =
       let w = (each_at DefinitionWithin ds j d within e).cells in
-      let x : length (cell_bounds d.cells) ≡ length d.cells = length-map d.cells (λ c. cell_bound c.kind) in
+      let x = visible_count d (each_at IsDefinitionCopyless ds j d none e).buffers in
       omega (arith, w, x)
 
   own_small : (cells scope : List Bound) (element : Element) → length cells ≤ 64 → IsElementFormed ds n cells scope element → IsSmallMap (own_of element)
   own_small cells scope (Number type) few h = no_map
   own_small cells scope (Listed base v) few h = no_map
   own_small cells scope (Named j args own) few h =
-      let count = map_count cells (cells_at (slice_get ds j)) own h.1.1 in
+      let count = map_count cells (own_at (slice_get ds j)) own h.1.1 in
       let most = cells_few j (slice_get ds j) refl in
-      some_map own (omega (arith, count, most)) (map_numbers cells (cells_at (slice_get ds j)) own few h.1.1)
+      some_map own (omega (arith, count, most)) (map_numbers cells (own_at (slice_get ds j)) own few h.1.1)
   own_small cells scope UnitElement few h = no_map
   own_small cells scope Rest few h = no_map
   own_small cells scope Zeros few h = no_map
@@ -91,21 +93,21 @@ module _ (ds : List TypeDef) (within : Each DefinitionWithin ds) (n : ℕ) where
   definition_small : (d : TypeDef) → slice_get ds n ≡ Some d → IsDefinitionFormed ds n d → Each IsSmallMap (definition_maps d)
   definition_small d e h =
       let few = cells_few n (Some d) e in
-      (no_map, (no_map, body_small (cell_bounds d.cells) (param_bounds d.params) d.body few h.1))
+      (no_map, (no_map, body_small (own_bounds d) (param_bounds d.params) d.body few h.1))
 
 -- of the definitions behind these
-behind : (ds : List TypeDef) (within : Each DefinitionWithin ds) → ((n : ℕ) (d : TypeDef) → slice_get ds n ≡ Some d → IsDefinitionFormed ds n d)
+behind : (ds : List TypeDef) (within : Each DefinitionWithin ds) → Each IsDefinitionCopyless ds → ((n : ℕ) (d : TypeDef) → slice_get ds n ≡ Some d → IsDefinitionFormed ds n d)
     → (k : ℕ) (rest : List TypeDef) → ((n : ℕ) (d : TypeDef) → slice_get rest n ≡ Some d → slice_get ds (k + n) ≡ Some d) → Each IsSmallMap (definitions_maps rest)
-behind ds within formed k [] at = tt
-behind ds within formed k (d ∷ rest) at =
+behind ds within none formed k [] at = tt
+behind ds within none formed k (d ∷ rest) at =
     let z : k + 0 ≡ k = omega arith in
     let own : slice_get ds k ≡ Some d = subst (λ m. slice_get ds m ≡ Some d) z (at 0 d refl) in
     let next : (n : ℕ) (x : TypeDef) → slice_get rest n ≡ Some x → slice_get ds (k + 1 + n) ≡ Some x =
     λ n x e. (let y : k + suc n ≡ k + 1 + n = omega arith in subst (λ m. slice_get ds m ≡ Some x) y (at (suc n) x e)) in
-    each_append IsSmallMap (definition_maps d) (definitions_maps rest) (definition_small ds within k d own (formed k d own)) (behind ds within formed (k + 1) rest next)
+    each_append IsSmallMap (definition_maps d) (definitions_maps rest) (definition_small ds within none k d own (formed k d own)) (behind ds within none formed (k + 1) rest next)
 
-pub maps_small : (ds : List TypeDef) → Each DefinitionWithin ds → ((n : ℕ) (d : TypeDef) → slice_get ds n ≡ Some d → IsDefinitionFormed ds n d) → Each IsSmallMap (definitions_maps ds)
-maps_small ds within formed = behind ds within formed 0 ds (λ n d e. (let z : 0 + n ≡ n = omega arith in subst (λ m. slice_get ds m ≡ Some d) (sym z) e))
+pub maps_small : (ds : List TypeDef) → Each DefinitionWithin ds → Each IsDefinitionCopyless ds → ((n : ℕ) (d : TypeDef) → slice_get ds n ≡ Some d → IsDefinitionFormed ds n d) → Each IsSmallMap (definitions_maps ds)
+maps_small ds within none formed = behind ds within none formed 0 ds (λ n d e. (let z : 0 + n ≡ n = omega arith in subst (λ m. slice_get ds m ≡ Some d) (sym z) e))
 
 -- ---- routines
 

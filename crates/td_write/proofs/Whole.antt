@@ -2,6 +2,7 @@
 use Rattle.std.proofs.Common.{◌≡◌, ℕ, zero, suc, ◌+◌, ◌≤◌, ◌<◌, List, [], ◌∷◌, ◌++◌, length, refl, sym, ap, ◌∙◌, subst, arith, Option, Some, None}
 use Rattle.std.specs.Prelude.{slice_get}
 use Rattle.std.proofs.lemmas.Option.{none-some}
+use Rattle.std.proofs.lemmas.List.{take_all, drop_all}
 use Rattle.td_num.specs.Numbers.{places_from}
 use Rattle.td_core.specs.declared.module.Module.{Module}
 use Rattle.td_core.specs.declared.module.Entry.{Entry}
@@ -10,10 +11,12 @@ use Rattle.td_core.specs.declared.outcome.Reason.{Reason}
 use Rattle.td_core.specs.declared.outcome.Reason.TheVariants.{Impossible}
 use Rattle.td_core.specs.declared.outcome.Outcome.{Outcome}
 use Rattle.td_core.specs.declared.outcome.Verdict.TheVariants.{Accept}
-use Rattle.td_core.specs.Outcome.{Ending, Accepted, Rejected, outcome_of}
+use Rattle.td_core.specs.Outcome.{Ending, Accepted, Rejected, outcome_of, copies_by}
 use Rattle.td_core.specs.Entries.{entry_definition, definition_at}
 use Rattle.td_core.specs.Formed.{AllFit, params_at, cells_at}
-use Rattle.td_meaning.specs.Meaning.{meaning, outcome, entry_place}
+use Rattle.td_meaning.specs.Meaning.{meaning, entry_place}
+use Rattle.td_meaning.specs.Copies.{opened, outcome}
+use Rattle.td_meaning.proofs.Copying.{opened_copyless}
 use Rattle.td_values.specs.declared.error.WriteRule.{WriteRule}
 use Rattle.td_values.specs.declared.error.WriteRule.TheVariants.{Shape, Range, Broken, Size, Long}
 use Rattle.td_values.specs.declared.error.WriteError.{WriteError}
@@ -63,31 +66,39 @@ module _ (m : Module) (entry : Entry) (args cells : List ℕ) (v : Datum) where
           then None f = no_definition in_machine place e f ∙ sym (no_definition whole place e f)
           then (Some d) f =
               let is : entry_definition m entry.number ≡ Some d = ap (definition_at m) e ∙ f in
-              law m entry place d args cells v h.formed h.safe e f (subst (λ o. AllFit (params_at o) args) is fits) (subst (λ o. AllFit (cells_at o) cells) is room)
+              subst (λ xs. writing in_machine m entry args xs v ≡ writing whole m entry args xs v) (opened_copyless m entry cells h.copyless)
+              (law m entry place d args cells v h.formed h.safe e f (subst (λ o. AllFit (params_at o) args) is fits) (subst (λ o. AllFit (cells_at o) cells) is room))
 
   exact : WritingIsExact → KindsAreAdmitted → IsWritable m → IsExact (writing whole m entry args cells v) (spelling m entry args v) (λ bytes. (meaning m entry args cells bytes).ending)
-  exact law kinds h = law m entry args cells v (kinds m h.formed h.kinds)
+  exact law kinds h = law m entry args cells v h.copyless (kinds m h.formed h.kinds)
+
+  -- the outcome has all of its cells, and no copy
+  outcome_is : IsWritable m → (bytes : List ℕ) (o : Ending) → (meaning m entry args cells bytes).ending ≡ o → outcome m entry args cells bytes ≡ outcome_of (length cells) bytes o
+  outcome_is h bytes o e = ap (λ xs. outcome_of (length cells) bytes (meaning m entry args xs bytes).ending) (opened_copyless m entry cells h.copyless) ∙ ap (outcome_of (length cells) bytes) e
+
+  all_own : (bytes last : List ℕ) (q : ℕ) → length last ≡ length cells → outcome_of (length cells) bytes (Accepted q last) ≡ record { verdict = Accept q; trace = []; cells = last; copies = [] }
+  all_own bytes last q long = λ k. record { verdict = Accept q; trace = []; cells = take_all (length cells) last (omega (arith, long)) k; copies = copies_by bytes (drop_all (length cells) last (omega (arith, long)) k) }
 
   -- what was written
-  pub appended : WritingIsExact → KindsAreAdmitted → IsWritable m → (bytes last old new : List ℕ) (answer : Outcome) → writing whole m entry args cells v ≡ Done bytes last → new ≡ old ++ bytes → answer ≡ record { verdict = Accept (length bytes); trace = []; cells = last }
-      → IsAppended m entry args cells v old new answer
-  appended law kinds h bytes last old new answer e grown is =
+  pub appended : WritingIsExact → KindsAreAdmitted → IsWritable m → (bytes last old new : List ℕ) (answer : Outcome) → writing whole m entry args cells v ≡ Done bytes last → length last ≡ length cells → new ≡ old ++ bytes
+      → answer ≡ record { verdict = Accept (length bytes); trace = []; cells = last; copies = [] } → IsAppended m entry args cells v old new answer
+  appended law kinds h bytes last old new answer e long grown is =
       let x = subst (λ w. IsExact w (spelling m entry args v) (λ b. (meaning m entry args cells b).ending)) e (exact law kinds h) in
-      let says : outcome m entry args cells bytes ≡ record { verdict = Accept (length bytes); trace = []; cells = last } = ap outcome_of x.1.1 in
+      let says : outcome m entry args cells bytes ≡ record { verdict = Accept (length bytes); trace = []; cells = last; copies = [] } = outcome_is h bytes _ x.1.1 ∙ all_own bytes last (length bytes) long in
       (bytes, (record { spelled = x.0; short = x.1.0; accepted = ap (λ (o : Outcome). o.verdict) says }, (grown, is ∙ sym says)))
 
   -- what was refused
   pub nowhere : WritingIsExact → KindsAreAdmitted → IsWritable m → (rule : WriteRule) (path : List ℕ) → writing whole m entry args cells v ≡ Refused rule path → IsNowhere m entry args cells v
   nowhere law kinds h rule path e bytes a = by rule (subst (λ w. IsExact w (spelling m entry args v) (λ b. (meaning m entry args cells b).ending)) e (exact law kinds h))
     where
-      fails : (reason : Reason) (o : Ending) → FailsFor reason o → (outcome_of o).verdict ≡ Accept (length bytes) → ⊥
+      fails : (reason : Reason) (o : Ending) → FailsFor reason o → (outcome_of (length cells) bytes o).verdict ≡ Accept (length bytes) → ⊥
       fails reason (Accepted q last) f e = f
       fails reason (Rejected other q trace last) f e = absurd (cc)
 
       by : (rule : WriteRule) → IsExact (Refused rule path) (spelling m entry args v) (λ b. (meaning m entry args cells b).ending) → ⊥
       by Shape x = none-some bytes (sym x ∙ a.spelled)
       by Range x = none-some bytes (sym x ∙ a.spelled)
-      by (Broken reason) x = fails reason (meaning m entry args cells bytes).ending (x bytes a.spelled) a.accepted
+      by (Broken reason) x = fails reason (meaning m entry args cells bytes).ending (x bytes a.spelled) (ap (λ (o : Outcome). o.verdict) (sym (outcome_is h bytes _ refl)) ∙ a.accepted)
       by Size x = none-some bytes (sym x ∙ a.spelled)
       by Long x = let past : MOST_WRITTEN < length bytes = x bytes a.spelled in omega (arith, past, a.short)
 

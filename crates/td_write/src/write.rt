@@ -93,6 +93,7 @@ pub fn write_value(
                 },
                 trace: Items::new(alloc),
                 cells: Items::of(left),
+                copies: Items::new(alloc),
             })
         }
         Err(halt) => Err(stopped(halt, path)),

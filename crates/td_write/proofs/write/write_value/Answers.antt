@@ -49,10 +49,11 @@ returns-in_ok-extend_from_slice-in-Ok-clause-ok c =
     let grown : c.extend_from_slice.new.self.items ≡ a.out.now.items ++ c.named.new.out.items = search rules in
     let long : c.len-in-Ok.result ≡ length c.named.new.out.items = c.len-in-Ok.ensures ∙ c.named.new.out.ok.0 in
     let trace : c.new.result ≡ [] = search rules in
+    let copies : c.new-in-Ok.result ≡ [] = search rules in
     let count : c.in_ok-left.left.len ≡ length c.named.new.cells = omega (arith, c.named.auto.cells, c.as_mut_slice.ensures.len) in
     let last : c.of.result ≡ c.named.new.cells = c.of.ensures ∙ ap (λ n. take n (c.named.new.cells ++ drop (length c.named.new.cells) c.in_ok-left.left.items)) count ∙ take-append_seam c.named.new.cells (drop (length c.named.new.cells) c.in_ok-left.left.items) in
-    appended m a.entry a.args.now a.cells.now a.value.now c.writing_is_exact.ensures c.kinds_are_admitted.ensures c.requires.writable c.named.new.out.items c.named.new.cells a.out.now.items c.extend_from_slice.new.self.items _ (sym same ∙ total) grown
-    (λ k. record { verdict = Accept (long k); trace = trace k; cells = last k })
+    appended m a.entry a.args.now a.cells.now a.value.now c.writing_is_exact.ensures c.kinds_are_admitted.ensures c.requires.writable c.named.new.out.items c.named.new.cells a.out.now.items c.extend_from_slice.new.self.items _ (sym same ∙ total) (c.named.auto.cells ∙ ap length left) grown
+    (λ k. record { verdict = Accept (long k); trace = trace k; cells = last k; copies = copies k })
 
 pub returns-in-Err-clause-cause : goal.returns-in-Err-clause-cause
 returns-in-Err-clause-cause c =
