@@ -3,6 +3,7 @@ use Rattle.std.proofs.Common.{◌≡◌, List, [], ◌∷◌, length, Option, So
 use Rattle.td_ast.specs.declared.definitions.ModuleTree.{ModuleTree}
 use Rattle.td_core.specs.declared.module.Module.{Module}
 use Rattle.td_expr.specs.declared.safety.Unsafe as unsafes
+use Rattle.td_expr.specs.declared.safety.Unsafe.TheVariants as finding
 use Rattle.td_limits.specs.declared.limits.Excess.{Excess}
 use Rattle.td_limits.specs.Counts.{counts_passed}
 use Rattle.td_limits.specs.Sizes.{sizes_passed}
@@ -17,7 +18,7 @@ use Rattle.td_kinds.specs.declared.error.KindFault.TheVariants as kind
 use Rattle.td_kinds.specs.KindRules.{kind_faults, first_fault}
 use Rattle.td_arith.specs.SafeModule.{module_unsafe}
 use Rattle.td_front.specs.declared.error.FrontError.{FrontError}
-use Rattle.td_front.specs.declared.error.FrontError.TheVariants.{BadByte, OpenComment, BigNumber, Unexpected, Deep, Limit, Broken, Cycle, ZeroElement, RestNotLast, Unsafe, NoMemory}
+use Rattle.td_front.specs.declared.error.FrontError.TheVariants.{BadByte, OpenComment, BigNumber, Unexpected, Deep, Limit, Broken, Cycle, ZeroElement, RestNotLast, Unsafe, Room, NoMemory}
 use Rattle.td_front.specs.Passes.{HasCounts, HasModule, HasKinds, HasSafety, IsAdmitted, RefusesTree}
 
 -- what td_elab says of first breaches
@@ -37,7 +38,8 @@ sized tree (Some e) = Err (Limit e.limit e.span)
 
 abbrev safe : ModuleTree → Option unsafes.Unsafe → Judgement
 safe tree None = sized tree (sizes_passed tree)
-safe tree (Some u) = Err (Unsafe u.span u.op)
+safe tree (Some (finding.Operator span op)) = Err (Unsafe span op)
+safe tree (Some (finding.Room span)) = Err (Room span)
 
 abbrev kinded : ModuleTree → Option KindFault → Judgement
 kinded tree None = safe tree (module_unsafe (module_of tree))
@@ -112,6 +114,7 @@ refused_judged firsts tree (Cycle span) h = absurd h
 refused_judged firsts tree (ZeroElement span) (has, h) = to_kinded firsts tree has ∙ ap (kinded tree) h
 refused_judged firsts tree (RestNotLast span) (has, h) = to_kinded firsts tree has ∙ ap (kinded tree) h
 refused_judged firsts tree (Unsafe span op) (has, h) = to_safe firsts tree has ∙ ap (safe tree) h
+refused_judged firsts tree (Room span) (has, h) = to_safe firsts tree has ∙ ap (safe tree) h
 refused_judged firsts tree NoMemory h = absurd h
 
 -- ---- one of both
@@ -125,7 +128,8 @@ by_sizes tree has (Some x) e = inr (Limit x.limit x.span, inr (has, e))
 
 by_safety : (tree : ModuleTree) → HasKinds tree → (o : Option unsafes.Unsafe) → module_unsafe (module_of tree) ≡ o → Decided tree
 by_safety tree has None e = by_sizes tree (has, e) (sizes_passed tree) refl
-by_safety tree has (Some u) e = inr (Unsafe u.span u.op, (has, e))
+by_safety tree has (Some (finding.Operator span op)) e = inr (Unsafe span op, (has, e))
+by_safety tree has (Some (finding.Room span)) e = inr (Room span, (has, e))
 
 by_kinds : (tree : ModuleTree) → HasModule tree → (fs : List KindFault) → kind_faults (module_of tree) ≡ fs → Decided tree
 by_kinds tree has [] e = by_safety tree (has, e) (module_unsafe (module_of tree)) refl

@@ -14,9 +14,9 @@ use Rattle.td_elab.specs.declared.elaborate.ElabError.TheVariants.{Broken as Bro
 use Rattle.td_kinds.specs.declared.error.KindError.{KindError}
 use Rattle.td_kinds.specs.declared.error.KindError.TheVariants.{ZeroElement as ZeroElementAt, RestNotLast as RestNotLastAt, NoMemory as NoKinds}
 use Rattle.td_arith.specs.declared.error.ArithError.{ArithError}
-use Rattle.td_arith.specs.declared.error.ArithError.TheVariants.{Unsafe as UnsafeAt, NoMemory as NoSafety}
+use Rattle.td_arith.specs.declared.error.ArithError.TheVariants.{Unsafe as UnsafeAt, Room as RoomAt, NoMemory as NoSafety}
 use Rattle.td_front.specs.declared.error.FrontError.{FrontError}
-use Rattle.td_front.specs.declared.error.FrontError.TheVariants.{BadByte, OpenComment, BigNumber, Unexpected, Deep, Limit, Broken, Cycle, ZeroElement, RestNotLast, Unsafe, NoMemory}
+use Rattle.td_front.specs.declared.error.FrontError.TheVariants.{BadByte, OpenComment, BigNumber, Unexpected, Deep, Limit, Broken, Cycle, ZeroElement, RestNotLast, Unsafe, Room, NoMemory}
 use Rattle.td_front.specs.ModuleText.{beginning_of}
 
 abbrev pub of_lexing : LexError → FrontError
@@ -51,4 +51,5 @@ of_kinds NoKinds = NoMemory
 
 abbrev pub of_arith : ArithError → FrontError
 of_arith (UnsafeAt span op) = Unsafe span op
+of_arith (RoomAt span) = Room span
 of_arith NoSafety = NoMemory

@@ -7,7 +7,7 @@ use Rattle.td_limits.specs.declared.limits.Limit.TheVariants as limit
 use Rattle.td_rules.specs.declared.breach.Rule.{Rule}
 use Rattle.td_rules.specs.declared.breach.Rule.TheVariants as rule
 use Rattle.td_front.specs.declared.error.FrontError.{FrontError}
-use Rattle.td_front.specs.declared.error.FrontError.TheVariants.{BadByte, OpenComment, BigNumber, Unexpected, Deep, Limit, Broken, Cycle, ZeroElement, RestNotLast, Unsafe, NoMemory}
+use Rattle.td_front.specs.declared.error.FrontError.TheVariants.{BadByte, OpenComment, BigNumber, Unexpected, Deep, Limit, Broken, Cycle, ZeroElement, RestNotLast, Unsafe, Room, NoMemory}
 
 -- the byte of the text at which it stands
 abbrev pub place_of : FrontError → ℕ
@@ -22,6 +22,7 @@ place_of (Cycle span) = span.from
 place_of (ZeroElement span) = span.from
 place_of (RestNotLast span) = span.from
 place_of (Unsafe span op) = span.from
+place_of (Room span) = span.from
 place_of NoMemory = 0
 
 -- the codes and words of the rules of names, types, constants and actions
@@ -82,6 +83,7 @@ code_of (Cycle span) = codes "N5"
 code_of (ZeroElement span) = codes "K1"
 code_of (RestNotLast span) = codes "K2"
 code_of (Unsafe span op) = codes "A1"
+code_of (Room span) = codes "A2"
 code_of NoMemory = []
 
 -- its words
@@ -97,4 +99,5 @@ words_of (Cycle span) = codes "module cycle"
 words_of (ZeroElement span) = codes "element may be empty"
 words_of (RestNotLast span) = codes "rest not last"
 words_of (Unsafe span op) = unsafe_words op
+words_of (Room span) = codes "room"
 words_of NoMemory = []

@@ -11,7 +11,7 @@ use Rattle.td_grammar.specs.Parts.{input_text}
 use Rattle.td_rules.specs.Modules.{module_of}
 use Rattle.td_flat.specs.Flat.{flat}
 use Rattle.td_front.specs.declared.error.FrontError.{FrontError}
-use Rattle.td_front.specs.declared.error.FrontError.TheVariants.{BadByte, OpenComment, BigNumber, Unexpected, Deep, Limit, Broken, Cycle, ZeroElement, RestNotLast, Unsafe, NoMemory}
+use Rattle.td_front.specs.declared.error.FrontError.TheVariants.{BadByte, OpenComment, BigNumber, Unexpected, Deep, Limit, Broken, Cycle, ZeroElement, RestNotLast, Unsafe, Room, NoMemory}
 use Rattle.td_front.specs.Inputs.{IsAdmittedInput, RefusesInput}
 
 -- the text splits into tokens that spell this module or these parts, and none of them passes a limit
@@ -60,4 +60,5 @@ RefusedBy text (Cycle span) = RefusedTree text (Cycle span)
 RefusedBy text (ZeroElement span) = RefusedTree text (ZeroElement span)
 RefusedBy text (RestNotLast span) = RefusedTree text (RestNotLast span)
 RefusedBy text (Unsafe span op) = RefusedTree text (Unsafe span op)
+RefusedBy text (Room span) = RefusedTree text (Room span)
 RefusedBy text NoMemory = ⊥

@@ -1,5 +1,5 @@
 -- The passes over a tree, one after the other (own rules): its counts, its rules of names, types, constants and actions,
--- the kinds of its module, the safety of its module's operators, its sizes. How far a tree comes, and where it is refused.
+-- the kinds of its module, the safety of its module's operators and copies, its sizes. How far a tree comes, and where it is refused.
 use Rattle.std.specs.Prelude.{◌≡◌, ◌⊎◌, [], Some, None}
 use Rattle.td_ast.specs.declared.definitions.ModuleTree.{ModuleTree}
 use Rattle.td_limits.specs.Counts.{counts_passed}
@@ -8,9 +8,10 @@ use Rattle.td_rules.specs.Modules.{breaches, module_of}
 use Rattle.td_elab.specs.Firsts.{IsFirstIn, breaches_in}
 use Rattle.td_kinds.specs.declared.error.KindFault.TheVariants as kind
 use Rattle.td_kinds.specs.KindRules.{kind_faults, first_fault}
+use Rattle.td_expr.specs.declared.safety.Unsafe.TheVariants as finding
 use Rattle.td_arith.specs.SafeModule.{module_unsafe}
 use Rattle.td_front.specs.declared.error.FrontError.{FrontError}
-use Rattle.td_front.specs.declared.error.FrontError.TheVariants.{BadByte, OpenComment, BigNumber, Unexpected, Deep, Limit, Broken, Cycle, ZeroElement, RestNotLast, Unsafe, NoMemory}
+use Rattle.td_front.specs.declared.error.FrontError.TheVariants.{BadByte, OpenComment, BigNumber, Unexpected, Deep, Limit, Broken, Cycle, ZeroElement, RestNotLast, Unsafe, Room, NoMemory}
 
 -- no limit by count is passed
 abbrev pub HasCounts : ModuleTree → Type 0
@@ -24,7 +25,7 @@ HasModule tree = HasCounts tree × (breaches tree ≡ [])
 abbrev pub HasKinds : ModuleTree → Type 0
 HasKinds tree = HasModule tree × (kind_faults (module_of tree) ≡ [])
 
--- and each operator is safe
+-- and each operator is safe, and each copy has room
 abbrev pub HasSafety : ModuleTree → Type 0
 HasSafety tree = HasKinds tree × (module_unsafe (module_of tree) ≡ None)
 
@@ -47,5 +48,6 @@ RefusesTree tree (Broken rule span) = HasCounts tree × IsFirstIn (record { rule
 RefusesTree tree (Cycle span) = ⊥
 RefusesTree tree (ZeroElement span) = HasModule tree × (first_fault (kind_faults (module_of tree)) ≡ Some (kind.ZeroElement span))
 RefusesTree tree (RestNotLast span) = HasModule tree × (first_fault (kind_faults (module_of tree)) ≡ Some (kind.RestNotLast span))
-RefusesTree tree (Unsafe span op) = HasKinds tree × (module_unsafe (module_of tree) ≡ Some (record { span = span; op = op }))
+RefusesTree tree (Unsafe span op) = HasKinds tree × (module_unsafe (module_of tree) ≡ Some (finding.Operator span op))
+RefusesTree tree (Room span) = HasKinds tree × (module_unsafe (module_of tree) ≡ Some (finding.Room span))
 RefusesTree tree NoMemory = ⊥

@@ -51,6 +51,9 @@ pub enum FrontError {
     /// A1: what this operator computes may lie outside its type's range.
     #[error("{}", unsafe_words(*op))]
     Unsafe { span: Span, op: Binary },
+    /// A2: what is copied here may pass the room of its buffer.
+    #[error("room")]
+    Room { span: Span },
     /// There was no memory.
     #[error("out of memory")]
     NoMemory,
@@ -142,6 +145,7 @@ impl From<ArithError> for FrontError {
     fn from(error: ArithError) -> FrontError {
         match error {
             ArithError::Unsafe { span, op } => FrontError::Unsafe { span, op },
+            ArithError::Room { span } => FrontError::Room { span },
             ArithError::NoMemory => FrontError::NoMemory,
         }
     }

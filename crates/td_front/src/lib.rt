@@ -6,6 +6,7 @@ mod check;
 mod error;
 pub mod laws;
 mod line;
+mod long_names;
 mod passes;
 
 pub use check::{CheckedInput, check_input, check_module};

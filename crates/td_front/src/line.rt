@@ -102,6 +102,7 @@ pub fn line_of(error: &FrontError) -> Option<ErrorLine>
         FrontError::ZeroElement { span } => (span.from, "K1", "element may be empty"),
         FrontError::RestNotLast { span } => (span.from, "K2", "rest not last"),
         FrontError::Unsafe { span, op } => (span.from, "A1", unsafe_words(*op)),
+        FrontError::Room { span } => (span.from, "A2", "room"),
         FrontError::NoMemory => return None,
     };
     Some(ErrorLine { at, code, words })

@@ -10,6 +10,7 @@ ghost use Rattle.td_front.specs.declared.error.FrontError.{FrontError};
 ghost use Rattle.td_rules.specs.Modules.{module_of};
 
 use crate::error::FrontError;
+use crate::long_names::are_names_too_long;
 use std::alloc::Global;
 use td_arith::modules::arith;
 use td_ast::definitions::ModuleTree;
@@ -42,13 +43,16 @@ fn check_counts(input: &InputTree) -> Result<(), FrontError>
     }
 }
 
-/// The one tree of parts: N2 of parts, N5. `NoMemory`: out of memory for it.
+/// The one tree of parts: N2 of parts, N5. `NoMemory`: out of memory for it, or its names were too long to begin with it.
 fn flat(alloc: Global, parts: &[PartTree]) -> Result<ModuleTree, FrontError>
     requires { length parts.now < 2 ^ 32 }
     ensures linked { OnOk result (IsLinked (InputTree.Parts parts.now)) }
     ensures tree { IfOk result (λ tree. tree ≡ flat (InputTree.Parts parts.now)) }
     ensures err { IfErr result (λ e. (e ≡ FrontError.NoMemory) ⊎ RefusedByParts (InputTree.Parts parts.now) e) }
 {
+    if are_names_too_long(parts) {
+        return Err(FrontError::NoMemory);
+    }
     match flat_parts(alloc, parts) {
         Ok(tree) => Ok(tree),
         Err(error) => Err(FrontError::from(error)),
