@@ -61,7 +61,7 @@ pub record HasAnswered (c : Parts) (trace : List TraceFrame) (answer : Result Ve
   pub asked_well : IsOk answer ↔ IsAsked c asked layout count
   -- the verdict is that of the code's run, and so is the count of steps
   pub validated : IfOk answer (λ v. IsValidated c (entry_asked asked) (args_of asked) (cells_of asked) layout loads
-      (record { verdict = v; trace = trace; cells = cells_of after }) after.step_count)
+      (record { verdict = v; trace = trace; cells = cells_of after; copies = [] }) after.step_count)
   pub told : IfOk answer (λ v. IsTold v trace loads after)
   -- else nothing was loaded
   pub refused : IfErr answer (λ r. IsCause c asked layout count r)

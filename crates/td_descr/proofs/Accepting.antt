@@ -1,5 +1,6 @@
 -- What is known of the cells of a descriptor that was accepted.
-use Rattle.std.proofs.Common.{◌≡◌, ℕ, ◌<◌, ◌^◌, List, length, subst, arith}
+use Rattle.std.proofs.Common.{◌≡◌, ℕ, ◌<◌, ◌^◌, List, length, take, sym, subst, arith}
+use Rattle.std.proofs.lemmas.List.{take_all}
 use Rattle.std.specs.List.{All}
 use Rattle.td_num.specs.Lists.{AreBytes}
 use Rattle.td_core.specs.declared.module.Module.{Module}
@@ -12,18 +13,23 @@ use Rattle.td_stream.specs.declared.stretch.Stretch.{Stretch}
 use Rattle.td_stream.specs.Layouts.{plain}
 use Rattle.td_stream.specs.Loads.{Carries, IsRising}
 use Rattle.td_ir.specs.declared.tables.Parts.{Parts}
-use Rattle.td_expr.specs.Sound.{Sound}
-use Rattle.td_meaning.specs.Throughout.{Throughout}
+use Rattle.td_meaning.specs.Copies.{opened, IsSoundOn}
+use Rattle.td_meaning.proofs.Copying.{opened_copyless}
 use Rattle.td_stream.specs.Loads.{Inside}
-use Rattle.td_leaves.specs.Outcomes.{IsBehaviorOf}
+use Rattle.td_leaves.specs.Outcomes.{IsMeant}
 use Rattle.td_lowered.specs.CodeRun.{IsCodeOf}
 use Rattle.td_descr.specs.Ring.{desc_entry, desc_args, desc_cells, desc_bytes, AreWithin, IsRingCode, IsValidated, IfAccepted}
 use Rattle.td_num.proofs.Digits.{are_bytes as bytes_of}
 
 -- a fact of each ending that accepts, where this outcome is one
-pub at_outcome : (e : Ending) (o : Outcome) (P : List ℕ → Type 0) → outcome_of e ≡ o → OnEnding e (λ q cells. P cells) → IfAccepted o.verdict (P o.cells)
-at_outcome (Accepted q cells) o P e h = subst (λ (x : Outcome). IfAccepted x.verdict (P x.cells)) e h
-at_outcome (Rejected reason q trace cells) o P e h = subst (λ (x : Outcome). IfAccepted x.verdict (P x.cells)) e tt
+pub at_outcome : (n : ℕ) (b : List ℕ) (e : Ending) (o : Outcome) (P : List ℕ → Type 0) → outcome_of n b e ≡ o → OnEnding e (λ q cells. P (take n cells)) → IfAccepted o.verdict (P o.cells)
+at_outcome n b (Accepted q cells) o P e h = subst (λ (x : Outcome). IfAccepted x.verdict (P x.cells)) e h
+at_outcome n b (Rejected reason q trace cells) o P e h = subst (λ (x : Outcome). IfAccepted x.verdict (P x.cells)) e tt
+
+-- nothing stands behind the three cells
+first_three : (room most : ℕ) (e : Ending) → OnEnding e (λ q cells. AreWithin room most cells) → OnEnding e (λ q cells. AreWithin room most (take 3 cells))
+first_three room most (Accepted q cells) h = subst (AreWithin room most) (sym (take_all 3 cells (let n = h.count in omega (arith, n)))) h
+first_three room most (Rejected reason q trace cells) h = h
 
 abbrev pub SomeCarries : Type 0
 SomeCarries = (layout : List Stretch) (loads : List Load) → IsRising loads → (b : List ℕ) × Carries layout b loads × All (λ x. x < 256) b
@@ -37,14 +43,18 @@ accepted_within c room most loads o carry code v =
     let bytes : AreBytes b = bytes_of b message.2 in
     let size : length b < 2 ^ 32 = (let e = message.1.size in omega (arith, e)) in
     let is = v.meant code.format b code.code message.1 (code.ring.sound b bytes size) in
-    at_outcome (meaning code.format desc_entry (desc_args room most) desc_cells b).ending o (AreWithin room most) is.same (code.ring.within b bytes)
+    let alone = opened_copyless code.format desc_entry desc_cells code.code.laid.copyless in
+    let end : List ℕ → Ending = λ cells. (meaning code.format desc_entry (desc_args room most) cells b).ending in
+    let within : OnEnding (end (opened code.format desc_entry desc_cells)) (λ q cells. AreWithin room most cells) =
+    subst (λ cells. OnEnding (end cells) (λ q cells. AreWithin room most cells)) (sym alone) (code.ring.within b bytes) in
+    at_outcome 3 b (end (opened code.format desc_entry desc_cells)) o (AreWithin room most) is.same (first_three room most (end (opened code.format desc_entry desc_cells)) within)
 
 -- what a validation from these cells of a message that lies so says of its loads
 abbrev pub Says : Parts → ℕ → ℕ → List Load → Outcome → List Stretch → List ℕ → Type 0
 Says c room most loads o layout cells =
     IsRising loads × Inside layout loads
-    × ((m : Module) (b : List ℕ) → IsCodeOf c m → Carries layout b loads → Throughout Sound m desc_entry (desc_args room most) cells b
-    → IsBehaviorOf layout loads (meaning m desc_entry (desc_args room most) cells b) o)
+    × ((m : Module) (b : List ℕ) → IsCodeOf c m → Carries layout b loads → IsSoundOn m desc_entry (desc_args room most) cells b
+    → IsMeant layout m desc_entry (desc_args room most) cells b loads o)
 
 pub validated_by : (c : Parts) (room most : ℕ) (loads : List Load) (o : Outcome) (layout : List Stretch) (cells : List ℕ) → layout ≡ plain desc_bytes → cells ≡ desc_cells
     → length o.cells ≡ 3 → Says c room most loads o layout cells → IsValidated c room most loads o

@@ -16,6 +16,7 @@ use Rattle.td_core.specs.declared.module.Element.TheVariants as element
 use Rattle.td_core.specs.declared.module.Extent.{Extent}
 use Rattle.td_core.specs.declared.module.Extent.TheVariants.{Once, Filling, OnceFilling, UpToZero}
 use Rattle.td_core.specs.declared.module.Bits.{Bits}
+use Rattle.td_core.specs.declared.module.CopyOut.{CopyOut}
 use Rattle.td_core.specs.declared.module.Part.{Part}
 use Rattle.td_core.specs.declared.module.Field.{Field}
 use Rattle.td_core.specs.declared.module.Param.{Param}
@@ -30,7 +31,7 @@ use Rattle.td_expr.specs.Value.{value_of, natural, number_of, flip, both_of}
 use Rattle.td_meaning.specs.Doing.{doing, On}
 use Rattle.td_meaning.specs.Meaning.{acted, ended}
 use Rattle.td_descr.specs.Format.{any_field}
-use Rattle.td_descr.specs.Shape.{is_level, is_rest, is_left, is_up_to, is_fit, is_done, is_delivery, delivered, undone, untested, is_four, is_two, is_little, holds, whole, alone, is_number, are_fields, is_struct, is_only, is_first, are_params, are_cells, ShapeFits}
+use Rattle.td_descr.specs.Shape.{is_level, is_rest, is_left, is_up_to, is_fit, is_done, is_delivery, delivered, undone, untested, is_four, is_two, is_little, holds, kept, whole, alone, is_number, are_fields, is_struct, is_only, is_first, are_params, are_cells, are_no_buffers, ShapeFits}
 
 -- ---- values
 abbrev at : List ℕ → ℕ → ℤ
@@ -209,14 +210,20 @@ alone_is is [] h = absurd (false≢true h)
 alone_is is (p ∷ []) h = let both = both_true (whole p.bits) (is p) h in (p, refl, whole_is p.bits both.0, both.1)
 alone_is is (p ∷ q ∷ parts) h = absurd (false≢true h)
 
+kept_is : (copy : Option CopyOut) → kept copy ≡ true → copy ≡ None
+kept_is None h = refl
+kept_is (Some c) h = absurd (false≢true h)
+
 pub number_is : (w : Width) (width : Width → Bool) → ((x : Width) → width x ≡ true → x ≡ w) → (is : Part → Bool) (f : Field) → is_number width is f ≡ true
     → (p : Part) × (f ≡ any_field w p.name f.place p.refinement p.action) × (is p ≡ true)
 number_is w width only is f h =
-    let both = both_true (holds width f.element f.extent) (alone is f.parts) h in
-    let e = holds_is w width only f.element f.extent both.0 in
+    let both = both_true (holds width f.element f.extent && kept f.copy) (alone is f.parts) h in
+    let first = both_true (holds width f.element f.extent) (kept f.copy) both.0 in
+    let e = holds_is w width only f.element f.extent first.0 in
+    let c = kept_is f.copy first.1 in
     let a = alone_is is f.parts both.1 in
     let parts = a.1 ∙ ap (λ (bits : Option Bits). record a.0 { bits = bits } ∷ []) a.2 in
-    (a.0, (λ i. record { element = e.0 i; extent = e.1 i; parts = parts i; place = f.place }), a.3)
+    (a.0, (λ i. record { element = e.0 i; extent = e.1 i; copy = c i; parts = parts i; place = f.place }), a.3)
 
 -- ---- the module
 pub untested_is : (e : Option Term) → untested e ≡ true → e ≡ None
@@ -233,7 +240,7 @@ plain_struct d fields = record d { guard = None; body = Struct fields }
 pub only_is : (definitions : List TypeDef) → is_only definitions ≡ true → (d : TypeDef) × (fields : List Field) × (definitions ≡ plain_struct d fields ∷ []) × (are_fields fields ≡ true)
 only_is [] h = absurd (false≢true h)
 only_is (d ∷ []) h =
-    let outer = both_true (untested d.guard && is_struct d.body) (are_params d.params && are_cells d.cells) h in
+    let outer = both_true (untested d.guard && is_struct d.body) (are_params d.params && (are_cells d.cells && are_no_buffers d.buffers)) h in
     let both = both_true (untested d.guard) (is_struct d.body) outer.0 in
     let s = struct_is d.body both.1 in
     let g = untested_is d.guard both.0 in
@@ -272,9 +279,10 @@ FitAt d room most = AllFit (params_at d) (room ∷ most ∷ []) × AllFit (cells
 fit_at : (definitions : List TypeDef) (room most : ℕ) → is_only definitions ≡ true → room < 2 ^ 32 → most < 2 ^ 32 → FitAt (slice_get definitions 0) room most
 fit_at [] room most h a b = absurd (false≢true h)
 fit_at (d ∷ []) room most h a b =
-    let outer = both_true (untested d.guard && is_struct d.body) (are_params d.params && are_cells d.cells) h in
-    let both = both_true (are_params d.params) (are_cells d.cells) outer.1 in
-    (params_fit d.params room most both.0 a b, cells_fit d.cells both.1)
+    let outer = both_true (untested d.guard && is_struct d.body) (are_params d.params && (are_cells d.cells && are_no_buffers d.buffers)) h in
+    let both = both_true (are_params d.params) (are_cells d.cells && are_no_buffers d.buffers) outer.1 in
+    let cells = both_true (are_cells d.cells) (are_no_buffers d.buffers) both.1 in
+    (params_fit d.params room most both.0 a b, cells_fit d.cells cells.0)
 fit_at (d ∷ e ∷ definitions) room most h a b = absurd (false≢true h)
 
 pub shape_fits : ShapeFits

@@ -29,6 +29,7 @@ abbrev pub any_field : Width → NameId → Span → Option Term → Option Deed
 any_field w n place refinement action = record {
   element = Number (record { width = w; order = LittleEndian });
   extent = Once;
+  copy = None;
   parts = record { name = n; bits = None; refinement = refinement; action = action } ∷ [];
   place = place;
 }
@@ -89,6 +90,7 @@ desc_definition = record {
   name = id 11;
   params = record { name = id 0; width = Four } ∷ record { name = id 1; width = Four } ∷ [];
   cells = out_cell 3 Four ∷ out_cell 4 Four ∷ out_cell 5 Two ∷ [];
+  buffers = [];
   guard = None;
   body = Struct (place_field ∷ size_field ∷ id_field ∷ flags_field ∷ reserved_field ∷ []);
 }

@@ -7,13 +7,13 @@ use Rattle.td_core.specs.declared.module.Entry.{Entry}
 use Rattle.td_core.specs.declared.outcome.Outcome.{Outcome}
 use Rattle.td_core.specs.declared.outcome.Verdict.{Verdict}
 use Rattle.td_core.specs.declared.outcome.Verdict.TheVariants.{Accept, Reject}
-use Rattle.td_expr.specs.Sound.{Sound}
 use Rattle.td_meaning.specs.Meaning.{meaning}
-use Rattle.td_meaning.specs.Throughout.{Throughout, OnEnding}
+use Rattle.td_meaning.specs.Copies.{IsSoundOn as IsSound}
+use Rattle.td_meaning.specs.Throughout.{OnEnding}
 use Rattle.td_stream.specs.declared.load.Load.{Load}
 use Rattle.td_stream.specs.Layouts.{plain}
 use Rattle.td_stream.specs.Loads.{IsRising, Inside, Carries}
-use Rattle.td_leaves.specs.Outcomes.{IsBehaviorOf}
+use Rattle.td_leaves.specs.Outcomes.{IsMeant}
 use Rattle.td_ir.specs.declared.tables.Parts.{Parts}
 use Rattle.td_ir.specs.Entries.{Fits}
 use Rattle.td_lowered.specs.CodeRun.{IsCodeOf}
@@ -56,11 +56,11 @@ desc_bytes = 16
 -- on this descriptor's bytes, which carry the loads, its outcome is what the module means, and exactly the words with a byte that it reads
 -- were loaded
 abbrev pub IsDescribed : Module → ℕ → ℕ → List ℕ → List Load → Outcome → Type 0
-IsDescribed m room most b loads outcome = IsBehaviorOf (plain desc_bytes) loads (meaning m desc_entry (desc_args room most) desc_cells b) outcome
+IsDescribed m room most b loads outcome = IsMeant (plain desc_bytes) m desc_entry (desc_args room most) desc_cells b loads outcome
 
 -- each expression that the module evaluates on these bytes lies in its type's range
 abbrev pub IsSoundOn : Module → ℕ → ℕ → List ℕ → Type 0
-IsSoundOn m room most b = Throughout Sound m desc_entry (desc_args room most) desc_cells b
+IsSoundOn m room most b = IsSound m desc_entry (desc_args room most) desc_cells b
 
 -- cells of a descriptor that was accepted: a place, a size and a number, and the message lies within the room
 pub record AreWithin (room most : ℕ) (cells : List ℕ) : Type 0 where
@@ -112,7 +112,7 @@ begun c entries room most frame = record { code = c; entries = entries; room = r
 
 -- the outcome of the validation that left its trace and cells in this frame
 abbrev pub frame_outcome : FrameView → Verdict → Outcome
-frame_outcome frame verdict = record { verdict = verdict; trace = frame.trace; cells = frame.cells }
+frame_outcome frame verdict = record { verdict = verdict; trace = frame.trace; cells = frame.cells; copies = [] }
 
 -- ---- the next descriptor
 -- a descriptor's loads rise and lie in its bytes, and on every list of bytes that carries them its outcome is the meaning of each module

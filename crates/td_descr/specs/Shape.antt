@@ -14,6 +14,8 @@ use Rattle.td_core.specs.declared.module.Element.TheVariants.{Number}
 use Rattle.td_core.specs.declared.module.Extent.{Extent}
 use Rattle.td_core.specs.declared.module.Extent.TheVariants.{Once}
 use Rattle.td_core.specs.declared.module.Bits.{Bits}
+use Rattle.td_core.specs.declared.module.Buffer.{Buffer}
+use Rattle.td_core.specs.declared.module.CopyOut.{CopyOut}
 use Rattle.td_core.specs.declared.module.Part.{Part}
 use Rattle.td_core.specs.declared.module.Field.{Field}
 use Rattle.td_core.specs.declared.module.Param.{Param}
@@ -117,8 +119,13 @@ abbrev pub alone : (Part → Bool) → List Part → Bool
 alone is (part ∷ []) = whole part.bits && is part
 alone is parts = false
 
+-- nothing is copied
+abbrev pub kept : Option CopyOut → Bool
+kept None = true
+kept (Some copy) = false
+
 abbrev pub is_number : (Width → Bool) → (Part → Bool) → Field → Bool
-is_number width is f = holds width f.element f.extent && alone is f.parts
+is_number width is f = (holds width f.element f.extent && kept f.copy) && alone is f.parts
 
 abbrev pub is_place : Part → Bool
 is_place p = tested (is_up_to 2 0) p.refinement && delivered 0 2 p.action
@@ -159,8 +166,12 @@ abbrev pub are_cells : List Cell → Bool
 are_cells (place ∷ size ∷ id ∷ []) = is_cell is_four place.kind && (is_cell is_four size.kind && is_cell is_two id.kind)
 are_cells cells = false
 
+abbrev pub are_no_buffers : List Buffer → Bool
+are_no_buffers [] = true
+are_no_buffers (b ∷ buffers) = false
+
 abbrev pub is_definition : TypeDef → Bool
-is_definition d = (untested d.guard && is_struct d.body) && (are_params d.params && are_cells d.cells)
+is_definition d = (untested d.guard && is_struct d.body) && (are_params d.params && (are_cells d.cells && are_no_buffers d.buffers))
 
 abbrev pub is_only : List TypeDef → Bool
 is_only (d ∷ []) = is_definition d

@@ -1,11 +1,11 @@
 //! When a module is one of descriptors.
 
-ghost use Rattle.std.specs.Prelude.{◌≡◌};
-ghost use Rattle.td_descr.specs.Shape.{is_level, is_zero, is_rest, is_left, is_up_to, is_none, is_fit, is_done, delivered, tested, is_four, is_two, holds, whole, is_place, is_size, is_id, is_flags, is_reserved, is_number, are_fields, is_struct, are_params, are_cells, is_cell, is_definition, is_only, is_first, has_ring_shape};
+ghost use Rattle.std.specs.Prelude.{◌≡◌, ◌&&◌};
+ghost use Rattle.td_descr.specs.Shape.{is_level, is_zero, is_rest, is_left, is_up_to, is_none, is_fit, is_done, delivered, tested, is_four, is_two, holds, kept, whole, is_place, is_size, is_id, is_flags, is_reserved, is_number, are_fields, is_struct, are_params, are_cells, are_no_buffers, is_cell, is_definition, is_only, is_first, has_ring_shape};
 
 use td_core::{
-    Action, Binary, Bits, Body, Cell, CellKind, CoreExpr, Element, Extent, Field, Module, Node,
-    Param, Part, Relation, Step, TypeDef,
+    Action, Binary, Bits, Body, Buffer, Cell, CellKind, CopyOut, CoreExpr, Element, Extent, Field,
+    Module, Node, Param, Part, Relation, Step, TypeDef,
 };
 use td_num::number::{ByteOrder, Width};
 
@@ -39,7 +39,8 @@ fn has_form(d: &TypeDef) -> bool
     ensures { result ≡ is_definition d.now }
 {
     (d.guard.is_none() && is_desc(&d.body))
-        && (takes_two(d.params.as_slice()) && gives_three(d.cells.as_slice()))
+        && (takes_two(d.params.as_slice())
+            && (gives_three(d.cells.as_slice()) && has_no_buffers(d.buffers.as_slice())))
 }
 
 // UINT32 room, UINT32 most
@@ -50,6 +51,12 @@ fn takes_two(params: &[Param]) -> bool
         [room, most] => has_four(room.width) && has_four(most.width),
         _ => false,
     }
+}
+
+fn has_no_buffers(buffers: &[Buffer]) -> bool
+    ensures { result ≡ are_no_buffers buffers.now }
+{
+    buffers.is_empty()
 }
 
 // UINT32 Place; UINT32 Size; UINT16 Id;
@@ -124,7 +131,7 @@ fn are_desc(fields: &[Field]) -> bool
 fn is_place_field(f: &Field) -> bool
     ensures { result ≡ is_number is_four is_place f.now }
 {
-    has_number(f, Width::Four)
+    has_plain_number(f, Width::Four)
         && match f.parts.as_slice() {
             [p] => is_whole(&p.bits) && (is_within(&p.refinement) && gives(&p.action, 0, 2)),
             _ => false,
@@ -135,7 +142,7 @@ fn is_place_field(f: &Field) -> bool
 fn is_size_field(f: &Field) -> bool
     ensures { result ≡ is_number is_four is_size f.now }
 {
-    has_number(f, Width::Four)
+    has_plain_number(f, Width::Four)
         && match f.parts.as_slice() {
             [p] => is_whole(&p.bits) && (fits(&p.refinement) && gives(&p.action, 1, 3)),
             _ => false,
@@ -146,7 +153,7 @@ fn is_size_field(f: &Field) -> bool
 fn is_id_field(f: &Field) -> bool
     ensures { result ≡ is_number is_two is_id f.now }
 {
-    has_number(f, Width::Two)
+    has_plain_number(f, Width::Two)
         && match f.parts.as_slice() {
             [p] => is_whole(&p.bits) && (p.refinement.is_none() && gives(&p.action, 2, 4)),
             _ => false,
@@ -157,7 +164,7 @@ fn is_id_field(f: &Field) -> bool
 fn is_flags_field(f: &Field) -> bool
     ensures { result ≡ is_number is_two is_flags f.now }
 {
-    has_number(f, Width::Two)
+    has_plain_number(f, Width::Two)
         && match f.parts.as_slice() {
             [p] => is_whole(&p.bits) && (has_none(&p.refinement) && p.action.is_none()),
             _ => false,
@@ -168,7 +175,7 @@ fn is_flags_field(f: &Field) -> bool
 fn is_reserved_field(f: &Field) -> bool
     ensures { result ≡ is_number is_four is_reserved f.now }
 {
-    has_number(f, Width::Four)
+    has_plain_number(f, Width::Four)
         && match f.parts.as_slice() {
             [p] => is_whole(&p.bits) && (p.refinement.is_none() && p.action.is_none()),
             _ => false,
@@ -179,6 +186,20 @@ fn is_whole(bits: &Option<Bits>) -> bool
     ensures { result ≡ whole bits.now }
 {
     bits.is_none()
+}
+
+fn is_kept(copy: &Option<CopyOut>) -> bool
+    ensures { result ≡ kept copy.now }
+{
+    copy.is_none()
+}
+
+// Whether a little-endian number of this width stands in a field, and isn't copied.
+fn has_plain_number(f: &Field, width: Width) -> bool
+    ensures four { width ≡ Width.Four → result ≡ (holds is_four f.now.element f.now.extent && kept f.now.copy) }
+    ensures two { width ≡ Width.Two → result ≡ (holds is_two f.now.element f.now.extent && kept f.now.copy) }
+{
+    has_number(f, width) && is_kept(&f.copy)
 }
 
 /// Whether a little-endian number of this width stands in a field.

@@ -3,8 +3,7 @@ use Rattle.std.specs.Prelude.{◌≡◌, ℕ, ◌-◌, ◌^◌, List, length, mi
 use Rattle.td_core.specs.declared.module.Entry.{Entry}
 use Rattle.td_core.specs.declared.module.Module.{Module}
 use Rattle.td_core.specs.declared.outcome.Outcome.{Outcome}
-use Rattle.td_expr.specs.Sound.{Sound}
-use Rattle.td_meaning.specs.Throughout.{Throughout}
+use Rattle.td_meaning.specs.Copies.{IsSoundOn}
 use Rattle.td_stream.specs.declared.load.Load.{Load}
 use Rattle.td_stream.specs.declared.stretch.Stretch.{Stretch}
 use Rattle.td_stream.specs.Loads.{Carries, Inside, IsRising}
@@ -23,9 +22,9 @@ pub record IsValidated (c : Parts) (entry : Entry) (args cells : List ℕ) (layo
   -- the steps told are the run's, or 2^64 - 1 where these are more
   pub steps : (b : List ℕ) → Carries layout b loads → told ≡ min (run c entry args cells b).steps (2 ^ 64 - 1)
   -- on every byte list that carries the loads the outcome is that of the code's run, and exactly the words that it looks at were loaded
-  pub run : (b : List ℕ) → Carries layout b loads → IsRun layout loads (run c entry args cells b) outcome 0 (run c entry args cells b).steps
+  pub run : (b : List ℕ) → Carries layout b loads → IsRun layout (length cells) b loads (run c entry args cells b) outcome 0 (run c entry args cells b).steps
   -- where the code is a module's, the outcome is what the module means
   pub behavior : (m : Module) (b : List ℕ) → IsCodeOf c m → Carries layout b loads
-      → Throughout Sound m entry args cells b → IsMeant layout m entry args cells b loads outcome
+      → IsSoundOn m entry args cells b → IsMeant layout m entry args cells b loads outcome
   -- the entry point has as many cells as before
   pub count : length outcome.cells ≡ length cells

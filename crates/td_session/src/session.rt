@@ -127,7 +127,7 @@ impl Session {
         ensures fits { IsSome result ↔ Fits (arc_value self.old.code) entry args.now cells.old }
         // Then the verdict, with the session's trace and the cells as they are left, is the outcome, of so many steps.
         ensures validated { IfSome result (λ v. IsValidated (arc_value self.old.code) entry args.now cells.old layout.now (W.loads words.new)
-            (record { verdict = v.0; trace = self.new.frame.trace; cells = cells.new }) v.1) }
+            (record { verdict = v.0; trace = self.new.frame.trace; cells = cells.new; copies = [] }) v.1) }
         ensures reaches { W.reaches words.old words.new }
         // Else nothing was loaded, and the cells are as they were.
         ensures unloaded { IsNone result → W.loads words.new ≡ [] }

@@ -1,5 +1,5 @@
 -- What is answered to a message.
-use Rattle.std.specs.Prelude.{◌≡◌, ℕ, List}
+use Rattle.std.specs.Prelude.{◌≡◌, ℕ, List, length as size_of}
 use Rattle.std.specs.List.{All}
 use Rattle.std.proofs.Common.{◌∙◌}
 use Rattle.td_core.specs.declared.module.Entry.{Entry}
@@ -21,7 +21,7 @@ same_on u v w p q = q ∙ p
 pub record IsValidated (c : Parts) (entry : Entry) (args cells : List ℕ) (length : ℕ) (loads : List Load) (outcome : Outcome) : Type 0 where
   pub rising : IsRising loads
   pub inside : Inside (plain length) loads
-  pub ran : (b : List ℕ) → Carries (plain length) b loads → IsRun (plain length) loads (run c entry args cells b) outcome 0 (run c entry args cells b).steps
+  pub ran : (b : List ℕ) → Carries (plain length) b loads → IsRun (plain length) (size_of cells) b loads (run c entry args cells b) outcome 0 (run c entry args cells b).steps
 
 -- the same by the code whose image the bytes are, from its first entry point of a name, with cells that begin at zero
 pub record IsAnswer (image name args : List ℕ) (length : ℕ) (loads : List Load) (outcome : Outcome) : Type 0 where

@@ -1,5 +1,5 @@
 -- What a frame has room for (own rule).
-use Rattle.std.specs.Prelude.{◌≡◌, ℕ, ◌+◌, ◌≤◌, List, length, slice_index}
+use Rattle.std.specs.Prelude.{◌≡◌, ℕ, ◌+◌, ◌≤◌, List, length, slice_index, []}
 use Rattle.td_core.specs.declared.outcome.Outcome.{Outcome}
 use Rattle.td_core.specs.declared.outcome.TraceFrame.{TraceFrame}
 use Rattle.td_core.specs.declared.outcome.Verdict.{Verdict}
@@ -26,9 +26,9 @@ pub record FrameView : Type 0 where
   pub cells : List ℕ
   pub trace : List TraceFrame
 
--- the outcome of a validation that had this verdict and left the frame so
+-- the outcome of a validation that had this verdict and left the frame so; no instruction copies
 abbrev pub outcome_in : FrameView → Verdict → Outcome
-outcome_in f verdict = record { verdict = verdict; trace = f.trace; cells = f.cells }
+outcome_in f verdict = record { verdict = verdict; trace = f.trace; cells = f.cells; copies = [] }
 
 -- where each routine begins, and where the last one ends
 pub record AreBegins (c : Parts) (begins : List ℕ) : Type 0 where

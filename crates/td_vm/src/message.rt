@@ -47,8 +47,8 @@ pub fn run_message<W: Words, L: Ledger, C: Counter>(
     ensures trace_memory { vec_capacity trace.new.frames ≡ vec_capacity trace.old.frames }
     ensures frames { trace.new.count ≤ length trace.new.frames.items }
     ensures run { (b : List ℕ) → Carries layout.now b (W.loads words.new)
-        → IsRun layout.now (W.loads words.new) (run_routine env.now.parts.now n args.now cells.old b)
-        (record { verdict = result; trace = frames_of trace.new; cells = cells.new }) steps.old steps.new }
+        → IsRun layout.now (cells_in env.now.parts.now n) b (W.loads words.new) (run_routine env.now.parts.now n args.now cells.old b)
+        (record { verdict = result; trace = frames_of trace.new; cells = cells.new; copies = [] }) steps.old steps.new }
 {
     let mut stream = Stream::over(words, layout);
     match run_entry(env, n, args, spare, cells, &mut stream, trace, steps) {
@@ -83,8 +83,8 @@ pub fn run_front<W: Words, L: Ledger, C: Counter>(
     ensures trace_memory { vec_capacity trace.new.frames ≡ vec_capacity trace.old.frames }
     ensures frames { trace.new.count ≤ length trace.new.frames.items }
     ensures run { (b : List ℕ) → Carries layout.now b (W.loads words.new)
-        → IsRun layout.now (W.loads words.new) (run_routine env.now.parts.now n args.now (take (cells_in env.now.parts.now n) all.old) b)
-        (record { verdict = result; trace = frames_of trace.new; cells = take (cells_in env.now.parts.now n) all.new }) steps.old steps.new }
+        → IsRun layout.now (cells_in env.now.parts.now n) b (W.loads words.new) (run_routine env.now.parts.now n args.now (take (cells_in env.now.parts.now n) all.old) b)
+        (record { verdict = result; trace = frames_of trace.new; cells = take (cells_in env.now.parts.now n) all.new; copies = [] }) steps.old steps.new }
 {
     trace.count = 0;
     let count = routine_at(env.parts, n).cells as usize;

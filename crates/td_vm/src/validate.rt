@@ -173,16 +173,18 @@ impl Frame {
         self.trace.frames.len()
     }
 
-    /// The outcome of the last validation, which had this verdict: with the frame's trace and cells. Takes no memory.
+    /// The outcome of the last validation, which had this verdict: with the frame's trace and cells, and no copies. Takes no memory.
     pub fn into_outcome(self, verdict: Verdict) -> Outcome
         ensures { result ≡ outcome_in self verdict }
     {
+        let alloc = *self.cells.allocator();
         let most = self.trace.count;
         let count = self.count;
         Outcome {
             verdict,
             trace: first_of(self.trace.frames, most),
             cells: first_of(self.cells, count),
+            copies: Items::new(alloc),
         }
     }
 }
@@ -209,7 +211,7 @@ pub fn validate<W: Words, L: Ledger, C: Counter>(
     ensures rising { IsRising (W.loads words.new) }
     ensures within { Inside layout.now (W.loads words.new) }
     ensures run { (b : List ℕ) → Carries layout.now b (W.loads words.new)
-        → IsRun layout.now (W.loads words.new) (run code.now entry args.now frame.old.cells b)
+        → IsRun layout.now (size_of frame.old.cells) b (W.loads words.new) (run code.now entry args.now frame.old.cells b)
         (outcome_in frame.new result) steps.old steps.new }
     ensures cell_count { size_of frame.new.cells ≡ size_of frame.old.cells }
     ensures armed { IsArmed code.now frame.new }

@@ -1,4 +1,4 @@
-use Rattle.std.proofs.Common.{◌≡◌, ℕ, Option, Some, None, List, [], refl, ap, subst, ◌∙◌}
+use Rattle.std.proofs.Common.{◌≡◌, ℕ, Option, Some, None, List, [], length, refl, ap, subst, ◌∙◌}
 use Rattle.td_stream.specs.declared.load.Load.{Load}
 use Rattle.td_stream.specs.declared.stretch.Stretch.{Stretch}
 use Rattle.td_stream.specs.Layouts.{laid}
@@ -9,8 +9,7 @@ use Rattle.td_sched.specs.View.{PlannedView, PlannedReaches}
 use Rattle.td_core.specs.declared.module.Module.{Module}
 use Rattle.td_core.specs.declared.module.Entry.{Entry}
 use Rattle.td_core.specs.declared.outcome.Outcome.{Outcome}
-use Rattle.td_expr.specs.Sound.{Sound}
-use Rattle.td_meaning.specs.Throughout.{Throughout}
+use Rattle.td_meaning.specs.Copies.{IsSoundOn}
 use Rattle.td_leaves.specs.Outcomes.{IsMeant}
 use Rattle.td_ir.specs.declared.tables.Parts.{Parts}
 use Rattle.td_ir.specs.Run.{run}
@@ -35,13 +34,13 @@ held v w loads plays fresh recorded =
 -- the same run, and the same meant, of cells that were set and of a layout by another name
 moved : (p : Parts) (entry : Entry) (args : List ℕ) (n : ℕ) (o : Option (List Stretch)) (words : List ℕ) (stores : List PlannedStore) (loads : List Load) (outcome : Outcome) (cells cells' : List ℕ) (layout : List Stretch) → cells' ≡ cells → layout ≡ laid n o
     → IsRising loads → Inside layout loads → ArePlanned words stores 0 (buffered o loads)
-    → ((b : List ℕ) → Carries layout b loads → IsRun layout loads (run p entry args cells' b) outcome 0 (run p entry args cells' b).steps)
-    → ((m : Module) (b : List ℕ) → IsCodeOf p m → Carries layout b loads → Throughout Sound m entry args cells' b → IsMeant layout m entry args cells' b loads outcome)
+    → ((b : List ℕ) → Carries layout b loads → IsRun layout (length cells') b loads (run p entry args cells' b) outcome 0 (run p entry args cells' b).steps)
+    → ((m : Module) (b : List ℕ) → IsCodeOf p m → Carries layout b loads → IsSoundOn m entry args cells' b → IsMeant layout m entry args cells' b loads outcome)
     → IsRunBy p (record { entry = entry; args = args; cells = cells; length = n; layout = o; words = words; stores = stores }) outcome loads
 moved p entry args n o words stores loads outcome cells cells' layout same at rising inside planned ran meant =
     let R : List ℕ × List Stretch → Type 0 = λ x. Inside x.1 loads
-    × ((b : List ℕ) → Carries x.1 b loads → IsRun x.1 loads (run p entry args x.0 b) outcome 0 (run p entry args x.0 b).steps)
-    × ((m : Module) (b : List ℕ) → IsCodeOf p m → Carries x.1 b loads → Throughout Sound m entry args x.0 b → IsMeant x.1 m entry args x.0 b loads outcome) in
+    × ((b : List ℕ) → Carries x.1 b loads → IsRun x.1 (length x.0) b loads (run p entry args x.0 b) outcome 0 (run p entry args x.0 b).steps)
+    × ((m : Module) (b : List ℕ) → IsCodeOf p m → Carries x.1 b loads → IsSoundOn m entry args x.0 b → IsMeant x.1 m entry args x.0 b loads outcome) in
     let now : R (cells, laid n o) = subst R (λ i. (same i, at i)) (inside, ran, meant) in
     record { rising = rising; inside = now.0; held = planned; ran = now.1; meant = now.2 }
 

@@ -1,4 +1,4 @@
-use Rattle.std.proofs.Common.{◌≡◌, ℕ, List, subst, sym}
+use Rattle.std.proofs.Common.{◌≡◌, ℕ, List, length, subst, sym}
 use Rattle.td_core.specs.declared.module.Entry.{Entry}
 use Rattle.td_core.specs.declared.outcome.Outcome.{Outcome}
 use Rattle.td_stream.specs.declared.load.Load.{Load}
@@ -15,11 +15,11 @@ use Rattle.td_use_image.proofs.validation.validated.Goals as goal
 -- the same run, of cells that were set, of a layout and of an outcome by other names
 moved : (p : Parts) (entry : Entry) (args : List ℕ) (n : ℕ) (loads : List Load) (cells cells' : List ℕ) (layout : List Stretch) (outcome outcome' : Outcome) → cells' ≡ cells → layout ≡ plain n → outcome ≡ outcome'
     → IsRising loads → Inside layout loads
-    → ((b : List ℕ) → Carries layout b loads → IsRun layout loads (run p entry args cells' b) outcome' 0 (run p entry args cells' b).steps)
+    → ((b : List ℕ) → Carries layout b loads → IsRun layout (length cells') b loads (run p entry args cells' b) outcome' 0 (run p entry args cells' b).steps)
     → IsValidated p entry args cells n loads outcome
 moved p entry args n loads cells cells' layout outcome outcome' same at out rising inside ran =
     let R : List ℕ × List Stretch × Outcome → Type 0 = λ x. Inside x.1 loads
-    × ((b : List ℕ) → Carries x.1 b loads → IsRun x.1 loads (run p entry args x.0 b) x.2 0 (run p entry args x.0 b).steps) in
+    × ((b : List ℕ) → Carries x.1 b loads → IsRun x.1 (length x.0) b loads (run p entry args x.0 b) x.2 0 (run p entry args x.0 b).steps) in
     let back : outcome' ≡ outcome = sym out in
     let now : R (cells, plain n, outcome) = subst R (λ i. (same i, at i, back i)) (inside, ran) in
     record { rising = rising; inside = now.0; ran = now.1 }
