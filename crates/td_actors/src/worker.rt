@@ -10,7 +10,8 @@ ghost use Rattle.td_stream.specs.Layouts.{AreWithin};
 ghost use Rattle.td_live.specs.Live.{HasLoaded};
 ghost use Rattle.td_vm.specs.Frames.{IsArmed};
 ghost use Rattle.td_swap.specs.Seats.{IsOwn, then_loaded};
-ghost use Rattle.td_actors.specs.Replies.{IsJobCode, IsCodeAt, layout_in};
+ghost use Rattle.td_takes.specs.Codes.{IsCodeAt};
+ghost use Rattle.td_actors.specs.Replies.{IsJobCode, layout_in};
 ghost use Rattle.td_actors.specs.Acting.{AreArmed, Fits, most_frames, Answered, RanWorker};
 
 use crate::actor::{Desk, Worker};

@@ -1,5 +1,5 @@
 -- How a host is armed.
-use Rattle.std.proofs.Common.{◌≡◌, ℕ, zero, suc, ◌+◌, ◌<◌, ◌≤◌, ◌^◌, true, false, List, [], ◌∷◌, ◌++◌, length, drop, refl, sym, ap, ◌∙◌, subst, arith, append_assoc, length-append}
+use Rattle.std.proofs.Common.{◌≡◌, ℕ, zero, suc, ◌+◌, ◌*◌, ◌<◌, ◌≤◌, ◌^◌, true, false, List, [], ◌∷◌, ◌++◌, length, drop, refl, sym, ap, ◌∙◌, subst, arith, append_assoc, length-append}
 use Rattle.std.specs.Prelude.{slice_index_or, slice_get, vec_capacity, Option, Some, None, map, max, option_map}
 use Rattle.std.proofs.lemmas.Option.{slice_get_within, slice_get-map, slice_get-get_or, get_or_from_slice_get}
 use mathlib.Core.Logic.{dite}
@@ -17,11 +17,14 @@ use Rattle.td_posts.specs.declared.job.Step.TheVariants as step
 use Rattle.td_posts.specs.declared.mail.Mail.{Mail}
 use Rattle.td_posts.specs.declared.reply.Reply.{Reply}
 use Rattle.td_posts.specs.declared.job.HostJob.{HostJob}
+use Rattle.td_posts.specs.declared.ring.RingJob.{RingJob}
+use Rattle.td_descr.specs.Ring.{ReaderView}
 use Rattle.td_posts.specs.Posts.{post_name, mails_from, mails_of, all_mails}
 use Rattle.td_actors.specs.declared.actor.Actor.{Actor}
 use Rattle.td_actors.specs.declared.actor.Actor.TheVariants as kind
 use Rattle.td_actors.specs.declared.actor.Worker.{Worker}
 use Rattle.td_actors.specs.declared.actor.Guest.{Guest}
+use Rattle.td_actors.specs.declared.actor.Taker.{Taker}
 use Rattle.td_vm.specs.Frames.{FrameView, IsArmed}
 use Rattle.td_ir.specs.declared.tables.Parts.{Parts}
 use Rattle.td_vm.specs.Need.{most_need, level}
@@ -29,10 +32,10 @@ use Rattle.td_swap.specs.declared.version.Version.{Version}
 use Rattle.td_swap.specs.Versions.{version_code}
 use Rattle.td_swap.specs.Views.{new_view}
 use Rattle.td_swap.specs.Seats.{swap_state}
-use Rattle.td_actors.specs.Actors.{Service}
+use Rattle.td_actors.specs.Actors.{Service, IsTakerReady}
 use Rattle.td_actors.specs.Acting.{most_frames, AreArmed, RoomsFor, StoresInside, post_of}
 use Rattle.td_actors.proofs.Posting.{Posting, mail_by, mails_post}
-use Rattle.td_host.specs.Gathered.{FreshWorker, FreshWorkers, FreshGuest, FreshGuests, WorkersSeated, GuestsSeated, Armed, host_at, posts_at, takes_at, draws_at}
+use Rattle.td_host.specs.Gathered.{FreshWorker, FreshWorkers, FreshGuest, FreshGuests, FreshTaker, FreshTakers, WorkersSeated, GuestsSeated, TakersSeated, Armed, host_at, posts_at, takes_at, draws_at}
 use Rattle.td_actors.proofs.Plays.{append_nil}
 
 -- ---- posts of a script that is gone through
@@ -138,6 +141,7 @@ module _ {G : Type 0} where
   fresh-push shared ring service opened [] w f x = (x, tt)
   fresh-push shared ring service opened (kind.Worker v ∷ ws) w f x = (f.0, fresh-push shared ring service opened ws w f.1 x)
   fresh-push shared ring service opened (kind.Guest g ∷ ws) w f x = absurd f
+  fresh-push shared ring service opened (kind.Ring t ∷ ws) w f x = absurd f
   fresh-push shared ring service opened (kind.Publisher q ∷ ws) w f x = absurd f
 
   module _ (shared : BufferState) (ring : RingState) (service : Service) (opened : List ℕ) where
@@ -245,23 +249,85 @@ module _ {G : Type 0} where
       is_posts = p.is_posts ∙ ap (λ k. posts_at ring.queue (1 + k)) (sym p.as_many);
     }
 
-  pub arms : (names : Post → Type 0) (shared : BufferState) (ring : RingState) (service : Service) (job : HostJob) (opened : List ℕ) (count : ℕ) (seat seat' : HostState) (posts' takes takes' : PassState) (drawer drawer' : DrawerState) (workers actors : List (Actor G))
-      → WorkersSeated shared ring service opened count seat takes drawer workers → opened ≡ job.words → 0 < count → count ≡ job.workers → GuestsSeated names shared ring job workers seat' posts' actors → takes' ≡ takes → drawer' ≡ drawer
-      → Armed names shared ring service job seat' posts' takes' drawer' actors
-  arms names shared ring service job opened count seat seat' posts' takes takes' drawer drawer' workers actors w is_opened some all g t d =
+  module _ (shared : BufferState) (service : Service) (job : HostJob) (whole : List ReaderView) (before : List (Actor G)) where
+    -- takers were made for the first n rings
+    pub record Ringing (n : ℕ) (seat : HostState) (actors : List (Actor G)) : Type 0 where
+      pub takers : List (Actor G)
+      pub are : actors ≡ before ++ takers
+      pub as_many : length takers ≡ n
+      pub more : (tail : List (Actor G)) → FreshTakers shared service job.words (n + 1) (drop n job.rings) (drop n whole) tail → FreshTakers shared service job.words 1 job.rings whole (takers ++ tail)
+      pub is_seat : seat ≡ host_at shared.table job.words (length before + n)
+
+    pub no_taker : (seat : HostState) (actors : List (Actor G)) → actors ≡ before → seat ≡ host_at shared.table job.words (length before) → Ringing 0 seat actors
+    no_taker seat actors e a = record {
+      takers = [];
+      are = e ∙ sym (append_nil before);
+      as_many = refl;
+      more = λ tail f. f;
+      is_seat = a ∙ ap (host_at shared.table job.words) (let z : length before ≡ length before + 0 = omega arith in z);
+    }
+
+    pub one_taker : (n : ℕ) (ring dr : RingJob) (d : ReaderView) (dd : ReaderView) (seat seat' : HostState) (actors actors' : List (Actor G)) (t : Taker) → Ringing n seat actors
+        → n < length job.rings → n < length whole → slice_index_or job.rings n dr ≡ ring → slice_index_or whole n dd ≡ d
+        → t.number ≡ n + 1 → t.ring ≡ ring → t.descr ≡ d → d.room ≡ 8 * length job.words
+        → seat' ≡ with_view seat (one_more seat.view) → t.seat ≡ seat_state seat.table (new_seat seat.view false)
+        → IsTakerReady shared service.codes.codes service.job t → actors' ≡ actors ++ kind.Ring t ∷ [] → Ringing (n + 1) seat' actors'
+    unfolding FreshTakers
+    one_taker n ring dr d dd seat seat' actors actors' t p lt lt' at at' number is reader room es et ready e =
+        let w = length before in
+        let x : FreshTaker shared service job.words (n + 1) ring d t = record {
+          seat_number = w + n;
+          is_number = number;
+          is_ring = is;
+          is_reader = reader;
+          room = room;
+          is_seat = et ∙ ap (λ (k : HostState). seat_state k.table (new_seat k.view false)) p.is_seat;
+          ready = ready;
+        } in
+        let rings : drop n job.rings ≡ ring ∷ drop (n + 1) job.rings = drop_more job.rings n dr lt ∙ ap (λ r. r ∷ drop (n + 1) job.rings) at in
+        let readers : drop n whole ≡ d ∷ drop (n + 1) whole = drop_more whole n dd lt' ∙ ap (λ r. r ∷ drop (n + 1) whole) at' in
+        record {
+          takers = p.takers ++ kind.Ring t ∷ [];
+          are = e ∙ (ap (λ l. l ++ kind.Ring t ∷ []) p.are ∙ append_assoc before p.takers (kind.Ring t ∷ []));
+          as_many = length-append p.takers (kind.Ring t ∷ []) ∙ ap (λ k. k + 1) p.as_many;
+          more = λ tail f. subst (FreshTakers shared service job.words 1 job.rings whole) (sym (append_assoc p.takers (kind.Ring t ∷ []) tail))
+              (p.more (kind.Ring t ∷ tail) (subst (λ (l : List RingJob × List ReaderView). FreshTakers shared service job.words (n + 1) l.0 l.1 (kind.Ring t ∷ tail)) (λ i. (sym rings i, sym readers i)) (x, f)));
+          is_seat = es ∙ (ap (λ (k : HostState). with_view k (one_more k.view)) p.is_seat ∙ ap (host_at shared.table job.words) (let z : w + n + 1 ≡ w + (n + 1) = omega arith in z));
+        }
+
+    pub all_takers : (n : ℕ) (seat : HostState) (actors : List (Actor G)) → Ringing n seat actors → length job.rings ≤ n → length whole ≤ n → TakersSeated shared service job whole before seat actors
+    unfolding FreshTakers
+    all_takers n seat actors p e e' = record {
+      takers = p.takers;
+      are = p.are;
+      fresh = subst (FreshTakers shared service job.words 1 job.rings whole) (append_nil p.takers)
+          (p.more [] (subst (λ (l : List RingJob × List ReaderView). FreshTakers {G = G} shared service job.words (n + 1) l.0 l.1 []) (λ i. (sym (drop_all n job.rings e) i, sym (drop_all n whole e') i)) tt));
+      is_seat = p.is_seat ∙ ap (λ k. host_at shared.table job.words (length before + k)) (sym p.as_many);
+    }
+
+  pub arms : (names : Post → Type 0) (shared : BufferState) (ring : RingState) (service : Service) (job : HostJob) (opened : List ℕ) (count : ℕ) (seat seat' seat'' : HostState) (posts' posts'' takes takes' takes'' : PassState) (drawer drawer' drawer'' : DrawerState) (workers before actors : List (Actor G)) (readers : List ReaderView)
+      → WorkersSeated shared ring service opened count seat takes drawer workers → opened ≡ job.words → 0 < count → count ≡ job.workers → GuestsSeated names shared ring job workers seat' posts' before → takes' ≡ takes → drawer' ≡ drawer
+      → TakersSeated shared service job readers before seat'' actors → posts'' ≡ posts' → takes'' ≡ takes' → drawer'' ≡ drawer'
+      → Armed names shared ring service job seat'' posts'' takes'' drawer'' actors
+  arms names shared ring service job opened count seat seat' seat'' posts' posts'' takes takes' takes'' drawer drawer' drawer'' workers before actors readers w is_opened some all g t d x p' t' d' =
       let many : 1 + count ≡ length workers + 1 = (let z = w.as_many in omega arith) in
+      let seated = ap length g.are ∙ length-append workers g.guests in
+      let places : length before + length x.takers ≡ length workers + (length g.guests + length x.takers) = omega (arith, seated) in
       record {
         workers = workers;
         guests = g.guests;
-        are = g.are;
+        takers = x.takers;
+        readers = readers;
+        are = x.are ∙ (ap (λ l. l ++ x.takers) g.are ∙ append_assoc workers g.guests x.takers);
         as_many = w.as_many ∙ all;
         some_worker = (let z = w.as_many in omega arith);
         fresh_workers = subst (λ o. FreshWorkers shared ring service o workers) is_opened w.fresh;
         fresh_guests = g.fresh;
-        host = g.is_seat;
-        post_head = g.is_posts ∙ ap (posts_at ring.queue) (let z : 1 + length g.guests ≡ length g.guests + 1 = omega arith in z);
-        take_head = t ∙ (w.is_takes ∙ ap (takes_at ring.queue) many);
-        ticket_head = d ∙ (w.is_drawer ∙ ap (draws_at service.tickets) many);
+        fresh_takers = x.fresh;
+        host = x.is_seat ∙ ap (host_at shared.table job.words) places;
+        post_head = p' ∙ (g.is_posts ∙ ap (posts_at ring.queue) (let z : 1 + length g.guests ≡ length g.guests + 1 = omega arith in z));
+        take_head = t' ∙ (t ∙ (w.is_takes ∙ ap (takes_at ring.queue) many));
+        ticket_head = d' ∙ (d ∙ (w.is_drawer ∙ ap (draws_at service.tickets) many));
       }
 
 -- ---- frames for the codes so far

@@ -34,7 +34,7 @@ use Rattle.td_actors.specs.Replies.{pieces}
 use Rattle.td_host.specs.Served.{In, ArePieces, joined, AreStored, ArePosted, AnswerTakes}
 use Rattle.td_actors.specs.Acting.{acts_of, guest_seat, read_seat, post_pass, take_pass, ticket_seat, RanScript, RanWorker, Answered}
 use Rattle.td_actors.specs.Actors.{Service, Did}
-use Rattle.td_host.specs.Gathered.{view_of, put_one, take_one, draw_one, swap_one, seats_all, puts_all, takes_all, draws_all, swaps_all, all_replies, FreshWorkers, FreshGuests}
+use Rattle.td_host.specs.Gathered.{view_of, put_one, take_one, draw_one, swap_one, seats_all, puts_all, takes_all, draws_all, swaps_all, all_replies, takes_of_all, FreshWorkers, FreshGuests}
 use Rattle.td_host.proofs.Shares.{one_below}
 use Rattle.td_actors.proofs.Plays.{append_nil}
 
@@ -87,22 +87,26 @@ module _ {G : Type 0} where
   abbrev pub put_of : Actor G → Option (Part Post)
   put_of (kind.Worker w) = None
   put_of (kind.Guest g) = g.pass.view.put
+  put_of (kind.Ring t) = None
   put_of (kind.Publisher p) = None
 
   abbrev pub take_of : Actor G → Option (Part Post)
   take_of (kind.Worker w) = w.pass.view.take
   take_of (kind.Guest g) = None
+  take_of (kind.Ring t) = None
   take_of (kind.Publisher p) = None
 
   abbrev pub draw_of : Actor G → Option (Part ℕ)
   draw_of (kind.Worker w) = w.drawer.view.draws
   draw_of (kind.Guest g) = None
+  draw_of (kind.Ring t) = None
   draw_of (kind.Publisher p) = None
 
   -- the lists of numbers that it hands back
   abbrev pub swaps_of : Actor G → List (List ℕ)
   swaps_of (kind.Worker w) = w.swap.view.loads ∷ w.swap.view.ended
   swaps_of (kind.Guest g) = []
+  swaps_of (kind.Ring t) = []
   swaps_of (kind.Publisher p) = []
 
   unfoldable pub put_parts : List (Actor G) → List (Part Post)
@@ -130,21 +134,25 @@ module _ {G : Type 0} where
   put_one_is : (h : Head Post) (p t : Option (Part Post)) (th : Option (Head Post)) (a : Actor G) → put_one (ring_view (Some h) p th t) a ≡ ring_view (part_ended (Some h) (put_of a)) p th t
   put_one_is h p t th (kind.Worker w) = refl
   put_one_is h p t th (kind.Guest g) = refl
+  put_one_is h p t th (kind.Ring r) = refl
   put_one_is h p t th (kind.Publisher q) = refl
 
   take_one_is : (h : Head Post) (p t : Option (Part Post)) (ph : Option (Head Post)) (a : Actor G) → take_one (ring_view ph p (Some h) t) a ≡ ring_view ph p (part_ended (Some h) (take_of a)) t
   take_one_is h p t ph (kind.Worker w) = refl
   take_one_is h p t ph (kind.Guest g) = refl
+  take_one_is h p t ph (kind.Ring r) = refl
   take_one_is h p t ph (kind.Publisher q) = refl
 
   draw_one_is : (h : Head ℕ) (d : Option (Part ℕ)) (a : Actor G) → draw_one (ticket_view (Some h) d) a ≡ ticket_view (part_ended (Some h) (draw_of a)) d
   draw_one_is h d (kind.Worker w) = refl
   draw_one_is h d (kind.Guest g) = refl
+  draw_one_is h d (kind.Ring r) = refl
   draw_one_is h d (kind.Publisher q) = refl
 
   swap_one_is : (v : SwapView) (a : Actor G) → swap_one v a ≡ swap_view v.count v.loads (v.ended ++ swaps_of a)
   swap_one_is v (kind.Worker w) = refl
   swap_one_is v (kind.Guest g) = ap (swap_view v.count v.loads) (sym (append_nil v.ended))
+  swap_one_is v (kind.Ring r) = ap (swap_view v.count v.loads) (sym (append_nil v.ended))
   swap_one_is v (kind.Publisher q) = ap (swap_view v.count v.loads) (sym (append_nil v.ended))
 
   pub swaps_are : (v : SwapView) (ds : List (Actor G)) → swaps_all v ds ≡ swap_view v.count v.loads (v.ended ++ swap_lists ds)
@@ -216,18 +224,21 @@ module _ {G : Type 0} where
       pub no_draws : draw_parts ds ≡ []
       pub no_replies : all_replies ds ≡ []
       pub no_swaps : swap_lists ds ≡ []
+      pub no_taking : takes_of_all ds ≡ []
 
     module _ (names : Post → Type 0) (shared : BufferState) (ring : RingState) (opened : List ℕ) where
       pub guests_done : (number n m : ℕ) (ss : List (List Step)) (ds bs : List (Actor G)) → FreshGuests names shared ring opened number n m ss ds → DidAll ds bs → GuestsDone number n m ss bs
-      unfolding DidAll FreshGuests AreStored ArePosted cons_opt put_parts take_parts draw_parts all_replies swap_lists
-      guests_done number n m [] [] [] f d = record { stored_by = tt; posted = tt; as_many = refl; no_takes = refl; no_draws = refl; no_replies = refl; no_swaps = refl }
+      unfolding DidAll FreshGuests AreStored ArePosted cons_opt put_parts take_parts draw_parts all_replies takes_of_all swap_lists
+      guests_done number n m [] [] [] f d = record { stored_by = tt; posted = tt; as_many = refl; no_takes = refl; no_draws = refl; no_replies = refl; no_swaps = refl; no_taking = refl }
       guests_done number n m [] [] (b ∷ bs) f d = absurd d
       guests_done number n m [] (a ∷ ds) bs f d = absurd f
       guests_done number n m (s ∷ ss) [] bs f d = absurd f
       guests_done number n m (s ∷ ss) (kind.Worker w ∷ ds) bs f d = absurd f
+      guests_done number n m (s ∷ ss) (kind.Ring t ∷ ds) bs f d = absurd f
       guests_done number n m (s ∷ ss) (kind.Publisher q ∷ ds) bs f d = absurd f
       guests_done number n m (s ∷ ss) (kind.Guest g ∷ ds) [] f d = absurd d
       guests_done number n m (s ∷ ss) (kind.Guest g ∷ ds) (kind.Worker w ∷ bs) f d = absurd d.0
+      guests_done number n m (s ∷ ss) (kind.Guest g ∷ ds) (kind.Ring t ∷ bs) f d = absurd d.0
       guests_done number n m (s ∷ ss) (kind.Guest g ∷ ds) (kind.Publisher q ∷ bs) f d = absurd d.0
       guests_done number n m (s ∷ ss) (kind.Guest g ∷ ds) (kind.Guest h ∷ bs) f d =
           let x = f.0 in
@@ -248,6 +259,7 @@ module _ {G : Type 0} where
             no_draws = r.no_draws;
             no_replies = r.no_replies;
             no_swaps = r.no_swaps;
+            no_taking = r.no_taking;
           }
 
     -- ---- workers
@@ -267,10 +279,11 @@ module _ {G : Type 0} where
       pub as_many_draws : length (draw_parts ds) ≡ length ds
       pub no_puts : put_parts ds ≡ []
       pub numbers : swap_lists ds ≡ map (map version_in) shares
+      pub no_taking : takes_of_all ds ≡ []
 
     module _ (shared : BufferState) (ring : RingState) (service : Service) (opened : List ℕ) where
       pub workers_done : (ds bs : List (Actor G)) → FreshWorkers shared ring service opened ds → DidAll ds bs → WorkersDone bs
-      unfolding DidAll FreshWorkers cons_opt In ArePieces AnswerTakes joined all_replies put_parts take_parts draw_parts swap_lists owned
+      unfolding DidAll FreshWorkers cons_opt In ArePieces AnswerTakes joined all_replies takes_of_all put_parts take_parts draw_parts swap_lists owned
       workers_done [] [] f d = record {
         shares = [];
         are_pieces = tt;
@@ -287,12 +300,15 @@ module _ {G : Type 0} where
         as_many_draws = refl;
         no_puts = refl;
         numbers = refl;
+        no_taking = refl;
       }
       workers_done [] (b ∷ bs) f d = absurd d
       workers_done (kind.Guest g ∷ ds) bs f d = absurd f
+      workers_done (kind.Ring t ∷ ds) bs f d = absurd f
       workers_done (kind.Publisher q ∷ ds) bs f d = absurd f
       workers_done (kind.Worker w ∷ ds) [] f d = absurd d
       workers_done (kind.Worker w ∷ ds) (kind.Guest h ∷ bs) f d = absurd d.0
+      workers_done (kind.Worker w ∷ ds) (kind.Ring t ∷ bs) f d = absurd d.0
       workers_done (kind.Worker w ∷ ds) (kind.Publisher q ∷ bs) f d = absurd d.0
       workers_done (kind.Worker w ∷ ds) (kind.Worker v ∷ bs) f d =
           let x = f.0 in
@@ -345,4 +361,5 @@ module _ {G : Type 0} where
             as_many_draws = ap length drew ∙ ap suc r.as_many_draws;
             no_puts = r.no_puts;
             numbers = λ i. (loaded i).view.loads ∷ ((loaded i).view.ended ++ r.numbers i);
+            no_taking = r.no_taking;
           }

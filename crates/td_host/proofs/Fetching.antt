@@ -36,6 +36,14 @@ module _ {A : Type 0} where
   in_both x [] ys p = inr p
   in_both x (y ∷ xs) ys p = ⊎_elim (λ (e : y ≡ x). inl (inl e)) (λ (q : In x (xs ++ ys)). ⊎_elim (λ (a : In x xs). inl (inr a)) (λ (b : In x ys). inr b) (in_both x xs ys q)) p
 
+  in_right : (x : A) (xs ys : List A) → In x ys → In x (xs ++ ys)
+  unfolding In
+  in_right x [] ys p = p
+  in_right x (y ∷ xs) ys p = inr (in_right x xs ys p)
+
+  among : (x : A) (xs ys zs : List A) → In x (xs ++ zs) → In x (xs ++ (ys ++ zs))
+  among x xs ys zs p = ⊎_elim (λ (a : In x xs). in_left x xs (ys ++ zs) a) (λ (b : In x zs). in_right x xs (ys ++ zs) (in_right x ys zs b)) (in_both x xs zs p)
+
 load_in : (l : ℕ × ℕ) (xs : List Access) → In l (loads xs) → (k : ℕ) × (get_elem? xs k ≡ some (access.Load l.0 l.1))
 unfolding In
 load_in l [] p = absurd p
@@ -66,20 +74,26 @@ played_in n (s ∷ ss) (v ∷ vs) u p q = ⊎_elim
     (λ (e : v ≡ u). (s, inl refl, ap (λ (x : SeatView). stores x.steps) (sym e) ∙ p.2))
     (λ (r : In u vs). let x = played_in (v.number + 1) ss vs u p.4 r in (x.0, inr x.1, x.2)) q
 
-pub fetches : (job : HostJob) (h : HostView) (readers guests : List SeatView) → h.ended ≡ readers ++ guests → h.opened ≡ job.words → Fetched h → ((u : SeatView) → In u readers → stores u.steps ≡ []) → AreStored 0 job.guests guests
-    → (v : SeatView) (l : ℕ × ℕ) → In v readers → In l (loads v.steps) → Comes job l
+pub fetches : (job : HostJob) (h : HostView) (readers guests takers : List SeatView) → h.ended ≡ readers ++ (guests ++ takers) → h.opened ≡ job.words → Fetched h
+    → ((u : SeatView) → In u readers → stores u.steps ≡ []) → AreStored 0 job.guests guests → ((u : SeatView) → In u takers → stores u.steps ≡ [])
+    → (v : SeatView) (l : ℕ × ℕ) → In v (readers ++ takers) → In l (loads v.steps) → Comes job l
 unfolding In
-fetches job h readers guests ended opened fetched quiet stored_by v l p q =
-    let a = in_at v (readers ++ guests) (in_left v readers guests p) in
+fetches job h readers guests takers ended opened fetched quiet stored_by still v l p q =
+    let all : List SeatView = readers ++ (guests ++ takers) in
+    let a = in_at v all (among v readers guests takers p) in
     let b = load_in l v.steps q in
     ⊎_elim
     (λ (e : l.1 ≡ slice_index h.opened l.0). inl (e ∙ ap (λ ws. slice_index ws l.0) opened))
     (λ (x : (k : ℕ) × (u : SeatView) × (get_elem? h.ended k ≡ some u) × Has u.steps (access.Store l.0 l.1)).
     let u = x.1 in
     let s : In (l.0, l.1) (stores u.steps) = store_in l.0 l.1 u.steps x.3.0 x.3.1 in
-    let there : In u (readers ++ guests) = at_in u (readers ++ guests) x.0 (ap (λ es. get_elem? es x.0) (sym ended) ∙ x.2) in
+    let there : In u all = at_in u all x.0 (ap (λ es. get_elem? es x.0) (sym ended) ∙ x.2) in
     ⊎_elim
     (λ (r : In u readers). absurd (subst (In (l.0, l.1)) (quiet u r) s))
-    (λ (r : In u guests). let y = played_in 0 job.guests guests u stored_by r in inr (y.0, y.1, subst (In (l.0, l.1)) y.2 s))
-    (in_both u readers guests there))
+    (λ (r : In u (guests ++ takers)).
+    ⊎_elim
+    (λ (g : In u guests). let y = played_in 0 job.guests guests u stored_by g in inr (y.0, y.1, subst (In (l.0, l.1)) y.2 s))
+    (λ (t : In u takers). absurd (subst (In (l.0, l.1)) (still u t) s))
+    (in_both u guests takers r))
+    (in_both u readers (guests ++ takers) there))
     (fetched a.0 v l.0 l.1 (ap (λ es. get_elem? es a.0) ended ∙ a.1) (b.0, b.1))

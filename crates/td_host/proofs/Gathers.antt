@@ -14,13 +14,14 @@ use Rattle.td_roll.specs.Heads.{HasHead, with_ended as part_ended}
 use Rattle.td_ring.specs.Ring.{PassState, RingState, pass_with}
 use Rattle.td_ring.specs.Tickets.{DrawerState, drawer_with}
 use Rattle.td_posts.specs.declared.reply.Reply.{Reply}
+use Rattle.td_takes.specs.declared.take.Take.{Take}
 use Rattle.td_swap.specs.declared.view.SwapView.{SwapView}
 use Rattle.td_swap.specs.Versions.{CodesState}
 use Rattle.td_swap.specs.Views.{AreVersions}
 use Rattle.td_swap.specs.Seats.{SwapState, IsOwn, swap_state}
 use Rattle.td_actors.specs.declared.actor.Actor.{Actor}
 use Rattle.td_actors.specs.declared.actor.Actor.TheVariants as kind
-use Rattle.td_host.specs.Gathered.{view_of, IsAt, put_one, take_one, draw_one, swap_one, replies_of, seats_all, puts_all, takes_all, draws_all, swaps_all, all_replies}
+use Rattle.td_host.specs.Gathered.{view_of, IsAt, put_one, take_one, draw_one, swap_one, replies_of, takes_of, seats_all, puts_all, takes_all, draws_all, swaps_all, all_replies, takes_of_all}
 use Rattle.td_actors.proofs.Plays.{append_nil}
 
 put_keeps : (h : Option (Head Post)) (p : Option (Part Post)) → HasHead h → HasHead (part_ended h p)
@@ -56,24 +57,60 @@ module _ {G : Type 0} where
       let n : length found' ≡ length found + length (replies_of a) = ap length f ∙ length-append found (replies_of a) in
       omega (arith, fits, more, l, m, n)
 
+  -- .. and so it is with room for all takes
+  pub first_take_room : (room : ℕ) (made : List Take) (rest : List (Actor G)) (a : Actor G) (rest' : List (Actor G)) → rest ≡ a ∷ rest'
+      → length made + length (takes_of_all rest) ≤ room → length made + length (takes_of a) ≤ room
+  unfolding takes_of_all
+  first_take_room room made rest a rest' e fits =
+      let l : length (takes_of_all rest) ≡ length (takes_of a ++ takes_of_all rest') = ap (λ xs. length (takes_of_all xs)) e in
+      let m = length-append (takes_of a) (takes_of_all rest') in
+      omega (arith, fits, l, m)
+
+  pub rest_take_room : (room room' : ℕ) (made made' : List Take) (rest : List (Actor G)) (a : Actor G) (rest' : List (Actor G)) → rest ≡ a ∷ rest' → made' ≡ made ++ takes_of a → room ≤ room'
+      → length made + length (takes_of_all rest) ≤ room → length made' + length (takes_of_all rest') ≤ room'
+  unfolding takes_of_all
+  rest_take_room room room' made made' rest a rest' e f more fits =
+      let l : length (takes_of_all rest) ≡ length (takes_of a ++ takes_of_all rest') = ap (λ xs. length (takes_of_all xs)) e in
+      let m = length-append (takes_of a) (takes_of_all rest') in
+      let n : length made' ≡ length made + length (takes_of a) = ap length f ∙ length-append made (takes_of a) in
+      omega (arith, fits, more, l, m, n)
+
+  -- what was made so far and what the rest made is what all made
+  abbrev pub MadeSoFar : (whole : List (Actor G)) (made0 : List Take) (rest : List (Actor G)) (made : List Take) → Type 0
+  MadeSoFar whole made0 rest made = made ++ takes_of_all rest ≡ made0 ++ takes_of_all whole
+
+  pub makes : (whole : List (Actor G)) (made0 : List Take) (rest : List (Actor G)) (made : List Take) (a : Actor G) (rest' : List (Actor G)) (made' : List Take)
+      → MadeSoFar whole made0 rest made → rest ≡ a ∷ rest' → made' ≡ made ++ takes_of a → MadeSoFar whole made0 rest' made'
+  unfolding takes_of_all
+  makes whole made0 rest made a rest' made' so e f =
+      ap (λ l. l ++ takes_of_all rest') f ∙ (append_assoc made (takes_of a) (takes_of_all rest') ∙ (ap (λ xs. made ++ takes_of_all xs) (sym e) ∙ so))
+
+  pub made_all : (whole : List (Actor G)) (made0 : List Take) (rest : List (Actor G)) (made : List Take) → MadeSoFar whole made0 rest made → length rest ≡ 0 → made ≡ made0 ++ takes_of_all whole
+  unfolding takes_of_all
+  made_all whole made0 rest made so e = sym (append_nil made) ∙ (ap (λ xs. made ++ takes_of_all xs) (sym (no_actor rest e)) ∙ so)
+
   put_head : (v : RingView) (a : Actor G) → HasHead v.put_head → HasHead (put_one v a).put_head
   put_head v (kind.Worker w) e = e
   put_head v (kind.Guest g) e = put_keeps v.put_head g.pass.view.put e
+  put_head v (kind.Ring t) e = e
   put_head v (kind.Publisher q) e = e
 
   take_head : (v : RingView) (a : Actor G) → HasHead v.take_head → HasHead (take_one v a).take_head
   take_head v (kind.Guest g) e = e
+  take_head v (kind.Ring t) e = e
   take_head v (kind.Publisher q) e = e
   take_head v (kind.Worker w) e = put_keeps v.take_head w.pass.view.take e
 
   draw_head : (v : TicketView) (a : Actor G) → HasHead v.head → HasHead (draw_one v a).head
   draw_head v (kind.Guest g) e = e
+  draw_head v (kind.Ring t) e = e
   draw_head v (kind.Publisher q) e = e
   draw_head v (kind.Worker w) e = draw_keeps v.head w.drawer.view.draws e
 
   still_count : (v : SwapView) (a : Actor G) → (swap_one v a).count ≡ v.count
   still_count v (kind.Worker w) = refl
   still_count v (kind.Guest g) = refl
+  still_count v (kind.Ring t) = refl
   still_count v (kind.Publisher q) = refl
 
   module _ (shared : BufferState) (ring : RingState) (tickets : TableId) (codes : CodesState) (whole : List (Actor G)) (seat0 : HostState) (posts0 takes0 : PassState) (drawer0 : DrawerState) (swap0 : SwapState) (found0 : List Reply) where

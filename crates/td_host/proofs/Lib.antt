@@ -1,5 +1,6 @@
 pub mod Shares
 pub mod Ends
+pub mod Takings
 pub mod Unique
 pub mod Fetching
 pub mod Wholes
@@ -7,6 +8,7 @@ pub mod Gathers
 pub mod Orders
 pub mod Serves
 pub mod Arms
+pub mod Takers
 pub mod Bounds
 pub mod Crossing
 pub mod Hosting

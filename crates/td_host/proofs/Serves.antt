@@ -19,7 +19,10 @@ use Rattle.td_actors.specs.declared.actor.Actor.{Actor}
 use Rattle.td_actors.specs.declared.actor.Actor.TheVariants as kind
 use Rattle.td_actors.specs.Acting.{RoomsFor, StoresInside, guest_seat, read_seat, post_pass, take_pass, ticket_seat, RanScript, RanPublisher, RanWorker}
 use Rattle.td_actors.specs.Actors.{Service, IsReady, Did}
-use Rattle.td_host.specs.Gathered.{IsAt, FreshWorkers, FreshGuests, Armed}
+use Rattle.td_posts.specs.declared.ring.RingJob.{RingJob}
+use Rattle.td_descr.specs.Ring.{ReaderView}
+use Rattle.td_takes.specs.Takes.{RanRing}
+use Rattle.td_host.specs.Gathered.{IsAt, FreshWorkers, FreshGuests, FreshTakers, Armed}
 use Rattle.td_host.proofs.Ends.{DidAll, did_all, did_both}
 
 take_part : {A : Type 0} (xs ys : List A) (n : ℕ) → length xs ≡ n → take n (xs ++ ys) ≡ xs
@@ -38,6 +41,7 @@ module _ {G : Type 0} (names : Post → Type 0) (shared : BufferState) (ring : R
   unfolding FreshWorkers
   workers_ready opened [] f = All-nil (IsReady names shared ring service)
   workers_ready opened (kind.Guest g ∷ ds) f = absurd f
+  workers_ready opened (kind.Ring t ∷ ds) f = absurd f
   workers_ready opened (kind.Publisher q ∷ ds) f = absurd f
   workers_ready opened (kind.Worker w ∷ ds) f =
       let x = f.0 in
@@ -51,6 +55,7 @@ module _ {G : Type 0} (names : Post → Type 0) (shared : BufferState) (ring : R
   guests_ready opened number n m [] (a ∷ ds) f = absurd f
   guests_ready opened number n m (s ∷ ss) [] f = absurd f
   guests_ready opened number n m (s ∷ ss) (kind.Worker w ∷ ds) f = absurd f
+  guests_ready opened number n m (s ∷ ss) (kind.Ring t ∷ ds) f = absurd f
   guests_ready opened number n m (s ∷ ss) (kind.Publisher q ∷ ds) f = absurd f
   guests_ready opened number n m (s ∷ ss) (kind.Guest g ∷ ds) f =
       let x = f.0 in
@@ -64,6 +69,19 @@ module _ {G : Type 0} (names : Post → Type 0) (shared : BufferState) (ring : R
       )
       (guests_ready opened (number + 1) (x.seat_number + 1) (x.pass_number + 1) ss ds f.1)
 
+  takers_ready : (opened : List ℕ) (number : ℕ) (rings : List RingJob) (readers : List ReaderView) (ds : List (Actor G)) → FreshTakers shared service opened number rings readers ds → All (IsReady names shared ring service) ds
+  unfolding FreshTakers
+  takers_ready opened number [] [] [] f = All-nil (IsReady names shared ring service)
+  takers_ready opened number [] [] (x ∷ ds) f = absurd f
+  takers_ready opened number [] (d ∷ readers) ds f = absurd f
+  takers_ready opened number (p ∷ ps) [] ds f = absurd f
+  takers_ready opened number (p ∷ ps) (d ∷ readers) [] f = absurd f
+  takers_ready opened number (p ∷ ps) (d ∷ readers) (kind.Worker w ∷ ds) f = absurd f
+  takers_ready opened number (p ∷ ps) (d ∷ readers) (kind.Guest g ∷ ds) f = absurd f
+  takers_ready opened number (p ∷ ps) (d ∷ readers) (kind.Publisher q ∷ ds) f = absurd f
+  takers_ready opened number (p ∷ ps) (d ∷ readers) (kind.Ring t ∷ ds) f =
+      All-cons (IsReady names shared ring service) (kind.Ring t) ds f.0.ready (takers_ready opened (number + 1) ps readers ds f.1)
+
   -- with the publisher, who published nothing yet, behind them
   pub all_ready : (olds all : List (Actor G)) (q : PublishState) → All (IsReady names shared ring service) olds → all ≡ olds ++ kind.Publisher q ∷ [] → q ≡ first_publisher service.codes → 0 < length service.codes.codes
       → All (IsReady names shared ring service) all
@@ -73,7 +91,8 @@ module _ {G : Type 0} (names : Post → Type 0) (shared : BufferState) (ring : R
 
   pub ready : (job : HostJob) (seat : HostState) (posts takes : PassState) (drawer : DrawerState) (olds : List (Actor G)) → Armed names shared ring service job seat posts takes drawer olds → All (IsReady names shared ring service) olds
   ready job seat posts takes drawer olds a = subst (All (IsReady names shared ring service)) (sym a.are)
-      (All-append (IsReady names shared ring service) a.workers a.guests (workers_ready job.words a.workers a.fresh_workers) (guests_ready job.words 1 0 0 job.guests a.guests a.fresh_guests))
+      (All-append (IsReady names shared ring service) a.workers (a.guests ++ a.takers) (workers_ready job.words a.workers a.fresh_workers)
+      (All-append (IsReady names shared ring service) a.guests a.takers (guests_ready job.words 1 0 0 job.guests a.guests a.fresh_guests) (takers_ready job.words 1 job.rings a.readers a.takers a.fresh_takers)))
 
   module _ (job : HostJob) (mails : List Mail) where
     workers_at : (opened : List ℕ) (ds es : List (Actor G)) → FreshWorkers shared ring service opened ds → DidAll job mails ds es → All (IsAt shared ring service.tickets service.codes) es
@@ -81,9 +100,11 @@ module _ {G : Type 0} (names : Post → Type 0) (shared : BufferState) (ring : R
     workers_at opened [] [] f d = All-nil (IsAt shared ring service.tickets service.codes)
     workers_at opened [] (y ∷ es) f d = absurd d
     workers_at opened (kind.Guest g ∷ ds) es f d = absurd f
+    workers_at opened (kind.Ring t ∷ ds) es f d = absurd f
     workers_at opened (kind.Publisher q ∷ ds) es f d = absurd f
     workers_at opened (kind.Worker x ∷ ds) [] f d = absurd d
     workers_at opened (kind.Worker x ∷ ds) (kind.Guest h ∷ es) f d = absurd d.0
+    workers_at opened (kind.Worker x ∷ ds) (kind.Ring t ∷ es) f d = absurd d.0
     workers_at opened (kind.Worker x ∷ ds) (kind.Publisher q ∷ es) f d = absurd d.0
     workers_at opened (kind.Worker x ∷ ds) (kind.Worker v ∷ es) f d =
         let y = f.0 in
@@ -109,9 +130,11 @@ module _ {G : Type 0} (names : Post → Type 0) (shared : BufferState) (ring : R
     guests_at opened number n m [] (x ∷ ds) es f d = absurd f
     guests_at opened number n m (s ∷ ss) [] es f d = absurd f
     guests_at opened number n m (s ∷ ss) (kind.Worker w ∷ ds) es f d = absurd f
+    guests_at opened number n m (s ∷ ss) (kind.Ring t ∷ ds) es f d = absurd f
     guests_at opened number n m (s ∷ ss) (kind.Publisher q ∷ ds) es f d = absurd f
     guests_at opened number n m (s ∷ ss) (kind.Guest g ∷ ds) [] f d = absurd d
     guests_at opened number n m (s ∷ ss) (kind.Guest g ∷ ds) (kind.Worker w ∷ es) f d = absurd d.0
+    guests_at opened number n m (s ∷ ss) (kind.Guest g ∷ ds) (kind.Ring t ∷ es) f d = absurd d.0
     guests_at opened number n m (s ∷ ss) (kind.Guest g ∷ ds) (kind.Publisher q ∷ es) f d = absurd d.0
     guests_at opened number n m (s ∷ ss) (kind.Guest g ∷ ds) (kind.Guest h ∷ es) f d =
         let x = f.0 in
@@ -124,13 +147,36 @@ module _ {G : Type 0} (names : Post → Type 0) (shared : BufferState) (ring : R
         )
         (guests_at opened (number + 1) (x.seat_number + 1) (x.pass_number + 1) ss ds es f.1 d.1)
 
+    takers_at : (opened : List ℕ) (number : ℕ) (rings : List RingJob) (readers : List ReaderView) (ds es : List (Actor G)) → FreshTakers shared service opened number rings readers ds → DidAll job mails ds es → All (IsAt shared ring service.tickets service.codes) es
+    unfolding FreshTakers DidAll
+    takers_at opened number [] [] [] [] f d = All-nil (IsAt shared ring service.tickets service.codes)
+    takers_at opened number [] [] [] (y ∷ es) f d = absurd d
+    takers_at opened number [] [] (x ∷ ds) es f d = absurd f
+    takers_at opened number [] (x ∷ readers) ds es f d = absurd f
+    takers_at opened number (p ∷ ps) [] ds es f d = absurd f
+    takers_at opened number (p ∷ ps) (x ∷ readers) [] es f d = absurd f
+    takers_at opened number (p ∷ ps) (x ∷ readers) (kind.Worker w ∷ ds) es f d = absurd f
+    takers_at opened number (p ∷ ps) (x ∷ readers) (kind.Guest g ∷ ds) es f d = absurd f
+    takers_at opened number (p ∷ ps) (x ∷ readers) (kind.Publisher q ∷ ds) es f d = absurd f
+    takers_at opened number (p ∷ ps) (x ∷ readers) (kind.Ring t ∷ ds) [] f d = absurd d
+    takers_at opened number (p ∷ ps) (x ∷ readers) (kind.Ring t ∷ ds) (kind.Worker w ∷ es) f d = absurd d.0
+    takers_at opened number (p ∷ ps) (x ∷ readers) (kind.Ring t ∷ ds) (kind.Guest g ∷ es) f d = absurd d.0
+    takers_at opened number (p ∷ ps) (x ∷ readers) (kind.Ring t ∷ ds) (kind.Publisher q ∷ es) f d = absurd d.0
+    takers_at opened number (p ∷ ps) (x ∷ readers) (kind.Ring t ∷ ds) (kind.Ring u ∷ es) f d =
+        let ran : RanRing job t.descr.code t.descr.room t.ring t.number t.seat u.seat u.takes.items = d.0 in
+        All-cons (IsAt shared ring service.tickets service.codes) (kind.Ring u) es (ap (λ (z : SeatState). z.table) ran.steps ∙ f.0.ready.own) (takers_at opened (number + 1) ps readers ds es f.1 d.1)
+
     pub at_all : (seat : HostState) (posts takes : PassState) (drawer : DrawerState) (olds news : List (Actor G)) → Armed names shared ring service job seat posts takes drawer olds → DidAll job mails olds news → All (IsAt shared ring service.tickets service.codes) news
     at_all seat posts takes drawer olds news a did =
-        let b = did_both job mails a.workers a.guests news (subst (λ l. DidAll job mails l news) a.are did) in
-        subst (All (IsAt shared ring service.tickets service.codes)) (sym b.2)
-        (All-append (IsAt shared ring service.tickets service.codes) b.0 b.1
+        let b = did_both job mails a.workers (a.guests ++ a.takers) news (subst (λ l. DidAll job mails l news) a.are did) in
+        let e = did_both job mails a.guests a.takers b.1 b.4 in
+        let At : Actor G → Type 0 = IsAt shared ring service.tickets service.codes in
+        subst (All At) (sym (b.2 ∙ ap (λ l. b.0 ++ l) e.2))
+        (All-append At b.0 (e.0 ++ e.1)
         (workers_at job.words a.workers b.0 a.fresh_workers b.3)
-        (guests_at job.words 1 0 0 job.guests a.guests b.1 a.fresh_guests b.4))
+        (All-append At e.0 e.1
+        (guests_at job.words 1 0 0 job.guests a.guests e.0 a.fresh_guests e.3)
+        (takers_at job.words 1 job.rings a.readers a.takers e.1 a.fresh_takers e.4)))
 
 -- ---- the publisher, behind the others
 module _ {G : Type 0} (job : HostJob) (mails : List Mail) where
@@ -153,12 +199,14 @@ module _ {G : Type 0} (job : HostJob) (mails : List Mail) where
       last ls [] e d f = absurd f
       last ls (kind.Worker w ∷ rs) e d f = absurd f.0
       last ls (kind.Guest g ∷ rs) e d f = absurd f.0
+      last ls (kind.Ring t ∷ rs) e d f = absurd f.0
       last ls (kind.Publisher r ∷ []) e d f = record { news = ls; publisher = r; are = e; did = d; ran = f.0 }
       last ls (kind.Publisher r ∷ (x ∷ rs)) e d f = absurd f.1
 
 publisher_in : {G : Type 0} → PublishState → Actor G → PublishState
 publisher_in p (kind.Worker w) = p
 publisher_in p (kind.Guest g) = p
+publisher_in p (kind.Ring t) = p
 publisher_in p (kind.Publisher q) = q
 
 tail_of : {A : Type 0} → List A → List A

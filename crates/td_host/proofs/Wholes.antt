@@ -1,9 +1,10 @@
 -- All posts are served, from what each actor did and what the ring, the tickets and the buffer tell.
 use Rattle.std.proofs.Common.{◌≡◌, ℕ, suc, ◌+◌, ◌*◌, ◌<◌, ◌≤◌, ◌^◌, ◌-◌, List, [], ◌∷◌, ◌++◌, map, length, Option, Some, None, refl, sym, ap, ◌∙◌, subst, ⊎_elim, arith, append_assoc, length-append}
+use Rattle.std.specs.Prelude.{slice_index_or}
 use Rattle.std.specs.List.{All, Contains, sum_by}
 use Rattle.std.specs.List.Sorted.{IsPermutation}
 use Rattle.std.proofs.lemmas.List.{map-append, length-map}
-use Rattle.std.proofs.lemmas.List.Elements.{All-nil}
+use Rattle.std.proofs.lemmas.List.Elements.{All-nil, All-contains, Contains-append_left, Contains-append_right, Contains-get_or}
 use Rattle.std.proofs.lemmas.List.Sorted.{IsPermutation-map, All-permutation, sum_by-IsPermutation}
 use Rattle.td_posts.specs.declared.name.PostName.{PostName}
 use Rattle.td_words.specs.declared.view.HostView.{HostView}
@@ -28,14 +29,18 @@ use Rattle.td_swap.specs.declared.view.SwapView.{SwapView}
 use Rattle.td_swap.specs.declared.view.PublisherView.{PublisherView}
 use Rattle.td_swap.specs.Views.{publisher_view, swap_view, new_view, IsVersionRun, AreVersions}
 use Rattle.td_host.specs.Versioned.{Versioned, ServedVersions}
+use Rattle.td_core.specs.declared.module.Module.{Module}
+use Rattle.td_takes.specs.declared.take.Take.{Take}
 use Rattle.td_actors.specs.declared.actor.Actor.{Actor}
 use Rattle.td_actors.specs.Replies.{label, mail_label}
 use Rattle.td_host.specs.Served.{ArePosted, joined, AnswerTakes, Served}
 use Rattle.td_actors.specs.Acting.{Answered}
 use Rattle.td_actors.specs.Actors.{Service}
-use Rattle.td_host.specs.Gathered.{view_of, seats_all, puts_all, takes_all, draws_all, swaps_all, all_replies, replies_of, Armed}
+use Rattle.td_host.specs.Gathered.{view_of, seats_all, puts_all, takes_all, draws_all, swaps_all, all_replies, replies_of, takes_of, takes_of_all, IsDescribedBy, Armed}
 use Rattle.td_host.proofs.Shares.{all_taken, drawn_all, drawn_below}
 use Rattle.td_host.proofs.Ends.{put_of, take_of, draw_of, swaps_of, put_parts, take_parts, draw_parts, swap_lists, swaps_are, seats_are, puts_are, takes_are, draws_are, DidAll, did_both, GuestsDone, guests_done, WorkersDone, workers_done, cons_opt}
+use Rattle.td_host.proofs.Takings.{TakersDone, takers_done}
+use Rattle.td_host.specs.Hosts.{takes_in}
 use Rattle.td_host.proofs.Unique.{replies_to}
 use Rattle.td_host.proofs.Fetching.{fetches}
 use Rattle.td_actors.proofs.Plays.{append_nil}
@@ -74,6 +79,14 @@ unfolding joined
 joined-map f [] = refl
 joined-map f (xs ∷ xss) = ap (λ l. map f xs ++ l) (joined-map f xss) ∙ sym (map-append f xs (joined xss))
 
+-- what holds of all holds of those ahead, and of those behind
+module _ {A : Type 0} (P : A → Type 0) where
+  pub ahead : (xs ys : List A) → All P (xs ++ ys) → All P xs
+  ahead xs ys a k d lt = All-contains P (xs ++ ys) (slice_index_or xs k d) a (Contains-append_left xs ys (slice_index_or xs k d) (Contains-get_or xs k d lt))
+
+  behind : (xs ys : List A) → All P (xs ++ ys) → All P ys
+  behind xs ys a k d lt = All-contains P (xs ++ ys) (slice_index_or ys k d) a (Contains-append_right xs ys (slice_index_or ys k d) (Contains-get_or ys k d lt))
+
 module _ {G : Type 0} where
   puts-append : (xs ys : List (Actor G)) → put_parts (xs ++ ys) ≡ put_parts xs ++ put_parts ys
   unfolding put_parts
@@ -100,6 +113,11 @@ module _ {G : Type 0} where
   numbers-append [] ys = refl
   numbers-append (x ∷ xs) ys = ap (λ l. swaps_of x ++ l) (numbers-append xs ys) ∙ sym (append_assoc (swaps_of x) (swap_lists xs) (swap_lists ys))
 
+  takings-append : (xs ys : List (Actor G)) → takes_of_all (xs ++ ys) ≡ takes_of_all xs ++ takes_of_all ys
+  unfolding takes_of_all
+  takings-append [] ys = refl
+  takings-append (x ∷ xs) ys = ap (λ l. takes_of x ++ l) (takings-append xs ys) ∙ sym (append_assoc (takes_of x) (takes_of_all xs) (takes_of_all ys))
+
   module _ (job : HostJob) (mails : List Mail) where
     did_length : (xs ys : List (Actor G)) → DidAll job mails xs ys → length ys ≡ length xs
     unfolding DidAll
@@ -113,50 +131,81 @@ module _ {G : Type 0} where
     pub record Halves : Type 0 where
       pub workers : List (Actor G)
       pub guests : List (Actor G)
-      pub are : news ≡ workers ++ guests
+      pub takers : List (Actor G)
+      pub are : news ≡ workers ++ (guests ++ takers)
       pub worked : WorkersDone job mails workers
       pub stored_by : GuestsDone job mails 1 0 0 job.guests guests
+      pub before : List (Actor G)
+      pub taken_by : TakersDone job mails 1 job.rings before takers
+      pub described : (m : Module) → All (IsDescribedBy m) olds → All (IsDescribedBy m) before
       pub as_many : length workers ≡ job.workers
       pub some_worker : 0 < length workers
-      pub host : seat.view ≡ host_view job.words (length workers + length guests) []
+      pub host : seat.view ≡ host_view job.words (length workers + (length guests + length takers)) []
       pub post_head : posts.view ≡ ring_view (Some (head_of (length guests + 1) [])) (Some (part_of 0 [])) None None
       pub take_head : takes.view ≡ ring_view None None (Some (head_of (length workers + 1) [])) (Some (part_of 0 []))
       pub ticket_head : drawer.view ≡ ticket_view (Some (head_of (length workers + 1) [])) (Some (part_of 0 []))
 
     pub halves : Armed names shared ring service job seat posts takes drawer olds → DidAll job mails olds news → Halves
     halves a did =
-        let b = did_both job mails a.workers a.guests news (subst (λ l. DidAll job mails l news) a.are did) in
+        let b = did_both job mails a.workers (a.guests ++ a.takers) news (subst (λ l. DidAll job mails l news) a.are did) in
+        let e = did_both job mails a.guests a.takers b.1 b.4 in
         let ls = b.0 in
-        let rs = b.1 in
+        let rs = e.0 in
+        let ts = e.1 in
         let w : length ls ≡ length a.workers = did_length job mails a.workers ls b.3 in
-        let g : length rs ≡ length a.guests = did_length job mails a.guests rs b.4 in
+        let g : length rs ≡ length a.guests = did_length job mails a.guests rs e.3 in
+        let t : length ts ≡ length a.takers = did_length job mails a.takers ts e.4 in
         let some = a.some_worker in
         record {
           workers = ls;
           guests = rs;
-          are = b.2;
+          takers = ts;
+          are = b.2 ∙ ap (λ l. ls ++ l) e.2;
           worked = workers_done job mails shared ring service job.words a.workers ls a.fresh_workers b.3;
-          stored_by = guests_done job mails names shared ring job.words 1 0 0 job.guests a.guests rs a.fresh_guests b.4;
+          stored_by = guests_done job mails names shared ring job.words 1 0 0 job.guests a.guests rs a.fresh_guests e.3;
+          before = a.takers;
+          taken_by = takers_done job mails shared service 1 job.rings a.readers a.takers ts a.fresh_takers e.4;
+          described = λ m all. behind (IsDescribedBy m) a.guests a.takers (behind (IsDescribedBy m) a.workers (a.guests ++ a.takers) (subst (All (IsDescribedBy m)) a.are all));
           as_many = w ∙ a.as_many;
           some_worker = omega arith;
-          host = ap (λ (k : HostState). k.view) a.host ∙ (λ i. host_view job.words (sym w i + sym g i) []);
+          host = ap (λ (k : HostState). k.view) a.host ∙ (λ i. host_view job.words (sym w i + (sym g i + sym t i)) []);
           post_head = ap (λ (h : PassState). h.view) a.post_head ∙ (λ i. ring_view (Some (head_of (sym g i + 1) [])) (Some (part_of 0 [])) None None);
           take_head = ap (λ (h : PassState). h.view) a.take_head ∙ (λ i. ring_view None None (Some (head_of (sym w i + 1) [])) (Some (part_of 0 [])));
           ticket_head = ap (λ (d : DrawerState). d.view) a.ticket_head ∙ (λ i. ticket_view (Some (head_of (sym w i + 1) [])) (Some (part_of 0 [])));
         }
 
     module _ (h : Halves) where
+      -- of the three lists only one has any
+      of_middle : {A : Type 0} (of : List (Actor G) → List A) → ((xs ys : List (Actor G)) → of (xs ++ ys) ≡ of xs ++ of ys) → of h.workers ≡ [] → of h.takers ≡ [] → of news ≡ of h.guests
+      of_middle of split none none' =
+          ap of h.are ∙ (split h.workers (h.guests ++ h.takers) ∙ ((λ i. none i ++ split h.guests h.takers i) ∙ (ap (λ l. of h.guests ++ l) none' ∙ append_nil (of h.guests))))
+
+      of_first : {A : Type 0} (of : List (Actor G) → List A) → ((xs ys : List (Actor G)) → of (xs ++ ys) ≡ of xs ++ of ys) → of h.guests ≡ [] → of h.takers ≡ [] → of news ≡ of h.workers
+      of_first of split none none' =
+          ap of h.are ∙ (split h.workers (h.guests ++ h.takers) ∙ (ap (λ l. of h.workers ++ l) (split h.guests h.takers ∙ (λ i. none i ++ none' i)) ∙ append_nil (of h.workers)))
+
+      of_last : {A : Type 0} (of : List (Actor G) → List A) → ((xs ys : List (Actor G)) → of (xs ++ ys) ≡ of xs ++ of ys) → of h.workers ≡ [] → of h.guests ≡ [] → of news ≡ of h.takers
+      of_last of split none none' =
+          ap of h.are ∙ (split h.workers (h.guests ++ h.takers) ∙ ((λ i. none i ++ split h.guests h.takers i) ∙ (λ i. none' i ++ of h.takers)))
+
       puts_right : put_parts news ≡ put_parts h.guests
-      puts_right = ap put_parts h.are ∙ (puts-append h.workers h.guests ∙ ap (λ l. l ++ put_parts h.guests) h.worked.no_puts)
+      puts_right = of_middle put_parts puts-append h.worked.no_puts h.taken_by.no_puts
 
       takes_left : take_parts news ≡ take_parts h.workers
-      takes_left = ap take_parts h.are ∙ (takes-append h.workers h.guests ∙ (ap (λ l. take_parts h.workers ++ l) h.stored_by.no_takes ∙ append_nil (take_parts h.workers)))
+      takes_left = of_first take_parts takes-append h.stored_by.no_takes h.taken_by.no_takes
 
       draws_left : draw_parts news ≡ draw_parts h.workers
-      draws_left = ap draw_parts h.are ∙ (draws-append h.workers h.guests ∙ (ap (λ l. draw_parts h.workers ++ l) h.stored_by.no_draws ∙ append_nil (draw_parts h.workers)))
+      draws_left = of_first draw_parts draws-append h.stored_by.no_draws h.taken_by.no_draws
 
       replies_left : all_replies news ≡ all_replies h.workers
-      replies_left = ap all_replies h.are ∙ (replies-append h.workers h.guests ∙ (ap (λ l. all_replies h.workers ++ l) h.stored_by.no_replies ∙ append_nil (all_replies h.workers)))
+      replies_left = of_first all_replies replies-append h.stored_by.no_replies h.taken_by.no_replies
+
+      takings_last : takes_of_all news ≡ takes_of_all h.takers
+      takings_last = of_last takes_of_all takings-append h.worked.no_taking h.stored_by.no_taking
+
+      -- the takers made as many takes as the rings have
+      pub made_few : length (takes_of_all news) ≡ takes_in job.rings
+      made_few = ap length takings_last ∙ h.taken_by.few
 
       -- the workers made no more replies than each of them one to each post
       pub found_few : length (all_replies news) ≤ job.workers * length mails
@@ -175,8 +224,11 @@ module _ {G : Type 0} where
       pub tickets_are : draws_all drawer.view news ≡ ticket_view (Some (head_of (length h.workers + 1) (draw_parts h.workers))) (Some (part_of 0 []))
       tickets_are = ap (λ v. draws_all v news) h.ticket_head ∙ (draws_are (length h.workers + 1) [] (Some (part_of 0 [])) news ∙ ap (λ l. ticket_view (Some (head_of (length h.workers + 1) l)) (Some (part_of 0 []))) draws_left)
 
-      pub seats_are_both : seats_all seat.view news ≡ host_view job.words (length h.workers + length h.guests) (map view_of h.workers ++ map view_of h.guests)
-      seats_are_both = ap (λ v. seats_all v news) h.host ∙ (seats_are (host_view job.words (length h.workers + length h.guests) []) news ∙ ap (host_view job.words (length h.workers + length h.guests)) (ap (map view_of) h.are ∙ map-append view_of h.workers h.guests))
+      pub seats_are_both : seats_all seat.view news ≡ host_view job.words (length h.workers + (length h.guests + length h.takers)) (map view_of h.workers ++ (map view_of h.guests ++ map view_of h.takers))
+      seats_are_both =
+          let n = length h.workers + (length h.guests + length h.takers) in
+          ap (λ v. seats_all v news) h.host ∙ (seats_are (host_view job.words n []) news
+          ∙ ap (host_view job.words n) (ap (map view_of) h.are ∙ (map-append view_of h.workers (h.guests ++ h.takers) ∙ ap (λ l. map view_of h.workers ++ l) (map-append view_of h.guests h.takers))))
 
       labels : map label (owned (put_parts h.guests)) ≡ map mail_label (all_mails 1 job.guests)
       labels = labels_all 1 0 job.guests (put_parts h.guests) h.stored_by.posted
@@ -222,29 +274,34 @@ module _ {G : Type 0} where
           names_posts (owned (put_parts h.guests)) ∙ (ap (map (λ (x : PostName × ℕ). x.0)) labels ∙ (sym (names_mails (all_mails 1 job.guests)) ∙ ap (map (λ (m : Mail). m.name)) (sym is))) in
           a ∙ (b ∙ (sym c ∙ ap (sum_by f) d))
 
-      pub served : IsPermutation (owned (take_parts h.workers)) (owned (put_parts h.guests)) → mails ≡ all_mails 1 job.guests
+      pub served : (m : Module) → All (IsDescribedBy m) olds → IsPermutation (owned (take_parts h.workers)) (owned (put_parts h.guests)) → mails ≡ all_mails 1 job.guests
           → (v : RingView) → v ≡ with_takes (puts_all posts.view news) (takes_all takes.view news)
           → (k : HostView) → k ≡ seats_all seat.view news → (length k.ended ≡ k.made → Fetched k) → (log : List HistoryEntry) → Told k log
-          → (replies : List Reply) → map reply_name replies ≡ map (λ (m : Mail). m.name) mails → IsPermutation (all_replies news) replies → Served job replies k v
-      served perm is v v_is k k_is fetched log told replies named order =
+          → (replies : List Reply) → map reply_name replies ≡ map (λ (m : Mail). m.name) mails → IsPermutation (all_replies news) replies
+          → (made : List Take) → made ≡ takes_of_all news → Served m job replies made k v
+      served m described perm is v v_is k k_is fetched log told replies named order made made_is =
           let r = v_is ∙ ring_is in
           let e = k_is ∙ seats_are_both in
           let order' = subst (λ l. IsPermutation l replies) replies_left order in
           let ended = ap (λ (x : HostView). x.ended) e in
           let vs = map view_of h.workers in
           let us = map view_of h.guests in
+          let ts = map view_of h.takers in
           let all_ended : length k.ended ≡ k.made =
-          (let a = ap length ended ∙ length-append vs us in
+          (let a = ap length ended ∙ length-append vs (us ++ ts) in
+          let a' = length-append us ts in
           let b = length-map h.workers view_of in
           let c = length-map h.guests view_of in
+          let c' = length-map h.takers view_of in
           let d = ap (λ (x : HostView). x.made) e in
-          omega arith) in
+          omega (arith, a, a', b, c, c', d)) in
           let opened = ap (λ (x : HostView). x.opened) e in
           record {
             replies_are = replies_to job replies (named ∙ ap (map (λ (m : Mail). m.name)) is) (All-permutation (Answered job) (all_replies h.workers) replies order' h.worked.answered);
             seats = record {
               readers = vs;
               guests = us;
+              takers = ts;
               ended = ended;
               all_ended = all_ended;
               opened = opened;
@@ -254,7 +311,9 @@ module _ {G : Type 0} where
               reading = h.worked.reading;
               divided = record { shares = h.worked.shares; are_pieces = h.worked.are_pieces; each_once = subst (λ l. IsPermutation l replies) (sym h.worked.divided) order' };
               stored_by = h.stored_by.stored_by;
-              fetched = fetches job k vs us ended opened (fetched all_ended) h.worked.quiet h.stored_by.stored_by;
+              as_many_takers = length-map h.takers view_of ∙ h.taken_by.as_many;
+              taking = h.taken_by.taking;
+              fetched = fetches job k vs us ts ended opened (fetched all_ended) h.worked.quiet h.stored_by.stored_by h.taken_by.quiet;
             };
             passes_are = record {
               posts = head_of (length h.guests + 1) (put_parts h.guests);
@@ -270,12 +329,13 @@ module _ {G : Type 0} where
               taken = perm;
             };
             answered = h.worked.of_takes;
+            takes_are = record { shares = h.taken_by.shares; are = h.taken_by.are m (h.described m described); takes_are = made_is ∙ (takings_last ∙ h.taken_by.made) };
           }
 
       -- the lists of numbers are the versions of the replies
       numbers_are : (count : ℕ) → swaps_all (new_view count) news ≡ swap_view count [] (map (map version_in) h.worked.shares)
       numbers_are count = swaps_are (new_view count) news
-          ∙ ap (swap_view count []) (ap swap_lists h.are ∙ (numbers-append h.workers h.guests ∙ (ap (λ l. swap_lists h.workers ++ l) h.stored_by.no_swaps ∙ (append_nil (swap_lists h.workers) ∙ h.worked.numbers))))
+          ∙ ap (swap_view count []) (of_first swap_lists numbers-append h.stored_by.no_swaps h.taken_by.no_swaps ∙ h.worked.numbers)
 
       pub versioned : (count : ℕ) → count ≡ length job.formats → (w : SwapView) → w ≡ swaps_all (new_view count) news → AreVersions w
           → (q : PublisherView) → q ≡ publisher_view count (count - 1)
@@ -296,15 +356,15 @@ module _ {G : Type 0} where
             published = q_is ∙ ap (λ n. publisher_view n (n - 1)) counted;
           }
 
-      pub served_versions : (perm : IsPermutation (owned (take_parts h.workers)) (owned (put_parts h.guests))) → mails ≡ all_mails 1 job.guests
+      pub served_versions : (m : Module) → All (IsDescribedBy m) olds → (perm : IsPermutation (owned (take_parts h.workers)) (owned (put_parts h.guests))) → mails ≡ all_mails 1 job.guests
           → (v : RingView) → v ≡ with_takes (puts_all posts.view news) (takes_all takes.view news)
           → (k : HostView) → k ≡ seats_all seat.view news → (length k.ended ≡ k.made → Fetched k) → (log : List HistoryEntry) → Told k log
           → (replies : List Reply) → map reply_name replies ≡ map (λ (m : Mail). m.name) mails → IsPermutation (all_replies news) replies
           → (count : ℕ) → count ≡ length job.formats → (w : SwapView) → w ≡ swaps_all (new_view count) news → AreVersions w
-          → (q : PublisherView) → q ≡ publisher_view count (count - 1) → ServedVersions job replies k v w q
+          → (q : PublisherView) → q ≡ publisher_view count (count - 1) → (made : List Take) → made ≡ takes_of_all news → ServedVersions m job replies made k v w q
       unfolding served
-      served_versions perm is v v_is k k_is fetched log told replies named order count counted w w_is runs q q_is = record {
-        served = served perm is v v_is k k_is fetched log told replies named order;
+      served_versions m described perm is v v_is k k_is fetched log told replies named order count counted w w_is runs q q_is made made_is = record {
+        served = served m described perm is v v_is k k_is fetched log told replies named order made made_is;
         versioned = versioned count counted w w_is runs q q_is replies order;
       }
 

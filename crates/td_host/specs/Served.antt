@@ -1,5 +1,5 @@
 -- When all posts of a job are served (own rule).
-use Rattle.std.specs.Prelude.{◌≡◌, ◌⊎◌, ℕ, ◌+◌, ◌≤◌, true, false, List, [], ◌∷◌, ◌++◌, map, length, slice_index, Some}
+use Rattle.std.specs.Prelude.{◌≡◌, ◌⊎◌, ℕ, ◌+◌, ◌*◌, ◌≤◌, true, false, List, [], ◌∷◌, ◌++◌, map, length, slice_index, Some}
 use Rattle.std.specs.List.{All}
 use Rattle.std.specs.List.Sorted.{IsPermutation}
 use Rattle.td_words.specs.declared.view.SeatView.{SeatView}
@@ -16,6 +16,9 @@ use Rattle.td_posts.specs.declared.mail.Mail.{Mail}
 use Rattle.td_posts.specs.declared.reply.Reply.{Reply}
 use Rattle.td_posts.specs.declared.job.HostJob.{HostJob}
 use Rattle.td_posts.specs.Posts.{mails_of, all_mails, stores_of, reply_name}
+use Rattle.td_core.specs.declared.module.Module.{Module}
+use Rattle.td_takes.specs.declared.take.Take.{Take}
+use Rattle.td_takes.specs.TakesServed.{TakesServed}
 use Rattle.td_actors.specs.Replies.{IsReplyTo, pieces, label, mail_label}
 
 -- the first replies to the first, the second to the second, and so on; there are as many of the one as of the other
@@ -62,12 +65,14 @@ abbrev pub Comes : HostJob → ℕ × ℕ → Type 0
 Comes job l = (l.1 ≡ slice_index job.words l.0) ⊎ ((s : List Step) × In s job.guests × In (l.0, l.1) (stores_of s))
 
 -- what the host's seat knows of all that was done to the buffer: it gathered each seat that it made, first the readers, one
--- for each worker, which stored nothing, and then a guest for each script, which loaded nothing; all their loads and stores
--- stand in one history, and so each load is the opening word, or some guest's script stores it to that word
+-- for each worker, which stored nothing, then a guest for each script, which loaded nothing, and then a taker for each ring, which
+-- stored nothing; all their loads and stores stand in one history, and so each load is the opening word, or some guest's script
+-- stores it to that word
 pub record SeatsServed (job : HostJob) (replies : List Reply) (host : HostView) : Type 0 where
   pub readers : List SeatView
   pub guests : List SeatView
-  pub ended : host.ended ≡ readers ++ guests
+  pub takers : List SeatView
+  pub ended : host.ended ≡ readers ++ (guests ++ takers)
   pub all_ended : length host.ended ≡ host.made
   pub opened : host.opened ≡ job.words
   pub history : List Entry
@@ -76,7 +81,9 @@ pub record SeatsServed (job : HostJob) (replies : List Reply) (host : HostView) 
   pub reading : All (λ (v : SeatView). (v.guest ≡ false) × (stores v.steps ≡ [])) readers
   pub divided : Divided (all_mails 1 job.guests) readers replies
   pub stored_by : AreStored 0 job.guests guests
-  pub fetched : (v : SeatView) (l : ℕ × ℕ) → In v readers → In l (loads v.steps) → Comes job l
+  pub as_many_takers : length takers ≡ length job.rings
+  pub taking : All (λ (v : SeatView). (v.guest ≡ false) × (stores v.steps ≡ [])) takers
+  pub fetched : (v : SeatView) (l : ℕ × ℕ) → In v (readers ++ takers) → In l (loads v.steps) → Comes job l
 
 -- ---- the passes
 -- a pass for each script, in order by rising numbers from n on; its posts are the script's, in order, each with the number
@@ -110,10 +117,12 @@ AnswerTakes [] (share ∷ shares) = ⊥
 AnswerTakes (p ∷ ps) [] = ⊥
 AnswerTakes (p ∷ ps) (share ∷ shares) = (map reply_name share ≡ map (λ (post : Post). post.name) p.own) × AnswerTakes ps shares
 
--- All posts of the job are served: there is one reply for each post, by guest and number, and no other; this is what the
--- seats of the buffer and the passes of the ring did; and each worker answered the posts that it took itself.
-pub record Served (job : HostJob) (replies : List Reply) (host : HostView) (passes : RingView) : Type 0 where
+-- All posts of the job are served, and all takes of its rings are made: there is one reply for each post, by guest and number, and no
+-- other; this is what the seats of the buffer and the passes of the ring did; each worker answered the posts that it took itself; and
+-- the takes, by ring and number, are those of the takers' seats, by this module of descriptors
+pub record Served (m : Module) (job : HostJob) (replies : List Reply) (takes : List Take) (host : HostView) (passes : RingView) : Type 0 where
   pub replies_are : RepliesTo job (all_mails 1 job.guests) replies
   pub seats : SeatsServed job replies host
   pub passes_are : PassesServed job passes
   pub answered : AnswerTakes passes_are.takes.ended seats.divided.shares
+  pub takes_are : TakesServed job job.rings m (8 * length job.words) takes seats.takers

@@ -7,6 +7,8 @@ use Rattle.td_ring.specs.declared.view.RingView.{RingView}
 use Rattle.td_swap.specs.declared.view.SwapView.{SwapView}
 use Rattle.td_swap.specs.declared.view.PublisherView.{PublisherView}
 use Rattle.td_swap.specs.Views.{publisher_view, IsVersionRun}
+use Rattle.td_core.specs.declared.module.Module.{Module}
+use Rattle.td_takes.specs.declared.take.Take.{Take}
 use Rattle.td_posts.specs.declared.reply.Reply.{Reply}
 use Rattle.td_posts.specs.declared.job.HostJob.{HostJob}
 use Rattle.td_posts.specs.Posts.{version_in}
@@ -24,7 +26,7 @@ pub record Versioned (job : HostJob) (replies : List Reply) (shares : List (List
   pub runs : All (IsVersionRun (length job.formats)) swaps.ended
   pub published : publisher ≡ publisher_view (length job.formats) (length job.formats - 1)
 
--- all posts of the job are served, under its versions, which replaced one another meanwhile
-pub record ServedVersions (job : HostJob) (replies : List Reply) (host : HostView) (passes : RingView) (swaps : SwapView) (publisher : PublisherView) : Type 0 where
-  pub served : Served job replies host passes
+-- all posts of the job are served, under its versions, which replaced one another meanwhile, and all takes of its rings are made
+pub record ServedVersions (m : Module) (job : HostJob) (replies : List Reply) (takes : List Take) (host : HostView) (passes : RingView) (swaps : SwapView) (publisher : PublisherView) : Type 0 where
+  pub served : Served m job replies takes host passes
   pub versioned : Versioned job replies served.seats.divided.shares swaps publisher

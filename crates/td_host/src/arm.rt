@@ -6,13 +6,15 @@ ghost use Rattle.td_ring.specs.declared.post.Post.{Post};
 ghost use Rattle.td_stream.specs.Layouts.{count_in};
 ghost use Rattle.td_posts.specs.Posts.{mails_of, all_mails, mail_named, scattered, zeros, reply_name};
 ghost use Rattle.td_posts.specs.Servable.{IsServable};
+ghost use Rattle.td_core.specs.declared.module.Module.{Module};
 ghost use Rattle.td_posts.specs.declared.limits.TheConstants.{MOST_WORKERS, MOST_POSTS};
 ghost use Rattle.td_actors.specs.Acting.{AreArmed, Fits, most_frames, RoomsFor};
 ghost use Rattle.td_host.specs.Hosts.{IsOpened, AreFresh, IsCrew, first_swap};
 ghost use Rattle.td_actors.specs.Actors.{service_at};
-ghost use Rattle.td_host.specs.Gathered.{IsBounded, host_at, posts_at, takes_at, draws_at, WorkersSeated, GuestsSeated};
+ghost use Rattle.td_host.specs.Gathered.{IsBounded, host_at, posts_at, takes_at, draws_at, WorkersSeated, GuestsSeated, AreReadersOf, IsReaderBy, IsDescribedBy};
 
 use crate::gather::{Heads, VersionSeats};
+use crate::rings::{seat_takers, takes_for};
 use crate::script::copied_script;
 use crate::serve::Crew;
 use std::alloc::{AllocError, Global};
@@ -20,6 +22,7 @@ use std::collections::VecDeque;
 use std::snapshot::Snapshot;
 use td_actors::actor::{Actor, Desk, Guest, Worker};
 use td_core::outcome::Verdict;
+use td_descr::Descr;
 use td_num::items::Items;
 use td_posts::job::{HostJob, Step};
 use td_posts::mail::{Mail, word_count};
@@ -87,10 +90,11 @@ pub(crate) fn mails_of_all(alloc: Global, guests: &[Items<Step>]) -> Result<Vec<
     Ok(mails)
 }
 
-/// Room for the reply to a post of a message of so many words that lies at a word, whose failure has so many frames at most.
-fn room_for(
+/// Room for the reply of a validation with so many cells, of a message of so many words without a list of stretches, whose failure has
+/// so many frames at most.
+pub(crate) fn room_for(
     alloc: Global,
-    job: &HostJob,
+    cells: u32,
     frames: usize,
     name: PostName,
     words: u32,
@@ -99,7 +103,7 @@ fn room_for(
     ensures at_word { IfOk result (λ r. r.layout ≡ None) }
     ensures empty { IfOk result (λ r. r.loads.list ≡ []) }
     ensures room { IfOk result (λ r. words ≤ r.loads.room) }
-    ensures cells { IfOk result (λ r. r.cells.items ≡ zeros job.now.cells) }
+    ensures cells { IfOk result (λ r. r.cells.items ≡ zeros cells) }
     ensures untold { IfOk result (λ r. r.trace.items ≡ []) }
     ensures trace_room { IfOk result (λ r. vec_capacity r.trace ≡ frames) }
 {
@@ -110,7 +114,7 @@ fn room_for(
         layout: None,
         verdict: Verdict::Accept { pos: 0 },
         trace: Vec::with_capacity(alloc, frames)?,
-        cells: vec![in alloc; 0; job.cells as usize]?,
+        cells: vec![in alloc; 0; cells as usize]?,
         loads: Loads::with_room(alloc, words)?,
     })
 }
@@ -131,7 +135,7 @@ fn scatter_room(
     ensures untold { IfOk result (λ r. r.trace.items ≡ []) }
     ensures trace_room { IfOk result (λ r. vec_capacity r.trace ≡ frames) }
 {
-    let mut room = room_for(alloc, job, frames, name, layout.count())?;
+    let mut room = room_for(alloc, job.cells, frames, name, layout.count())?;
     room.layout = Some(layout.copied(alloc)?);
     Ok(room)
 }
@@ -158,7 +162,7 @@ fn rooms_for<J: Naming>(
                 number += 1;
                 let name = PostName { guest, number };
                 let words = word_count(*length);
-                rooms.push_back(room_for(alloc, job, frames, name, words)?)?;
+                rooms.push_back(room_for(alloc, job.cells, frames, name, words)?)?;
             }
             Step::Scatter { layout } => {
                 number += 1;
@@ -282,24 +286,29 @@ fn reply_rooms(
     Ok((found, replies))
 }
 
-/// What acts at a desk, with a gate for each worker and then one for each guest, and last the publisher; and the room for what they
-/// do.
+/// What acts at a desk, with a gate for each worker and then one for each guest, a reader for each ring, and last the publisher; and the
+/// room for what they do.
 pub(crate) fn make_crew<J: Naming, G: Drop>(
     alloc: Global,
     desk: &Desk<J>,
     heads: Heads,
     versions: VersionSeats,
+    descrs: Vec<Descr>,
     gates: Vec<G>,
 ) -> Result<Crew<G>, AllocError>
     requires servable { IsServable desk.now.job }
     requires opened { IsOpened desk.now heads }
     requires fresh { AreFresh desk.now.codes versions }
+    requires readers { AreReadersOf (8 * length desk.now.job.words) desk.now.job.rings descrs.items }
     requires gates { length gates.items ≡ desk.now.job.workers + length desk.now.job.guests }
+    requires some { 0 < length desk.now.codes.codes }
     requires said { (p : Post) → Fits (most_frames desk.now.codes.codes) desk.now.job p → J.names p }
-    ensures { IfOk result (λ crew. IsCrew J.names desk.now crew) }
+    ensures crew { IfOk result (λ crew. IsCrew J.names desk.now crew) }
+    ensures described { (m : Module) → All (IsReaderBy m) descrs.items → IfOk result (λ crew. All (IsDescribedBy m) crew.actors.items) }
 {
     let workers = desk.job.workers as usize;
     let (found, replies) = reply_rooms(alloc, workers, desk.mails.len())?;
+    let takes = takes_for(alloc, desk.job.rings.as_slice())?;
     let frames = frames_of(alloc, &desk.codes)?;
     let VersionSeats {
         publisher,
@@ -311,6 +320,7 @@ pub(crate) fn make_crew<J: Naming, G: Drop>(
     let mut actors = Vec::new(alloc);
     seat_workers(alloc, desk, &mut heads, &mut swap, gates, &mut actors)?;
     seat_guests(alloc, desk, frames, &mut heads, guest_gates, &mut actors)?;
+    seat_takers(alloc, desk, &mut heads, descrs, &mut actors)?;
     actors.push(Actor::Publisher(publisher))?;
     Ok(Crew {
         heads,
@@ -318,5 +328,6 @@ pub(crate) fn make_crew<J: Naming, G: Drop>(
         actors,
         found,
         replies,
+        takes,
     })
 }

@@ -9,14 +9,15 @@ ghost use Rattle.td_ring.specs.Ring.{pass_with, with_put, with_take};
 ghost use Rattle.td_ring.specs.Tickets.{drawer_with, with_seat};
 ghost use Rattle.td_swap.specs.Views.{AreVersions};
 ghost use Rattle.td_swap.specs.Seats.{IsOwn, then_gathered, swap_state};
-ghost use Rattle.td_host.specs.Gathered.{IsAt, view_of, put_one, take_one, draw_one, swap_one, replies_of, seats_all, puts_all, takes_all, draws_all, swaps_all, all_replies};
+ghost use Rattle.td_host.specs.Gathered.{IsAt, view_of, put_one, take_one, draw_one, swap_one, replies_of, takes_of, seats_all, puts_all, takes_all, draws_all, swaps_all, all_replies, takes_of_all};
 
-use td_actors::actor::{Actor, Desk, Guest, Worker};
+use td_actors::actor::{Actor, Desk, Guest, Taker, Worker};
 use td_posts::reply::Reply;
 use td_ring::naming::Naming;
 use td_ring::passes::{PostPass, TakePass};
 use td_ring::ticket_seat::TicketSeat;
 use td_swap::seats::{PublishSeat, SwapSeat};
+use td_takes::Take;
 use td_words::seats::HostSeat;
 
 /// What the host acts with: its seat at the buffer, and the first passes and the first ticket seat.
@@ -102,12 +103,41 @@ fn gather_guest<J: Naming, G: Drop>(desk: &Desk<J>, heads: &mut Heads, guest: Gu
     desk.ring.gather_post(&mut heads.posts, pass);
 }
 
+/// Takes back what a ring's taker had.
+fn gather_taker<J: Naming>(desk: &Desk<J>, heads: &mut Heads, takes: &mut Vec<Take>, taker: Taker)
+    requires seat { heads.old.seat.table ≡ desk.now.shared.table }
+    requires at { taker.seat.table ≡ desk.now.shared.table }
+    requires room { length takes.old.items + length taker.takes.items ≤ vec_capacity takes.old }
+    ensures seat { heads.new.seat ≡ with_view heads.old.seat (with_ended heads.old.seat.view taker.seat.view) }
+    ensures posts { heads.new.posts ≡ heads.old.posts }
+    ensures takes { heads.new.takes ≡ heads.old.takes }
+    ensures drawer { heads.new.drawer ≡ heads.old.drawer }
+    ensures made { takes.new.items ≡ takes.old.items ++ taker.takes.items }
+    ensures capacity { vec_capacity takes.old ≤ vec_capacity takes.new }
+{
+    let Taker {
+        number: _,
+        ring: _,
+        descr: _,
+        seat: reader,
+        frame: _,
+        rooms: _,
+        takes: made,
+    } = taker;
+    let mut made = made;
+    let Ok(()) = takes.append(&mut made) else {
+        unreachable!()
+    };
+    desk.shared.gather_reader(&mut heads.seat, reader);
+}
+
 /// Takes back what one actor had, who isn't the publisher.
 fn gather_one<J: Naming, G: Drop>(
     desk: &Desk<J>,
     heads: &mut Heads,
     swap: &mut SwapSeat,
     found: &mut Vec<Reply>,
+    takes: &mut Vec<Take>,
     actor: Actor<G>,
 )
     requires seat { heads.old.seat.table ≡ desk.now.shared.table }
@@ -118,6 +148,7 @@ fn gather_one<J: Naming, G: Drop>(
     requires own { IsOwn desk.now.codes swap.old }
     requires versions { AreVersions swap.old.view }
     requires room { length found.old.items + length (replies_of actor) ≤ vec_capacity found.old }
+    requires take_room { length takes.old.items + length (takes_of actor) ≤ vec_capacity takes.old }
     ensures seat { heads.new.seat ≡ with_view heads.old.seat (with_ended heads.old.seat.view (view_of actor)) }
     ensures posts { heads.new.posts ≡ pass_with heads.old.posts (put_one heads.old.posts.view actor) }
     ensures takes { heads.new.takes ≡ pass_with heads.old.takes (take_one heads.old.takes.view actor) }
@@ -126,20 +157,24 @@ fn gather_one<J: Naming, G: Drop>(
     ensures versions { AreVersions swap.new.view }
     ensures found { found.new.items ≡ found.old.items ++ replies_of actor }
     ensures capacity { vec_capacity found.old ≤ vec_capacity found.new }
+    ensures made { takes.new.items ≡ takes.old.items ++ takes_of actor }
+    ensures take_capacity { vec_capacity takes.old ≤ vec_capacity takes.new }
 {
     match actor {
         Actor::Worker(worker) => gather_worker(desk, heads, swap, found, worker),
         Actor::Guest(guest) => gather_guest(desk, heads, guest),
+        Actor::Ring(taker) => gather_taker(desk, heads, takes, taker),
         Actor::Publisher(_) => unreachable!(),
     }
 }
 
-/// Takes back what all actors but the publisher had, in order. The list has room for their replies, so this takes no memory.
+/// Takes back what all actors but the publisher had, in order. The lists have room for their replies and takes, so this takes no memory.
 pub fn gather_all<J: Naming, G: Drop>(
     desk: &Desk<J>,
     heads: &mut Heads,
     swap: &mut SwapSeat,
     found: &mut Vec<Reply>,
+    takes: &mut Vec<Take>,
     actors: Vec<Actor<G>>,
 )
     requires seat { heads.old.seat.table ≡ desk.now.shared.table }
@@ -150,6 +185,7 @@ pub fn gather_all<J: Naming, G: Drop>(
     requires own { IsOwn desk.now.codes swap.old }
     requires versions { AreVersions swap.old.view }
     requires room { length found.old.items + length (all_replies actors.items) ≤ vec_capacity found.old }
+    requires take_room { length takes.old.items + length (takes_of_all actors.items) ≤ vec_capacity takes.old }
     ensures seat { heads.new.seat ≡ with_view heads.old.seat (seats_all heads.old.seat.view actors.items) }
     ensures posts { heads.new.posts ≡ pass_with heads.old.posts (puts_all heads.old.posts.view actors.items) }
     ensures takes { heads.new.takes ≡ pass_with heads.old.takes (takes_all heads.old.takes.view actors.items) }
@@ -158,8 +194,9 @@ pub fn gather_all<J: Naming, G: Drop>(
     ensures swap { swap.new ≡ swap_state swap.old.table (swaps_all swap.old.view actors.items) }
     ensures versions { AreVersions swap.new.view }
     ensures found { found.new.items ≡ found.old.items ++ all_replies actors.items }
+    ensures made { takes.new.items ≡ takes.old.items ++ takes_of_all actors.items }
 {
     for actor in actors {
-        gather_one(desk, heads, swap, found, actor);
+        gather_one(desk, heads, swap, found, takes, actor);
     }
 }

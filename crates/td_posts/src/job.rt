@@ -1,5 +1,6 @@
 //! Host jobs.
 
+use crate::ring::RingJob;
 use td_core::module::{Entry, Module};
 use td_num::items::Items;
 use td_stream::layout::Layout;
@@ -15,7 +16,8 @@ pub enum Step {
     Scatter { layout: Layout },
 }
 
-/// A job for a host: guests store to one buffer and post messages that lie in it, and workers validate them meanwhile.
+/// A job for a host: guests store to one buffer, post messages that lie in it and keep rings of descriptors there, and the host
+/// validates them meanwhile.
 #[derive(Drop)]
 pub struct HostJob {
     /// The modules by which messages are validated, by version: first the job's own, then the swaps, in the order in which they
@@ -33,4 +35,6 @@ pub struct HostJob {
     pub workers: u32,
     /// The guests' scripts, in the order of their numbers, which are counted from 1.
     pub guests: Items<Items<Step>>,
+    /// The rings in the buffer that the host looks at, in the order of their numbers, which are counted from 1.
+    pub rings: Items<RingJob>,
 }

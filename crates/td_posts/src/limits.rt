@@ -10,7 +10,7 @@ pub const MOST_SWAPS: usize = 16;
 pub const MOST_POSTS: usize = 4_096;
 /// Stores of all guests.
 pub const MOST_STORES: usize = 65_536;
-/// Words of all messages that are posted.
+/// Words of all messages, those that are posted and those that rings can name.
 pub const MOST_MESSAGE_WORDS: u64 = 1_048_576;
 /// Rings.
 pub const MOST_RINGS: usize = 16;

@@ -1,3 +1,4 @@
+pub mod Codes
 pub mod Takes
 pub mod Kept
 pub mod TakesServed

@@ -8,11 +8,8 @@ use Rattle.td_stream.specs.declared.load.Load.{Load}
 use Rattle.td_stream.specs.declared.stretch.Stretch.{Stretch}
 use Rattle.td_stream.specs.Layouts.{plain}
 use Rattle.td_stream.specs.Loads.{IsRising, Inside, Carries}
-use Rattle.td_expr.specs.Sound.{Sound}
-use Rattle.td_meaning.specs.Throughout.{Throughout}
 use Rattle.td_leaves.specs.Outcomes.{IsMeant}
 use Rattle.td_ir.specs.declared.tables.Parts.{Parts}
-use Rattle.td_ir.specs.Entries.{Fits}
 use Rattle.td_lowered.specs.CodeRun.{IsCodeOf}
 use Rattle.td_vm.specs.Need.{most_need, level}
 use Rattle.td_words.specs.declared.view.Access.{Access}
@@ -41,20 +38,7 @@ ring_layout ring = (record { place = 8 * ring.base; size = 8 * ring_words ring.e
 abbrev pub message_layout : ℕ → ℕ → List Stretch
 message_layout place size = (record { place = place; size = size }) ∷ []
 
--- ---- the codes
--- this code does the job's validations under version 0: it is that of the version's module, the arguments and cells of zeros fit the
--- version's entry point, and whatever bytes a message has, each expression that the meaning evaluates lies in its type's range
-pub record MessageCode (c : Parts) (job : HostJob) : Type 0 where
-  pub format : Module
-  pub entry : Entry
-  pub version : IsVersion job 0 format entry
-  pub code : IsCodeOf c format
-  pub fits : Fits c entry job.args (zeros job.cells)
-  pub sound : (b : List ℕ) → AreBytes b → length b < 2 ^ 32 → Throughout Sound format entry job.args (zeros job.cells) b
-
-unfoldable pub IsMessageCode : Parts → HostJob → Type 0
-IsMessageCode c job = MessageCode c job
-
+-- ---- the descriptors' code
 -- this module of descriptors has this code, and each expression that it evaluates in such a room lies in its type's range
 pub record Describes (m : Module) (c : Parts) (room most : ℕ) : Type 0 where
   pub code : IsCodeOf c m

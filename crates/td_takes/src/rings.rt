@@ -5,7 +5,8 @@ ghost use Rattle.td_core.specs.declared.module.Module.{Module};
 ghost use Rattle.td_vm.specs.Frames.{IsArmed};
 ghost use Rattle.td_posts.specs.declared.limits.TheConstants.{MOST_ENTRIES as most_entries};
 ghost use Rattle.td_descr.specs.Ring.{Answers, LiesWithin, ring_words, standing};
-ghost use Rattle.td_takes.specs.Takes.{Describes, IsMessageCode, IsMessageRoom, IsRoom, AreRooms, IsTake, RanRing, HasMessage, IsDescRoom, IfJudged, HasDone, frames_of, message_steps, take_steps, taken_after};
+ghost use Rattle.td_takes.specs.Codes.{IsMessageCode};
+ghost use Rattle.td_takes.specs.Takes.{Describes, IsMessageRoom, IsRoom, AreRooms, IsTake, RanRing, HasMessage, IsDescRoom, IfJudged, HasDone, frames_of, message_steps, take_steps, taken_after};
 ghost use Rattle.td_takes.specs.Kept.{IsKept};
 
 use crate::take::{Room, Take};

@@ -7,7 +7,8 @@ ghost use Rattle.td_posts.specs.declared.limits.TheConstants.{MOST_ENTRIES as mo
 ghost use Rattle.td_live.specs.Live.{HasLoaded};
 ghost use Rattle.td_descr.specs.Words.{load_of, raised};
 ghost use Rattle.td_descr.specs.Ring.{Answers, LiesWithin, standing, ring_words, desc_word, frame_outcome};
-ghost use Rattle.td_takes.specs.Takes.{IsMessageCode, IsMessage, IsMessageRoom, frames_of, message_layout, ring_layout};
+ghost use Rattle.td_takes.specs.Codes.{IsMessageCode};
+ghost use Rattle.td_takes.specs.Takes.{IsMessage, IsMessageRoom, frames_of, message_layout, ring_layout};
 
 use td_core::outcome::{TraceFrame, Verdict};
 use td_descr::{Descr, Next};

@@ -12,9 +12,10 @@ use Rattle.td_swap.specs.Views.{publisher_view, new_view, AreVersions}
 use Rattle.td_swap.specs.Seats.{PublishState, SwapState, publish_state}
 use Rattle.td_actors.specs.Replies.{IsJobCode, JobCode}
 use Rattle.td_actors.specs.Actors.{service_at}
-use Rattle.td_host.specs.Gathered.{IsAt, seats_all, puts_all, takes_all, draws_all, swaps_all, all_replies}
+use Rattle.td_host.specs.Gathered.{IsAt, seats_all, puts_all, takes_all, draws_all, swaps_all, all_replies, takes_of_all, IsDescribedBy}
 use Rattle.td_host.proofs.Serves.{lent, ready, all_ready, at_all, parted, one_end, same_publisher}
-use Rattle.td_host.proofs.Wholes.{halves, found_few, taken, same_names, served_versions, no_versions}
+use Rattle.td_host.specs.Hosts.{takes_in}
+use Rattle.td_host.proofs.Wholes.{ahead, halves, found_few, made_few, taken, same_names, served_versions, no_versions}
 use Rattle.td_host.proofs.serve.serve_all.Goals as goal
 
 pub run_all-requires-clause-ready : goal.run_all-requires-clause-ready
@@ -82,6 +83,28 @@ gather_all-requires-clause-room g c =
     room_for : (found new most room lent : ℕ) → found ≡ 0 → new ≤ most → most ≤ room → lent ≡ new → found + lent ≤ room
     room_for found new most room lent a b c e = omega arith
 
+pub gather_all-requires-clause-take_room : goal.gather_all-requires-clause-take_room
+gather_all-requires-clause-take_room g c =
+    let d = c.args.desk.now in
+    let crew = c.args.crew in
+    let k = crew.heads in
+    let r = c.requires.crew in
+    let names = g.J.Naming.names in
+    let olds = r.actors in
+    let all = c.run_all.new.actors in
+    let w = lent crew.actors.len all crew.actors.items (c.run_all.auto.actors ∙ c.as_mut_slice.ensures.len) in
+    let x = parted d.job d.mails.items olds c.as_mut_slice.result.now all r.publisher (c.as_mut_slice.ensures.value ∙ r.are) c.run_all.auto.actors c.run_all.ensures in
+    let news = x.news in
+    let end = one_end x.news c.take_publisher-publisher.new.actors.items _ _ (sym (w ∙ x.are) ∙ c.take_publisher-publisher.ensures) in
+    let v = sym end.0 in
+    let h = halves names d.shared d.ring (service_at d) d.job d.mails.items k.seat k.posts k.takes k.drawer olds news r.armed x.did in
+    let few = made_few names d.shared d.ring (service_at d) d.job d.mails.items k.seat k.posts k.takes k.drawer olds news h in
+    let none : length crew.takes.items ≡ 0 = ap length r.no_take in
+    room_for (length crew.takes.items) (length (takes_of_all news)) (takes_in d.job.rings) (vec_capacity crew.takes) _ none few r.take_room (ap (λ l. length (takes_of_all l)) v)
+  where
+    room_for : (made new all room lent : ℕ) → made ≡ 0 → new ≡ all → all ≤ room → lent ≡ new → made + lent ≤ room
+    room_for made new all room lent a b c e = omega arith
+
 pub put_in_order-requires-clause-each : goal.put_in_order-requires-clause-each
 put_in_order-requires-clause-each g c = λ f.
     let d = c.args.desk.now in
@@ -111,7 +134,7 @@ put_in_order-requires-clause-room g c = subst (λ (l : List Mail). length l ≤ 
 
 pub returns-clause-served : goal.returns-clause-served
 unfolding IsJobCode
-returns-clause-served g c =
+returns-clause-served g c m described =
     let d = c.args.desk.now in
     let crew = c.args.crew in
     let k = crew.heads in
@@ -141,8 +164,10 @@ returns-clause-served g c =
     let code : JobCode d.codes.codes d.job = c.requires.code in
     let numbers = ap (λ (s : SwapState). s.view) e.swap ∙ (ap (λ (s : SwapState). swaps_all s.view c.take_publisher-publisher.new.actors.items) r.is_swap ∙ ap (swaps_all (new_view n)) v) in
     let publisher = sym (same_publisher x.publisher c.take_publisher-publisher.result end.1) ∙ (x.ran ∙ ap (λ (s : PublishState). publish_state s.table (publisher_view s.view.count (s.view.count - 1))) r.is_publisher) in
-    served_versions names d.shared d.ring (service_at d) d.job d.mails.items k.seat k.posts k.takes k.drawer olds news h perm c.requires.mails c.settle.new.pass.view v_is c.learn.new.host.view k_is fetched c.learn.ensures.told.0 told c.of.result named order
-    n code.as_many c.gather_all.new.swap.view numbers e.versions c.take_publisher-publisher.result.view (ap (λ (s : PublishState). s.view) publisher)
+    let by = ahead (IsDescribedBy m) olds _ (subst (All (IsDescribedBy m)) r.are described) in
+    let made : c.of-2.result ≡ takes_of_all news = c.of-2.ensures ∙ (e.made ∙ (λ i. r.no_take i ++ takes_of_all (v i))) in
+    served_versions names d.shared d.ring (service_at d) d.job d.mails.items k.seat k.posts k.takes k.drawer olds news h m by perm c.requires.mails c.settle.new.pass.view v_is c.learn.new.host.view k_is fetched c.learn.ensures.told.0 told c.of.result named order
+    n code.as_many c.gather_all.new.swap.view numbers e.versions c.take_publisher-publisher.result.view (ap (λ (s : PublishState). s.view) publisher) c.of-2.result made
 
 pub returns-clause-own : goal.returns-clause-own
 returns-clause-own g c =

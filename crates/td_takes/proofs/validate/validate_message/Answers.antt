@@ -1,13 +1,12 @@
-use Rattle.std.proofs.Common.{ℕ, ◌<◌, ◌^◌, List, length, sym, ap, ◌∙◌, subst, arith}
+use Rattle.std.proofs.Common.{ℕ, ◌<◌, ◌^◌, List, [], length, sym, ap, ◌∙◌, subst, arith}
 use Rattle.std.specs.Prelude.{slice_index_or}
 use Rattle.std.proofs.lemmas.Option.{slice_get_within}
 use Rattle.td_core.specs.declared.module.Entry.{Entry}
 use Rattle.td_stream.specs.Room.{LoadsView}
 use Rattle.td_posts.specs.Posts.{zeros}
-use Rattle.td_expr.specs.Sound.{Sound}
 use Rattle.td_ir.specs.Entries.{Fits}
-use Rattle.td_meaning.specs.Throughout.{Throughout}
-use Rattle.td_takes.specs.Takes.{MessageCode, IsMessageCode}
+use Rattle.td_meaning.specs.Copies.{IsSoundOn}
+use Rattle.td_takes.specs.Codes.{IsCodeAt, IsMessageCode}
 use Rattle.td_takes.proofs.Messages.{message_by, entry_at}
 use Rattle.td_takes.proofs.validate.validate_message.Goals as goal
 
@@ -19,8 +18,8 @@ pub bounds-entries-0 : goal.bounds-entries-0
 unfolding IsMessageCode
 bounds-entries-0 c =
     let job = c.args.job.now in
-    let code : MessageCode c.args.code.now job = c.requires.code in
-    let inside = slice_get_within job.entries 0 code.entry code.version.1 in
+    let code : (entry : Entry) × IsCodeAt c.args.code.now job 0 entry = c.requires.code in
+    let inside = slice_get_within job.entries 0 code.0 code.1.version.1 in
     let same = ap length c.as_slice-entries.ensures in
     omega (arith, inside, same)
 
@@ -28,8 +27,8 @@ pub set_cells-requires : goal.set_cells-requires
 unfolding IsMessageCode
 set_cells-requires c =
     let job = c.args.job.now in
-    let code : MessageCode c.args.code.now job = c.requires.code in
-    let less = c.fitting_cells_have_room.ensures c.args.code.now code.entry job.args (zeros job.cells) code.fits in
+    let code : (entry : Entry) × IsCodeAt c.args.code.now job 0 entry = c.requires.code in
+    let less = c.fitting_cells_have_room.ensures c.args.code.now code.0 job.args (zeros job.cells) code.1.can.fits in
     let long = ap length (c.as_slice.ensures.value ∙ c.requires.room.1) in
     omega (arith, less, long, c.requires.armed.cell_room)
 
@@ -37,26 +36,26 @@ pub validate_slot-verdict-requires-clause-fits : goal.validate_slot-verdict-requ
 unfolding IsMessageCode
 validate_slot-verdict-requires-clause-fits c =
     let job = c.args.job.now in
-    let code : MessageCode c.args.code.now job = c.requires.code in
+    let code : (entry : Entry) × IsCodeAt c.args.code.now job 0 entry = c.requires.code in
     let zero = c.set_cells.ensures.cells ∙ (c.as_slice.ensures.value ∙ c.requires.room.1) in
-    let begins = entry_at job.entries c.as_slice-entries.result.now 0 code.entry none c.as_slice-entries.ensures code.version.1 in
-    subst (λ (x : List ℕ × List ℕ × Entry). Fits c.args.code.now x.2 x.0 x.1) (λ i. (sym c.as_slice-args.ensures i, sym zero i, sym begins i)) code.fits
+    let begins = entry_at job.entries c.as_slice-entries.result.now 0 code.0 none c.as_slice-entries.ensures code.1.version.1 in
+    subst (λ (x : List ℕ × List ℕ × Entry). Fits c.args.code.now x.2 x.0 x.1) (λ i. (sym c.as_slice-args.ensures i, sym zero i, sym begins i)) code.1.can.fits
 
 pub returns-clause-message : goal.returns-clause-message
 unfolding IsMessageCode
 returns-clause-message c =
     let job = c.args.job.now in
-    let code : MessageCode c.args.code.now job = c.requires.code in
+    let code : (entry : Entry) × IsCodeAt c.args.code.now job 0 entry = c.requires.code in
     let v = c.validate_slot-verdict in
     let zero = c.set_cells.ensures.cells ∙ (c.as_slice.ensures.value ∙ c.requires.room.1) in
     let used : Entry = slice_index_or c.as_slice-entries.result.now 0 none in
-    let begins = entry_at job.entries c.as_slice-entries.result.now 0 code.entry none c.as_slice-entries.ensures code.version.1 in
-    message_by job code.format code.entry used c.args.place c.args.size c.reply_of.result c.one-layout.result v.new.loads.list c.as_slice-args.result.now c.set_cells.new.self.cells
-    (record { verdict = v.result; trace = v.new.frame.trace; cells = v.new.frame.cells })
-    code.version begins c.reply_of.ensures.guest c.reply_of.ensures.version c.reply_of.ensures.layout c.one-layout.ensures (ap (λ (l : LoadsView). l.list) c.reply_of.ensures.loads) c.reply_of.ensures.outcome c.as_slice-args.ensures zero
+    let begins = entry_at job.entries c.as_slice-entries.result.now 0 code.0 none c.as_slice-entries.ensures code.1.version.1 in
+    message_by job code.1.format code.0 used c.args.place c.args.size c.reply_of.result c.one-layout.result v.new.loads.list c.as_slice-args.result.now c.set_cells.new.self.cells
+    (record { verdict = v.result; trace = v.new.frame.trace; cells = v.new.frame.cells; copies = [] })
+    code.1.version begins c.reply_of.ensures.guest c.reply_of.ensures.version c.reply_of.ensures.layout c.one-layout.ensures (ap (λ (l : LoadsView). l.list) c.reply_of.ensures.loads) c.reply_of.ensures.outcome c.as_slice-args.ensures zero
     v.ensures.rising v.ensures.within
     (λ b bytes h.
     let size = h.size in
     let small : length b < 2 ^ 32 = omega (arith, size, c.message_is_short.ensures) in
-    v.ensures.behavior code.format b code.code h
-    (subst (λ (x : List ℕ × List ℕ × Entry). Throughout Sound code.format x.2 x.0 x.1 b) (λ i. (sym c.as_slice-args.ensures i, sym zero i, sym begins i)) (code.sound b bytes small)))
+    v.ensures.behavior code.1.format b code.1.can.code h
+    (subst (λ (x : List ℕ × List ℕ × Entry). IsSoundOn code.1.format x.2 x.0 x.1 b) (λ i. (sym c.as_slice-args.ensures i, sym zero i, sym begins i)) (code.1.can.sound b bytes small)))

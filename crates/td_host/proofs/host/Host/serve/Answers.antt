@@ -1,0 +1,11 @@
+use Rattle.std.proofs.Common.{rules, ◌≡◌, Some}
+use Rattle.std.specs.List.{All}
+use Rattle.td_host.specs.Gathered.{IsDescribedBy}
+use Rattle.td_host.proofs.Hosting.{there}
+use Rattle.td_host.proofs.host.Host.serve.Goals as goal
+
+pub returns-clause-served : goal.returns-clause-served
+returns-clause-served g c m described =
+    let e = c.serve_all-finished.ensures in
+    let is : c.args.self.now.crew ≡ Some c.in-Some.crew = search rules in
+    (e.own.0, e.own.1, e.versions_own.0, e.versions_own.1, e.served m (there (λ k. All (IsDescribedBy m) k.actors.items) c.args.self.now.crew c.in-Some.crew is described))

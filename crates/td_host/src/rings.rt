@@ -1,0 +1,146 @@
+//! Makes the takers of a job's rings, and takes all room for their takes.
+
+ghost use Rattle.std.specs.Prelude.{◌≡◌, ◌*◌, ◌<◌, ◌≤◌, [], length, vec_capacity, IfOk, OnOk};
+ghost use Rattle.std.specs.List.{All};
+ghost use Rattle.td_posts.specs.Servable.{IsRingWithin};
+ghost use Rattle.td_posts.specs.declared.limits.TheConstants.{MOST_RINGS, MOST_TAKES};
+ghost use Rattle.td_takes.specs.Takes.{IsRoom, AreRooms};
+ghost use Rattle.td_actors.specs.Actors.{service_at, IsTakerReady};
+ghost use Rattle.td_host.specs.Hosts.{takes_in};
+ghost use Rattle.td_host.specs.Gathered.{host_at, TakersSeated, IsReaderOf, AreReadersOf};
+
+use crate::arm::room_for;
+use crate::gather::Heads;
+use std::alloc::{AllocError, Global};
+use std::collections::VecDeque;
+use td_actors::actor::{Actor, Desk, Taker};
+use td_descr::Descr;
+use td_posts::job::HostJob;
+use td_posts::name::PostName;
+use td_posts::ring::RingJob;
+use td_ring::naming::Naming;
+use td_takes::{Room, Take};
+use td_vm::validate::Frame;
+use td_words::seats::ReadSeat;
+
+/// The cells of a descriptor: its message's place and size, and the guest's number for it.
+const DESC_CELLS: u32 = 3;
+/// The words of a descriptor.
+const DESC_WORDS: u32 = 2;
+
+/// Room for the two replies of one take from a ring, whose failures have so many frames at most.
+fn take_room(
+    alloc: Global,
+    job: &HostJob,
+    frames: usize,
+    desc_frames: usize,
+    ring: RingJob,
+) -> Result<Room, AllocError>
+    ensures { IfOk result (λ r. IsRoom job.now frames desc_frames ring.most r) }
+{
+    let nobody = PostName {
+        guest: 0,
+        number: 0,
+    };
+    let descr = room_for(alloc, DESC_CELLS, desc_frames, nobody, DESC_WORDS)?;
+    let message = room_for(alloc, job.cells, frames, nobody, ring.most / 8 + 2)?;
+    Ok(Room { descr, message })
+}
+
+/// Room for each take from a ring.
+fn take_rooms(
+    alloc: Global,
+    job: &HostJob,
+    frames: usize,
+    desc_frames: usize,
+    ring: RingJob,
+) -> Result<VecDeque<Room>, AllocError>
+    ensures rooms { IfOk result (λ rooms. AreRooms job.now frames desc_frames ring.most rooms.items) }
+    ensures as_many { IfOk result (λ rooms. length rooms.items ≡ ring.takes) }
+{
+    let mut rooms = VecDeque::new(alloc);
+    for _take in 0..ring.takes {
+        rooms.push_back(take_room(alloc, job, frames, desc_frames, ring)?)?;
+    }
+    Ok(rooms)
+}
+
+/// The taker of a ring, from this seat, with room for all takes.
+fn taker_for<J: Naming>(
+    alloc: Global,
+    desk: &Desk<J>,
+    number: u32,
+    ring: RingJob,
+    descr: Descr,
+    seat: ReadSeat,
+) -> Result<Taker, AllocError>
+    requires own { seat.table ≡ desk.now.shared.table }
+    requires count { desk.now.shared.count ≡ length desk.now.job.words }
+    requires within { IsRingWithin (length desk.now.job.words) ring }
+    requires reader { IsReaderOf (8 * length desk.now.job.words) ring descr }
+    requires some { 0 < length desk.now.codes.codes }
+    ensures number { IfOk result (λ t. t.number ≡ number) }
+    ensures ring { IfOk result (λ t. t.ring ≡ ring) }
+    ensures descr { IfOk result (λ t. t.descr ≡ descr) }
+    ensures seat { IfOk result (λ t. t.seat ≡ seat) }
+    ensures ready { IfOk result (λ t. IsTakerReady desk.now.shared desk.now.codes.codes desk.now.job t) }
+{
+    let versions = desk.codes.versions();
+    let frame = Frame::arm(alloc, &versions[0].code)?;
+    let desc_frames = descr.frame().trace_room();
+    let rooms = take_rooms(alloc, &desk.job, frame.trace_room(), desc_frames, ring)?;
+    let takes = Vec::with_capacity(alloc, ring.takes as usize)?;
+    Ok(Taker {
+        number,
+        ring,
+        descr,
+        seat,
+        frame,
+        rooms,
+        takes,
+    })
+}
+
+/// Makes a taker for each ring, with its reader.
+pub(crate) fn seat_takers<J: Naming, G: Drop>(
+    alloc: Global,
+    desk: &Desk<J>,
+    heads: &mut Heads,
+    descrs: Vec<Descr>,
+    actors: &mut Vec<Actor<G>>,
+) -> Result<(), AllocError>
+    requires seat { heads.old.seat ≡ host_at desk.now.shared.table desk.now.job.words (length actors.old.items) }
+    requires count { desk.now.shared.count ≡ length desk.now.job.words }
+    requires within { All (IsRingWithin (length desk.now.job.words)) desk.now.job.rings }
+    requires few { length desk.now.job.rings ≤ MOST_RINGS }
+    requires readers { AreReadersOf (8 * length desk.now.job.words) desk.now.job.rings descrs.items }
+    requires some { 0 < length desk.now.codes.codes }
+    ensures seated { OnOk result (TakersSeated desk.now.shared (service_at desk.now) desk.now.job descrs.items actors.old.items heads.new.seat actors.new.items) }
+    ensures posts { OnOk result (heads.new.posts ≡ heads.old.posts) }
+    ensures takes { OnOk result (heads.new.takes ≡ heads.old.takes) }
+    ensures drawer { OnOk result (heads.new.drawer ≡ heads.old.drawer) }
+{
+    let mut n = 0;
+    for descr in descrs {
+        let ring = desk.job.rings.as_slice()[n];
+        n += 1;
+        let seat = desk.shared.split_reader(&mut heads.seat);
+        let taker = taker_for(alloc, desk, n as u32, ring, descr, seat)?;
+        actors.push(Actor::Ring(taker))?;
+    }
+    Ok(())
+}
+
+/// Room for all takes from these rings.
+pub(crate) fn takes_for(alloc: Global, rings: &[RingJob]) -> Result<Vec<Take>, AllocError>
+    requires few { length rings.now ≤ MOST_RINGS }
+    requires short { All (λ r. r.takes ≤ MOST_TAKES) rings.now }
+    ensures none { IfOk result (λ takes. takes.items ≡ []) }
+    ensures room { IfOk result (λ takes. takes_in rings.now ≤ vec_capacity takes) }
+{
+    let mut count = 0;
+    for ring in rings {
+        count += ring.takes as usize;
+    }
+    Vec::with_capacity(alloc, count)
+}

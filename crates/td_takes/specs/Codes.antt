@@ -1,0 +1,31 @@
+-- Which code does the validations of a host job, under one of its versions (own rule).
+use Rattle.std.specs.Prelude.{ℕ}
+use Rattle.td_core.specs.declared.module.Module.{Module}
+use Rattle.td_core.specs.declared.module.Entry.{Entry}
+use Rattle.td_meaning.specs.Copies.{IsSoundFrom}
+use Rattle.td_ir.specs.declared.tables.Parts.{Parts}
+use Rattle.td_ir.specs.Entries.{Fits}
+use Rattle.td_lowered.specs.CodeRun.{IsCodeOf}
+use Rattle.td_posts.specs.declared.job.HostJob.{HostJob}
+use Rattle.td_posts.specs.Posts.{IsVersion, zeros}
+
+-- whatever bytes a message of the job has, each expression that the meaning of this version evaluates lies in its type's range
+abbrev pub IsSoundVersion : HostJob → Module → Entry → Type 0
+IsSoundVersion job m entry = IsSoundFrom m entry job.args (zeros job.cells)
+
+-- the job can be done by this code under a version of this module and this entry point: it is the module's, and the job's
+-- arguments and cells of zeros fit the entry point
+pub record VersionCode (c : Parts) (job : HostJob) (m : Module) (entry : Entry) : Type 0 where
+  pub code : IsCodeOf c m
+  pub fits : Fits c entry job.args (zeros job.cells)
+  pub sound : IsSoundVersion job m entry
+
+-- this code and this entry point are those of the version of this number
+pub record IsCodeAt (c : Parts) (job : HostJob) (n : ℕ) (entry : Entry) : Type 0 where
+  pub format : Module
+  pub version : IsVersion job n format entry
+  pub can : VersionCode c job format entry
+
+-- this code does the validations of the messages that rings name: those under version 0
+unfoldable pub IsMessageCode : Parts → HostJob → Type 0
+IsMessageCode c job = (entry : Entry) × IsCodeAt c job 0 entry
