@@ -12,7 +12,8 @@ use Rattle.td_posts.specs.declared.job.Step.TheVariants.{Store}
 use Rattle.td_host_job.specs.declared.totals.Total.{Total}
 use Rattle.td_host_job.specs.Steps.{spelled_step, store_with, store_in, step_in, each_step}
 use Rattle.td_host_job.specs.Guests.{given_script, each_script}
-use Rattle.td_host_job.specs.Totals.{weight, total}
+use Rattle.td_host_job.specs.Rings.{given_ring, each_ring}
+use Rattle.td_host_job.specs.Totals.{weight, ring_weight}
 
 -- what one step counts
 alone : (what : Total) (s : Step) (n : ℕ) → n ≡ weight what s → n ≡ sum_by (weight what) (s ∷ [])
@@ -42,16 +43,29 @@ no_steps what values i h = at_drop_all (λ vs. sum_by (weight what) (each_step (
 
 -- what the scripts of the guests from a place on count
 abbrev pub guests_from : Total → List Value → ℕ → ℕ
-guests_from what values i = total what (each_script (items_view (drop i values)))
+guests_from what values i = sum_by (sum_by (weight what)) (each_script (items_view (drop i values)))
 
 pub one_guest : (what : Total) (values : List Value) (i : ℕ) (d : Value) → i < length values
     → guests_from what values i ≡ sum_by (weight what) (given_script (view (get_or values i d))) + guests_from what values (i + 1)
 one_guest what values i d h =
-    at_drop_more (λ vs. total what (each_script (items_view vs))) values i d h
+    at_drop_more (λ vs. sum_by (sum_by (weight what)) (each_script (items_view vs))) values i d h
     ∙ sum_by-cons (sum_by (weight what)) (given_script (view (get_or values i d))) (each_script (items_view (drop (i + 1) values)))
 
 pub no_guests : (what : Total) (values : List Value) (i : ℕ) → length values ≤ i → guests_from what values i ≡ 0
-no_guests what values i h = at_drop_all (λ vs. total what (each_script (items_view vs))) values i h
+no_guests what values i h = at_drop_all (λ vs. sum_by (sum_by (weight what)) (each_script (items_view vs))) values i h
+
+-- what the rings from a place on count
+abbrev pub rings_from : Total → List Value → ℕ → ℕ
+rings_from what values i = sum_by (ring_weight what) (each_ring (items_view (drop i values)))
+
+pub one_ring : (what : Total) (values : List Value) (i : ℕ) (d : Value) → i < length values
+    → rings_from what values i ≡ ring_weight what (given_ring (view (get_or values i d))) + rings_from what values (i + 1)
+one_ring what values i d h =
+    at_drop_more (λ vs. sum_by (ring_weight what) (each_ring (items_view vs))) values i d h
+    ∙ sum_by-cons (ring_weight what) (given_ring (view (get_or values i d))) (each_ring (items_view (drop (i + 1) values)))
+
+pub no_rings : (what : Total) (values : List Value) (i : ℕ) → length values ≤ i → rings_from what values i ≡ 0
+no_rings what values i h = at_drop_all (λ vs. sum_by (ring_weight what) (each_ring (items_view vs))) values i h
 
 -- one more part of a sum that stops at the most
 pub one_more : (most sum after one rest whole : ℕ) → after ≡ min (sum + one) most → whole ≡ one + rest → min (after + rest) most ≡ min (sum + whole) most

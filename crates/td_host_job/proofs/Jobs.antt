@@ -18,7 +18,9 @@ use Rattle.td_job.proofs.Unique.{one_entry, one_entry_fault, one_first, one_valu
 use Rattle.td_job.proofs.Unique.{entry_or_fault as never_both_entry}
 use Rattle.td_posts.specs.declared.job.HostJob.{HostJob}
 use Rattle.td_posts.specs.declared.job.Step.{Step}
+use Rattle.td_posts.specs.declared.ring.RingJob.{RingJob}
 use Rattle.td_host_job.specs.Guests.{workers_faults, given_guests}
+use Rattle.td_host_job.specs.Rings.{given_rings}
 use Rattle.td_host_job.specs.Swaps.{given_swaps}
 use Rattle.td_host_job.specs.HostJobs.{given_buffer, buffer_words, before_faults, after_faults, AreSwapsOf, LaterFault, FirstFault, IsHost, IsHostJob, RefusedHostJob}
 use Rattle.td_host_job.proofs.Swapping.{Texts, one_versions, fault_or_versions, one_swap_fault, versions_or_fault}
@@ -41,9 +43,11 @@ module _ (texts : Texts) where
       let wb = hb.worked in
       let workers : a.workers ≡ b.workers = cc in
       let guests = ha.scripted ∙ sym hb.scripted in
-      let make : List Module → List Entry → List ℕ → ℕ → List ℕ → ℕ → List (List Step) → HostJob =
-      λ formats entries args cells words workers guests. record { formats = formats; entries = entries; args = args; cells = cells; words = words; workers = workers; guests = guests } in
-      λ i. make (formats i) (entries i) (args i) (cells i) (words i) (workers i) (guests i)
+      let rings = ha.looked_at ∙ sym hb.looked_at in
+      let make : List Module → List Entry → List ℕ → ℕ → List ℕ → ℕ → List (List Step) → List RingJob → HostJob =
+      λ formats entries args cells words workers guests rings.
+      record { formats = formats; entries = entries; args = args; cells = cells; words = words; workers = workers; guests = guests; rings = rings } in
+      λ i. make (formats i) (entries i) (args i) (cells i) (words i) (workers i) (guests i) (rings i)
 
   pub one_host_job : (bytes : List ℕ) (m : Module) (a b : HostJob) → IsHostJob bytes m a → IsHostJob bytes m b → a ≡ b
   one_host_job bytes m a b ha hb =
@@ -114,11 +118,21 @@ faultless_job : (m : Module) (job : Data) (entry : Entry) (fs : List Module) (gs
 faultless_job m job entry fs gs named before swaps after =
     let d = entry_definition m entry.number in
     let list = both_empty _ _ before in
-    let guests = both_empty _ _ list.0 in
+    let rings = both_empty _ _ list.0 in
+    let guests = both_empty _ _ rings.0 in
     let workers = both_empty _ _ guests.0 in
     let number = has_workers _ workers.1 in
     let words = filled (given_buffer job) (buffer_words job) (spelled_small (text_of key.Buffer job)) in (
-      record { formats = m ∷ fs; entries = entry ∷ gs; args = given_args d job; cells = length (cells_bounds d); words = words.0; workers = number.0; guests = given_guests job },
+      record {
+        formats = m ∷ fs;
+        entries = entry ∷ gs;
+        args = given_args d job;
+        cells = length (cells_bounds d);
+        words = words.0;
+        workers = number.0;
+        guests = given_guests job;
+        rings = given_rings job;
+      },
       record {
         entry = entry;
         formats = fs;
@@ -134,6 +148,7 @@ faultless_job m job entry fs gs named before swaps after =
         filled = words.1;
         worked = number.1;
         scripted = refl;
+        looked_at = refl;
       },
     )
 

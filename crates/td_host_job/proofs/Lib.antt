@@ -5,6 +5,7 @@ pub mod Elements
 pub mod Jobs
 pub mod Looping
 pub mod Naming
+pub mod Placed
 pub mod Rows
 pub mod Serving
 pub mod Scattering

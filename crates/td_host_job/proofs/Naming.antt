@@ -18,11 +18,12 @@ use Rattle.td_job.specs.Values.{args_bounds, args_faults}
 use Rattle.td_job.specs.Jobs.{bytes_faults, first_unknown, unknown_faults}
 use Rattle.td_job.proofs.Numbers.{both_empty, first_of_more}
 use Rattle.td_host_job.specs.Guests.{BeginsWithName, each_guest_faults, guest_faults, guests_faults, listed_in, object_faults, script_faults, workers_faults}
+use Rattle.td_host_job.specs.Rings.{ring_keys, fields_faults, ring_faults_by, ring_faults, each_ring_faults, rings_faults}
 use Rattle.td_host_job.specs.Swaps.{swaps_faults}
 use Rattle.td_host_job.specs.HostJobs.{buffer_words, HasGoodFields, before_faults, FirstFault, rest_faults}
 
 -- a name that is found has a fault of its own
-pub name_first : (place : List ℕ → Path) (found : Option (List ℕ)) → ((name : List ℕ) → (place name ≡ path.Unknown name) ⊎ ((guest : ℕ) × (place name ≡ path.UnknownOf guest name)))
+pub name_first : (place : List ℕ → Path) (found : Option (List ℕ)) → ((name : List ℕ) → (place name ≡ path.Unknown name) ⊎ ((i : ℕ) × ((place name ≡ path.UnknownOf i name) ⊎ (place name ≡ path.UnknownOfRing i name))))
     → IsSomeAnd found (λ (name : List ℕ). 0 < length name) → BeginsWithName (unknown_faults place found)
 name_first place None names h = absurd h
 name_first place (Some name) names h = record { name = name; some = h; place = place name; names = names name; first = record { others = []; is = refl } }
@@ -31,7 +32,10 @@ pub name_of_job : (found : Option (List ℕ)) → IsSomeAnd found (λ (name : Li
 name_of_job found h = name_first path.Unknown found (λ name. inl refl) h
 
 pub name_of_guest : (guest : ℕ) (found : Option (List ℕ)) → IsSomeAnd found (λ (name : List ℕ). 0 < length name) → BeginsWithName (unknown_faults (path.UnknownOf guest) found)
-name_of_guest guest found h = name_first (path.UnknownOf guest) found (λ name. inr (guest, refl)) h
+name_of_guest guest found h = name_first (path.UnknownOf guest) found (λ name. inr (guest, inl refl)) h
+
+pub name_of_ring : (ring : ℕ) (found : Option (List ℕ)) → IsSomeAnd found (λ (name : List ℕ). 0 < length name) → BeginsWithName (unknown_faults (path.UnknownOfRing ring) found)
+name_of_ring ring found h = name_first (path.UnknownOfRing ring) found (λ name. inr (ring, inr refl)) h
 
 -- the error that a call hands on
 pub handed : {T : Type 0} (r : Result T JobError) (e : JobError) → IsErrAnd r (λ (x : JobError). x ≡ e) → r ≡ Err NoMemory → e ≡ NoMemory
@@ -57,6 +61,12 @@ pub guest_named : (words guest : ℕ) (value : Data) (members : Option Members) 
 guest_named words guest value None script h = absurd h
 guest_named words guest value (Some ms) script h = name_after _ _ script (name_of_guest guest (first_unknown (key.Script ∷ []) (Some ms)) h)
 
+-- a ring whose fields have no fault
+pub ring_named : (words ring : ℕ) (value : Data) (members : Option Members) → fields_faults ring value ≡ []
+    → IsSomeAnd (first_unknown ring_keys members) (λ (name : List ℕ). 0 < length name) → BeginsWithName (ring_faults_by words ring value members)
+ring_named words ring value None fields h = absurd h
+ring_named words ring value (Some ms) fields h = name_before _ _ (name_after _ _ fields (name_of_ring ring (first_unknown ring_keys (Some ms)) h))
+
 -- the script of a guest without a fault has none
 pub script_tested : (words guest : ℕ) (value : Data) (members : Option Members) → object_faults words guest value members ≡ [] → script_faults words guest (listed_in key.Script value) ≡ []
 script_tested words guest value None h = absurd (cc)
@@ -67,18 +77,23 @@ pub at_guest : (words : ℕ) (values : List Value) (i : ℕ) (d : Value) → i <
     → each_guest_faults words i (items_view (drop i values)) ≡ guest_faults words i (view (get_or values i d)) ++ each_guest_faults words (i + 1) (items_view (drop (i + 1) values))
 at_guest words values i d h = at_drop_more (λ vs. each_guest_faults words i (items_view vs)) values i d h
 
+-- the ring at a place, and those after it
+pub at_ring : (words : ℕ) (values : List Value) (i : ℕ) (d : Value) → i < length values
+    → each_ring_faults words i (items_view (drop i values)) ≡ ring_faults words i (view (get_or values i d)) ++ each_ring_faults words (i + 1) (items_view (drop (i + 1) values))
+at_ring words values i d h = at_drop_more (λ vs. each_ring_faults words i (items_view vs)) values i d h
+
 pub both_none : {a b : List JobError} → a ≡ [] → b ≡ [] → a ++ b ≡ []
 both_none ha hb = rw (ha, hb) refl
 
-last_of : (a b c d e : List JobError) → a ≡ [] → b ≡ [] → c ≡ [] → a ++ b ++ c ++ d ++ e ≡ d ++ e
-last_of a b c d e ha hb hc = rw (ha, hb, hc) refl
+last_of : (a b c d e f : List JobError) → a ≡ [] → b ≡ [] → c ≡ [] → a ++ b ++ c ++ d ++ e ++ f ≡ d ++ e ++ f
+last_of a b c d e f ha hb hc = rw (ha, hb, hc) refl
 
 module _ (m : Module) (job : Data) (entry : Entry) (good : HasGoodFields m job entry) where
   -- after good fields the faults are the others
   rest_alone : before_faults (entry_definition m entry.number) job ≡ rest_faults (buffer_words job) job
   rest_alone =
       last_of (args_faults (args_bounds (entry_definition m entry.number)) (field_of key.Args job)) (bytes_faults key.Buffer (text_of key.Buffer job)) (workers_faults (number_of key.Workers job))
-      (guests_faults (buffer_words job) (listed_in key.Guests job)) (swaps_faults (field_of key.Swaps job))
+      (guests_faults (buffer_words job) (listed_in key.Guests job)) (rings_faults (buffer_words job) (field_of key.Rings job)) (swaps_faults (field_of key.Swaps job))
       good.args good.buffer good.workers
 
   pub first_of_rest : (e : JobError) → IsFirst (rest_faults (buffer_words job) job) e → FirstFault m job e

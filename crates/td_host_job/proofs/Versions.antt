@@ -77,7 +77,8 @@ values_of_first : (m : Module) (job : Data) (j : HostJob) → (h : IsHost m job 
 values_of_first m job j h =
     let d = entry_definition m h.entry.number in
     let list = both_empty _ _ h.before in
-    let guests = both_empty _ _ list.0 in
+    let rings = both_empty _ _ list.0 in
+    let guests = both_empty _ _ rings.0 in
     let workers = both_empty _ _ guests.0 in
     let lists = both_empty _ _ workers.0 in
     record {

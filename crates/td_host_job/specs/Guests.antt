@@ -68,11 +68,11 @@ listed_scripts (Some values) = each_script values
 abbrev pub given_guests : Data → List (List Step)
 given_guests job = listed_scripts (listed_in key.Guests job)
 
--- the first of these faults is a field of another name, of the job or of a guest: its line names it, so the name's bytes
+-- the first of these faults is a field of another name, of the job, of a guest or of a ring: its line names it, so the name's bytes
 -- are copied
 pub record BeginsWithName (faults : List JobError) : Type 0 where
   pub name : List ℕ
   pub some : 0 < length name
   pub place : Path
-  pub names : (place ≡ path.Unknown name) ⊎ ((guest : ℕ) × (place ≡ path.UnknownOf guest name))
+  pub names : (place ≡ path.Unknown name) ⊎ ((i : ℕ) × ((place ≡ path.UnknownOf i name) ⊎ (place ≡ path.UnknownOfRing i name)))
   pub first : IsFirst faults (Fault rule.Form place)

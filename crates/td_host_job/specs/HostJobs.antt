@@ -1,8 +1,8 @@
 -- What a host job is, and what is wrong with one (own rule).
 --
--- A host job is a JSON object with the fields `entry`, `args`, `buffer`, `workers`, `guests` and `swaps`. Its faults stand in that
--- order, each field looked at for all that can be wrong with it (a list first for its length, and then element by element),
--- then the fields of other names, and at last the totals `posts`, `stores` and `words` over all scripts; at one place the
+-- A host job is a JSON object with the fields `entry`, `args`, `buffer`, `workers`, `guests`, `rings` and `swaps`. Its faults stand in
+-- that order, each field looked at for all that can be wrong with it (a list first for its length, and then element by element),
+-- then the fields of other names, and at last the totals `posts`, `stores` and `words` over all scripts and rings; at one place the
 -- lower code stands first. The answer is the first fault. `entry` and `args` are those of a run job, and `buffer` is as its
 -- `bytes`.
 use Rattle.std.specs.Prelude.{◌≡◌, ℕ, ◌+◌, ◌<◌, ◌≤◌, ◌^◌, ◌⊎◌, List, [], ◌∷◌, ◌++◌, length, slice_get, Option, Some}
@@ -28,13 +28,14 @@ use Rattle.td_job.specs.Words.{IsFilled}
 use Rattle.td_job.specs.Jobs.{EntryFault, IsEntry, bytes_faults, spelled_bytes, first_unknown, unknown_faults}
 use Rattle.td_posts.specs.declared.job.HostJob.{HostJob}
 use Rattle.td_posts.specs.declared.mail.Mail.{Mail}
-use Rattle.td_posts.specs.declared.limits.TheConstants.{MOST_GUESTS, MOST_SWAPS, MOST_POSTS}
+use Rattle.td_posts.specs.declared.limits.TheConstants.{MOST_GUESTS, MOST_SWAPS, MOST_POSTS, MOST_RINGS}
 use Rattle.td_stream.specs.declared.layout.TheConstants.{MOST_STRETCHES}
 use Rattle.td_stream.specs.Layouts.{length_in}
 use Rattle.td_posts.specs.Posts.{IsVersion, words_in, layout_of}
-use Rattle.td_posts.specs.Servable.{job_mails}
+use Rattle.td_posts.specs.Servable.{job_mails, IsRingWithin}
 use Rattle.td_host_job.specs.Guests.{listed_in, workers_faults, guests_faults, given_guests, BeginsWithName}
 use Rattle.td_host_job.specs.Swaps.{swaps_faults, given_swaps, AreSwaps, FirstSwapFault, MayLackSwap}
+use Rattle.td_host_job.specs.Rings.{rings_faults, given_rings}
 use Rattle.td_host_job.specs.Totals.{totals_faults}
 
 -- the bytes of the buffer, and how many words they fill
@@ -46,7 +47,7 @@ buffer_words job = words_in (length (given_buffer job))
 
 -- the fields of a host job
 abbrev pub host_keys : List Key
-host_keys = key.Entry ∷ key.Args ∷ key.Buffer ∷ key.Workers ∷ key.Guests ∷ key.Swaps ∷ []
+host_keys = key.Entry ∷ key.Args ∷ key.Buffer ∷ key.Workers ∷ key.Guests ∷ key.Rings ∷ key.Swaps ∷ []
 
 -- the faults of a job after those of `entry`, whose definition this is, and before those of the elements of `swaps`
 abbrev pub before_faults : Option TypeDef → Data → List JobError
@@ -55,11 +56,12 @@ before_faults d job =
     ++ bytes_faults key.Buffer (text_of key.Buffer job)
     ++ workers_faults (number_of key.Workers job)
     ++ guests_faults (buffer_words job) (listed_in key.Guests job)
+    ++ rings_faults (buffer_words job) (field_of key.Rings job)
     ++ swaps_faults (field_of key.Swaps job)
 
 -- the faults after those of the elements of `swaps`
 abbrev pub after_faults : Data → List JobError
-after_faults job = unknown_faults path.Unknown (first_unknown host_keys (as_object job)) ++ totals_faults (given_guests job)
+after_faults job = unknown_faults path.Unknown (first_unknown host_keys (as_object job)) ++ totals_faults (given_guests job) (given_rings job)
 
 -- the elements of `swaps` stand for these modules and entry points, which may replace the module with this entry point
 abbrev pub AreSwapsOf : Module → Data → Entry → List Module → List Entry → Type 0
@@ -86,10 +88,10 @@ pub record HasGoodFields (m : Module) (job : Data) (entry : Entry) : Type 0 wher
 
 -- the faults after those fields and before the elements of `swaps`, with a buffer of so many words
 abbrev pub rest_faults : ℕ → Data → List JobError
-rest_faults words job = guests_faults words (listed_in key.Guests job) ++ swaps_faults (field_of key.Swaps job)
+rest_faults words job = guests_faults words (listed_in key.Guests job) ++ rings_faults words (field_of key.Rings job) ++ swaps_faults (field_of key.Swaps job)
 
 -- Memory may be lacking for a job whose first fields have no fault: where its buffer has too many words for any memory; where the
--- first fault of a guest is a field of another name, which is copied; where a swap's text is to be looked at; and where all up to the
+-- first fault of a guest or of a ring is a field of another name, which is copied; where a swap's text is to be looked at; and where all up to the
 -- swaps has no fault, and then there is none, or the first one is a field of another name.
 abbrev pub LacksRest : Module → Data → Entry → Type 0
 LacksRest m job entry =
@@ -120,6 +122,7 @@ pub record IsHost (m : Module) (job : Data) (j : HostJob) : Type 0 where
   pub filled : IsFilled (given_buffer job) (buffer_words job) j.words
   pub worked : number_of key.Workers job ≡ Some j.workers
   pub scripted : j.guests ≡ given_guests job
+  pub looked_at : j.rings ≡ given_rings job
 
 -- the host job that the bytes stand for
 abbrev pub IsHostJob : List ℕ → Module → HostJob → Type 0
@@ -156,11 +159,13 @@ pub record IsShort (mail : Mail) : Type 0 where
 abbrev pub HasShortMessages : HostJob → Type 0
 HasShortMessages j = All IsShort (job_mails j)
 
--- the entry point of each version is its own, with a value for each parameter; its messages are short, and its
--- versions, guests and posts few
+-- the entry point of each version is its own, with a value for each parameter; its messages are short, its versions, guests, posts and
+-- rings few, and each ring lies in the buffer and is within its limits
 pub record KeepsLimits (m : Module) (j : HostJob) : Type 0 where
   pub values : HasHostValues m j
   pub short : HasShortMessages j
   pub few_versions : length j.formats ≤ MOST_SWAPS + 1
   pub few_guests : length j.guests ≤ MOST_GUESTS
   pub few_posts : length (job_mails j) ≤ MOST_POSTS
+  pub few_rings : length j.rings ≤ MOST_RINGS
+  pub rings : All (IsRingWithin (length j.words)) j.rings

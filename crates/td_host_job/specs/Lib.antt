@@ -1,6 +1,7 @@
 pub mod Steps
 pub mod Scatter
 pub mod Guests
+pub mod Rings
 pub mod Totals
 pub mod Swaps
 pub mod HostJobs

@@ -1,5 +1,6 @@
--- The totals over a host job (own rule): at most 4,096 posts, 65,536 stores, and messages of 1,048,576 words in all (J8).
-use Rattle.std.specs.Prelude.{ℕ, List, ◌++◌, nat_lt}
+-- The totals over a host job (own rule): at most 4,096 posts, 65,536 stores, and messages of 1,048,576 words in all, those included
+-- that its rings' takes can have (J8).
+use Rattle.std.specs.Prelude.{ℕ, ◌+◌, List, ◌++◌, nat_lt}
 use Rattle.std.specs.List.{sum_by}
 use Rattle.td_job.specs.declared.error.Key.{Key}
 use Rattle.td_job.specs.declared.error.Key.TheVariants as key
@@ -10,8 +11,10 @@ use Rattle.td_job.specs.declared.error.Path.TheVariants as path
 use Rattle.td_job.specs.Fields.{fault_if}
 use Rattle.td_posts.specs.declared.job.Step.{Step}
 use Rattle.td_posts.specs.declared.job.Step.TheVariants.{Store, Post, Scatter}
+use Rattle.td_posts.specs.declared.ring.RingJob.{RingJob}
 use Rattle.td_posts.specs.declared.limits.TheConstants.{MOST_POSTS, MOST_STORES, MOST_MESSAGE_WORDS}
 use Rattle.td_posts.specs.Posts.{words_in}
+use Rattle.td_posts.specs.Servable.{ring_message_words}
 use Rattle.td_stream.specs.Layouts.{count_in}
 use Rattle.td_host_job.specs.declared.totals.Total.{Total}
 use Rattle.td_host_job.specs.declared.totals.Total.TheVariants.{Posts, Stores, Words}
@@ -38,12 +41,18 @@ key_of Posts = key.Posts
 key_of Stores = key.Stores
 key_of Words = key.Words
 
--- over the scripts of all guests
-abbrev pub total : Total → List (List Step) → ℕ
-total what guests = sum_by (sum_by (weight what)) guests
+-- by how much a ring counts: it has the words that the messages of its takes can have
+abbrev pub ring_weight : Total → RingJob → ℕ
+ring_weight Posts ring = 0
+ring_weight Stores ring = 0
+ring_weight Words ring = ring_message_words ring
 
-abbrev pub total_fault : Total → List (List Step) → List JobError
-total_fault what guests = fault_if (nat_lt (most_of what) (total what guests)) (Fault rule.Limit (path.Whole (key_of what)))
+-- over the scripts of all guests, and all rings
+abbrev pub total : Total → List (List Step) → List RingJob → ℕ
+total what guests rings = sum_by (sum_by (weight what)) guests + sum_by (ring_weight what) rings
 
-abbrev pub totals_faults : List (List Step) → List JobError
-totals_faults guests = total_fault Posts guests ++ total_fault Stores guests ++ total_fault Words guests
+abbrev pub total_fault : Total → List (List Step) → List RingJob → List JobError
+total_fault what guests rings = fault_if (nat_lt (most_of what) (total what guests rings)) (Fault rule.Limit (path.Whole (key_of what)))
+
+abbrev pub totals_faults : List (List Step) → List RingJob → List JobError
+totals_faults guests rings = total_fault Posts guests rings ++ total_fault Stores guests rings ++ total_fault Words guests rings

@@ -6,7 +6,8 @@ ghost use Rattle.td_job.specs.Fields.{IsFirst, number_of};
 ghost use Rattle.td_host_job.specs.Guests.{BeginsWithName};
 ghost use Rattle.td_host_job.specs.HostJobs.{buffer_words, FirstFault, HasGoodFields, rest_faults, after_faults};
 
-use crate::guests::{check_each_guest, listed, listed_guests, workers_of};
+use crate::guests::{check_each_guest, listed_guests, spelled_guests, workers_of};
+use crate::rings::{check_each_ring, listed_rings, spelled_rings};
 use crate::swaps::check_swap_list;
 use crate::totals::check_totals;
 use serde_json::Value;
@@ -23,6 +24,7 @@ const FIELDS: &[Key] = &[
     Key::Buffer,
     Key::Workers,
     Key::Guests,
+    Key::Rings,
     Key::Swaps,
 ];
 
@@ -42,9 +44,9 @@ pub(crate) fn check_first(job: &Value, m: &Module) -> Result<(Entry, usize, u32)
     Ok((entry, bytes.div_ceil(8), workers))
 }
 
-/// Tests a job for the faults after its first fields and before the elements of `swaps`, for a buffer of so many words: the guests, and
-/// the list of swaps; the first fault of these. `NoMemory`: that is a field of another name of a guest, and there was no memory for
-/// the name, which is all that takes any.
+/// Tests a job for the faults after its first fields and before the elements of `swaps`, for a buffer of so many words: the guests, the
+/// rings, and the list of swaps; the first fault of these. `NoMemory`: that is a field of another name of a guest or of a ring, and
+/// there was no memory for the name, which is all that takes any.
 pub(crate) fn check_rest(alloc: Global, job: &Value, words: u32) -> Result<(), JobError>
     ensures ok { OnOk result (rest_faults words (view job.now) ≡ []) }
     ensures err { IfErr result (λ e. (e ≡ JobError.NoMemory) ⊎ IsFirst (rest_faults words (view job.now)) e) }
@@ -52,6 +54,8 @@ pub(crate) fn check_rest(alloc: Global, job: &Value, words: u32) -> Result<(), J
 {
     let guests = listed_guests(job)?;
     check_each_guest(alloc, guests, words)?;
+    let rings = listed_rings(job)?;
+    check_each_ring(alloc, rings, words)?;
     check_swap_list(job)?;
     Ok(())
 }
@@ -64,8 +68,5 @@ pub(crate) fn check_after(alloc: Global, job: &Value) -> Result<(), JobError>
     ensures memory { result ≡ Err JobError.NoMemory → BeginsWithName (after_faults (view job.now)) }
 {
     check_names(alloc, job, FIELDS)?;
-    match listed(job, Key::Guests) {
-        None => Ok(()),
-        Some(guests) => check_totals(guests),
-    }
+    check_totals(spelled_guests(job), spelled_rings(job))
 }

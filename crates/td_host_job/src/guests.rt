@@ -151,6 +151,16 @@ pub(crate) fn listed_guests(job: &Value) -> Result<&[Value], JobError>
     }
 }
 
+/// The elements of `guests`; none where it is missing or no list.
+pub(crate) fn spelled_guests(job: &Value) -> &[Value]
+    ensures { given_guests (view job.now) ≡ each_script (items_view result.now) }
+{
+    match listed(job, Key::Guests) {
+        None => &[],
+        Some(values) => values,
+    }
+}
+
 /// The scripts of a job's guests, for a buffer of so many words. J2: `guests` is missing or no list. J8: it is empty, or
 /// has more than 16 elements. Else as the first guest that is at fault.
 pub(crate) fn guests_of(

@@ -1,6 +1,6 @@
 //! Host jobs.
 
-ghost use Rattle.std.specs.Prelude.{◌≡◌, [], ◌∷◌, ◌⊎◌, ◌<◌, ◌≤◌, ◌^◌, Err, Some, length, IfOk, IfErr, OnErr, MatchResult};
+ghost use Rattle.std.specs.Prelude.{◌≡◌, [], ◌∷◌, ◌⊎◌, ◌<◌, ◌≤◌, ◌*◌, ◌^◌, Err, Some, length, IfOk, IfErr, OnOk, OnErr, MatchResult};
 ghost use Rattle.serde_json.specs.View.{view};
 ghost use Rattle.td_posts.specs.Servable.{IsServable};
 ghost use Rattle.td_job.specs.Fields.{number_of};
@@ -8,6 +8,7 @@ ghost use Rattle.td_host_job.specs.HostJobs.{buffer_words, FirstFault, rest_faul
 
 use crate::fields::{check_after, check_first, check_rest};
 use crate::guests::guests_of;
+use crate::rings::rings_of;
 use crate::swaps::{Versions, swaps_of};
 use serde_json::Value;
 use std::alloc::{AllocError, Global};
@@ -20,6 +21,7 @@ use td_job::values::{cells_of, definition_of, params_of, values_of};
 use td_job::words::fill_words;
 use td_num::items::Items;
 use td_posts::job::HostJob;
+use td_posts::ring::RingJob;
 
 /// A count in 32 bits. `NoMemory`: it has more, so that what is counted finds no memory.
 fn count_of(count: usize) -> Result<u32, JobError>
@@ -34,8 +36,8 @@ fn count_of(count: usize) -> Result<u32, JobError>
 }
 
 /// Tests the fields of a job up to the elements of `swaps`, and gives its entry point, how many words its buffer has, and how many
-/// workers it has. J2 to J8: its first fault. `NoMemory`: that is a field of another name of a guest, and there was no memory for the
-/// name; or the buffer has 2^32 words or more. Takes no other memory.
+/// workers it has. J2 to J8: its first fault. `NoMemory`: that is a field of another name of a guest or of a ring, and there was no
+/// memory for the name; or the buffer has 2^32 words or more. Takes no other memory.
 fn check_fields(alloc: Global, job: &Value, m: &Module) -> Result<(Entry, u32, u32), JobError>
     ensures good { IfOk result (λ x. HasGoodFields m.now (view job.now) x.0) }
     ensures rest { IfOk result (λ x. rest_faults (buffer_words (view job.now)) (view job.now) ≡ []) }
@@ -105,6 +107,22 @@ fn entries_of(alloc: Global, entry: Entry, swaps: Vec<Entry>) -> Result<Items<En
     Ok(Items::of(entries))
 }
 
+/// How many words a buffer has with rings in it, at which its bytes are more than a number of 32 bits counts.
+const RINGS_WORDS: u32 = 1 << 29;
+
+/// Tests that a ring's reader can count the bytes of a buffer of so many words. `NoMemory`: it can't, so there is a ring, and for such a
+/// buffer no memory.
+fn check_bytes(rings: &Items<RingJob>, words: u32) -> Result<(), JobError>
+    ensures ok { OnOk result (0 < length rings.now → 8 * words < 2 ^ 32) }
+    ensures err { IfErr result (λ e. e ≡ JobError.NoMemory) }
+{
+    if rings.as_slice().is_empty() || words < RINGS_WORDS {
+        Ok(())
+    } else {
+        Err(JobError::NoMemory)
+    }
+}
+
 /// The host job of a parsed text that was found to have no fault. `NoMemory`: there was no memory for it.
 fn made_of(alloc: Global, job: &Value, m: &Module, tested: Tested) -> Result<HostJob, JobError>
     requires good { HasGoodFields m.now (view job.now) tested.entry }
@@ -115,6 +133,7 @@ fn made_of(alloc: Global, job: &Value, m: &Module, tested: Tested) -> Result<Hos
     requires after { after_faults (view job.now) ≡ [] }
     ensures ok { IfOk result (λ j. IsHost m.now (view job.now) j) }
     ensures words { IfOk result (λ j. length j.words < 2 ^ 32) }
+    ensures bytes { IfOk result (λ j. 0 < length j.rings → 8 * length j.words < 2 ^ 32) }
     ensures err { IfErr result (λ e. e ≡ JobError.NoMemory) }
 {
     let Tested {
@@ -128,6 +147,8 @@ fn made_of(alloc: Global, job: &Value, m: &Module, tested: Tested) -> Result<Hos
     let params = params_of(definition);
     let bytes = bytes_of(alloc, job, Key::Buffer)?;
     let guests = guests_of(alloc, job, words)?;
+    let rings = rings_of(alloc, job, words)?;
+    check_bytes(&rings, words)?;
     Ok(HostJob {
         formats: formats_of(alloc, m, formats)?,
         entries: entries_of(alloc, entry, entries)?,
@@ -136,6 +157,7 @@ fn made_of(alloc: Global, job: &Value, m: &Module, tested: Tested) -> Result<Hos
         words: fill_words(alloc, bytes.as_slice(), words)?,
         workers,
         guests,
+        rings,
     })
 }
 
@@ -143,6 +165,7 @@ fn made_of(alloc: Global, job: &Value, m: &Module, tested: Tested) -> Result<Hos
 fn host_job_of(alloc: Global, job: &Value, m: &Module) -> Result<HostJob, JobError>
     ensures ok { IfOk result (λ j. IsHost m.now (view job.now) j) }
     ensures words { IfOk result (λ j. length j.words < 2 ^ 32) }
+    ensures bytes { IfOk result (λ j. 0 < length j.rings → 8 * length j.words < 2 ^ 32) }
     ensures err { IfErr result (λ e. (e ≡ JobError.NoMemory) ⊎ FirstFault m.now (view job.now) e) }
     ensures memory { result ≡ Err JobError.NoMemory → MayLackMemory m.now (view job.now) }
 {
@@ -154,6 +177,7 @@ fn host_job_of(alloc: Global, job: &Value, m: &Module) -> Result<HostJob, JobErr
 fn parsed_host_job(alloc: Global, bytes: &[u8], m: &Module) -> Result<HostJob, JobError>
     ensures job { IfOk result (λ j. IsHostJob bytes.now m.now j) }
     ensures words { IfOk result (λ j. length j.words < 2 ^ 32) }
+    ensures bytes { IfOk result (λ j. 0 < length j.rings → 8 * length j.words < 2 ^ 32) }
     ensures refused { IfErr result (λ e. (e ≡ JobError.NoMemory) ⊎ RefusedHostJob bytes.now m.now e) }
     ensures memory { result ≡ Err JobError.NoMemory → 0 < length bytes.now }
 {
@@ -162,8 +186,8 @@ fn parsed_host_job(alloc: Global, bytes: &[u8], m: &Module) -> Result<HostJob, J
 }
 
 /// The host job that the bytes stand for, with a copy of the module. J1 to J9: their first fault, each exactly where the
-/// definition says so. `NoMemory`: there was no memory for it (a buffer of 2^32 words or more has none); never where there
-/// are no bytes.
+/// definition says so. `NoMemory`: there was no memory for it (a buffer of 2^32 words or more has none, nor one of 2^29 words or more
+/// with a ring); never where there are no bytes.
 pub fn read_host_job(alloc: Global, bytes: &[u8], m: &Module) -> Result<HostJob, JobError>
     ensures job { IfOk result (λ j. IsHostJob bytes.now m.now j) }
     ensures servable { IfOk result IsServable }

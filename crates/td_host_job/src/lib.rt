@@ -7,6 +7,7 @@ mod fields;
 mod guests;
 pub mod host_job;
 pub mod laws;
+mod rings;
 mod scatter;
 mod steps;
 mod swaps;

@@ -8,9 +8,11 @@ ghost use Rattle.td_posts.specs.declared.job.Step.TheVariants as step;
 ghost use Rattle.td_job.specs.Stretches.{each_stretch};
 ghost use Rattle.td_host_job.specs.Steps.{spelled_step, step_in, store_in, each_step};
 ghost use Rattle.td_host_job.specs.Guests.{given_script, each_script};
-ghost use Rattle.td_host_job.specs.Totals.{weight, most_of, key_of, total, total_fault, totals_faults};
+ghost use Rattle.td_host_job.specs.Rings.{given_ring, each_ring};
+ghost use Rattle.td_host_job.specs.Totals.{weight, ring_weight, most_of, key_of, total, total_fault, totals_faults};
 
 use crate::guests::listed;
+use crate::rings::message_words;
 use crate::scatter::Measure;
 use crate::steps::{Spelled, spelled_step};
 use serde_json::Value;
@@ -125,8 +127,8 @@ impl Total {
     }
 
     /// What is counted over the scripts of all guests; at most 2^64 - 1.
-    fn over(self, guests: &[Value]) -> u64
-        ensures { result ≡ min (total self (each_script (items_view guests.now))) (2 ^ 64 - 1) }
+    fn over_guests(self, guests: &[Value]) -> u64
+        ensures { result ≡ min (sum_by (sum_by (weight self)) (each_script (items_view guests.now))) (2 ^ 64 - 1) }
     {
         let mut sum = 0;
         for guest in guests {
@@ -135,13 +137,41 @@ impl Total {
         sum
     }
 
+    /// By how much the ring that a value spells counts, at most 2^64 - 1.
+    fn of_ring(self, value: &Value) -> u64
+        ensures { result ≡ min (ring_weight self (given_ring (view value.now))) (2 ^ 64 - 1) }
+    {
+        match self {
+            Total::Posts | Total::Stores => 0,
+            Total::Words => message_words(value),
+        }
+    }
+
+    /// What was counted before, and these rings more; at most 2^64 - 1.
+    fn with_rings(self, counted: u64, rings: &[Value]) -> u64
+        ensures { result ≡ min (counted + sum_by (ring_weight self) (each_ring (items_view rings.now))) (2 ^ 64 - 1) }
+    {
+        let mut sum = counted;
+        for ring in rings {
+            sum = sum.saturating_add(self.of_ring(ring));
+        }
+        sum
+    }
+
+    /// What is counted over the scripts of all guests, and over all rings; at most 2^64 - 1.
+    fn over(self, guests: &[Value], rings: &[Value]) -> u64
+        ensures { result ≡ min (total self (each_script (items_view guests.now)) (each_ring (items_view rings.now))) (2 ^ 64 - 1) }
+    {
+        self.with_rings(self.over_guests(guests), rings)
+    }
+
     /// Tests a total. J8: it is too much.
-    fn check(self, guests: &[Value]) -> Result<(), JobError>
-        ensures ok { OnOk result (total_fault self (each_script (items_view guests.now)) ≡ []) }
-        ensures err { IfErr result (IsFirst (total_fault self (each_script (items_view guests.now)))) }
+    fn check(self, guests: &[Value], rings: &[Value]) -> Result<(), JobError>
+        ensures ok { OnOk result (total_fault self (each_script (items_view guests.now)) (each_ring (items_view rings.now)) ≡ []) }
+        ensures err { IfErr result (IsFirst (total_fault self (each_script (items_view guests.now)) (each_ring (items_view rings.now)))) }
         ensures broken { IfErr result (λ e. e ≢ JobError.NoMemory) }
     {
-        if self.over(guests) > self.most() {
+        if self.over(guests, rings) > self.most() {
             Err(JobRule::Limit.at(Path::Whole(self.key())))
         } else {
             Ok(())
@@ -149,14 +179,15 @@ impl Total {
     }
 }
 
-/// Tests the totals over the scripts of these guests, as the job spells them. J8: there are more than 4,096 posts, more than
-/// 65,536 stores, or messages of more than 1,048,576 words in all; the first of these. Takes no memory.
-pub(crate) fn check_totals(guests: &[Value]) -> Result<(), JobError>
-    ensures ok { OnOk result (totals_faults (each_script (items_view guests.now)) ≡ []) }
-    ensures err { IfErr result (IsFirst (totals_faults (each_script (items_view guests.now)))) }
+/// Tests the totals over the scripts of these guests and over these rings, as the job spells them. J8: there are more than 4,096 posts,
+/// more than 65,536 stores, or messages of more than 1,048,576 words in all, with those that takes from the rings can have; the first of
+/// these. Takes no memory.
+pub(crate) fn check_totals(guests: &[Value], rings: &[Value]) -> Result<(), JobError>
+    ensures ok { OnOk result (totals_faults (each_script (items_view guests.now)) (each_ring (items_view rings.now)) ≡ []) }
+    ensures err { IfErr result (IsFirst (totals_faults (each_script (items_view guests.now)) (each_ring (items_view rings.now)))) }
     ensures broken { IfErr result (λ e. e ≢ JobError.NoMemory) }
 {
-    Total::Posts.check(guests)?;
-    Total::Stores.check(guests)?;
-    Total::Words.check(guests)
+    Total::Posts.check(guests, rings)?;
+    Total::Stores.check(guests, rings)?;
+    Total::Words.check(guests, rings)
 }

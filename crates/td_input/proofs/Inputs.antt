@@ -8,7 +8,7 @@ use Rattle.td_front.specs.ModuleText.{IsModuleText, RefusedBy}
 use Rattle.td_job.specs.declared.error.JobError.{JobError}
 use Rattle.td_job.specs.declared.error.JobError.TheVariants as jobs
 use Rattle.td_input.specs.declared.refusal.Refusal.{Refusal}
-use Rattle.td_input.specs.declared.refusal.Refusal.TheVariants.{TooLong, NoJob, BadModule, BadJob}
+use Rattle.td_input.specs.declared.refusal.Refusal.TheVariants.{TooLong, NoJob, BadModule, BadJob, NoRing}
 use Rattle.td_input.specs.Marker.{IsFirstMarker, text_part, job_part}
 use Rattle.td_input.specs.Causes.{HasCause, of_module, of_job}
 use Rattle.td_input.specs.Inputs.{IsInputOf, RefusesInput}
@@ -66,6 +66,7 @@ nothing_refuses Bad input n m marker one text job (BadJob e) h =
     let same : m ≡ h.1 = one h.1 (text_there (λ (t : List ℕ). IsModuleText t h.1) input h.0 n h.2 marker h.3) in
     let bad : Bad (job_part input n) h.1 e = job_there (λ (t : List ℕ). Bad t h.1 e) input h.0 n h.2 marker h.4 in
     job e (subst (λ (x : Module). Bad (job_part input n) x e) (sym same) bad)
+nothing_refuses Bad input n m marker one text job NoRing h = h
 
 -- an error of a module text says that there was no memory, or it has its cause
 pub module_cause : (Bad : Faults) (input : List ℕ) (n : ℕ) (e : FrontError) → IsFirstMarker input n → (e ≡ front.NoMemory) ⊎ RefusedBy (text_part input n) e → HasCause (RefusesInput Bad input) (of_module e)
@@ -82,6 +83,7 @@ module_cause Bad input n (front.Cycle span) marker (inr refused) = (n, marker, r
 module_cause Bad input n (front.ZeroElement span) marker (inr refused) = (n, marker, refused)
 module_cause Bad input n (front.RestNotLast span) marker (inr refused) = (n, marker, refused)
 module_cause Bad input n (front.Unsafe span op) marker (inr refused) = (n, marker, refused)
+module_cause Bad input n (front.Room span) marker (inr refused) = (n, marker, refused)
 
 -- the same of an error of a job
 pub job_cause : (Bad : Faults) (input : List ℕ) (n : ℕ) (types : Module) (e : JobError) → IsFirstMarker input n → IsModuleText (text_part input n) types → (e ≡ jobs.NoMemory) ⊎ Bad (job_part input n) types e → HasCause (RefusesInput Bad input) (of_job e)

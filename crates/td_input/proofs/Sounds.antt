@@ -16,8 +16,7 @@ use Rattle.td_front.specs.Laws.{ModulesAreChecked}
 use Rattle.td_job.specs.declared.run_job.RunJob.{RunJob}
 use Rattle.td_job.specs.Jobs.{HasValues}
 use Rattle.td_job.specs.Values.{args_bounds, cells_bounds}
-use Rattle.td_expr.specs.Sound.{Sound}
-use Rattle.td_meaning.specs.Throughout.{Throughout}
+use Rattle.td_meaning.specs.Copies.{IsSoundOn}
 use Rattle.td_posts.specs.declared.job.HostJob.{HostJob}
 use Rattle.td_posts.specs.Posts.{zeros}
 use Rattle.td_host_job.proofs.Zeros.{zeros_fit}
@@ -37,7 +36,7 @@ same_cells (Some d) = refl
 -- values that fit are sound, whatever the message's bytes are
 sound_values : (m : Module) (entry : Entry) (args cells : List ℕ) → EvaluatedIsSound → IsChecked m → entry.number < length m.entries
     → AllFit (args_bounds (entry_definition m entry.number)) args → AllFit (cells_bounds (entry_definition m entry.number)) cells
-    → (b : List ℕ) → AreBytes b → length b < 2 ^ 32 → Throughout Sound m entry args cells b
+    → (b : List ℕ) → AreBytes b → length b < 2 ^ 32 → IsSoundOn m entry args cells b
 sound_values m entry args cells law checked inside fits_args fits_cells b bytes short =
     let place = got m.entries entry.number inside in
     let there : place.0 < length m.definitions = each_at (λ p. p < length m.definitions) m.entries entry.number place.0 checked.whole.entries place.1 in
@@ -47,7 +46,7 @@ sound_values m entry args cells law checked inside fits_args fits_cells b bytes 
     let Q : Option TypeDef → Type 0 = λ o. AllFit (cells_bounds o) cells in
     let R : List Bound → Type 0 = λ b. AllFit b args in
     let S : List Bound → Type 0 = λ b. AllFit b cells in
-    law m entry place.0 d.0 args cells b checked.formed checked.safe place.1 d.1 (subst R (same_args (Some d.0)) (subst P same fits_args)) (subst S (same_cells (Some d.0)) (subst Q same fits_cells)) bytes short
+    law m entry place.0 d.0 args cells b checked.formed checked.copying checked.safe place.1 d.1 (subst R (same_args (Some d.0)) (subst P same fits_args)) (subst S (same_cells (Some d.0)) (subst Q same fits_cells)) bytes short
 
 pub sound_job : (m : Module) (job : RunJob) → EvaluatedIsSound → IsChecked m → job.entry.number < length m.entries → HasValues m job → job.length < 2 ^ 32 → IsSoundJob m job
 sound_job m job law checked inside values short = λ b bytes same.

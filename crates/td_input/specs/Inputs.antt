@@ -5,8 +5,7 @@ use Rattle.td_core.specs.Entries.{entry_definition}
 use Rattle.td_core.specs.Formed.{AllFit, params_at, cells_at}
 use Rattle.td_core.specs.declared.module.Module.{Module}
 use Rattle.td_core.specs.declared.module.Entry.{Entry}
-use Rattle.td_expr.specs.Sound.{Sound}
-use Rattle.td_meaning.specs.Throughout.{Throughout}
+use Rattle.td_meaning.specs.Copies.{IsSoundOn, IsSoundFrom}
 use Rattle.td_front.specs.ModuleText.{IsModuleText, RefusedBy}
 use Rattle.td_job.specs.declared.error.JobError.{JobError}
 use Rattle.td_job.specs.declared.run_job.RunJob.{RunJob}
@@ -15,7 +14,7 @@ use Rattle.td_posts.specs.declared.job.HostJob.{HostJob}
 use Rattle.td_posts.specs.Posts.{IsVersion, zeros}
 use Rattle.td_host_job.specs.HostJobs.{IsHostJob, RefusedHostJob}
 use Rattle.td_input.specs.declared.refusal.Refusal.{Refusal}
-use Rattle.td_input.specs.declared.refusal.Refusal.TheVariants.{TooLong, NoJob, BadModule, BadJob}
+use Rattle.td_input.specs.declared.refusal.Refusal.TheVariants.{TooLong, NoJob, BadModule, BadJob, NoRing}
 use Rattle.td_input.specs.Marker.{IsMarker, IsFirstMarker, text_part, job_part}
 
 -- the input is a module text, a marker and a job, as jobs of this kind are read
@@ -31,6 +30,7 @@ RefusesInput Bad input TooLong = ⊥
 RefusesInput Bad input NoJob = (n : ℕ) → IsMarker input n → ⊥
 RefusesInput Bad input (BadModule e) = (n : ℕ) × IsFirstMarker input n × RefusedBy (text_part input n) e
 RefusesInput Bad input (BadJob e) = (n : ℕ) × (m : Module) × IsFirstMarker input n × IsModuleText (text_part input n) m × Bad (job_part input n) m e
+RefusesInput Bad input NoRing = ⊥
 
 -- ---- run jobs
 
@@ -42,7 +42,7 @@ RefusesRun = RefusesInput RefusedJob
 
 -- whatever bytes the job's message has, each expression that the meaning evaluates lies in its type's range
 abbrev pub IsSoundJob : Module → RunJob → Type 0
-IsSoundJob m job = (b : List ℕ) → AreBytes b → length b ≡ job.length → Throughout Sound m job.entry job.args job.cells b
+IsSoundJob m job = (b : List ℕ) → AreBytes b → length b ≡ job.length → IsSoundOn m job.entry job.args job.cells b
 
 -- ---- host jobs
 
@@ -55,8 +55,7 @@ RefusesHost = RefusesInput RefusedHostJob
 -- whatever bytes a message has, each expression that the meaning of a version evaluates from cells of zeros lies in its type's range
 abbrev pub IsSoundHost : HostJob → Type 0
 IsSoundHost job =
-    (n : ℕ) (m : Module) (entry : Entry) → IsVersion job n m entry
-    → (b : List ℕ) → AreBytes b → length b < 2 ^ 32 → Throughout Sound m entry job.args (zeros job.cells) b
+    (n : ℕ) (m : Module) (entry : Entry) → IsVersion job n m entry → IsSoundFrom m entry job.args (zeros job.cells)
 
 -- the entry point is the module's, each of its parameters has its value, and its cells are zeros, each in its range
 pub record FitsEntry (job : HostJob) (m : Module) (entry : Entry) : Type 0 where

@@ -22,6 +22,9 @@ pub enum Refusal {
     /// The bytes after that line are no job for the module.
     #[error(transparent)]
     BadJob(JobError),
+    /// The job has rings, and the text of descriptors stands for no module of descriptors.
+    #[error("no ring")]
+    NoRing,
 }
 
 /// Why an input has no answer.

@@ -52,7 +52,7 @@ written_as law kinds m entry args cells v h bytes answer x =
 -- a value without a fault is spelled within the limit
 pub faultless_short : WritingIsExact → KindsAreAdmitted → (m : Module) (entry : Entry) (args cells : List ℕ) (v : Datum) → IsWritable m → write_faults (writing whole m entry args cells v) ≡ []
     → length (spelled_or_none (spelling m entry args v)) ≤ MOST_WRITTEN
-faultless_short law kinds m entry args cells v h none = by (writing whole m entry args cells v) none (law m entry args cells v (kinds m h.formed h.kinds))
+faultless_short law kinds m entry args cells v h none = by (writing whole m entry args cells v) none (law m entry args cells v h.copyless (kinds m h.formed h.kinds))
   where
     by : (w : Written) → write_faults w ≡ [] → IsExact w (spelling m entry args v) (λ bytes. (meaning m entry args cells bytes).ending) → length (spelled_or_none (spelling m entry args v)) ≤ MOST_WRITTEN
     by (Done bytes last) e x = subst (λ o. length (spelled_or_none o) ≤ MOST_WRITTEN) (sym x.0) x.1.0

@@ -27,6 +27,10 @@ key_name key.Workers = codes "workers"
 key_name key.Guests = codes "guests"
 key_name key.Script = codes "script"
 key_name key.Rings = codes "rings"
+key_name key.Base = codes "base"
+key_name key.Entries = codes "entries"
+key_name key.Most = codes "most"
+key_name key.Takes = codes "takes"
 key_name key.Swaps = codes "swaps"
 key_name key.Posts = codes "posts"
 key_name key.Words = codes "words"
@@ -55,20 +59,22 @@ write_code write.Long = codes "E5"
 abbrev pub placed : List ℕ → List ℕ → List ℕ
 placed name places = name ++ flat_map (λ place. indexed [] (Some place)) places
 
--- after a guest's place in the list of guests and a dot, what stands within the guest
-abbrev pub guest_bytes : ℕ → List ℕ → List ℕ
-guest_bytes guest within = indexed (key_name key.Guests) (Some guest) ++ codes "." ++ within
+-- after an element's place in its list and a dot, what stands within the element
+abbrev pub within_bytes : Key → ℕ → List ℕ → List ℕ
+within_bytes list place within = indexed (key_name list) (Some place) ++ codes "." ++ within
 
 -- `job` for the whole of it, a field's name, an element's place in its list after that, or the name that no job has; and
--- the same within a guest; and of a value inside the field `value` its places, and after a blank what is wrong with it
+-- the same within a guest or a ring; and of a value inside the field `value` its places, and after a blank what is wrong with it
 abbrev pub path_bytes : Path → List ℕ
 path_bytes path.Job = codes "job"
 path_bytes (path.Whole k) = key_name k
 path_bytes (path.Element k index) = indexed (key_name k) (Some index)
 path_bytes (path.Unknown name) = name
-path_bytes (path.Script guest) = guest_bytes guest (key_name key.Script)
-path_bytes (path.Step guest index) = guest_bytes guest (indexed (key_name key.Script) (Some index))
-path_bytes (path.UnknownOf guest name) = guest_bytes guest name
+path_bytes (path.Script guest) = within_bytes key.Guests guest (key_name key.Script)
+path_bytes (path.Step guest index) = within_bytes key.Guests guest (indexed (key_name key.Script) (Some index))
+path_bytes (path.UnknownOf guest name) = within_bytes key.Guests guest name
+path_bytes (path.RingField ring k) = within_bytes key.Rings ring (key_name k)
+path_bytes (path.UnknownOfRing ring name) = within_bytes key.Rings ring name
 path_bytes (path.Written fault) = placed (key_name key.Value) fault.places ++ codes " " ++ write_code fault.rule
 
 abbrev pub path_of : JobError → List ℕ

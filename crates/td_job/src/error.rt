@@ -2,7 +2,7 @@
 
 ghost use Rattle.std.specs.Prelude.{◌≡◌};
 ghost use Rattle.td_core.specs.Paths.{indexed};
-ghost use Rattle.td_job.specs.Errors.{rule_code, write_code, key_name, guest_bytes, path_bytes, code_of, path_of};
+ghost use Rattle.td_job.specs.Errors.{rule_code, write_code, key_name, within_bytes, path_bytes, code_of, path_of};
 ghost use Rattle.td_job.specs.Parts.{parts_bytes};
 
 use std::alloc::AllocError;
@@ -12,7 +12,7 @@ use td_num::text::Text;
 use td_values::error::WriteRule;
 use thiserror::Error;
 
-/// The name of a field of a run job, of a host job or of a guest in one, or of a total over a host job.
+/// The name of a field of a run job, of a host job, or of a guest or a ring in one, or of a total over a host job.
 #[derive(Clone, Copy, PartialEq, Eq, Debug)]
 pub enum Key {
     /// The name of the entry point.
@@ -39,8 +39,16 @@ pub enum Key {
     Guests,
     /// What a guest does, step by step.
     Script,
-    /// The rings of buffers that messages are taken from.
+    /// The rings in the buffer.
     Rings,
+    /// The word at which a ring begins.
+    Base,
+    /// How many entries it has.
+    Entries,
+    /// How many bytes a message of it has at most.
+    Most,
+    /// How often it is looked at.
+    Takes,
     /// The module texts that replace one another while messages are validated.
     Swaps,
     /// The total of the posts of all guests.
@@ -68,6 +76,10 @@ impl Key {
             Key::Guests => "guests",
             Key::Script => "script",
             Key::Rings => "rings",
+            Key::Base => "base",
+            Key::Entries => "entries",
+            Key::Most => "most",
+            Key::Takes => "takes",
             Key::Swaps => "swaps",
             Key::Posts => "posts",
             Key::Words => "words",
@@ -91,7 +103,7 @@ pub enum JobRule {
     /// A store's word is none of the job's, or of the buffer's.
     NoWord,
     /// The message is longer than the bytes given, a stretch passes their end, the stretches are not as long as the message, or a
-    /// post's passes the end of the buffer.
+    /// post's message or a ring passes the end of the buffer.
     PastBytes,
     /// A limit is passed.
     Limit,
@@ -182,6 +194,10 @@ pub enum Path {
     Step { guest: usize, index: usize },
     /// A field of a guest that no guest has, by the bytes of its name.
     UnknownOf { guest: usize, name: Text },
+    /// A field of a ring, by the ring's place in the list of rings, counted from 0.
+    RingField { ring: usize, key: Key },
+    /// A field of a ring that no ring has, by the bytes of its name.
+    UnknownOfRing { ring: usize, name: Text },
     /// A value inside the field `value`, and what is wrong with it.
     Written(ValueFault),
 }
@@ -222,12 +238,12 @@ impl<'a> PathParts<'a> {
         PathParts::Name { name, index }
     }
 
-    fn of_guest(guest: usize, name: &'a [u8], index: Option<usize>) -> PathParts<'a>
-        ensures { parts_bytes result ≡ guest_bytes guest (indexed name.now index) }
+    fn within(list: Key, place: usize, name: &'a [u8], index: Option<usize>) -> PathParts<'a>
+        ensures { parts_bytes result ≡ within_bytes list place (indexed name.now index) }
     {
         let element = ListElement {
-            list: Key::Guests.name().as_bytes(),
-            place: guest,
+            list: list.name().as_bytes(),
+            place,
         };
         PathParts::Within {
             element,
@@ -243,14 +259,33 @@ impl Path {
         ensures { parts_bytes result ≡ path_bytes self.now }
     {
         let script = Key::Script.name().as_bytes();
+        let guests = Key::Guests;
+        let rings = Key::Rings;
         match self {
             Path::Job => PathParts::of(b"job", None),
             Path::Whole(key) => PathParts::of(key.name().as_bytes(), None),
             Path::Element { key, index } => PathParts::of(key.name().as_bytes(), Some(*index)),
             Path::Unknown(name) => PathParts::of(name.as_slice(), None),
-            Path::Script { guest } => PathParts::of_guest(*guest, script, None),
-            Path::Step { guest, index } => PathParts::of_guest(*guest, script, Some(*index)),
-            Path::UnknownOf { guest, name } => PathParts::of_guest(*guest, name.as_slice(), None),
+            Path::Script { guest } => PathParts::within(guests, *guest, script, None),
+            Path::Step { guest, index } => PathParts::within(guests, *guest, script, Some(*index)),
+            Path::UnknownOf { guest, name } => PathParts::within(
+                guests,
+                *guest,
+                name.as_slice(),
+                None,
+            ),
+            Path::RingField { ring, key } => PathParts::within(
+                rings,
+                *ring,
+                key.name().as_bytes(),
+                None,
+            ),
+            Path::UnknownOfRing { ring, name } => PathParts::within(
+                rings,
+                *ring,
+                name.as_slice(),
+                None,
+            ),
             Path::Written(fault) => PathParts::Inside {
                 name: Key::Value.name().as_bytes(),
                 places: fault.places.as_slice(),
@@ -278,6 +313,8 @@ impl fmt::Display for Path {
             Path::Script { guest } => write!(f, "guests[{guest}].script"),
             Path::Step { guest, index } => write!(f, "guests[{guest}].script[{index}]"),
             Path::UnknownOf { guest, name } => write!(f, "guests[{guest}].{}", shown(name)),
+            Path::RingField { ring, key } => write!(f, "rings[{ring}].{}", key.name()),
+            Path::UnknownOfRing { ring, name } => write!(f, "rings[{ring}].{}", shown(name)),
             Path::Written(fault) => write!(f, "{fault}"),
         }
     }

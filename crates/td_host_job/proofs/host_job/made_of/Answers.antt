@@ -10,6 +10,7 @@ use Rattle.td_job.specs.Words.{IsFilled}
 use Rattle.td_job.proofs.Numbers.{both_empty}
 use Rattle.td_job.proofs.Tested.{memory_alone}
 use Rattle.td_host_job.specs.Guests.{listed_in, guests_faults}
+use Rattle.td_host_job.specs.Rings.{rings_faults}
 use Rattle.td_host_job.specs.HostJobs.{given_buffer}
 use Rattle.td_host_job.proofs.Naming.{none_of_rest}
 use Rattle.td_host_job.proofs.host_job.made_of.Goals as goal
@@ -21,9 +22,16 @@ returns-in_err-bytes-clause-err c =
 
 pub returns-in_err-guests-clause-err : goal.returns-in_err-guests-clause-err
 returns-in_err-guests-clause-err c =
-    let tested = both_empty _ _ c.requires.rest in
+    let tested = both_empty _ _ (both_empty _ _ c.requires.rest).0 in
     let none = subst (λ (n : ℕ). guests_faults n (listed_in key.Guests (view c.args.job.now)) ≡ []) c.requires.words tested.0 in
     let memory : c.in_err-guests.field-0.0 ≡ NoMemory = memory_alone _ _ none c.in_err-guests.ensures.err in
+    search (rules, memory)
+
+pub returns-in_err-rings-clause-err : goal.returns-in_err-rings-clause-err
+returns-in_err-rings-clause-err c =
+    let tested = both_empty _ _ (both_empty _ _ c.requires.rest).0 in
+    let none = subst (λ (n : ℕ). rings_faults n (field_of key.Rings (view c.args.job.now)) ≡ []) c.requires.words tested.1 in
+    let memory : c.in_err-rings.field-0.0 ≡ NoMemory = memory_alone _ _ none c.in_err-rings.ensures.err in
     search (rules, memory)
 
 pub fill_words-requires : goal.fill_words-requires
@@ -57,4 +65,5 @@ returns-clause-ok c =
       filled = subst (λ n. IsFilled (given_buffer job) n c.in_ok-fill_words.field-0) (sym words) of_bytes;
       worked = c.requires.workers;
       scripted = c.in_ok-guests.ensures.ok.1;
+      looked_at = c.in_ok-rings.ensures.ok.1;
     }

@@ -24,7 +24,7 @@ pub returns-clause-values : goal.returns-clause-values
 returns-clause-values c = all_fit c.args.bytes.now c.args.m.now c.parsed_host_job.result c.parsed_host_job.ensures.job
 
 pub returns-clause-servable : goal.returns-clause-servable
-returns-clause-servable c = are_servable c.args.bytes.now c.args.m.now c.parsed_host_job.result c.parsed_host_job.ensures.job c.parsed_host_job.ensures.words
+returns-clause-servable c = are_servable c.args.bytes.now c.args.m.now c.parsed_host_job.result c.parsed_host_job.ensures.job c.parsed_host_job.ensures.words c.parsed_host_job.ensures.bytes
 
 pub returns-clause-short : goal.returns-clause-short
 returns-clause-short c = are_short c.args.bytes.now c.args.m.now c.parsed_host_job.result c.parsed_host_job.ensures.job

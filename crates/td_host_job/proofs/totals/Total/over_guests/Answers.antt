@@ -6,7 +6,7 @@ use Rattle.serde_json.specs.declared.value.Value.{Value}
 use Rattle.td_host_job.specs.Guests.{given_script}
 use Rattle.td_host_job.specs.Totals.{weight}
 use Rattle.td_host_job.proofs.Counting.{guests_from, one_guest, no_guests, one_more, at_end}
-use Rattle.td_host_job.proofs.totals.Total.over.Goals as goal
+use Rattle.td_host_job.proofs.totals.Total.over_guests.Goals as goal
 
 pub loop-guest-preserved : goal.loop-guest-preserved
 loop-guest-preserved c =

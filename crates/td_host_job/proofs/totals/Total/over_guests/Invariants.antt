@@ -1,7 +1,7 @@
 use Rattle.std.proofs.Common.{◌≡◌, ◌≤◌, ◌+◌, ◌-◌, ◌^◌}
 use Rattle.std.specs.Prelude.{min}
 use Rattle.td_host_job.proofs.Counting.{guests_from}
-use Rattle.td_host_job.proofs.totals.Total.over.Given as goal
+use Rattle.td_host_job.proofs.totals.Total.over_guests.Given as goal
 
 -- what was counted so far, and the guests from here
 abbrev pub invariant-loop-guest : goal.invariant-loop-guest
