@@ -1,1 +1,5 @@
+pub mod Lines
+pub mod RunLines
 pub mod Replies
+pub mod Taking
+pub mod Hosts

@@ -4,3 +4,5 @@
 
 pub mod laws;
 pub mod report;
+mod run;
+mod takes;

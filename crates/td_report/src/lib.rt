@@ -3,7 +3,7 @@
 #![tactic(auto)]
 
 pub mod error_line;
-mod hexadecimal;
+pub mod hexadecimal;
 pub mod laws;
 pub mod paged;
 pub mod path_line;

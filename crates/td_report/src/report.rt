@@ -1,6 +1,6 @@
 //! The report of a run.
 
-ghost use Rattle.std.specs.Prelude.{◌≡◌, ◌<◌, ◌++◌, true, false, Some, None, flat_map, option_map, codes, decimal};
+ghost use Rattle.std.specs.Prelude.{◌≡◌, ◌<◌, ◌++◌, true, false, Some, None, flat_map, [], option_map, codes, decimal};
 ghost use Rattle.std.specs.List.{All};
 ghost use Rattle.td_stream.specs.Layouts.{count_in, IsNumberOf};
 ghost use Rattle.td_core.specs.Entries.{entry_definition};
@@ -255,7 +255,6 @@ fn write_loads<O: Sink>(
 /// the frames of its failure by the names of the module, the cells of the entry point, and the loads. Takes no memory.
 ///
 /// `WriteFault`: a write failed. What went out is a prefix of the report.
-#[tactic(auto, unfolding(crate::specs::Report::report))]
 pub fn report_of_parts<O: Sink>(
     verdict: Verdict,
     trace: &[TraceFrame],
@@ -268,7 +267,7 @@ pub fn report_of_parts<O: Sink>(
     out: &mut O,
 ) -> Result<(), WriteFault>
     requires { All (λ l. IsNumberOf (option_map (λ l. l.now) layout) l.word) loads.now }
-    ensures { Writes (O.state out.old) (O.state out.new) (report (record { verdict = verdict; trace = trace.now; cells = cells.now }) m.now entry loads.now (option_map (λ l. l.now) layout.entry) (option_map (λ w. w.now) written.entry)) result }
+    ensures { Writes (O.state out.old) (O.state out.new) (report (record { verdict = verdict; trace = trace.now; cells = cells.now; copies = [] }) m.now entry loads.now (option_map (λ l. l.now) layout.entry) (option_map (λ w. w.now) written.entry)) result }
 {
     write_written(out, written)?;
     write_verdict(out, verdict)?;

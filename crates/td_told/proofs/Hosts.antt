@@ -1,13 +1,11 @@
 -- Words and stores of a host job are of 64 bits, and what its messages' outcomes tell.
-use Rattle.std.proofs.Common.{◌≡◌, ℕ, ◌<◌, ◌^◌, List, [], ◌∷◌, length, Option, Some, None, refl, sym, subst, arith}
+use Rattle.std.proofs.Common.{◌≡◌, ℕ, ◌<◌, ◌^◌, List, [], ◌∷◌, Option, Some, None, refl, sym, subst}
 use Rattle.std.specs.List.{All}
 use Rattle.std.proofs.lemmas.List.Elements.{All-nil, All-cons, All-head, All-tail, All-append, All-from_get_or}
 use Rattle.serde_json.specs.Data.{Items, no_items, item}
-use Rattle.td_core.specs.Formed.{Bound, AllFit}
+use Rattle.td_core.specs.Formed.{AllFit}
 use Rattle.td_core.specs.Entries.{entry_definition}
-use Rattle.td_sched.specs.declared.store.PlannedStore.{PlannedStore}
 use Rattle.td_job.specs.declared.error.Key.TheVariants as key
-use Rattle.td_job.specs.declared.run_job.RunJob.{RunJob}
 use Rattle.td_job.specs.Values.{cells_bounds}
 use Rattle.td_job.specs.Jobs.{spelled_word}
 use Rattle.td_posts.specs.declared.job.Step.{Step}
@@ -19,10 +17,11 @@ use Rattle.td_host_job.specs.Steps.{SpelledStep, SpelledStore, SpelledPost, Spel
 use Rattle.td_host_job.specs.Guests.{listed_in, listed_steps, given_script, each_script, listed_scripts}
 use Rattle.td_host_job.specs.HostJobs.{IsHost, IsShort}
 use Rattle.td_host_job.specs.Laws.{HostJobsKeepLimits}
-use Rattle.td_told.specs.Laws.{AreSized, IsSized, StoresSmall, HostJobsAreSized, RunsAreTold, RepliesAreTold}
+use Rattle.td_told.specs.Laws.{AreSized, StoresSmall, HostJobsAreSized, OutcomesAreTold, RepliesAreTold}
 use Rattle.td_told.proofs.Jobs.{word_small}
 use Rattle.td_told.proofs.Posts.{posts_sized}
 use Rattle.td_told.proofs.Reading.{read_small}
+use Rattle.td_told.proofs.Runs.{fitting_args, fitting_cells}
 use Rattle.td_told.proofs.Told.{index_small}
 
 -- ---- stores
@@ -87,21 +86,10 @@ host_jobs_are_sized keep bytes m j h =
 
 -- ---- outcomes
 
--- a message of a host job is that of a run job to which nobody stores
-pub replies_are_told : RunsAreTold → RepliesAreTold
-replies_are_told runs m j message n f entry version checked s bytes short =
-    let bounds = cells_bounds (entry_definition f entry.number) in
+pub replies_are_told : OutcomesAreTold → RepliesAreTold
+replies_are_told told m j message n f entry version checked s bytes short =
+    let own = entry_definition f entry.number in
+    let bounds = cells_bounds own in
     let values = s.kept.values.each n f entry version in
     let cells : AllFit bounds (zeros j.cells) = subst (λ n. AllFit bounds (zeros n)) (sym values.cells) (zeros_fit bounds) in
-    let run : RunJob = record { entry = entry; args = j.args; cells = zeros j.cells; words = []; length = length message; layout = None; stores = []; written = None } in
-    let sized : IsSized f run = record {
-      entry = values.entry;
-      values = record { args = values.args; cells = cells };
-      long = omega arith;
-      limit = short;
-      stretches = tt;
-      words = All-nil (λ (word : ℕ). word < 2 ^ 64);
-      stores = All-nil (λ (p : PlannedStore). p.value < 2 ^ 64);
-      written = tt;
-    } in
-    runs f run message checked sized bytes refl
+    told f entry j.args (zeros j.cells) message checked values.entry (fitting_args own j.args values.args) (fitting_cells own (zeros j.cells) cells) bytes short

@@ -1,6 +1,6 @@
 //! Laws of what reports tell. They do nothing when they are called.
 
-ghost use Rattle.td_told.specs.Laws.{HostJobsAreSized, JobsAreSized, LoadsAreTold, ModulesHaveWords, RepliesAreTold, RunsAreTold};
+ghost use Rattle.td_told.specs.Laws.{HostJobsAreSized, JobsAreSized, LoadsAreTold, ModulesHaveWords, OutcomesAreTold, RepliesAreTold, RunsAreTold};
 
 use td_arith::laws::evaluated_is_sound;
 use td_endings::laws::endings_are_within;
@@ -31,9 +31,10 @@ pub fn modules_have_words()
     ensures { ModulesHaveWords }
 {}
 
-/// The outcome of a good job has named frames, numbers of 64 bits, and a value for each cell.
-pub fn runs_are_told()
-    ensures { RunsAreTold }
+/// The outcome of a checked module on a message of at most a MiB, from arguments and cells that fit, has named frames, numbers of 64 bits,
+/// and a value for each cell: that of a descriptor of a ring, too.
+pub fn outcomes_are_told()
+    ensures { OutcomesAreTold }
 {
     evaluated_is_sound();
     endings_are_within();
@@ -41,11 +42,18 @@ pub fn runs_are_told()
     rejections_are_framed();
 }
 
+/// The outcome of a good job has named frames, numbers of 64 bits, and a value for each cell.
+pub fn runs_are_told()
+    ensures { RunsAreTold }
+{
+    outcomes_are_told();
+}
+
 /// The outcome that a version of a good host job has on a message has named frames, numbers of 64 bits, and a value for each cell.
 pub fn replies_are_told()
     ensures { RepliesAreTold }
 {
-    runs_are_told();
+    outcomes_are_told();
 }
 
 /// The loads of a good job are of words and values of 64 bits, their stretches included where it has a layout.

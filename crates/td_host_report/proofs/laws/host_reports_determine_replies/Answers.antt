@@ -1,4 +1,4 @@
-use Rattle.td_host_report.proofs.Replies.{host_reports_determine_replies}
+use Rattle.td_host_report.proofs.Hosts.{host_reports_determine_replies}
 use Rattle.td_host_report.proofs.laws.host_reports_determine_replies.Goals as goal
 
 pub returns : goal.returns

@@ -2,4 +2,4 @@ use Rattle.td_told.proofs.Hosts.{replies_are_told}
 use Rattle.td_told.proofs.laws.replies_are_told.Goals as goal
 
 pub returns : goal.returns
-returns c = replies_are_told c.runs_are_told.ensures
+returns c = replies_are_told c.outcomes_are_told.ensures

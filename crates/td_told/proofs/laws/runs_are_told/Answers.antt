@@ -2,4 +2,4 @@ use Rattle.td_told.proofs.Runs.{runs_are_told}
 use Rattle.td_told.proofs.laws.runs_are_told.Goals as goal
 
 pub returns : goal.returns
-returns c = runs_are_told c.evaluated_is_sound.ensures c.endings_are_within.ensures c.frames_are_named.ensures c.rejections_are_framed.ensures
+returns c = runs_are_told c.outcomes_are_told.ensures

@@ -1,7 +1,7 @@
 use Rattle.std.proofs.Common.{[], flat_map, take}
 use Rattle.td_report.specs.Paged.{IsMoved}
 use Rattle.td_host_report.specs.Report.{reply_report}
-use Rattle.td_host_report.proofs.report.host_report.Given as goal
+use Rattle.td_host_report.proofs.report.write_replies.Given as goal
 
 -- of the reports of the replies so far the first bytes were written, and the others wait in the page
 abbrev pub invariant-loop-reply : goal.invariant-loop-reply

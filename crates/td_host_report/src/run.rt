@@ -1,0 +1,33 @@
+//! The report of the run that a reply tells of.
+
+ghost use Rattle.td_io.specs.States.{Writes};
+ghost use Rattle.td_host_report.specs.Report.{run_by, HasMessageWords};
+
+use td_core::module::{Entry, Module};
+use td_io::{Sink, WriteFault};
+use td_posts::reply::Reply;
+use td_report::report::report_of_parts;
+
+/// Writes the report of the run that a reply tells of, by the names of this module and the cells of this entry point, and its loads by
+/// the stretches of its message where it has a list of these.
+pub(crate) fn write_run<O: Sink>(
+    out: &mut O,
+    format: &Module,
+    entry: Entry,
+    reply: &Reply,
+) -> Result<(), WriteFault>
+    requires { HasMessageWords reply.now }
+    ensures { Writes (O.state out.old) (O.state out.new) (run_by format.now entry reply.now) result }
+{
+    report_of_parts(
+        reply.verdict,
+        reply.trace.as_slice(),
+        &reply.cells,
+        reply.loads.as_slice(),
+        reply.layout.as_ref(),
+        format,
+        entry,
+        None,
+        out,
+    )
+}
