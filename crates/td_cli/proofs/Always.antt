@@ -16,9 +16,10 @@ use Rattle.td_host_job.specs.HostJobs.{IsHostJob, RefusedHostJob}
 use Rattle.td_host_job.specs.Laws.{AlwaysOneHost}
 use Rattle.td_input.specs.Inputs.{IsInputOf, RefusesInput}
 use Rattle.td_input.proofs.Inputs.{Kind, Faults}
+use Rattle.td_serving.specs.Laws.{RingsReadOrNot}
 use Rattle.td_command.specs.declared.command.Command.TheVariants.{Check, Tidy, Run, Host, Code, Pack, Bench}
 use Rattle.td_input.specs.declared.refusal.Refusal.{Refusal}
-use Rattle.td_input.specs.declared.refusal.Refusal.TheVariants.{TooLong, NoJob, BadModule, BadJob}
+use Rattle.td_input.specs.declared.refusal.Refusal.TheVariants.{TooLong, NoJob, BadModule, BadJob, NoRing}
 use Rattle.td_cli.specs.declared.tool.TheConstants.{INPUT_LIMIT}
 use Rattle.td_cli.specs.Answers.{Admits, Refuses}
 use Rattle.td_cli.specs.Bench.{HaveModules, HasJob, IsMessageOf, AdmitsBench, RefusesBench}
@@ -62,15 +63,17 @@ run_short texts jobs input short = elim (job_short IsRunJob RefusedJob texts job
   | inr (NoJob, h) ↦ inr (NoJob, (short, h))
   | inr (BadModule e, h) ↦ inr (BadModule e, (short, h))
   | inr (BadJob e, h) ↦ inr (BadJob e, (short, h))
+  | inr (NoRing, h) ↦ absurd h
 ]
 
-host_short : AlwaysOneText → AlwaysOneHost → (input : List ℕ) → length input ≤ INPUT_LIMIT → Admits Host input ⊎ ((refusal : Refusal) × Refuses Host input refusal)
-host_short texts jobs input short = elim (job_short IsHostJob RefusedHostJob texts jobs input) [
-  | inl h ↦ inl (short, h.0, h.1, h.2)
+host_short : AlwaysOneText → RingsReadOrNot → AlwaysOneHost → (input : List ℕ) → length input ≤ INPUT_LIMIT → Admits Host input ⊎ ((refusal : Refusal) × Refuses Host input refusal)
+host_short texts rings jobs input short = elim (job_short IsHostJob RefusedHostJob texts jobs input) [
+  | inl (m, job, is) ↦ elim (rings job.rings) [ inl read ↦ inl (short, m, job, is, read) | inr none ↦ inr (NoRing, (short, (m, job, is, none))) ]
   | inr (TooLong, h) ↦ absurd h
   | inr (NoJob, h) ↦ inr (NoJob, (short, h))
   | inr (BadModule e, h) ↦ inr (BadModule e, (short, h))
   | inr (BadJob e, h) ↦ inr (BadJob e, (short, h))
+  | inr (NoRing, h) ↦ absurd h
 ]
 
 -- ---- `bench`
@@ -122,11 +125,11 @@ bench_one texts messages jobs n = elim (bench_texts texts n) [
   | inl have ↦ elim (bench_jobs messages jobs have n n (omega arith)) [ inr refused ↦ inr refused | inl each ↦ inl (have, each) ]
 ]
 
-pub always_one : AlwaysOneText → AlwaysOneJob → AlwaysOneHost → SomeMessageEach → AlwaysOneNamed → AlwaysOne
-always_one texts jobs hosts messages named Check input = elim (cases_lt INPUT_LIMIT (length input)) [ inl long ↦ inr (TooLong, long) | inr short ↦ check_short texts input short ]
-always_one texts jobs hosts messages named Tidy input = elim (cases_lt INPUT_LIMIT (length input)) [ inl long ↦ inr (TooLong, long) | inr short ↦ tidy_short texts input short ]
-always_one texts jobs hosts messages named Code input = elim (cases_lt INPUT_LIMIT (length input)) [ inl long ↦ inr (TooLong, long) | inr short ↦ code_short texts input short ]
-always_one texts jobs hosts messages named Pack input = elim (cases_lt INPUT_LIMIT (length input)) [ inl long ↦ inr (TooLong, long) | inr short ↦ pack_short texts input short ]
-always_one texts jobs hosts messages named Run input = elim (cases_lt INPUT_LIMIT (length input)) [ inl long ↦ inr (TooLong, long) | inr short ↦ run_short texts jobs input short ]
-always_one texts jobs hosts messages named Host input = elim (cases_lt INPUT_LIMIT (length input)) [ inl long ↦ inr (TooLong, long) | inr short ↦ host_short texts hosts input short ]
-always_one texts jobs hosts messages named (Bench n) input = bench_one texts messages named n
+pub always_one : AlwaysOneText → RingsReadOrNot → AlwaysOneJob → AlwaysOneHost → SomeMessageEach → AlwaysOneNamed → AlwaysOne
+always_one texts rings jobs hosts messages named Check input = elim (cases_lt INPUT_LIMIT (length input)) [ inl long ↦ inr (TooLong, long) | inr short ↦ check_short texts input short ]
+always_one texts rings jobs hosts messages named Tidy input = elim (cases_lt INPUT_LIMIT (length input)) [ inl long ↦ inr (TooLong, long) | inr short ↦ tidy_short texts input short ]
+always_one texts rings jobs hosts messages named Code input = elim (cases_lt INPUT_LIMIT (length input)) [ inl long ↦ inr (TooLong, long) | inr short ↦ code_short texts input short ]
+always_one texts rings jobs hosts messages named Pack input = elim (cases_lt INPUT_LIMIT (length input)) [ inl long ↦ inr (TooLong, long) | inr short ↦ pack_short texts input short ]
+always_one texts rings jobs hosts messages named Run input = elim (cases_lt INPUT_LIMIT (length input)) [ inl long ↦ inr (TooLong, long) | inr short ↦ run_short texts jobs input short ]
+always_one texts rings jobs hosts messages named Host input = elim (cases_lt INPUT_LIMIT (length input)) [ inl long ↦ inr (TooLong, long) | inr short ↦ host_short texts rings hosts input short ]
+always_one texts rings jobs hosts messages named (Bench n) input = bench_one texts messages named n

@@ -19,8 +19,11 @@ use Rattle.td_job.specs.declared.run_job.RunJob.{RunJob}
 use Rattle.td_job.specs.declared.error.JobError.{JobError}
 use Rattle.td_job.specs.Jobs.{IsRunJob, RefusedJob}
 use Rattle.td_host_job.specs.HostJobs.{IsHostJob, RefusedHostJob}
-use Rattle.td_host_job.specs.Laws.{NeverBothHost}
+use Rattle.td_host_job.specs.Laws.{OneHostJobEach, NeverBothHost}
+use Rattle.td_posts.specs.declared.ring.RingJob.{RingJob}
 use Rattle.td_input.specs.Inputs.{IsInputOf, RefusesInput}
+use Rattle.td_serving.specs.Rings.{RingsAreRead}
+use Rattle.td_serving.proofs.Refusals.{same_rings, read_by, never_both as both_rings}
 use Rattle.td_job.specs.Laws.{OneJobEach, NeverBoth as NeverBothJobs, OneNamedJobEach, NeverBothNamed}
 use Rattle.td_gen.specs.Laws.{OneMessageEach}
 use Rattle.td_coding.specs.Coding.{IsListing, IsPacked}
@@ -29,7 +32,7 @@ use Rattle.td_report.specs.Report.{report}
 use Rattle.td_report.specs.Summary.{summary}
 use Rattle.td_command.specs.declared.command.Command.TheVariants.{Check, Tidy, Run, Host, Code, Pack, Bench}
 use Rattle.td_input.specs.declared.refusal.Refusal.{Refusal}
-use Rattle.td_input.specs.declared.refusal.Refusal.TheVariants.{TooLong, NoJob, BadModule, BadJob}
+use Rattle.td_input.specs.declared.refusal.Refusal.TheVariants.{TooLong, NoJob, BadModule, BadJob, NoRing}
 use Rattle.td_cli.specs.declared.tool.TheConstants.{INPUT_LIMIT}
 use Rattle.td_cli.specs.Run.{IsRunOf}
 use Rattle.td_cli.specs.Answers.{IsReport, IsSummary, IsTidy}
@@ -112,7 +115,7 @@ answered_admitted Tidy input output h = (h.0, h.1.0, h.1.1)
 answered_admitted Code input output h = (h.0, h.1.0, h.1.1)
 answered_admitted Pack input output h = (h.0, h.1.0, h.1.1)
 answered_admitted Run input output h = (h.0, h.1.m, h.1.job, h.1.input_is)
-answered_admitted Host input output h = (h.0, h.1.served.m, h.1.served.job, h.1.served.input_is)
+answered_admitted Host input output h = let s = h.1.served in (h.0, s.m, s.job, s.input_is, read_by s.job.rings s.descriptors h.1.ring s.ring_is)
 answered_admitted (Bench n) input output h = totals_admitted n h.0 h.1
 
 -- an input of jobs of one kind isn't refused
@@ -121,29 +124,38 @@ refused : {J : Type 0} (Is : Kind J) (Bad : Faults) → OneModuleEach → NeverB
 refused Is Bad modules texts jobs input m job h refusal g =
     nothing_refuses Bad input h.place m h.marker (λ x k. modules (text_part input h.place) m x h.text k) (λ e k. texts (text_part input h.place) m e h.text k) (λ e k. jobs (job_part input h.place) m job e h.good k) refusal g
 
-pub never_both : OneModuleEach → NeverBothTexts → NeverBothJobs → NeverBothHost → OneMessageEach → NeverBothNamed → NeverBoth
-never_both modules texts jobs hosts messages named Check input TooLong h g = let short : length input ≤ INPUT_LIMIT = h.0 in let over : INPUT_LIMIT < length input = g in omega arith
-never_both modules texts jobs hosts messages named Check input NoJob h g = g.1
-never_both modules texts jobs hosts messages named Check input (BadModule e) h g = texts input h.1 e h.2 g.1
-never_both modules texts jobs hosts messages named Check input (BadJob e) h g = g.1
-never_both modules texts jobs hosts messages named Tidy input TooLong h g = let short : length input ≤ INPUT_LIMIT = h.0 in let over : INPUT_LIMIT < length input = g in omega arith
-never_both modules texts jobs hosts messages named Code input TooLong h g = let short : length input ≤ INPUT_LIMIT = h.0 in let over : INPUT_LIMIT < length input = g in omega arith
-never_both modules texts jobs hosts messages named Pack input TooLong h g = let short : length input ≤ INPUT_LIMIT = h.0 in let over : INPUT_LIMIT < length input = g in omega arith
-never_both modules texts jobs hosts messages named Tidy input NoJob h g = g.1
-never_both modules texts jobs hosts messages named Code input NoJob h g = g.1
-never_both modules texts jobs hosts messages named Pack input NoJob h g = g.1
-never_both modules texts jobs hosts messages named Tidy input (BadModule e) h g = texts input h.1 e h.2 g.1
-never_both modules texts jobs hosts messages named Code input (BadModule e) h g = texts input h.1 e h.2 g.1
-never_both modules texts jobs hosts messages named Pack input (BadModule e) h g = texts input h.1 e h.2 g.1
-never_both modules texts jobs hosts messages named Tidy input (BadJob e) h g = g.1
-never_both modules texts jobs hosts messages named Code input (BadJob e) h g = g.1
-never_both modules texts jobs hosts messages named Pack input (BadJob e) h g = g.1
-never_both modules texts jobs hosts messages named Run input TooLong h g = let short : length input ≤ INPUT_LIMIT = h.0 in let over : INPUT_LIMIT < length input = g in omega arith
-never_both modules texts jobs hosts messages named Run input NoJob h g = g.1 h.3.place h.3.marker.marker
-never_both modules texts jobs hosts messages named Run input (BadModule e) h g = refused IsRunJob RefusedJob modules texts jobs input h.1 h.2 h.3 (BadModule e) g.1
-never_both modules texts jobs hosts messages named Run input (BadJob e) h g = refused IsRunJob RefusedJob modules texts jobs input h.1 h.2 h.3 (BadJob e) g.1
-never_both modules texts jobs hosts messages named Host input TooLong h g = let short : length input ≤ INPUT_LIMIT = h.0 in let over : INPUT_LIMIT < length input = g in omega arith
-never_both modules texts jobs hosts messages named Host input NoJob h g = g.1 h.3.place h.3.marker.marker
-never_both modules texts jobs hosts messages named Host input (BadModule e) h g = refused IsHostJob RefusedHostJob modules texts hosts input h.1 h.2 h.3 (BadModule e) g.1
-never_both modules texts jobs hosts messages named Host input (BadJob e) h g = refused IsHostJob RefusedHostJob modules texts hosts input h.1 h.2 h.3 (BadJob e) g.1
-never_both modules texts jobs hosts messages named (Bench n) input refusal h g = never_refused modules texts messages named n refusal h g
+pub never_both : OneModuleEach → NeverBothTexts → NeverBothJobs → OneHostJobEach → NeverBothHost → OneMessageEach → NeverBothNamed → NeverBoth
+never_both modules texts jobs one hosts messages named Check input TooLong h g = let short : length input ≤ INPUT_LIMIT = h.0 in let over : INPUT_LIMIT < length input = g in omega arith
+never_both modules texts jobs one hosts messages named Check input NoJob h g = g.1
+never_both modules texts jobs one hosts messages named Check input (BadModule e) h g = texts input h.1 e h.2 g.1
+never_both modules texts jobs one hosts messages named Check input (BadJob e) h g = g.1
+never_both modules texts jobs one hosts messages named Check input NoRing h g = g.1
+never_both modules texts jobs one hosts messages named Tidy input TooLong h g = let short : length input ≤ INPUT_LIMIT = h.0 in let over : INPUT_LIMIT < length input = g in omega arith
+never_both modules texts jobs one hosts messages named Code input TooLong h g = let short : length input ≤ INPUT_LIMIT = h.0 in let over : INPUT_LIMIT < length input = g in omega arith
+never_both modules texts jobs one hosts messages named Pack input TooLong h g = let short : length input ≤ INPUT_LIMIT = h.0 in let over : INPUT_LIMIT < length input = g in omega arith
+never_both modules texts jobs one hosts messages named Tidy input NoJob h g = g.1
+never_both modules texts jobs one hosts messages named Code input NoJob h g = g.1
+never_both modules texts jobs one hosts messages named Pack input NoJob h g = g.1
+never_both modules texts jobs one hosts messages named Tidy input (BadModule e) h g = texts input h.1 e h.2 g.1
+never_both modules texts jobs one hosts messages named Code input (BadModule e) h g = texts input h.1 e h.2 g.1
+never_both modules texts jobs one hosts messages named Pack input (BadModule e) h g = texts input h.1 e h.2 g.1
+never_both modules texts jobs one hosts messages named Tidy input (BadJob e) h g = g.1
+never_both modules texts jobs one hosts messages named Tidy input NoRing h g = g.1
+never_both modules texts jobs one hosts messages named Code input (BadJob e) h g = g.1
+never_both modules texts jobs one hosts messages named Code input NoRing h g = g.1
+never_both modules texts jobs one hosts messages named Pack input (BadJob e) h g = g.1
+never_both modules texts jobs one hosts messages named Pack input NoRing h g = g.1
+never_both modules texts jobs one hosts messages named Run input TooLong h g = let short : length input ≤ INPUT_LIMIT = h.0 in let over : INPUT_LIMIT < length input = g in omega arith
+never_both modules texts jobs one hosts messages named Run input NoJob h g = g.1 h.3.place h.3.marker.marker
+never_both modules texts jobs one hosts messages named Run input (BadModule e) h g = refused IsRunJob RefusedJob modules texts jobs input h.1 h.2 h.3 (BadModule e) g.1
+never_both modules texts jobs one hosts messages named Run input (BadJob e) h g = refused IsRunJob RefusedJob modules texts jobs input h.1 h.2 h.3 (BadJob e) g.1
+never_both modules texts jobs one hosts messages named Run input NoRing h g = g.1
+never_both modules texts jobs one hosts messages named Host input TooLong h g = let short : length input ≤ INPUT_LIMIT = h.0 in let over : INPUT_LIMIT < length input = g in omega arith
+never_both modules texts jobs one hosts messages named Host input NoJob h g = g.1 h.3.place h.3.marker.marker
+never_both modules texts jobs one hosts messages named Host input (BadModule e) h g = refused IsHostJob RefusedHostJob modules texts hosts input h.1 h.2 h.3 (BadModule e) g.1
+never_both modules texts jobs one hosts messages named Host input (BadJob e) h g = refused IsHostJob RefusedHostJob modules texts hosts input h.1 h.2 h.3 (BadJob e) g.1
+never_both modules texts jobs one hosts messages named Host input NoRing h g =
+    let bad = g.1 in
+    let same = same_rings modules one input h.1 bad.0 h.2 bad.1 h.3 bad.2 in
+    both_rings bad.1.rings (subst (λ (rings : List RingJob). RingsAreRead rings) same h.4) bad.3
+never_both modules texts jobs one hosts messages named (Bench n) input refusal h g = never_refused modules texts messages named n refusal h g

@@ -6,7 +6,7 @@ use Rattle.td_front.specs.ModuleText.{IsModuleText}
 use Rattle.td_report.specs.Summary.{summary}
 use Rattle.td_command.specs.declared.command.Command.TheVariants.{Check}
 use Rattle.td_input.specs.declared.refusal.Refusal.{Refusal}
-use Rattle.td_input.specs.declared.refusal.Refusal.TheVariants.{TooLong, NoJob, BadModule, BadJob}
+use Rattle.td_input.specs.declared.refusal.Refusal.TheVariants.{TooLong, NoJob, BadModule, BadJob, NoRing}
 use Rattle.td_input.specs.declared.refusal.InputError.{InputError}
 use Rattle.td_input.specs.declared.refusal.InputError.TheVariants.{Refused, NoMemory}
 use Rattle.td_cli.specs.declared.status.Status.{Status}
@@ -31,12 +31,14 @@ refuses_short input TooLong short h = absurd h
 refuses_short input NoJob short h = absurd h
 refuses_short input (BadModule e) short h = (short, h)
 refuses_short input (BadJob e) short h = absurd h
+refuses_short input NoRing short h = absurd h
 
 refuses_check : (input : List ℕ) (refusal : Refusal) → length input ≤ INPUT_LIMIT → Refuses Check input refusal → RefusesCheck input refusal
 refuses_check input TooLong short h = absurd (omega arith)
 refuses_check input NoJob short h = h.1
 refuses_check input (BadModule e) short h = h.1
 refuses_check input (BadJob e) short h = h.1
+refuses_check input NoRing short h = h.1
 
 pub check_ends : (input : List ℕ) (checked : Result Module InputError) (out err : Passage SinkState) (result : Status)
     → length input ≤ INPUT_LIMIT → IfOk checked (IsModuleText input) → IfErr checked (HasCause (RefusesCheck input))

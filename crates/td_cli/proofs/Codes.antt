@@ -5,7 +5,7 @@ use Rattle.td_core.specs.declared.module.Module.{Module}
 use Rattle.td_front.specs.ModuleText.{IsModuleText}
 use Rattle.td_command.specs.declared.command.Command.TheVariants.{Code}
 use Rattle.td_input.specs.declared.refusal.Refusal.{Refusal}
-use Rattle.td_input.specs.declared.refusal.Refusal.TheVariants.{TooLong, NoJob, BadModule, BadJob}
+use Rattle.td_input.specs.declared.refusal.Refusal.TheVariants.{TooLong, NoJob, BadModule, BadJob, NoRing}
 use Rattle.td_input.specs.declared.refusal.InputError.{InputError}
 use Rattle.td_input.specs.declared.refusal.InputError.TheVariants.{Refused, NoMemory}
 use Rattle.td_cli.specs.declared.status.Status.{Status}
@@ -30,12 +30,14 @@ refuses_short input TooLong short h = absurd h
 refuses_short input NoJob short h = absurd h
 refuses_short input (BadModule e) short h = (short, h)
 refuses_short input (BadJob e) short h = absurd h
+refuses_short input NoRing short h = absurd h
 
 refuses_code : (input : List ℕ) (refusal : Refusal) → length input ≤ INPUT_LIMIT → Refuses Code input refusal → RefusesCheck input refusal
 refuses_code input TooLong short h = absurd (omega arith)
 refuses_code input NoJob short h = h.1
 refuses_code input (BadModule e) short h = h.1
 refuses_code input (BadJob e) short h = h.1
+refuses_code input NoRing short h = h.1
 
 pub code_ends : (input : List ℕ) (found : Result (List ℕ) InputError) (out err : Passage SinkState) (result : Status)
     → length input ≤ INPUT_LIMIT → IfOk found (IsListingOf input) → IfErr found (HasCause (RefusesCheck input))

@@ -4,7 +4,7 @@ use Rattle.td_front.specs.declared.error.FrontError.{FrontError}
 use Rattle.td_front.specs.declared.error.FrontError.TheVariants as front
 use Rattle.td_front.specs.ModuleText.{RefusedBy}
 use Rattle.td_input.specs.declared.refusal.Refusal.{Refusal}
-use Rattle.td_input.specs.declared.refusal.Refusal.TheVariants.{TooLong, NoJob, BadModule, BadJob}
+use Rattle.td_input.specs.declared.refusal.Refusal.TheVariants.{TooLong, NoJob, BadModule, BadJob, NoRing}
 use Rattle.td_input.specs.Causes.{HasCause, of_module}
 use Rattle.td_cli.specs.Answers.{RefusesCheck}
 
@@ -23,6 +23,7 @@ check_cause input (front.Cycle span) (inr refused) = refused
 check_cause input (front.ZeroElement span) (inr refused) = refused
 check_cause input (front.RestNotLast span) (inr refused) = refused
 check_cause input (front.Unsafe span op) (inr refused) = refused
+check_cause input (front.Room span) (inr refused) = refused
 
 -- nothing refuses a text that stands for a module
 pub checked_not_refused : (input : List ℕ) → ((e : FrontError) → RefusedBy input e → ⊥) → (refusal : Refusal) → RefusesCheck input refusal → ⊥
@@ -30,3 +31,4 @@ checked_not_refused input never TooLong h = h
 checked_not_refused input never NoJob h = h
 checked_not_refused input never (BadModule e) h = never e h
 checked_not_refused input never (BadJob e) h = h
+checked_not_refused input never NoRing h = h

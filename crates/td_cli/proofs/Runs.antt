@@ -12,7 +12,7 @@ use Rattle.td_job.specs.declared.run_job.RunJob.{RunJob}
 use Rattle.td_report.specs.Report.{report}
 use Rattle.td_command.specs.declared.command.Command.TheVariants.{Run}
 use Rattle.td_input.specs.declared.refusal.Refusal.{Refusal}
-use Rattle.td_input.specs.declared.refusal.Refusal.TheVariants.{TooLong, NoJob, BadModule, BadJob}
+use Rattle.td_input.specs.declared.refusal.Refusal.TheVariants.{TooLong, NoJob, BadModule, BadJob, NoRing}
 use Rattle.td_input.specs.declared.refusal.InputError.{InputError}
 use Rattle.td_input.specs.declared.refusal.InputError.TheVariants.{Refused, NoMemory}
 use Rattle.td_cli.specs.declared.run.FinishedRun.{FinishedRun}
@@ -43,12 +43,14 @@ refuses_short input TooLong short h = absurd h
 refuses_short input NoJob short h = (short, h)
 refuses_short input (BadModule e) short h = (short, h)
 refuses_short input (BadJob e) short h = (short, h)
+refuses_short input NoRing short h = absurd h
 
 refuses_run : (input : List ℕ) (refusal : Refusal) → length input ≤ INPUT_LIMIT → Refuses Run input refusal → RefusesRun input refusal
 refuses_run input TooLong short h = absurd (omega arith)
 refuses_run input NoJob short h = h.1
 refuses_run input (BadModule e) short h = h.1
 refuses_run input (BadJob e) short h = h.1
+refuses_run input NoRing short h = h.1
 
 pub all_numbered : (run : Result FinishedRun InputError) → IfOk run (λ r. IsRunOf r.input.module r.input.job r.outcome r.loads.list) → IfOk run (λ r. All (λ (l : Load). IsNumberOf r.input.job.layout l.word) r.loads.list)
 all_numbered (Ok r) h = numbered r.input.job.length r.input.job.layout r.loads.list h.inside

@@ -13,11 +13,12 @@ use Rattle.td_coding.specs.Coding.{IsListing, IsPacked}
 use Rattle.td_command.specs.declared.command.Command.{Command}
 use Rattle.td_command.specs.declared.command.Command.TheVariants.{Check as CheckCommand, Tidy as TidyCommand, Code as CodeCommand, Pack as PackCommand, Run as RunCommand, Host as HostCommand, Bench as BenchCommand}
 use Rattle.td_input.specs.declared.refusal.Refusal.{Refusal}
-use Rattle.td_input.specs.declared.refusal.Refusal.TheVariants.{TooLong, NoJob, BadModule, BadJob}
+use Rattle.td_input.specs.declared.refusal.Refusal.TheVariants.{TooLong, NoJob, BadModule, BadJob, NoRing}
 use Rattle.td_cli.specs.declared.tool.TheConstants.{INPUT_LIMIT}
 use Rattle.td_posts.specs.declared.job.HostJob.{HostJob}
-use Rattle.td_input.specs.Inputs.{IsRunInput, RefusesRun, IsHostInput, RefusesHost}
-use Rattle.td_serving.specs.Serving.{IsHostReport}
+use Rattle.td_input.specs.Inputs.{IsRunInput, RefusesRun, IsHostInput}
+use Rattle.td_serving.specs.Rings.{RingsAreRead}
+use Rattle.td_serving.specs.Serving.{IsHostReport, RefusesServing}
 use Rattle.td_cli.specs.Run.{IsRunOf}
 use Rattle.td_cli.specs.Bench.{IsBench, AdmitsBench, RefusesBench}
 
@@ -45,6 +46,7 @@ RefusesCheck input TooLong = ⊥
 RefusesCheck input NoJob = ⊥
 RefusesCheck input (BadModule e) = RefusedBy input e
 RefusesCheck input (BadJob e) = ⊥
+RefusesCheck input NoRing = ⊥
 
 -- ---- tidy
 
@@ -81,7 +83,7 @@ Admits TidyCommand input = (length input ≤ INPUT_LIMIT) × (m : Module) × IsM
 Admits CodeCommand input = (length input ≤ INPUT_LIMIT) × (m : Module) × IsModuleText input m
 Admits PackCommand input = (length input ≤ INPUT_LIMIT) × (m : Module) × IsModuleText input m
 Admits RunCommand input = (length input ≤ INPUT_LIMIT) × (m : Module) × (job : RunJob) × IsRunInput input m job
-Admits HostCommand input = (length input ≤ INPUT_LIMIT) × (m : Module) × (job : HostJob) × IsHostInput input m job
+Admits HostCommand input = (length input ≤ INPUT_LIMIT) × (m : Module) × (job : HostJob) × IsHostInput input m job × RingsAreRead job.rings
 Admits (BenchCommand n) input = AdmitsBench n
 
 -- the command refuses the input for this reason, the first in the order in which an input is looked at
@@ -93,4 +95,4 @@ Refuses TidyCommand input refusal = (length input ≤ INPUT_LIMIT) × RefusesChe
 Refuses CodeCommand input refusal = (length input ≤ INPUT_LIMIT) × RefusesCheck input refusal
 Refuses PackCommand input refusal = (length input ≤ INPUT_LIMIT) × RefusesCheck input refusal
 Refuses RunCommand input refusal = (length input ≤ INPUT_LIMIT) × RefusesRun input refusal
-Refuses HostCommand input refusal = (length input ≤ INPUT_LIMIT) × RefusesHost input refusal
+Refuses HostCommand input refusal = (length input ≤ INPUT_LIMIT) × RefusesServing input refusal

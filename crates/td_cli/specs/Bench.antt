@@ -21,7 +21,7 @@ use Rattle.td_gen.specs.Message.{format_of, IsMessage}
 use Rattle.td_cli.specs.declared.totals.Totals.{Totals}
 use Rattle.td_cli.specs.Totals.{totals_text}
 use Rattle.td_input.specs.declared.refusal.Refusal.{Refusal}
-use Rattle.td_input.specs.declared.refusal.Refusal.TheVariants.{TooLong, NoJob, BadModule, BadJob}
+use Rattle.td_input.specs.declared.refusal.Refusal.TheVariants.{TooLong, NoJob, BadModule, BadJob, NoRing}
 use Rattle.td_cli.specs.Run.{IsRunOf}
 
 -- ---- texts and messages
@@ -133,3 +133,4 @@ RefusesBench n TooLong = ⊥
 RefusesBench n NoJob = ⊥
 RefusesBench n (BadModule e) = (format : Format) × IsTextRefused format e
 RefusesBench n (BadJob e) = (k : ℕ) × IsMessageRefused n k e
+RefusesBench n NoRing = ⊥

@@ -1,5 +1,5 @@
 -- The steps of `bench`: its modules, what refuses one text or message, and totals with one more run.
-use Rattle.std.specs.Prelude.{◌≡◌, ℕ, ◌+◌, List, length}
+use Rattle.std.specs.Prelude.{◌≡◌, ℕ, ◌+◌, List, length, []}
 use Rattle.td_core.specs.declared.module.Module.{Module}
 use Rattle.td_core.specs.declared.outcome.Verdict.{Verdict}
 use Rattle.td_core.specs.declared.outcome.TraceFrame.{TraceFrame}
@@ -17,7 +17,7 @@ use Rattle.td_cli.specs.declared.totals.Totals.{Totals}
 use Rattle.td_cli.specs.declared.bench.Modules.{Modules}
 use Rattle.td_cli.specs.declared.bench.Prepared.{Prepared}
 use Rattle.td_input.specs.declared.refusal.Refusal.{Refusal}
-use Rattle.td_input.specs.declared.refusal.Refusal.TheVariants.{TooLong, NoJob, BadModule, BadJob}
+use Rattle.td_input.specs.declared.refusal.Refusal.TheVariants.{TooLong, NoJob, BadModule, BadJob, NoRing}
 use Rattle.td_cli.specs.Bench.{IsTextRefused, IsMessageOf, MessageRun, IsMessageRun, accepted_one, rejected_one, accepted_bytes}
 
 -- what is prepared for a format
@@ -47,6 +47,7 @@ RefusesText format TooLong = ⊥
 RefusesText format NoJob = ⊥
 RefusesText format (BadModule e) = IsTextRefused format e
 RefusesText format (BadJob e) = ⊥
+RefusesText format NoRing = ⊥
 
 -- why some text is refused
 abbrev pub RefusesSomeText : Refusal → Type 0
@@ -58,6 +59,7 @@ RefusesMessage k TooLong = ⊥
 RefusesMessage k NoJob = ⊥
 RefusesMessage k (BadModule e) = ⊥
 RefusesMessage k (BadJob e) = (m : Module) × (message : NamedJob) × IsMessageOf k m message × FirstNamedFault m message e
+RefusesMessage k NoRing = ⊥
 
 -- totals with one more run
 abbrev pub totals_with : Totals → MessageRun → Totals
@@ -73,4 +75,4 @@ totals_with t run = record {
 pub record HasRun (k : ℕ) (verdict : Verdict) (loads : List Load) : Type 0 where
   pub trace : List TraceFrame
   pub cells : List ℕ
-  pub is : IsMessageRun k (record { outcome = record { verdict = verdict; trace = trace; cells = cells }; loads = loads })
+  pub is : IsMessageRun k (record { outcome = record { verdict = verdict; trace = trace; cells = cells; copies = [] }; loads = loads })

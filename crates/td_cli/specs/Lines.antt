@@ -6,7 +6,7 @@ use Rattle.td_job.specs.declared.error.JobError.{JobError}
 use Rattle.td_job.specs.Errors.{code_of as job_code, path_of}
 use Rattle.td_report.specs.ErrorLine.{error_line}
 use Rattle.td_input.specs.declared.refusal.Refusal.{Refusal}
-use Rattle.td_input.specs.declared.refusal.Refusal.TheVariants.{TooLong, NoJob, BadModule, BadJob}
+use Rattle.td_input.specs.declared.refusal.Refusal.TheVariants.{TooLong, NoJob, BadModule, BadJob, NoRing}
 
 abbrev pub usage_line : List ℕ
 usage_line = codes "usage: td check|tidy|code|run|host|pack|bench N\n"
@@ -31,3 +31,4 @@ refusal_line input TooLong = error_line [] None (codes "Z1") (codes "input too l
 refusal_line input NoJob = error_line [] None (codes "Z2") (codes "no job")
 refusal_line input (BadModule e) = module_line input e
 refusal_line input (BadJob e) = job_line e
+refusal_line input NoRing = error_line [] None (codes "Z3") (codes "no ring")

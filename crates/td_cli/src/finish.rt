@@ -1,11 +1,13 @@
 //! How a call ends once all is decided: text goes to a sink, and the status follows. Nothing here takes memory, so nothing
 //! that was decided can be told as want of it.
 
-ghost use Rattle.std.specs.Prelude.{[], IfOk, MatchResult};
+ghost use Rattle.std.specs.Prelude.{◌≡◌, [], IfOk, MatchResult, option_map};
 ghost use Rattle.std.specs.List.{All};
 ghost use Rattle.td_stream.specs.Layouts.{IsNumberOf};
 ghost use Rattle.td_report.specs.Report.{report};
-ghost use Rattle.td_host_report.specs.Report.{host_report, HasMessageWords, HasVersion};
+ghost use Rattle.td_host_report.specs.Report.{host_report};
+ghost use Rattle.td_serving.specs.Rings.{at_desc};
+ghost use Rattle.td_serving.specs.Serving.{CanBeShown};
 ghost use Rattle.td_report.specs.Summary.{summary};
 ghost use Rattle.td_cli.specs.Totals.{totals_text};
 ghost use Rattle.td_cli.specs.Ends.{passage};
@@ -17,7 +19,7 @@ use crate::lines::{MEMORY, READ, write_refusal};
 use crate::run::FinishedRun;
 use crate::status::Status;
 use crate::totals::{Totals, write_totals};
-use td_core::module::Module;
+use td_core::module::{Entry, Module};
 use td_host_report::report::host_report;
 use td_input::refusal::{InputError, Refusal};
 use td_io::{ReadError, Sink, write_all};
@@ -112,16 +114,27 @@ pub(crate) fn finish_run<O: Sink, E: Sink>(
     }
 }
 
+// The module of descriptors, with its entry point.
+fn at_desc(ring: Option<&Module>) -> Option<(&Module, Entry)>
+    ensures { option_map (λ r. (r.0.now, r.1)) result ≡ at_desc (option_map (λ m. m.now) ring.entry) }
+{
+    match ring {
+        None => None,
+        Some(ring) => Some((ring, Entry { number: 0 })),
+    }
+}
+
 // Ends a call with the report of a host.
-fn finish_replies<O: Sink>(served: &ServedInput, out: &mut O) -> Status
-    requires words { All HasMessageWords served.now.replies }
-    requires versions { All (HasVersion served.now.formats served.now.entries) served.now.replies }
-    ensures { EndsWith Status.Done (host_report served.now.formats served.now.entries served.now.replies) (passage O.state out.old out.new) result }
+fn finish_served<O: Sink>(served: &ServedInput, out: &mut O) -> Status
+    requires { CanBeShown served.now.formats served.now.entries served.now.replies served.now.takes }
+    ensures { EndsWith Status.Done (host_report served.now.formats served.now.entries served.now.replies (at_desc served.now.ring) served.now.takes) (passage O.state out.old out.new) result }
 {
     match host_report(
         served.formats.as_slice(),
         served.entries.as_slice(),
         served.replies.as_slice(),
+        at_desc(served.ring.as_ref()),
+        served.takes.as_slice(),
         out,
     ) {
         Ok(()) => Status::Done,
@@ -129,21 +142,20 @@ fn finish_replies<O: Sink>(served: &ServedInput, out: &mut O) -> Status
     }
 }
 
-/// Ends a call of `host`: writes the report of the replies, or the line that says why the input has none.
+/// Ends a call of `host`: writes the report of the replies and takes, or the line that says why the input has none.
 pub(crate) fn finish_host<O: Sink, E: Sink>(
     input: &[u8],
     served: &Result<ServedInput, InputError>,
     out: &mut O,
     err: &mut E,
 ) -> Status
-    requires words { IfOk served.now (λ s. All HasMessageWords s.replies) }
-    requires versions { IfOk served.now (λ s. All (HasVersion s.formats s.entries) s.replies) }
+    requires { IfOk served.now (λ s. CanBeShown s.formats s.entries s.replies s.takes) }
     ensures { MatchResult served.now
-        (λ s. EndsWithOutput (host_report s.formats s.entries s.replies) (passage O.state out.old out.new) (passage E.state err.old err.new) result)
+        (λ s. EndsWithOutput (host_report s.formats s.entries s.replies (at_desc s.ring) s.takes) (passage O.state out.old out.new) (passage E.state err.old err.new) result)
         (λ error. EndsWithLine (unanswered_status error) (unanswered_line input.now error) (passage O.state out.old out.new) (passage E.state err.old err.new) result) }
 {
     match served {
-        Ok(served) => finish_replies(served, out),
+        Ok(served) => finish_served(served, out),
         Err(error) => finish_unanswered(input, error, err),
     }
 }

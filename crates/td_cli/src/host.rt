@@ -1,4 +1,5 @@
-//! The command `host`: the posts of the job's guests are served, while the guests go on storing to the buffer.
+//! The command `host`: the posts of the job's guests are served, and its rings are looked at, while the guests go on storing to the
+//! buffer.
 
 ghost use Rattle.std.specs.Prelude.{◌≡◌, ◌≢◌, ◌≤◌, ◌*◌, length};
 ghost use Rattle.td_input.specs.declared.refusal.Refusal.{Refusal};
@@ -18,7 +19,7 @@ use td_live::gate::Gate;
 use td_serving::gates::GATES_OF_EACH;
 use td_serving::serving::serve_input;
 
-/// Answers the input of `host`: with the report of its job's replies, or the line that refuses it. There may be no memory
+/// Answers the input of `host`: with the report of its job's replies and takes, or the line that refuses it. There may be no memory
 /// only where the input has a marker. It may wait.
 pub(crate) fn answer_host<
     R: AllocGlobal + Threads + Wait + Sync,

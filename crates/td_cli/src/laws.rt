@@ -11,6 +11,7 @@ use td_job::laws as jobs;
 use td_lexer::tokens_are_the_splitting;
 use td_report::laws::{reports_determine_outcomes, shown_loads_are_one};
 use td_runs::laws::runs_are_one;
+use td_serving::laws::rings_are_read_or_not;
 use td_stream::laws::some_message_carries;
 use td_told::laws::{jobs_are_sized, loads_are_told, modules_have_words, runs_are_told};
 
@@ -46,6 +47,7 @@ pub fn admitted_or_refused()
     ensures { AlwaysOne }
 {
     front::module_or_refusal();
+    rings_are_read_or_not();
     jobs::job_or_fault();
     host_jobs::job_or_fault();
     some_message_each();

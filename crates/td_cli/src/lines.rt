@@ -71,5 +71,6 @@ pub(crate) fn write_refusal<E: Sink>(
         Refusal::NoJob => front_line(&[], None, b"Z2", b"no job", err),
         Refusal::BadModule(error) => write_module_line(input, error, err),
         Refusal::BadJob(error) => write_job_line(error, err),
+        Refusal::NoRing => front_line(&[], None, b"Z3", b"no ring", err),
     }
 }

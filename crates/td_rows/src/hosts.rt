@@ -8,13 +8,15 @@ use std::sync::atomic::Ordering;
 use std::test::Fail;
 use std::thread::Threads;
 use td_cli::run_tool;
+use td_core::module::Entry;
 use td_host::serving::serve_job;
 use td_host_report::report::host_report;
 use td_input::host::parse_host_input;
 use td_io::{MemorySink, MemorySource};
 use td_posts::name::PostName;
 use td_serving::gates::gates_of;
-use td_serving::laws::{served_have_message_words, served_have_versions};
+use td_serving::laws::served_can_be_shown;
+use td_serving::rings::{Readers, job_readers};
 use td_serving::serving::job_codes;
 
 /// A message of two loads, which one guest posts twice before it stores to its first word what that holds.
@@ -40,6 +42,34 @@ const OWN_WORDS: &str = concat!(
 const OWN_STORES: &str = concat!(
     "reply 1 1\naccept 1\nout got 9\nload 0 0000000000000009\n",
     "reply 2 1\naccept 1\nout got 9\nload 0 0000000000000009\n"
+);
+
+/// A ring of two entries at the buffer's first word, of which one was made, at which the host looks twice.
+const ONE_DESCRIPTOR: &str = concat!(
+    "entrypoint typedef struct _H(mutable UINT8 *got) { UINT8 x {:act *got = x;}; } H;\n%%\n",
+    "{\"entry\":\"H\",\"buffer\":\"010000000000000028000000010000000900000000000000",
+    "000000000000000000000000000000000700000000000000\",\"workers\":1,\"guests\":[{\"script\":[]}],",
+    "\"rings\":[{\"base\":0,\"entries\":2,\"most\":8,\"takes\":2}]}\n"
+);
+
+const ONE_MESSAGE: &str = concat!(
+    "ring 1 1\nhead 0000000000000001\naccept 16\nout r.Place 40\nout r.Size 1\nout r.Id 9\n",
+    "load 0 0000000100000028\nload 1 0000000000000009\n",
+    "message 0\naccept 1\nout got 7\nload 0 5 0000000000000007\n",
+    "ring 1 2\nhead 0000000000000001\nidle\n"
+);
+
+/// The same, of which more were made than it has entries.
+const THREE_DESCRIPTORS: &str = concat!(
+    "entrypoint typedef struct _H(mutable UINT8 *got) { UINT8 x {:act *got = x;}; } H;\n%%\n",
+    "{\"entry\":\"H\",\"buffer\":\"030000000000000028000000010000000900000000000000",
+    "000000000000000000000000000000000700000000000000\",\"workers\":1,\"guests\":[{\"script\":[]}],",
+    "\"rings\":[{\"base\":0,\"entries\":2,\"most\":8,\"takes\":2}]}\n"
+);
+
+const TWO_OVERRUNS: &str = concat!(
+    "ring 1 1\nhead 0000000000000003\noverrun\n",
+    "ring 1 2\nhead 0000000000000003\noverrun\n"
 );
 
 // The post of a guest with this number.
@@ -70,28 +100,38 @@ fn tool_report<R: AllocGlobal + Threads + Wait + Sync + Abort>(
     Ok(())
 }
 
-// What td_host's `serve_job` makes of the input of two guests, under gates that hold at these places.
+// What td_host's `serve_job` makes of an input, under gates that hold at these places.
 fn host_answer<R: AllocGlobal + Threads + Wait + Sync + Abort>(
     rt: &R,
     notes: &Notes,
+    input: &str,
     places: &[Place],
     until: PostName,
     out: &mut MemorySink,
 ) -> Result<(), Fail> {
-    served_have_message_words();
-    served_have_versions();
+    served_can_be_shown();
+    assert!(rt; input.len() < 4096);
     let alloc = rt.alloc();
     let gates = gates_at(alloc, rt, notes, places, until)?;
-    let Ok(given) = parse_host_input(alloc, OWN_WORDS.as_bytes()) else {
+    let Ok(given) = parse_host_input(alloc, input.as_bytes()) else {
         return Err(AllocError.into());
     };
     let gates = gates_of(gates, given.job.workers as usize, given.job.guests.len())?;
     let codes = job_codes(alloc, &given.job)?;
-    let (job, replies) = serve_job(rt, alloc, codes, given.job, gates)?;
+    let Ok(Readers { module, descrs }) = job_readers(alloc, &given.job) else {
+        return Err(AllocError.into());
+    };
+    let ring = match &module {
+        None => None,
+        Some(module) => Some((module, Entry { number: 0 })),
+    };
+    let served = serve_job(rt, alloc, codes, given.job, descrs, gates)?;
     let written = host_report(
-        job.formats.as_slice(),
-        job.entries.as_slice(),
-        replies.as_slice(),
+        served.job.formats.as_slice(),
+        served.job.entries.as_slice(),
+        served.replies.as_slice(),
+        ring,
+        served.takes.as_slice(),
         out,
     );
     assert!(rt; written.is_ok());
@@ -135,8 +175,35 @@ fn nor_does_it_where_a_host_serves(rt: HostRuntime) -> Result<(), Fail> {
     let notes = Notes::with_room(rt.alloc(), 16)?;
     let places = [Place::Step { guest: 2, step: 1 }];
     let mut out = MemorySink::with_room(rt.alloc(), 4096, Vec::new(rt.alloc()))?;
-    host_answer(&rt, &notes, &places, post(2, 1), &mut out)?;
+    host_answer(&rt, &notes, OWN_WORDS, &places, post(2, 1), &mut out)?;
     assert_eq!(rt; out.written(), OWN_STORES.as_bytes());
     check_notes(&rt, &notes, true, 1);
     Ok(())
+}
+
+// What the tool and what td_host make of the input of a ring is this report.
+fn check_ring<R: AllocGlobal + Threads + Wait + Sync + Abort>(
+    rt: &R,
+    input: &str,
+    report: &str,
+) -> Result<(), Fail> {
+    let alloc = rt.alloc();
+    let notes = Notes::with_room(alloc, 16)?;
+    let mut told = MemorySink::with_room(alloc, 4096, Vec::new(alloc))?;
+    tool_report(rt, &notes, input, &[], post(1, 1), &mut told)?;
+    assert_eq!(rt; told.written(), report.as_bytes());
+    let mut made = MemorySink::with_room(alloc, 4096, Vec::new(alloc))?;
+    host_answer(rt, &notes, input, &[], post(1, 1), &mut made)?;
+    assert_eq!(rt; made.written(), report.as_bytes());
+    Ok(())
+}
+
+#[test]
+fn a_rings_message_is_validated_where_its_descriptor_says(rt: HostRuntime) -> Result<(), Fail> {
+    check_ring(&rt, ONE_DESCRIPTOR, ONE_MESSAGE)
+}
+
+#[test]
+fn nothing_is_taken_of_a_ring_that_lost_descriptors(rt: HostRuntime) -> Result<(), Fail> {
+    check_ring(&rt, THREE_DESCRIPTORS, TWO_OVERRUNS)
 }

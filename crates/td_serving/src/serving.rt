@@ -7,21 +7,25 @@ ghost use Rattle.td_posts.specs.declared.job.HostJob.{HostJob};
 ghost use Rattle.td_input.specs.declared.refusal.Refusal.{Refusal};
 ghost use Rattle.td_input.specs.Causes.{HasCause};
 ghost use Rattle.td_front.specs.Checked.{IsChecked};
-ghost use Rattle.td_input.specs.Inputs.{IsHostInput, RefusesHost, IsSoundHost, FitsVersions};
+ghost use Rattle.td_input.specs.Inputs.{IsHostInput, IsSoundHost, FitsVersions};
 ghost use Rattle.td_input.specs.Marker.{IsMarker};
 ghost use Rattle.td_actors.specs.Replies.{IsJobCode};
-ghost use Rattle.td_host_report.specs.Report.{HasMessageWords, HasVersion};
 ghost use Rattle.td_posts.specs.Servable.{IsServable};
-ghost use Rattle.td_serving.specs.Serving.{AreCodesOf, IsServedInput};
+ghost use Rattle.td_serving.specs.Rings.{RingsAreRead};
+ghost use Rattle.td_serving.specs.Serving.{AreCodesOf, IsServedInput, CanBeShown, RefusesServing};
 
 use crate::gates::{GATES_OF_EACH, gates_of};
-use crate::laws::{served_have_message_words, served_have_versions};
+use crate::laws::served_can_be_shown;
+use crate::rings::{Readers, job_readers};
 use std::alloc::{AllocError, AllocGlobal, Global};
 use std::sync::Wait;
 use std::thread::Threads;
 use td_coding::code_of;
 use td_core::module::{Entry, Module};
+use td_front::laws as texts;
+use td_host::ServedJob;
 use td_host::serving::serve_job;
+use td_host_job::laws as jobs;
 use td_input::host::parse_host_input;
 use td_input::refusal::InputError;
 use td_live::gate::Gate;
@@ -29,15 +33,18 @@ use td_lowered::laws::arguments_fit;
 use td_num::items::Items;
 use td_posts::job::HostJob;
 use td_posts::reply::Reply;
+use td_takes::Take;
 use td_verify::verify::Verified;
 
-/// The replies to the posts of an input's job, by guest and number, and what names them in a report: the module and the entry point of
-/// each version.
+/// The replies to the posts of an input's job, by guest and number, the takes of its rings, by ring and number, and what names them in a
+/// report: the module and the entry point of each version, and the module of descriptors, where there are rings.
 #[derive(Drop)]
 pub struct ServedInput {
     pub formats: Items<Module>,
     pub entries: Items<Entry>,
     pub replies: Items<Reply>,
+    pub ring: Option<Module>,
+    pub takes: Items<Take>,
 }
 
 /// The codes of modules, in their order. `AllocError`: there was no memory for one.
@@ -64,10 +71,15 @@ pub fn job_codes(alloc: Global, job: &HostJob) -> Result<Vec<Verified>, AllocErr
     codes_of(alloc, job.formats.as_slice())
 }
 
-/// The modules and entry points of a job's versions, with the replies to its posts.
-fn served_of(job: HostJob, replies: Items<Reply>) -> ServedInput
-    ensures { result ≡ record { formats = job.formats; entries = job.entries; replies = replies } }
+/// What was served of an input's job, and what names it.
+fn served_of(served: ServedJob, ring: Option<Module>) -> ServedInput
+    ensures { result ≡ record { formats = served.job.formats; entries = served.job.entries; replies = served.replies; ring = ring; takes = served.takes } }
 {
+    let ServedJob {
+        job,
+        replies,
+        takes,
+    } = served;
     let HostJob {
         formats,
         entries,
@@ -76,19 +88,23 @@ fn served_of(job: HostJob, replies: Items<Reply>) -> ServedInput
         words: _,
         workers: _,
         guests: _,
+        rings: _,
     } = job;
     ServedInput {
         formats,
         entries,
         replies,
+        ring,
+        takes,
     }
 }
 
 /// Serves the job of an input, with the first gates of each half: sixteen for workers, and then sixteen for guests. It may
 /// wait: a promise is kept where it returns.
 ///
-/// `Refused`: the input has no marker, its text is no module, or its job is none; nothing was opened then. `NoMemory`: there
-/// was no memory; no thread was started then, and no word loaded. That the marker is missing is told in any case.
+/// `Refused`: the input has no marker, its text is no module, or its job is none; or the job has rings, and the text `RING` stands for no
+/// module of descriptors; nothing was opened then. `NoMemory`: there was no memory; no thread was started then, and no word loaded. That
+/// the marker is missing is told in any case.
 pub fn serve_input<R: AllocGlobal + Threads + Wait + Sync, G: Gate + Send + Drop>(
     rt: &R,
     input: &[u8],
@@ -96,17 +112,18 @@ pub fn serve_input<R: AllocGlobal + Threads + Wait + Sync, G: Gate + Send + Drop
 ) -> Result<ServedInput, InputError>
     requires short { length input.now < 2 ^ 32 - 1 }
     requires gates { length gates.items ≡ 2 * GATES_OF_EACH }
-    ensures served { IfOk result (λ s. IsServedInput input.now s.formats s.entries s.replies) }
-    ensures words { IfOk result (λ s. All HasMessageWords s.replies) }
-    ensures versions { IfOk result (λ s. All (HasVersion s.formats s.entries) s.replies) }
-    ensures cause { IfErr result (HasCause (RefusesHost input.now)) }
-    ensures complete { (m : Module) (job : HostJob) → IsHostInput input.now m job → IfErr result (λ e. e ≡ InputError.NoMemory) }
-    ensures refused { (refusal : Refusal) → RefusesHost input.now refusal → IsErr result }
+    ensures served { IfOk result (λ s. IsServedInput input.now s.formats s.entries s.replies s.ring s.takes) }
+    ensures shown { IfOk result (λ s. CanBeShown s.formats s.entries s.replies s.takes) }
+    ensures cause { IfErr result (HasCause (RefusesServing input.now)) }
+    ensures complete { (m : Module) (job : HostJob) → IsHostInput input.now m job → RingsAreRead job.rings → IfErr result (λ e. e ≡ InputError.NoMemory) }
+    ensures refused { (refusal : Refusal) → RefusesServing input.now refusal → IsErr result }
     ensures no_job { ((n : ℕ) → IsMarker input.now n → ⊥) → IsErrOf result (InputError.Refused Refusal.NoJob) }
 {
-    served_have_message_words();
-    served_have_versions();
+    served_can_be_shown();
+    texts::one_answer_each();
+    jobs::one_answer_each();
     let given = parse_host_input(rt.alloc(), input)?;
+    let readers = job_readers(rt.alloc(), &given.job)?;
     let Ok(codes) = job_codes(rt.alloc(), &given.job) else {
         return Err(InputError::NoMemory);
     };
@@ -115,8 +132,9 @@ pub fn serve_input<R: AllocGlobal + Threads + Wait + Sync, G: Gate + Send + Drop
     let Ok(gates) = gates_of(gates, workers, guests) else {
         return Err(InputError::NoMemory);
     };
-    match serve_job(rt, rt.alloc(), codes, given.job, gates) {
-        Ok((job, replies)) => Ok(served_of(job, replies)),
+    let Readers { module, descrs } = readers;
+    match serve_job(rt, rt.alloc(), codes, given.job, descrs, gates) {
+        Ok(served) => Ok(served_of(served, module)),
         Err(_) => Err(InputError::NoMemory),
     }
 }
