@@ -12,6 +12,7 @@ VALUE = re.compile(r"[0-9a-f]{16}")
 BYTES = re.compile(r"([0-9a-f]{2})+")
 MOST_STRETCHES = 64
 MOST_SWAPS = 16
+MOST_RINGS = 16
 REASONS = ("notenough", "constraint", "impossible", "listsize", "action", "padding")
 MODULE_ERROR = re.compile(r"error ([A-Z][0-9]) ([0-9]+):([0-9]+) (.+)")
 INPUT_ERROR = re.compile(r"error (Z[0-9]) (.+)")
@@ -156,6 +157,47 @@ def replies_of(lines):
     return found
 
 
+def head_of(lines):
+    words = lines.words("head", 1)
+    if words is None:
+        raise NoReport(lines.at + 1, "`head` is missing, the count that a take found")
+    if not VALUE.fullmatch(words[0]):
+        lines.wrong("`%s` isn't 16 lower-case hexadecimal digits" % words[0])
+    return words[0]
+
+
+def next_of(lines):
+    """What a take came to: nothing that waits, or a descriptor, and the message of one that was accepted."""
+    for word in ("idle", "overrun"):
+        if lines.words(word, 0) is not None:
+            return {"next": word}
+    descriptor = run_of(lines)
+    words = lines.words("message", 1)
+    if (descriptor["verdict"] == "accept") != (words is not None):
+        raise NoReport(lines.at + (words is None), "a descriptor that is accepted has a message, and no other has")
+    if words is None:
+        return {"next": "bad", "descriptor": descriptor}
+    return {"next": "message", "descriptor": descriptor, "message": {"number": lines.number(words[0]), **run_of(lines)}}
+
+
+def takes_of(lines):
+    found = []
+    while words := lines.words("ring", 2):
+        now = lines.number(words[0]), lines.number(words[1])
+        before = (found[-1]["ring"], found[-1]["number"]) if found else (0, 0)
+        is_next = found and now == (before[0], before[1] + 1)
+        if not is_next and not (before[0] < now[0] <= MOST_RINGS and now[1] == 1):
+            lines.wrong("ring %d %d doesn't follow %d %d: takes stand by ring and number, from 1" % (now + before))
+        found.append({"ring": now[0], "number": now[1], "head": head_of(lines), **next_of(lines)})
+    return found
+
+
+def host_of(lines):
+    """The replies, and the takes where there are any."""
+    replies, takes = replies_of(lines), takes_of(lines)
+    return {"replies": replies, "takes": takes} if takes else {"replies": replies}
+
+
 def error_of(text):
     """The value of an error line; None where it is none."""
     module, whole = MODULE_ERROR.fullmatch(text), INPUT_ERROR.fullmatch(text)
@@ -188,8 +230,8 @@ def value_of(written):
     counts = COUNTS.fullmatch(text[:-1])
     if counts:
         return {"kind": "check", "definitions": number(counts[1], 1), "entries": number(counts[2], 1)}
-    if lines.lines[0].startswith("reply "):
-        value = {"kind": "host", "replies": replies_of(lines)}
+    if lines.lines[0].startswith(("reply ", "ring ")):
+        value = {"kind": "host", **host_of(lines)}
     else:
         value = {"kind": "run", **run_of(lines, bytes_of(lines))}
     if lines.at < len(lines.lines):

@@ -98,8 +98,8 @@ def stores_of(name, path, steps, words, what="the message"):
     return stores
 
 
-def guests_of(name, path, steps, words):
-    """The guests of a host job, each with the script of its steps in their order."""
+def guests_of(name, path, steps, words, has_rings=False):
+    """The guests of a host job, each with the script of its steps in their order. Where it has rings, they may post nothing."""
     scripts = [[] for _ in range(max([step.guest or 0 for step in steps], default=0))]
     for step in steps:
         place = (name, path, step.line)
@@ -117,7 +117,7 @@ def guests_of(name, path, steps, words):
             raise Wrong(said % (*place, words, step.word + count - 1))
         scripts[step.guest - 1].append([step.verb, step.word, step.value])
     posts = [step for step in steps if step.verb == "post"]
-    if not posts:
+    if not posts and not (has_rings and scripts):
         raise Wrong("%s: the trace '%s' posts no message: a line `1 post 0 LENGTH` posts one that begins at word 0" % (name, path))
     if len(posts) > MOST_POSTS:
         raise Wrong("%s: the trace '%s', line %d: this is post number 4,097, and a job has at most 4,096" % (name, path, posts[MOST_POSTS].line))

@@ -4,6 +4,8 @@ import json
 import random
 import re
 
+from ring_inputs import RingMaker
+
 NUMBER_TYPES = ["UINT%d%s" % (bits, order) for bits in (8, 16, 32, 64) for order in ("", "BE")]
 NUMBERS = [0, 1, 2, 3, 4, 7, 8, 15, 16, 100, 127, 128, 255, 256, 1000, 65535, 65536, 2**32 - 1, 2**32, 2**63, 2**64 - 1]
 WHITE_SPACE = [" "] * 5 + ["\n", "\t", "\r\n", "/* c */", "/**/", "/* %% */", "// line\n", ""]
@@ -14,7 +16,7 @@ STRAY_TOKENS = (
 OTHER_VALUES = [None, 1, [], [1], {}, "a", 1.5, -1, 2**64, True, [[0, 0]], [[0, 0, "00"]], [[0.0, 0, "0" * 16]], [300], [0, 0]]
 
 
-class Maker:
+class Maker(RingMaker):
     def __init__(self, seed):
         self.random = random.Random(seed)
         # Values are drawn apart, so that modules stay as they are without them; and so is whether a text has parts.
@@ -400,11 +402,14 @@ class Maker:
             found = [stretch for stretch in found if isinstance(stretch, list) and len(stretch) == 2 and sum(stretch) <= given][:64]
         return found
 
-    def script(self, words):
-        """Stores to a few words of the buffer, and messages in it, of which many overlap."""
+    def script(self, words, rings=(), given=0):
+        """Stores to a few words of the buffer, and messages in it, of which many overlap; and of rings, descriptors of messages in so many
+        bytes."""
         steps = []
         for _ in range(self.pick([0, 1, 2, 3, 4, 6, 8])):
-            if self.chance(0.45):
+            if rings and self.chance(0.4):
+                steps += self.ring_stores(rings, given)
+            elif self.chance(0.45):
                 word = self.random.randrange(max(1, words)) if words and self.chance(0.999) else words
                 text = self.content(8)[:16]
                 steps.append(["store", word, text if self.chance(0.999) else self.pick(["", text[1:], text[1:] + "g"])])
@@ -436,20 +441,34 @@ class Maker:
             found[self.random.randrange(len(found))] = self.pick(others if self.chance(0.7) else OTHER_VALUES)
         return found
 
-    def host_job(self, most, swaps=None):
-        """A job of up to so many guests and workers, which has these swaps."""
-        entry = self.pick(self.entries) if self.entries and self.chance(0.99) else self.pick(["Q", "", "p"])
+    def shared(self, wants_rings):
+        """A buffer, its rings, which stand behind it, and how many bytes stand before them."""
         count = self.pick([0, 1, 8, 9, 16, 17, 24, 24, 32, 40, 64])
-        words = -(-count // 8)
+        text, rings = self.content(count), []
+        given = 8 * -(-count // 8)
+        for _ in range(self.pick([1, 1, 1, 2, 3]) if wants_rings else 0):
+            text += "00" * (-(len(text) // 2) % 8)
+            ring, digits = self.ring(len(text) // 16, given)
+            rings.append(ring)
+            text += digits
+        return text, rings, given
+
+    def host_job(self, most, swaps=None, wants_rings=False):
+        """A job of up to so many guests and workers, which has these swaps, and now rings."""
+        entry = self.pick(self.entries) if self.entries and self.chance(0.99) else self.pick(["Q", "", "p"])
+        buffer, rings, given = self.shared(wants_rings)
+        words = -(-len(buffer) // 16)
         values = [kind for kind in self.parameters.get(entry, []) if kind == "value"]
         job = {
             "entry": entry,
-            "buffer": self.content(count),
+            "buffer": buffer,
             "workers": 1 + self.random.randrange(most),
-            "guests": [{"script": self.script(words)} for _ in range(1 + self.random.randrange(most))],
+            "guests": [{"script": self.script(words, rings, given)} for _ in range(1 + self.random.randrange(most))],
         }
+        if wants_rings:
+            job["rings"] = self.rings_wrong(rings) if self.chance(0.08) else rings
         if values or self.chance(0.1):
-            job["args"] = [self.pick([0, 1, 2, 3, 5, 100, 255] + [256, 2**64] * self.chance(0.03)) for _ in values]
+            job["args"] = [self.pick([0, 1, 2, 3, 5, 100, 255] + [256, 2**64] * self.chance(0.12)) for _ in values]
         if swaps is not None:
             job["swaps"] = swaps
         if self.chance(0.01):
@@ -457,7 +476,7 @@ class Maker:
         if self.chance(0.02):
             job.update(self.pick([{"workers": 0}, {"workers": 17}, {"guests": []}, {"guests": [{"script": []}] * 17}]))
         if self.chance(0.02):
-            name = self.pick(["buffer", "workers", "guests", "entry", "args", "swaps", "cells", "length", "zz", "A", "é", ""])
+            name = self.pick(["buffer", "workers", "guests", "entry", "args", "rings", "swaps", "cells", "length", "zz", "A", "é", ""])
             job[name] = self.pick(OTHER_VALUES + [[{}], [{"script": 0}]])
         if self.chance(0.02):
             guest = self.pick(job["guests"]) if isinstance(job.get("guests"), list) and job["guests"] else {}

@@ -1,4 +1,4 @@
-"""Help on J1 to J10, Z1 and Z2: jobs, and inputs as a whole. With the job itself it says what stands there."""
+"""Help on J1 to J10, Z1 to Z3: jobs, and inputs as a whole. With the job itself it says what stands there."""
 
 import difflib
 import json
@@ -9,11 +9,13 @@ from reference.jobs import HEXADECIMAL
 from reference.modules import module_of
 
 from ..places import escaped, place_of
+from .job_paths import at_path, form_of, shown
+from .rings import RING, RING_FIELDS, past_a_limit_of_a_ring, past_ring
 
 MESSAGE = 1_048_576
 RUN_FIELDS = ("entry", "args", "cells", "bytes", "length", "stretches", "value", "stores")
 GIVEN_FIELDS = ("bytes", "length", "stretches")
-HOST_FIELDS = ("entry", "args", "buffer", "workers", "guests", "swaps")
+HOST_FIELDS = ("entry", "args", "buffer", "workers", "guests", "rings", "swaps")
 GUEST_FIELDS = ("script",)
 # The form of each field, and an example.
 FORMS = {
@@ -34,11 +36,16 @@ FORMS = {
     "guests": ("a list of 1 to 16 objects", '"guests":[{"script":[["post",0,4]]}]'),
     "guests[i]": ("an object with the field `script` alone", '{"script":[["post",0,4]]}'),
     "guests[i].script": ("a list of steps", '"script":[["store",0,"0100000300000000"],["post",0,4]]'),
+    "rings": ("a list of up to 16 objects; it may be left out", '"rings":[%s]' % RING),
+    "rings[i]": ("an object with the fields `base`, `entries`, `most` and `takes`", RING),
+    "rings[i].base": ("a whole number, the word of the buffer with the ring's count", '"base":0'),
+    "rings[i].entries": ("a whole number, 1 to 1,024: how many descriptors there is room for", '"entries":2'),
+    "rings[i].most": ("a whole number, at most 1,048,576: how many bytes a message may have", '"most":8'),
+    "rings[i].takes": ("a whole number, at most 4,096: how often the ring is looked at", '"takes":2'),
     "swaps": ("a list of up to 16 module texts; it may be left out", '"swaps":["entrypoint typedef struct _P { UINT16 x; } P;"]'),
     "swaps[i]": ("a text, a module that takes the place of the one before it", '"entrypoint typedef struct _P { UINT16 x; } P;"'),
     "guests[i].script[i]": ('`["store", word, text]`, `["post", base, length]` or `["post", list]`, a list of `[place, size]`', '["post",0,4]'),
 }
-STEP = re.compile(r"\[(\d+)\]|([^.\[\]]+)")
 
 
 def known_of(text):
@@ -48,27 +55,6 @@ def known_of(text):
         except ModuleError:
             continue
     return None
-
-
-def form_of(path):
-    return re.sub(r"\[\d+\]", "[i]", path)
-
-
-def at_path(job, path):
-    """What stands in a job at a path; (False, None) where nothing does."""
-    value = job
-    for index, name in STEP.findall(path):
-        try:
-            value = value[int(index)] if index else value[name]
-        except (KeyError, IndexError, TypeError):
-            return False, None
-    return True, value
-
-
-def shown(value):
-    """A value of a job, shortened."""
-    text = json.dumps(value)
-    return escaped((text if len(text) <= 60 else text[:57] + " ..").encode())
 
 
 class Job:
@@ -92,7 +78,7 @@ class Job:
         return [self.known.types[number] for number in self.known.entries] if self.known is not None else []
 
     def is_host(self):
-        return isinstance(self.value, dict) and bool({"guests", "buffer", "workers", "swaps"} & set(self.value))
+        return isinstance(self.value, dict) and bool({"guests", "buffer", "workers", "rings", "swaps"} & set(self.value))
 
 
 def values_wanted(made):
@@ -134,8 +120,9 @@ def no_json(job):
 
 def fields_of(path):
     """The fields that an object has in which a path ends, and the path's last name."""
-    if re.match(r"guests\[\d+\]\.", path):
-        return GUEST_FIELDS, path.split(".", 1)[1]
+    for list_name, known in (("guests", GUEST_FIELDS), ("rings", RING_FIELDS)):
+        if re.match(list_name + r"\[\d+\]\.", path):
+            return known, path.split(".", 1)[1]
     return tuple(dict.fromkeys(RUN_FIELDS + HOST_FIELDS)), path
 
 
@@ -144,7 +131,7 @@ def field_wrong(job, path):
     if form not in FORMS:
         known, name = fields_of(path)
         if job.is_host() or job.value is not None:
-            known = GUEST_FIELDS if known == GUEST_FIELDS else HOST_FIELDS if job.is_host() else RUN_FIELDS
+            known = known if known in (GUEST_FIELDS, RING_FIELDS) else HOST_FIELDS if job.is_host() else RUN_FIELDS
         near = difflib.get_close_matches(name.lower(), known, 1, 0.6)
         lines = ["A job has no field `%s`: its fields are %s." % (escaped(name.encode("utf-8", "surrogateescape")), ", ".join("`%s`" % field for field in known))]
         return lines + ["mend: write `%s`." % near[0] if near else "mend: take the field out."]
@@ -162,7 +149,7 @@ def field_wrong(job, path):
         lines += [wanted_line(made, form) for made in job.entries()]
     if form == "length" and isinstance(job.value, dict) and isinstance(job.value.get("bytes"), str) and "length" not in job.value:
         return lines + ['mend: write `"length":%d`, all of its bytes; `td-run` fills it in.' % (len(job.value["bytes"]) // 2)]
-    return lines + (["mend: write it as the example does, outside of quotes." if form == "length" else "mend: write it as the example does."] if not job.entries() else [example_of(job.entries()[0], job.is_host() or form.startswith(("guests", "workers", "buffer", "swaps")))])
+    return lines + (["mend: write it as the example does, outside of quotes." if form == "length" else "mend: write it as the example does."] if not job.entries() else [example_of(job.entries()[0], job.is_host() or form.startswith(("guests", "workers", "buffer", "rings", "swaps")))])
 
 
 def no_entry(job):
@@ -298,6 +285,8 @@ def past_stretches(job, path):
 def too_long(job, path):
     if path.startswith("stretches"):
         return past_stretches(job, path)
+    if path.startswith("rings"):
+        return past_ring(job, path)
     if path == "length":
         lines = ["The message is longer than the bytes that are given."]
         if isinstance(job.value, dict) and isinstance(job.value.get("bytes"), str):
@@ -320,6 +309,8 @@ def too_long(job, path):
 
 
 def past_a_limit(job, path):
+    if path.startswith("rings["):
+        return past_a_limit_of_a_ring(job, path)
     limits = {
         "length": ("A message has at most 1,048,576 bytes.", "validate the messages of a buffer one by one."),
         "stretches": ("A message has at most 64 stretches, empty ones too.", "take the empty ones out, and join those that lie behind each other."),
@@ -327,6 +318,7 @@ def past_a_limit(job, path):
         "stores": ("A job has at most 65,536 stores, a host job as many of all its guests.", "give several jobs."),
         "workers": ("A host job has 1 to 16 workers.", 'write `"workers":2`.'),
         "guests": ("A host job has 1 to 16 guests.", 'write at least one: `"guests":[{"script":[["post",0,4]]}]`.'),
+        "rings": ("A job has at most 16 rings.", "give several jobs."),
         "swaps": ("A job has at most 16 swaps, so 17 versions with its own module.", "leave some out."),
         "posts": ("All guests post at most 4,096 messages.", "give several jobs."),
         "words": ("All messages that are posted have at most 1,048,576 words, each counted as often as it is posted.", "give several jobs."),
@@ -336,7 +328,9 @@ def past_a_limit(job, path):
     if isinstance(job.value, dict):
         there, value = at_path(job.value, path)
         if there and path != "value":
-            lines.append("The job has %s." % (len(value) if isinstance(value, list) and path in ("stretches", "stores", "guests", "swaps") else shown(value)))
+            lines.append("The job has %s." % (len(value) if isinstance(value, list) and path in ("stretches", "stores", "guests", "rings", "swaps") else shown(value)))
+        if path == "words" and job.value.get("rings"):
+            lines.append("Each take of a ring counts for `most` / 8, rounded down, and 2.")
     return lines + ["mend: " + mend]
 
 
@@ -400,6 +394,9 @@ def input_as_a_whole(code, text):
     if code == "Z1":
         return ["An input has at most 4,194,304 bytes, the module, the line `%%%%` and the job together; the module alone has %d." % len(text),
                 "mend: shorten the module's comments, or the message: two hexadecimal digits stand for one byte."]  # fmt: skip
+    if code == "Z3":
+        return ["The text by which the descriptors of rings are validated, the program's own, was refused. No input is known that gives this line.",
+                "mend: nothing is wrong with the module or the job; the program isn't the one that was built here."]  # fmt: skip
     near = [number for number, line in enumerate(text.split(b"\n"), 1) if line.strip() == b"%%"]
     lines = ["No line of the input is exactly `%%`."]
     if near:
@@ -416,8 +413,8 @@ PATHS = {
     "J4": r"(args|cells)(\[\d{1,5}\])?",
     "J5": r"bytes|buffer|value|stores\[\d{1,5}\]|" + STEP_PATH,
     "J6": r"stores\[\d{1,5}\]|" + STEP_PATH,
-    "J7": r"length|stretches(\[\d{1,5}\])?|" + STEP_PATH,
-    "J8": "length|stretches|value|stores|workers|guests|swaps|posts|words|" + STEP_PATH,
+    "J7": r"length|stretches(\[\d{1,5}\])?|rings\[\d{1,2}\]|" + STEP_PATH,
+    "J8": r"length|stretches|value|stores|workers|guests|rings(\[\d{1,2}\])?|swaps|posts|words|" + STEP_PATH,
     "J9": r"swaps\[\d{1,2}\]",
     "J10": r"value(\[\d{1,7}\])* E[1-4]",
 }
@@ -425,7 +422,7 @@ BY_CODE = {"J2": field_wrong, "J4": wrong_values, "J5": no_digits, "J6": no_word
 
 
 def help_of(text, code, path, job_text):
-    if code in ("Z1", "Z2"):
+    if code in ("Z1", "Z2", "Z3"):
         return input_as_a_whole(code, text)
     if code not in PATHS or not re.fullmatch(PATHS[code], path, re.DOTALL):
         return []

@@ -5,10 +5,11 @@ import threading
 
 from .canonical import canonical
 from .errors import JobError, ModuleError
-from .hosts import Wrong, host_job_of, judge
+from .hosts import Wrong, host_job_of
 from .jobs import job_of
 from .modules import module_of
 from .runs import Memory, run
+from .takes import judge
 
 INPUT_LIMIT = 4_194_304
 

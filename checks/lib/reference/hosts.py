@@ -19,9 +19,10 @@ from .jobs import (
 )
 from .layouts import STRETCHES_LIMIT, Layout, at_word
 from .modules import module_of
+from .rings import rings_of
 from .runs import Memory, run
 
-FIELDS = {"entry", "args", "buffer", "workers", "guests", "swaps"}
+FIELDS = {"entry", "args", "buffer", "workers", "guests", "rings", "swaps"}
 WORKERS_LIMIT = 16
 GUESTS_LIMIT = 16
 POSTS_LIMIT = 4_096
@@ -33,11 +34,11 @@ Version = collections.namedtuple("Version", "types entry")
 
 
 class HostJob:
-    """The versions, of which the first is the job's module, the arguments, the words of the buffer, the number of workers, and the
-    guests' scripts: lists of `("store", word, value)` and `("post", layout)`."""
+    """The versions, of which the first is the job's module, the arguments, the words of the buffer, the number of workers, the
+    guests' scripts, lists of `("store", word, value)` and `("post", layout)`, and the rings."""
 
-    def __init__(self, versions, arguments, words, workers, scripts):
-        self.versions, self.arguments, self.words, self.workers, self.scripts = versions, arguments, words, workers, scripts
+    def __init__(self, versions, arguments, words, workers, scripts, rings):
+        self.versions, self.arguments, self.words, self.workers, self.scripts, self.rings = versions, arguments, words, workers, scripts, rings
 
     def posts(self):
         """The guest, the number, the layout, and how many stores the guest made before it, of each post in the order of a report."""
@@ -155,14 +156,15 @@ def host_job_of(text, known):
     require(isinstance(guests, list), "J2", "guests")
     require(1 <= len(guests) <= GUESTS_LIMIT, "J8", "guests")
     scripts = [script_of(guest, "guests[%d]" % index, len(words)) for index, guest in enumerate(guests)]
+    rings = rings_of(job, len(words))
     versions = [Version(known.types, entry), *swaps_of(job, known.types[entry])]
     check_names(job, FIELDS)
     steps = [step for script in scripts for step in script]
     posts = [step for step in steps if step[0] == "post"]
     require(len(posts) <= POSTS_LIMIT, "J8", "posts")
     require(len(steps) - len(posts) <= STORES_LIMIT, "J8", "stores")
-    require(sum(len(layout.words) for _, layout in posts) <= WORDS_LIMIT, "J8", "words")
-    return HostJob(versions, arguments, words, workers, scripts)
+    require(sum(len(layout.words) for _, layout in posts) + sum(ring.words() for ring in rings) <= WORDS_LIMIT, "J8", "words")
+    return HostJob(versions, arguments, words, workers, scripts, rings)
 
 
 class Wrong(Exception):
@@ -183,10 +185,12 @@ class Told(Memory):
 
 
 def replies_of(report):
-    """The replies of a report: for each its guest and number, and the lines of its run."""
+    """The replies of a report: for each its guest and number, and the lines of its run. Behind them stand the takes of rings."""
     replies = []
     for line in report.splitlines(keepends=True):
         words = line.split()
+        if words[0] == "ring":
+            break
         if words[0] == "reply":
             replies.append(((int(words[1]), int(words[2])), []))
         elif not replies:
@@ -224,15 +228,14 @@ def workers_needed(numbers):
     return len(seen)
 
 
-def run_lines(version, arguments, layout, loads):
-    """The lines of the run's report of a message that carries these loads."""
+def lines_and_cells(version, arguments, memory):
+    """The lines of the run's report of a message in this memory, from cells of zeros, and the cells after it."""
     own_cells = version.types[version.entry].cells
     cells = [0] * len(own_cells)
-    memory = Told(layout, loads)
     lines = run(version.types, version.entry, arguments, cells, memory)
     for (name, field, _), value in zip(own_cells, cells):
         lines += "out %s%s %d\n" % (name, "" if field is None else "." + field, value)
-    return lines + memory.lines()
+    return lines + memory.lines(), cells
 
 
 def judge_loads(job, guest, made, layout, loads):
@@ -262,14 +265,14 @@ def judge_reply(job, post, lines):
     number, lines = version_in(lines, len(job.versions))
     loads = loads_of(layout, lines)
     judge_loads(job, guest, made, layout, loads)
-    wanted = run_lines(job.versions[number], job.arguments, layout, loads)
+    wanted = lines_and_cells(job.versions[number], job.arguments, Told(layout, loads))[0]
     if "".join(lines) != wanted:
         raise Wrong("%r, but %r is wanted" % ("".join(lines), wanted))
     return number
 
 
-def judge(job, report):
-    """Raises `Wrong` where this can't be the report of the job: another reply than one for each post, a version that there isn't, a
+def judge_replies(job, report):
+    """Raises `Wrong` where these can't be the replies of the job: another reply than one for each post, a version that there isn't, a
     load of what can't stand in its word then, words that don't rise, loads of one word that fit no order of the stores, another run than
     its version's of a message that carries the loads, or versions of a guest's replies that fall too often for the workers there are."""
     posts, replies = list(job.posts()), replies_of(report)

@@ -1,0 +1,60 @@
+"""Rings of descriptors in a guest's memory: their fields in a host job, and where their descriptors stand."""
+
+from .jobs import MESSAGE_LIMIT, check_names, is_whole, require
+
+RINGS_LIMIT = 16
+ENTRIES_LIMIT = 1_024
+TAKES_LIMIT = 4_096
+FIELDS = ("base", "entries", "most", "takes")
+DESCRIPTOR_WORDS = 2
+# How a take finds a ring: the words of the report, and where a descriptor waits.
+IDLE, OVERRUN, WAITING = "idle", "overrun", "waiting"
+# A descriptor is a message as any other, by this text.
+TEXT = b"""
+output typedef struct _DESC_OUT { UINT32 Place; UINT32 Size; UINT16 Id; } DESC_OUT;
+entrypoint typedef struct _DESC(UINT32 room, UINT32 most, mutable DESC_OUT *r) {
+  UINT32 place { place <= room } {:act r->Place = place;};
+  UINT32 size { size <= room - place && size <= most } {:act r->Size = size;};
+  UINT16 id {:act r->Id = id;}; UINT16 flags { flags == 0 }; UINT32 reserved; } DESC;
+"""
+
+
+class Ring:
+    """The word of the count, how many descriptors there is room for, how long a message may be, and how often the ring is looked at."""
+
+    def __init__(self, base, entries, most, takes):
+        self.base, self.entries, self.most, self.takes = base, entries, most, takes
+
+    def end(self):
+        return self.base + 1 + DESCRIPTOR_WORDS * self.entries
+
+    def first_word(self, number):
+        """The word of the buffer in which descriptor `number` begins."""
+        return self.base + 1 + DESCRIPTOR_WORDS * (number % self.entries)
+
+    def standing(self, taken, made):
+        if made == taken:
+            return IDLE
+        return WAITING if 0 < made - taken <= self.entries else OVERRUN
+
+    def words(self):
+        """How many words its takes count for in a job's total."""
+        return self.takes * (self.most // 8 + DESCRIPTOR_WORDS)
+
+
+def ring_of(ring, path, words):
+    require(isinstance(ring, dict), "J2", path)
+    for name in FIELDS:
+        require(is_whole(ring.get(name)), "J2", "%s.%s" % (path, name))
+    check_names(ring, set(FIELDS), path + ".%s")
+    found = Ring(*[ring[name] for name in FIELDS])
+    require(found.end() <= words, "J7", path)
+    require(1 <= found.entries <= ENTRIES_LIMIT and found.most <= MESSAGE_LIMIT and found.takes <= TAKES_LIMIT, "J8", path)
+    return found
+
+
+def rings_of(job, words):
+    rings = job.get("rings", [])
+    require(isinstance(rings, list), "J2", "rings")
+    require(len(rings) <= RINGS_LIMIT, "J8", "rings")
+    return [ring_of(ring, "rings[%d]" % index, words) for index, ring in enumerate(rings)]
