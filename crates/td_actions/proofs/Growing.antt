@@ -18,17 +18,19 @@ pub record Grows (s t : Scope) : Type 0 where
   pub more : List (List ℕ × Local)
   pub locals : t.locals ≡ s.locals ++ more
   pub cells : t.cells ≡ s.cells
+  pub buffers : t.buffers ≡ s.buffers
   pub start : t.start ≡ s.start
   pub this : t.this ≡ s.this
 
 pub same : (s : Scope) → Grows s s
-same s = record { more = []; locals = sym (append-nil s.locals); cells = refl; start = refl; this = refl }
+same s = record { more = []; locals = sym (append-nil s.locals); cells = refl; buffers = refl; start = refl; this = refl }
 
 pub further : (s t u : Scope) → Grows s t → Grows t u → Grows s u
 further s t u h k = record {
   more = h.more ++ k.more;
   locals = k.locals ∙ ap (λ l. l ++ k.more) h.locals ∙ append_assoc s.locals h.more k.more;
   cells = k.cells ∙ h.cells;
+  buffers = k.buffers ∙ h.buffers;
   start = k.start ∙ h.start;
   this = k.this ∙ h.this;
 }
@@ -43,13 +45,13 @@ declared_more es name l = by (is_some (looked_up es name))
 pub grows_local : (s : Scope) (x : List ℕ) (l : Local) → Grows s (with_local s x l)
 grows_local s x l =
     let d = declared_more s.locals x l in
-    record { more = d.0; locals = d.1; cells = refl; start = refl; this = refl }
+    record { more = d.0; locals = d.1; cells = refl; buffers = refl; start = refl; this = refl }
 
 -- a further level is no name
-pub grows_value : (s : Scope) (x : List ℕ) (l : Local) (levels : ℕ) → Grows s (record { locals = declared s.locals x l; levels = levels; cells = s.cells; start = s.start; this = s.this })
+pub grows_value : (s : Scope) (x : List ℕ) (l : Local) (levels : ℕ) → Grows s (record { locals = declared s.locals x l; levels = levels; cells = s.cells; buffers = s.buffers; start = s.start; this = s.this })
 grows_value s x l levels =
     let d = declared_more s.locals x l in
-    record { more = d.0; locals = d.1; cells = refl; start = refl; this = refl }
+    record { more = d.0; locals = d.1; cells = refl; buffers = refl; start = refl; this = refl }
 
 grows_read : (s : Scope) (x : List ℕ) (t : Target) → Grows s (with_read s x t)
 grows_read s x target.Unknown = grows_local s x _
@@ -80,6 +82,7 @@ cut_grown s t g = λ i. record {
   locals = (ap (λ l. take (length s.locals) l) g.locals ∙ take_all s.locals g.more) i;
   levels = s.levels;
   cells = g.cells i;
+  buffers = g.buffers i;
   start = g.start i;
   this = g.this i;
 }

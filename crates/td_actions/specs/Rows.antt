@@ -13,4 +13,5 @@ IsRowPast k (found.Local (local.Row c r)) = 2 ^ 32 ≤ c + length (slots_at k r)
 IsRowPast k (found.Local (local.Cell c t)) = ⊥
 IsRowPast k (found.Local (local.Value i w most)) = ⊥
 IsRowPast k (found.Local local.Unreadable) = ⊥
+IsRowPast k (found.Local (local.Buffer n)) = ⊥
 IsRowPast k (found.Global m) = ⊥

@@ -16,8 +16,9 @@ use crate::scopes::{add_level, cut_back};
 use crate::steps::{fork, last, read, set};
 use crate::ways::{block_ways, is_shaped};
 use std::alloc::{AllocError, Global};
-use td_ast::actions::{ActionTree, Block, Stmt, StmtKind};
+use td_ast::actions::{ActionKind, ActionTree, Block, Stmt, StmtKind};
 use td_ast::expressions::Expr;
+use td_ast::token::Span;
 use td_core::actions::{Action, Step};
 use td_rules::breach::Rule;
 use td_rules::known::{Known, Scope, Taken};
@@ -214,12 +215,12 @@ fn followed(alloc: Global, piece: Piece, rest: Action) -> Result<Action, AllocEr
 }
 
 /// An action whose paths its word doesn't have, or with a statement after a `return` or `abort` in its block.
-fn check_shape(tree: &ActionTree, findings: &mut Findings)
-    ensures { findings.new.first ≡ first_of findings.old.first (shape_breaches tree.now) }
+fn check_shape(kind: ActionKind, at: Span, statements: &Block, findings: &mut Findings)
+    ensures { findings.new.first ≡ first_of findings.old.first (shape_breaches kind at (block_of statements.now)) }
 {
-    let ways = block_ways(tree.statements.as_slice());
-    let is_broken = ways.after || !is_shaped(tree.kind, ways);
-    findings.note_if(is_broken, Rule::BadAction, tree.span);
+    let ways = block_ways(statements.as_slice());
+    let is_broken = ways.after || !is_shaped(kind, ways);
+    findings.note_if(is_broken, Rule::BadAction, at);
 }
 
 /// The statements of an action, with the position of its field in scope. `AllocError`: out of memory.
@@ -245,8 +246,8 @@ fn statements(
     Ok(action)
 }
 
-/// The action of a field, where it has one; its breaches are noted, and the names of its `var`s are given. The scope is
-/// then as before. `AllocError`: there is one, and out of memory.
+/// The action of a field, where it has one that is no copy; its breaches are noted, and the names of its `var`s are given.
+/// The scope is then as before. `AllocError`: there is one, and out of memory.
 #[tactic(auto, using(td_typing::proofs::Steps::first_append))]
 pub fn action(
     alloc: Global,
@@ -264,9 +265,16 @@ pub fn action(
 {
     match tree {
         None => Ok(None),
-        Some(tree) => {
-            check_shape(tree, findings);
-            let action = statements(alloc, known, scope, taken, &tree.statements, findings)?;
+        Some(ActionTree::Copied { .. }) => Ok(None),
+        Some(
+            ActionTree::Done {
+                kind,
+                span,
+                statements: block,
+            },
+        ) => {
+            check_shape(*kind, *span, block, findings);
+            let action = statements(alloc, known, scope, taken, block, findings)?;
             Ok(Some(action))
         }
     }

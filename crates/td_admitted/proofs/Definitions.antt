@@ -23,7 +23,7 @@ use Rattle.td_rules.specs.Definitions.{struct_head, struct_scope, struct_core, c
 use Rattle.td_admitted.proofs.Expressions.{core_nodes, some_nodes}
 use Rattle.td_admitted.proofs.Fields.{sum_total, fields_count, fields_nodes_within}
 use Rattle.td_admitted.proofs.Sizes.{fields_deep, cases_deep, default_deep, fields_heavy, cases_heavy, default_heavy}
-use Rattle.td_admitted.proofs.Heads.{params_count, cells_count}
+use Rattle.td_admitted.proofs.Heads.{params_count, buffers_count, cells_count}
 use Rattle.td_admitted.proofs.Linked.{AreLinked, type_deep, type_heavy}
 
 module _ (names : List (List ℕ)) (k : Known) where
@@ -52,6 +52,7 @@ module _ (names : List (List ℕ)) (k : Known) where
     pub record IsSmaller (tree : Def) (own : TypeDef) : Type 0 where
       pub params : length own.params ≤ count_params tree
       pub cells : length own.cells ≤ weights.count_cells known tree
+      pub buffers : length own.buffers ≤ count_params tree
       pub body : most_fields tree ≤ 256 → count_cases tree ≤ 256 → BodyWithin own.body
       pub nodes : 1 + (head_nodes own + body_nodes own.body) ≤ text.definition_nodes tree
       pub depth : definition_depth (depth_of k.definitions) (Some own) ≤ 1 + uses_depth known tree
@@ -67,6 +68,7 @@ module _ (names : List (List ℕ)) (k : Known) where
         record {
           params = omega (arith, params);
           cells = omega (arith, cells_count k known link names no_head d.head.params, sum_total (weights.param_cells known) d.head.params);
+          buffers = omega (arith, buffers_count names k no_head d.head.params);
           body = λ few cases. omega (arith, few, fields_count names k s d.fields);
           nodes = omega (arith, params, guard, fields_nodes_within names k s d.fields);
           depth = omega (arith, deep);
@@ -84,6 +86,7 @@ module _ (names : List (List ℕ)) (k : Known) where
         record {
           params = omega (arith, params);
           cells = omega (arith, cells_count k known link names no_head d.head.params, sum_total (weights.param_cells known) d.head.params);
+          buffers = omega (arith, buffers_count names k no_head d.head.params);
           body =
               λ few cases.
               let none : default_count d.default ≤ 256 = omega (arith, few) in

@@ -6,6 +6,7 @@ use Rattle.td_ast.specs.declared.expressions.UnaryOperator.TheVariants.{Not, Com
 use Rattle.td_ast.specs.declared.actions.Assigned.{Assigned}
 use Rattle.td_ast.specs.declared.actions.Assigned.TheVariants.{Value, FieldPtr}
 use Rattle.td_ast.specs.declared.actions.ActionTree.{ActionTree}
+use Rattle.td_ast.specs.declared.actions.ActionTree.TheVariants.{Done, Copied}
 use Rattle.td_ast.specs.Trees.{Tree, tree_size}
 use Rattle.td_ast.specs.Trees as tree
 use Rattle.td_ast.specs.Statements.{Statement, Store, StoreField, Var, If, IfElse, Return, Abort, Statements, End, More, block_of}
@@ -47,6 +48,7 @@ found_node (found.Local (local.Value i w most)) = refl
 found_node (found.Local local.Unreadable) = refl
 found_node (found.Local (local.Cell c t)) = refl
 found_node (found.Local (local.Row c r)) = refl
+found_node (found.Local (local.Buffer n)) = refl
 found_node (found.Global (meaning.Constant n)) = literal_node n (narrowest n)
 found_node (found.Global (meaning.Member n)) = literal_node n (narrowest n)
 found_node (found.Global (meaning.Number t)) = refl
@@ -144,4 +146,5 @@ mutual
 
 pub acted_nodes : (k : Known) (s : Scope) (a : Option ActionTree) → action_nodes (action_core k s a) ≤ text.action_nodes a
 acted_nodes k s None = omega arith
-acted_nodes k s (Some a) = block_nodes k (block_of a.statements) (inside s)
+acted_nodes k s (Some (Done kind at b)) = block_nodes k (block_of b) (inside s)
+acted_nodes k s (Some (Copied at n)) = omega arith

@@ -29,7 +29,7 @@ use Rattle.td_rules.specs.declared.known.Known.{Known}
 use Rattle.td_rules.specs.declared.known.Scope.{Scope}
 use Rattle.td_rules.specs.Known.{found_in, signature_at}
 use Rattle.td_rules.specs.Sorts.{core_of, option_core}
-use Rattle.td_rules.specs.Types.{args_core, args_cells, fits_params, fits_cells, applied, found_element, kind_element, element_of}
+use Rattle.td_rules.specs.Types.{args_core, args_cells, args_buffers, buffer_cells, fits, applied, found_element, kind_element, element_of}
 use Rattle.td_rules.specs.Extents.{zero_ended, extent_core}
 use Rattle.td_rules.specs.BitFields.{fits_room, unit_bits, part_of, whole_field, unit_field, new_unit, more_bits, room_of, grown, closed, bit_field, gathered}
 use Rattle.td_rules.specs.Fields.{readable_of, with_field, refinement_core, flat_of, flats_of, fields_core}
@@ -52,12 +52,13 @@ args_nodes k s [] es = omega arith
 args_nodes k s (p ∷ ps) [] = omega arith
 args_nodes k s (parameter.Value w ∷ ps) (e ∷ es) = omega (arith, core_nodes k s e, args_nodes k s ps es)
 args_nodes k s (parameter.Cells t ∷ ps) (e ∷ es) = omega (arith, args_nodes k s ps es)
+args_nodes k s (parameter.Buffer room ∷ ps) (e ∷ es) = omega (arith, args_nodes k s ps es)
 
-applied_nodes : (s : Scope) (j : ℕ) (o : Option TypeDef) (es : List Term) (cells : List ℕ) → element_nodes (applied s j o es cells) ≤ terms_nodes es
-applied_nodes s j None es cells = omega arith
-applied_nodes s j (Some d) es cells = by (fits_params d.params es && fits_cells s.cells d.cells cells)
+applied_nodes : (s : Scope) (j : ℕ) (o : Option TypeDef) (es : List Term) (cells ns : List ℕ) → element_nodes (applied s j o es cells ns) ≤ terms_nodes es
+applied_nodes s j None es cells ns = omega arith
+applied_nodes s j (Some d) es cells ns = by (fits s d es cells ns)
   where
-    by : (b : Bool) → element_nodes (cond b (element.Named j es cells) element.Unit) ≤ terms_nodes es
+    by : (b : Bool) → element_nodes (cond b (element.Named j es (cells ++ buffer_cells (length s.cells) ns)) element.Unit) ≤ terms_nodes es
     by true = omega arith
     by false = omega arith
 
@@ -66,7 +67,7 @@ named_nodes k s (found.Global (meaning.Number t)) args = omega arith
 named_nodes k s (found.Global (meaning.Enum t v)) args = omega arith
 named_nodes k s (found.Global (meaning.Type j)) args =
     let ps = signature_at k j in
-    omega (arith, applied_nodes s j (slice_get k.definitions j) (args_core k s ps args) (args_cells k s ps args), args_nodes k s ps args)
+    omega (arith, applied_nodes s j (slice_get k.definitions j) (args_core k s ps args) (args_cells k s ps args) (args_buffers k s ps args), args_nodes k s ps args)
 named_nodes k s (found.Global (meaning.Constant n)) args = omega arith
 named_nodes k s (found.Global (meaning.Member n)) args = omega arith
 named_nodes k s (found.Global (meaning.Record r)) args = omega arith

@@ -1,5 +1,5 @@
--- A definition has no more parameters and cells than its tree, and no more nodes there.
-use Rattle.std.proofs.Common.{◌≡◌, ℕ, ◌+◌, ◌≤◌, List, [], ◌∷◌, length, Option, Some, None, refl, subst, sym, arith, length-append}
+-- A definition has no more parameters, cells and copy buffers than its tree, and no more nodes there.
+use Rattle.std.proofs.Common.{◌≡◌, ℕ, ◌+◌, ◌≤◌, List, [], ◌∷◌, length, Option, Some, None, refl, ap, subst, sym, arith, length-append}
 use Rattle.std.proofs.lemmas.List.{length-map}
 use Rattle.td_num.specs.declared.number.Width.{Width}
 use Rattle.td_ast.specs.declared.parameters.TargetTree.{TargetTree}
@@ -19,7 +19,7 @@ use Rattle.td_rules.specs.declared.known.Known.{Known}
 use Rattle.td_rules.specs.declared.known.Scope.{Scope}
 use Rattle.td_rules.specs.declared.parameters.Head.{Head}
 use Rattle.td_rules.specs.Known.{found_in, slots_at, local_found, global_found}
-use Rattle.td_rules.specs.Parameters.{plain_width, found_cell, cell_type, slot_cell, cells_of, value_head, cell_head, with_param, head_of}
+use Rattle.td_rules.specs.Parameters.{plain_width, found_cell, cell_type, slot_cell, cells_of, buffer_room, value_head, cell_head, buffer_head, with_param, head_of}
 use Rattle.td_core.specs.Weights.{total}
 use Rattle.td_admitted.proofs.Linked.{Linked, AreLinked}
 
@@ -33,14 +33,47 @@ cell_count : (names : List (List ℕ)) (k : Known) (h : Head) (x : List ℕ) (o 
 cell_count names k h x None = omega arith
 cell_count names k h x (Some t) = omega arith
 
+buffer_params : (names : List (List ℕ)) (h : Head) (x : List ℕ) (o : Option ℕ) → length (buffer_head names h x o).params ≤ length h.params + 1
+buffer_params names h x None = omega arith
+buffer_params names h x (Some room) = omega arith
+
 pub params_count : (names : List (List ℕ)) (k : Known) (h : Head) (ps : List ParamTree) → length (head_of names k h ps).params ≤ length h.params + length ps
 params_count names k h [] = omega arith
 params_count names k h (param.Value t n ∷ ps) =
     omega (arith, params_count names k (with_param names k h (param.Value t n)) ps, value_count names h n.text (plain_width k h.scope t))
+params_count names k h (param.Bytes n room ∷ ps) =
+    omega (arith, params_count names k (with_param names k h (param.Bytes n room)) ps, buffer_params names h n.text (buffer_room k h.scope room))
 params_count names k h (param.Mutable t n ∷ ps) =
     omega (arith, params_count names k (with_param names k h (param.Mutable t n)) ps, cell_count names k h n.text (cell_type k h.scope t))
 
+-- ---- copy buffers
+
+value_buffers : (names : List (List ℕ)) (h : Head) (x : List ℕ) (o : Option Width) → (value_head names h x o).buffers ≡ h.buffers
+value_buffers names h x None = refl
+value_buffers names h x (Some w) = refl
+
+cell_buffers : (names : List (List ℕ)) (k : Known) (h : Head) (x : List ℕ) (o : Option CellType) → (cell_head names k h x o).buffers ≡ h.buffers
+cell_buffers names k h x None = refl
+cell_buffers names k h x (Some t) = refl
+
+buffer_buffers : (names : List (List ℕ)) (h : Head) (x : List ℕ) (o : Option ℕ) → length (buffer_head names h x o).buffers ≤ length h.buffers + 1
+buffer_buffers names h x None = omega arith
+buffer_buffers names h x (Some room) = omega (arith, length-append h.buffers (record { name = record { number = number_of names x }; room = room } ∷ []))
+
+pub buffers_count : (names : List (List ℕ)) (k : Known) (h : Head) (ps : List ParamTree) → length (head_of names k h ps).buffers ≤ length h.buffers + length ps
+buffers_count names k h [] = omega arith
+buffers_count names k h (param.Value t n ∷ ps) =
+    omega (arith, buffers_count names k (with_param names k h (param.Value t n)) ps, ap length (value_buffers names h n.text (plain_width k h.scope t)))
+buffers_count names k h (param.Mutable t n ∷ ps) =
+    omega (arith, buffers_count names k (with_param names k h (param.Mutable t n)) ps, ap length (cell_buffers names k h n.text (cell_type k h.scope t)))
+buffers_count names k h (param.Bytes n room ∷ ps) =
+    omega (arith, buffers_count names k (with_param names k h (param.Bytes n room)) ps, buffer_buffers names h n.text (buffer_room k h.scope room))
+
 -- ---- cells
+
+buffer_visible : (names : List (List ℕ)) (h : Head) (x : List ℕ) (o : Option ℕ) → (buffer_head names h x o).cells ≡ h.cells
+buffer_visible names h x None = refl
+buffer_visible names h x (Some room) = refl
 
 value_cells : (names : List (List ℕ)) (h : Head) (x : List ℕ) (o : Option Width) → (value_head names h x o).cells ≡ h.cells
 value_cells names h x None = refl
@@ -88,5 +121,7 @@ module _ (k : Known) (known : Measures) (link : AreLinked k.definitions k.record
       let same = value_cells names h n.text (plain_width k h.scope t) in
       let few : length (value_head names h n.text (plain_width k h.scope t)).cells ≤ length h.cells = subst (λ c. length c ≤ length h.cells) (sym same) (omega arith) in
       omega (arith, cells_count names (with_param names k h (param.Value t n)) ps, few)
+  cells_count names h (param.Bytes n room ∷ ps) =
+      omega (arith, cells_count names (with_param names k h (param.Bytes n room)) ps, ap length (buffer_visible names h n.text (buffer_room k h.scope room)))
   cells_count names h (param.Mutable t n ∷ ps) =
       omega (arith, cells_count names (with_param names k h (param.Mutable t n)) ps, cell_cells names k h n.text (cell_type k h.scope t), pointee_cells h.scope t)

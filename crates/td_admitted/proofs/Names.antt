@@ -6,6 +6,8 @@ use Rattle.td_ast.specs.declared.token.Span.{Span}
 use Rattle.td_ast.specs.declared.token.TokenKind.{TokenKind}
 use Rattle.td_ast.specs.declared.token.TokenKind.TheVariants as kinds
 use Rattle.td_ast.specs.declared.names.Name.{Name}
+use Rattle.td_ast.specs.declared.names.NumberTree.{NumberTree}
+use Rattle.td_ast.specs.declared.names.ConstTree.{ConstTree}
 use Rattle.td_ast.specs.declared.fields.FieldTree.{FieldTree}
 use Rattle.td_ast.specs.declared.parameters.ParamTree.{ParamTree}
 use Rattle.td_ast.specs.declared.definitions.SlotKind.TheVariants as slots
@@ -16,14 +18,14 @@ use Rattle.td_ast.specs.declared.definitions.ModuleTree.{ModuleTree}
 use Rattle.td_ast.specs.declared.parts.PartTree.{PartTree}
 use Rattle.td_ast.specs.Trees.{Tree}
 use Rattle.td_core.specs.WellFormed.{OfSome}
-use Rattle.td_grammar.specs.Grammar.{Grammar, ◌then◌, ◌making◌, maybe, all_of, ◌or◌}
+use Rattle.td_grammar.specs.Grammar.{Grammar, ◌then◌, ◌making◌, maybe, all_of, ◌or◌, either_by}
 use Rattle.td_grammar.specs.Sequences.{some_of, parted, list_of, in_parentheses}
 use Rattle.td_grammar.specs.Sets.{only}
 use Rattle.td_grammar.specs.Listed.{listed}
 use Rattle.td_grammar.specs.Tokens.{terminal, name, name_of, literal, number_type, constant, plain}
 use Rattle.td_grammar.specs.Expressions.{expr}
 use Rattle.td_grammar.specs.Actions.{action}
-use Rattle.td_grammar.specs.Parameters.{target, param, head}
+use Rattle.td_grammar.specs.Parameters.{target, byte, room, bytes_of, bytes, cell, place, param, head}
 use Rattle.td_grammar.specs.Fields.{type_tree, extent, refinement, field}
 use Rattle.td_grammar.specs.Definitions.{closing, case_tree, item, slot, define, enum_head, enumeration, struct_rest, subject, default_case, cases, casetype, alias_rest, plainly, typedef, entrypoint, output, def, module_text}
 use Rattle.td_grammar.specs.Parts.{module_word, part}
@@ -87,6 +89,11 @@ module _ (P : List ℕ → Type 0) where
   one_of g k Q one other a tokens (inl h) t = one a tokens h t
   one_of g k Q one other a tokens (inr h) t = other a tokens h t
 
+  by_first : {A : Type 0} (test : Token → Bool) (g k : Grammar A) (Q : A → Type 0) → Gives g Q → Gives k Q → Gives (either_by test g k) Q
+  unfolding Gives
+  by_first test g k Q one other a tokens (inl h) t = one a tokens h t
+  by_first test g k Q one other a tokens (inr h) t = other a tokens h t
+
   some : {A : Type 0} (g : Grammar A) (Q : A → Type 0) → Gives g Q → Gives (some_of g) (Each Q)
   some g Q one = made _ _ _ (Each Q) (both g (all_of g) Q (Each Q) one (each g Q one)) (λ a h. h)
 
@@ -131,11 +138,25 @@ module _ (P : List ℕ → Type 0) where
   abbrev OfMaker : (Bool → Def) → Type 0
   OfMaker made_of = (entry : Bool) → OfDefinition (made_of entry)
 
+  of_bytes : (number : NumberTree) (n : Name) (o : Option ConstTree) → P n.text → OfParam (bytes_of number n o)
+  of_bytes number n None h = h
+  of_bytes number n (Some count) h = h
+
+  bytes_gives : Gives bytes OfParam
+  bytes_gives =
+      made _ _ _ OfParam (later byte _ _ (later (terminal kinds.Star) _ _ (sooner name (maybe room) _ name_gives))) (λ a h. of_bytes a.0 a.1.1.0 a.1.1.1 h)
+
+  cell_gives : Gives cell OfParam
+  cell_gives = made _ _ _ OfParam (later target _ _ (later (terminal kinds.Star) _ _ name_gives)) (λ a h. h)
+
+  place_gives : Gives place OfParam
+  place_gives = by_first _ bytes cell OfParam bytes_gives cell_gives
+
   param_gives : Gives param OfParam
   unfolding param
   param_gives =
       one_of _ _ OfParam (made _ _ _ OfParam (later plain _ _ name_gives) (λ a h. h))
-      (made _ _ _ OfParam (later (terminal kinds.Mutable) _ _ (later target _ _ (later (terminal kinds.Star) _ _ name_gives))) (λ a h. h))
+      (made _ _ _ OfParam (later (terminal kinds.Mutable) place _ place_gives) (λ a h. h))
 
   head_gives : Gives head (λ h. Each OfParam h.params)
   unfolding head

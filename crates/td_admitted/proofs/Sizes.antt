@@ -34,7 +34,7 @@ use Rattle.td_rules.specs.declared.known.Known.{Known}
 use Rattle.td_rules.specs.declared.known.Scope.{Scope}
 use Rattle.td_rules.specs.Known.{found_in, local_found, global_found, signature_at}
 use Rattle.td_rules.specs.Sorts.{core_of}
-use Rattle.td_rules.specs.Types.{args_core, args_cells, fits_params, fits_cells, applied, found_element, kind_element}
+use Rattle.td_rules.specs.Types.{args_core, args_cells, args_buffers, buffer_cells, fits, applied, found_element, kind_element}
 use Rattle.td_rules.specs.Extents.{zero_ended, extent_core}
 use Rattle.td_rules.specs.BitFields.{fits_room, unit_bits, part_of, whole_field, new_unit, room_of, grown, closed, bit_field, gathered}
 use Rattle.td_rules.specs.Fields.{with_field, flat_of, flats_of, fields_core}
@@ -79,11 +79,11 @@ found_type None (Some m) j e = cc
 found_type (Some l) p j e = absurd cc
 
 module _ (k : Known) (earlier : ℕ → ℕ) (most : List ℕ → ℕ) (link : (n : List ℕ) (j : ℕ) → looked_up k.globals n ≡ Some (meaning.Type j) → earlier j ≤ most n) where
-  applied_takes : (s : Scope) (j : ℕ) (o : Option TypeDef) (es : List Term) (cells : List ℕ) → of_named earlier (applied s j o es cells) ≤ earlier j
-  applied_takes s j None es cells = omega arith
-  applied_takes s j (Some d) es cells = by (fits_params d.params es && fits_cells s.cells d.cells cells)
+  applied_takes : (s : Scope) (j : ℕ) (o : Option TypeDef) (es : List Term) (cells ns : List ℕ) → of_named earlier (applied s j o es cells ns) ≤ earlier j
+  applied_takes s j None es cells ns = omega arith
+  applied_takes s j (Some d) es cells ns = by (fits s d es cells ns)
     where
-      by : (b : Bool) → of_named earlier (cond b (element.Named j es cells) element.Unit) ≤ earlier j
+      by : (b : Bool) → of_named earlier (cond b (element.Named j es (cells ++ buffer_cells (length s.cells) ns)) element.Unit) ≤ earlier j
       by true = omega arith
       by false = omega arith
 
@@ -94,7 +94,7 @@ module _ (k : Known) (earlier : ℕ → ℕ) (most : List ℕ → ℕ) (link : (
       let ps = signature_at k j in
       omega (
         arith,
-        applied_takes s j (slice_get k.definitions j) (args_core k s ps args) (args_cells k s ps args),
+        applied_takes s j (slice_get k.definitions j) (args_core k s ps args) (args_cells k s ps args) (args_buffers k s ps args),
         link n j (found_type (looked_up s.locals n) (looked_up k.globals n) j e),
       )
   named_takes s n (found.Global (meaning.Constant m)) args e = omega arith

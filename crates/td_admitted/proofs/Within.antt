@@ -156,7 +156,7 @@ type_within : (k : Known) (known : Measures) (names : List (List ℕ)) (nodes : 
     → KnownWithin (with_type k is_entry name ps given own) (declared known name (measure_of known d)) (nodes + definition_nodes d)
 type_within k known names nodes d own name is_entry ps given n h w link small =
     let more = length-append k.definitions (own ∷ []) in
-    let it : DefinitionWithin own = record { params = omega (arith, small.params, w.params); cells = omega (arith, small.cells, w.cells); body = small.body w.fields w.cases } in
+    let it : DefinitionWithin own = record { params = omega (arith, small.params, w.params); cells = omega (arith, small.cells, w.cells); buffers = omega (arith, small.buffers, w.params); body = small.body w.fields w.cases } in
     let depth = small.depth in
     let weight = small.weight in
     record {

@@ -61,13 +61,20 @@ pub enum ActionKind {
     OnSuccess,
 }
 
-/// `ACTWORD { stmt } "}"`, an action.
+/// An action.
 #[derive(Drop)]
-pub struct ActionTree {
-    pub kind: ActionKind,
-    /// The span of its first token.
-    pub span: Span,
-    pub statements: Block,
+pub enum ActionTree {
+    /// `ACTWORD { stmt } "}"`, with the span of its first token.
+    Done {
+        kind: ActionKind,
+        span: Span,
+        statements: Block,
+    },
+    /// `"{:copy" NAME "}"`, with the span of `{:copy`: the field's bytes go to the copy buffer of that name.
+    Copied {
+        span: Span,
+        name: Name,
+    },
 }
 
 impl Model for Stmt {

@@ -1,7 +1,7 @@
 //! What stands between the first name of a struct or casetype and its body: parameters and the `where` condition.
 
 use crate::expressions::Expr;
-use crate::names::{Name, NumberTree, PlainTree};
+use crate::names::{ConstTree, Name, NumberTree, PlainTree};
 use crate::token::Span;
 use td_num::items::Items;
 
@@ -21,6 +21,8 @@ pub enum ParamTree {
     Value(PlainTree, Name),
     /// `"mutable" target "*" NAME`, a place that actions store to.
     Mutable(TargetTree, Name),
+    /// `"mutable" "UINT8" "*" NAME "[" const "]"`, a copy buffer with its room.
+    Bytes { name: Name, room: ConstTree },
 }
 
 /// `["(" param { "," param } ")"] ["where" expr]`, a head. Where there are no parentheses, `params` is empty.

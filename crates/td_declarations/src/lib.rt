@@ -10,5 +10,6 @@ pub mod names;
 pub mod numbers;
 pub mod parameters;
 pub mod records;
+pub mod rooms;
 pub mod scopes;
 pub mod slots;

@@ -16,7 +16,9 @@ fn see_params(alloc: Global, trees: &[ParamTree], names: &mut Names) -> Result<(
     ensures { OnOk result (names.new ≡ see_params names.old trees.now) }
 {
     for tree in trees {
-        let (ParamTree::Value(_, name) | ParamTree::Mutable(_, name)) = tree;
+        let (ParamTree::Value(_, name)
+        | ParamTree::Mutable(_, name)
+        | ParamTree::Bytes { name, .. }) = tree;
         names.see(alloc, name.text.as_slice())?;
     }
     Ok(())

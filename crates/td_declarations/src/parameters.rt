@@ -4,9 +4,10 @@ ghost use Rattle.std.specs.Prelude.{◌≡◌, ◌<◌, IfOk, OnErr, OnOk, is_so
 ghost use Rattle.td_rules.specs.Breach.{first_of};
 ghost use Rattle.td_declarations.specs.Heads.{with_cell, with_all_cells};
 ghost use Rattle.td_declarations.specs.Slots.{part_cell, record_parts};
-ghost use Rattle.td_rules.specs.Parameters.{no_head, found_width, plain_width, found_cell, cell_type, cells_of, cells_local, unread_head, value_head, cell_head, with_param, head_of, named_breaches, plain_breaches, pointee_breaches, param_name_breaches, param_breaches, params_breaches};
+ghost use Rattle.td_rules.specs.Parameters.{no_head, found_width, plain_width, found_cell, cell_type, cells_of, cells_local, unread_head, value_head, cell_head, buffer_head, with_param, head_of, named_breaches, plain_breaches, pointee_breaches, param_name_breaches, param_breaches, params_breaches};
 
 use crate::numbers::next_place;
+use crate::rooms::{buffer_room, check_room};
 use crate::scopes::{no_scope, none_taken};
 use crate::slots::{SlotCell, slot_cells_at};
 use std::alloc::{AllocError, Global};
@@ -14,7 +15,7 @@ use td_actions::scopes::{add_local, add_value, scalar_of, take_name};
 use td_ast::names::{Name, PlainTree};
 use td_ast::parameters::{ParamTree, TargetTree};
 use td_ast::token::Span;
-use td_core::module::{Cell, CellKind, NameId, Param};
+use td_core::module::{Buffer, Cell, CellKind, NameId, Param};
 use td_expr::types::greatest_of;
 use td_names::names::Names;
 use td_num::items::Items;
@@ -34,6 +35,7 @@ fn no_head(alloc: Global) -> Head
         parameters: Items::new(alloc),
         params: Items::new(alloc),
         cells: Items::new(alloc),
+        buffers: Items::new(alloc),
         taken: none_taken(alloc),
     }
 }
@@ -132,6 +134,10 @@ fn check_param(known: &Known, head: &Head, tree: &ParamTree, findings: &mut Find
         }
         ParamTree::Mutable(target, name) => {
             check_target(known, &head.scope, target, findings);
+            check_name(known, head, name, findings);
+        }
+        ParamTree::Bytes { name, room } => {
+            check_room(known, &head.scope, room, findings);
             check_name(known, head, name, findings);
         }
     }
@@ -259,6 +265,31 @@ fn add_cells(
     take_name(alloc, &mut head.taken, name)
 }
 
+/// One more copy buffer. `AllocError`: out of memory.
+fn add_buffer(
+    alloc: Global,
+    names: &Names,
+    head: &mut Head,
+    name: &[u8],
+    room: Option<u32>,
+) -> Result<(), AllocError>
+    ensures { OnOk result (head.new ≡ buffer_head names.now head.old name.now room) }
+{
+    let Some(room) = room else {
+        return add_unread(alloc, head, name);
+    };
+    let place = next_place(head.buffers.len())?;
+    let number = names.number(name);
+    add_local(alloc, &mut head.scope, name, Local::Buffer(place))?;
+    head.scope.buffers.push(room)?;
+    head.parameters.push(Parameter::Buffer(room))?;
+    head.buffers.push(Buffer {
+        name: NameId { number },
+        room,
+    })?;
+    take_name(alloc, &mut head.taken, name)
+}
+
 /// One more parameter. `AllocError`: out of memory.
 fn add_param(
     alloc: Global,
@@ -287,6 +318,10 @@ fn add_param(
                 name.text.as_slice(),
                 cells,
             )
+        }
+        ParamTree::Bytes { name, room } => {
+            let room = buffer_room(known, &head.scope, room);
+            add_buffer(alloc, names, head, name.text.as_slice(), room)
         }
     }
 }

@@ -34,6 +34,7 @@ pub fn no_scope(alloc: Global) -> Scope
         locals: Table::new(alloc),
         levels: 0,
         cells: Items::new(alloc),
+        buffers: Items::new(alloc),
         start: None,
         this: None,
     }

@@ -173,7 +173,7 @@ fn structure(
         name: NameId { number },
         params: head.params,
         cells: head.cells,
-        buffers: Items::new(alloc),
+        buffers: head.buffers,
         guard: inner.guard,
         body: inner.body,
     };
@@ -240,7 +240,7 @@ fn casetype(
         name: NameId { number },
         params: head.params,
         cells: head.cells,
-        buffers: Items::new(alloc),
+        buffers: head.buffers,
         guard: inner.guard,
         body: inner.body,
     };

@@ -1,4 +1,4 @@
--- Where each operator is safe, values lie in their types' ranges.
+-- Where each operator is safe, values lie in their types' ranges. Cited by other crates.
 use Rattle.std.proofs.Common.{◌≡◌, ℕ, zero, suc, ◌<◌, ◌≤◌, ◌+◌, Bool, true, false, refl, sym, ap, subst, ◌∙◌, inl, inr, arith, List, ◌++◌, ℤ, pos, negsuc, Option, Some, None}
 use Rattle.std.specs.Prelude.{◌-ℤ◌, ◌+ℤ◌, ◌||◌, ◌&&◌, int_lt, nat_le, slice_index}
 use Rattle.std.proofs.lemmas.Bool.{ltb-true, eqb-true, false≢true, and_parts, or_cases}

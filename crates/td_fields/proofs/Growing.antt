@@ -12,21 +12,22 @@ use Rattle.td_fields.specs.Scopes.{fields_scope, Grows}
 use Rattle.td_actions.proofs.Growing.{declared_more, take_all}
 
 pub same : (s : Scope) → Grows s s
-same s = record { more = []; locals = sym (append-nil s.locals); cells = refl; start = refl; this = refl }
+same s = record { more = []; locals = sym (append-nil s.locals); cells = refl; buffers = refl; start = refl; this = refl }
 
 pub further : (s t u : Scope) → Grows s t → Grows t u → Grows s u
 further s t u h k = record {
   more = h.more ++ k.more;
   locals = k.locals ∙ ap (λ l. l ++ k.more) h.locals ∙ append_assoc s.locals h.more k.more;
   cells = k.cells ∙ h.cells;
+  buffers = k.buffers ∙ h.buffers;
   start = k.start ∙ h.start;
   this = k.this ∙ h.this;
 }
 
-grows_value : (s : Scope) (x : List ℕ) (l : Local) (levels : ℕ) → Grows s (record { locals = declared s.locals x l; levels = levels; cells = s.cells; start = s.start; this = s.this })
+grows_value : (s : Scope) (x : List ℕ) (l : Local) (levels : ℕ) → Grows s (record { locals = declared s.locals x l; levels = levels; cells = s.cells; buffers = s.buffers; start = s.start; this = s.this })
 grows_value s x l levels =
     let d = declared_more s.locals x l in
-    record { more = d.0; locals = d.1; cells = refl; start = refl; this = refl }
+    record { more = d.0; locals = d.1; cells = refl; buffers = refl; start = refl; this = refl }
 
 grows_readable : (s : Scope) (x : List ℕ) (v : Option Readable) → Grows s (with_readable s x v)
 grows_readable s x None = grows_value s x _ _
@@ -41,13 +42,14 @@ grows k s (f ∷ fs) = further s (with_field k s f) (fields_scope k (with_field 
 
 -- a scope that grew is cut back to what it was
 abbrev pub cut_back : Scope → Scope → Scope
-cut_back s t = record { locals = take (length s.locals) t.locals; levels = s.levels; cells = t.cells; start = t.start; this = t.this }
+cut_back s t = record { locals = take (length s.locals) t.locals; levels = s.levels; cells = t.cells; buffers = t.buffers; start = t.start; this = t.this }
 
 pub cut : (s t : Scope) → Grows s t → cut_back s t ≡ s
 cut s t g = λ i. record {
   locals = (ap (λ l. take (length s.locals) l) g.locals ∙ take_all s.locals g.more) i;
   levels = s.levels;
   cells = g.cells i;
+  buffers = g.buffers i;
   start = g.start i;
   this = g.this i;
 }

@@ -15,5 +15,6 @@ pub record Grows (s t : Scope) : Type 0 where
   pub more : List (List ℕ × Local)
   pub locals : t.locals ≡ s.locals ++ more
   pub cells : t.cells ≡ s.cells
+  pub buffers : t.buffers ≡ s.buffers
   pub start : t.start ≡ s.start
   pub this : t.this ≡ s.this

@@ -83,7 +83,7 @@ fn whole_field(alloc: Global, flat: FlatField) -> Result<Field, AllocError>
     Ok(Field {
         element: flat.element,
         extent: flat.extent,
-        copy: None,
+        copy: flat.copy,
         parts,
         place: flat.place,
     })

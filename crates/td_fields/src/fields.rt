@@ -8,11 +8,13 @@ ghost use Rattle.td_rules.specs.ExprRules.{test_breaches};
 ghost use Rattle.td_rules.specs.Actions.{action_breaches, action_vars, action_core};
 ghost use Rattle.td_rules.specs.Types.{type_breaches, element_of};
 ghost use Rattle.td_rules.specs.Extents.{extent_breaches, extent_core};
+ghost use Rattle.td_rules.specs.Copies.{copy_breaches, copy_core};
 ghost use Rattle.td_rules.specs.Fields.{readable_of, with_field, field_name_breaches, field_breaches, field_taken, flat_of, fields_breaches, fields_taken, fields_core};
 ghost use Rattle.td_fields.specs.Narrow.{IsNarrow};
 ghost use Rattle.td_fields.specs.Scopes.{fields_scope};
 
 use crate::bit_fields::Gathering;
+use crate::copies::{are_bytes, copy};
 use crate::extents::{bit_width, extent};
 use crate::flat::{add_field, check_name, check_refined, refinement_of};
 use std::alloc::{AllocError, Global};
@@ -121,13 +123,16 @@ fn field(
     let shape = shape(alloc, known, scope, taken, tree, findings)?;
     check_refined(known, scope, tree, findings);
     let width = bit_width(known, scope, &tree.type_tree, &tree.extent);
+    let bytes = are_bytes(known, scope, &tree.type_tree, &tree.extent);
     let readable = bring(alloc, known, scope, taken, tree)?;
     let tests = tests(alloc, known, scope, taken, tree, findings)?;
+    let copy = copy(known, scope, bytes, &tree.action, findings)?;
     let (element, extent) = shape;
     let (refinement, action) = tests;
     Ok(FlatField {
         element,
         extent,
+        copy,
         width,
         name: NameId {
             number: names.number(tree.name.text.as_slice()),

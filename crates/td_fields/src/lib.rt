@@ -4,6 +4,7 @@
 #![tactic(auto)]
 
 mod bit_fields;
+mod copies;
 mod extents;
 pub mod fields;
 mod flat;

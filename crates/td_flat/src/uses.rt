@@ -166,7 +166,8 @@ fn add_action(
 {
     match action {
         None => Ok(()),
-        Some(action) => add_block(alloc, uses, &action.statements),
+        Some(ActionTree::Done { statements, .. }) => add_block(alloc, uses, statements),
+        Some(ActionTree::Copied { .. }) => Ok(()),
     }
 }
 
@@ -208,6 +209,7 @@ fn add_param(alloc: Global, uses: &mut Items<Name>, param: &ParamTree) -> Result
     match param {
         ParamTree::Value(plain, _) => add_plain(alloc, uses, plain),
         ParamTree::Mutable(target, _) => add_target(alloc, uses, target),
+        ParamTree::Bytes { room, .. } => add_constant(alloc, uses, room),
     }
 }
 

@@ -3,7 +3,7 @@ use Rattle.std.specs.Prelude.{◌≡◌, ◌⊎◌, ◌≤◌, ℕ, List, [], le
 use Rattle.td_num.specs.Lists.{Each}
 use Rattle.td_core.specs.declared.module.Module.{Module}
 use Rattle.td_core.specs.Formed.{IsModuleFormed}
-use Rattle.td_core.specs.Copies.{IsCopying, IsCopyless}
+use Rattle.td_core.specs.Copies.{IsCopying}
 use Rattle.td_core.specs.declared.limits.TheConstants.{MOST_NODES, MOST_DEPTH, MOST_WEIGHT}
 use Rattle.td_core.specs.Entries.{name_bytes}
 use Rattle.td_core.specs.Weights.{depth_of, definitions_nodes, weight_of}
@@ -20,9 +20,7 @@ AreApart names = (i j : ℕ) (name : List ℕ) → slice_get names i ≡ Some na
 pub record IsChecked (m : Module) : Type 0 where
   -- levels are in scope, literals fit, and earlier definitions are named with arguments and cells that match
   pub formed : IsModuleFormed m
-  -- nothing is copied, as no text says it yet
-  pub copyless : IsCopyless m
-  -- what is copied is bytes, buffers are given on with their rooms, and actions name no cell of one
+  -- what is copied is a byte-sized array of UINT8, buffers are given on with their rooms, and actions name no cell of one
   pub copying : IsCopying m
   -- truth values stand where truth values must, and numbers where numbers must
   pub sorted : Each IsDefinitionSorted m.definitions

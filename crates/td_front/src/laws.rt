@@ -12,8 +12,8 @@ use td_grammar::laws::{each_answered, never_both, one_refused, one_too_deep, one
 use td_lexer::tokens_are_the_splitting;
 use td_linked::laws::one_answer_each as one_of_each;
 use td_rules::laws::{
-    fields_are_whole, modules_are_copying, modules_are_copyless, modules_are_formed,
-    modules_are_named, modules_are_sorted, modules_are_whole, names_are_apart,
+    fields_are_whole, modules_are_copying, modules_are_formed, modules_are_named,
+    modules_are_sorted, modules_are_whole, names_are_apart,
 };
 
 /// A text stands for at most one module, or has at most one refusal, and never both.
@@ -77,7 +77,6 @@ pub fn modules_are_checked()
     ensures { ModulesAreChecked }
 {
     modules_are_formed();
-    modules_are_copyless();
     modules_are_copying();
     modules_are_sorted();
     modules_are_whole();

@@ -88,7 +88,7 @@ fn check_kinds(alloc: Global, tree: &ModuleTree, m: &Module) -> Result<(), Front
     }
 }
 
-/// Tests the operators of a tree's module: A1. `NoMemory`: there is a definition, and there was no memory to look at it.
+/// Tests the operators and copies of a tree's module: A1, A2. `NoMemory`: there is a definition, and there was no memory to look at it.
 fn check_safety(alloc: Global, tree: &ModuleTree, m: &Module) -> Result<(), FrontError>
     requires kinds { HasKinds tree.now }
     requires m { m.now ≡ module_of tree.now }

@@ -7,11 +7,12 @@ use Rattle.td_grammar.specs.Actions.{action}
 use Rattle.td_grammar.specs.Listed.{listed}
 use Rattle.td_grammar.specs.Tokens.{dotted, qualified, constant, plain}
 use Rattle.td_grammar.specs.Sequences.{some_of, in_parentheses}
-use Rattle.td_grammar.specs.Parameters.{target, param, head}
+use Rattle.td_grammar.specs.Parameters.{is_byte, target, room, bytes, cell, place, param, head}
 use Rattle.td_grammar.specs.Fields.{type_tree, extent, refinement, field}
 use Rattle.td_grammar.specs.Definitions.{closing, enum_head, subject, default_case, cases, case_tree, item, slot, define, enumeration, struct_rest, casetype, alias_rest, typedef, entrypoint, output, def, module_text}
 use Rattle.td_grammar.proofs.Exact.{IsExact}
-use Rattle.td_grammar.proofs.Proper.{IsProper, terminal_proper, name_proper, literal_proper, number_type_proper, expr_proper, action_proper, sequel, making_proper, or_proper, maybe_proper, all_proper, listed_proper}
+use Rattle.td_grammar.proofs.Proper.{IsProper, terminal_proper, name_proper, literal_proper, number_type_proper, expr_proper, action_proper, sequel, making_proper, or_proper, either_proper, maybe_proper, all_proper, listed_proper}
+use Rattle.td_grammar.proofs.Bytes.{byte_proper, wider_proper, bytes_tested, cell_tested}
 
 dotted_proper : IsProper dotted
 dotted_proper = making_proper _ _ (sequel (terminal_proper kinds.Dot refl) name_proper refl)
@@ -26,13 +27,25 @@ plain_proper : IsProper plain
 plain_proper = or_proper _ _ (making_proper _ _ number_type_proper) (making_proper _ _ qualified_proper) refl refl refl
 
 target_proper : IsProper target
-target_proper = or_proper _ _ (making_proper _ _ number_type_proper) (or_proper _ _ (making_proper _ _ (terminal_proper kinds.Pointer refl)) (making_proper _ _ qualified_proper) refl refl refl) refl refl refl
+target_proper = or_proper _ _ (making_proper _ _ wider_proper) (or_proper _ _ (making_proper _ _ (terminal_proper kinds.Pointer refl)) (making_proper _ _ qualified_proper) refl refl refl) refl refl refl
+
+room_proper : IsProper room
+room_proper = making_proper _ _ (sequel (terminal_proper kinds.OpenBracket refl) (sequel constant_proper (terminal_proper kinds.CloseBracket refl) refl) refl)
+
+bytes_proper : IsProper bytes
+bytes_proper = making_proper _ _ (sequel byte_proper (sequel (terminal_proper kinds.Star refl) (sequel name_proper (maybe_proper room room_proper refl) refl) refl) refl)
+
+cell_proper : IsProper cell
+cell_proper = making_proper _ _ (sequel target_proper (sequel (terminal_proper kinds.Star refl) name_proper refl) refl)
+
+place_proper : IsProper place
+place_proper = either_proper (λ t. is_byte t.kind) bytes cell bytes_proper cell_proper refl refl bytes_tested cell_tested
 
 param_proper : IsProper param
 unfolding param
 param_proper =
     or_proper _ _ (making_proper _ _ (sequel plain_proper name_proper refl))
-    (making_proper _ _ (sequel (terminal_proper kinds.Mutable refl) (sequel target_proper (sequel (terminal_proper kinds.Star refl) name_proper refl) refl) refl)) refl refl refl
+    (making_proper _ _ (sequel (terminal_proper kinds.Mutable refl) place_proper refl)) refl refl refl
 
 params_proper : IsProper (in_parentheses param)
 unfolding param

@@ -1,8 +1,9 @@
 -- A production that is exact and unambiguous, and how such ones are combined.
-use Rattle.std.proofs.Common.{◌≡◌, ℕ, true, false, List}
+use Rattle.std.proofs.Common.{◌≡◌, ℕ, Bool, true, false, List}
+use Rattle.td_ast.specs.declared.token.Token.{Token}
 use Rattle.td_ast.specs.declared.token.TokenKind.{TokenKind}
 use Rattle.td_ast.specs.Kinds.{is_kind}
-use Rattle.td_grammar.specs.Grammar.{Grammar, ◌then◌, ◌making◌, maybe, all_of, ◌or◌}
+use Rattle.td_grammar.specs.Grammar.{Grammar, ◌then◌, ◌making◌, maybe, all_of, ◌or◌, either_by}
 use Rattle.td_grammar.specs.Listed.{listed}
 use Rattle.td_grammar.specs.Tokens.{terminal, name, literal, number_type}
 use Rattle.td_grammar.specs.Expressions.{expr}
@@ -18,6 +19,7 @@ use Rattle.td_grammar.proofs.Lists.{listed_exact}
 use Rattle.td_grammar.proofs.Words.{terminal_exact, name_exact, literal_exact, number_type_exact}
 use Rattle.td_grammar.proofs.Scanned.{expr_exact}
 use Rattle.td_grammar.proofs.Stmts.{action_exact}
+use Rattle.td_grammar.proofs.Tested.{IsTested, tested_exact, tested_one}
 use Rattle.td_grammar.proofs.Unambiguous.{IsOne, then_one, making_one, maybe_one, or_one}
 use Rattle.td_grammar.proofs.UnambiguousLists.{all_one, listed_one}
 use Rattle.td_grammar.proofs.UnambiguousActions.{terminal_one, name_one, literal_one, number_type_one, expr_one, action_one}
@@ -52,6 +54,9 @@ making_proper g f G = record { exact = making_exact g f G.exact; one = making_on
 
 pub or_proper : {A : Type 0} (g h : Grammar A) → IsProper g → IsProper h → g.reader.may_be_empty ≡ false → h.reader.may_be_empty ≡ false → disjoint h.reader.begins g.reader.begins ≡ true → IsProper (g or h)
 or_proper g h G H g_solid h_solid apart = record { exact = or_exact g h G.exact H.exact g_solid h_solid apart; one = or_one g h G.one H.one g_solid h_solid apart }
+
+pub either_proper : {A : Type 0} (test : Token → Bool) (g h : Grammar A) → IsProper g → IsProper h → g.reader.may_be_empty ≡ false → h.reader.may_be_empty ≡ false → IsTested test true g → IsTested test false h → IsProper (either_by test g h)
+either_proper test g h G H g_solid h_solid passing failing = record { exact = tested_exact test g h G.exact H.exact g_solid h_solid passing failing; one = tested_one test g h G.one H.one g_solid h_solid passing failing }
 
 module _ {A : Type 0} (g : Grammar A) (G : IsProper g) (solid : g.reader.may_be_empty ≡ false) where
   pub maybe_proper : IsProper (maybe g)

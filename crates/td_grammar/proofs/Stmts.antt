@@ -84,4 +84,6 @@ action_word = word_exact action_kinds action_of kinds.Act actions.Act refl actio
 
 pub action_exact : IsExact action
 unfolding action
-action_exact = making_exact _ _ (sequel action_word (sequel (all_exact (statement BRACES) (statement_exact BRACES) refl refl) (terminal_exact kinds.CloseBrace refl) refl) refl)
+action_exact =
+    or_exact _ _ (making_exact _ _ (sequel action_word (sequel (all_exact (statement BRACES) (statement_exact BRACES) refl refl) (terminal_exact kinds.CloseBrace refl) refl) refl))
+    (making_exact _ _ (sequel (terminal_exact kinds.Copy refl) (sequel name_exact (terminal_exact kinds.CloseBrace refl) refl) refl)) refl refl refl

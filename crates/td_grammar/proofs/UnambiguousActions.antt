@@ -135,4 +135,5 @@ statement_one n = record { led = led_of (statement_exact n); only = statement_on
 pub action_one : IsOne action
 unfolding action
 action_one =
-    making_one _ _ (sequel_one (one_one action_kinds (λ t. beside (action_of t.kind) t.span) action_word) (sequel_one (all_one (statement BRACES) (statement_one BRACES) refl refl) (terminal_one kinds.CloseBrace refl) refl) refl)
+    or_one _ _ (making_one _ _ (sequel_one (one_one action_kinds (λ t. beside (action_of t.kind) t.span) action_word) (sequel_one (all_one (statement BRACES) (statement_one BRACES) refl refl) (terminal_one kinds.CloseBrace refl) refl) refl))
+    (making_one _ _ (sequel_one (terminal_one kinds.Copy refl) (sequel_one name_one (terminal_one kinds.CloseBrace refl) refl) refl)) refl refl refl

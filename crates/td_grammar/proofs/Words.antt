@@ -44,7 +44,7 @@ literal_known _ s a e = absurd cc
 pub literal_exact : IsExact literal
 literal_exact = one_exact (only any_number) (λ t. literal_of t.kind t.span) _ (record { kind = kinds.Number 0 bases.Decimal; span = nowhere }) refl (λ t a e. literal_known t.kind t.span a e)
 
-number_type_known : (k : TokenKind) (s : Span) (a : _) → number_type_of k s ≡ Some a → member (only any_number_type) (number_of_kind k) ≡ true
+pub number_type_known : (k : TokenKind) (s : Span) (a : _) → number_type_of k s ≡ Some a → member (only any_number_type) (number_of_kind k) ≡ true
 number_type_known (kinds.Int i) s a e = refl
 number_type_known _ s a e = absurd cc
 

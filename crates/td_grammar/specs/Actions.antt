@@ -9,6 +9,7 @@ use Rattle.td_ast.specs.declared.actions.Assigned.TheVariants.{Value, FieldPtr}
 use Rattle.td_ast.specs.declared.actions.ActionKind.{ActionKind}
 use Rattle.td_ast.specs.declared.actions.ActionKind.TheVariants as actions
 use Rattle.td_ast.specs.declared.actions.ActionTree.{ActionTree}
+use Rattle.td_ast.specs.declared.actions.ActionTree.TheVariants.{Done, Copied}
 use Rattle.td_ast.specs.Trees.{Tree, over}
 use Rattle.td_ast.specs.Statements.{Statement, Store, StoreField, Var, If, IfElse, Return, Abort, block_of}
 use Rattle.td_grammar.specs.Spelling.{SpellsNested}
@@ -79,7 +80,8 @@ action_of _ = None
 abbrev pub action_kinds : List ℕ
 action_kinds = set_of (kinds.Act ∷ kinds.Check ∷ kinds.OnSuccess ∷ [])
 
--- action = ACTWORD { stmt } "}" (own rule: at most 16 further braces are open at one time)
+-- action = ACTWORD { stmt } "}" | "{:copy" NAME "}" (own rules: at most 16 further braces are open at one time; `{:copy`)
 unfoldable pub action : Grammar ActionTree
-action = (word action_kinds action_of then all_of (statement BRACES) then terminal kinds.CloseBrace)
-    making λ ((kind, at), (statements, closing)). record { kind = kind; span = at; statements = statements }
+action =
+    ((word action_kinds action_of then all_of (statement BRACES) then terminal kinds.CloseBrace) making λ ((kind, at), (statements, closing)). Done kind at statements)
+    or ((terminal kinds.Copy then name then terminal kinds.CloseBrace) making λ (at, (name, closing)). Copied at name)

@@ -1,10 +1,10 @@
 -- Productions: which tokens spell a value, which token of them passes a limit, and beside it how a value is read. Who
 -- asks what the language is looks at `Spells` and `Passes` alone.
-use Rattle.std.specs.Prelude.{ℕ, List, Option}
+use Rattle.std.specs.Prelude.{ℕ, Bool, List, Option}
 use Rattle.td_ast.specs.declared.token.Token.{Token}
 use Rattle.td_grammar.specs.Spelling.{SpellsOne, SpellsBoth, SpellsMade, SpellsMaybe, SpellsAll, SpellsEither}
 use Rattle.td_grammar.specs.Limits.{PassesNever, PassesBoth, PassesAll, PassesEither, PassesCount, PassesFirst}
-use Rattle.td_grammar.specs.Reading.{Reader, one_reader, both_reader, made_reader, maybe_reader, all_reader, either_reader, too_deep_reader, limited_reader, seen_reader, no_reader}
+use Rattle.td_grammar.specs.Reading.{Reader, one_reader, both_reader, made_reader, maybe_reader, all_reader, either_reader, tested_reader, too_deep_reader, limited_reader, seen_reader, no_reader}
 
 pub record Grammar (A : Type 0) : Type 1 where
   -- these tokens spell the value
@@ -39,6 +39,10 @@ all_of g = record { Spells = SpellsAll g.Spells; Passes = PassesAll g.Spells g.P
 infixr 15 ◌or◌
 abbrev pub ◌or◌ : {A : Type 0} → Grammar A → Grammar A → Grammar A
 g or h = record { Spells = SpellsEither g.Spells h.Spells; Passes = PassesEither g.Passes h.Passes; reader = either_reader g.reader h.reader }
+
+-- g | h, where a token that begins g passes the test, and one that begins h doesn't
+abbrev pub either_by : {A : Type 0} → (Token → Bool) → Grammar A → Grammar A → Grammar A
+either_by test g h = record { Spells = SpellsEither g.Spells h.Spells; Passes = PassesEither g.Passes h.Passes; reader = tested_reader test g.reader h.reader }
 
 -- what would be nested too deep, by its spellings and the kinds of their first tokens, which pass the limit
 abbrev pub too_deep : {A : Type 0} → (A → List Token → Type 0) → List ℕ → Grammar A

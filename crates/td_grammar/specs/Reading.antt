@@ -100,6 +100,20 @@ either_reader g h = record {
   read = λ tokens. if comes g.begins tokens then g.read tokens else h.read tokens;
 }
 
+-- ---- the one or the other, by a test of the first token
+
+abbrev pub first_passes : (Token → Bool) → List Token → Bool
+first_passes test [] = false
+first_passes test (token ∷ rest) = test token
+
+abbrev pub tested_reader : {A : Type 0} → (Token → Bool) → Reader A → Reader A → Reader A
+tested_reader test g h = record {
+  begins = g.begins ++ h.begins;
+  may_be_empty = false;
+  goes_on = g.goes_on ++ h.goes_on;
+  read = λ tokens. if first_passes test tokens then g.read tokens else h.read tokens;
+}
+
 -- ---- what would be nested too deep
 
 abbrev pub too_deep_reader : {A : Type 0} → List ℕ → Reader A

@@ -9,7 +9,7 @@ use Rattle.td_num.specs.declared.number.ByteOrder.{ByteOrder}
 use Rattle.td_num.specs.declared.number.ByteOrder.TheVariants.{LittleEndian, BigEndian}
 use Rattle.td_ast.specs.declared.token.Base.{Base}
 use Rattle.td_ast.specs.declared.token.TokenKind.{TokenKind}
-use Rattle.td_ast.specs.declared.token.TokenKind.TheVariants.{Name, Number, Int, Typedef, Struct, Casetype, Enum, Switch, Case, Default, Entrypoint, Output, Where, Mutable, Unit, AllBytes, AllZeros, Sizeof, This, If, Else, Return, Abort, Var, FieldPos, FieldPtr, IsRangeOkay, True, False, Pointer, Define, Act, Check, OnSuccess, ByteSize, SingleElement, Zeroterm, AndAnd, OrOr, EqualEqual, NotEqual, LessEqual, GreaterEqual, ShiftLeft, ShiftRight, Arrow, Plus, Minus, Star, Slash, Percent, Ampersand, Bar, Caret, Tilde, Bang, Less, Greater, Assign, Question, Colon, Semicolon, Comma, OpenParen, CloseParen, OpenBrace, CloseBrace, OpenBracket, CloseBracket, Dot}
+use Rattle.td_ast.specs.declared.token.TokenKind.TheVariants.{Name, Number, Int, Typedef, Struct, Casetype, Enum, Switch, Case, Default, Entrypoint, Output, Where, Mutable, Unit, AllBytes, AllZeros, Sizeof, This, If, Else, Return, Abort, Var, FieldPos, FieldPtr, IsRangeOkay, True, False, Pointer, Define, Act, Check, OnSuccess, ByteSize, SingleElement, Zeroterm, AndAnd, OrOr, EqualEqual, NotEqual, LessEqual, GreaterEqual, ShiftLeft, ShiftRight, Arrow, Plus, Minus, Star, Slash, Percent, Ampersand, Bar, Caret, Tilde, Bang, Less, Greater, Assign, Question, Colon, Semicolon, Comma, OpenParen, CloseParen, OpenBrace, CloseBrace, OpenBracket, CloseBracket, Dot, Copy}
 use Rattle.td_ast.specs.Kinds.{number_of_kind}
 use Rattle.td_lexer.specs.Bytes.{is_blank, is_letter, is_word_byte, is_marked_byte, opens, every, first_is}
 use Rattle.td_lexer.specs.Spellings.{Entry, kind_in, punctuation_of_two}
@@ -147,12 +147,13 @@ first_word CloseBrace spellable w = absurd cc
 first_word OpenBracket spellable w = absurd cc
 first_word CloseBracket spellable w = absurd cc
 first_word Dot spellable w = absurd cc
+first_word Copy spellable w = absurd cc
 
 -- where a word or number follows, just a word, a number or a word with a mark goes on
 word_follows : (kind next : TokenKind) (rest : List ℕ) → IsSpellable next → is_word next ≡ true → is_word_or_marked kind ≡ false → goes_on kind (spelling next ++ rest) ≡ false
 word_follows kind next rest spellable word never = by_bytes (spelling next) (first_word next spellable word)
   where
-    not_word : (n : ℕ) → nat_lt n 37 ≡ false → nat_lt n 30 ≡ false
+    not_word : (n : ℕ) → (nat_lt n 37 || eqb n 70) ≡ false → nat_lt n 30 ≡ false
     not_word n e = grind (arith, nat_tests)
 
     by_bytes : (bytes : List ℕ) → first_is is_word_byte bytes ≡ true → goes_on kind (bytes ++ rest) ≡ false
@@ -249,6 +250,7 @@ some_spelling CloseBrace e = omega arith
 some_spelling OpenBracket e = omega arith
 some_spelling CloseBracket e = omega arith
 some_spelling Dot e = omega arith
+some_spelling Copy e = omega arith
 
 next_follows : (kind next : TokenKind) (rest : List ℕ) → IsSpellable next → glues kind next ≡ false → goes_on kind (spelling next ++ rest) ≡ false
 next_follows kind next rest spellable never = by_test (is_word next) refl never

@@ -8,7 +8,7 @@ use Rattle.td_num.specs.declared.number.ByteOrder.{ByteOrder}
 use Rattle.td_num.specs.declared.number.ByteOrder.TheVariants.{LittleEndian, BigEndian}
 use Rattle.td_ast.specs.declared.token.Base.{Base}
 use Rattle.td_ast.specs.declared.token.TokenKind.{TokenKind}
-use Rattle.td_ast.specs.declared.token.TokenKind.TheVariants.{Name, Number, Int, Typedef, Struct, Casetype, Enum, Switch, Case, Default, Entrypoint, Output, Where, Mutable, Unit, AllBytes, AllZeros, Sizeof, This, If, Else, Return, Abort, Var, FieldPos, FieldPtr, IsRangeOkay, True, False, Pointer, Define, Act, Check, OnSuccess, ByteSize, SingleElement, Zeroterm, AndAnd, OrOr, EqualEqual, NotEqual, LessEqual, GreaterEqual, ShiftLeft, ShiftRight, Arrow, Plus, Minus, Star, Slash, Percent, Ampersand, Bar, Caret, Tilde, Bang, Less, Greater, Assign, Question, Colon, Semicolon, Comma, OpenParen, CloseParen, OpenBrace, CloseBrace, OpenBracket, CloseBracket, Dot}
+use Rattle.td_ast.specs.declared.token.TokenKind.TheVariants.{Name, Number, Int, Typedef, Struct, Casetype, Enum, Switch, Case, Default, Entrypoint, Output, Where, Mutable, Unit, AllBytes, AllZeros, Sizeof, This, If, Else, Return, Abort, Var, FieldPos, FieldPtr, IsRangeOkay, True, False, Pointer, Define, Act, Check, OnSuccess, ByteSize, SingleElement, Zeroterm, AndAnd, OrOr, EqualEqual, NotEqual, LessEqual, GreaterEqual, ShiftLeft, ShiftRight, Arrow, Plus, Minus, Star, Slash, Percent, Ampersand, Bar, Caret, Tilde, Bang, Less, Greater, Assign, Question, Colon, Semicolon, Comma, OpenParen, CloseParen, OpenBrace, CloseBrace, OpenBracket, CloseBracket, Dot, Copy}
 use Rattle.td_lexer.specs.Bytes.{is_letter, is_word_byte, is_marked_byte, opens, every, first_is}
 use Rattle.td_lexer.specs.Spellings.{kind_in, keyword_kind, marked_words, punctuation_of_two, punctuation_kind, number}
 use Rattle.td_lexer.specs.Numerals.{numeral_value}
@@ -282,3 +282,4 @@ kind_stands CloseBrace rest spellable ends = single_stands CloseBrace 125 rest r
 kind_stands OpenBracket rest spellable ends = single_stands OpenBracket 91 rest refl refl refl ends
 kind_stands CloseBracket rest spellable ends = single_stands CloseBracket 93 rest refl refl refl ends
 kind_stands Dot rest spellable ends = single_stands Dot 46 rest refl refl refl ends
+kind_stands Copy rest spellable ends = marked_stands Copy 123 58 (codes "copy") rest refl refl ends

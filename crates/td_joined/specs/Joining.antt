@@ -10,12 +10,12 @@ use Rattle.td_lexer.specs.Splits.{IsName, Splits, is_comment_byte}
 use Rattle.td_joined.specs.Pieces.{Piece, Word, Blank, LineEnd, kinds_of, spelling, text_of}
 
 -- The kinds stand in the order of the grammar's page: 30 names, numbers and keywords, then 7 words that begin with `#`, `{`
--- or `[`, then punctuation.
+-- or `[`, then punctuation, and last `{:copy`.
 abbrev pub is_word : TokenKind → Bool
 is_word kind = nat_lt (number_of_kind kind) 30
 
 abbrev pub is_word_or_marked : TokenKind → Bool
-is_word_or_marked kind = nat_lt (number_of_kind kind) 37
+is_word_or_marked kind = nat_lt (number_of_kind kind) 37 || number_of_kind kind == 70
 
 abbrev pub there_is : Option TokenKind → Bool
 there_is None = false

@@ -7,6 +7,7 @@ use Rattle.td_ast.specs.declared.actions.Assigned.TheVariants.{Value, FieldPtr}
 use Rattle.td_ast.specs.declared.actions.ActionKind.{ActionKind}
 use Rattle.td_ast.specs.declared.actions.ActionKind.TheVariants as actions
 use Rattle.td_ast.specs.declared.actions.ActionTree.{ActionTree}
+use Rattle.td_ast.specs.declared.actions.ActionTree.TheVariants.{Done, Copied}
 use Rattle.td_ast.specs.Trees.{Tree}
 use Rattle.td_ast.specs.Statements.{Statement, Statements, Store, StoreField, Var, If, IfElse, Return, Abort, End, More, block_of}
 use Rattle.td_grammar.specs.Spelling.{SpellsAll}
@@ -100,6 +101,7 @@ word_of_action actions.OnSuccess = word_back action_kinds action_of kinds.OnSucc
 
 pub action_back : (a : ActionTree) → Back action.Spells (action_pieces a) (λ r. unspanned_action r ≡ unspanned_action a)
 unfolding action
-action_back a =
-    made (both (word_of_action a.kind) (both (list_back SpellsStatement statement_after unspanned_statement (λ x. blank (statement_back x)) a.statements) (terminal_back kinds.CloseBrace refl)))
-    (λ x g. cc (g.0, g.1.0))
+action_back (Done kind span statements) =
+    left (made (both (word_of_action kind) (both (list_back SpellsStatement statement_after unspanned_statement (λ x. blank (statement_back x)) statements) (terminal_back kinds.CloseBrace refl)))
+    (λ x g. cc (g.0, g.1.0)))
+action_back (Copied span name) = right (made (both (terminal_back kinds.Copy refl) (both (blank (name_back name)) (terminal_back kinds.CloseBrace refl))) (λ x g. cc (g.1.0)))

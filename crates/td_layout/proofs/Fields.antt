@@ -5,8 +5,6 @@ use Rattle.td_ast.specs.declared.token.TokenKind.TheVariants as kinds
 use Rattle.td_ast.specs.declared.names.Name.{Name}
 use Rattle.td_ast.specs.declared.names.Literal.{Literal}
 use Rattle.td_ast.specs.declared.names.NumberTree.{NumberTree}
-use Rattle.td_ast.specs.declared.parameters.TargetTree.{TargetTree}
-use Rattle.td_ast.specs.declared.parameters.TargetTree.TheVariants as targets
 use Rattle.td_ast.specs.declared.parameters.ParamTree.{ParamTree}
 use Rattle.td_ast.specs.declared.parameters.ParamTree.TheVariants as params
 use Rattle.td_ast.specs.declared.parameters.HeadTree.{HeadTree}
@@ -21,30 +19,26 @@ use Rattle.td_grammar.specs.Grammar.{◌then◌, ◌making◌}
 use Rattle.td_grammar.specs.Tokens.{terminal}
 use Rattle.td_grammar.specs.Expressions.{expr}
 use Rattle.td_grammar.specs.Actions.{action}
-use Rattle.td_grammar.specs.Parameters.{target, param, head}
+use Rattle.td_grammar.specs.Parameters.{param, head}
 use Rattle.td_grammar.specs.Fields.{type_tree, extent, refinement, field}
 use Rattle.td_layout.specs.Expressions.{expression_pieces}
-use Rattle.td_layout.specs.Parameters.{target_pieces, parameter_pieces, condition_pieces, head_pieces}
+use Rattle.td_layout.specs.Parameters.{parameter_pieces, condition_pieces, head_pieces}
 use Rattle.td_layout.specs.Fields.{type_pieces, extent_pieces, refinement_pieces, action_after, field_pieces, field_line}
-use Rattle.td_layout.specs.Unspanned.{nowhere, unspanned_expression, unspanned_target, unspanned_parameter, unspanned_head, unspanned_type, unspanned_extent, unspanned_action, unspanned_field}
+use Rattle.td_layout.specs.Unspanned.{nowhere, unspanned_expression, unspanned_parameter, unspanned_head, unspanned_type, unspanned_extent, unspanned_action, unspanned_field}
 use Rattle.td_layout.proofs.Back.{Back, blank, deep, ended, both, made, left, right, maybe_back}
 use Rattle.td_layout.proofs.Words.{terminal_back, name_back, qualified_back, named_back, literal_back, number_back, plain_back}
 use Rattle.td_layout.proofs.Expressions.{expression_back}
+use Rattle.td_layout.proofs.Bytes.{buffer_back, place_back}
 use Rattle.td_layout.proofs.Actions.{action_back}
 use Rattle.td_layout.proofs.Sequences.{parentheses_back}
 
 -- ---- parameters
 
-target_back : (t : TargetTree) → Back target.Spells (target_pieces t) (λ r. unspanned_target r ≡ unspanned_target t)
-target_back (targets.Number n) = left (made (number_back n) (λ r e. ap (λ (x : NumberTree). targets.Number x) e))
-target_back (targets.Pointer s) = right (left (made (terminal_back kinds.Pointer refl) (λ r e. refl)))
-target_back (targets.Named n) = right (right (made (named_back n) (λ r e. ap (λ (x : Name). targets.Named x) e)))
-
 pub parameter_back : (p : ParamTree) → Back param.Spells (parameter_pieces p) (λ r. unspanned_parameter r ≡ unspanned_parameter p)
 unfolding param
 parameter_back (params.Value type name) = left (made (both (plain_back type) (blank (name_back name))) (λ x g. cc (g.0, g.1)))
-parameter_back (params.Mutable target name) =
-    right (made (both (terminal_back kinds.Mutable refl) (both (blank (target_back target)) (both (blank (terminal_back kinds.Star refl)) (name_back name)))) (λ x g. cc (g.1.0, g.1.1.1)))
+parameter_back (params.Mutable target name) = right (made (both (terminal_back kinds.Mutable refl) (blank (place_back target name))) (λ x g. g.1))
+parameter_back (params.Bytes name room) = right (made (both (terminal_back kinds.Mutable refl) (blank (buffer_back name room))) (λ x g. g.1))
 
 condition_back : (e : Tree) → Back ((terminal kinds.Where then expr) making λ (at, condition). condition).Spells (condition_pieces e) (λ r. unspanned_expression r ≡ unspanned_expression e)
 condition_back e = made (both (blank (terminal_back kinds.Where refl)) (blank (expression_back e))) (λ x g. g.1)

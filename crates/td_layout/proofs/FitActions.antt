@@ -6,6 +6,7 @@ use Rattle.td_ast.specs.declared.token.Span.{Span}
 use Rattle.td_ast.specs.declared.token.TokenKind.TheVariants as kinds
 use Rattle.td_ast.specs.declared.actions.Assigned.{Assigned}
 use Rattle.td_ast.specs.declared.actions.ActionTree.{ActionTree}
+use Rattle.td_ast.specs.declared.actions.ActionTree.TheVariants.{Done, Copied}
 use Rattle.td_ast.specs.Trees.{Tree}
 use Rattle.td_ast.specs.Statements.{Statement, Statements, block_of}
 use Rattle.td_grammar.specs.Sets.{only}
@@ -96,4 +97,7 @@ statement_fits (suc n) x tokens s w = from_fits (braced_of (statement n)).Passes
 
 pub action_fits : (a : ActionTree) (tokens : List Token) → action.Spells a tokens → NoPass action.Passes tokens → FitsAction a
 unfolding action
-action_fits a tokens (x, e, s) w = subst FitsAction e (each_within SpellsStatement (statement BRACES).Passes (Fits BRACES) (statement_fits BRACES) x.1.0 s.4.0 s.4.3 (head_of s.1 s.4.0 s.4.1 s.4.2 (tail_of x.0 tokens s.0 s.1 s.2 s.3 w)))
+action_fits a tokens (inl (x, e, s)) w =
+    let v = one_side _ _ tokens w in
+    subst FitsAction e (each_within SpellsStatement (statement BRACES).Passes (Fits BRACES) (statement_fits BRACES) x.1.0 s.4.0 s.4.3 (head_of s.1 s.4.0 s.4.1 s.4.2 (tail_of x.0 tokens s.0 s.1 s.2 s.3 v)))
+action_fits a tokens (inr (x, e, s)) w = subst FitsAction e tt

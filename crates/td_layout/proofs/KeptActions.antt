@@ -7,11 +7,12 @@ use Rattle.td_ast.specs.declared.actions.Assigned.{Assigned}
 use Rattle.td_ast.specs.declared.actions.Assigned.TheVariants.{Value, FieldPtr}
 use Rattle.td_ast.specs.declared.actions.ActionKind.{ActionKind}
 use Rattle.td_ast.specs.declared.actions.ActionTree.{ActionTree}
+use Rattle.td_ast.specs.declared.actions.ActionTree.TheVariants.{Done, Copied}
 use Rattle.td_ast.specs.Trees.{Tree, over}
 use Rattle.td_ast.specs.Statements.{Statement, Statements, Store, StoreField, Var, If, IfElse, Return, Abort, End, More, block_of}
 use Rattle.td_grammar.specs.Sets.{only}
 use Rattle.td_grammar.specs.Grammar.{Grammar, ◌then◌, ◌making◌, too_deep, spelled_by, seen_as}
-use Rattle.td_grammar.specs.Tokens.{terminal, word}
+use Rattle.td_grammar.specs.Tokens.{terminal, name, word}
 use Rattle.td_grammar.specs.declared.limits.TheConstants.{BRACES}
 use Rattle.td_grammar.specs.Expressions.{expr}
 use Rattle.td_grammar.specs.Actions.{assigned, if_of, statement_from, braced_of, SpellsStatement, begins, goes_on, statement_within, statement, action_of, action_kinds, action}
@@ -135,7 +136,11 @@ statement_kept (suc n) x f =
     seen SpellsStatement begins goes_on (from_kept (braced_of (statement n)) (EachIn (Fits n)) (braced_kept n (Fits n) (statement_kept n)) x f) refl refl refl
 
 abbrev pub FitsAction : ActionTree → Type 0
-FitsAction a = Each (Fits BRACES) a.statements
+FitsAction (Done kind span statements) = Each (Fits BRACES) statements
+FitsAction (Copied span name) = Unit {0}
+
+abbrev copied : Grammar ActionTree
+copied = (terminal kinds.Copy then name then terminal kinds.CloseBrace) making λ (at, (name, closing)). Copied at name
 
 action_word_kept : (k : ActionKind) → Kept (word action_kinds action_of) (Word (action_kind k) ∷ []) (λ x. x.0 ≡ k)
 action_word_kept k = plainly action_word never_one (word_of_action k)
@@ -145,6 +150,10 @@ after_kept x f = blank (statement_kept BRACES x f)
 
 pub action_kept : (a : ActionTree) → FitsAction a → Kept action (action_pieces a) (λ r. unspanned_action r ≡ unspanned_action a)
 unfolding action
-action_kept a f =
-    made _ (both (action_word_kept a.kind) (both (each_kept (statement BRACES) refl refl statement_after unspanned_statement (Fits BRACES) after_kept a.statements f) (terminal_kept kinds.CloseBrace refl) refl) refl)
-    (λ x g. cc (g.0, g.1.0))
+action_kept (Done kind span statements) f =
+    first copied (made (λ ((kind, at), (statements, closing)). Done kind at statements)
+    (both (action_word_kept kind) (both (each_kept (statement BRACES) refl refl statement_after unspanned_statement (Fits BRACES) after_kept statements f) (terminal_kept kinds.CloseBrace refl) refl) refl)
+    (λ x g. cc (g.0, g.1.0))) refl
+action_kept (Copied span name) f =
+    into action kinds.Copy (made (λ (at, (name, closing)). Copied at name) (both (terminal_kept kinds.Copy refl) (both (blank (name_kept name)) (terminal_kept kinds.CloseBrace refl) refl) refl) (λ x g. cc (g.1.0)))
+    refl (λ t ts e. rw e refl) refl refl

@@ -37,6 +37,7 @@ use Rattle.td_layout.proofs.Fields.{parameter_back}
 use Rattle.td_layout.proofs.Kept.{Kept, blank, deep, ended, both, made, none, some, into, each_kept, maybe_kept, IfAny}
 use Rattle.td_layout.proofs.Plainly.{plainly, never_one, never_both, never_either, never_qualified, terminal_kept, name_kept, qualified_kept, literal_kept, number_kept}
 use Rattle.td_layout.proofs.Light.{IsLight, expression_kept}
+use Rattle.td_layout.proofs.Bytes.{never_place}
 use Rattle.td_layout.proofs.KeptActions.{FitsAction, action_kept}
 
 -- ---- what is within the limits
@@ -99,8 +100,7 @@ arguments_kept xs f = parentheses_kept expr expression_pieces unspanned_expressi
 parameter_kept : (p : ParamTree) → Unit {0} → Kept param (parameter_pieces p) (λ r. unspanned_parameter r ≡ unspanned_parameter p)
 unfolding param
 parameter_kept p is =
-    plainly param_exact (never_either (never_both _ (never_either never_one never_qualified) never_one) (never_both _ never_one (never_both _ (never_either never_one (never_either never_one never_qualified)) (never_both _ never_one never_one))))
-    (parameter_back p)
+    plainly param_exact (never_either (never_both _ (never_either never_one never_qualified) never_one) (never_both _ never_one never_place)) (parameter_back p)
 
 each_parameter : (xs : List ParamTree) → Each (λ p. Unit {0}) xs
 each_parameter [] = tt

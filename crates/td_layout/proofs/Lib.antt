@@ -20,6 +20,7 @@ pub mod Ranks
 pub mod Costs
 pub mod Sources
 pub mod KeptActions
+pub mod Bytes
 pub mod KeptFields
 pub mod KeptDefinitions
 pub mod Within

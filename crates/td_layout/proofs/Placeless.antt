@@ -8,6 +8,7 @@ use Rattle.td_ast.specs.declared.names.PlainTree.TheVariants as plains
 use Rattle.td_ast.specs.declared.actions.Assigned.{Assigned}
 use Rattle.td_ast.specs.declared.actions.Assigned.TheVariants.{Value, FieldPtr}
 use Rattle.td_ast.specs.declared.actions.ActionTree.{ActionTree}
+use Rattle.td_ast.specs.declared.actions.ActionTree.TheVariants.{Done, Copied}
 use Rattle.td_ast.specs.declared.parameters.TargetTree.{TargetTree}
 use Rattle.td_ast.specs.declared.parameters.TargetTree.TheVariants as targets
 use Rattle.td_ast.specs.declared.parameters.ParamTree.{ParamTree}
@@ -129,7 +130,8 @@ after_same : (x : Statement) → statement_after (unspanned_statement x) ≡ sta
 after_same x = cc (statement_same x)
 
 action_same : (a : ActionTree) → action_after (unspanned_action a) ≡ action_after a
-action_same a = cc (flat_same statement_after unspanned_statement after_same a.statements)
+action_same (Done kind span statements) = cc (flat_same statement_after unspanned_statement after_same statements)
+action_same (Copied span name) = refl
 
 -- ---- parameters and fields
 
@@ -141,6 +143,7 @@ target_same (targets.Named n) = refl
 parameter_same : (p : ParamTree) → parameter_pieces (unspanned_parameter p) ≡ parameter_pieces p
 parameter_same (params.Value type name) = cc (plain_same type)
 parameter_same (params.Mutable target name) = cc (target_same target)
+parameter_same (params.Bytes name room) = cc (constant_same room)
 
 condition_same : (e : Tree) → condition_pieces (unspanned_expression e) ≡ condition_pieces e
 condition_same e = cc (expression_same e)

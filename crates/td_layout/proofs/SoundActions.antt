@@ -77,4 +77,6 @@ action_word_sound = record { sound = λ x tokens m f. (action_fixed x.0, tt) }
 
 pub action_sound : Sound action.Spells action_pieces
 unfolding action
-action_sound = made (both action_word_sound (both (all {p = statement_after} (blank statement_sound)) (terminal_sound kinds.CloseBrace tt))) (λ x h. h)
+action_sound =
+    either (made (both action_word_sound (both (all {p = statement_after} (blank statement_sound)) (terminal_sound kinds.CloseBrace tt))) (λ x h. h))
+    (made (both (terminal_sound kinds.Copy tt) (both (blank name_sound) (terminal_sound kinds.CloseBrace tt))) (λ x h. h))

@@ -5,17 +5,18 @@ use Rattle.td_ast.specs.declared.token.TokenKind.TheVariants as kinds
 use Rattle.td_grammar.specs.Grammar.{Grammar}
 use Rattle.td_grammar.specs.Expressions.{expr}
 use Rattle.td_grammar.specs.Sequences.{some_of, parted, in_parentheses, list_of}
-use Rattle.td_grammar.specs.Parameters.{target, param, head}
+use Rattle.td_grammar.specs.Parameters.{param, head}
 use Rattle.td_grammar.specs.Fields.{type_tree, extent, refinement, field}
 use Rattle.td_joined.specs.Pieces.{Piece, Word}
 use Rattle.td_layout.specs.Sequences.{comma, parted_by}
 use Rattle.td_layout.specs.Sequences as sequences
 use Rattle.td_layout.specs.Expressions.{expression_pieces}
-use Rattle.td_layout.specs.Parameters.{target_pieces, parameter_pieces, condition_pieces, head_pieces}
+use Rattle.td_layout.specs.Parameters.{parameter_pieces, condition_pieces, head_pieces}
 use Rattle.td_layout.specs.Fields.{type_pieces, extent_pieces, refinement_pieces, action_after, field_pieces, field_line}
 use Rattle.td_layout.proofs.Sound.{Fine, Sound, blank, deep, ended, both, made, either, maybe, all, terminal_sound, name_sound, qualified_sound, literal_sound, number_sound, plain_sound}
 use Rattle.td_layout.proofs.SoundExpressions.{expression_sound}
 use Rattle.td_layout.proofs.SoundActions.{action_sound}
+use Rattle.td_layout.proofs.Bytes.{place_sound}
 
 -- ---- several
 
@@ -42,14 +43,11 @@ parentheses_sound g p s =
 
 -- ---- parameters
 
-target_sound : Sound target.Spells target_pieces
-target_sound = either (made number_sound (λ x h. h)) (either (made (terminal_sound kinds.Pointer tt) (λ x h. h)) (made qualified_sound (λ x h. h)))
-
 parameter_sound : Sound param.Spells parameter_pieces
 unfolding param
 parameter_sound =
     either (made (both plain_sound (blank name_sound)) (λ x h. h))
-    (made (both (terminal_sound kinds.Mutable tt) (both (blank target_sound) (both (blank (terminal_sound kinds.Star tt)) name_sound))) (λ x h. h))
+    (made (both (terminal_sound kinds.Mutable tt) place_sound) (λ x h. h.1))
 
 pub head_sound : Sound head.Spells head_pieces
 unfolding head

@@ -7,6 +7,7 @@ use Rattle.td_ast.specs.declared.actions.Assigned.TheVariants.{Value, FieldPtr}
 use Rattle.td_ast.specs.declared.actions.ActionKind.{ActionKind}
 use Rattle.td_ast.specs.declared.actions.ActionKind.TheVariants as actions
 use Rattle.td_ast.specs.declared.actions.ActionTree.{ActionTree}
+use Rattle.td_ast.specs.declared.actions.ActionTree.TheVariants.{Done, Copied}
 use Rattle.td_ast.specs.Statements.{Statement, Statements, Store, StoreField, Var, If, IfElse, Return, Abort, End, More}
 use Rattle.td_joined.specs.Pieces.{Piece, Word, Blank}
 use Rattle.td_layout.specs.Sequences.{name_piece}
@@ -51,6 +52,7 @@ action_kind actions.OnSuccess = kinds.OnSuccess
 abbrev pub statement_after : Statement → List Piece
 statement_after statement = Blank ∷ statement_pieces statement
 
--- `{:act s s}`, and `{:act}` where there are no statements
+-- `{:act s s}`, and `{:act}` where there are no statements; `{:copy b}`
 abbrev pub action_pieces : ActionTree → List Piece
-action_pieces action = Word (action_kind action.kind) ∷ (flat_map statement_after action.statements ++ Word kinds.CloseBrace ∷ [])
+action_pieces (Done kind span statements) = Word (action_kind kind) ∷ (flat_map statement_after statements ++ Word kinds.CloseBrace ∷ [])
+action_pieces (Copied span name) = Word kinds.Copy ∷ Blank ∷ name_piece name ∷ Word kinds.CloseBrace ∷ []

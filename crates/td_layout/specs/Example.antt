@@ -12,6 +12,7 @@ use Rattle.td_ast.specs.declared.expressions.BinaryOperator.{BinaryOperator}
 use Rattle.td_ast.specs.declared.expressions.BinaryOperator.TheVariants as operators
 use Rattle.td_ast.specs.declared.actions.Assigned.TheVariants as values
 use Rattle.td_ast.specs.declared.actions.ActionKind.TheVariants as actions
+use Rattle.td_ast.specs.declared.actions.ActionTree.TheVariants.{Done, Copied}
 use Rattle.td_ast.specs.declared.parameters.ParamTree.TheVariants as params
 use Rattle.td_ast.specs.declared.parameters.TargetTree.TheVariants as targets
 use Rattle.td_ast.specs.declared.fields.TypeKind.TheVariants as types
@@ -72,7 +73,7 @@ first = record {
   name = named (codes "a");
   extent = None;
   refinement = Some refined;
-  action = Some (record { kind = actions.Act; span = nowhere; statements = [] });
+  action = Some (Done actions.Act nowhere []);
 }
 
 abbrev second : FieldTree
@@ -81,13 +82,19 @@ second = record {
   name = named (codes "b");
   extent = Some (extents.ByteSize (value (codes "n")));
   refinement = None;
-  action = Some (record {
-    kind = actions.Check;
-    span = nowhere;
-    statements =
-        statements.StoreField nowhere (named (codes "r")) (named (codes "F")) (values.FieldPtr nowhere)
-        ∷ statements.IfElse nowhere (value (codes "a")) statements.End (statements.More (statements.Return nowhere (trees.Truth nowhere true)) statements.End) ∷ [];
-  });
+  action = Some (
+      Done actions.Check nowhere (
+      statements.StoreField nowhere (named (codes "r")) (named (codes "F")) (values.FieldPtr nowhere)
+      ∷ statements.IfElse nowhere (value (codes "a")) statements.End (statements.More (statements.Return nowhere (trees.Truth nowhere true)) statements.End) ∷ []));
+}
+
+abbrev third : FieldTree
+third = record {
+  type_tree = record { span = nowhere; kind = types.Number byte };
+  name = named (codes "d");
+  extent = Some (extents.Bytes (value (codes "n")));
+  refinement = None;
+  action = Some (Copied nowhere (named (codes "c")));
 }
 
 abbrev structure : Def
@@ -96,10 +103,11 @@ structure =
       entry = true;
       tag = named (codes "_S");
       head = record {
-        params = params.Value (plains.Number (record { number = byte; span = nowhere })) (named (codes "n")) ∷ params.Mutable (targets.Named (named (codes "O"))) (named (codes "r")) ∷ [];
+        params = params.Value (plains.Number (record { number = byte; span = nowhere })) (named (codes "n")) ∷ params.Mutable (targets.Named (named (codes "O"))) (named (codes "r"))
+            ∷ params.Bytes (named (codes "c")) (constants.Named (named (codes "K"))) ∷ [];
         condition = Some (binary operators.Less (value (codes "n")) (number 9));
       };
-      fields = first ∷ second ∷ [];
+      fields = first ∷ second ∷ third ∷ [];
       name = named (codes "S");
     })
 
@@ -121,9 +129,10 @@ WorkedText =
     ∷ codes "    B"
     ∷ codes "}"
     ∷ codes ""
-    ∷ codes "entrypoint typedef struct _S(UINT8 n, mutable O *r) where n < 9 {"
+    ∷ codes "entrypoint typedef struct _S(UINT8 n, mutable O *r, mutable UINT8 *c[K]) where n < 9 {"
     ∷ codes "    UINT8 a { (a + 1) * (n - (a - 1)) == !(a << 2) } {:act};"
     ∷ codes "    T(n, r) b[:byte-size n] {:check r->F = field_ptr; if (a) { } else { return true; }};"
+    ∷ codes "    UINT8 d[n] {:copy c};"
     ∷ codes "} S;"
     ∷ []
     )

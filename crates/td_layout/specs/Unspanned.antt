@@ -11,6 +11,7 @@ use Rattle.td_ast.specs.declared.names.PlainTree.TheVariants as plains
 use Rattle.td_ast.specs.declared.actions.Assigned.{Assigned}
 use Rattle.td_ast.specs.declared.actions.Assigned.TheVariants.{Value, FieldPtr}
 use Rattle.td_ast.specs.declared.actions.ActionTree.{ActionTree}
+use Rattle.td_ast.specs.declared.actions.ActionTree.TheVariants.{Done, Copied}
 use Rattle.td_ast.specs.declared.parameters.TargetTree.{TargetTree}
 use Rattle.td_ast.specs.declared.parameters.TargetTree.TheVariants as targets
 use Rattle.td_ast.specs.declared.parameters.ParamTree.{ParamTree}
@@ -100,7 +101,8 @@ abbrev mutual
   unspanned_block (statements.More statement others) = statements.More (unspanned_statement statement) (unspanned_block others)
 
 abbrev pub unspanned_action : ActionTree → ActionTree
-unspanned_action action = record { kind = action.kind; span = nowhere; statements = map unspanned_statement action.statements }
+unspanned_action (Done kind span statements) = Done kind nowhere (map unspanned_statement statements)
+unspanned_action (Copied span name) = Copied nowhere (unspanned_name name)
 
 -- ---- parameters
 
@@ -112,6 +114,7 @@ unspanned_target (targets.Named name) = targets.Named (unspanned_name name)
 abbrev pub unspanned_parameter : ParamTree → ParamTree
 unspanned_parameter (params.Value type name) = params.Value (unspanned_plain type) (unspanned_name name)
 unspanned_parameter (params.Mutable target name) = params.Mutable (unspanned_target target) (unspanned_name name)
+unspanned_parameter (params.Bytes name room) = params.Bytes (unspanned_name name) (unspanned_constant room)
 
 abbrev pub unspanned_head : HeadTree → HeadTree
 unspanned_head head = record { params = map unspanned_parameter head.params; condition = option_map unspanned_expression head.condition }

@@ -5,7 +5,7 @@ use Rattle.td_num.specs.declared.number.Width.TheVariants.{One, Two, Four, Eight
 use Rattle.td_num.specs.declared.number.ByteOrder.{ByteOrder}
 use Rattle.td_num.specs.declared.number.ByteOrder.TheVariants.{LittleEndian, BigEndian}
 use Rattle.td_ast.specs.declared.token.TokenKind.{TokenKind}
-use Rattle.td_ast.specs.declared.token.TokenKind.TheVariants.{Int, Typedef, Struct, Casetype, Enum, Switch, Case, Default, Entrypoint, Output, Where, Mutable, Unit, AllBytes, AllZeros, Sizeof, This, If, Else, Return, Abort, Var, FieldPos, FieldPtr, IsRangeOkay, True, False, Pointer, Define, Act, Check, OnSuccess, ByteSize, SingleElement, Zeroterm, AndAnd, OrOr, EqualEqual, NotEqual, LessEqual, GreaterEqual, ShiftLeft, ShiftRight, Arrow, Plus, Minus, Star, Slash, Percent, Ampersand, Bar, Caret, Tilde, Bang, Less, Greater, Assign, Question, Colon, Semicolon, Comma, OpenParen, CloseParen, OpenBrace, CloseBrace, OpenBracket, CloseBracket, Dot}
+use Rattle.td_ast.specs.declared.token.TokenKind.TheVariants.{Int, Typedef, Struct, Casetype, Enum, Switch, Case, Default, Entrypoint, Output, Where, Mutable, Unit, AllBytes, AllZeros, Sizeof, This, If, Else, Return, Abort, Var, FieldPos, FieldPtr, IsRangeOkay, True, False, Pointer, Define, Act, Check, OnSuccess, ByteSize, SingleElement, Zeroterm, AndAnd, OrOr, EqualEqual, NotEqual, LessEqual, GreaterEqual, ShiftLeft, ShiftRight, Arrow, Plus, Minus, Star, Slash, Percent, Ampersand, Bar, Caret, Tilde, Bang, Less, Greater, Assign, Question, Colon, Semicolon, Comma, OpenParen, CloseParen, OpenBrace, CloseBrace, OpenBracket, CloseBracket, Dot, Copy}
 
 -- a spelling, and the token that it spells
 abbrev pub Entry : Type 0
@@ -56,6 +56,7 @@ marked_words =
     ∷ (codes "{:act", Act)
     ∷ (codes "{:check", Check)
     ∷ (codes "{:on-success", OnSuccess)
+    ∷ (codes "{:copy", Copy)
     ∷ (codes "[:byte-size", ByteSize)
     ∷ (codes "[:byte-size-single-element-array", SingleElement)
     ∷ (codes "[:zeroterm-byte-size-at-most", Zeroterm) ∷ []

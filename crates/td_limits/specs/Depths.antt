@@ -9,6 +9,7 @@ use Rattle.td_ast.specs.declared.expressions.SizeofOperand.TheVariants as operan
 use Rattle.td_ast.specs.declared.actions.Assigned.{Assigned}
 use Rattle.td_ast.specs.declared.actions.Assigned.TheVariants.{Value, FieldPtr}
 use Rattle.td_ast.specs.declared.actions.ActionTree.{ActionTree}
+use Rattle.td_ast.specs.declared.actions.ActionTree.TheVariants.{Done, Copied}
 use Rattle.td_ast.specs.declared.names.ConstTree.{ConstTree}
 use Rattle.td_ast.specs.declared.names.ConstTree.TheVariants as constant
 use Rattle.td_ast.specs.declared.names.PlainTree.{PlainTree}
@@ -73,7 +74,8 @@ abbrev mutual
 
 abbrev pub action_depth : Measures → Option ActionTree → ℕ
 action_depth known None = 0
-action_depth known (Some a) = block_depth known (block_of a.statements)
+action_depth known (Some (Done kind at b)) = block_depth known (block_of b)
+action_depth known (Some (Copied at n)) = 0
 
 abbrev pub kind_depth : Measures → TypeKind → ℕ
 kind_depth known (type.Number t) = 0
@@ -121,6 +123,7 @@ target_depth known (pointee.Named n) = type_depth_of known n.text
 abbrev pub param_depth : Measures → ParamTree → ℕ
 param_depth known (param.Value t n) = plain_depth known t
 param_depth known (param.Mutable t n) = target_depth known t
+param_depth known (param.Bytes n room) = value_depth known room
 
 abbrev pub head_depth : Measures → HeadTree → ℕ
 head_depth known h = max (greatest (map (param_depth known) h.params)) (option_depth known h.condition)

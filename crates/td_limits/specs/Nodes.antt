@@ -1,11 +1,13 @@
 -- The nodes of a text (own rule): definitions, parameters, fields and slots, cases, items of enums, statements and nodes
--- of expressions. Constants of items and cases, widths of bits, `field_ptr` and the name in `sizeof` are none.
+-- of expressions. Constants of items and cases, rooms of copy buffers, widths of bits, `{:copy}`, `field_ptr` and the name in
+-- `sizeof` are none.
 use Rattle.std.specs.Prelude.{ℕ, ◌+◌, List, length, map, sum, Option, Some, None}
 use Rattle.td_ast.specs.Trees.{Tree, tree_size}
 use Rattle.td_ast.specs.Statements.{Statement, Store, StoreField, Var, If, IfElse, Return, Abort, Statements, End, More, block_of}
 use Rattle.td_ast.specs.declared.actions.Assigned.{Assigned}
 use Rattle.td_ast.specs.declared.actions.Assigned.TheVariants.{Value, FieldPtr}
 use Rattle.td_ast.specs.declared.actions.ActionTree.{ActionTree}
+use Rattle.td_ast.specs.declared.actions.ActionTree.TheVariants.{Done, Copied}
 use Rattle.td_ast.specs.declared.fields.TypeKind.{TypeKind}
 use Rattle.td_ast.specs.declared.fields.TypeKind.TheVariants as type
 use Rattle.td_ast.specs.declared.fields.ExtentTree.{ExtentTree}
@@ -40,7 +42,8 @@ abbrev mutual
 
 abbrev pub action_nodes : Option ActionTree → ℕ
 action_nodes None = 0
-action_nodes (Some a) = block_nodes (block_of a.statements)
+action_nodes (Some (Done kind at b)) = block_nodes (block_of b)
+action_nodes (Some (Copied at n)) = 0
 
 abbrev pub kind_nodes : TypeKind → ℕ
 kind_nodes (type.Number t) = 0

@@ -58,7 +58,7 @@ definition_weight known (Casetype d) =
     + (sum (map (case_weight known) d.cases) + default_weight known d.default))
 definition_weight known (Output d) = 32 + 32 * length d.slots
 
--- cells: one for a `mutable` parameter, or one for each slot of its output record
+-- cells: one for a `mutable` parameter, or one for each slot of its output record; a copy buffer is none
 abbrev pub target_cells : Measures → TargetTree → ℕ
 target_cells known (pointee.Number t) = 1
 target_cells known (pointee.Pointer at) = 1
@@ -67,6 +67,7 @@ target_cells known (pointee.Named n) = type_cells_of known n.text
 abbrev pub param_cells : Measures → ParamTree → ℕ
 param_cells known (param.Value t n) = 0
 param_cells known (param.Mutable t n) = target_cells known t
+param_cells known (param.Bytes n room) = 0
 
 abbrev pub head_cells : Measures → HeadTree → ℕ
 head_cells known h = sum (map (param_cells known) h.params)

@@ -138,7 +138,8 @@ fn action_depth(known: &Table<Measure>, action: &Option<ActionTree>) -> u64
 {
     match action {
         None => 0,
-        Some(action) => block_depth(known, &action.statements),
+        Some(ActionTree::Done { statements, .. }) => block_depth(known, statements),
+        Some(ActionTree::Copied { .. }) => 0,
     }
 }
 
@@ -246,6 +247,7 @@ fn param_depth(known: &Table<Measure>, param: &ParamTree) -> u64
     match param {
         ParamTree::Value(plain, _) => plain_depth(known, plain),
         ParamTree::Mutable(target, _) => target_depth(known, target),
+        ParamTree::Bytes { room, .. } => value_depth(known, room),
     }
 }
 

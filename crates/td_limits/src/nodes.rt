@@ -104,13 +104,14 @@ fn block_nodes(block: &Block) -> u64
     statements_nodes(block.as_slice())
 }
 
-/// The nodes of an action: its statements, and the nodes of their expressions.
+/// The nodes of an action: its statements, and the nodes of their expressions. A copy has none.
 pub(crate) fn action_nodes(action: &Option<ActionTree>) -> u64
     ensures { result ≡ capped (action_nodes action.now) }
 {
     match action {
         None => 0,
-        Some(action) => block_nodes(&action.statements),
+        Some(ActionTree::Done { statements, .. }) => block_nodes(statements),
+        Some(ActionTree::Copied { .. }) => 0,
     }
 }
 

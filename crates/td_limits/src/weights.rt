@@ -157,6 +157,7 @@ fn param_cells(known: &Table<Measure>, param: &ParamTree) -> u64
     match param {
         ParamTree::Value(_, _) => 0,
         ParamTree::Mutable(target, _) => target_cells(known, target),
+        ParamTree::Bytes { .. } => 0,
     }
 }
 

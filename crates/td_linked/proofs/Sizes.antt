@@ -13,6 +13,7 @@ use Rattle.td_ast.specs.declared.definitions.Def.TheVariants.{Define, Enum, Alia
 use Rattle.td_ast.specs.declared.actions.Assigned.{Assigned}
 use Rattle.td_ast.specs.declared.actions.Assigned.TheVariants.{Value, FieldPtr}
 use Rattle.td_ast.specs.declared.actions.ActionTree.{ActionTree}
+use Rattle.td_ast.specs.declared.actions.ActionTree.TheVariants.{Done, Copied}
 use Rattle.td_ast.specs.Trees.{Tree, tree_size}
 use Rattle.td_ast.specs.Trees as tree
 use Rattle.td_ast.specs.Statements.{Statement, Store, StoreField, Var, If, IfElse, Return, Abort, Statements, End, More, block_of}
@@ -68,7 +69,8 @@ module _ (own : Own) where
 
   action_same : (params : List ParamTree) (scope : List (List ℕ)) (o : Option ActionTree) → action_nodes (flat_action own params scope o) ≡ action_nodes o
   action_same params scope None = refl
-  action_same params scope (Some a) = statements_same params scope a.statements
+  action_same params scope (Some (Done kind at xs)) = statements_same params scope xs
+  action_same params scope (Some (Copied at n)) = refl
 
   kind_same : (scope : List (List ℕ)) (k : TypeKind) → kind_nodes (flat_kind own scope k) ≡ kind_nodes k
   kind_same scope (type.Number t) = refl

@@ -50,6 +50,7 @@ module _ (P Q : List ℕ → Type 0) (own : Own) (stays : (x : List ℕ) → P x
   params_are scope [] h = tt
   params_are scope (param.Value t n ∷ ps) h = (given_is n.text h.0, params_are (with_param scope (param.Value t n)) ps h.1)
   params_are scope (param.Mutable t n ∷ ps) h = (given_is n.text h.0, params_are (with_param scope (param.Mutable t n)) ps h.1)
+  params_are scope (param.Bytes n k ∷ ps) h = (given_is n.text h.0, params_are (with_param scope (param.Bytes n k)) ps h.1)
 
   fields_are : (params : List ParamTree) (scope : List (List ℕ)) (fs : List FieldTree) → Each P (fields_written fs) → Each Q (fields_written (flat_fields own params scope fs))
   fields_are params scope [] h = tt

@@ -4,14 +4,17 @@ use Rattle.td_ast.specs.declared.token.Span.{Span}
 use Rattle.td_ast.specs.declared.token.TokenKind.TheVariants as kinds
 use Rattle.td_ast.specs.declared.names.Name.{Name}
 use Rattle.td_ast.specs.declared.actions.ActionKind.{ActionKind}
+use Rattle.td_ast.specs.declared.actions.ActionTree.{ActionTree}
+use Rattle.td_ast.specs.declared.actions.ActionTree.TheVariants.{Done, Copied}
 use Rattle.td_ast.specs.declared.actions.Assigned.{Assigned}
 use Rattle.td_ast.specs.Trees.{Tree, over}
 use Rattle.td_ast.specs.Statements.{Statement, Store, StoreField, Var, Return, Abort}
-use Rattle.td_grammar.specs.Grammar.{Grammar, ◌then◌, ◌making◌, maybe, too_deep, spelled_by}
+use Rattle.td_grammar.specs.Grammar.{Grammar, ◌then◌, ◌making◌, maybe, all_of, too_deep, spelled_by}
 use Rattle.td_grammar.specs.Tokens.{terminal, name, word}
 use Rattle.td_grammar.specs.Expressions.{expr}
 use Rattle.td_grammar.specs.Actions.{action_kinds, action_of, assigned, if_of, statement_from, braced_of, SpellsStatement, statement}
-use Rattle.td_grammar.specs.Sets.{only}
+use Rattle.td_grammar.specs.declared.limits.TheConstants.{BRACES}
+use Rattle.td_grammar.specs.Sets.{set_of, only}
 
 abbrev pub braced_at : ℕ → Grammar (List Statement × Span)
 braced_at zero = too_deep (braced_of (spelled_by SpellsStatement)).Spells (only kinds.OpenBrace)
@@ -51,3 +54,13 @@ statement_at n = statement_from (braced_at n)
 
 abbrev pub action_word : Grammar (ActionKind × Span)
 action_word = word action_kinds action_of
+
+abbrev pub done : Grammar ActionTree
+done = (action_word then all_of (statement BRACES) then terminal kinds.CloseBrace) making λ ((kind, at), (statements, closing)). Done kind at statements
+
+abbrev pub copied : Grammar ActionTree
+copied = (terminal kinds.Copy then name then terminal kinds.CloseBrace) making λ (at, (name, closing)). Copied at name
+
+-- the first token of an action
+abbrev pub action_begins : List ℕ
+action_begins = set_of (kinds.Act ∷ kinds.Check ∷ kinds.OnSuccess ∷ kinds.Copy ∷ [])

@@ -315,31 +315,57 @@ fn action_word(tokens: &[Token]) -> Result<(ActionKind, Span, &[Token]), Failure
 }
 
 fn peek_is_action(tokens: &[Token]) -> bool
-    ensures { result ≡ comes pieces.action_word.reader.begins tokens.now }
+    ensures { result ≡ comes pieces.action_begins tokens.now }
 {
     match tokens {
         [] => false,
         [first, ..] => matches!(
             &first.kind,
-            TokenKind::Act | TokenKind::Check | TokenKind::OnSuccess
+            TokenKind::Act | TokenKind::Check | TokenKind::OnSuccess | TokenKind::Copy
         ),
     }
 }
 
 /// `ACTWORD { stmt } "}"`
-#[tactic(auto, unfolding(td_grammar::specs::Actions::action))]
-fn action(alloc: Global, tokens: &[Token]) -> Result<(ActionTree, &[Token]), Failure<'_>>
-    ensures { Gives (λ x. Got x.0 x.1.now) result (productions.action.reader.read tokens.now) }
+fn done(alloc: Global, tokens: &[Token]) -> Result<(ActionTree, &[Token]), Failure<'_>>
+    ensures { Gives (λ x. Got x.0 x.1.now) result (pieces.done.reader.read tokens.now) }
 {
     let (kind, span, rest) = action_word(tokens)?;
     let (statements, rest) = statements(alloc, BRACES, rest)?;
     let (_, rest) = expect(rest, &TokenKind::CloseBrace)?;
-    let action = ActionTree {
+    let action = ActionTree::Done {
         kind,
         span,
         statements,
     };
     Ok((action, rest))
+}
+
+/// `"{:copy" NAME "}"`
+fn copied(alloc: Global, tokens: &[Token]) -> Result<(ActionTree, &[Token]), Failure<'_>>
+    ensures { Gives (λ x. Got x.0 x.1.now) result (pieces.copied.reader.read tokens.now) }
+{
+    let (span, rest) = expect(tokens, &TokenKind::Copy)?;
+    let (name, rest) = name(alloc, rest)?;
+    let (_, after) = expect(rest, &TokenKind::CloseBrace)?;
+    Ok((ActionTree::Copied { span, name }, after))
+}
+
+/// `ACTWORD { stmt } "}" | "{:copy" NAME "}"`
+#[tactic(auto, unfolding(td_grammar::specs::Actions::action))]
+fn action(alloc: Global, tokens: &[Token]) -> Result<(ActionTree, &[Token]), Failure<'_>>
+    ensures { Gives (λ x. Got x.0 x.1.now) result (productions.action.reader.read tokens.now) }
+{
+    match tokens {
+        [
+            Token {
+                kind: TokenKind::Act | TokenKind::Check | TokenKind::OnSuccess,
+                ..
+            },
+            ..
+        ] => done(alloc, tokens),
+        _ => copied(alloc, tokens),
+    }
 }
 
 #[tactic(auto, unfolding(td_grammar::specs::Actions::action))]

@@ -6,3 +6,4 @@ pub mod arguments;
 pub mod arrays;
 pub mod fields;
 pub mod parameters;
+mod places;

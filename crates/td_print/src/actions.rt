@@ -130,12 +130,26 @@ fn write_after_blanks(out: &mut Printer, statements: &[Stmt]) -> Result<(), Allo
     Ok(())
 }
 
-/// Writes an action: `{:act s s}`, and `{:act}` where there are no statements.
+/// Writes an action: `{:act s s}`, and `{:act}` where there are no statements; `{:copy b}`.
 pub(crate) fn write_action(out: &mut Printer, action: &ActionTree) -> Result<(), AllocError>
     ensures { OnOk result (out.new ≡ out.old ++ text_of (action_pieces action.now)) }
 {
-    out.write(action_word(action.kind))?;
-    write_after_blanks(out, action.statements.as_slice())?;
-    out.write(b"}")?;
-    Ok(())
+    match action {
+        ActionTree::Done {
+            kind,
+            statements,
+            ..
+        } => {
+            out.write(action_word(*kind))?;
+            write_after_blanks(out, statements.as_slice())?;
+            out.write(b"}")?;
+            Ok(())
+        }
+        ActionTree::Copied { name, .. } => {
+            out.write(b"{:copy ")?;
+            write_name(out, name)?;
+            out.write(b"}")?;
+            Ok(())
+        }
+    }
 }

@@ -3,14 +3,15 @@
 
 ghost use Rattle.std.specs.Prelude.{◌≡◌, ◌++◌, OnOk, flat_map};
 ghost use Rattle.td_joined.specs.Pieces.{text_of};
-ghost use Rattle.td_layout.specs.Parameters.{condition_pieces, head_pieces, parameter_pieces, target_pieces};
+ghost use Rattle.td_layout.specs.Parameters.{condition_pieces, head_pieces, parameter_pieces, room_pieces, target_pieces};
 ghost use Rattle.td_layout.specs.Sequences.{comma, in_parentheses, optional};
 
 use crate::expressions::write_expression;
 use crate::printer::Printer;
-use crate::words::{number_word, write_name, write_plain, write_qualified};
+use crate::words::{number_word, write_constant, write_name, write_plain, write_qualified};
 use std::alloc::AllocError;
 use td_ast::expressions::Expr;
+use td_ast::names::ConstTree;
 use td_ast::parameters::{HeadTree, ParamTree, TargetTree};
 
 fn write_target(out: &mut Printer, target: &TargetTree) -> Result<(), AllocError>
@@ -32,7 +33,17 @@ fn write_target(out: &mut Printer, target: &TargetTree) -> Result<(), AllocError
     }
 }
 
-// `T a` or `mutable T *a`
+// `[8]`
+fn write_room(out: &mut Printer, room: &ConstTree) -> Result<(), AllocError>
+    ensures { OnOk result (out.new ≡ out.old ++ text_of (room_pieces room.now)) }
+{
+    out.write(b"[")?;
+    write_constant(out, room)?;
+    out.write(b"]")?;
+    Ok(())
+}
+
+// `T a`, `mutable T *a` or `mutable UINT8 *a[8]`
 fn write_parameter(out: &mut Printer, parameter: &ParamTree) -> Result<(), AllocError>
     ensures { OnOk result (out.new ≡ out.old ++ text_of (parameter_pieces parameter.now)) }
 {
@@ -48,6 +59,12 @@ fn write_parameter(out: &mut Printer, parameter: &ParamTree) -> Result<(), Alloc
             write_target(out, target)?;
             out.write(b" *")?;
             write_name(out, name)?;
+            Ok(())
+        }
+        ParamTree::Bytes { name, room } => {
+            out.write(b"mutable UINT8 *")?;
+            write_name(out, name)?;
+            write_room(out, room)?;
             Ok(())
         }
     }

@@ -7,6 +7,7 @@ use Rattle.td_ast.specs.declared.actions.Assigned.TheVariants.{Value, FieldPtr}
 use Rattle.td_ast.specs.declared.actions.ActionKind.{ActionKind}
 use Rattle.td_ast.specs.declared.actions.ActionKind.TheVariants as actions
 use Rattle.td_ast.specs.declared.actions.ActionTree.{ActionTree}
+use Rattle.td_ast.specs.declared.actions.ActionTree.TheVariants.{Done, Copied}
 use Rattle.td_ast.specs.Statements.{Statement, Statements, Store, StoreField, Var, If, IfElse, Return, Abort, End, More}
 use Rattle.td_joined.specs.Pieces.{Piece, Word, Blank}
 use Rattle.td_joined.specs.Joining.{glues_to}
@@ -83,7 +84,8 @@ action_begun actions.OnSuccess [] after = refl
 action_begun kind (statement ∷ statements) after = refl
 
 pub action_loose : (action : ActionTree) (after : List Piece) → Closes after → IsLoose (action_pieces action ++ after)
-action_loose action after closes =
+action_loose (Done kind span statements) after closes =
     let last = Word kinds.CloseBrace ∷ after in
-    let inner = each_closes statement_after (λ statement more c. before_blank (statement_pieces statement ++ more) (statement_loose statement more c)) action.statements last (before_brace after closes) in
-    rw (append_assoc (flat_map statement_after action.statements) (Word kinds.CloseBrace ∷ []) after) (action_begun action.kind action.statements after, inner.loose)
+    let inner = each_closes statement_after (λ statement more c. before_blank (statement_pieces statement ++ more) (statement_loose statement more c)) statements last (before_brace after closes) in
+    rw (append_assoc (flat_map statement_after statements) (Word kinds.CloseBrace ∷ []) after) (action_begun kind statements after, inner.loose)
+action_loose (Copied span name) after closes = (refl, (refl, (closes.brace, closes.loose)))

@@ -2,6 +2,8 @@
 use Rattle.std.proofs.Common.{◌≡◌, ℕ, zero, suc, List, [], ◌∷◌, ◌++◌, Option, Some, None, false, refl, append_assoc}
 use Rattle.td_ast.specs.declared.token.TokenKind.{TokenKind}
 use Rattle.td_ast.specs.declared.token.TokenKind.TheVariants as kinds
+use Rattle.td_ast.specs.declared.names.ConstTree.{ConstTree}
+use Rattle.td_ast.specs.declared.names.ConstTree.TheVariants as constants
 use Rattle.td_ast.specs.declared.names.PlainTree.TheVariants as plains
 use Rattle.td_ast.specs.declared.parameters.TargetTree.TheVariants as targets
 use Rattle.td_ast.specs.declared.parameters.ParamTree.{ParamTree}
@@ -19,7 +21,7 @@ use Rattle.td_joined.specs.Joining.{glues_to}
 use Rattle.td_layout.specs.Sequences.{name_piece, indented, in_parentheses, optional}
 use Rattle.td_layout.specs.Expressions.{expression_pieces}
 use Rattle.td_layout.specs.Actions.{action_pieces}
-use Rattle.td_layout.specs.Parameters.{parameter_pieces, condition_pieces, head_pieces}
+use Rattle.td_layout.specs.Parameters.{room_pieces, parameter_pieces, condition_pieces, head_pieces}
 use Rattle.td_layout.specs.Fields.{type_pieces, extent_pieces, refinement_pieces, action_after, field_pieces, field_line}
 use Rattle.td_reread.proofs.Loose.{IsLoose, Closes, before_blank, before_line, before_sign, qualified_then}
 use Rattle.td_reread.proofs.LooseExpressions.{expression_begun, expression_loose, paren_opens, bracket_opens, parentheses_close}
@@ -31,6 +33,13 @@ parameter_begun : (parameter : ParamTree) (after : List Piece) → glues_to kind
 parameter_begun (params.Value (plains.Number type) name) after = refl
 parameter_begun (params.Value (plains.Named type) name) after = refl
 parameter_begun (params.Mutable target name) after = refl
+parameter_begun (params.Bytes name room) after = refl
+
+-- a room in its brackets
+room_loose : (room : ConstTree) (after : List Piece) → Closes after → IsLoose (room_pieces room ++ after)
+room_loose (constants.Number literal) after closes = (refl, (refl, (closes.bracket, closes.loose)))
+room_loose (constants.Named name) after closes =
+    (refl, qualified_then name.text (Word kinds.CloseBracket ∷ []) after (before_sign kinds.CloseBracket after refl refl refl refl refl refl (closes.bracket, closes.loose)))
 
 parameter_loose : (parameter : ParamTree) (after : List Piece) → Closes after → IsLoose (parameter_pieces parameter ++ after)
 parameter_loose (params.Value (plains.Number type) name) after closes = (refl, (closes.words (kinds.Name name.text) refl, closes.loose))
@@ -40,6 +49,7 @@ parameter_loose (params.Mutable (targets.Number type) name) after closes = (refl
 parameter_loose (params.Mutable (targets.Pointer span) name) after closes = (refl, (refl, (refl, (closes.words (kinds.Name name.text) refl, closes.loose))))
 parameter_loose (params.Mutable (targets.Named type) name) after closes =
     (refl, qualified_then type.text (Blank ∷ Word kinds.Star ∷ name_piece name ∷ []) after (before_blank (Word kinds.Star ∷ name_piece name ∷ after) (refl, (closes.words (kinds.Name name.text) refl, closes.loose))))
+parameter_loose (params.Bytes name room) after closes = (refl, (refl, (refl, (refl, room_loose room after closes))))
 
 condition_closes : (condition : Option Tree) (after : List Piece) → Closes after → Closes (optional condition_pieces condition ++ after)
 condition_closes None after closes = closes

@@ -65,7 +65,7 @@ begun_fine : {kind : TokenKind} {bytes rest : List ℕ} → Begins kind bytes re
 begun_fine {kind} {bytes} (keyword_begins e) = keyword_fine bytes kind e
 begun_fine (name_begins name) = name
 begun_fine (number_begins base numeral small ends) = small
-begun_fine {kind} {bytes} (marked_begins e ends) = in_table marked_words bytes kind (tt, (tt, (tt, (tt, (tt, (tt, (tt, tt))))))) e
+begun_fine {kind} {bytes} (marked_begins e ends) = in_table marked_words bytes kind (tt, (tt, (tt, (tt, (tt, (tt, (tt, (tt, tt)))))))) e
 begun_fine {kind} {bytes} (punctuation_begins e slash) = punctuation_fine bytes kind e
 
 split_good : {at to : ℕ} {bytes last : List ℕ} {tokens : List Token} → SplitsUpTo at bytes tokens to last → Each IsSpellable (kinds_in tokens)

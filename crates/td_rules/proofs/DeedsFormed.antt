@@ -1,15 +1,18 @@
 -- Core actions are formed.
-use Rattle.std.proofs.Common.{◌≡◌, ℕ, ◌+◌, ◌<◌, ◌≤◌, Bool, true, false, cond, List, [], ◌∷◌, ◌++◌, length, refl, sym, subst, arith, Option, Some, None, slice_get, nat_le}
+use Rattle.std.proofs.Common.{◌≡◌, ℕ, zero, suc, ◌+◌, ◌<◌, ◌≤◌, Bool, true, false, cond, List, [], ◌∷◌, ◌++◌, length, refl, sym, subst, arith, Option, Some, None, slice_get, nat_le, length-append}
 use Rattle.std.specs.Str.{bytes_eq}
 use Rattle.std.proofs.lemmas.Option.{slice_get_within}
 use Rattle.td_num.specs.declared.number.NumberType.{NumberType}
 use Rattle.td_ast.specs.declared.actions.Assigned.{Assigned}
 use Rattle.td_ast.specs.declared.actions.Assigned.TheVariants.{Value, FieldPtr}
 use Rattle.td_ast.specs.declared.actions.ActionTree.{ActionTree}
+use Rattle.td_ast.specs.declared.actions.ActionTree.TheVariants.{Done, Copied}
 use Rattle.td_ast.specs.Statements.{Statement, Store, StoreField, Var, If, IfElse, Return, Abort, Statements, End, More, block_of}
 use Rattle.td_core.specs.declared.expressions.Scalar.{Scalar}
 use Rattle.td_core.specs.declared.expressions.Scalar.TheVariants.{ThirtyTwo}
-use Rattle.td_core.specs.Term.{Deed, set}
+use Rattle.td_core.specs.Term.{Deed, done, set, keep, fork, answer, give_up}
+use Rattle.td_core.specs.WellFormed.{OfSome}
+use Rattle.td_core.specs.Copies.{NamesCells}
 use Rattle.td_core.specs.Types.{bits, limit, type_of}
 use Rattle.td_core.specs.Formed.{Bound, scalar_of, whole, Takes, given, IsDeedFormed, IsActionFormed}
 use Rattle.td_rules.specs.declared.actions.Target.{Target}
@@ -24,7 +27,7 @@ use Rattle.td_rules.specs.declared.known.Scope.{Scope}
 use Rattle.td_rules.specs.Known.{found_in, slots_at}
 use Rattle.td_rules.specs.Sorts.{core_of, start_core}
 use Rattle.td_rules.specs.Actions.{cell_of, slot_cell, slot_at, row_cell, stored_cell, stored_slot, with_read, scope_after, inside, set_core, read_core, statement_core, block_core, action_core}
-use Rattle.td_rules.proofs.Scopes.{bounds_of, slot_bound, IsRowThere, IsScope, IsFoundThere, found_there, local_scope, value_scope, inside_scope, whole_small, whole_pos, core_scoped, start_scoped, start_type}
+use Rattle.td_rules.proofs.Scopes.{bounds_of, slot_bound, IsRowThere, get_more, IsScope, IsFoundThere, found_there, local_scope, value_scope, inside_scope, whole_small, whole_pos, core_scoped, start_scoped, start_type}
 use Rattle.td_expr.proofs.Widths.{limit_pos, wide_enough}
 
 abbrev IsTargetThere : List Bound → Target → Type 0
@@ -41,6 +44,7 @@ cell_there k bounds cells (found.Local (local.Cell c (cell.Record r))) h = tt
 cell_there k bounds cells (found.Local (local.Value i w most)) h = tt
 cell_there k bounds cells (found.Local local.Unreadable) h = tt
 cell_there k bounds cells (found.Local (local.Row c r)) h = tt
+cell_there k bounds cells (found.Local (local.Buffer n)) h = tt
 cell_there k bounds cells (found.Global m) h = tt
 
 slot_there : (cells : List Bound) (c : ℕ) (t : Option NumberType) → slice_get cells c ≡ Some (slot_bound t) → IsTargetThere cells (slot_cell c t)
@@ -61,6 +65,7 @@ row_there k bounds cells (found.Local (local.Row c r)) f h = slots_there cells c
 row_there k bounds cells (found.Local (local.Cell c t)) f h = tt
 row_there k bounds cells (found.Local (local.Value i w most)) f h = tt
 row_there k bounds cells (found.Local local.Unreadable) f h = tt
+row_there k bounds cells (found.Local (local.Buffer n)) f h = tt
 row_there k bounds cells (found.Global m) f h = tt
 
 takes_whole : (cells : List Bound) (c : ℕ) (v w : Scalar) → slice_get cells c ≡ Some (whole w) → limit v ≤ limit w → Takes (slice_get cells c) v
@@ -159,4 +164,54 @@ mutual
 
 pub action_formed : (k : Known) (bounds : List Bound) (s : Scope) (a : Option ActionTree) → IsScope k bounds s → IsActionFormed (bounds_of s.cells) bounds (action_core k s a)
 action_formed k bounds s None h = tt
-action_formed k bounds s (Some a) h = block_formed k (block_of a.statements) (bounds ++ whole ThirtyTwo ∷ []) (inside s) (inside_scope k bounds s h)
+action_formed k bounds s (Some (Done kind at b)) h = block_formed k (block_of b) (bounds ++ whole ThirtyTwo ∷ []) (inside s) (inside_scope k bounds s h)
+action_formed k bounds s (Some (Copied at n)) h = tt
+
+-- An action names cells alone, so it is formed with more behind them
+
+same_more : (cells more : List Bound) (c : ℕ) → c < length cells → slice_get (cells ++ more) c ≡ slice_get cells c
+same_more [] more c h = absurd (omega (arith, h))
+same_more (b ∷ bs) more zero h = refl
+same_more (b ∷ bs) more (suc c) h = same_more bs more c (omega (arith, h))
+
+takes_more : (cells more : List Bound) (c : ℕ) (w : Scalar) → Takes (slice_get cells c) w → Takes (slice_get (cells ++ more) c) w
+takes_more cells more c w h = by (slice_get cells c) refl h
+  where
+    by : (o : Option Bound) → slice_get cells c ≡ o → Takes o w → Takes (slice_get (cells ++ more) c) w
+    by None e h = absurd h
+    by (Some b) e h = subst (λ o. Takes o w) (sym (get_more cells more c b e)) h
+
+deed_more : (cells more scope : List Bound) (d : Deed) → IsDeedFormed cells scope d → IsDeedFormed (cells ++ more) scope d
+deed_more cells more scope done h = tt
+deed_more cells more scope (set c e then) h = (h.0, (takes_more cells more c (type_of e) h.1.0, deed_more cells more scope then h.1.1))
+deed_more cells more scope (keep c then) h = (
+  (let count = length-append cells more in let lt = h.0 in omega (arith, count, lt)),
+  subst (λ o. IsDeedFormed (cells ++ more) (given scope o) then) (sym (same_more cells more c h.0)) (deed_more cells more (given scope (slice_get cells c)) then h.1),
+)
+deed_more cells more scope (fork e one other then) h =
+    (h.0, (deed_more cells more scope one h.1.0, (deed_more cells more scope other h.1.1.0, deed_more cells more scope then h.1.1.1)))
+deed_more cells more scope (answer e) h = h
+deed_more cells more scope give_up h = tt
+
+pub action_more : (cells more scope : List Bound) (a : Option Deed) → IsActionFormed cells scope a → IsActionFormed (cells ++ more) scope a
+action_more cells more scope None h = tt
+action_more cells more scope (Some d) h = deed_more cells more (scope ++ whole ThirtyTwo ∷ []) d h
+
+-- and names none of the later ones
+
+deed_named : (cells scope : List Bound) (d : Deed) → IsDeedFormed cells scope d → NamesCells (length cells) d
+deed_named cells scope done h = tt
+deed_named cells scope (set c e then) h = (there (slice_get cells c) refl h.1.0, deed_named cells scope then h.1.1)
+  where
+    there : (o : Option Bound) → slice_get cells c ≡ o → Takes o (type_of e) → c < length cells
+    there None g t = absurd t
+    there (Some b) g t = slice_get_within cells c b g
+deed_named cells scope (keep c then) h = (h.0, deed_named cells (given scope (slice_get cells c)) then h.1)
+deed_named cells scope (fork e one other then) h =
+    (deed_named cells scope one h.1.0, (deed_named cells scope other h.1.1.0, deed_named cells scope then h.1.1.1))
+deed_named cells scope (answer e) h = tt
+deed_named cells scope give_up h = tt
+
+pub action_named : (cells scope : List Bound) (a : Option Deed) → IsActionFormed cells scope a → OfSome (NamesCells (length cells)) a
+action_named cells scope None h = tt
+action_named cells scope (Some d) h = deed_named cells (scope ++ whole ThirtyTwo ∷ []) d h

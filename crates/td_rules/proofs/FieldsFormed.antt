@@ -4,8 +4,6 @@ use Rattle.std.proofs.Math.Nat.{pow-le-pow_right}
 use Rattle.std.proofs.lemmas.Bool.{leb-true, ltb-true, and_parts, false≢true}
 use Rattle.std.proofs.lemmas.Nat.{pow_pos}
 use Rattle.std.proofs.lemmas.Option.{none-some, same_Some, slice_get_within}
-use Rattle.td_num.specs.Lists.{Each}
-use Rattle.td_num.proofs.Lists.{each_at}
 use Rattle.td_num.specs.Numbers.{bytes_in}
 use Rattle.td_num.specs.declared.number.Width.{Width}
 use Rattle.td_num.specs.declared.number.Width.TheVariants.{One, Two, Four, Eight}
@@ -18,6 +16,7 @@ use Rattle.td_ast.specs.declared.fields.TypeTree.{TypeTree}
 use Rattle.td_ast.specs.declared.fields.ExtentTree.{ExtentTree}
 use Rattle.td_ast.specs.declared.fields.ExtentTree.TheVariants as after
 use Rattle.td_ast.specs.declared.fields.FieldTree.{FieldTree}
+use Rattle.td_ast.specs.declared.actions.ActionTree.{ActionTree}
 use Rattle.td_ast.specs.Trees.{Tree}
 use Rattle.td_core.specs.Term.{Term, Deed}
 use Rattle.td_core.specs.declared.module.NameId.{NameId}
@@ -25,6 +24,7 @@ use Rattle.td_core.specs.declared.module.Element.{Element}
 use Rattle.td_core.specs.declared.module.Element.TheVariants as element
 use Rattle.td_core.specs.declared.module.Extent.{Extent}
 use Rattle.td_core.specs.declared.module.Extent.TheVariants.{Once, Filling, OnceFilling, UpToZero}
+use Rattle.td_core.specs.declared.module.CopyOut.{CopyOut}
 use Rattle.td_core.specs.declared.module.Bits.{Bits}
 use Rattle.td_core.specs.declared.module.Param.{Param}
 use Rattle.td_core.specs.declared.module.CellKind.{CellKind}
@@ -35,13 +35,11 @@ use Rattle.td_core.specs.declared.module.Field.{Field}
 use Rattle.td_core.specs.declared.module.TypeDef.{TypeDef}
 use Rattle.td_core.specs.Types.{bits, limit, type_of}
 use Rattle.td_core.specs.Formed.{Bound, scalar_of, whole, cell_bound, param_bounds, cell_bounds, bits_bound, part_bound, parts_scope, IsScoped, IsOptionScoped, IsActionFormed, ArePartsFormed, AreArgsFormed, AreCellsFormed, params_at, own_at, IsElementFormed, IsExtentFormed, AreFieldsFormed}
-use Rattle.td_core.specs.Copies.{IsDefinitionCopyless}
-use Rattle.td_core.proofs.Copyless.{visible}
 use Rattle.td_rules.specs.declared.fields.Readable.{Readable}
 use Rattle.td_rules.specs.declared.fields.FlatField.{FlatField}
 use Rattle.td_rules.specs.declared.fields.OpenUnit.{OpenUnit}
 use Rattle.td_rules.specs.declared.known.Parameter.{Parameter}
-use Rattle.td_rules.specs.declared.known.Parameter.TheVariants.{Value, Cells}
+use Rattle.td_rules.specs.declared.known.Parameter.TheVariants.{Value, Cells, Buffer as BufferOf}
 use Rattle.td_rules.specs.declared.known.Meaning.TheVariants as meaning
 use Rattle.td_rules.specs.declared.known.Local.TheVariants as local
 use Rattle.td_rules.specs.declared.known.Found.{Found}
@@ -50,12 +48,14 @@ use Rattle.td_rules.specs.declared.known.Known.{Known}
 use Rattle.td_rules.specs.declared.known.Scope.{Scope}
 use Rattle.td_rules.specs.Known.{found_in, signature_at}
 use Rattle.td_rules.specs.Sorts.{core_of, option_core}
-use Rattle.td_rules.specs.Types.{same_number, number_found, number_of_kind, args_core, args_cells, fits_params, same_kind, is_kind, fits_cells, applied, found_element, kind_element, element_of}
+use Rattle.td_rules.specs.Actions.{action_core}
+use Rattle.td_rules.specs.Types.{same_number, number_found, number_of_kind, args_core, args_cells, args_buffers, fits_params, fits_cells, fits_buffers, fits, buffer_cells, applied, found_element, kind_element, element_of}
 use Rattle.td_rules.specs.Extents.{is_width, zero_ended, extent_core, allowed, bit_width}
 use Rattle.td_rules.specs.BitFields.{fits_room, unit_bits, part_of, whole_field, new_unit, more_bits, room_of, grown, closed, gathered}
 use Rattle.td_rules.specs.Fields.{found_base, base_of, readable_bits, readable_base, readable_of, with_readable, with_field, refinement_core, flat_of, flats_of, fields_core}
-use Rattle.td_rules.proofs.Scopes.{bounds_of, IsScope, level_scope, value_scope, whole_small, whole_pos, core_scoped, option_scoped}
-use Rattle.td_rules.proofs.DeedsFormed.{action_formed}
+use Rattle.td_rules.proofs.Scopes.{bounds_of, room_bounds, own_of, IsScope, level_scope, value_scope, whole_small, whole_pos, core_scoped, option_scoped}
+use Rattle.td_rules.proofs.DeedsFormed.{action_formed, action_more}
+use Rattle.td_rules.proofs.OwnFormed.{own_formed, width_same}
 use Rattle.td_expr.proofs.Widths.{limit_of_bytes as limit_is, limit_pos, wide_enough}
 
 -- Types with arguments
@@ -69,6 +69,7 @@ args_scoped k bounds s [] es h = tt
 args_scoped k bounds s (p ∷ ps) [] h = tt
 args_scoped k bounds s (Value w ∷ ps) (e ∷ es) h = (core_scoped k bounds s e h, args_scoped k bounds s ps es h)
 args_scoped k bounds s (Cells t ∷ ps) (e ∷ es) h = args_scoped k bounds s ps es h
+args_scoped k bounds s (BufferOf room ∷ ps) (e ∷ es) h = args_scoped k bounds s ps es h
 
 args_formed : (scope : List Bound) (ps : List Param) (es : List Term) → AreScoped scope es → fits_params ps es ≡ true → AreArgsFormed scope (param_bounds ps) es
 args_formed scope [] [] h t = tt
@@ -78,49 +79,6 @@ args_formed scope (p ∷ ps) (e ∷ es) h t =
     let u = and_parts (nat_le (bits (type_of e)) (bits (scalar_of p.width))) (fits_params ps es) t in
     let le = wide_enough (type_of e) (scalar_of p.width) u.0 in
     (h.0, (omega (arith, le, limit_pos (scalar_of p.width)), args_formed scope ps es h.1 u.1))
-
-pub width_same : (a b : Width) → nat_eq (bytes_in a) (bytes_in b) ≡ true → a ≡ b
-width_same One One h = refl
-width_same Two Two h = refl
-width_same Four Four h = refl
-width_same Eight Eight h = refl
-width_same One Two h = absurd (false≢true h)
-width_same One Four h = absurd (false≢true h)
-width_same One Eight h = absurd (false≢true h)
-width_same Two One h = absurd (false≢true h)
-width_same Two Four h = absurd (false≢true h)
-width_same Two Eight h = absurd (false≢true h)
-width_same Four One h = absurd (false≢true h)
-width_same Four Two h = absurd (false≢true h)
-width_same Four Eight h = absurd (false≢true h)
-width_same Eight One h = absurd (false≢true h)
-width_same Eight Two h = absurd (false≢true h)
-width_same Eight Four h = absurd (false≢true h)
-
-kind_same : (a b : CellKind) → same_kind a b ≡ true → cell_bound a ≡ cell_bound b
-kind_same (NumberCell a) (NumberCell b) h = ap (λ w. whole (scalar_of w)) (width_same a b h)
-kind_same (NumberCell a) PointerCell h = absurd (false≢true h)
-kind_same PointerCell (NumberCell b) h = absurd (false≢true h)
-kind_same PointerCell PointerCell h = refl
-
-get_map : {A B : Type 0} (f : A → B) (xs : List A) (i : ℕ) (o : Option A) → slice_get xs i ≡ o → slice_get (map f xs) i ≡ elim o [ None ↦ None | Some x ↦ Some (f x) ]
-get_map f [] i None e = refl
-get_map f [] i (Some x) e = absurd (none-some x e)
-get_map f (x ∷ xs) zero None e = cc
-get_map f (x ∷ xs) zero (Some y) e = ap (λ z. Some (f z)) (same_Some x y e)
-get_map f (x ∷ xs) (suc i) o e = get_map f xs i o e
-
-cells_formed : (own : List CellKind) (bs : List Cell) (cs : List ℕ) → fits_cells own bs cs ≡ true → AreCellsFormed (bounds_of own) (cell_bounds bs) cs
-cells_formed own [] [] t = tt
-cells_formed own [] (c ∷ cs) t = absurd (false≢true t)
-cells_formed own (b ∷ bs) [] t = absurd (false≢true t)
-cells_formed own (b ∷ bs) (c ∷ cs) t =
-    let u = and_parts (is_kind (slice_get own c) b.kind) (fits_cells own bs cs) t in
-    (by (slice_get own c) refl u.0, cells_formed own bs cs u.1)
-  where
-    by : (o : Option CellKind) → slice_get own c ≡ o → is_kind o b.kind ≡ true → slice_get (bounds_of own) c ≡ Some (cell_bound b.kind)
-    by None e t = absurd (false≢true t)
-    by (Some kind) e t = get_map cell_bound own c (Some kind) e ∙ ap Some (kind_same kind b.kind t)
 
 -- What a field brings into scope
 
@@ -207,7 +165,7 @@ extent_readable k s t (Some (after.Zeroterm e)) = tt
 extent_readable k s t (Some (after.Bits n)) = kind_bits k s t.kind n.value
 
 -- what a field brings
-abbrev field_bound : Known → Scope → FieldTree → Bound
+abbrev pub field_bound : Known → Scope → FieldTree → Bound
 field_bound k s f = bit_bound (element_of k s f.type_tree) (extent_core k s (element_of k s f.type_tree) f.extent) (bit_width k s f.type_tree f.extent)
 
 readable_scope : (k : Known) (bounds : List Bound) (s : Scope) (x : List ℕ) (b : Bound) (v : Option Readable) → IsScope k bounds s → IsReadable b v → IsScope k (bounds ++ b ∷ []) (with_readable s x v)
@@ -265,45 +223,56 @@ refinement_scoped : (bounds : List Bound) (v : Option Readable) (e : Option Term
 refinement_scoped bounds None e h = tt
 refinement_scoped bounds (Some v) e h = h
 
-readable_cells : (s : Scope) (x : List ℕ) (v : Option Readable) → (with_readable s x v).cells ≡ s.cells
+pub readable_cells : (s : Scope) (x : List ℕ) (v : Option Readable) → (with_readable s x v).cells ≡ s.cells
 readable_cells s x None = refl
 readable_cells s x (Some v) = refl
 
-module _ (all : List TypeDef) (k : Known) (same : (j : ℕ) (d : TypeDef) → slice_get k.definitions j ≡ Some d → slice_get all j ≡ Some d) (none : Each IsDefinitionCopyless all) where
+pub readable_buffers : (s : Scope) (x : List ℕ) (v : Option Readable) → (with_readable s x v).buffers ≡ s.buffers
+readable_buffers s x None = refl
+readable_buffers s x (Some v) = refl
+
+readable_own : (s : Scope) (x : List ℕ) (v : Option Readable) → own_of (with_readable s x v) ≡ own_of s
+readable_own s x None = refl
+readable_own s x (Some v) = refl
+
+action_own : (k : Known) (bounds : List Bound) (s : Scope) (a : Option ActionTree) → IsScope k bounds s → IsActionFormed (own_of s) bounds (action_core k s a)
+action_own k bounds s a h = action_more (bounds_of s.cells) (room_bounds s.buffers) bounds (action_core k s a) (action_formed k bounds s a h)
+
+module _ (all : List TypeDef) (k : Known) (same : (j : ℕ) (d : TypeDef) → slice_get k.definitions j ≡ Some d → slice_get all j ≡ Some d) where
   abbrev n : ℕ
   n = length k.definitions
 
-  applied_formed : (bounds : List Bound) (s : Scope) (j : ℕ) (es : List Term) (own : List ℕ) → AreScoped bounds es → IsElementFormed all n (bounds_of s.cells) bounds (applied s j (slice_get k.definitions j) es own)
-  applied_formed bounds s j es own h = by (slice_get k.definitions j) refl
+  applied_formed : (bounds : List Bound) (s : Scope) (j : ℕ) (es : List Term) (own buffers : List ℕ) → AreScoped bounds es → IsElementFormed all n (own_of s) bounds (applied s j (slice_get k.definitions j) es own buffers)
+  applied_formed bounds s j es own buffers h = by (slice_get k.definitions j) refl
     where
-      by : (o : Option TypeDef) → slice_get k.definitions j ≡ o → IsElementFormed all n (bounds_of s.cells) bounds (applied s j o es own)
+      by : (o : Option TypeDef) → slice_get k.definitions j ≡ o → IsElementFormed all n (own_of s) bounds (applied s j o es own buffers)
       by None e = tt
-      by (Some d) e = check (fits_params d.params es && fits_cells s.cells d.cells own) refl
+      by (Some d) e = check (fits s d es own buffers) refl
         where
-          check : (b : Bool) → (fits_params d.params es && fits_cells s.cells d.cells own) ≡ b → IsElementFormed all n (bounds_of s.cells) bounds (cond b (element.Named j es own) element.Unit)
+          check : (b : Bool) → fits s d es own buffers ≡ b → IsElementFormed all n (own_of s) bounds (cond b (element.Named j es (own ++ buffer_cells (length s.cells) buffers)) element.Unit)
           check false t = tt
           check true t =
-              let u = and_parts (fits_params d.params es) (fits_cells s.cells d.cells own) t in
+              let u = and_parts (fits_params d.params es) (fits_cells s.cells d.cells own && fits_buffers s.buffers d.buffers buffers) t in
+              let v = and_parts (fits_cells s.cells d.cells own) (fits_buffers s.buffers d.buffers buffers) u.1 in
               let a : slice_get all j ≡ Some d = same j d e in (
                 slice_get_within k.definitions j d e,
                 (
                   subst (λ o. AreArgsFormed bounds (params_at o) es) (sym a) (args_formed bounds d.params es h u.0),
-                  subst (λ o. AreCellsFormed (bounds_of s.cells) (own_at o) own) (sym a)
-                      (subst (λ bs. AreCellsFormed (bounds_of s.cells) bs own) (sym (visible d (each_at IsDefinitionCopyless all j d none a).buffers)) (cells_formed s.cells d.cells own u.1)),
+                  subst (λ o. AreCellsFormed (own_of s) (own_at o) (own ++ buffer_cells (length s.cells) buffers)) (sym a) (own_formed s d own buffers v.0 v.1),
                 ),
               )
 
-  found_formed : (bounds : List Bound) (s : Scope) (f : Found) (args : List Tree) → IsScope k bounds s → IsElementFormed all n (bounds_of s.cells) bounds (found_element k s f args)
+  found_formed : (bounds : List Bound) (s : Scope) (f : Found) (args : List Tree) → IsScope k bounds s → IsElementFormed all n (own_of s) bounds (found_element k s f args)
   found_formed bounds s found.Nothing args h = tt
   found_formed bounds s (found.Local l) args h = tt
   found_formed bounds s (found.Global (meaning.Constant m)) args h = tt
   found_formed bounds s (found.Global (meaning.Member m)) args h = tt
   found_formed bounds s (found.Global (meaning.Number t)) args h = tt
   found_formed bounds s (found.Global (meaning.Enum t v)) args h = tt
-  found_formed bounds s (found.Global (meaning.Type j)) args h = applied_formed bounds s j (args_core k s (signature_at k j) args) (args_cells k s (signature_at k j) args) (args_scoped k bounds s (signature_at k j) args h)
+  found_formed bounds s (found.Global (meaning.Type j)) args h = applied_formed bounds s j (args_core k s (signature_at k j) args) (args_cells k s (signature_at k j) args) (args_buffers k s (signature_at k j) args) (args_scoped k bounds s (signature_at k j) args h)
   found_formed bounds s (found.Global (meaning.Record r)) args h = tt
 
-  kind_formed : (bounds : List Bound) (s : Scope) (t : TypeKind) → IsScope k bounds s → IsElementFormed all n (bounds_of s.cells) bounds (kind_element k s t)
+  kind_formed : (bounds : List Bound) (s : Scope) (t : TypeKind) → IsScope k bounds s → IsElementFormed all n (own_of s) bounds (kind_element k s t)
   kind_formed bounds s (type.Number t) h = tt
   kind_formed bounds s type.Unit h = tt
   kind_formed bounds s type.AllBytes h = tt
@@ -321,12 +290,12 @@ module _ (all : List TypeDef) (k : Known) (same : (j : ℕ) (d : TypeDef) → sl
   AreFlatsFormed cells scope [] = Unit {0}
   AreFlatsFormed cells scope (x ∷ xs) = IsFlatFormed cells scope x × AreFlatsFormed cells (scope ++ bit_bound x.element x.extent x.width ∷ []) xs
 
-  flats_formed : (names : List (List ℕ)) (bounds : List Bound) (s : Scope) (fs : List FieldTree) → IsScope k bounds s → AreFlatsFormed (bounds_of s.cells) bounds (flats_of names k s fs)
+  flats_formed : (names : List (List ℕ)) (bounds : List Bound) (s : Scope) (fs : List FieldTree) → IsScope k bounds s → AreFlatsFormed (own_of s) bounds (flats_of names k s fs)
   flats_formed names bounds s [] h = tt
   flats_formed names bounds s (f ∷ fs) h =
       let b = field_bound k s f in
       let next = field_scope k bounds s f h in
-      let cells : (with_field k s f).cells ≡ s.cells = readable_cells s f.name.text (readable_of k s f) in (
+      let own : own_of (with_field k s f) ≡ own_of s = readable_own s f.name.text (readable_of k s f) in (
         (
           kind_formed bounds s f.type_tree.kind h,
           (
@@ -335,12 +304,12 @@ module _ (all : List TypeDef) (k : Known) (same : (j : ℕ) (d : TypeDef) → sl
               extent_once k s (element_of k s f.type_tree) f.type_tree f.extent,
               (
                 refinement_scoped (bounds ++ b ∷ []) (readable_of k s f) (option_core k (with_field k s f) f.refinement) (option_scoped k (bounds ++ b ∷ []) (with_field k s f) f.refinement next),
-                subst (λ c. IsActionFormed (bounds_of c) (bounds ++ b ∷ []) (flat_of names k s f).action) cells (action_formed k (bounds ++ b ∷ []) (with_field k s f) f.action next),
+                subst (λ c. IsActionFormed c (bounds ++ b ∷ []) (flat_of names k s f).action) own (action_own k (bounds ++ b ∷ []) (with_field k s f) f.action next),
               ),
             ),
           ),
         ),
-        subst (λ c. AreFlatsFormed (bounds_of c) (bounds ++ b ∷ []) (flats_of names k (with_field k s f) fs)) cells (flats_formed names (bounds ++ b ∷ []) (with_field k s f) fs next),
+        subst (λ c. AreFlatsFormed c (bounds ++ b ∷ []) (flats_of names k (with_field k s f) fs)) own (flats_formed names (bounds ++ b ∷ []) (with_field k s f) fs next),
       )
 
   -- Units
@@ -391,7 +360,7 @@ module _ (all : List TypeDef) (k : Known) (same : (j : ℕ) (d : TypeDef) → sl
   gathered_formed cells [] None from scope e h = tt
   gathered_formed cells [] (Some u) from scope e h = (tt, (tt, (e.0, tt)))
   gathered_formed cells (x ∷ xs) o from scope e h =
-      by x.element x.extent x.width x.name x.refinement x.action x.place h.0 (λ p from' next g. gathered_formed cells xs p from' next g) h.1
+      by x.element x.extent x.copy x.width x.name x.refinement x.action x.place h.0 (λ p from' next g. gathered_formed cells xs p from' next g) h.1
     where
       After : Element → Extent → Option ℕ → Type 0
       After e extent width = AreFlatsFormed cells (scope ++ bit_bound e extent width ∷ []) xs
@@ -423,20 +392,20 @@ module _ (all : List TypeDef) (k : Known) (same : (j : ℕ) (d : TypeDef) → sl
       bits_case (Some u) ok t w x r a later rest true fits = later (Some (more_bits u w x)) from (scope ++ bits_of t w ∷ []) (grown_formed cells u t w x from scope ok fits r a) rest
       bits_case o ok t w x r a later rest false fits = close cells o from scope (gathered (Some (new_unit t w x)) xs) ok (later (Some (new_unit t w x)) scope (scope ++ bits_of t w ∷ []) (new_formed cells t w x scope r a) rest)
 
-      by : (y : Element) (extent : Extent) (width : Option ℕ) (m : NameId) (refinement : Option Term) (action : Option Deed) (place : Span)
-          → IsFlatFormed cells scope (record { element = y; extent = extent; width = width; name = m; refinement = refinement; action = action; place = place }) → Later → After y extent width
-          → AreFieldsFormed all n cells from (gathered o (record { element = y; extent = extent; width = width; name = m; refinement = refinement; action = action; place = place } ∷ xs))
-      by (element.Number t) extent None m refinement action place h later rest = plain (record { element = element.Number t; extent = extent; width = None; name = m; refinement = refinement; action = action; place = place }) refl h later rest
-      by (element.Number t) Once (Some w) m refinement action place h later rest =
-          bits_case o e t w (record { element = element.Number t; extent = Once; width = Some w; name = m; refinement = refinement; action = action; place = place }) h.1.1.1.0 h.1.1.1.1 later rest (fits_room (room_of o) t w) refl
-      by (element.Number t) (Filling z step) (Some w) m refinement action place h later rest = absurd (not_once (Filling z step) h.1.1.0 tt)
-      by (element.Number t) (OnceFilling z step) (Some w) m refinement action place h later rest = absurd (not_once (OnceFilling z step) h.1.1.0 tt)
-      by (element.Number t) (UpToZero z) (Some w) m refinement action place h later rest = absurd (not_once (UpToZero z) h.1.1.0 tt)
-      by (element.Listed t v) extent width m refinement action place h later rest = plain (record { element = element.Listed t v; extent = extent; width = width; name = m; refinement = refinement; action = action; place = place }) refl h later rest
-      by (element.Named j args own) extent width m refinement action place h later rest = plain (record { element = element.Named j args own; extent = extent; width = width; name = m; refinement = refinement; action = action; place = place }) refl h later rest
-      by element.Unit extent width m refinement action place h later rest = plain (record { element = element.Unit; extent = extent; width = width; name = m; refinement = refinement; action = action; place = place }) refl h later rest
-      by element.Rest extent width m refinement action place h later rest = plain (record { element = element.Rest; extent = extent; width = width; name = m; refinement = refinement; action = action; place = place }) refl h later rest
-      by element.Zeros extent width m refinement action place h later rest = plain (record { element = element.Zeros; extent = extent; width = width; name = m; refinement = refinement; action = action; place = place }) refl h later rest
+      by : (y : Element) (extent : Extent) (copy : Option CopyOut) (width : Option ℕ) (m : NameId) (refinement : Option Term) (action : Option Deed) (place : Span)
+          → IsFlatFormed cells scope (record { element = y; extent = extent; copy = copy; width = width; name = m; refinement = refinement; action = action; place = place }) → Later → After y extent width
+          → AreFieldsFormed all n cells from (gathered o (record { element = y; extent = extent; copy = copy; width = width; name = m; refinement = refinement; action = action; place = place } ∷ xs))
+      by (element.Number t) extent copy None m refinement action place h later rest = plain (record { element = element.Number t; extent = extent; copy = copy; width = None; name = m; refinement = refinement; action = action; place = place }) refl h later rest
+      by (element.Number t) Once copy (Some w) m refinement action place h later rest =
+          bits_case o e t w (record { element = element.Number t; extent = Once; copy = copy; width = Some w; name = m; refinement = refinement; action = action; place = place }) h.1.1.1.0 h.1.1.1.1 later rest (fits_room (room_of o) t w) refl
+      by (element.Number t) (Filling z step) copy (Some w) m refinement action place h later rest = absurd (not_once (Filling z step) h.1.1.0 tt)
+      by (element.Number t) (OnceFilling z step) copy (Some w) m refinement action place h later rest = absurd (not_once (OnceFilling z step) h.1.1.0 tt)
+      by (element.Number t) (UpToZero z) copy (Some w) m refinement action place h later rest = absurd (not_once (UpToZero z) h.1.1.0 tt)
+      by (element.Listed t v) extent copy width m refinement action place h later rest = plain (record { element = element.Listed t v; extent = extent; copy = copy; width = width; name = m; refinement = refinement; action = action; place = place }) refl h later rest
+      by (element.Named j args own) extent copy width m refinement action place h later rest = plain (record { element = element.Named j args own; extent = extent; copy = copy; width = width; name = m; refinement = refinement; action = action; place = place }) refl h later rest
+      by element.Unit extent copy width m refinement action place h later rest = plain (record { element = element.Unit; extent = extent; copy = copy; width = width; name = m; refinement = refinement; action = action; place = place }) refl h later rest
+      by element.Rest extent copy width m refinement action place h later rest = plain (record { element = element.Rest; extent = extent; copy = copy; width = width; name = m; refinement = refinement; action = action; place = place }) refl h later rest
+      by element.Zeros extent copy width m refinement action place h later rest = plain (record { element = element.Zeros; extent = extent; copy = copy; width = width; name = m; refinement = refinement; action = action; place = place }) refl h later rest
 
-  pub fields_formed : (names : List (List ℕ)) (bounds : List Bound) (s : Scope) (fs : List FieldTree) → IsScope k bounds s → AreFieldsFormed all n (bounds_of s.cells) bounds (fields_core names k s fs)
-  fields_formed names bounds s fs h = gathered_formed (bounds_of s.cells) (flats_of names k s fs) None bounds bounds refl (flats_formed names bounds s fs h)
+  pub fields_formed : (names : List (List ℕ)) (bounds : List Bound) (s : Scope) (fs : List FieldTree) → IsScope k bounds s → AreFieldsFormed all n (own_of s) bounds (fields_core names k s fs)
+  fields_formed names bounds s fs h = gathered_formed (own_of s) (flats_of names k s fs) None bounds bounds refl (flats_formed names bounds s fs h)

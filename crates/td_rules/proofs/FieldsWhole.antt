@@ -45,7 +45,7 @@ use Rattle.td_rules.specs.declared.known.Known.{Known}
 use Rattle.td_rules.specs.declared.known.Scope.{Scope}
 use Rattle.td_rules.specs.Known.{nothing_known, global_found, local_found, found_in, signature_at}
 use Rattle.td_rules.specs.Sorts.{core_of, option_core}
-use Rattle.td_rules.specs.Types.{same_number, number_found, number_of_kind, args_core, args_cells, fits_params, fits_cells, applied, found_element, kind_element, element_of}
+use Rattle.td_rules.specs.Types.{same_number, number_found, number_of_kind, args_core, args_cells, args_buffers, buffer_cells, fits, applied, found_element, kind_element, element_of}
 use Rattle.td_rules.specs.Extents.{is_width, zero_ended, extent_core, allowed, bit_width}
 use Rattle.td_rules.specs.BitFields.{fits_room, low_bit, unit_bits, part_of, whole_field, unit_field, new_unit, more_bits, bit_field}
 use Rattle.td_rules.specs.Fields.{found_base, base_of, readable_base, readable_of, with_field, refinement_core, flat_of, flats_of, fields_core}
@@ -60,7 +60,7 @@ use Rattle.td_rules.specs.Definitions.{struct_head, struct_scope, struct_core, c
 use Rattle.td_rules.specs.Modules.{names_of, module_of}
 use Rattle.td_rules.specs.Laws.{FieldsAreWhole}
 use Rattle.td_rules.proofs.Whole.{gathered_each, has_more}
-use Rattle.td_rules.proofs.FieldsFormed.{width_same}
+use Rattle.td_rules.proofs.OwnFormed.{width_same}
 use Rattle.td_num.proofs.Lists.{each_append}
 
 -- Units
@@ -177,11 +177,11 @@ found_listed count k s name h = by (looked_up s.locals name) (looked_up k.global
     by None None e = tt
     by None (Some m) e = looked count k.globals name m h e
 
-applied_listed : (count : ℕ) (s : Scope) (j : ℕ) (o : Option TypeDef) (es : List Term) (own : List ℕ) → IsEnumThere count (applied s j o es own)
-applied_listed count s j None es own = tt
-applied_listed count s j (Some d) es own = by (fits_params d.params es && fits_cells s.cells d.cells own)
+applied_listed : (count : ℕ) (s : Scope) (j : ℕ) (o : Option TypeDef) (es : List Term) (own ns : List ℕ) → IsEnumThere count (applied s j o es own ns)
+applied_listed count s j None es own ns = tt
+applied_listed count s j (Some d) es own ns = by (fits s d es own ns)
   where
-    by : (b : Bool) → IsEnumThere count (cond b (element.Named j es own) element.Unit)
+    by : (b : Bool) → IsEnumThere count (cond b (element.Named j es (own ++ buffer_cells (length s.cells) ns)) element.Unit)
     by true = tt
     by false = tt
 
@@ -192,7 +192,7 @@ enum_there count k s (found.Global (meaning.Constant n)) args h = tt
 enum_there count k s (found.Global (meaning.Member n)) args h = tt
 enum_there count k s (found.Global (meaning.Number t)) args h = tt
 enum_there count k s (found.Global (meaning.Enum t v)) args h = h
-enum_there count k s (found.Global (meaning.Type j)) args h = applied_listed count s j (slice_get k.definitions j) (args_core k s (signature_at k j) args) (args_cells k s (signature_at k j) args)
+enum_there count k s (found.Global (meaning.Type j)) args h = applied_listed count s j (slice_get k.definitions j) (args_core k s (signature_at k j) args) (args_cells k s (signature_at k j) args) (args_buffers k s (signature_at k j) args)
 enum_there count k s (found.Global (meaning.Record r)) args h = tt
 
 kind_there : (count : ℕ) (k : Known) (s : Scope) (t : TypeKind) → AreListed count k.globals → IsEnumThere count (kind_element k s t)
@@ -313,11 +313,11 @@ allowed_narrow t n = by (is_width (Some t) n) refl
     by false e = tt
     by true e = let u = and_parts (nat_lt 0 n) (nat_le n (8 * bytes_in t.width)) e in (ltb-true 0 n u.0, leb-true n (8 * bytes_in t.width) u.1)
 
-applied_narrow : (s : Scope) (j : ℕ) (o : Option TypeDef) (es : List Term) (own : List ℕ) (w : Option ℕ) → IsNarrow (bit_field (applied s j o es own) w)
-applied_narrow s j None es own w = tt
-applied_narrow s j (Some d) es own w = by (fits_params d.params es && fits_cells s.cells d.cells own)
+applied_narrow : (s : Scope) (j : ℕ) (o : Option TypeDef) (es : List Term) (own ns : List ℕ) (w : Option ℕ) → IsNarrow (bit_field (applied s j o es own ns) w)
+applied_narrow s j None es own ns w = tt
+applied_narrow s j (Some d) es own ns w = by (fits s d es own ns)
   where
-    by : (b : Bool) → IsNarrow (bit_field (cond b (element.Named j es own) element.Unit) w)
+    by : (b : Bool) → IsNarrow (bit_field (cond b (element.Named j es (own ++ buffer_cells (length s.cells) ns)) element.Unit) w)
     by true = tt
     by false = tt
 
@@ -328,7 +328,7 @@ found_narrow k s (found.Global (meaning.Constant m)) args n = tt
 found_narrow k s (found.Global (meaning.Member m)) args n = tt
 found_narrow k s (found.Global (meaning.Number t)) args n = allowed_narrow t n
 found_narrow k s (found.Global (meaning.Enum t v)) args n = tt
-found_narrow k s (found.Global (meaning.Type j)) args n = applied_narrow s j (slice_get k.definitions j) (args_core k s (signature_at k j) args) (args_cells k s (signature_at k j) args) None
+found_narrow k s (found.Global (meaning.Type j)) args n = applied_narrow s j (slice_get k.definitions j) (args_core k s (signature_at k j) args) (args_cells k s (signature_at k j) args) (args_buffers k s (signature_at k j) args) None
 found_narrow k s (found.Global (meaning.Record r)) args n = tt
 
 kind_narrow : (k : Known) (s : Scope) (t : TypeKind) (n : ℕ) → IsNarrow (bit_field (kind_element k s t) (allowed (number_of_kind k s t) n))

@@ -1,9 +1,10 @@
 pub mod Scopes
 pub mod DeedsFormed
-pub mod Copyless
+pub mod OwnFormed
 pub mod FieldsFormed
-pub mod ModulesFormed
 pub mod Whole
+pub mod Copying
+pub mod ModulesFormed
 pub mod Naming
 pub mod FieldsWhole
 pub mod Sorting

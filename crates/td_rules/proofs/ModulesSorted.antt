@@ -1,5 +1,5 @@
 -- In a module that a tree stands for, truth values stand where truth values must, and numbers where numbers must.
-use Rattle.std.proofs.Common.{◌≡◌, ◌≢◌, ℕ, Bool, true, false, cond, ◌&&◌, List, [], ◌∷◌, refl, sym, subst, Option, Some, None, nat_le, slice_get}
+use Rattle.std.proofs.Common.{◌≡◌, ◌≢◌, ℕ, Bool, true, false, cond, ◌&&◌, List, [], ◌∷◌, ◌++◌, length, refl, sym, subst, Option, Some, None, nat_le, slice_get}
 use Rattle.td_num.specs.declared.number.NumberType.{NumberType}
 use Rattle.td_num.specs.declared.number.Width.{Width}
 use Rattle.td_num.specs.Lists.{Each}
@@ -10,6 +10,7 @@ use Rattle.td_ast.specs.declared.token.Span.{Span}
 use Rattle.td_ast.specs.declared.actions.Assigned.{Assigned}
 use Rattle.td_ast.specs.declared.actions.Assigned.TheVariants.{Value as Stored, FieldPtr}
 use Rattle.td_ast.specs.declared.actions.ActionTree.{ActionTree}
+use Rattle.td_ast.specs.declared.actions.ActionTree.TheVariants.{Done, Copied}
 use Rattle.td_ast.specs.declared.fields.TypeKind.{TypeKind}
 use Rattle.td_ast.specs.declared.fields.TypeKind.TheVariants as type
 use Rattle.td_ast.specs.declared.fields.TypeTree.{TypeTree}
@@ -40,7 +41,7 @@ use Rattle.td_rules.specs.declared.fields.FlatField.{FlatField}
 use Rattle.td_rules.specs.declared.known.CellType.{CellType}
 use Rattle.td_rules.specs.declared.known.CellType.TheVariants as cell
 use Rattle.td_rules.specs.declared.known.Parameter.{Parameter}
-use Rattle.td_rules.specs.declared.known.Parameter.TheVariants.{Value, Cells}
+use Rattle.td_rules.specs.declared.known.Parameter.TheVariants.{Value, Cells, Buffer as BufferOf}
 use Rattle.td_rules.specs.declared.known.Meaning.TheVariants as meaning
 use Rattle.td_rules.specs.declared.known.Local.TheVariants as local
 use Rattle.td_rules.specs.declared.known.Found.{Found}
@@ -53,14 +54,15 @@ use Rattle.td_rules.specs.Known.{nothing_known, found_in, signature_at, next_cas
 use Rattle.td_rules.specs.Sorts.{type_alone, sort_of, core_of, option_core, start_core}
 use Rattle.td_rules.specs.ExprRules.{number_breaches, truth_breaches, fitting_breaches, test_breaches}
 use Rattle.td_rules.specs.Actions.{stored_cell, stored_slot, target_breaches, stored_breaches, with_read, scope_after, vars_after, block_vars, statement_breaches, block_breaches, shape_breaches, inside, action_breaches, set_core, read_core, statement_core, block_core, action_core}
-use Rattle.td_rules.specs.Types.{args_breaches, found_breaches, kind_breaches, type_breaches, args_core, args_cells, fits_params, fits_cells, applied, found_element, kind_element, element_of}
+use Rattle.td_rules.specs.Types.{args_breaches, found_breaches, kind_breaches, type_breaches, args_core, args_cells, args_buffers, buffer_cells, fits, applied, found_element, kind_element, element_of}
 use Rattle.td_rules.specs.Extents.{extent_breaches, zero_ended, extent_core}
 use Rattle.td_rules.specs.BitFields.{part_of}
 use Rattle.td_rules.specs.Fields.{base_of, readable_bits, readable_base, readable_of, with_readable, with_field, field_name_breaches, refined_breaches, field_breaches, field_taken, fields_breaches, refinement_core, flat_of, flats_of, fields_core}
 use Rattle.td_rules.specs.Extents.{bit_width}
 use Rattle.td_rules.specs.Constants.{with_value_number, constant_value}
 use Rattle.td_rules.specs.Enums.{next_value, item_value, with_item, items_after, with_enum_name}
-use Rattle.td_rules.specs.Parameters.{no_head, plain_width, cell_type, value_head, cell_head, with_param, head_of, params_breaches}
+use Rattle.td_rules.specs.Parameters.{no_head, plain_width, cell_type, buffer_room, value_head, cell_head, buffer_head, with_param, head_of, params_breaches}
+use Rattle.td_rules.specs.Copies.{copy_breaches}
 use Rattle.td_rules.specs.Casetypes.{case_breaches, case_taken, cases_breaches, cases_taken, default_breaches, switch_breaches, cases_core, default_core}
 use Rattle.td_rules.specs.Definitions.{struct_head, struct_scope, struct_breaches, struct_core, casetype_head, casetype_breaches, casetype_core, definition_breaches, definitions_breaches, after, known_after}
 use Rattle.td_rules.specs.Modules.{names_of}
@@ -131,7 +133,8 @@ mutual
 
 action_sorted : (k : Known) (t : Taken) (s : Scope) (a : Option ActionTree) → HasNumbers s → action_breaches k t s a ≡ [] → OfSome IsDeedSorted (action_core k s a)
 action_sorted k t s None h b = tt
-action_sorted k t s (Some a) h b = block_sorted k t (inside s) (block_of a.statements) (record { locals = h.locals }) (right_none (shape_breaches a) _ b)
+action_sorted k t s (Some (Done kind at body)) h b = block_sorted k t (inside s) (block_of body) (record { locals = h.locals }) (right_none (shape_breaches kind at (block_of body)) _ b)
+action_sorted k t s (Some (Copied at n)) h b = tt
 
 -- Types and extents
 
@@ -140,12 +143,13 @@ args_sorted k s [] es h b = tt
 args_sorted k s (p ∷ ps) [] h b = tt
 args_sorted k s (Value w ∷ ps) (e ∷ es) h b = (fitting_sorted k s w e h (left_none (fitting_breaches k s w e) _ b), args_sorted k s ps es h (right_none (fitting_breaches k s w e) _ b))
 args_sorted k s (Cells t ∷ ps) (e ∷ es) h b = args_sorted k s ps es h b
+args_sorted k s (BufferOf room ∷ ps) (e ∷ es) h b = args_sorted k s ps es h b
 
-applied_sorted : (s : Scope) (j : ℕ) (o : Option TypeDef) (es : List Term) (own : List ℕ) → Each (IsSorted false) es → IsElementSorted (applied s j o es own)
-applied_sorted s j None es own h = tt
-applied_sorted s j (Some d) es own h = by (fits_params d.params es && fits_cells s.cells d.cells own)
+applied_sorted : (s : Scope) (j : ℕ) (o : Option TypeDef) (es : List Term) (own ns : List ℕ) → Each (IsSorted false) es → IsElementSorted (applied s j o es own ns)
+applied_sorted s j None es own ns h = tt
+applied_sorted s j (Some d) es own ns h = by (fits s d es own ns)
   where
-    by : (b : Bool) → IsElementSorted (cond b (element.Named j es own) element.Unit)
+    by : (b : Bool) → IsElementSorted (cond b (element.Named j es (own ++ buffer_cells (length s.cells) ns)) element.Unit)
     by true = h
     by false = tt
 
@@ -157,7 +161,7 @@ found_sorted k s (found.Global (meaning.Member n)) at args h b = tt
 found_sorted k s (found.Global (meaning.Number t)) at args h b = tt
 found_sorted k s (found.Global (meaning.Enum t v)) at args h b = tt
 found_sorted k s (found.Global (meaning.Type j)) at args h b =
-    applied_sorted s j (slice_get k.definitions j) (args_core k s (signature_at k j) args) (args_cells k s (signature_at k j) args) (args_sorted k s (signature_at k j) args h (right_none _ (args_breaches k s (signature_at k j) args) b))
+    applied_sorted s j (slice_get k.definitions j) (args_core k s (signature_at k j) args) (args_cells k s (signature_at k j) args) (args_buffers k s (signature_at k j) args) (args_sorted k s (signature_at k j) args h (right_none _ (args_breaches k s (signature_at k j) args) b))
 found_sorted k s (found.Global (meaning.Record r)) at args h b = tt
 
 kind_sorted : (k : Known) (s : Scope) (at : Span) (t : TypeKind) → HasNumbers s → kind_breaches k s at t ≡ [] → IsElementSorted (kind_element k s t)
@@ -232,7 +236,7 @@ flat_sorted names k t s f h b =
       extent = extent_sorted k s f.type_tree (element_of k s f.type_tree) f.extent h (left_none (extent_breaches k s f.type_tree f.extent) _ two);
       part = (
         refinement_sorted (readable_of k s f) (option_core k (with_field k s f) f.refinement) (test_sorted k (with_field k s f) f.refinement later (left_none (test_breaches k (with_field k s f) f.refinement) _ four)),
-        action_sorted k _ (with_field k s f) f.action later (right_none (test_breaches k (with_field k s f) f.refinement) _ four),
+        action_sorted k _ (with_field k s f) f.action later (left_none _ (copy_breaches k s (with_field k s f) f) (right_none (test_breaches k (with_field k s f) f.refinement) _ four)),
       );
     }
 
@@ -273,10 +277,15 @@ cells_numbers names k h x (Some (cell.Number t)) g = record { locals = numbers_d
 cells_numbers names k h x (Some cell.Pointer) g = record { locals = numbers_declared h.scope.locals x (local.Cell _ _) g.locals tt }
 cells_numbers names k h x (Some (cell.Record r)) g = record { locals = numbers_declared h.scope.locals x (local.Row _ _) g.locals tt }
 
+buffer_numbers : (names : List (List ℕ)) (h : Head) (x : List ℕ) (o : Option ℕ) → HasNumbers h.scope → HasNumbers (buffer_head names h x o).scope
+buffer_numbers names h x None g = record { locals = numbers_declared h.scope.locals x local.Unreadable g.locals tt }
+buffer_numbers names h x (Some room) g = record { locals = numbers_declared h.scope.locals x (local.Buffer _) g.locals tt }
+
 head_numbers : (names : List (List ℕ)) (k : Known) (h : Head) (ps : List ParamTree) → HasNumbers h.scope → HasNumbers (head_of names k h ps).scope
 head_numbers names k h [] g = g
 head_numbers names k h (param.Value t n ∷ ps) g = head_numbers names k (with_param names k h (param.Value t n)) ps (value_numbers names h n.text (plain_width k h.scope t) g)
 head_numbers names k h (param.Mutable t n ∷ ps) g = head_numbers names k (with_param names k h (param.Mutable t n)) ps (cells_numbers names k h n.text (cell_type k h.scope t) g)
+head_numbers names k h (param.Bytes n room ∷ ps) g = head_numbers names k (with_param names k h (param.Bytes n room)) ps (buffer_numbers names h n.text (buffer_room k h.scope room) g)
 
 first_numbers : HasNumbers no_head.scope
 first_numbers = record { locals = tt }

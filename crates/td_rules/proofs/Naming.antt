@@ -31,7 +31,7 @@ use Rattle.td_rules.specs.declared.parameters.Head.{Head}
 use Rattle.td_rules.specs.Known.{nothing_known, slots_at}
 use Rattle.td_rules.specs.Fields.{with_field, flats_of, fields_core}
 use Rattle.td_rules.specs.Enums.{next_value, item_value, with_item, items_after, with_enum_name, after_enum}
-use Rattle.td_rules.specs.Parameters.{no_head, plain_width, cell_type, slot_cell, cells_of, value_head, cell_head, with_param, head_of}
+use Rattle.td_rules.specs.Parameters.{no_head, plain_width, cell_type, slot_cell, cells_of, buffer_room, value_head, cell_head, buffer_head, with_param, head_of}
 use Rattle.td_rules.specs.Casetypes.{cases_core, default_core}
 use Rattle.td_rules.specs.Records.{slot_of, with_slots}
 use Rattle.td_rules.specs.Definitions.{struct_head, struct_scope, struct_core, casetype_head, casetype_core, after, known_after}
@@ -160,6 +160,7 @@ module _ (final : List (List ℕ)) where
   record IsHeadNamed (h : Head) : Type 0 where
     params : Each (λ p. IsNameThere (length final) p.name) h.params
     cells : Each IsCellNamed h.cells
+    buffers : Each (λ b. IsNameThere (length final) b.name) h.buffers
 
   slots_named : (p : List ℕ) (slots : List Slot) → IsGiven p → AreSlotsNamed slots → Each IsCellNamed (map (slot_cell final p) slots)
   slots_named p [] g h = tt
@@ -176,12 +177,20 @@ module _ (final : List (List ℕ)) where
   cells_named k p (cell.Record r) h g = slots_named p (slots_at k r) g (record_named k.records r h)
 
   value_named : (h : Head) (x : List ℕ) (o : Option Rattle.td_num.specs.declared.number.Width.Width) → IsGiven x → IsHeadNamed h → IsHeadNamed (value_head final h x o)
-  value_named h x None g i = record { params = i.params; cells = i.cells }
-  value_named h x (Some w) g i = record { params = each_append (λ p. IsNameThere (length final) p.name) h.params _ i.params (number_there x g, tt); cells = i.cells }
+  value_named h x None g i = record { params = i.params; cells = i.cells; buffers = i.buffers }
+  value_named h x (Some w) g i = record { params = each_append (λ p. IsNameThere (length final) p.name) h.params _ i.params (number_there x g, tt); cells = i.cells; buffers = i.buffers }
 
   cell_named : (k : Known) (h : Head) (x : List ℕ) (o : Option CellType) → Each AreSlotsNamed k.records → IsGiven x → IsHeadNamed h → IsHeadNamed (cell_head final k h x o)
-  cell_named k h x None r g i = record { params = i.params; cells = i.cells }
-  cell_named k h x (Some t) r g i = record { params = i.params; cells = each_append IsCellNamed h.cells (cells_of final k x t) i.cells (cells_named k x t r g) }
+  cell_named k h x None r g i = record { params = i.params; cells = i.cells; buffers = i.buffers }
+  cell_named k h x (Some t) r g i = record { params = i.params; cells = each_append IsCellNamed h.cells (cells_of final k x t) i.cells (cells_named k x t r g); buffers = i.buffers }
+
+  buffer_named : (h : Head) (x : List ℕ) (o : Option ℕ) → IsGiven x → IsHeadNamed h → IsHeadNamed (buffer_head final h x o)
+  buffer_named h x None g i = record { params = i.params; cells = i.cells; buffers = i.buffers }
+  buffer_named h x (Some room) g i = record {
+    params = i.params;
+    cells = i.cells;
+    buffers = each_append (λ b. IsNameThere (length final) b.name) h.buffers _ i.buffers (number_there x g, tt);
+  }
 
   head_named : (names : List (List ℕ)) (k : Known) (h : Head) (ps : List ParamTree) → Each AreSlotsNamed k.records → Within (see_params names ps) final → IsHeadNamed h → IsHeadNamed (head_of final k h ps)
   head_named names k h [] r within i = i
@@ -191,15 +200,19 @@ module _ (final : List (List ℕ)) where
   head_named names k h (param.Mutable t n ∷ ps) r within i =
       head_named (with_name names n.text) k (with_param final k h (param.Mutable t n)) ps r within
       (cell_named k h n.text (cell_type k h.scope t) r (within n.text (params_keep (with_name names n.text) ps n.text (sees names n.text))) i)
+  head_named names k h (param.Bytes n room ∷ ps) r within i =
+      head_named (with_name names n.text) k (with_param final k h (param.Bytes n room)) ps r within
+      (buffer_named h n.text (buffer_room k h.scope room) (within n.text (params_keep (with_name names n.text) ps n.text (sees names n.text))) i)
 
   struct_named : (names : List (List ℕ)) (k : Known) (d : StructTree) → Each AreSlotsNamed k.records → Within (see_struct names d) final → IsDefinitionNamed (length final) (struct_core final k d)
   struct_named names k d r within =
       let inner : Within (see_fields (see_params names d.head.params) d.fields) final = λ name seen. within name (keeps (see_fields (see_params names d.head.params) d.fields) d.name.text name seen) in
-      let h = head_named names k no_head d.head.params r (λ name seen. inner name (fields_keep (see_params names d.head.params) d.fields name seen)) (record { params = tt; cells = tt }) in
+      let h = head_named names k no_head d.head.params r (λ name seen. inner name (fields_keep (see_params names d.head.params) d.fields name seen)) (record { params = tt; cells = tt; buffers = tt }) in
       record {
         own = number_there d.name.text (within d.name.text (sees (see_fields (see_params names d.head.params) d.fields) d.name.text));
         params = h.params;
         cells = h.cells;
+        buffers = h.buffers;
         fields = fields_named (see_params names d.head.params) k (struct_scope k (struct_head final k d).scope d.fields) d.fields inner;
       }
 
@@ -208,11 +221,12 @@ module _ (final : List (List ℕ)) where
       let start = see_params names d.head.params in
       let inner : Within (see_default (see_cases start d.cases) d.default) final = λ name seen. within name (keeps (see_default (see_cases start d.cases) d.default) d.name.text name seen) in
       let cases : Within (see_cases start d.cases) final = λ name seen. inner name (default_keep (see_cases start d.cases) d.default name seen) in
-      let h = head_named names k no_head d.head.params r (λ name seen. cases name (cases_keep start d.cases name seen)) (record { params = tt; cells = tt }) in
+      let h = head_named names k no_head d.head.params r (λ name seen. cases name (cases_keep start d.cases name seen)) (record { params = tt; cells = tt; buffers = tt }) in
       record {
         own = number_there d.name.text (within d.name.text (sees (see_default (see_cases start d.cases) d.default) d.name.text));
         params = h.params;
         cells = h.cells;
+        buffers = h.buffers;
         fields = (cases_named start k (casetype_head final k d).scope d.cases cases, default_named (see_cases start d.cases) k (casetype_head final k d).scope d.default inner);
       }
 

@@ -64,6 +64,15 @@ get_end (z ∷ xs) x = get_end xs x
 abbrev pub bounds_of : List CellKind → List Bound
 bounds_of cells = map cell_bound cells
 
+-- both cells of each copy buffer
+abbrev pub room_bounds : List ℕ → List Bound
+room_bounds [] = []
+room_bounds (r ∷ rs) = whole ThirtyTwo ∷ whole ThirtyTwo ∷ room_bounds rs
+
+-- the cells of a scope, and behind them those of its copy buffers
+abbrev pub own_of : Scope → List Bound
+own_of s = bounds_of s.cells ++ room_bounds s.buffers
+
 abbrev pub slot_bound : Option NumberType → Bound
 slot_bound (Some t) = whole (scalar_of t.width)
 slot_bound None = whole ThirtyTwo
@@ -83,6 +92,7 @@ IsLocalThere k bounds cells (local.Value i w most) = (slice_get bounds i ≡ Som
 IsLocalThere k bounds cells local.Unreadable = Unit {0}
 IsLocalThere k bounds cells (local.Cell c t) = IsCellThere cells c t
 IsLocalThere k bounds cells (local.Row c r) = IsRowThere cells c (slots_at k r)
+IsLocalThere k bounds cells (local.Buffer n) = Unit {0}
 
 abbrev pub AreLocalsThere : Known → (bounds cells : List Bound) → List (List ℕ × Local) → Type 0
 AreLocalsThere k bounds cells [] = Unit {0}
@@ -129,6 +139,7 @@ local_more k bounds more cells (local.Value i w most) h = (get_more bounds more 
 local_more k bounds more cells local.Unreadable h = tt
 local_more k bounds more cells (local.Cell c t) h = h
 local_more k bounds more cells (local.Row c r) h = h
+local_more k bounds more cells (local.Buffer n) h = tt
 
 pub locals_more : (k : Known) (bounds more cells : List Bound) (ls : List (List ℕ × Local)) → AreLocalsThere k bounds cells ls → AreLocalsThere k (bounds ++ more) cells ls
 locals_more k bounds more cells [] h = tt
@@ -171,7 +182,7 @@ get_level bounds b n e = subst (λ m. slice_get (bounds ++ b ∷ []) m ≡ Some 
 pub value_scope : (k : Known) (bounds : List Bound) (s : Scope) (x : List ℕ) (b : Bound) → IsScope k bounds s → b.most < limit b.type → 0 < b.most → IsScope k (bounds ++ b ∷ []) (with_value s x b.type b.most)
 value_scope k bounds s x b h small positive = level_scope k bounds s x (local.Value s.levels b.type b.most) b h (get_level bounds b s.levels h.levels, small, positive)
 
-pub inside_scope : (k : Known) (bounds : List Bound) (s : Scope) → IsScope k bounds s → IsScope k (bounds ++ whole ThirtyTwo ∷ []) (record { locals = s.locals; levels = s.levels + 1; cells = s.cells; start = Some s.levels; this = s.this })
+pub inside_scope : (k : Known) (bounds : List Bound) (s : Scope) → IsScope k bounds s → IsScope k (bounds ++ whole ThirtyTwo ∷ []) (record { locals = s.locals; levels = s.levels + 1; cells = s.cells; buffers = s.buffers; start = Some s.levels; this = s.this })
 inside_scope k bounds s h = record {
   locals = locals_more k bounds (whole ThirtyTwo ∷ []) (bounds_of s.cells) s.locals h.locals;
   start = get_level bounds (whole ThirtyTwo) s.levels h.levels;
@@ -194,6 +205,7 @@ local_cells k bounds cells more (local.Value i w most) h = h
 local_cells k bounds cells more local.Unreadable h = tt
 local_cells k bounds cells more (local.Cell c t) h = cell_more cells more c t h
 local_cells k bounds cells more (local.Row c r) h = row_more cells more c (slots_at k r) h
+local_cells k bounds cells more (local.Buffer n) h = tt
 
 pub locals_cells : (k : Known) (bounds cells more : List Bound) (ls : List (List ℕ × Local)) → AreLocalsThere k bounds cells ls → AreLocalsThere k bounds (cells ++ more) ls
 locals_cells k bounds cells more [] h = tt
@@ -214,6 +226,7 @@ found_scoped k bounds cells (found.Local (local.Value i w most)) h = h
 found_scoped k bounds cells (found.Local local.Unreadable) h = limit_pos Truth
 found_scoped k bounds cells (found.Local (local.Cell c t)) h = limit_pos Truth
 found_scoped k bounds cells (found.Local (local.Row c r)) h = limit_pos Truth
+found_scoped k bounds cells (found.Local (local.Buffer n)) h = limit_pos Truth
 found_scoped k bounds cells (found.Global (meaning.Constant n)) h = literal_scoped bounds n (narrowest n)
 found_scoped k bounds cells (found.Global (meaning.Member n)) h = literal_scoped bounds n (narrowest n)
 found_scoped k bounds cells (found.Global (meaning.Number t)) h = limit_pos Truth

@@ -90,6 +90,7 @@ IsLocalNumber (local.Value i w most) = w ≢ Truth
 IsLocalNumber local.Unreadable = Unit {0}
 IsLocalNumber (local.Cell c t) = Unit {0}
 IsLocalNumber (local.Row c r) = Unit {0}
+IsLocalNumber (local.Buffer n) = Unit {0}
 
 abbrev pub AreLocalNumbers : List (List ℕ × Local) → Type 0
 AreLocalNumbers [] = Unit {0}
@@ -277,6 +278,7 @@ name_says (found.Local (local.Value i w most)) at h e = (h, (h, tt))
 name_says (found.Local local.Unreadable) at h e = cc
 name_says (found.Local (local.Cell c t)) at h e = cc
 name_says (found.Local (local.Row c r)) at h e = cc
+name_says (found.Local (local.Buffer n)) at h e = cc
 name_says (found.Global (meaning.Constant n)) at h e = literal_sorted n (narrowest n) (narrow_number n)
 name_says (found.Global (meaning.Member n)) at h e = literal_sorted n (narrowest n) (narrow_number n)
 name_says (found.Global (meaning.Number t)) at h e = cc

@@ -10,6 +10,7 @@ use Rattle.td_ast.specs.declared.actions.Assigned.TheVariants.{Value, FieldPtr}
 use Rattle.td_ast.specs.declared.actions.ActionKind.{ActionKind}
 use Rattle.td_ast.specs.declared.actions.ActionKind.TheVariants.{Act, Check, OnSuccess}
 use Rattle.td_ast.specs.declared.actions.ActionTree.{ActionTree}
+use Rattle.td_ast.specs.declared.actions.ActionTree.TheVariants.{Done, Copied}
 use Rattle.td_ast.specs.Trees.{span_of}
 use Rattle.td_ast.specs.Statements.{Statement, Store, StoreField, Var, If, IfElse, Return, Abort, Statements, End, More, block_of}
 use Rattle.td_core.specs.declared.expressions.Scalar.TheVariants.{ThirtyTwo}
@@ -46,6 +47,7 @@ cell_of (found.Local (local.Cell c (cell.Record r))) = target.NoCell
 cell_of (found.Local (local.Value i w most)) = target.NoCell
 cell_of (found.Local local.Unreadable) = target.NoCell
 cell_of (found.Local (local.Row c r)) = target.NoCell
+cell_of (found.Local (local.Buffer n)) = target.NoCell
 cell_of (found.Global m) = target.NoCell
 
 abbrev pub slot_cell : ℕ → Option NumberType → Target
@@ -64,6 +66,7 @@ row_cell k (found.Local (local.Row c r)) f = slot_at c (slots_at k r) f
 row_cell k (found.Local (local.Cell c t)) f = target.NoCell
 row_cell k (found.Local (local.Value i w most)) f = target.NoCell
 row_cell k (found.Local local.Unreadable) f = target.NoCell
+row_cell k (found.Local (local.Buffer n)) f = target.NoCell
 row_cell k (found.Global m) f = target.NoCell
 
 abbrev pub stored_cell : Known → Scope → Name → Target
@@ -200,21 +203,23 @@ is_shaped OnSuccess w = not (w.returns && w.falls)
 
 -- inside an action the position of the field is in scope
 abbrev pub inside : Scope → Scope
-inside s = record { locals = s.locals; levels = s.levels + 1; cells = s.cells; start = Some s.levels; this = s.this }
+inside s = record { locals = s.locals; levels = s.levels + 1; cells = s.cells; buffers = s.buffers; start = Some s.levels; this = s.this }
 
 -- Y4: an action of another shape than its word says, or with a statement after a `return` or `abort` in its block
-abbrev pub shape_breaches : ActionTree → List Breach
-shape_breaches a =
-    when ((block_ways open_way (block_of a.statements)).after || not (is_shaped a.kind (block_ways open_way (block_of a.statements)))) BadAction a.span
+abbrev pub shape_breaches : ActionKind → Span → Statements → List Breach
+shape_breaches kind at b = when ((block_ways open_way b).after || not (is_shaped kind (block_ways open_way b))) BadAction at
 
+-- of what is copied Copies has the rules
 abbrev pub action_breaches : Known → Taken → Scope → Option ActionTree → List Breach
 action_breaches k t s None = []
-action_breaches k t s (Some a) = shape_breaches a ++ block_breaches k t (inside s) (block_of a.statements)
+action_breaches k t s (Some (Done kind at b)) = shape_breaches kind at (block_of b) ++ block_breaches k t (inside s) (block_of b)
+action_breaches k t s (Some (Copied at n)) = []
 
 -- the names that are given after an action
 abbrev pub action_vars : Taken → Option ActionTree → Taken
 action_vars t None = t
-action_vars t (Some a) = block_vars t (block_of a.statements)
+action_vars t (Some (Done kind at b)) = block_vars t (block_of b)
+action_vars t (Some (Copied at n)) = t
 
 -- Core actions. Where a rule is broken, a statement is left out.
 
@@ -249,4 +254,5 @@ abbrev mutual
 
 abbrev pub action_core : Known → Scope → Option ActionTree → Option Deed
 action_core k s None = None
-action_core k s (Some a) = Some (block_core k (inside s) (block_of a.statements))
+action_core k s (Some (Done kind at b)) = Some (block_core k (inside s) (block_of b))
+action_core k s (Some (Copied at n)) = None

@@ -43,7 +43,7 @@ part_of b x = record { name = x.name; bits = b; refinement = x.refinement; actio
 
 -- a field that is none of bits
 abbrev pub whole_field : FlatField → Field
-whole_field x = record { element = x.element; extent = x.extent; copy = None; parts = part_of None x ∷ []; place = x.place }
+whole_field x = record { element = x.element; extent = x.extent; copy = x.copy; parts = part_of None x ∷ []; place = x.place }
 
 abbrev pub unit_field : OpenUnit → Field
 unit_field u = record { element = element.Number u.room.base; extent = Once; copy = None; parts = u.parts; place = u.place }

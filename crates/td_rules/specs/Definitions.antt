@@ -77,7 +77,7 @@ struct_core names k d =
       name = record { number = number_of names d.name.text };
       params = h.params;
       cells = h.cells;
-      buffers = [];
+      buffers = h.buffers;
       guard = option_core k s d.head.condition;
       body = StructBody (fields_core names k s d.fields);
     }
@@ -103,7 +103,7 @@ casetype_core names k d =
       name = record { number = number_of names d.name.text };
       params = h.params;
       cells = h.cells;
-      buffers = [];
+      buffers = h.buffers;
       guard = option_core k h.scope d.head.condition;
       body = switch_core names k h.scope d;
     }

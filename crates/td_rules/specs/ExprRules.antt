@@ -49,6 +49,7 @@ name_breaches (found.Local (local.Value i w most)) at = []
 name_breaches (found.Local local.Unreadable) at = when true NotReadable at
 name_breaches (found.Local (local.Cell c t)) at = when true Mismatch at
 name_breaches (found.Local (local.Row c r)) at = when true Mismatch at
+name_breaches (found.Local (local.Buffer n)) at = when true Mismatch at
 name_breaches (found.Global (meaning.Constant n)) at = []
 name_breaches (found.Global (meaning.Member n)) at = []
 name_breaches (found.Global (meaning.Number t)) at = when true Mismatch at

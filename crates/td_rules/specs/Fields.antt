@@ -29,6 +29,7 @@ use Rattle.td_rules.specs.ExprRules.{test_breaches}
 use Rattle.td_rules.specs.Actions.{action_breaches, action_vars, action_core}
 use Rattle.td_rules.specs.Types.{type_breaches, element_of}
 use Rattle.td_rules.specs.Extents.{extent_breaches, extent_core, bit_width}
+use Rattle.td_rules.specs.Copies.{copy_breaches, copy_core}
 use Rattle.td_rules.specs.BitFields.{gathered}
 
 -- Values
@@ -92,7 +93,8 @@ field_breaches k t s f =
     ++ (extent_breaches k s f.type_tree f.extent
     ++ (refined_breaches k s f
     ++ (test_breaches k (with_field k s f) f.refinement
-    ++ action_breaches k (with_field_name t f.name.text) (with_field k s f) f.action))))
+    ++ (action_breaches k (with_field_name t f.name.text) (with_field k s f) f.action
+    ++ copy_breaches k s (with_field k s f) f)))))
 
 -- the names that are given after a field
 abbrev pub field_taken : Taken → FieldTree → Taken
@@ -117,6 +119,7 @@ abbrev pub flat_of : List (List ℕ) → Known → Scope → FieldTree → FlatF
 flat_of names k s f = record {
   element = element_of k s f.type_tree;
   extent = extent_core k s (element_of k s f.type_tree) f.extent;
+  copy = copy_core k s (with_field k s f) f;
   width = bit_width k s f.type_tree f.extent;
   name = record { number = number_of names f.name.text };
   refinement = refinement_core (readable_of k s f) (option_core k (with_field k s f) f.refinement);

@@ -1,5 +1,5 @@
 -- What names stand for where they are written (3D manual, "Scoping"; own rule: a local hides a definition).
-use Rattle.std.specs.Prelude.{ℕ, ◌+◌, Bool, true, false, List, [], Option, Some, None, slice_get}
+use Rattle.std.specs.Prelude.{ℕ, ◌+◌, Bool, true, false, List, [], ◌∷◌, ◌++◌, Option, Some, None, slice_get}
 use Rattle.td_core.specs.declared.expressions.Scalar.{Scalar}
 use Rattle.td_core.specs.declared.kind.Kind.{Kind}
 use Rattle.td_core.specs.declared.module.CellKind.{CellKind}
@@ -23,7 +23,7 @@ nothing_known = record { count = 0; globals = []; used = []; records = []; signa
 
 -- before the first parameter, and outside structs and casetypes
 abbrev pub no_scope : Scope
-no_scope = record { locals = []; levels = 0; cells = []; start = None; this = None }
+no_scope = record { locals = []; levels = 0; cells = []; buffers = []; start = None; this = None }
 
 -- what a name stands for: the local of that name where there is one, else the definition, constant or member
 abbrev pub global_found : Option Meaning → Found
@@ -62,21 +62,25 @@ is_literal_name k name = is_literal (looked_up k.globals name)
 
 -- one more local name; where it has a local already, that stays (N2 stands there)
 abbrev pub with_local : Scope → List ℕ → Local → Scope
-with_local s x l = record { locals = declared s.locals x l; levels = s.levels; cells = s.cells; start = s.start; this = s.this }
+with_local s x l = record { locals = declared s.locals x l; levels = s.levels; cells = s.cells; buffers = s.buffers; start = s.start; this = s.this }
 
 -- one more value in scope
 abbrev pub with_level : Scope → Scope
-with_level s = record { locals = s.locals; levels = s.levels + 1; cells = s.cells; start = s.start; this = s.this }
+with_level s = record { locals = s.locals; levels = s.levels + 1; cells = s.cells; buffers = s.buffers; start = s.start; this = s.this }
 
 -- one more value in scope, by its name
 abbrev pub with_value : Scope → List ℕ → Scalar → ℕ → Scope
 with_value s x w most = with_level (with_local s x (local.Value s.levels w most))
 
 abbrev pub with_this : Scope → Option ℕ → Scope
-with_this s this = record { locals = s.locals; levels = s.levels; cells = s.cells; start = s.start; this = this }
+with_this s this = record { locals = s.locals; levels = s.levels; cells = s.cells; buffers = s.buffers; start = s.start; this = this }
 
 abbrev pub with_cells : Scope → List CellKind → Scope
-with_cells s cells = record { locals = s.locals; levels = s.levels; cells = cells; start = s.start; this = s.this }
+with_cells s cells = record { locals = s.locals; levels = s.levels; cells = cells; buffers = s.buffers; start = s.start; this = s.this }
+
+-- one more copy buffer, of this room
+abbrev pub with_buffer : Scope → ℕ → Scope
+with_buffer s room = record { locals = s.locals; levels = s.levels; cells = s.cells; buffers = s.buffers ++ room ∷ []; start = s.start; this = s.this }
 
 -- The names that a definition has given
 

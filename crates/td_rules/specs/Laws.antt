@@ -4,7 +4,7 @@ use Rattle.td_num.specs.Lists.{Each}
 use Rattle.td_ast.specs.declared.definitions.ModuleTree.{ModuleTree}
 use Rattle.td_core.specs.declared.module.Module.{Module}
 use Rattle.td_core.specs.Formed.{IsModuleFormed}
-use Rattle.td_core.specs.Copies.{IsCopying, IsCopyless}
+use Rattle.td_core.specs.Copies.{IsCopying}
 use Rattle.td_core.specs.WellFormed.{EachField, IsWhole, IsFieldWhole, IsDefinitionSorted, IsDefinitionNamed}
 use Rattle.td_rules.specs.Modules.{StandsFor}
 use Rattle.td_rules.specs.Written.{names_written}
@@ -18,11 +18,7 @@ OneModule = (t : ModuleTree) (a b : Module) → StandsFor t a → StandsFor t b 
 abbrev pub ModulesAreFormed : Type 0
 ModulesAreFormed = (t : ModuleTree) (m : Module) → StandsFor t m → IsModuleFormed m
 
--- nothing is copied, as no text says it yet
-abbrev pub ModulesAreCopyless : Type 0
-ModulesAreCopyless = (t : ModuleTree) (m : Module) → StandsFor t m → IsCopyless m
-
--- what is copied is bytes, and has the room that it says
+-- what is copied is a byte-sized array of UINT8, each buffer has a room, and buffers are given on with it
 abbrev pub ModulesAreCopying : Type 0
 ModulesAreCopying = (t : ModuleTree) (m : Module) → StandsFor t m → IsCopying m
 

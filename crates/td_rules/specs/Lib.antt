@@ -9,6 +9,7 @@ pub mod BitFields
 pub mod Fields
 pub mod Leading
 pub mod Constants
+pub mod Copies
 pub mod Enums
 pub mod Aliases
 pub mod Parameters

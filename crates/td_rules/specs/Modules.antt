@@ -24,6 +24,7 @@ use Rattle.td_rules.specs.Definitions.{definitions_breaches, known_after}
 abbrev pub param_name : ParamTree → Name
 param_name (param.Value t n) = n
 param_name (param.Mutable t n) = n
+param_name (param.Bytes n room) = n
 
 abbrev pub see_params : List (List ℕ) → List ParamTree → List (List ℕ)
 see_params names [] = names

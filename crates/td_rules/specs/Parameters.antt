@@ -1,9 +1,11 @@
--- The rules of parameters (3D manual, "Parameterized data types", "Output parameters"; own rule: flat output records).
-use Rattle.std.specs.Prelude.{ℕ, ◌-◌, Bool, true, not, ◌||◌, List, [], ◌∷◌, ◌++◌, length, map, Option, Some, None, is_some}
+-- The rules of parameters (3D manual, "Parameterized data types", "Output parameters"; own rules: flat output records, copy
+-- buffers).
+use Rattle.std.specs.Prelude.{ℕ, ◌-◌, Bool, true, false, cond, not, ◌||◌, ◌&&◌, nat_lt, nat_le, List, [], ◌∷◌, ◌++◌, length, map, Option, Some, None, is_some}
 use Rattle.td_num.specs.declared.number.NumberType.{NumberType}
 use Rattle.td_num.specs.declared.number.Width.{Width}
 use Rattle.td_ast.specs.declared.token.Span.{Span}
 use Rattle.td_ast.specs.declared.names.Name.{Name}
+use Rattle.td_ast.specs.declared.names.ConstTree.{ConstTree}
 use Rattle.td_ast.specs.declared.names.PlainTree.{PlainTree}
 use Rattle.td_ast.specs.declared.names.PlainTree.TheVariants as plain
 use Rattle.td_ast.specs.declared.parameters.TargetTree.{TargetTree}
@@ -15,13 +17,14 @@ use Rattle.td_core.specs.Formed.{scalar_of}
 use Rattle.td_core.specs.declared.module.CellKind.{CellKind}
 use Rattle.td_core.specs.declared.module.CellKind.TheVariants as kind
 use Rattle.td_core.specs.declared.module.Cell.{Cell}
+use Rattle.td_core.specs.declared.limits.TheConstants.{MOST_ROOM}
 use Rattle.td_names.specs.Names.{is_seen, number_of}
-use Rattle.td_rules.specs.declared.breach.Rule.TheVariants.{Unknown, Twice, Mismatch}
+use Rattle.td_rules.specs.declared.breach.Rule.TheVariants.{Unknown, Twice, Mismatch, Narrowing}
 use Rattle.td_rules.specs.declared.breach.Breach.{Breach}
 use Rattle.td_rules.specs.declared.known.CellType.{CellType}
 use Rattle.td_rules.specs.declared.known.CellType.TheVariants as cell
 use Rattle.td_rules.specs.declared.known.Slot.{Slot}
-use Rattle.td_rules.specs.declared.known.Parameter.TheVariants.{Value, Cells}
+use Rattle.td_rules.specs.declared.known.Parameter.TheVariants.{Value, Cells, Buffer}
 use Rattle.td_rules.specs.declared.known.Meaning.TheVariants as meaning
 use Rattle.td_rules.specs.declared.known.Local.{Local}
 use Rattle.td_rules.specs.declared.known.Local.TheVariants as local
@@ -31,11 +34,12 @@ use Rattle.td_rules.specs.declared.known.Known.{Known}
 use Rattle.td_rules.specs.declared.known.Scope.{Scope}
 use Rattle.td_rules.specs.declared.parameters.Head.{Head}
 use Rattle.td_rules.specs.Breach.{when}
-use Rattle.td_rules.specs.Known.{no_scope, none_taken, found_in, slots_at, is_literal_name, with_local, with_value, with_cells, with_outer}
+use Rattle.td_rules.specs.Known.{no_scope, none_taken, found_in, slots_at, is_literal_name, with_local, with_value, with_cells, with_buffer, with_outer}
+use Rattle.td_rules.specs.Constants.{constant_value, constant_span, constant_breaches}
 
 -- before the first parameter
 abbrev pub no_head : Head
-no_head = record { scope = no_scope; parameters = []; params = []; cells = []; taken = none_taken }
+no_head = record { scope = no_scope; parameters = []; params = []; cells = []; buffers = []; taken = none_taken }
 
 -- Value parameters: of a number type or an enum
 
@@ -95,6 +99,18 @@ cells_local c (cell.Number t) = local.Cell c (cell.Number t)
 cells_local c cell.Pointer = local.Cell c cell.Pointer
 cells_local c (cell.Record r) = local.Row c r
 
+-- Copy buffers: of a room between 1 and the most
+
+abbrev pub is_room : ℕ → Bool
+is_room n = nat_lt 0 n && nat_le n MOST_ROOM
+
+abbrev pub room_or_none : Option ℕ → Option ℕ
+room_or_none None = None
+room_or_none (Some n) = cond (is_room n) (Some n) None
+
+abbrev pub buffer_room : Known → Scope → ConstTree → Option ℕ
+buffer_room k s c = room_or_none (constant_value k s c)
+
 -- Heads
 
 -- one more parameter; of a broken type, it is no number
@@ -108,6 +124,7 @@ value_head names h x (Some w) = record {
   parameters = h.parameters ++ Value (scalar_of w) ∷ [];
   params = h.params ++ record { name = record { number = number_of names x }; width = w } ∷ [];
   cells = h.cells;
+  buffers = h.buffers;
   taken = with_outer h.taken x;
 }
 
@@ -118,12 +135,25 @@ cell_head names k h x (Some t) = record {
   parameters = h.parameters ++ Cells t ∷ [];
   params = h.params;
   cells = h.cells ++ cells_of names k x t;
+  buffers = h.buffers;
+  taken = with_outer h.taken x;
+}
+
+abbrev pub buffer_head : List (List ℕ) → Head → List ℕ → Option ℕ → Head
+buffer_head names h x None = unread_head h x
+buffer_head names h x (Some room) = record {
+  scope = with_buffer (with_local h.scope x (local.Buffer (length h.buffers))) room;
+  parameters = h.parameters ++ Buffer room ∷ [];
+  params = h.params;
+  cells = h.cells;
+  buffers = h.buffers ++ record { name = record { number = number_of names x }; room = room } ∷ [];
   taken = with_outer h.taken x;
 }
 
 abbrev pub with_param : List (List ℕ) → Known → Head → ParamTree → Head
 with_param names k h (param.Value t n) = value_head names h n.text (plain_width k h.scope t)
 with_param names k h (param.Mutable t n) = cell_head names k h n.text (cell_type k h.scope t)
+with_param names k h (param.Bytes n room) = buffer_head names h n.text (buffer_room k h.scope room)
 
 abbrev pub head_of : List (List ℕ) → Known → Head → List ParamTree → Head
 head_of names k h [] = h
@@ -146,6 +176,14 @@ pointee_breaches k s (pointee.Number t) = []
 pointee_breaches k s (pointee.Pointer at) = []
 pointee_breaches k s (pointee.Named n) = named_breaches (found_in k s n.text) (is_some (found_cell (found_in k s n.text))) n.span
 
+-- Y2: a number that is no room; what is no number breaks its own rules
+abbrev pub is_past_room : Option ℕ → Bool
+is_past_room None = false
+is_past_room (Some n) = not (is_room n)
+
+abbrev pub room_breaches : Known → Scope → ConstTree → List Breach
+room_breaches k s c = constant_breaches k s c ++ when (is_past_room (constant_value k s c)) Narrowing (constant_span c)
+
 -- N2: a parameter has another name than those before it, than a constant and than a member
 abbrev pub param_name_breaches : Known → Head → Name → List Breach
 param_name_breaches k h n = when (is_seen h.taken.outer n.text || is_literal_name k n.text) Twice n.span
@@ -153,6 +191,7 @@ param_name_breaches k h n = when (is_seen h.taken.outer n.text || is_literal_nam
 abbrev pub param_breaches : Known → Head → ParamTree → List Breach
 param_breaches k h (param.Value t n) = plain_breaches k h.scope t ++ param_name_breaches k h n
 param_breaches k h (param.Mutable t n) = pointee_breaches k h.scope t ++ param_name_breaches k h n
+param_breaches k h (param.Bytes n room) = room_breaches k h.scope room ++ param_name_breaches k h n
 
 abbrev pub params_breaches : List (List ℕ) → Known → Head → List ParamTree → List Breach
 params_breaches names k h [] = []

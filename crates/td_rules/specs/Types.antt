@@ -1,6 +1,6 @@
 -- The rules of a field's type and of its arguments, and the core element (3D manual, "Structs", "Parameterized data
 -- types", "Output parameters").
-use Rattle.std.specs.Prelude.{ℕ, Bool, true, false, cond, not, ◌&&◌, nat_eq, nat_le, List, [], ◌∷◌, ◌++◌, length, Option, Some, None, is_some, slice_get}
+use Rattle.std.specs.Prelude.{ℕ, ◌+◌, ◌*◌, Bool, true, false, cond, not, ◌&&◌, nat_eq, nat_le, List, [], ◌∷◌, ◌++◌, length, Option, Some, None, is_some, slice_get}
 use Rattle.td_num.specs.Numbers.{bytes_in, places_from}
 use Rattle.td_num.specs.declared.number.NumberType.{NumberType}
 use Rattle.td_num.specs.declared.number.Width.TheVariants.{One}
@@ -21,13 +21,14 @@ use Rattle.td_core.specs.declared.module.Param.{Param}
 use Rattle.td_core.specs.declared.module.CellKind.{CellKind}
 use Rattle.td_core.specs.declared.module.CellKind.TheVariants.{Number as NumberCell, Pointer as PointerCell}
 use Rattle.td_core.specs.declared.module.Cell.{Cell}
+use Rattle.td_core.specs.declared.module.Buffer.{Buffer}
 use Rattle.td_core.specs.declared.module.TypeDef.{TypeDef}
 use Rattle.td_rules.specs.declared.breach.Rule.TheVariants.{Unknown, WrongArgs, Mismatch}
 use Rattle.td_rules.specs.declared.breach.Breach.{Breach}
 use Rattle.td_rules.specs.declared.known.CellType.{CellType}
 use Rattle.td_rules.specs.declared.known.CellType.TheVariants as cell
 use Rattle.td_rules.specs.declared.known.Parameter.{Parameter}
-use Rattle.td_rules.specs.declared.known.Parameter.TheVariants.{Value, Cells}
+use Rattle.td_rules.specs.declared.known.Parameter.TheVariants.{Value, Cells, Buffer as BufferOf}
 use Rattle.td_rules.specs.declared.known.Meaning.TheVariants as meaning
 use Rattle.td_rules.specs.declared.known.Local.TheVariants as local
 use Rattle.td_rules.specs.declared.known.Found.{Found}
@@ -90,6 +91,7 @@ cells_found k t (found.Local (local.Cell c u)) = cond (same_cell t u) (Some (c �
 cells_found k t (found.Local (local.Row c r)) = cond (same_cell t (cell.Record r)) (Some (places_from c (length (slots_at k r)))) None
 cells_found k t (found.Local (local.Value i w most)) = None
 cells_found k t (found.Local local.Unreadable) = None
+cells_found k t (found.Local (local.Buffer n)) = None
 cells_found k t found.Nothing = None
 cells_found k t (found.Global m) = None
 
@@ -105,13 +107,41 @@ cells_named k s t (tree.Unary at op own a) = None
 cells_named k s t (tree.Binary at op own a b) = None
 cells_named k s t (tree.Choice at own c a b) = None
 
--- as many arguments as parameters, with cells where they are taken
+-- whether there is a room, and it is this
+abbrev pub has_room : Option ℕ → ℕ → Bool
+has_room None room = false
+has_room (Some own) room = nat_eq own room
+
+-- the copy buffer of this room
+abbrev pub buffer_found : Scope → ℕ → Found → Option ℕ
+buffer_found s room (found.Local (local.Buffer n)) = cond (has_room (slice_get s.buffers n) room) (Some n) None
+buffer_found s room (found.Local (local.Cell c u)) = None
+buffer_found s room (found.Local (local.Row c r)) = None
+buffer_found s room (found.Local (local.Value i w most)) = None
+buffer_found s room (found.Local local.Unreadable) = None
+buffer_found s room found.Nothing = None
+buffer_found s room (found.Global m) = None
+
+-- an argument for one is the plain name of a copy buffer of that room
+abbrev pub buffer_named : Known → Scope → ℕ → Tree → Option ℕ
+buffer_named k s room (tree.Name at n) = buffer_found s room (found_in k s n.text)
+buffer_named k s room (tree.Number at n base) = None
+buffer_named k s room (tree.Truth at b) = None
+buffer_named k s room (tree.FieldPos at own) = None
+buffer_named k s room (tree.Sizeof at own z place) = None
+buffer_named k s room (tree.RangeOkay at z o a) = None
+buffer_named k s room (tree.Unary at op own a) = None
+buffer_named k s room (tree.Binary at op own a b) = None
+buffer_named k s room (tree.Choice at own c a b) = None
+
+-- as many arguments as parameters, with cells and copy buffers where they are taken
 abbrev pub are_applied : Known → Scope → List Parameter → List Tree → Bool
 are_applied k s [] [] = true
 are_applied k s [] (e ∷ es) = false
 are_applied k s (p ∷ ps) [] = false
 are_applied k s (Value w ∷ ps) (e ∷ es) = are_applied k s ps es
 are_applied k s (Cells t ∷ ps) (e ∷ es) = is_some (cells_named k s t e) && are_applied k s ps es
+are_applied k s (BufferOf room ∷ ps) (e ∷ es) = is_some (buffer_named k s room e) && are_applied k s ps es
 
 -- the rules of the arguments for values
 abbrev pub args_breaches : Known → Scope → List Parameter → List Tree → List Breach
@@ -119,8 +149,9 @@ args_breaches k s [] es = []
 args_breaches k s (p ∷ ps) [] = []
 args_breaches k s (Value w ∷ ps) (e ∷ es) = fitting_breaches k s w e ++ args_breaches k s ps es
 args_breaches k s (Cells t ∷ ps) (e ∷ es) = args_breaches k s ps es
+args_breaches k s (BufferOf room ∷ ps) (e ∷ es) = args_breaches k s ps es
 
--- N4: another number of arguments, or an argument for cells that isn't one
+-- N4: another number of arguments, or an argument for cells or for a copy buffer that isn't one
 abbrev pub applied_breaches : Known → Scope → Span → List Parameter → List Tree → List Breach
 applied_breaches k s at ps args = when (not (are_applied k s ps args)) WrongArgs at ++ args_breaches k s ps args
 
@@ -145,13 +176,14 @@ kind_breaches k s at (type.Named n args) = found_breaches k s (found_in k s n) a
 abbrev pub type_breaches : Known → Scope → TypeTree → List Breach
 type_breaches k s t = kind_breaches k s t.span t.kind
 
--- The core arguments and cells. Where one doesn't fit, the type is applied to none and takes no bytes.
+-- The core arguments, cells and copy buffers. Where one doesn't fit, the type is applied to none and takes no bytes.
 
 abbrev pub args_core : Known → Scope → List Parameter → List Tree → List Term
 args_core k s [] es = []
 args_core k s (p ∷ ps) [] = []
 args_core k s (Value w ∷ ps) (e ∷ es) = core_of k s e ∷ args_core k s ps es
 args_core k s (Cells t ∷ ps) (e ∷ es) = args_core k s ps es
+args_core k s (BufferOf room ∷ ps) (e ∷ es) = args_core k s ps es
 
 abbrev pub cells_or_none : Option (List ℕ) → List ℕ
 cells_or_none None = []
@@ -162,6 +194,18 @@ args_cells k s [] es = []
 args_cells k s (p ∷ ps) [] = []
 args_cells k s (Value w ∷ ps) (e ∷ es) = args_cells k s ps es
 args_cells k s (Cells t ∷ ps) (e ∷ es) = cells_or_none (cells_named k s t e) ++ args_cells k s ps es
+args_cells k s (BufferOf room ∷ ps) (e ∷ es) = args_cells k s ps es
+
+abbrev pub buffer_or_none : Option ℕ → List ℕ
+buffer_or_none None = []
+buffer_or_none (Some n) = n ∷ []
+
+abbrev pub args_buffers : Known → Scope → List Parameter → List Tree → List ℕ
+args_buffers k s [] es = []
+args_buffers k s (p ∷ ps) [] = []
+args_buffers k s (Value w ∷ ps) (e ∷ es) = args_buffers k s ps es
+args_buffers k s (Cells t ∷ ps) (e ∷ es) = args_buffers k s ps es
+args_buffers k s (BufferOf room ∷ ps) (e ∷ es) = buffer_or_none (buffer_named k s room e) ++ args_buffers k s ps es
 
 -- as many as the type has, each no wider than its parameter
 abbrev pub fits_params : List Param → List Term → Bool
@@ -187,15 +231,31 @@ fits_cells own [] (c ∷ cs) = false
 fits_cells own (b ∷ bs) [] = false
 fits_cells own (b ∷ bs) (c ∷ cs) = is_kind (slice_get own c) b.kind && fits_cells own bs cs
 
-abbrev pub applied : Scope → ℕ → Option TypeDef → List Term → List ℕ → Element
-applied s j None es cells = element.Unit
-applied s j (Some d) es cells = cond (fits_params d.params es && fits_cells s.cells d.cells cells) (element.Named j es cells) element.Unit
+-- as many as the type has, each of that room
+abbrev pub fits_buffers : List ℕ → List Buffer → List ℕ → Bool
+fits_buffers own [] [] = true
+fits_buffers own [] (n ∷ ns) = false
+fits_buffers own (b ∷ bs) [] = false
+fits_buffers own (b ∷ bs) (n ∷ ns) = has_room (slice_get own n) b.room && fits_buffers own bs ns
+
+-- both cells of each of these copy buffers, behind so many other cells
+abbrev pub buffer_cells : ℕ → List ℕ → List ℕ
+buffer_cells count [] = []
+buffer_cells count (n ∷ ns) = (count + 2 * n) ∷ (count + 2 * n + 1) ∷ buffer_cells count ns
+
+abbrev pub fits : Scope → TypeDef → List Term → List ℕ → List ℕ → Bool
+fits s d es cells buffers = fits_params d.params es && (fits_cells s.cells d.cells cells && fits_buffers s.buffers d.buffers buffers)
+
+abbrev pub applied : Scope → ℕ → Option TypeDef → List Term → List ℕ → List ℕ → Element
+applied s j None es cells buffers = element.Unit
+applied s j (Some d) es cells buffers =
+    cond (fits s d es cells buffers) (element.Named j es (cells ++ buffer_cells (length s.cells) buffers)) element.Unit
 
 abbrev pub found_element : Known → Scope → Found → List Tree → Element
 found_element k s (found.Global (meaning.Number t)) args = element.Number t
 found_element k s (found.Global (meaning.Enum t v)) args = element.Listed t v
 found_element k s (found.Global (meaning.Type j)) args =
-    applied s j (slice_get k.definitions j) (args_core k s (signature_at k j) args) (args_cells k s (signature_at k j) args)
+    applied s j (slice_get k.definitions j) (args_core k s (signature_at k j) args) (args_cells k s (signature_at k j) args) (args_buffers k s (signature_at k j) args)
 found_element k s (found.Global (meaning.Constant n)) args = element.Unit
 found_element k s (found.Global (meaning.Member n)) args = element.Unit
 found_element k s (found.Global (meaning.Record r)) args = element.Unit

@@ -15,19 +15,20 @@ pub enum Rule {
     /// N3: a field that is no number, enum or bit field is named as a value, or refined.
     #[error("not readable")]
     NotReadable,
-    /// N4: another number of arguments, or a `mutable` parameter, a record or a field of one that isn't there.
+    /// N4: another number of arguments, or a `mutable` parameter, a copy buffer, a record or a field of one that isn't there.
     #[error("wrong arguments")]
     WrongArgs,
     /// Y1: something of another sort than its place takes.
     #[error("type mismatch")]
     Mismatch,
-    /// Y2: a value that is wider than its place.
+    /// Y2: a value that is wider than its place, or a room that no copy buffer has.
     #[error("does not fit")]
     Narrowing,
     /// Y3: what is no constant, or no width of bits.
     #[error("not constant")]
     NotConstant,
-    /// Y4: an action that returns on other paths than its word says, or `field_pos` outside one.
+    /// Y4: an action that returns on other paths than its word says, `field_pos` outside one, or a copy of what is no
+    /// byte-sized array of `UINT8`.
     #[error("bad action")]
     BadAction,
 }

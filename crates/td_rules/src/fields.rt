@@ -3,7 +3,7 @@
 use td_ast::token::Span;
 use td_core::actions::Action;
 use td_core::expressions::{CoreExpr, Scalar};
-use td_core::module::{Element, Extent, NameId, Part};
+use td_core::module::{CopyOut, Element, Extent, NameId, Part};
 use td_num::items::Items;
 use td_num::number::NumberType;
 
@@ -19,6 +19,8 @@ pub struct Readable {
 pub struct FlatField {
     pub element: Element,
     pub extent: Extent,
+    /// Where its bytes are copied to.
+    pub copy: Option<CopyOut>,
     /// How many bits it has of a number, where it is a bit field.
     pub width: Option<u32>,
     pub name: NameId,

@@ -27,11 +27,12 @@ pub struct Slot {
     pub number: Option<NumberType>,
 }
 
-/// What a parameter takes: a number that is no wider than this type, or cells.
+/// What a parameter takes: a number that is no wider than this type, cells, or a copy buffer of this room in bytes.
 #[derive(Clone, Copy, PartialEq, Eq)]
 pub enum Parameter {
     Value(Scalar),
     Cells(CellType),
+    Buffer(u32),
 }
 
 /// What the name of a definition, a constant or a member of an enum stands for.
@@ -66,6 +67,8 @@ pub enum Local {
     Cell(u32, CellType),
     /// Cells for the slots of an output record: the place of the first, and the record.
     Row(u32, u32),
+    /// A copy buffer of the definition, by its place among those.
+    Buffer(u32),
 }
 
 /// What a name stands for. A local hides a definition.
@@ -108,6 +111,8 @@ pub struct Scope {
     pub levels: u32,
     /// What each cell of the definition holds.
     pub cells: Items<CellKind>,
+    /// The room of each copy buffer of the definition, in bytes.
+    pub buffers: Items<u32>,
     /// The level of the field's position, inside an action.
     pub start: Option<u32>,
     /// The size of the leading fields, inside a struct.

@@ -1,6 +1,6 @@
 //! Laws of the modules that trees stand for. They do nothing when they are called.
 
-ghost use Rattle.td_rules.specs.Laws.{OneModule, ModulesAreFormed, ModulesAreCopyless, ModulesAreCopying, ModulesAreSorted, ModulesAreWhole, FieldsAreWhole, ModulesAreNamed, NamesAreApart, NamesAreWritten};
+ghost use Rattle.td_rules.specs.Laws.{OneModule, ModulesAreFormed, ModulesAreCopying, ModulesAreSorted, ModulesAreWhole, FieldsAreWhole, ModulesAreNamed, NamesAreApart, NamesAreWritten};
 
 /// A tree stands for at most one module.
 pub fn one_module()
@@ -11,11 +11,6 @@ pub fn one_module()
 /// arguments and cells that match, and what is assigned fits its cell.
 pub fn modules_are_formed()
     ensures { ModulesAreFormed }
-{}
-
-/// In a module that a tree stands for, nothing is copied, as no text says it yet.
-pub fn modules_are_copyless()
-    ensures { ModulesAreCopyless }
 {}
 
 /// In a module that a tree stands for, copies are of byte-sized arrays of `UINT8`, and buffers are given on with their rooms.

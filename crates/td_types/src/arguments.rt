@@ -6,17 +6,19 @@ ghost use Rattle.td_rules.specs.declared.breach.Rule.TheVariants.{WrongArgs};
 ghost use Rattle.td_num.specs.Numbers.{places_from};
 ghost use Rattle.td_rules.specs.declared.known.Meaning.TheVariants as meaning;
 ghost use Rattle.td_rules.specs.declared.known.Found.TheVariants.{Global as GlobalFound};
-ghost use Rattle.td_rules.specs.Types.{same_cell, cells_found, cells_named, are_applied, args_breaches, args_core, cells_or_none, args_cells, fits_params, same_kind, is_kind, fits_cells, applied, found_breaches, found_element};
+ghost use Rattle.td_rules.specs.Types.{same_cell, cells_found, cells_named, are_applied, args_breaches, args_core, cells_or_none, args_cells, fits_params, same_kind, is_kind, fits_cells, fits, applied, found_breaches, found_element};
 ghost use Rattle.td_types.specs.Runs.{run_cells, is_taken, term_of, arg_breaches, cells_of};
 ghost use Rattle.td_types.specs.Memory.{IsValue};
 
+use crate::buffers::{add_buffers, add_pairs, buffer_named, fits_buffers};
+use crate::signatures::parameter_at;
 use crate::types::same_number;
 use std::alloc::{AllocError, Global};
 use td_actions::scopes::scalar_of;
 use td_ast::expressions::{Expr, ExprKind};
 use td_ast::token::Span;
 use td_core::expressions::CoreExpr;
-use td_core::module::{Cell, CellKind, Element, Param};
+use td_core::module::{Cell, CellKind, Element, Param, TypeDef};
 use td_expr::types::{bits_of, type_of};
 use td_num::items::Items;
 use td_num::number::byte_count;
@@ -87,7 +89,7 @@ fn cells_named(known: &Known, scope: &Scope, wanted: CellType, e: &Expr) -> Opti
     }
 }
 
-/// Whether there are as many arguments as parameters, with cells where they are taken.
+/// Whether there are as many arguments as parameters, with cells and copy buffers where they are taken.
 fn are_applied(known: &Known, scope: &Scope, parameters: &[Parameter], args: &[Expr]) -> bool
     ensures { result ≡ are_applied known.now scope.now parameters.now args.now }
 {
@@ -109,10 +111,11 @@ fn is_taken(known: &Known, scope: &Scope, parameter: Parameter, arg: &Expr) -> b
     match parameter {
         Parameter::Value(_) => true,
         Parameter::Cells(wanted) => cells_named(known, scope, wanted, arg).is_some(),
+        Parameter::Buffer(room) => buffer_named(known, scope, room, arg).is_some(),
     }
 }
 
-/// Notes another number of arguments, or an argument for cells that isn't one.
+/// Notes another number of arguments, or an argument for cells or for a copy buffer that isn't one.
 pub fn check_applied(
     known: &Known,
     scope: &Scope,
@@ -125,13 +128,6 @@ pub fn check_applied(
 {
     let is_applied = are_applied(known, scope, parameters, args);
     findings.note_if(!is_applied, Rule::WrongArgs, at);
-}
-
-/// The parameter at a place, where there is one.
-fn parameter_at(parameters: &[Parameter], i: usize) -> Option<Parameter>
-    ensures { result ≡ slice_get parameters.now i }
-{
-    parameters.get(i).copied()
 }
 
 /// An argument for a value, added to those before; its breaches are noted. `AllocError`: the parameter is a value, and
@@ -217,7 +213,7 @@ fn cells_of(known: &Known, scope: &Scope, parameter: Parameter, arg: &Expr) -> O
     ensures { cells_or_none (run_cells result) ≡ cells_of known.now scope.now parameter arg.now }
 {
     match parameter {
-        Parameter::Value(_) => None,
+        Parameter::Value(_) | Parameter::Buffer(_) => None,
         Parameter::Cells(wanted) => cells_named(known, scope, wanted, arg),
     }
 }
@@ -298,35 +294,56 @@ fn fits_cells(own: &[CellKind], cells: &[Cell], places: &[u32]) -> bool
     true
 }
 
-/// The struct or casetype at a place applied to arguments and cells; where they don't fit, what takes no bytes.
+/// Whether a struct or casetype takes these arguments, cells and copy buffers.
+fn fits(
+    scope: &Scope,
+    definition: &TypeDef,
+    args: &[CoreExpr],
+    cells: &[u32],
+    buffers: &[u32],
+) -> bool
+    ensures { result ≡ fits scope.now definition.now args.now cells.now buffers.now }
+{
+    fits_params(definition.params.as_slice(), args)
+        && (fits_cells(scope.cells.as_slice(), definition.cells.as_slice(), cells)
+            && fits_buffers(
+                scope.buffers.as_slice(),
+                definition.buffers.as_slice(),
+                buffers,
+            ))
+}
+
+/// The struct or casetype at a place applied to arguments, cells and copy buffers; where they don't fit, what takes no
+/// bytes. `AllocError`: there is a copy buffer, and out of memory.
 fn applied(
     known: &Known,
     scope: &Scope,
     place: u32,
     args: Items<CoreExpr>,
     cells: Items<u32>,
-) -> Element
-    ensures { result ≡ applied scope.now place (slice_get known.now.definitions place) args cells }
+    buffers: &[u32],
+) -> Result<Element, AllocError>
+    ensures memory { OnErr result (0 < length buffers.now) }
+    ensures core { IfOk result (λ e. e ≡ applied scope.now place (slice_get known.now.definitions place) args cells buffers.now) }
 {
     let Some(d) = known.definitions.as_slice().get(place as usize) else {
-        return Element::Unit;
+        return Ok(Element::Unit);
     };
-    let fits = fits_params(d.params.as_slice(), args.as_slice())
-        && fits_cells(scope.cells.as_slice(), d.cells.as_slice(), cells.as_slice());
-    if fits {
-        Element::Named {
-            definition: place,
-            args,
-            cells,
-        }
-    } else {
-        Element::Unit
+    if !fits(scope, d, args.as_slice(), cells.as_slice(), buffers) {
+        return Ok(Element::Unit);
     }
+    let mut cells = cells;
+    add_pairs(&mut cells, scope.cells.len(), buffers)?;
+    Ok(Element::Named {
+        definition: place,
+        args,
+        cells,
+    })
 }
 
 /// The struct or casetype at a place with its arguments; their breaches are noted. `AllocError`: there is an argument,
 /// and out of memory.
-#[tactic(auto, using(td_typing::proofs::Steps::first_append))]
+#[tactic(auto, using(td_typing::proofs::Steps::first_append, crate::proofs::Sides::some_argument))]
 pub fn apply(
     alloc: Global,
     known: &Known,
@@ -346,5 +363,8 @@ pub fn apply(
     add_terms(alloc, known, scope, parameters, args, &mut terms, findings)?;
     let mut cells = Items::new(alloc);
     add_cells(known, scope, parameters, args, &mut cells)?;
-    Ok(applied(known, scope, place, terms, cells))
+    let mut buffers = Items::new(alloc);
+    add_buffers(known, scope, parameters, args, &mut buffers)?;
+    let element = applied(known, scope, place, terms, cells, buffers.as_slice())?;
+    Ok(element)
 }

@@ -3,4 +3,6 @@
 #![tactic(auto)]
 
 pub mod arguments;
+pub mod buffers;
+mod signatures;
 pub mod types;

@@ -16,7 +16,6 @@ returns c =
     let limits : HasLimits tree = record { counts = admitted.0.0.0.0; sizes = admitted.1 } in
     record {
       formed = c.modules_are_formed.ensures tree m stands;
-      copyless = c.modules_are_copyless.ensures tree m stands;
       copying = c.modules_are_copying.ensures tree m stands;
       sorted = c.modules_are_sorted.ensures tree m stands;
       whole = c.modules_are_whole.ensures tree m stands;

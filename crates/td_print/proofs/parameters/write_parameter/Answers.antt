@@ -1,0 +1,7 @@
+use Rattle.std.proofs.Common.{refl, append_assoc}
+use Rattle.td_print.proofs.parameters.write_parameter.Goals as goal
+
+pub returns-in_ok-write_room-in-Bytes : goal.returns-in_ok-write_room-in-Bytes
+returns-in_ok-write_room-in-Bytes c =
+    rw (c.in-Bytes.is)
+    (simp (c.in_ok-write_room-in-Bytes.ensures {u = tt}, c.in_ok-write_name-in-Bytes.ensures {u = tt}, c.in_ok-write-in-Bytes.ensures {u = tt}, append_assoc) refl)
