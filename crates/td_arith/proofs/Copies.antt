@@ -1,4 +1,4 @@
--- Copies: the two cells of a buffer stand among a definition's own, and a size within the room leaves the spare in range.
+-- Copies: the two cells of a buffer stand among a definition's own, and a size within the room leaves the spare in range. Cited by other crates.
 use Rattle.std.proofs.Common.{◌≡◌, ℕ, zero, suc, ◌+◌, ◌*◌, ◌-◌, ◌^◌, ◌<◌, ◌≤◌, Bool, true, false, List, [], ◌∷◌, ◌++◌, length, replicate, refl, sym, ap, subst, ◌∙◌, arith, ℤ, pos, negsuc, Option, Some, None, slice_get, slice_index, slice_set}
 use Rattle.std.specs.Prelude.{int_lt}
 use Rattle.std.proofs.lemmas.Bool.{ltb-false, false≢true}

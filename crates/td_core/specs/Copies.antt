@@ -79,13 +79,3 @@ pub record IsDefinitionCopying (ds : List TypeDef) (d : TypeDef) : Type 0 where
 -- of each module that a checked text stands for
 abbrev pub IsCopying : Module → Type 0
 IsCopying m = Each (IsDefinitionCopying m.definitions) m.definitions
-
--- Until code copies: no definition has a buffer, and no field copies. What has no code for a copy rests on this, and it goes
--- where instructions that copy come.
-
-pub record IsDefinitionCopyless (d : TypeDef) : Type 0 where
-  pub buffers : d.buffers ≡ []
-  pub fields : EachField (λ f. f.copy ≡ None) d.body
-
-abbrev pub IsCopyless : Module → Type 0
-IsCopyless m = Each IsDefinitionCopyless m.definitions

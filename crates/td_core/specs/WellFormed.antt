@@ -162,11 +162,12 @@ pub record IsWhole (m : Module) : Type 0 where
 abbrev pub IsNameThere : ℕ → NameId → Type 0
 IsNameThere count id = id.number < count
 
--- the names of a definition, of its parameters and cells, and of its fields, are among so many
+-- the names of a definition, of its parameters, cells and copy buffers, and of its fields, are among so many
 pub record IsDefinitionNamed (count : ℕ) (d : TypeDef) : Type 0 where
   pub own : IsNameThere count d.name
   pub params : Each (λ p. IsNameThere count p.name) d.params
   pub cells : Each (λ c. IsNameThere count c.name × OfSome (IsNameThere count) c.field) d.cells
+  pub buffers : Each (λ b. IsNameThere count b.name) d.buffers
   pub fields : EachField (λ f. Each (λ p. IsNameThere count p.name) f.parts) d.body
 
 -- Limits
@@ -182,6 +183,7 @@ BodyWithin (Casetype switch cases default) = (length cases ≤ MOST_CASES) × (E
 pub record DefinitionWithin (d : TypeDef) : Type 0 where
   pub params : length d.params ≤ MOST_PARAMETERS
   pub cells : length d.cells ≤ MOST_CELLS
+  pub buffers : length d.buffers ≤ MOST_PARAMETERS
   pub body : BodyWithin d.body
 
 pub record IsWithin (m : Module) : Type 0 where

@@ -1,3 +1,5 @@
 pub mod Cells
 pub mod Shapes
 pub mod Definitions
+pub mod RoomsKept
+pub mod Rooms

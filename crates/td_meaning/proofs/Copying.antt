@@ -1,38 +1,16 @@
 -- Copies. Cited by other crates.
-use Rattle.std.proofs.Common.{◌≡◌, ℕ, zero, suc, ◌+◌, ◌*◌, ◌%◌, ◌≤◌, Bool, true, false, cond, nat_eq, nat_le, List, [], ◌∷◌, ◌++◌, length, replicate, slice_get, Option, Some, None, refl, sym, ap, ◌∙◌, arith, subst}
+use Rattle.std.proofs.Common.{◌≡◌, ℕ, zero, suc, ◌+◌, ◌*◌, ◌%◌, ◌≤◌, Bool, true, false, cond, nat_eq, nat_le, List, ◌++◌, length, replicate, Some, refl, sym, ap, ◌∙◌, arith}
 use Rattle.std.proofs.lemmas.List.{append-nil}
 use Rattle.std.proofs.lemmas.Bool.{le-leb, eq-eqb, eqb-true, eqb-false}
 use Rattle.td_num.specs.Numbers.{bytes_in, places_from}
-use Rattle.td_num.specs.declared.number.NumberType.{NumberType}
-use Rattle.td_num.specs.declared.number.Width.{Width}
-use Rattle.td_num.specs.declared.number.Width.TheVariants.{One}
 use Rattle.td_core.specs.declared.outcome.Reason.TheVariants.{NotEnough, ListSize}
-use Rattle.td_core.specs.declared.module.Module.{Module}
-use Rattle.td_core.specs.declared.module.Entry.{Entry}
-use Rattle.td_core.specs.declared.module.TypeDef.{TypeDef}
-use Rattle.td_core.specs.Entries.{definition_at, entry_definition}
-use Rattle.td_core.specs.WellFormed.{OfSome}
-use Rattle.td_core.specs.Copies.{IsDefinitionCopyless, IsCopyless}
-use Rattle.td_core.proofs.Copyless.{copyless_at}
-use Rattle.td_core.specs.Outcome.{Behavior, Ending, Accepted, Rejected, accepted, after_reading, onward, and_then}
+use Rattle.td_core.specs.Outcome.{accepted, after_reading, and_then}
 use Rattle.td_meaning.specs.Doing.{natural_of}
-use Rattle.td_meaning.specs.Meaning.{Sense, demanded, taken, elements, divides, filled, with_copy}
+use Rattle.td_meaning.specs.Meaning.{demanded, taken, elements, divides, filled, with_copy}
 use Rattle.td_meaning.specs.Copies.{buffers_at, opened, OpenedAlone, CopiedIsFilled}
 
 pub opened_alone : OpenedAlone
 opened_alone m entry cells none = ap (λ n. cells ++ replicate (2 * n) 0) none ∙ append-nil cells
-
--- so it is in a module without copies
-pub opened_copyless : (m : Module) (entry : Entry) (cells : List ℕ) → IsCopyless m → opened m entry cells ≡ cells
-opened_copyless m entry cells h = opened_alone m entry cells (at (slice_get m.entries entry.number))
-  where
-    none : (o : Option TypeDef) → OfSome IsDefinitionCopyless o → buffers_at o ≡ 0
-    none None c = refl
-    none (Some d) c = ap length c.buffers
-
-    at : (o : Option ℕ) → buffers_at (definition_at m o) ≡ 0
-    at None = refl
-    at (Some place) = none (slice_get m.definitions place) (copyless_at m.definitions place h)
 
 -- bytes that aren't looked at fill what they stand in
 bytes_fill : (start end turns p : ℕ) (cells : List ℕ) → p ≤ end → end ≤ p + turns → elements (taken 1 start end) turns start end p cells ≡ accepted end cells

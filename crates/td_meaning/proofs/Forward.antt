@@ -21,12 +21,12 @@ use Rattle.td_core.specs.declared.outcome.Reason.TheVariants.{NotEnough, Constra
 use Rattle.td_core.specs.Outcome.{Behavior, FramePlace, Ending, Accepted, Rejected, accepted, rejected, and_then, onward, within, after_reading}
 use Rattle.td_meaning.specs.Doing.{natural_of, is_true}
 use Rattle.td_meaning.specs.Naming.{is_needed}
-use Rattle.td_meaning.specs.Meaning.{Sense, values, values_of, taken, demanded, is_nonzero, byte_type, zeros_end, first_where, looked_at, one_more, run_of, numbers_at, zeros_meaning, element_meaning, elements, divides, equals, zero_end, up_to_zero, element_up_to_zero, shape_meaning, with_copy, copied_meaning, content_meaning, refined, parts_meaning, field_number, number_places, extended, field_place, where_place, first_name, fields_meaning, case_for, chosen_meaning, body_meaning, definition_meaning, below, pick, entry_place, meaning}
+use Rattle.td_meaning.specs.Meaning.{Sense, values, values_of, taken, demanded, is_nonzero, byte_type, zeros_end, first_where, looked_at, one_more, run_of, numbers_at, zeros_meaning, element_meaning, elements, divides, equals, zero_end, up_to_zero, element_up_to_zero, shape_meaning, content_meaning, refined, parts_meaning, field_number, number_places, extended, field_place, where_place, first_name, fields_meaning, case_for, chosen_meaning, body_meaning, definition_meaning, below, pick, entry_place, meaning}
 use Rattle.td_meaning.specs.Throughout.{OnEnding}
 use Rattle.td_meaning.specs.Deciding.{SameAt}
 use Rattle.td_meaning.specs.Forward.{IsAt, ReadsGoForward, ReadsAreWithin}
 use Rattle.td_meaning.proofs.Ending.{on_map, on_within}
-use Rattle.td_meaning.proofs.Inside.{Among, Inside, wider, inside_then, inside_within, inside_demanded, taken_at, elements_inside, parts_inside, AllInside, element_inside, shape_inside, content_inside, fields_inside, below_inside, unframed}
+use Rattle.td_meaning.proofs.Inside.{Among, Inside, wider, inside_then, inside_within, inside_demanded, taken_at, elements_inside, parts_inside, AllInside, element_inside, content_inside, fields_inside, below_inside, unframed}
 use Rattle.td_meaning.proofs.Deciding.{number_same, looked_more, reads_decide}
 
 -- Places

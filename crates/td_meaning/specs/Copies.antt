@@ -1,6 +1,6 @@
 -- Copies (own rule). A copy buffer stands in the meaning by two cells, behind those of the entry point: the place in the
 -- message of the bytes that it holds, and their number. So an ending says what was copied, and the message has the bytes.
-use Rattle.std.specs.Prelude.{◌≡◌, ℕ, ◌+◌, ◌*◌, ◌^◌, ◌<◌, List, [], ◌∷◌, ◌++◌, length, drop, replicate, Option, Some, None, slice_get, slice_index}
+use Rattle.std.specs.Prelude.{◌≡◌, ℕ, ◌+◌, ◌*◌, ◌^◌, ◌<◌, List, ◌++◌, length, drop, replicate, Option, Some, None, slice_get, slice_index}
 use Rattle.td_num.specs.Lists.{Each, AreBytes}
 use Rattle.td_num.specs.Numbers.{places_from}
 use Rattle.td_num.specs.declared.number.NumberType.{NumberType}

@@ -38,8 +38,14 @@ fn buffers_at(m: &Module, entry: Entry) -> usize
     }
 }
 
-// The cells of an entry point, with those of its copy buffers, which hold nothing at first.
-fn opened(alloc: Global, m: &Module, entry: Entry, cells: &[u64]) -> Result<Vec<u64>, AllocError>
+/// The cells of an entry point, with those of its copy buffers, which hold nothing at first. `AllocError`: there was no
+/// memory for them.
+pub fn opened(
+    alloc: Global,
+    m: &Module,
+    entry: Entry,
+    cells: &[u64],
+) -> Result<Vec<u64>, AllocError>
     ensures { IfOk result (λ all. all.items ≡ opened m.now entry cells.now) }
 {
     let mut all = Vec::from_slice(alloc, cells)?;

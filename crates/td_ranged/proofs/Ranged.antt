@@ -1,11 +1,14 @@
 -- Writing in 64 bits is writing in whole numbers, definition by definition.
 use Rattle.std.proofs.Common.{◌≡◌, ℕ, zero, suc, ◌+◌, ◌-◌, ◌^◌, ◌<◌, ◌≤◌, Bool, true, false, cond, List, [], ◌∷◌, ◌++◌, length, map, refl, sym, ap, ◌∙◌, subst, arith, Option, Some, None, slice_get}
-use Rattle.std.specs.Prelude.{nat_eq, slice_index}
+use Rattle.std.specs.Prelude.{nat_eq, slice_index, slice_set}
 use Rattle.std.proofs.lemmas.Bool.{leb-true, eqb-true, eqb-false}
 use Rattle.std.proofs.lemmas.Option.{none-some, same_Some, slice_get_within}
 use Rattle.td_num.specs.Numbers.{bytes_in, places_from}
 use Rattle.td_num.specs.declared.number.NumberType.{NumberType}
 use Rattle.td_num.specs.Lists.{is_among}
+use Rattle.td_num.proofs.Lists.{each_at}
+use Rattle.td_core.specs.declared.expressions.Scalar.TheVariants.{ThirtyTwo}
+use Rattle.td_core.specs.declared.module.CopyOut.{CopyOut}
 use Rattle.td_core.specs.declared.module.NameId.{NameId}
 use Rattle.td_core.specs.declared.module.Element.{Element}
 use Rattle.td_core.specs.declared.module.Element.TheVariants as element
@@ -19,7 +22,10 @@ use Rattle.td_core.specs.declared.module.Body.{Body}
 use Rattle.td_core.specs.declared.module.Body.TheVariants.{Struct, Casetype}
 use Rattle.td_core.specs.declared.module.TypeDef.{TypeDef}
 use Rattle.td_core.specs.Outcome.{Behavior}
-use Rattle.td_core.specs.Formed.{Bound, AllFit, IsOptionScoped, IsElementFormed, IsExtentFormed, ArePartsFormed, AreFieldsFormed, AreCasesFormed, IsDefaultFormed, IsBodyFormed, IsDefinitionFormed, bits_bound, part_bound, parts_scope, param_bounds, own_bounds, params_at, own_at}
+use Rattle.td_core.specs.Types.{limit}
+use Rattle.td_core.specs.WellFormed.{OfSome}
+use Rattle.td_core.specs.Copies.{IsDefinitionCopying}
+use Rattle.td_core.specs.Formed.{Bound, whole as word, AllFit, IsOptionScoped, IsElementFormed, IsExtentFormed, ArePartsFormed, AreFieldsFormed, AreCasesFormed, IsDefaultFormed, IsBodyFormed, IsDefinitionFormed, bits_bound, part_bound, parts_scope, param_bounds, own_bounds, params_at, own_at}
 use Rattle.td_expr.specs.Facts.{Fact}
 use Rattle.td_expr.specs.Sound.{Sound}
 use Rattle.td_expr.specs.Safe.{first_unsafe, first}
@@ -33,27 +39,43 @@ use Rattle.td_meaning.proofs.Ending.{on_then, on_map}
 use Rattle.td_meaning.proofs.MachineValues.{natural_is}
 use Rattle.td_meaning.proofs.MachineMeaning.{values_is, refined_is, checked_is, parts_is}
 use Rattle.td_arith.specs.SafeModule.{option_unsafe, known_after, action_unsafe, part_unsafe, parts_unsafe, known_after_parts, element_unsafe, extent_unsafe, copy_unsafe, field_unsafe, fields_unsafe, cases_unsafe, default_unsafe, body_unsafe, definition_unsafe}
-use Rattle.td_arith.proofs.Fitting.{Stand, fit_length}
+use Rattle.td_arith.proofs.Fitting.{Stand, fit_length, stand_at, fit_set}
 use Rattle.td_arith.proofs.States.{State, pushed, sound}
 use Rattle.td_arith.proofs.Numbers.{bits_small, no_bits}
 use Rattle.td_arith.proofs.Parts.{parts_sound, option_sound, refined_stays, action_sound}
 use Rattle.td_arith.proofs.Shapes.{args_fit, cells_stand}
+use Rattle.td_arith.proofs.Copies.{CopyStands, CopiesStand, CasesStand, BodyStands, definition_stands}
 use Rattle.td_arith.proofs.Evaluated.{each_safe, stand_after, opened_fits}
 use Rattle.td_values.specs.declared.error.WriteRule.TheVariants.{Shape, Range, Long}
 use Rattle.td_values.specs.declared.limits.TheConstants.{MOST_WRITTEN}
 use Rattle.td_values.specs.Datum.{Datum, Number, Sequence, Bytes, Empty, list_of}
 use Rattle.td_values.specs.Bytes.{number_bytes, fits, is_byte, unit_type, unit_number, makes_unit}
 use Rattle.td_values.specs.Spelling.{fills, fills_once, number_in}
-use Rattle.td_values.specs.Writing.{Written, Done, Writer, after_writing, wanted, of_size, has_room, bytes_written, list_written, zero_ended_written, of_enum, is_listed, element_bytes, element_written, contents_written, shape_written, parts_written, field_written, fields_written, is_count, chosen_written, body_written, definition_written, writers_below, in_machine, whole}
+use Rattle.td_values.specs.Writing.{Written, Done, Refused, Writer, after_writing, wanted, of_size, has_room, bytes_written, list_written, zero_ended_written, of_enum, is_listed, element_bytes, element_written, contents_written, shape_written, noted, copied, parts_written, field_written, fields_written, is_count, chosen_written, body_written, definition_written, writers_below, in_machine, whole}
 use Rattle.td_values.proofs.Lengths.{number_length}
 use Rattle.td_ranged.specs.Laws.{WritingIsInRange}
-use Rattle.td_ranged.proofs.Same.{OnDone, Kept, Same, after_kept, followed_same, wanted_same, tested_same, size_same, enum_same, number_same, bytes_same, zeros_same, unit_same, list_same, zero_ended_same}
+use Rattle.td_ranged.proofs.Same.{OnDone, Kept, Same, after_kept, followed_same, wanted_same, tested_same, size_same, enum_same, copied_same, number_same, bytes_same, zeros_same, unit_same, list_same, zero_ended_same}
 
 -- what is known of a definition
 abbrev pub IsSame : List Bound → List Bound → Writer → Writer → Type 0
 IsSame params cells w v =
     (all : List Bound) (args places more path : List ℕ) (p : ℕ) (x : Datum) → AllFit params args → Stand all cells places → AllFit all more → p ≤ MOST_WRITTEN
     → Same all p (w args places more path p x) (v args places more path p x)
+
+-- a place and a count within the limit fit a copy's two cells
+noted_small : (all bounds : List Bound) (places : List ℕ) (copy : Option CopyOut) (p n : ℕ) (cells : List ℕ) → Stand all bounds places → OfSome (CopyStands bounds) copy → p ≤ MOST_WRITTEN → n ≤ MOST_WRITTEN
+    → AllFit all cells → AllFit all (noted copy places p n cells)
+noted_small all bounds places None p n cells st h low few f = f
+noted_small all bounds places (Some c) p n cells st h low few f =
+    let place : p ≤ limit ThirtyTwo - 1 = omega (arith, low) in
+    let count : n ≤ limit ThirtyTwo - 1 = omega (arith, few) in
+    fit_set all (slice_set cells (slice_index places c.cell) p) (slice_index places (c.cell + 1)) (word ThirtyTwo) n (stand_at all bounds places (c.cell + 1) (word ThirtyTwo) h.count st)
+    (fit_set all cells (slice_index places c.cell) (word ThirtyTwo) p (stand_at all bounds places c.cell (word ThirtyTwo) h.place st) f place) count
+
+-- the bytes that are noted were written
+copied_done : (copy : Option CopyOut) (places : List ℕ) (p : ℕ) (w : Written) (s more : List ℕ) → copied copy places p w ≡ Done s more → (cells : List ℕ) × (w ≡ Done s cells)
+copied_done copy places p (Done t cells) s more e = let same : t ≡ s = cc in (cells, ap (λ x. Done x cells) same)
+copied_done copy places p (Refused rule path) s more e = absurd (cc)
 
 -- the number that a field's parts see is in their range, where its value was written
 number_small : (sets : List (List ℕ)) (writers : ℕ → Writer) (e : Element) (x : Extent) (env places path : List ℕ) (p : ℕ) (cells : List ℕ) (v : Datum) (s more : List ℕ) → unit_type e x ≡ None
@@ -172,18 +194,18 @@ module _ (sets : List (List ℕ)) (ours means : ℕ → Writer) (ds : List TypeD
 
   module _ (ty : NameId) where
     fields_same : (fs : List Field) (scope : List Bound) (facts : List Fact) (env path : List ℕ) (i p : ℕ) (cells : List ℕ) (vs : List Datum)
-        → AreFieldsFormed ds n bounds scope fs → State scope facts env → fields_unsafe facts fs ≡ None → p ≤ MOST_WRITTEN → AllFit all cells
+        → AreFieldsFormed ds n bounds scope fs → CopiesStand bounds fs → State scope facts env → fields_unsafe facts fs ≡ None → p ≤ MOST_WRITTEN → AllFit all cells
         → Same all p (fields_written in_machine sets ours ty fs env places path i p cells vs) (fields_written whole sets means ty fs env places path i p cells vs)
     unfolding fields_written
-    fields_same [] scope facts env path i p cells [] form s u le f = (refl, (omega (arith, le), f))
-    fields_same [] scope facts env path i p cells (v ∷ vs) form s u le f = (refl, tt)
-    fields_same (x ∷ later) scope facts env path i p cells vs form s u le f =
+    fields_same [] scope facts env path i p cells [] form stand s u le f = (refl, (omega (arith, le), f))
+    fields_same [] scope facts env path i p cells (v ∷ vs) form stand s u le f = (refl, tt)
+    fields_same (x ∷ later) scope facts env path i p cells vs form stand s u le f =
         let one = neither (field_unsafe facts x) (fields_unsafe (known_after_parts facts x.parts) later) u in
         let two = neither (element_unsafe facts x.element) (first (extent_unsafe facts x.extent) (first (copy_unsafe facts x.copy x.extent) (parts_unsafe facts x.parts))) one.0 in
         let three = neither (extent_unsafe facts x.extent) (first (copy_unsafe facts x.copy x.extent) (parts_unsafe facts x.parts)) two.1 in
         let four = neither (copy_unsafe facts x.copy x.extent) (parts_unsafe facts x.parts) three.1 in
         by two.0 three.0 four.1 (unit_type x.element x.extent) refl vs
-        (λ env i p cells vs s le f. fields_same later (parts_scope x.element x.extent scope x.parts) (known_after_parts facts x.parts) env path i p cells vs form.1.1.1 s one.1 le f)
+        (λ env i p cells vs s le f. fields_same later (parts_scope x.element x.extent scope x.parts) (known_after_parts facts x.parts) env path i p cells vs form.1.1.1 stand.1 s one.1 le f)
       where
         by : element_unsafe facts x.element ≡ None → extent_unsafe facts x.extent ≡ None → parts_unsafe facts x.parts ≡ None → (o : Option NumberType) → unit_type x.element x.extent ≡ o → (vs : List Datum)
             → ((env : List ℕ) (i p : ℕ) (cells : List ℕ) (vs : List Datum) → State (parts_scope x.element x.extent scope x.parts) (known_after_parts facts x.parts) env → p ≤ MOST_WRITTEN → AllFit all cells
@@ -217,11 +239,16 @@ module _ (sets : List (List ℕ)) (ours means : ℕ → Writer) (ds : List TypeD
             let m = number_in x.element x.extent v in
             let at = path ++ i ∷ [] in
             let low : p < 2 ^ 32 = omega (arith, le) in
-            followed_same all p (shape_written in_machine sets ours x.element x.extent env places at p cells v) (shape_written whole sets means x.element x.extent env places at p cells v) _ _
-            (shape_same scope facts env s x.element x.extent at p cells v form.0 form.1.0 a b le f)
+            let ours_here = shape_written in_machine sets ours x.element x.extent env places at p cells v in
+            let means_here = shape_written whole sets means x.element x.extent env places at p cells v in
+            followed_same all p (copied x.copy places p ours_here) (copied x.copy places p means_here) _ _
+            (copied_same all x.copy places p ours_here means_here
+            (λ count last few fits. noted_small all bounds places x.copy p count last st stand.0 le few fits)
+            (shape_same scope facts env s x.element x.extent at p cells v form.0 form.1.0 a b le f))
             (λ bytes more d k.
+            let shaped = copied_done x.copy places p means_here bytes more d in
             let q = p + length bytes in
-            let parts = parts_sound all bounds places x.element x.extent ty p m (number_small sets means x.element x.extent env places at p cells v bytes more e d) low st x.parts scope facts env q more form.1.1.0 s c k.1 in
+            let parts = parts_sound all bounds places x.element x.extent ty p m (number_small sets means x.element x.extent env places at p cells v bytes shaped.0 e shaped.1) low st x.parts scope facts env q more form.1.1.0 s c k.1 in
             tested_same all q (machine.parts_meaning ty p m x.parts env places q more).ending (parts_meaning ty p m x.parts env places q more).ending at _ _
             (λ r last. (r ≡ q) × (AllFit all last × State (parts_scope x.element x.extent scope x.parts) (known_after_parts facts x.parts) (extended env m x.parts)))
             (ap (λ (y : Behavior). y.ending) (parts_is ty p m x.parts env places q more parts.sound)) parts.stays
@@ -230,14 +257,15 @@ module _ (sets : List (List ℕ)) (ours means : ℕ → Writer) (ds : List TypeD
     -- the fields of a case are formed and safe as its list says
     record Chosen (scope : List Bound) (facts : List Fact) (fs : Option (List Field)) : Type 0 where
       formed : IsDefaultFormed ds n bounds scope fs
+      stands : OfSome (CopiesStand bounds) fs
       safe : default_unsafe facts fs ≡ None
 
-    choose : (scope : List Bound) (facts : List Fact) (v : ℕ) (cases : List Case) (default : Option (List Field)) → AreCasesFormed ds n bounds scope cases → IsDefaultFormed ds n bounds scope default
+    choose : (scope : List Bound) (facts : List Fact) (v : ℕ) (cases : List Case) (default : Option (List Field)) → AreCasesFormed ds n bounds scope cases → IsDefaultFormed ds n bounds scope default → CasesStand bounds cases → OfSome (CopiesStand bounds) default
         → cases_unsafe facts cases ≡ None → default_unsafe facts default ≡ None → Chosen scope facts (case_for v cases default)
-    choose scope facts v [] default form other u w = record { formed = other; safe = w }
-    choose scope facts v (c ∷ cases) default form other u w =
+    choose scope facts v [] default form other cs last u w = record { formed = other; stands = last; safe = w }
+    choose scope facts v (c ∷ cases) default form other cs last u w =
         let h = neither (fields_unsafe facts c.fields) (cases_unsafe facts cases) u in
-        by (nat_eq c.value v) (record { formed = form.0; safe = h.0 }) (choose scope facts v cases default form.1 other h.1 w)
+        by (nat_eq c.value v) (record { formed = form.0; stands = cs.0; safe = h.0 }) (choose scope facts v cases default form.1 other cs.1 last h.1 w)
       where
         by : (b : Bool) → Chosen scope facts (Some c.fields) → Chosen scope facts (case_for v cases default) → Chosen scope facts (cond b (Some c.fields) (case_for v cases default))
         by true x y = x
@@ -247,12 +275,12 @@ module _ (sets : List (List ℕ)) (ours means : ℕ → Writer) (ds : List TypeD
         → Same all p (chosen_written in_machine sets ours ty fs env places path p cells vs) (chosen_written whole sets means ty fs env places path p cells vs)
     chosen_same None scope facts env path p cells vs c s le f = (refl, tt)
     chosen_same (Some fs) scope facts env path p cells vs c s le f =
-        wanted_same all p (is_count fs vs) Shape path _ _ (λ e. fields_same fs scope facts env path 0 p cells vs c.formed s c.safe le f)
+        wanted_same all p (is_count fs vs) Shape path _ _ (λ e. fields_same fs scope facts env path 0 p cells vs c.formed c.stands s c.safe le f)
 
-  body_same : (d : TypeDef) (body : Body) (args path : List ℕ) (p : ℕ) (cells : List ℕ) (vs : List Datum) → IsOptionScoped (param_bounds d.params) d.guard → IsBodyFormed ds n bounds (param_bounds d.params) body
+  body_same : (d : TypeDef) (body : Body) (args path : List ℕ) (p : ℕ) (cells : List ℕ) (vs : List Datum) → IsOptionScoped (param_bounds d.params) d.guard → IsBodyFormed ds n bounds (param_bounds d.params) body → BodyStands bounds body
       → option_unsafe [] d.guard ≡ None → body_unsafe (known_after [] d.guard) body ≡ None → AllFit (param_bounds d.params) args → p ≤ MOST_WRITTEN → AllFit all cells
       → Same all p (body_written in_machine sets ours d body args places path p cells vs) (body_written whole sets means d body args places path p cells vs)
-  body_same d (Struct fs) args path p cells vs guard form a u fits le f =
+  body_same d (Struct fs) args path p cells vs guard form stand a u fits le f =
       let facts = known_after [] d.guard in
       let scope = param_bounds d.params in
       let K : ℕ → List ℕ → Type 0 = λ q more. (q ≡ p) × (AllFit all more × State scope facts args) in
@@ -261,8 +289,8 @@ module _ (sets : List (List ℕ)) (ours means : ℕ → Writer) (ds : List TypeD
       let is = refined_is d.guard args p p cells (option_sound scope [] args d.guard guard start a) in
       wanted_same all p (is_count fs vs) Shape path _ _
       (λ e. tested_same all p (in_machine.guarded d.guard args p p cells).ending (refined d.guard args p p cells).ending path _ _ K (ap (λ (y : Behavior). y.ending) is) met
-      (λ q more h. fields_same d.name fs scope facts args path 0 p more vs form h.1.1 u le h.1.0))
-  body_same d (Casetype switch cases default) args path p cells vs guard form a u fits le f =
+      (λ q more h. fields_same d.name fs scope facts args path 0 p more vs form stand h.1.1 u le h.1.0))
+  body_same d (Casetype switch cases default) args path p cells vs guard form stand a u fits le f =
       let facts = known_after [] d.guard in
       let scope = param_bounds d.params in
       let K : ℕ → List ℕ → Type 0 = λ q more. (q ≡ p) × (AllFit all more × State scope facts args) in
@@ -275,25 +303,25 @@ module _ (sets : List (List ℕ)) (ours means : ℕ → Writer) (ds : List TypeD
       (λ q more h.
       let v = natural_of switch args in
       let same = natural_is switch args (sound scope facts args switch h.1.1 form.0 one.0) in
-      let c = chosen_same d.name (case_for v cases default) scope facts args path p more vs (choose d.name scope facts v cases default form.1.0 form.1.1 two.0 two.1) h.1.1 le h.1.0 in
+      let c = chosen_same d.name (case_for v cases default) scope facts args path p more vs (choose d.name scope facts v cases default form.1.0 form.1.1 stand.0 stand.1 two.0 two.1) h.1.1 le h.1.0 in
       (ap (λ k. chosen_written in_machine sets ours d.name (case_for k cases default) args places path p more vs) same ∙ c.0, c.1))
 
 definition_same : (sets : List (List ℕ)) (ours means : ℕ → Writer) (ds : List TypeDef) (n : ℕ)
     → ((j : ℕ) → j < n → IsSame (params_at (slice_get ds j)) (own_at (slice_get ds j)) (ours j) (means j))
-    → (o : Option TypeDef) → ((d : TypeDef) → o ≡ Some d → IsDefinitionFormed ds n d × (definition_unsafe d ≡ None))
+    → (o : Option TypeDef) → ((d : TypeDef) → o ≡ Some d → IsDefinitionFormed ds n d × (IsDefinitionCopying ds d × (definition_unsafe d ≡ None)))
     → IsSame (params_at o) (own_at o) (definition_written in_machine sets ours o) (definition_written whole sets means o)
 definition_same sets ours means ds n good None h all args places more path p x fits st f le = (refl, tt)
 definition_same sets ours means ds n good (Some d) h all args places more path p (Number v) fits st f le = (refl, tt)
 definition_same sets ours means ds n good (Some d) h all args places more path p (Sequence vs) fits st f le =
     let form = (h d refl).0 in
-    let u = neither (option_unsafe [] d.guard) (body_unsafe (known_after [] d.guard) d.body) (h d refl).1 in
-    body_same sets ours means ds n good all (own_bounds d) places st d d.body args path p more (list_of vs) form.0 form.1 u.0 u.1 fits le f
+    let u = neither (option_unsafe [] d.guard) (body_unsafe (known_after [] d.guard) d.body) (h d refl).1.1 in
+    body_same sets ours means ds n good all (own_bounds d) places st d d.body args path p more (list_of vs) form.0 form.1 (definition_stands ds d (h d refl).1.0) u.0 u.1 fits le f
 definition_same sets ours means ds n good (Some d) h all args places more path p (Bytes bytes) fits st f le = (refl, tt)
 definition_same sets ours means ds n good (Some d) h all args places more path p Empty fits st f le = (refl, tt)
 
 -- the definitions below n, one after the other
 all_same : (sets : List (List ℕ)) (ds : List TypeDef)
-    → ((n : ℕ) (d : TypeDef) → slice_get ds n ≡ Some d → IsDefinitionFormed ds n d × (definition_unsafe d ≡ None))
+    → ((n : ℕ) (d : TypeDef) → slice_get ds n ≡ Some d → IsDefinitionFormed ds n d × (IsDefinitionCopying ds d × (definition_unsafe d ≡ None)))
     → (n j : ℕ) → j < n → IsSame (params_at (slice_get ds j)) (own_at (slice_get ds j)) (writers_below in_machine sets ds n j) (writers_below whole sets ds n j)
 unfolding writers_below
 all_same sets ds h zero j less = absurd (omega (arith, less))
@@ -312,13 +340,13 @@ all_same sets ds h (suc n) j less =
     by false e own rest = let apart = eqb-false j n e in rest (omega (arith, less, apart))
 
 pub writing_is_in_range : WritingIsInRange
-writing_is_in_range m entry place d args visible v formed safe at is fits fit =
+writing_is_in_range m entry place d args visible v formed copying safe at is fits fit =
     let cells = opened m entry visible in
     let room = opened_fits m entry place d visible at is fit in
     let within : place < length m.definitions = slice_get_within m.definitions place d is in
     let bounds = own_at (Some d) in
     let stands : Stand bounds bounds (places_from 0 (length cells)) = subst (λ k. Stand bounds bounds (places_from 0 k)) (fit_length bounds cells room) (stand_after [] bounds) in
-    let good = all_same m.listed m.definitions (λ n x e. (formed n x e, each_safe m.definitions n x safe e)) (length m.definitions) place within in
+    let good = all_same m.listed m.definitions (λ n x e. (formed n x e, (each_at (IsDefinitionCopying m.definitions) m.definitions n x copying e, each_safe m.definitions n x safe e))) (length m.definitions) place within in
     let told = good bounds args (places_from 0 (length cells)) cells [] 0 v
     (subst (λ o. AllFit (params_at o) args) (sym is) fits)
     (subst (λ o. Stand bounds (own_at o) (places_from 0 (length cells))) (sym is) stands) room (omega arith) in

@@ -1,10 +1,11 @@
 -- What is written the same in both arithmetics, step by step.
 use Rattle.std.proofs.Common.{◌≡◌, ℕ, suc, ◌+◌, ◌/◌, ◌≤◌, Bool, true, false, List, [], ◌∷◌, ◌++◌, length, replicate, refl, ap, ◌∙◌, arith, length-append}
-use Rattle.std.specs.Prelude.{nat_le, None}
+use Rattle.std.specs.Prelude.{nat_le, Option, None}
 use Rattle.std.proofs.lemmas.Bool.{leb-true}
 use Rattle.std.proofs.lemmas.List.{length-replicate}
 use Rattle.td_num.specs.Numbers.{bytes_in}
 use Rattle.td_num.specs.declared.number.NumberType.{NumberType}
+use Rattle.td_core.specs.declared.module.CopyOut.{CopyOut}
 use Rattle.td_core.specs.declared.module.Element.{Element}
 use Rattle.td_core.specs.declared.module.Element.TheVariants as element
 use Rattle.td_core.specs.declared.outcome.Reason.TheVariants.{Constraint}
@@ -17,7 +18,7 @@ use Rattle.td_values.specs.declared.limits.TheConstants.{MOST_WRITTEN}
 use Rattle.td_values.specs.Datum.{Datum, Number, Sequence, Bytes, Empty, list_of}
 use Rattle.td_values.specs.Bytes.{fits}
 use Rattle.td_values.specs.Spelling.{is_some_size, ends_in_zero}
-use Rattle.td_values.specs.Writing.{Written, Done, Refused, after_writing, followed, wanted, tested, of_size, unlisted, of_enum, has_room, number_written, bytes_written, zeros_written, unit_written, items_written, list_written, up_to_zero_written, zero_ended_written}
+use Rattle.td_values.specs.Writing.{Written, Done, Refused, after_writing, followed, wanted, tested, of_size, unlisted, of_enum, noted, copied, has_room, number_written, bytes_written, zeros_written, unit_written, items_written, list_written, up_to_zero_written, zero_ended_written}
 use Rattle.td_values.proofs.Lengths.{number_length}
 
 -- a fact of what was written
@@ -66,6 +67,14 @@ module _ (all : List Bound) where
   enum_same p true path w v h = h
   enum_same p false path w (Done s cells) h = (ap (unlisted path) h.0, tt)
   enum_same p false path w (Refused rule at) h = (ap (unlisted path) h.0, tt)
+
+  pub copied_same : (copy : Option CopyOut) (places : List ℕ) (p : ℕ) (w v : Written)
+      → ((n : ℕ) (cells : List ℕ) → n ≤ MOST_WRITTEN → AllFit all cells → AllFit all (noted copy places p n cells))
+      → Same all p w v → Same all p (copied copy places p w) (copied copy places p v)
+  copied_same copy places p w (Done s cells) small h =
+      let few : length s ≤ MOST_WRITTEN = let most = h.1.0 in omega (arith, most) in
+      (ap (copied copy places p) h.0, (h.1.0, small (length s) cells few h.1.1))
+  copied_same copy places p w (Refused rule path) small h = (ap (copied copy places p) h.0, tt)
 
   -- Values that name no type
 

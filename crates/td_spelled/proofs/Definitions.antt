@@ -7,6 +7,7 @@ use Rattle.std.proofs.lemmas.List.{append-nil}
 use Rattle.td_num.specs.Numbers.{places_from}
 use Rattle.td_num.specs.declared.number.NumberType.{NumberType}
 use Rattle.td_num.specs.Lists.{Each}
+use Rattle.td_num.proofs.Lists.{each_at}
 use Rattle.td_core.specs.declared.kind.Kind.{Kind}
 use Rattle.td_core.specs.declared.module.NameId.{NameId}
 use Rattle.td_core.specs.declared.module.Part.{Part}
@@ -18,8 +19,7 @@ use Rattle.td_core.specs.declared.module.TypeDef.{TypeDef}
 use Rattle.td_core.specs.declared.outcome.Reason.{Reason}
 use Rattle.td_core.specs.Outcome.{Ending, Accepted, and_then, within, ending_within}
 use Rattle.td_core.specs.WellFormed.{OfSome, EachField}
-use Rattle.td_core.specs.Copies.{IsDefinitionCopyless}
-use Rattle.td_core.proofs.Copyless.{copyless_at}
+use Rattle.td_core.specs.Copies.{IsFieldCopying, IsDefinitionCopying}
 use Rattle.td_kinds.specs.Kinds.{fields_kind, default_kind, spanned, spanned_with, cases_kind, body_kind, definition_kind, kinds_below, pick_kind}
 use Rattle.td_kinds.specs.KindRules.{fields_faults, cases_faults, default_faults, body_faults}
 use Rattle.td_meaning.specs.Doing.{natural_of}
@@ -85,10 +85,6 @@ uncounted spells fs env vs e = by (spelled_fields spells fs env vs) refl
 
 -- Cases
 
--- nothing is copied in a field
-abbrev IsAlone : Field → Type 0
-IsAlone f = f.copy ≡ None
-
 or_false : (a b : Bool) → (a || b) ≡ false → (a ≡ false) × (b ≡ false)
 or_false true b e = absurd (false≢true (sym e))
 or_false false b e = (refl, e)
@@ -140,14 +136,14 @@ chosen_faults kinds n (k ∷ cs) default fs e c d =
     by true e later = ap (fields_faults kinds) (sym (same_Some k.fields fs e)) ∙ (nil_parts (fields_faults kinds k.fields) (cases_faults kinds cs) c).0
     by false e later = later e
 
-chosen_alone : (n : ℕ) (cs : List Case) (default : Option (List Field)) (fs : List Field) → case_for n cs default ≡ Some fs
-    → Each (λ c. Each IsAlone c.fields) cs → OfSome (Each IsAlone) default → Each IsAlone fs
-chosen_alone n [] None fs e c d = absurd (none-some fs e)
-chosen_alone n [] (Some gs) fs e c d = subst (Each IsAlone) (same_Some gs fs e) d
-chosen_alone n (k ∷ cs) default fs e c d = by (nat_eq k.value n) e (λ e. chosen_alone n cs default fs e c.1 d)
+chosen_each : (P : Field → Type 0) (n : ℕ) (cs : List Case) (default : Option (List Field)) (fs : List Field) → case_for n cs default ≡ Some fs
+    → Each (λ c. Each P c.fields) cs → OfSome (Each P) default → Each P fs
+chosen_each P n [] None fs e c d = absurd (none-some fs e)
+chosen_each P n [] (Some gs) fs e c d = subst (Each P) (same_Some gs fs e) d
+chosen_each P n (k ∷ cs) default fs e c d = by (nat_eq k.value n) e (λ e. chosen_each P n cs default fs e c.1 d)
   where
-    by : (b : Bool) → cond b (Some k.fields) (case_for n cs default) ≡ Some fs → (case_for n cs default ≡ Some fs → Each IsAlone fs) → Each IsAlone fs
-    by true e later = subst (Each IsAlone) (same_Some k.fields fs e) c.0
+    by : (b : Bool) → cond b (Some k.fields) (case_for n cs default) ≡ Some fs → (case_for n cs default ≡ Some fs → Each P fs) → Each P fs
+    by true e later = subst (Each P) (same_Some k.fields fs e) c.0
     by false e later = later e
 
 narrowed : (r s : Bool) (p q end : ℕ) → (r ≡ false → s ≡ false) → UpTo r p q end → UpTo s p q end
@@ -157,16 +153,16 @@ narrowed false s p q end h f = subst (λ x. UpTo x p q end) (sym (h refl)) f
 
 -- Definitions
 
-module _ (sets : List (List ℕ)) (kinds : ℕ → Kind) (senses : ℕ → Sense) (writers : ℕ → Writer) (spells : ℕ → Spelling)
+module _ (sets : List (List ℕ)) (ds : List TypeDef) (kinds : ℕ → Kind) (senses : ℕ → Sense) (writers : ℕ → Writer) (spells : ℕ → Spelling)
     (good : (j : ℕ) (args places cells path : List ℕ) (p : ℕ) (v : Datum) → p ≤ MOST_WRITTEN
     → Told (UpTo (kinds j).rest) p (writers j args places cells path p v) (spells j args v) (λ b end. (senses j args places cells b p end).ending)) where
-  counted_told : (Q : Fit) (ty : NameId) (fs : List Field) → Each IsAlone fs → fields_faults kinds fs ≡ [] → (env places path : List ℕ) (p : ℕ) (cells : List ℕ) (vs : List Datum) (all : List ℕ → ℕ → Ending)
+  counted_told : (Q : Fit) (d : TypeDef) (ty : NameId) (fs : List Field) → Each (IsFieldCopying ds d) fs → fields_faults kinds fs ≡ [] → (env places path : List ℕ) (p : ℕ) (cells : List ℕ) (vs : List Datum) (all : List ℕ → ℕ → Ending)
       → ((b s post : List ℕ) (end : ℕ) → Q p (p + length s) end → (all b end ≡ (fields_meaning sets senses ty fs env places b end p cells).ending) × UpTo (fields_kind kinds fs).rest p (p + length s) end)
       → p ≤ MOST_WRITTEN → Told Q p (fields_written whole sets writers ty fs env places path 0 p cells vs) (spelled_fields spells fs env vs) all
-  counted_told Q ty fs alone k env places path p cells vs all on le =
+  counted_told Q d ty fs alone k env places path p cells vs all on le =
       told_map Q (UpTo (fields_kind kinds fs).rest) p (fields_written whole sets writers ty fs env places path 0 p cells vs) (spelled_fields spells fs env vs) (λ b end. (fields_meaning sets senses ty fs env places b end p cells).ending) all
       (λ b s post end e at fit. on b s post end fit)
-      (fields_told sets kinds senses writers spells good ty fs alone k env places path 0 p cells vs le)
+      (fields_told sets kinds senses writers spells good ty ds d fs alone k env places path 0 p cells vs le)
 
   abbrev meant : TypeDef → Body → List ℕ → List ℕ → List ℕ → ℕ → List ℕ → ℕ → Ending
   meant d body args places cells p b end = (and_then (within (where_place d.name p) (refined d.guard args p p cells)) (body_meaning sets senses d.name body args places b end)).ending
@@ -184,7 +180,7 @@ module _ (sets : List (List ℕ)) (kinds : ℕ → Kind) (senses : ℕ → Sense
       let place = where_place d.name p in
       fails_then reason (ending_within place guard.ending) guard.reads (body_meaning sets senses d.name body args places b end) (fails_within reason place guard.ending h)
 
-  body_told : (d : TypeDef) (body : Body) → EachField IsAlone body → body_faults kinds body ≡ [] → (args places cells path : List ℕ) (p : ℕ) (vs : List Datum) → p ≤ MOST_WRITTEN
+  body_told : (d : TypeDef) (body : Body) → EachField (IsFieldCopying ds d) body → body_faults kinds body ≡ [] → (args places cells path : List ℕ) (p : ℕ) (vs : List Datum) → p ≤ MOST_WRITTEN
       → Told (UpTo (body_kind kinds body).rest) p (body_written whole sets writers d body args places path p cells vs) (spelled_chosen spells (body_fields body args) args vs) (meant d body args places cells p)
   body_told d (Struct fs) alone k args places cells path p vs le =
       let Q = UpTo (fields_kind kinds fs).rest in
@@ -193,7 +189,7 @@ module _ (sets : List (List ℕ)) (kinds : ℕ → Kind) (senses : ℕ → Sense
       told_wanted Q p (is_count fs vs) Shape path (tested guard.ending path go) (spelled_fields spells fs args vs) (meant d (Struct fs) args places cells p)
       (λ e. uncounted spells fs args vs e)
       (λ e. told_tested Q p p guard.ending path go (spelled_fields spells fs args vs) (meant d (Struct fs) args places cells p)
-      (λ more h. counted_told Q d.name fs alone k args places path p more vs (meant d (Struct fs) args places cells p) (λ b s post end fit. (guarded d (Struct fs) args places cells p more b end h, fit)) le)
+      (λ more h. counted_told Q d d.name fs alone k args places path p more vs (meant d (Struct fs) args places cells p) (λ b s post end fit. (guarded d (Struct fs) args places cells p more b end h, fit)) le)
       (λ r more h. refined_at d.guard args p p r cells more h)
       (λ reason b end h. unguarded reason d (Struct fs) args places cells p b end h))
   body_told d (Casetype switch cases default) alone k args places cells path p vs le =
@@ -215,29 +211,29 @@ module _ (sets : List (List ℕ)) (kinds : ℕ → Kind) (senses : ℕ → Sense
           let two = nil_parts (cases_faults kinds cases) (default_faults kinds default) k in
           told_wanted Q p (is_count fs vs) Shape path (fields_written whole sets writers d.name fs args places path 0 p more vs) (spelled_fields spells fs args vs) (meant d body args places cells p)
           (λ c. uncounted spells fs args vs c)
-          (λ c. counted_told Q d.name fs (chosen_alone (natural_of switch args) cases default fs e alone.0 alone.1) (chosen_faults kinds (natural_of switch args) cases default fs e two.0 two.1) args places path p more vs (meant d body args places cells p)
+          (λ c. counted_told Q d d.name fs (chosen_each (IsFieldCopying ds d) (natural_of switch args) cases default fs e alone.0 alone.1) (chosen_faults kinds (natural_of switch args) cases default fs e two.0 two.1) args places path p more vs (meant d body args places cells p)
           (λ b s post end fit. (
             guarded d body args places cells p more b end h ∙ ap (λ o. (chosen_meaning sets senses d.name o args places b end p more).ending) e,
             narrowed (body_kind kinds body).rest (fields_kind kinds fs).rest p (p + length s) end (chosen_rest kinds (natural_of switch args) cases default (default_kind kinds default) fs (default_rest kinds default) e) fit,
           )) le)
 
-  pub definition_told : (o : Option TypeDef) → OfSome IsDefinitionCopyless o → ((d : TypeDef) → o ≡ Some d → body_faults kinds d.body ≡ []) → (args places cells path : List ℕ) (p : ℕ) (v : Datum) → p ≤ MOST_WRITTEN
+  pub definition_told : (o : Option TypeDef) → ((d : TypeDef) → o ≡ Some d → IsDefinitionCopying ds d) → ((d : TypeDef) → o ≡ Some d → body_faults kinds d.body ≡ []) → (args places cells path : List ℕ) (p : ℕ) (v : Datum) → p ≤ MOST_WRITTEN
       → Told (UpTo (definition_kind kinds o).rest) p (definition_written whole sets writers o args places cells path p v) (spelled_definition spells o args v) (λ b end. (definition_meaning sets senses o args places cells b p end).ending)
   definition_told None alone k args places cells path p v le = λ b s post end e at fit. absurd (none-some s e)
   definition_told (Some d) alone k args places cells path p (Number n) le = refl
-  definition_told (Some d) alone k args places cells path p (Sequence vs) le = body_told d d.body alone.fields (k d refl) args places cells path p (list_of vs) le
+  definition_told (Some d) alone k args places cells path p (Sequence vs) le = body_told d d.body (alone d refl).fields (k d refl) args places cells path p (list_of vs) le
   definition_told (Some d) alone k args places cells path p (Bytes bytes) le = refl
   definition_told (Some d) alone k args places cells path p Empty le = refl
 
-all_told : (sets : List (List ℕ)) (ds : List TypeDef) → Each IsDefinitionCopyless ds → ((n : ℕ) (d : TypeDef) → slice_get ds n ≡ Some d → body_faults (kinds_below ds n) d.body ≡ [])
+all_told : (sets : List (List ℕ)) (ds : List TypeDef) → Each (IsDefinitionCopying ds) ds → ((n : ℕ) (d : TypeDef) → slice_get ds n ≡ Some d → body_faults (kinds_below ds n) d.body ≡ [])
     → (n j : ℕ) (args places cells path : List ℕ) (p : ℕ) (v : Datum) → p ≤ MOST_WRITTEN
     → Told (UpTo (kinds_below ds n j).rest) p (writers_below whole sets ds n j args places cells path p v) (spells_below ds n j args v) (λ b end. (below sets ds n j args places cells b p end).ending)
 unfolding below kinds_below writers_below spells_below
-all_told sets ds none k zero j args places cells path p v le = λ b s post end e at fit. absurd (none-some s e)
-all_told sets ds none k (suc n) j args places cells path p v le =
+all_told sets ds copying k zero j args places cells path p v le = λ b s post end e at fit. absurd (none-some s e)
+all_told sets ds copying k (suc n) j args places cells path p v le =
     by (nat_eq j n)
-    (definition_told sets (kinds_below ds n) (below sets ds n) (writers_below whole sets ds n) (spells_below ds n) (λ i. all_told sets ds none k n i) (slice_get ds n) (copyless_at ds n none) (λ d e. k n d e) args places cells path p v le)
-    (all_told sets ds none k n j args places cells path p v le)
+    (definition_told sets ds (kinds_below ds n) (below sets ds n) (writers_below whole sets ds n) (spells_below ds n) (λ i. all_told sets ds copying k n i) (slice_get ds n) (λ d e. each_at (IsDefinitionCopying ds) ds n d copying e) (λ d e. k n d e) args places cells path p v le)
+    (all_told sets ds copying k n j args places cells path p v le)
   where
     by : (x : Bool)
         → Told (UpTo (definition_kind (kinds_below ds n) (slice_get ds n)).rest) p (definition_written whole sets (writers_below whole sets ds n) (slice_get ds n) args places cells path p v) (spelled_definition (spells_below ds n) (slice_get ds n) args v) (λ b end. (definition_meaning sets (below sets ds n) (slice_get ds n) args places cells b p end).ending)
@@ -264,8 +260,8 @@ exact_of r (Refused Size path) sp means h = h
 exact_of r (Refused Long path) sp means h = λ bytes e. let long = h bytes e in omega (arith, long)
 
 pub writing_is_exact : WritingIsExact
-writing_is_exact m entry args cells v none k =
+writing_is_exact m entry args cells v copying k =
     let n = length m.definitions in
     let j = entry_place (slice_get m.entries entry.number) n in
     exact_of (kinds_below m.definitions n j).rest (writing whole m entry args cells v) (spelling m entry args v) (λ b end. (below m.listed m.definitions n j args (places_from 0 (length cells)) cells b 0 end).ending)
-    (all_told m.listed m.definitions none k n j args (places_from 0 (length cells)) cells [] 0 v (omega arith))
+    (all_told m.listed m.definitions copying k n j args (places_from 0 (length cells)) cells [] 0 v (omega arith))

@@ -4,6 +4,9 @@ use Rattle.std.specs.Prelude.{nat_eq, slice_index, not}
 use Rattle.std.proofs.lemmas.Bool.{leb-true, leb-false, eqb-true, eq-eqb, and_parts, false≢true}
 use Rattle.std.proofs.lemmas.Option.{none-some, same_Some}
 use Rattle.td_num.specs.Numbers.{bytes_in, number_at, places_from}
+use Rattle.td_num.specs.declared.number.Width.{Width}
+use Rattle.td_num.specs.declared.number.Width.TheVariants.{One, Two, Four, Eight}
+use Rattle.td_num.specs.declared.number.ByteOrder.{ByteOrder}
 use Rattle.td_num.specs.declared.number.NumberType.{NumberType}
 use Rattle.td_num.specs.Lists.{Each, is_among}
 use Rattle.td_core.specs.declared.kind.Kind.{Kind}
@@ -12,34 +15,40 @@ use Rattle.td_core.specs.declared.module.Element.{Element}
 use Rattle.td_core.specs.declared.module.Element.TheVariants as element
 use Rattle.td_core.specs.declared.module.Extent.{Extent}
 use Rattle.td_core.specs.declared.module.Extent.TheVariants.{Once, Filling, OnceFilling, UpToZero}
+use Rattle.td_core.specs.Term.{Term}
+use Rattle.td_core.specs.declared.module.CopyOut.{CopyOut}
 use Rattle.td_core.specs.declared.module.Part.{Part}
 use Rattle.td_core.specs.declared.module.Field.{Field}
+use Rattle.td_core.specs.declared.module.TypeDef.{TypeDef}
 use Rattle.td_core.specs.declared.outcome.Reason.{Reason}
 use Rattle.td_core.specs.declared.outcome.Reason.TheVariants.{Constraint, ListSize}
-use Rattle.td_core.specs.Outcome.{Ending, Accepted, Behavior, and_then, after_reading, ending_within}
+use Rattle.td_core.specs.Outcome.{Ending, Accepted, Behavior, accepted, and_then, after_reading, ending_within}
 use Rattle.td_core.specs.Types.{is_octet}
+use Rattle.td_core.specs.WellFormed.{OfSome}
+use Rattle.td_core.specs.Copies.{IsCopied, IsCopyWhole, IsFieldCopying}
 use Rattle.td_expr.specs.Same.{constant_of}
 use Rattle.td_kinds.specs.Kinds.{element_kind, sized_kind, field_kind, fields_kind}
 use Rattle.td_kinds.specs.KindRules.{is_filled, fault_if, is_empty, field_faults, fields_faults}
 use Rattle.td_kinds.specs.declared.error.KindFault.{KindFault}
 use Rattle.td_kinds.specs.declared.error.KindFault.TheVariants.{ZeroElement, RestNotLast}
 use Rattle.td_meaning.specs.Doing.{natural_of}
-use Rattle.td_meaning.specs.Meaning.{Sense, values, values_of, taken, demanded, element_meaning, elements, filled, filled_once, divides, equals, shape_meaning, content_meaning, parts_meaning, extended, field_place, first_name, field_number, fields_meaning, pick}
+use Rattle.td_meaning.specs.Meaning.{Sense, values, values_of, taken, demanded, element_meaning, elements, filled, filled_once, divides, equals, shape_meaning, with_copy, copied_meaning, content_meaning, parts_meaning, extended, field_place, first_name, field_number, fields_meaning, pick}
 use Rattle.td_values.specs.declared.error.WriteRule.{WriteRule}
 use Rattle.td_values.specs.declared.error.WriteRule.TheVariants.{Shape, Range, Broken, Size, Long}
 use Rattle.td_values.specs.declared.limits.TheConstants.{MOST_WRITTEN}
 use Rattle.td_values.specs.Datum.{Datum, Number, Sequence, Bytes, Empty}
 use Rattle.td_values.specs.Bytes.{number_bytes, fits, unit_type, unit_number, makes_unit, are_bits_of}
 use Rattle.td_values.specs.Spelling.{Spelling, only, joined, spelled_element, spelled_bytes, spelled_list, spelled_contents, fills, fills_once, spelled_shape, number_in, part_numbers, spelled_parts, spelled_whole, spelled_field, spelled_fields}
-use Rattle.td_values.specs.Writing.{Written, Done, Refused, Writer, after_writing, wanted, tested, has_room, bytes_written, list_written, element_bytes, is_listed, element_written, contents_written, shape_written, parts_written, unit_then, whole_written, field_written, fields_written, whole}
+use Rattle.td_values.specs.Writing.{Written, Done, Refused, Writer, after_writing, wanted, tested, has_room, bytes_written, list_written, element_bytes, is_listed, element_written, contents_written, shape_written, copied, parts_written, unit_then, whole_written, field_written, fields_written, whole}
 use Rattle.td_spelled.specs.Laws.{FailsFor}
 use Rattle.td_spelled.proofs.Numbers.{number_is}
 use Rattle.td_values.proofs.Lengths.{number_length}
-use Rattle.td_spelled.proofs.Told.{Fit, UpTo, Told, joined_some, only_some, fails_then, fails_within, accepts_then, accepts_within, told_after, told_join, told_map, told_sized, told_listed, told_wanted, told_tested}
+use Rattle.td_spelled.proofs.Told.{Fit, UpTo, Told, joined_some, only_some, sized_some, fails_then, fails_within, accepts_then, accepts_within, told_after, told_join, told_map, told_sized, told_listed, copied_told, told_wanted, told_tested}
 use Rattle.td_spelled.proofs.Arrays.{number_told, number_spelled, listed_told, bytes_told, zeros_told, Turns, list_told, octet_one, bytes_run}
 use Rattle.td_spelled.proofs.Zeros.{up_to_zero_told}
 use Rattle.td_spelled.proofs.Parts.{IsWrong, PartsTold, passed, failed, long, wrong, parts_told, parts_at}
 use Rattle.td_meaning.proofs.Filling.{taken_long}
+use Rattle.td_meaning.proofs.Copying.{copied_is_filled}
 
 -- Ends
 
@@ -221,6 +230,63 @@ module _ (sets : List (List ℕ)) (kinds : ℕ → Kind) (senses : ℕ → Sense
   shape_told element.Rest (UpToZero size) env places path p cells v k le = refl
   shape_told element.Zeros (UpToZero size) env places path p cells v k le = refl
 
+  -- Copies
+
+  octet_is : (w : Width) (o : ByteOrder) → is_octet w o ≡ true → w ≡ One
+  octet_is One o e = refl
+  octet_is Two o e = absurd (false≢true e)
+  octet_is Four o e = absurd (false≢true e)
+  octet_is Eight o e = absurd (false≢true e)
+
+  -- of the bytes that a field's shape takes, the meaning notes place and number
+  octets_told : (t : NumberType) (size : Term) (step : Option ℕ) (c : CopyOut) → is_octet t.width t.order ≡ true → step ≡ Some 1
+      → (env places path : List ℕ) (p : ℕ) (cells : List ℕ) (v : Datum) → p ≤ MOST_WRITTEN
+      → Told (UpTo (field_kind kinds (element.Number t) (Filling size step)).rest) p (copied (Some c) places p (shape_written whole sets writers (element.Number t) (Filling size step) env places path p cells v))
+      (spelled_shape spells (element.Number t) (Filling size step) env v) (λ b end. (content_meaning sets senses (element.Number t) (Filling size step) (Some c) env places b end p cells).ending)
+  octets_told t size step c octet one env places path p cells v le =
+      let n = natural_of size env in
+      let e = element.Number t in
+      let shape = λ (b : List ℕ) (end : ℕ). shape_meaning sets senses e (Filling size step) env places b end p cells in
+      let note : ℕ → List ℕ → Behavior = λ q cells. after_reading (places_from p n) (accepted q (with_copy c places p n cells)) in
+      let is = λ (b : List ℕ) (end : ℕ).
+      subst (λ o. copied_meaning c places n end p cells ≡ and_then (shape_meaning sets senses e (Filling size o) env places b end p cells) note) (sym one)
+      (copied_is_filled sets senses t size c env places b end p cells (octet_is t.width t.order octet)) in
+      let long = λ (s : List ℕ) (h : spelled_shape spells e (Filling size step) env v ≡ Some s).
+      eqb-true (length s) n (and_parts (divides step n) (nat_eq (length s) n) (sized_some (fills step n) (spelled_contents spells e env v) s h).1).1 in
+      copied_told (UpTo (field_kind kinds e (Filling size step)).rest) p (Some c) places (shape_written whole sets writers e (Filling size step) env places path p cells v) (spelled_shape spells e (Filling size step) env v)
+      (λ b end. (shape b end).ending) (λ b end. (copied_meaning c places n end p cells).ending)
+      (λ b s more end h m.
+      ap (λ (x : Behavior). x.ending) (is b end) ∙ accepts_then (shape b end).ending (shape b end).reads note (p + length s) more m
+      ∙ ap (λ k. Accepted (p + length s) (with_copy c places p k more)) (sym (long s h)))
+      (λ reason b end h. subst (λ (x : Behavior). FailsFor reason x.ending) (sym (is b end)) (fails_then reason (shape b end).ending (shape b end).reads note h))
+      (shape_told e (Filling size step) env places path p cells v refl le)
+
+  -- what stands in a field, and where it goes
+  content_told : (e : Element) (x : Extent) (parts : List Part) (copy : Option CopyOut) → OfSome (λ c. IsCopied e x parts) copy
+      → (env places path : List ℕ) (p : ℕ) (cells : List ℕ) (v : Datum) → (is_filled x && (element_kind kinds e).rest) ≡ false → p ≤ MOST_WRITTEN
+      → Told (UpTo (field_kind kinds e x).rest) p (copied copy places p (shape_written whole sets writers e x env places path p cells v)) (spelled_shape spells e x env v) (λ b end. (content_meaning sets senses e x copy env places b end p cells).ending)
+  content_told e x parts None h env places path p cells v k le =
+      copied_told (UpTo (field_kind kinds e x).rest) p None places (shape_written whole sets writers e x env places path p cells v) (spelled_shape spells e x env v)
+      (λ b end. (shape_meaning sets senses e x env places b end p cells).ending) (λ b end. (shape_meaning sets senses e x env places b end p cells).ending)
+      (λ b s more end h m. m) (λ reason b end h. h) (shape_told e x env places path p cells v k le)
+  content_told (element.Number t) (Filling size step) (part ∷ []) (Some c) h env places path p cells v k le = octets_told t size step c h.0 h.1.0 env places path p cells v le
+  content_told (element.Number t) (Filling size step) [] (Some c) h env places path p cells v k le = absurd h
+  content_told (element.Number t) (Filling size step) (part ∷ another ∷ more) (Some c) h env places path p cells v k le = absurd h
+  content_told (element.Number t) Once parts (Some c) h env places path p cells v k le = absurd h
+  content_told (element.Number t) (OnceFilling size step) parts (Some c) h env places path p cells v k le = absurd h
+  content_told (element.Number t) (UpToZero size) parts (Some c) h env places path p cells v k le = absurd h
+  content_told (element.Listed base j) x parts (Some c) h env places path p cells v k le = absurd h
+  content_told (element.Named j args own) x parts (Some c) h env places path p cells v k le = absurd h
+  content_told element.Unit x parts (Some c) h env places path p cells v k le = absurd h
+  content_told element.Rest x parts (Some c) h env places path p cells v k le = absurd h
+  content_told element.Zeros x parts (Some c) h env places path p cells v k le = absurd h
+
+  -- a number alone isn't copied
+  alone_is : (e : Element) (copy : Option CopyOut) (env places b : List ℕ) (end p : ℕ) (cells : List ℕ)
+      → content_meaning sets senses e Once copy env places b end p cells ≡ shape_meaning sets senses e Once env places b end p cells
+  alone_is e None env places b end p cells = refl
+  alone_is e (Some c) env places b end p cells = refl
+
   -- the number that a field's refinement and action see is the value's
   number_seen : (e : Element) (x : Extent) (env b s post : List ℕ) (p : ℕ) (v : Datum) → unit_type e x ≡ None → spelled_shape spells e x env v ≡ Some s → drop p b ≡ s ++ post → field_number e x b p ≡ number_in e x v
   number_seen (element.Number t) Once env b s post p v u h at = absurd (cc)
@@ -244,45 +310,40 @@ module _ (sets : List (List ℕ)) (kinds : ℕ → Kind) (senses : ℕ → Sense
   -- Fields
 
   module _ (ty : NameId) where
-    -- a field that isn't copied
-    alone_is : (f : Field) → f.copy ≡ None → (env places b : List ℕ) (end p : ℕ) (cells : List ℕ)
-        → content_meaning sets senses f.element f.extent f.copy env places b end p cells ≡ shape_meaning sets senses f.element f.extent env places b end p cells
-    alone_is f none env places b end p cells = ap (λ o. content_meaning sets senses f.element f.extent o env places b end p cells) none
-
-    field_accepts : (f : Field) (later : List Field) → f.copy ≡ None → (env places b : List ℕ) (end p : ℕ) (cells : List ℕ) (n q r : ℕ) (more last : List ℕ) → field_number f.element f.extent b p ≡ n
-        → (shape_meaning sets senses f.element f.extent env places b end p cells).ending ≡ Accepted q more → (parts_meaning ty p n f.parts env places q more).ending ≡ Accepted r last
+    field_accepts : (f : Field) (later : List Field) → (env places b : List ℕ) (end p : ℕ) (cells : List ℕ) (n q r : ℕ) (more last : List ℕ) → field_number f.element f.extent b p ≡ n
+        → (content_meaning sets senses f.element f.extent f.copy env places b end p cells).ending ≡ Accepted q more → (parts_meaning ty p n f.parts env places q more).ending ≡ Accepted r last
         → (fields_meaning sets senses ty (f ∷ later) env places b end p cells).ending ≡ (fields_meaning sets senses ty later (extended env n f.parts) places b end r last).ending
     unfolding fields_meaning
-    field_accepts f later none env places b end p cells n q r more last e h g =
+    field_accepts f later env places b end p cells n q r more last e h g =
         let shape = content_meaning sets senses f.element f.extent f.copy env places b end p cells in
         let place = field_place ty (first_name f.parts) p in
-        accepts_then (ending_within place shape.ending) shape.reads _ q more (accepts_within place shape.ending q more (ap (λ (x : Behavior). x.ending) (alone_is f none env places b end p cells) ∙ h))
+        accepts_then (ending_within place shape.ending) shape.reads _ q more (accepts_within place shape.ending q more h)
         ∙ ap (λ k. (and_then (parts_meaning ty p k f.parts env places q more) (fields_meaning sets senses ty later (extended env k f.parts) places b end)).ending) e
         ∙ accepts_then (parts_meaning ty p n f.parts env places q more).ending (parts_meaning ty p n f.parts env places q more).reads (fields_meaning sets senses ty later (extended env n f.parts) places b end) r last g
 
-    field_then : (f : Field) (later : List Field) → f.copy ≡ None → (env places b : List ℕ) (end p : ℕ) (cells : List ℕ) (n q : ℕ) (more : List ℕ) → field_number f.element f.extent b p ≡ n
-        → (shape_meaning sets senses f.element f.extent env places b end p cells).ending ≡ Accepted q more
+    field_then : (f : Field) (later : List Field) → (env places b : List ℕ) (end p : ℕ) (cells : List ℕ) (n q : ℕ) (more : List ℕ) → field_number f.element f.extent b p ≡ n
+        → (content_meaning sets senses f.element f.extent f.copy env places b end p cells).ending ≡ Accepted q more
         → (fields_meaning sets senses ty (f ∷ later) env places b end p cells).ending ≡ (and_then (parts_meaning ty p n f.parts env places q more) (fields_meaning sets senses ty later (extended env n f.parts) places b end)).ending
     unfolding fields_meaning
-    field_then f later none env places b end p cells n q more e h =
+    field_then f later env places b end p cells n q more e h =
         let shape = content_meaning sets senses f.element f.extent f.copy env places b end p cells in
         let place = field_place ty (first_name f.parts) p in
-        accepts_then (ending_within place shape.ending) shape.reads _ q more (accepts_within place shape.ending q more (ap (λ (x : Behavior). x.ending) (alone_is f none env places b end p cells) ∙ h))
+        accepts_then (ending_within place shape.ending) shape.reads _ q more (accepts_within place shape.ending q more h)
         ∙ ap (λ k. (and_then (parts_meaning ty p k f.parts env places q more) (fields_meaning sets senses ty later (extended env k f.parts) places b end)).ending) e
 
-    shape_fails : (reason : Reason) (f : Field) (later : List Field) → f.copy ≡ None → (env places b : List ℕ) (end p : ℕ) (cells : List ℕ) → FailsFor reason (shape_meaning sets senses f.element f.extent env places b end p cells).ending
+    shape_fails : (reason : Reason) (f : Field) (later : List Field) → (env places b : List ℕ) (end p : ℕ) (cells : List ℕ) → FailsFor reason (content_meaning sets senses f.element f.extent f.copy env places b end p cells).ending
         → FailsFor reason (fields_meaning sets senses ty (f ∷ later) env places b end p cells).ending
     unfolding fields_meaning
-    shape_fails reason f later none env places b end p cells h =
+    shape_fails reason f later env places b end p cells h =
         let shape = content_meaning sets senses f.element f.extent f.copy env places b end p cells in
         let place = field_place ty (first_name f.parts) p in
-        fails_then reason (ending_within place shape.ending) shape.reads _ (fails_within reason place shape.ending (subst (λ (x : Behavior). FailsFor reason x.ending) (sym (alone_is f none env places b end p cells)) h))
+        fails_then reason (ending_within place shape.ending) shape.reads _ (fails_within reason place shape.ending h)
 
-    parts_fail : (reason : Reason) (f : Field) (later : List Field) → f.copy ≡ None → (env places b : List ℕ) (end p : ℕ) (cells : List ℕ) (n q : ℕ) (more : List ℕ) → field_number f.element f.extent b p ≡ n
-        → (shape_meaning sets senses f.element f.extent env places b end p cells).ending ≡ Accepted q more → FailsFor reason (parts_meaning ty p n f.parts env places q more).ending
+    parts_fail : (reason : Reason) (f : Field) (later : List Field) → (env places b : List ℕ) (end p : ℕ) (cells : List ℕ) (n q : ℕ) (more : List ℕ) → field_number f.element f.extent b p ≡ n
+        → (content_meaning sets senses f.element f.extent f.copy env places b end p cells).ending ≡ Accepted q more → FailsFor reason (parts_meaning ty p n f.parts env places q more).ending
         → FailsFor reason (fields_meaning sets senses ty (f ∷ later) env places b end p cells).ending
-    parts_fail reason f later none env places b end p cells n q more e h g =
-        subst (FailsFor reason) (sym (field_then f later none env places b end p cells n q more e h))
+    parts_fail reason f later env places b end p cells n q more e h g =
+        subst (FailsFor reason) (sym (field_then f later env places b end p cells n q more e h))
         (fails_then reason (parts_meaning ty p n f.parts env places q more).ending (parts_meaning ty p n f.parts env places q more).reads (fields_meaning sets senses ty later (extended env n f.parts) places b end) g)
 
     -- where a field may end
@@ -323,31 +384,31 @@ module _ (sets : List (List ℕ)) (kinds : ℕ → Kind) (senses : ℕ → Sense
         → Told (UpTo (fields_kind kinds later).rest) p (fields_written whole sets writers ty later env places path i p cells vs) (spelled_fields spells later env vs) (λ b end. (fields_meaning sets senses ty later env places b end p cells).ending)
 
     -- a field that isn't a unit
-    whole_told : (f : Field) (later : List Field) → f.copy ≡ None → unit_type f.element f.extent ≡ None → fields_faults kinds (f ∷ later) ≡ [] → Next later
+    whole_told : (f : Field) (later : List Field) → OfSome (λ c. IsCopied f.element f.extent f.parts) f.copy → unit_type f.element f.extent ≡ None → fields_faults kinds (f ∷ later) ≡ [] → Next later
         → (env places path : List ℕ) (i p : ℕ) (cells : List ℕ) (vs : List Datum) → p ≤ MOST_WRITTEN
         → Told (UpTo (fields_kind kinds (f ∷ later)).rest) p
         (whole_written whole sets writers ty f env places path i p cells vs (λ env i p cells vs. fields_written whole sets writers ty later env places path i p cells vs))
         (spelled_whole (spelled_shape spells f.element f.extent env) (number_in f.element f.extent) vs (λ n vs. spelled_fields spells later (extended env n f.parts) vs))
         (λ b end. (fields_meaning sets senses ty (f ∷ later) env places b end p cells).ending)
-    whole_told f later none u k next env places path i p cells [] le = refl
-    whole_told f later none u k next env places path i p cells (v ∷ vs) le =
+    whole_told f later alone u k next env places path i p cells [] le = refl
+    whole_told f later alone u k next env places path i p cells (v ∷ vs) le =
         let n = number_in f.element f.extent v in
         let at = path ++ i ∷ [] in
         let Q = UpTo (fields_kind kinds (f ∷ later)).rest in
         let rest = (field_kind kinds f.element f.extent).rest in
         let after = λ (q : ℕ) (cells : List ℕ). parts_meaning ty p n f.parts env places q cells in
         let on = λ (b : List ℕ) (end : ℕ). fields_meaning sets senses ty later (extended env n f.parts) places b end in
-        told_join Q (UpTo rest) Q p (shape_written whole sets writers f.element f.extent env places at p cells v)
+        told_join Q (UpTo rest) Q p (copied f.copy places p (shape_written whole sets writers f.element f.extent env places at p cells v))
         (λ q cells. tested (after q cells).ending at (λ cells. fields_written whole sets writers ty later (extended env n f.parts) places path (suc i) q cells vs))
         (spelled_shape spells f.element f.extent env v) (spelled_fields spells later (extended env n f.parts) vs)
-        (λ b end. (shape_meaning sets senses f.element f.extent env places b end p cells).ending)
+        (λ b end. (content_meaning sets senses f.element f.extent f.copy env places b end p cells).ending)
         (λ s more b end. (and_then (after (p + length s) more) (on b end)).ending)
         (λ b end. (fields_meaning sets senses ty (f ∷ later) env places b end p cells).ending)
         (λ s t end e g fit. field_fit f later p (p + length s) (length t) end k (nothing_left later (extended env n f.parts) vs t g) fit)
         (λ b s t post more end e g at fit m.
-        (field_then f later none env places b end p cells n (p + length s) more (number_seen f.element f.extent env b s (t ++ post) p v u e at) m, moved (fields_kind kinds (f ∷ later)).rest p (p + length s) (p + length s + length t) end fit))
-        (λ reason b s t post end e g at fit m. shape_fails reason f later none env places b end p cells m)
-        (shape_told f.element f.extent env places at p cells v (last_only kinds f (is_empty later) (nil_parts (field_faults kinds f (is_empty later)) _ k).0).0 le)
+        (field_then f later env places b end p cells n (p + length s) more (number_seen f.element f.extent env b s (t ++ post) p v u e at) m, moved (fields_kind kinds (f ∷ later)).rest p (p + length s) (p + length s + length t) end fit))
+        (λ reason b s t post end e g at fit m. shape_fails reason f later env places b end p cells m)
+        (content_told f.element f.extent f.parts f.copy alone env places at p cells v (last_only kinds f (is_empty later) (nil_parts (field_faults kinds f (is_empty later)) _ k).0).0 le)
         (λ s more e in_limit.
         told_tested Q (p + length s) (p + length s) (after (p + length s) more).ending at
         (λ cells. fields_written whole sets writers ty later (extended env n f.parts) places path (suc i) (p + length s) cells vs)
@@ -376,10 +437,12 @@ module _ (sets : List (List ℕ)) (kinds : ℕ → Kind) (senses : ℕ → Sense
 
     -- the bytes of a unit's number
     unit_seen : (t : NumberType) (f : Field) (env places b post : List ℕ) (end p : ℕ) (cells : List ℕ) (n : ℕ) → f.element ≡ element.Number t → f.extent ≡ Once → fits t None n ≡ true → drop p b ≡ number_bytes t n ++ post → p + bytes_in t.width ≤ end
-        → (field_number f.element f.extent b p ≡ n) × ((shape_meaning sets senses f.element f.extent env places b end p cells).ending ≡ Accepted (p + bytes_in t.width) cells)
+        → (field_number f.element f.extent b p ≡ n) × ((content_meaning sets senses f.element f.extent f.copy env places b end p cells).ending ≡ Accepted (p + bytes_in t.width) cells)
     unit_seen t f env places b post end p cells n is once small at fit = (
       (λ k. field_number (is k) (once k) b p) ∙ number_is t n p b post small at,
-      (λ k. (shape_meaning sets senses (is k) (once k) env places b end p cells).ending) ∙ ap (λ (x : Behavior). x.ending) (taken_long (bytes_in t.width) p end p cells fit),
+      (λ k. (content_meaning sets senses (is k) (once k) f.copy env places b end p cells).ending)
+          ∙ ap (λ (x : Behavior). x.ending) (alone_is (element.Number t) f.copy env places b end p cells)
+          ∙ ap (λ (x : Behavior). x.ending) (taken_long (bytes_in t.width) p end p cells fit),
     )
 
     abbrev after_unit : NumberType → Field → List Field → List ℕ → List ℕ → ℕ → List ℕ → List ℕ → ℕ → List ℕ → List Datum → Written
@@ -392,12 +455,12 @@ module _ (sets : List (List ℕ)) (kinds : ℕ → Kind) (senses : ℕ → Sense
     meant f later env places p cells b end = (fields_meaning sets senses ty (f ∷ later) env places b end p cells).ending
 
     -- where all of a unit's parts passed
-    unit_passed : (t : NumberType) (f : Field) (later : List Field) → f.copy ≡ None → f.element ≡ element.Number t → f.extent ≡ Once → Next later
+    unit_passed : (t : NumberType) (f : Field) (later : List Field) → f.element ≡ element.Number t → f.extent ≡ Once → Next later
         → (env places path : List ℕ) (i p : ℕ) (cells ns : List ℕ) (rest : List Datum) (more : List ℕ) → p ≤ MOST_WRITTEN
         → ((n : ℕ) → are_bits_of n f.parts ns ≡ true → ((parts_meaning ty p n f.parts env places (p + bytes_in t.width) cells).ending ≡ Accepted (p + bytes_in t.width) more) × (extended env n f.parts ≡ env ++ ns))
         → Told (UpTo (fields_kind kinds (f ∷ later)).rest) p (after_unit t f later places path p ns (env ++ ns) (i + length ns) more rest)
         (only (makes_unit t f.parts ns) (joined (Some (number_bytes t (unit_number f.parts ns))) (then_spelled f later env (unit_number f.parts ns) rest))) (meant f later env places p cells)
-    unit_passed t f later none is once next env places path i p cells ns rest more le told =
+    unit_passed t f later is once next env places path i p cells ns rest more le told =
         let w = bytes_in t.width in
         let n = unit_number f.parts ns in
         let bytes : List ℕ = number_bytes t n in
@@ -427,22 +490,22 @@ module _ (sets : List (List ℕ)) (kinds : ℕ → Kind) (senses : ℕ → Sense
         (λ b u post end g at fit.
         let in_end : p + w ≤ end = omega (arith, len, before (fields_kind kinds (f ∷ later)).rest p (p + length bytes + length u) end fit) in
         let seen = unit_seen t f env places b (u ++ post) end p cells n is once two.0 at in_end in (
-          field_accepts f later none env places b end p cells n (p + w) (p + w) cells more seen.0 seen.1 known.0
+          field_accepts f later env places b end p cells n (p + w) (p + w) cells more seen.0 seen.1 known.0
               ∙ ap (λ x. (fields_meaning sets senses ty later x places b end (p + w) more).ending) known.1,
           later_fit f later p (p + length bytes) (p + length bytes + length u) end fit,
         ))
         (subst (λ q. Told R q rest_written (then_spelled f later env n rest) means) at_end scoped))))
 
-    unit_by : (t : NumberType) (f : Field) (later : List Field) → f.copy ≡ None → f.element ≡ element.Number t → f.extent ≡ Once → Next later
+    unit_by : (t : NumberType) (f : Field) (later : List Field) → f.element ≡ element.Number t → f.extent ≡ Once → Next later
         → (env places path : List ℕ) (i p : ℕ) (cells : List ℕ) (vs : List Datum) → p ≤ MOST_WRITTEN
         → (w : Written) → PartsTold t f.parts env vs w (after_unit t f later places path p) i ty places p cells
         → Told (UpTo (fields_kind kinds (f ∷ later)).rest) p w (spelled_parts t f.parts (part_numbers t f.parts vs) (then_spelled f later env)) (meant f later env places p cells)
-    unit_by t f later none is once next env places path i p cells vs le w (passed ns rest more e we told) =
+    unit_by t f later is once next env places path i p cells vs le w (passed ns rest more e we told) =
         let Q = UpTo (fields_kind kinds (f ∷ later)).rest in
         subst (λ x. Told Q p x (spelled_parts t f.parts (part_numbers t f.parts vs) (then_spelled f later env)) (meant f later env places p cells)) (sym we)
         (subst (λ x. Told Q p (after_unit t f later places path p ns (env ++ ns) (i + length ns) more rest) (spelled_parts t f.parts x (then_spelled f later env)) (meant f later env places p cells)) (sym e)
-        (unit_passed t f later none is once next env places path i p cells ns rest more le told))
-    unit_by t f later none is once next env places path i p cells vs le w (failed reason at we told) =
+        (unit_passed t f later is once next env places path i p cells ns rest more le told))
+    unit_by t f later is once next env places path i p cells vs le w (failed reason at we told) =
         let Q = UpTo (fields_kind kinds (f ∷ later)).rest in
         let own : Told Q p (Refused (Broken reason) at) (spelled_parts t f.parts (part_numbers t f.parts vs) (then_spelled f later env)) (meant f later env places p cells) = λ b s post end e here fit.
         let u = unit_some t f.parts (part_numbers t f.parts vs) (then_spelled f later env) s e in
@@ -451,16 +514,16 @@ module _ (sets : List (List ℕ)) (kinds : ℕ → Kind) (senses : ℕ → Sense
         let here' : drop p b ≡ number_bytes t n ++ (u.2 ++ post) = here ∙ ap (λ x. x ++ post) u.6 ∙ append_assoc (number_bytes t n) u.2 post in
         let in_end : p + bytes_in t.width ≤ end = omega (arith, number_length t n, ap length u.6, length-append (number_bytes t n) u.2, before (fields_kind kinds (f ∷ later)).rest p (p + length s) end fit) in
         let seen = unit_seen t f env places b (u.2 ++ post) end p cells n is once two.0 here' in_end in
-        parts_fail reason f later none env places b end p cells n (p + bytes_in t.width) cells seen.0 seen.1 (told u.0 u.1 n u.3 two.1) in
+        parts_fail reason f later env places b end p cells n (p + bytes_in t.width) cells seen.0 seen.1 (told u.0 u.1 n u.3 two.1) in
         subst (λ x. Told Q p x (spelled_parts t f.parts (part_numbers t f.parts vs) (then_spelled f later env)) (meant f later env places p cells)) (sym we) own
-    unit_by t f later none is once next env places path i p cells vs le w (long at we past) =
+    unit_by t f later is once next env places path i p cells vs le w (long at we past) =
         let Q = UpTo (fields_kind kinds (f ∷ later)).rest in
         let own : Told Q p (Refused Long at) (spelled_parts t f.parts (part_numbers t f.parts vs) (then_spelled f later env)) (meant f later env places p cells) = λ s e.
         let u = unit_some t f.parts (part_numbers t f.parts vs) (then_spelled f later env) s e in
         let n = unit_number f.parts u.0 in
         omega (arith, past, number_length t n, ap length u.6, length-append (number_bytes t n) u.2) in
         subst (λ x. Told Q p x (spelled_parts t f.parts (part_numbers t f.parts vs) (then_spelled f later env)) (meant f later env places p cells)) (sym we) own
-    unit_by t f later none is once next env places path i p cells vs le w (wrong rule at we kind e) =
+    unit_by t f later is once next env places path i p cells vs le w (wrong rule at we kind e) =
         let Q = UpTo (fields_kind kinds (f ∷ later)).rest in
         subst (λ x. Told Q p x (spelled_parts t f.parts (part_numbers t f.parts vs) (then_spelled f later env)) (meant f later env places p cells)) (sym we)
         (told_wrong Q p rule at (spelled_parts t f.parts (part_numbers t f.parts vs) (then_spelled f later env)) (meant f later env places p cells) kind (ap (λ x. spelled_parts t f.parts x (then_spelled f later env)) e))
@@ -480,22 +543,26 @@ module _ (sets : List (List ℕ)) (kinds : ℕ → Kind) (senses : ℕ → Sense
     unit_is element.Rest x t h = absurd (none-some t h)
     unit_is element.Zeros x t h = absurd (none-some t h)
 
-    pub fields_told : (fs : List Field) → Each (λ f. f.copy ≡ None) fs → fields_faults kinds fs ≡ []
+    pub fields_told : (ds : List TypeDef) (d : TypeDef) (fs : List Field) → Each (IsFieldCopying ds d) fs → fields_faults kinds fs ≡ []
         → (env places path : List ℕ) (i p : ℕ) (cells : List ℕ) (vs : List Datum) → p ≤ MOST_WRITTEN
         → Told (UpTo (fields_kind kinds fs).rest) p (fields_written whole sets writers ty fs env places path i p cells vs) (spelled_fields spells fs env vs) (λ b end. (fields_meaning sets senses ty fs env places b end p cells).ending)
     unfolding fields_written spelled_fields
-    fields_told [] alone k env places path i p cells [] le =
+    fields_told ds d [] alone k env places path i p cells [] le =
         let same : p ≡ p + 0 = omega arith in
         (refl, (omega (arith, le), λ b post end at fit. none_meant env places b end p cells ∙ ap (λ q. Accepted q cells) same))
-    fields_told [] alone k env places path i p cells (v ∷ vs) le = refl
-    fields_told (f ∷ later) alone k env places path i p cells vs le =
-        by (unit_type f.element f.extent) refl (fields_told later alone.1 (nil_parts (field_faults kinds f (is_empty later)) (fields_faults kinds later) k).1)
+    fields_told ds d [] alone k env places path i p cells (v ∷ vs) le = refl
+    fields_told ds d (f ∷ later) alone k env places path i p cells vs le =
+        by (unit_type f.element f.extent) refl (fields_told ds d later alone.1 (nil_parts (field_faults kinds f (is_empty later)) (fields_faults kinds later) k).1)
       where
+        copied_at : (f : Field) (copy : Option CopyOut) → OfSome (IsCopyWhole d f) copy → OfSome (λ c. IsCopied f.element f.extent f.parts) copy
+        copied_at f None h = tt
+        copied_at f (Some c) h = h.field
+
         by : (o : Option NumberType) → unit_type f.element f.extent ≡ o → Next later
             → Told (UpTo (fields_kind kinds (f ∷ later)).rest) p
             (field_written whole sets writers ty o f env places path i p cells vs (λ env i p cells vs. fields_written whole sets writers ty later env places path i p cells vs))
             (spelled_field spells o f env vs (λ n vs. spelled_fields spells later (extended env n f.parts) vs)) (meant f later env places p cells)
-        by None e next = whole_told f later alone.0 e k next env places path i p cells vs le
+        by None e next = whole_told f later (copied_at f f.copy alone.0.copy) e k next env places path i p cells vs le
         by (Some t) e next =
             let two = unit_is f.element f.extent t e in
-            unit_by t f later alone.0 two.0 two.1 next env places path i p cells vs le (parts_written whole t f.parts env places path i p cells vs (after_unit t f later places path p)) (parts_told t ty places path p f.parts env i cells vs (after_unit t f later places path p))
+            unit_by t f later two.0 two.1 next env places path i p cells vs le (parts_written whole t f.parts env places path i p cells vs (after_unit t f later places path p)) (parts_told t ty places path p f.parts env i cells vs (after_unit t f later places path p))

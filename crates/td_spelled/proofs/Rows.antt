@@ -47,4 +47,8 @@ rows_hold = record {
   unit = refl;
   unit_broken = refl;
   unit_wide = refl;
+  copied = refl;
+  copied_size = refl;
+  copied_again = refl;
+  one_buffer = refl;
 }

@@ -1,13 +1,14 @@
 -- What writing tells of a value's spelling, and of the meaning of these bytes wherever they stand.
 use Rattle.std.proofs.Common.{◌≡◌, ℕ, ◌+◌, ◌<◌, ◌≤◌, Bool, true, false, List, ◌++◌, length, drop, refl, sym, ap, ◌∙◌, subst, arith, append_assoc, length-append, Option, Some, None}
 use Rattle.std.proofs.lemmas.Option.{none-some, same_Some}
+use Rattle.td_core.specs.declared.module.CopyOut.{CopyOut}
 use Rattle.td_core.specs.declared.outcome.Reason.{Reason}
 use Rattle.td_core.specs.Outcome.{Ending, Accepted, Rejected, Behavior, FramePlace, onward, ending_within}
 use Rattle.td_values.specs.declared.error.WriteRule.{WriteRule}
 use Rattle.td_values.specs.declared.error.WriteRule.TheVariants.{Shape, Range, Broken, Size, Long}
 use Rattle.td_values.specs.declared.limits.TheConstants.{MOST_WRITTEN}
 use Rattle.td_values.specs.Spelling.{only, joined, sized}
-use Rattle.td_values.specs.Writing.{Written, Done, Refused, after_writing, followed, wanted, tested, of_size, unlisted, of_enum}
+use Rattle.td_values.specs.Writing.{Written, Done, Refused, after_writing, followed, wanted, tested, of_size, unlisted, of_enum, noted, copied}
 use Rattle.td_spelled.specs.Laws.{FailsFor}
 use Rattle.td_spelled.proofs.Numbers.{drop_past}
 
@@ -185,6 +186,18 @@ told_listed Q p false test path (Done s cells) sp all spelled h = by (test (leng
     by true e = h
     by false e = ap (sized test) (spelled s cells refl refl) ∙ ap (λ v. only v (Some s)) e
 told_listed Q p false test path (Refused rule at) sp all spelled h = h
+
+-- where a field is copied, its place and its number of bytes are noted
+pub copied_told : (Q : Fit) (p : ℕ) (copy : Option CopyOut) (places : List ℕ) (w : Written) (sp : Option (List ℕ)) (means all : List ℕ → ℕ → Ending)
+    → ((b s cells : List ℕ) (end : ℕ) → sp ≡ Some s → means b end ≡ Accepted (p + length s) cells → all b end ≡ Accepted (p + length s) (noted copy places p (length s) cells))
+    → ((reason : Reason) (b : List ℕ) (end : ℕ) → FailsFor reason (means b end) → FailsFor reason (all b end))
+    → Told Q p w sp means → Told Q p (copied copy places p w) sp all
+copied_told Q p copy places (Done s cells) sp means all holds lacks h = (h.0, (h.1.0, λ b post end at fit. holds b s cells end h.0 (h.1.1 b post end at fit)))
+copied_told Q p copy places (Refused Shape at) sp means all holds lacks h = h
+copied_told Q p copy places (Refused Range at) sp means all holds lacks h = h
+copied_told Q p copy places (Refused (Broken reason) at) sp means all holds lacks h = λ b s post end e at fit. lacks reason b end (h b s post end e at fit)
+copied_told Q p copy places (Refused Size at) sp means all holds lacks h = h
+copied_told Q p copy places (Refused Long at) sp means all holds lacks h = h
 
 -- what no test lets through isn't spelled
 pub told_wanted : (Q : Fit) (p : ℕ) (v : Bool) (rule : WriteRule) (path : List ℕ) (w : Written) (sp : Option (List ℕ)) (means : List ℕ → ℕ → Ending)

@@ -6,7 +6,7 @@ use Rattle.td_core.specs.declared.module.Module.{Module}
 use Rattle.td_core.specs.declared.module.Entry.{Entry}
 use Rattle.td_core.specs.declared.outcome.Reason.{Reason}
 use Rattle.td_core.specs.Outcome.{Ending, Accepted, Rejected}
-use Rattle.td_core.specs.Copies.{IsCopyless}
+use Rattle.td_core.specs.Copies.{IsCopying}
 use Rattle.td_kinds.specs.Kinds.{kinds_below}
 use Rattle.td_core.specs.Formed.{IsModuleFormed}
 use Rattle.td_kinds.specs.KindRules.{body_faults, kind_faults}
@@ -37,10 +37,10 @@ IsExact (Refused (Broken reason) path) spelled means = (bytes : List ℕ) → sp
 IsExact (Refused Size path) spelled means = spelled ≡ None
 IsExact (Refused Long path) spelled means = (bytes : List ℕ) → spelled ≡ Some bytes → MOST_WRITTEN < length bytes
 
--- of a module without copies, from any cells
+-- in a module that keeps the rules of copies, from any cells
 abbrev pub WritingIsExact : Type 0
 WritingIsExact =
-    (m : Module) (entry : Entry) (args cells : List ℕ) (v : Datum) → IsCopyless m → AreKindsAdmitted m →
+    (m : Module) (entry : Entry) (args cells : List ℕ) (v : Datum) → IsCopying m → AreKindsAdmitted m →
     IsExact (writing whole m entry args cells v) (spelling m entry args v) (λ bytes. (meaning m entry args cells bytes).ending)
 
 -- in a formed module none of whose kinds is refused this is so

@@ -10,7 +10,7 @@ use Rattle.td_core.specs.declared.module.Extent.TheVariants.{Once, Filling, Once
 use Rattle.td_core.specs.declared.module.Body.TheVariants.{Struct}
 use Rattle.td_core.specs.declared.module.Module.{Module}
 use Rattle.td_core.specs.declared.outcome.Reason.TheVariants.{Constraint, Impossible, Action}
-use Rattle.td_meaning.specs.Rows.{byte, part_of, field_of, definition_of, module_of, module_P, module_J, module_L, module_C, module_D, module_Z, module_N, module_U}
+use Rattle.td_meaning.specs.Rows.{byte, part_of, field_of, definition_of, module_of, module_P, module_J, module_L, module_C, module_D, module_Z, module_N, module_U, module_Q, module_R, module_V}
 use Rattle.td_values.specs.declared.error.WriteRule.TheVariants.{Shape, Range, Broken, Size, Long}
 use Rattle.td_values.specs.Datum.{Datum, Number, Sequence, Bytes, Empty, data_of}
 use Rattle.td_values.specs.Spelling.{spelling}
@@ -98,3 +98,9 @@ pub record RowsHold : Type 0 where
   pub unit : written module_U [] (list (Number 3 ∷ Number 5 ∷ [])) ≡ Done (0x35 ∷ []) []
   pub unit_broken : written module_U [] (list (Number 5 ∷ Number 3 ∷ [])) ≡ Refused (Broken Constraint) (1 ∷ [])
   pub unit_wide : written module_U [] (list (Number 16 ∷ Number 3 ∷ [])) ≡ Refused Range (0 ∷ [])
+  -- the place and the number of a copied field's bytes, in the two cells of its buffer
+  pub copied : written module_Q (0 ∷ 0 ∷ []) (list (Number 3 ∷ Bytes (0xaa ∷ 0xbb ∷ 0xcc ∷ []) ∷ [])) ≡ Done (3 ∷ 0xaa ∷ 0xbb ∷ 0xcc ∷ []) (1 ∷ 3 ∷ [])
+  pub copied_size : written module_Q (0 ∷ 0 ∷ []) (list (Number 3 ∷ Bytes (0xaa ∷ []) ∷ [])) ≡ Refused Size (1 ∷ [])
+  -- the last copy stays
+  pub copied_again : written module_R (0 ∷ 0 ∷ []) (list (list (list (Number 2 ∷ Bytes (7 ∷ 8 ∷ []) ∷ []) ∷ list (Number 1 ∷ Bytes (9 ∷ []) ∷ []) ∷ []) ∷ Number 1 ∷ [])) ≡ Done (2 ∷ 7 ∷ 8 ∷ 1 ∷ 9 ∷ 1 ∷ []) (4 ∷ 1 ∷ [])
+  pub one_buffer : written module_V (0 ∷ 0 ∷ []) (list (list (Bytes (7 ∷ []) ∷ Bytes (8 ∷ 9 ∷ []) ∷ []) ∷ [])) ≡ Done (7 ∷ 8 ∷ 9 ∷ []) (1 ∷ 2 ∷ [])

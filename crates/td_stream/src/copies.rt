@@ -5,6 +5,7 @@ ghost use Rattle.td_stream.specs.Copies.{empty_with, rooms_of};
 
 use std::alloc::{AllocError, Global};
 use std::marker::Model;
+use td_num::items::Items;
 
 /// Bytes, and room for so many in all. A contract sees the list and the room.
 #[derive(Drop)]
@@ -52,6 +53,13 @@ impl Buffer {
         ensures room { self.new.room ≡ self.old.room }
     {
         self.bytes.clear();
+    }
+
+    /// The bytes as a list. Takes no memory.
+    pub fn into_bytes(self) -> Items<u8>
+        ensures { result ≡ self.held }
+    {
+        Items::of(self.bytes)
     }
 
     /// One byte more at the end, where there is room. Takes no memory.

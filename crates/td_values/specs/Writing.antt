@@ -14,6 +14,7 @@ use Rattle.td_core.specs.declared.module.Element.{Element}
 use Rattle.td_core.specs.declared.module.Element.TheVariants as element
 use Rattle.td_core.specs.declared.module.Extent.{Extent}
 use Rattle.td_core.specs.declared.module.Extent.TheVariants.{Once, Filling, OnceFilling, UpToZero}
+use Rattle.td_core.specs.declared.module.CopyOut.{CopyOut}
 use Rattle.td_core.specs.declared.module.Part.{Part}
 use Rattle.td_core.specs.declared.module.Field.{Field}
 use Rattle.td_core.specs.declared.module.Body.{Body}
@@ -24,7 +25,7 @@ use Rattle.td_core.specs.declared.module.Entry.{Entry}
 use Rattle.td_core.specs.declared.outcome.Reason.TheVariants.{Constraint, Impossible}
 use Rattle.td_core.specs.Outcome.{Ending, Accepted, Rejected, Behavior}
 use Rattle.td_meaning.specs.Doing.{natural_of}
-use Rattle.td_meaning.specs.Meaning.{values_of, extended, case_for, pick, entry_place, refined, checked, parts_meaning, demanded}
+use Rattle.td_meaning.specs.Meaning.{values_of, with_copy, extended, case_for, pick, entry_place, refined, checked, parts_meaning, demanded}
 use Rattle.td_meaning.specs.Machine as machine
 use Rattle.td_values.specs.declared.error.WriteRule.{WriteRule}
 use Rattle.td_values.specs.declared.error.WriteRule.TheVariants.{Shape, Range, Broken, Size, Long}
@@ -202,6 +203,15 @@ shape_written tests sets writers element (UpToZero size) env places path p cells
 
 -- Fields
 
+-- the cells after n bytes from p on of a field: where it is copied, their place and their number stand in two of them
+abbrev pub noted : Option CopyOut → List ℕ → ℕ → ℕ → List ℕ → List ℕ
+noted None places p n cells = cells
+noted (Some c) places p n cells = with_copy c places p n cells
+
+abbrev pub copied : Option CopyOut → List ℕ → ℕ → Written → Written
+copied copy places p (Done bytes cells) = Done bytes (noted copy places p (length bytes) cells)
+copied copy places p (Refused rule path) = Refused rule path
+
 -- what follows a field: with the values in scope, the number of the next value, its place, the cells, and the values left
 abbrev pub Later : Type 0
 Later = List ℕ → ℕ → ℕ → List ℕ → List Datum → Written
@@ -226,12 +236,12 @@ unit_then t parts path p go ns env i cells vs =
     (wanted (has_room p (bytes_in t.width)) Long path
     (after_writing (number_bytes t (unit_number parts ns)) (go env i (p + bytes_in t.width) cells vs)))
 
--- any other field, its refinement and its action, and what follows
+-- any other field, its copy, its refinement and its action, and what follows
 abbrev pub whole_written : Tests → List (List ℕ) → (ℕ → Writer) → NameId → Field → List ℕ → List ℕ → List ℕ → ℕ → ℕ → List ℕ → List Datum → Later → Written
 whole_written tests sets writers ty f env places path i p cells [] go = Refused Shape path
 whole_written tests sets writers ty f env places path i p cells (v ∷ vs) go =
     let n = number_in f.element f.extent v in
-    followed (shape_written tests sets writers f.element f.extent env places (path ++ i ∷ []) p cells v) p
+    followed (copied f.copy places p (shape_written tests sets writers f.element f.extent env places (path ++ i ∷ []) p cells v)) p
     (λ q cells. tested (tests.parts ty p n f.parts env places q cells).ending (path ++ i ∷ [])
     (λ cells. go (extended env n f.parts) (suc i) q cells vs))
 

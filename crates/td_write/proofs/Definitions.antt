@@ -12,7 +12,7 @@ use Rattle.td_values.specs.declared.error.WriteRule.TheVariants.{Shape, Broken}
 use Rattle.td_values.specs.Datum.{Datum, Sequence, data_of, list_of}
 use Rattle.td_values.specs.Bytes.{unit_type}
 use Rattle.td_values.specs.Spelling.{number_in}
-use Rattle.td_values.specs.Writing.{Tests, Written, Done, Refused, Writer, Later, after_writing, tested, bytes_written, list_written, items_written, shape_written, field_written, fields_written, definition_written, writers_below}
+use Rattle.td_values.specs.Writing.{Tests, Written, Done, Refused, Writer, Later, after_writing, tested, bytes_written, list_written, items_written, shape_written, copied, field_written, fields_written, definition_written, writers_below}
 use Rattle.td_write.specs.Writes.{Passes}
 use Rattle.td_write.proofs.Totals.{total_followed}
 
@@ -79,7 +79,7 @@ module _ (tests : Tests) (sets : List (List ℕ)) (writers : ℕ → Writer) (ty
 
   -- a field that isn't a unit, with its refinement and its action
   pub whole_total : (o : Option NumberType) (f : Field) (env : List ℕ) (i : ℕ) (cells : List ℕ) (vs rest : List Datum) (v : Datum) (old new more last : List ℕ) (later : Later) → o ≡ None → vs ≡ v ∷ rest
-      → after_writing old (shape_written tests sets writers f.element f.extent env places (path ++ i ∷ []) (length old) cells v) ≡ Done new more
+      → after_writing old (copied f.copy places (length old) (shape_written tests sets writers f.element f.extent env places (path ++ i ∷ []) (length old) cells v)) ≡ Done new more
       → Passes (tests.parts ty (length old) (number_in f.element f.extent v) f.parts env places (length new) more).ending last
       → after_writing old (field_written tests sets writers ty o f env places path i (length old) cells vs later) ≡ after_writing new (later (extended env (number_in f.element f.extent v) f.parts) (i + 1) (length new) last rest)
   whole_total o f env i cells vs rest v old new more last later e split shape passes =
@@ -87,7 +87,7 @@ module _ (tests : Tests) (sets : List (List ℕ)) (writers : ℕ → Writer) (ty
       let at = path ++ i ∷ [] in
       let next : suc i ≡ i + 1 = omega arith in
       (λ k. after_writing old (field_written tests sets writers ty (e k) f env places path i (length old) cells (split k) later))
-      ∙ total_followed old new more (shape_written tests sets writers f.element f.extent env places at (length old) cells v)
+      ∙ total_followed old new more (copied f.copy places (length old) (shape_written tests sets writers f.element f.extent env places at (length old) cells v))
       (λ q cells. tested (tests.parts ty (length old) n f.parts env places q cells).ending at (λ cells. later (extended env n f.parts) (suc i) q cells rest)) shape
       ∙ ap (after_writing new) (passes at (λ cells. later (extended env n f.parts) (suc i) (length new) cells rest))
       ∙ ap (λ k. after_writing new (later (extended env n f.parts) k (length new) last rest)) next

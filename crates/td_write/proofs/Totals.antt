@@ -1,6 +1,7 @@
 -- What was written, with what is left to write.
-use Rattle.std.proofs.Common.{◌≡◌, ℕ, suc, ◌+◌, ◌-◌, Bool, true, false, List, [], ◌∷◌, ◌++◌, length, refl, sym, ap, ◌∙◌, arith, append_assoc, length-append}
+use Rattle.std.proofs.Common.{◌≡◌, ℕ, suc, ◌+◌, ◌-◌, Bool, true, false, List, [], ◌∷◌, ◌++◌, length, refl, sym, ap, ◌∙◌, arith, append_assoc, length-append, Option}
 use Rattle.std.proofs.lemmas.List.{append-nil}
+use Rattle.td_core.specs.declared.module.CopyOut.{CopyOut}
 use Rattle.td_values.specs.declared.error.WriteRule.{WriteRule}
 use Rattle.td_values.specs.declared.error.WriteRule.TheVariants.{Broken, Size}
 use Rattle.td_values.specs.Datum.{Datum}
@@ -8,7 +9,7 @@ use Rattle.td_write.specs.declared.halt.Halt.{Halt}
 use Rattle.td_write.specs.declared.halt.Halt.TheVariants as halt
 use Rattle.td_write.specs.Writes.{Halts}
 use Rattle.td_values.specs.Spelling.{is_some_size}
-use Rattle.td_values.specs.Writing.{Written, Done, Refused, after_writing, followed, wanted, of_size, items_written}
+use Rattle.td_values.specs.Writing.{Written, Done, Refused, after_writing, followed, wanted, of_size, noted, copied, items_written}
 
 -- what was written is behind what stood there
 pub done_parts : (old new cells : List ℕ) (w : Written) → after_writing old w ≡ Done new cells → (s : List ℕ) × (w ≡ Done s cells) × (new ≡ old ++ s)
@@ -63,6 +64,21 @@ sized_refused old new cells path test w e t =
 
 pub size_refused : (rule : WriteRule) (at path : List ℕ) (test : ℕ → Bool) (w : Written) → w ≡ Refused rule at → of_size test path w ≡ Refused rule at
 size_refused rule at path test w e = ap (of_size test path) e
+
+-- of a field that is copied, how many bytes were written
+
+pub copied_total : (copy : Option CopyOut) (places old new more last : List ℕ) (w : Written) → after_writing old w ≡ Done new more → last ≡ noted copy places (length old) (length new - length old) more
+    → after_writing old (copied copy places (length old) w) ≡ Done new last
+copied_total copy places old new more last w e noted_is =
+    let d = done_parts old new more w e in
+    let len : length d.0 ≡ length new - length old = omega (arith, ap length d.2, length-append old d.0) in
+    ap (λ x. after_writing old (copied copy places (length old) x)) d.1
+    ∙ (λ i. Done (sym d.2 i) (noted copy places (length old) (len i) more))
+    ∙ ap (Done new) (sym noted_is)
+
+pub copied_halts : (h : Halt) (at : List ℕ) (copy : Option CopyOut) (places : List ℕ) (p : ℕ) (w : Written) → Halts h at w → Halts h at (copied copy places p w)
+copied_halts (halt.Broken rule) at copy places p w e = ap (copied copy places p) e
+copied_halts halt.NoMemory at copy places p w e = tt
 
 -- Lists of values
 

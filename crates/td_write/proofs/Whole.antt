@@ -1,8 +1,7 @@
 -- Writing in 64 bits, put in whole numbers: what was written is spelled and accepted, and what is refused isn't. Cited by other crates.
-use Rattle.std.proofs.Common.{◌≡◌, ℕ, zero, suc, ◌+◌, ◌≤◌, ◌<◌, List, [], ◌∷◌, ◌++◌, length, refl, sym, ap, ◌∙◌, subst, arith, Option, Some, None}
+use Rattle.std.proofs.Common.{◌≡◌, ℕ, zero, suc, ◌+◌, ◌≤◌, ◌<◌, List, [], ◌∷◌, ◌++◌, length, take, drop, refl, sym, ap, ◌∙◌, subst, arith, Option, Some, None}
 use Rattle.std.specs.Prelude.{slice_get}
 use Rattle.std.proofs.lemmas.Option.{none-some}
-use Rattle.std.proofs.lemmas.List.{take_all, drop_all}
 use Rattle.td_num.specs.Numbers.{places_from}
 use Rattle.td_core.specs.declared.module.Module.{Module}
 use Rattle.td_core.specs.declared.module.Entry.{Entry}
@@ -16,7 +15,6 @@ use Rattle.td_core.specs.Entries.{entry_definition, definition_at}
 use Rattle.td_core.specs.Formed.{AllFit, params_at, cells_at}
 use Rattle.td_meaning.specs.Meaning.{meaning, entry_place}
 use Rattle.td_meaning.specs.Copies.{opened, outcome}
-use Rattle.td_meaning.proofs.Copying.{opened_copyless}
 use Rattle.td_values.specs.declared.error.WriteRule.{WriteRule}
 use Rattle.td_values.specs.declared.error.WriteRule.TheVariants.{Shape, Range, Broken, Size, Long}
 use Rattle.td_values.specs.declared.error.WriteError.{WriteError}
@@ -54,51 +52,49 @@ module _ (m : Module) (entry : Entry) (args cells : List ℕ) (v : Datum) where
       past (d ∷ ds) zero e = absurd (none-some d (sym e))
       past (d ∷ ds) (suc n) e = omega (arith, past ds n e)
 
+-- from an entry point's cells, with those of its copy buffers behind them
+module _ (m : Module) (entry : Entry) (args cells : List ℕ) (v : Datum) where
   -- both arithmetics write the same
-  pub same_writing : WritingIsInRange → IsWritable m → AllFit (params_at (entry_definition m entry.number)) args → AllFit (cells_at (entry_definition m entry.number)) cells → writing in_machine m entry args cells v ≡ writing whole m entry args cells v
+  pub same_writing : WritingIsInRange → IsWritable m → AllFit (params_at (entry_definition m entry.number)) args → AllFit (cells_at (entry_definition m entry.number)) cells
+      → writing in_machine m entry args (opened m entry cells) v ≡ writing whole m entry args (opened m entry cells) v
   same_writing law h fits room = by (slice_get m.entries entry.number) refl
     where
-      by : (o : Option ℕ) → slice_get m.entries entry.number ≡ o → writing in_machine m entry args cells v ≡ writing whole m entry args cells v
-      by None e = no_entry in_machine e ∙ sym (no_entry whole e)
+      by : (o : Option ℕ) → slice_get m.entries entry.number ≡ o → writing in_machine m entry args (opened m entry cells) v ≡ writing whole m entry args (opened m entry cells) v
+      by None e = no_entry m entry args (opened m entry cells) v in_machine e ∙ sym (no_entry m entry args (opened m entry cells) v whole e)
       by (Some place) e = then (slice_get m.definitions place) refl
         where
-          then : (o : Option TypeDef) → slice_get m.definitions place ≡ o → writing in_machine m entry args cells v ≡ writing whole m entry args cells v
-          then None f = no_definition in_machine place e f ∙ sym (no_definition whole place e f)
+          then : (o : Option TypeDef) → slice_get m.definitions place ≡ o → writing in_machine m entry args (opened m entry cells) v ≡ writing whole m entry args (opened m entry cells) v
+          then None f = no_definition m entry args (opened m entry cells) v in_machine place e f ∙ sym (no_definition m entry args (opened m entry cells) v whole place e f)
           then (Some d) f =
               let is : entry_definition m entry.number ≡ Some d = ap (definition_at m) e ∙ f in
-              subst (λ xs. writing in_machine m entry args xs v ≡ writing whole m entry args xs v) (opened_copyless m entry cells h.copyless)
-              (law m entry place d args cells v h.formed h.safe e f (subst (λ o. AllFit (params_at o) args) is fits) (subst (λ o. AllFit (cells_at o) cells) is room))
+              law m entry place d args cells v h.formed h.copying h.safe e f (subst (λ o. AllFit (params_at o) args) is fits) (subst (λ o. AllFit (cells_at o) cells) is room)
 
-  exact : WritingIsExact → KindsAreAdmitted → IsWritable m → IsExact (writing whole m entry args cells v) (spelling m entry args v) (λ bytes. (meaning m entry args cells bytes).ending)
-  exact law kinds h = law m entry args cells v h.copyless (kinds m h.formed h.kinds)
+  abbrev ending : List ℕ → Ending
+  ending bytes = (meaning m entry args (opened m entry cells) bytes).ending
 
-  -- the outcome has all of its cells, and no copy
-  outcome_is : IsWritable m → (bytes : List ℕ) (o : Ending) → (meaning m entry args cells bytes).ending ≡ o → outcome m entry args cells bytes ≡ outcome_of (length cells) bytes o
-  outcome_is h bytes o e = ap (λ xs. outcome_of (length cells) bytes (meaning m entry args xs bytes).ending) (opened_copyless m entry cells h.copyless) ∙ ap (outcome_of (length cells) bytes) e
-
-  all_own : (bytes last : List ℕ) (q : ℕ) → length last ≡ length cells → outcome_of (length cells) bytes (Accepted q last) ≡ record { verdict = Accept q; trace = []; cells = last; copies = [] }
-  all_own bytes last q long = λ k. record { verdict = Accept q; trace = []; cells = take_all (length cells) last (omega (arith, long)) k; copies = copies_by bytes (drop_all (length cells) last (omega (arith, long)) k) }
+  exact : WritingIsExact → KindsAreAdmitted → IsWritable m → IsExact (writing whole m entry args (opened m entry cells) v) (spelling m entry args v) ending
+  exact law kinds h = law m entry args (opened m entry cells) v h.copying (kinds m h.formed h.kinds)
 
   -- what was written
-  pub appended : WritingIsExact → KindsAreAdmitted → IsWritable m → (bytes last old new : List ℕ) (answer : Outcome) → writing whole m entry args cells v ≡ Done bytes last → length last ≡ length cells → new ≡ old ++ bytes
-      → answer ≡ record { verdict = Accept (length bytes); trace = []; cells = last; copies = [] } → IsAppended m entry args cells v old new answer
-  appended law kinds h bytes last old new answer e long grown is =
-      let x = subst (λ w. IsExact w (spelling m entry args v) (λ b. (meaning m entry args cells b).ending)) e (exact law kinds h) in
-      let says : outcome m entry args cells bytes ≡ record { verdict = Accept (length bytes); trace = []; cells = last; copies = [] } = outcome_is h bytes _ x.1.1 ∙ all_own bytes last (length bytes) long in
+  pub appended : WritingIsExact → KindsAreAdmitted → IsWritable m → (bytes last old new : List ℕ) (answer : Outcome) → writing whole m entry args (opened m entry cells) v ≡ Done bytes last → new ≡ old ++ bytes
+      → answer ≡ record { verdict = Accept (length bytes); trace = []; cells = take (length cells) last; copies = copies_by bytes (drop (length cells) last) } → IsAppended m entry args cells v old new answer
+  appended law kinds h bytes last old new answer e grown is =
+      let x = subst (λ w. IsExact w (spelling m entry args v) ending) e (exact law kinds h) in
+      let says : outcome m entry args cells bytes ≡ outcome_of (length cells) bytes (Accepted (length bytes) last) = ap (outcome_of (length cells) bytes) x.1.1 in
       (bytes, (record { spelled = x.0; short = x.1.0; accepted = ap (λ (o : Outcome). o.verdict) says }, (grown, is ∙ sym says)))
 
   -- what was refused
-  pub nowhere : WritingIsExact → KindsAreAdmitted → IsWritable m → (rule : WriteRule) (path : List ℕ) → writing whole m entry args cells v ≡ Refused rule path → IsNowhere m entry args cells v
-  nowhere law kinds h rule path e bytes a = by rule (subst (λ w. IsExact w (spelling m entry args v) (λ b. (meaning m entry args cells b).ending)) e (exact law kinds h))
+  pub nowhere : WritingIsExact → KindsAreAdmitted → IsWritable m → (rule : WriteRule) (path : List ℕ) → writing whole m entry args (opened m entry cells) v ≡ Refused rule path → IsNowhere m entry args cells v
+  nowhere law kinds h rule path e bytes a = by rule (subst (λ w. IsExact w (spelling m entry args v) ending) e (exact law kinds h))
     where
       fails : (reason : Reason) (o : Ending) → FailsFor reason o → (outcome_of (length cells) bytes o).verdict ≡ Accept (length bytes) → ⊥
       fails reason (Accepted q last) f e = f
       fails reason (Rejected other q trace last) f e = absurd (cc)
 
-      by : (rule : WriteRule) → IsExact (Refused rule path) (spelling m entry args v) (λ b. (meaning m entry args cells b).ending) → ⊥
+      by : (rule : WriteRule) → IsExact (Refused rule path) (spelling m entry args v) ending → ⊥
       by Shape x = none-some bytes (sym x ∙ a.spelled)
       by Range x = none-some bytes (sym x ∙ a.spelled)
-      by (Broken reason) x = fails reason (meaning m entry args cells bytes).ending (x bytes a.spelled) (ap (λ (o : Outcome). o.verdict) (sym (outcome_is h bytes _ refl)) ∙ a.accepted)
+      by (Broken reason) x = fails reason (ending bytes) (x bytes a.spelled) a.accepted
       by Size x = none-some bytes (sym x ∙ a.spelled)
       by Long x = let past : MOST_WRITTEN < length bytes = x bytes a.spelled in omega (arith, past, a.short)
 

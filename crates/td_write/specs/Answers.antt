@@ -5,10 +5,10 @@ use Rattle.td_core.specs.declared.module.Entry.{Entry}
 use Rattle.td_core.specs.declared.outcome.Outcome.{Outcome}
 use Rattle.td_core.specs.declared.outcome.Verdict.TheVariants.{Accept}
 use Rattle.td_core.specs.Formed.{IsModuleFormed}
-use Rattle.td_core.specs.Copies.{IsCopyless}
+use Rattle.td_core.specs.Copies.{IsCopying}
 use Rattle.td_kinds.specs.KindRules.{kind_faults}
 use Rattle.td_arith.specs.SafeModule.{module_unsafe}
-use Rattle.td_meaning.specs.Copies.{outcome}
+use Rattle.td_meaning.specs.Copies.{opened, outcome}
 use Rattle.td_values.specs.declared.error.WriteRule.TheVariants as rule
 use Rattle.td_values.specs.declared.error.WriteError.{WriteError}
 use Rattle.td_values.specs.declared.error.WriteError.TheVariants.{Shape, Range, Broken, Size, Long, NoMemory}
@@ -21,8 +21,8 @@ use Rattle.td_values.specs.Writing.{Written, Refused, writing, whole}
 pub record IsWritable (m : Module) : Type 0 where
   -- levels are in scope, and earlier definitions are named with arguments and cells that match
   pub formed : IsModuleFormed m
-  -- nothing is copied, as the writer has no copies yet
-  pub copyless : IsCopyless m
+  -- what is copied is bytes, and its buffer is the definition's
+  pub copying : IsCopying m
   -- no element of a byte-sized array may be empty, and what takes the rest stands last
   pub kinds : kind_faults m ≡ []
   -- each operator is safe under the facts at its place
@@ -49,7 +49,7 @@ IsRefusal w Long = (path : List ℕ) × (w ≡ Refused rule.Long path)
 IsRefusal w NoMemory = Unit {0}
 
 abbrev pub IsCause : Module → Entry → List ℕ → List ℕ → Datum → WriteError → Type 0
-IsCause m entry args cells v error = IsRefusal (writing whole m entry args cells v) error
+IsCause m entry args cells v error = IsRefusal (writing whole m entry args (opened m entry cells) v) error
 
 -- a fact for each error but want of memory
 abbrev pub Unless : WriteError → Type 0 → Type 0

@@ -5,6 +5,7 @@
 
 mod bodies;
 mod bytes;
+mod copies;
 mod halt;
 mod leaves;
 mod numbers;

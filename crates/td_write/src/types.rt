@@ -2,11 +2,12 @@
 
 ghost use Rattle.std.specs.Prelude.{◌≡◌, ◌≤◌, length, drop, IfOk, IfErr};
 ghost use Rattle.td_values.specs.Bytes.{unit_type};
-ghost use Rattle.td_values.specs.Writing.{Later, parts_written, unit_then, element_bytes, element_written, items_written, contents_written, shape_written, field_written, fields_written, listed_written, in_machine};
+ghost use Rattle.td_values.specs.Writing.{Later, parts_written, unit_then, element_bytes, element_written, items_written, contents_written, shape_written, copied, field_written, fields_written, listed_written, in_machine};
 ghost use Rattle.td_values.specs.declared.limits.TheConstants.{MOST_WRITTEN};
 ghost use Rattle.td_write.specs.Writes.{below, Wrote, GoesOn, Halts};
 
 use crate::bodies::written_fields;
+use crate::copies::note_copy;
 use crate::halt::Halt;
 use crate::leaves::{
     is_listed, write_bytes, write_number, write_unit, write_zero_ended, write_zeros,
@@ -193,12 +194,11 @@ fn one_field(
             let value = &values[index];
             let start = out.len() as u32;
             path.push(index)?;
-            match shape(
+            match content(
                 alloc,
                 m,
                 bound,
-                &field.element,
-                &field.extent,
+                field,
                 value,
                 env.as_slice(),
                 places,
@@ -229,6 +229,49 @@ fn one_field(
             Ok(index + 1)
         }
     }
+}
+
+/// What stands in a field that isn't a unit; where it is copied, its place and its number of bytes are noted.
+#[cycle(types)]
+fn content(
+    alloc: Global,
+    m: &Module,
+    bound: usize,
+    field: &Field,
+    value: &Value,
+    env: &[u64],
+    places: &[usize],
+    path: &mut Vec<usize>,
+    cells: &mut [u64],
+    out: &mut Vec<u8>,
+) -> Result<(), Halt>
+    requires { length out.old.items ≤ MOST_WRITTEN }
+    ensures ok { IfOk result (λ _. Wrote
+        (copied field.now.copy places.now (length out.old.items) (shape_written in_machine m.now.listed (below m.now bound) field.now.element field.now.extent env.now places.now path.old.items (length out.old.items) cells.old value.now))
+        out.old.items out.new.items path.old.items path.new.items cells.new) }
+    ensures err { IfErr result (λ h. Halts h path.new.items
+        (copied field.now.copy places.now (length out.old.items) (shape_written in_machine m.now.listed (below m.now bound) field.now.element field.now.extent env.now places.now path.old.items (length out.old.items) cells.old value.now))) }
+{
+    let start = out.len();
+    match shape(
+        alloc,
+        m,
+        bound,
+        &field.element,
+        &field.extent,
+        value,
+        env,
+        places,
+        path,
+        cells,
+        out,
+    ) {
+        Ok(_) => {}
+        Err(halt) => return Err(halt),
+    }
+    let count = out.len() - start;
+    note_copy(&field.copy, places, start, count, cells);
+    Ok(())
 }
 
 /// An element, or an array of them.

@@ -7,13 +7,15 @@ ghost use Rattle.td_values.specs.Writing.{Written, Refused};
 ghost use Rattle.td_write.specs.Writes.{Halts};
 ghost use Rattle.td_write.specs.Answers.{IsWritable, IsAppended, IsRefusal, IsCause, IsNowhere, Unless};
 
+use crate::copies::accepted_with;
 use crate::halt::Halt;
 use crate::types::named;
 use std::alloc::Global;
 use td_core::module::{Entry, Module};
-use td_core::outcome::{Outcome, Reason, Verdict};
+use td_core::outcome::{Outcome, Reason};
 use td_meaning::parameters::places_below;
 use td_num::items::Items;
+use td_plain::meaning::opened;
 use td_ranged::laws::writing_is_in_range;
 use td_spelled::laws::{kinds_are_admitted, writing_is_exact};
 use td_values::error::{WriteError, WriteRule};
@@ -66,10 +68,10 @@ pub fn write_value(
     writing_is_exact();
     kinds_are_admitted();
     writing_is_in_range();
-    let mut left = Vec::from_slice(alloc, cells)?;
+    let mut left = opened(alloc, m, entry, cells)?;
     let mut path = Vec::new(alloc);
     let mut written = Vec::new(alloc);
-    let places = places_below(alloc, cells.len())?;
+    let places = places_below(alloc, left.len())?;
     let Some(place) = m.entries.as_slice().get(entry.number as usize) else {
         return Err(broken(WriteRule::Broken(Reason::Impossible), path));
     };
@@ -86,15 +88,9 @@ pub fn write_value(
         &mut written,
     ) {
         Ok(()) => {
+            let answer = accepted_with(alloc, written.as_slice(), left, cells.len())?;
             out.extend_from_slice(written.as_slice())?;
-            Ok(Outcome {
-                verdict: Verdict::Accept {
-                    pos: written.len() as u32,
-                },
-                trace: Items::new(alloc),
-                cells: Items::of(left),
-                copies: Items::new(alloc),
-            })
+            Ok(answer)
         }
         Err(halt) => Err(stopped(halt, path)),
     }

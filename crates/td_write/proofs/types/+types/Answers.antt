@@ -10,13 +10,13 @@ use Rattle.td_values.specs.Datum.{Datum, Sequence, Empty, data_of}
 use Rattle.td_values.specs.DatumView.{datum_at}
 use Rattle.td_values.specs.Bytes.{unit_type, is_byte}
 use Rattle.td_values.specs.Spelling.{number_in}
-use Rattle.td_values.specs.Writing.{Later, Done, Refused, after_writing, tested, element_written, items_written, shape_written, field_written, fields_written, body_written, listed_written, writers_below, in_machine}
+use Rattle.td_values.specs.Writing.{Later, Done, Refused, after_writing, tested, element_written, items_written, shape_written, noted, copied, field_written, fields_written, body_written, listed_written, writers_below, in_machine}
 use Rattle.td_meaning.specs.Meaning.{extended}
 use Rattle.td_meaning.specs.Machine as machine
 use Rattle.td_write.specs.Writes.{Wrote, Halts, Passes}
 use Rattle.td_write.specs.declared.halt.Halt.TheVariants as halt
 use Rattle.td_write.proofs.Definitions.{data_back, writers_past, named_by, contents_are, fields_next, fields_end, fields_left, whole_total}
-use Rattle.td_write.proofs.Totals.{one_more, one_empty, all_written, halts_total, halts_items, halts_at}
+use Rattle.td_write.proofs.Totals.{copied_total, copied_halts, one_more, one_empty, all_written, halts_total, halts_items, halts_at}
 use Rattle.td_write.proofs.Listed.{popped}
 use Rattle.td_write.proofs.types.+types.Goals as goal
 
@@ -175,22 +175,40 @@ one_field-returns-in-Ok-test_parts-clause-ok t c = λ later.
     let none : unit_type f.element f.extent ≡ None = sym c.unit_type.ensures ∙ c.in-None.is in
     let at : c.push.new.self.items ≡ a.path.now.items ++ a.index ∷ [] = search rules in
     let p : ℕ = length a.out.now.items in
-    let new : List ℕ = c.shape.new.out.items in
+    let new : List ℕ = c.content.new.out.items in
     let own = c.in-Ok.ensures.ok in
     let scope : a.env.now.items ≡ c.as_slice.result.now = sym c.as_slice.ensures.value in
-    let shape : after_writing a.out.now.items (shape_written in_machine sets writers f.element f.extent a.env.now.items a.places.now (a.path.now.items ++ a.index ∷ []) p a.cells.now v) ≡ Done new c.shape.new.cells =
-    (λ k. after_writing a.out.now.items (shape_written in_machine sets writers f.element f.extent (scope k) a.places.now (sym at k) p a.cells.now v)) ∙ own.total in
+    let shape : after_writing a.out.now.items (copied f.copy a.places.now p (shape_written in_machine sets writers f.element f.extent a.env.now.items a.places.now (a.path.now.items ++ a.index ∷ []) p a.cells.now v)) ≡ Done new c.content.new.cells =
+    (λ k. after_writing a.out.now.items (copied f.copy a.places.now p (shape_written in_machine sets writers f.element f.extent (scope k) a.places.now (sym at k) p a.cells.now v))) ∙ own.total in
     let from : p ≡ c.len-start.result = sym (c.len-start.ensures ∙ a.out.now.ok.0) in
-    let to : length new ≡ c.len-pos.result = sym (c.len-pos.ensures ∙ c.shape.new.out.ok.0) in
+    let to : length new ≡ c.len-pos.result = sym (c.len-pos.ensures ∙ c.content.new.out.ok.0) in
     let number : number_in f.element f.extent v ≡ c.number_in-number.result = sym c.number_in-number.ensures in
     let parts : f.parts ≡ c.as_slice-in-None.result.now = sym c.as_slice-in-None.ensures in
-    let passes : Passes (machine.parts_meaning a.ty p (number_in f.element f.extent v) f.parts a.env.now.items a.places.now (length new) c.shape.new.cells).ending c.test_parts.new.cells = λ path go.
-    (λ k. tested (machine.parts_meaning a.ty (from k) (number k) (parts k) a.env.now.items a.places.now (to k) c.shape.new.cells).ending path go) ∙ c.in-Ok-test_parts.ensures.ok path go in
+    let passes : Passes (machine.parts_meaning a.ty p (number_in f.element f.extent v) f.parts a.env.now.items a.places.now (length new) c.content.new.cells).ending c.test_parts.new.cells = λ path go.
+    (λ k. tested (machine.parts_meaning a.ty (from k) (number k) (parts k) a.env.now.items a.places.now (to k) c.content.new.cells).ending path go) ∙ c.in-Ok-test_parts.ensures.ok path go in
     let after : extended a.env.now.items (number_in f.element f.extent v) f.parts ≡ c.test_parts.new.env.items = (λ k. extended a.env.now.items (number k) (parts k)) ∙ sym c.in-Ok-test_parts.ensures.scope in
     record {
-      total = whole_total in_machine sets writers a.ty a.places.now a.path.now.items (unit_type f.element f.extent) f a.env.now.items a.index a.cells.now (drop a.index vs) (drop (a.index + 1) vs) v a.out.now.items new c.shape.new.cells c.test_parts.new.cells later none split shape passes
+      total = whole_total in_machine sets writers a.ty a.places.now a.path.now.items (unit_type f.element f.extent) f a.env.now.items a.index a.cells.now (drop a.index vs) (drop (a.index + 1) vs) v a.out.now.items new c.content.new.cells c.test_parts.new.cells later none split shape passes
           ∙ (λ k. after_writing new (later (after k) (a.index + 1) (length new) c.test_parts.new.cells (drop (a.index + 1) vs)));
     }
+
+pub content-returns-clause-ok : goal.content-returns-clause-ok
+content-returns-clause-ok t c =
+    let a = c.args in
+    let f : Field = a.field.now in
+    let own = c.in-Ok.ensures.ok in
+    let from : length a.out.now.items ≡ c.len-start.result = sym (c.len-start.ensures ∙ a.out.now.ok.0) in
+    let size : length c.shape.new.out.items - length a.out.now.items ≡ c.len.result - c.len-start.result = omega (arith, from, c.len.ensures, c.shape.new.out.ok.0) in
+    record {
+      total = copied_total f.copy a.places.now a.out.now.items c.shape.new.out.items c.shape.new.cells c.note_copy.new.cells _ own.total
+          (c.note_copy.ensures ∙ (λ k. noted f.copy a.places.now (sym from k) (sym size k) c.shape.new.cells));
+      room = own.room;
+      back = own.back;
+    }
+
+pub content-returns-in-Err-clause-err : goal.content-returns-in-Err-clause-err
+content-returns-in-Err-clause-err t c =
+    copied_halts c.in-Err.halt c.shape.new.path.items c.args.field.now.copy c.args.places.now (length c.args.out.now.items) _ c.in-Err.ensures.err
 
 -- Arrays
 

@@ -21,14 +21,17 @@ decreases-contents l = 20 * l.bound + 4
 abbrev pub decreases-shape : goal.decreases-shape
 decreases-shape l = 20 * l.bound + 5
 
+abbrev pub decreases-content : goal.decreases-content
+decreases-content l = 20 * l.bound + 6
+
 abbrev pub decreases-one_field : goal.decreases-one_field
-decreases-one_field l = 20 * l.bound + 6
+decreases-one_field l = 20 * l.bound + 7
 
 abbrev pub decreases-counted : goal.decreases-counted
-decreases-counted l = 20 * l.bound + 7
+decreases-counted l = 20 * l.bound + 8
 
 abbrev pub decreases-defined : goal.decreases-defined
-decreases-defined l = 20 * l.bound + 8
+decreases-defined l = 20 * l.bound + 9
 
 -- what is left of the fields decides the whole
 abbrev pub invariant-counted-loop-field : goal.invariant-counted-loop-field

@@ -1,4 +1,4 @@
-use Rattle.std.proofs.Common.{rules, ◌≡◌, ◌+◌, [], ◌++◌, length, take, drop, sym, ap, ◌∙◌, subst, arith, Some, None}
+use Rattle.std.proofs.Common.{rules, ◌≡◌, ◌+◌, ℕ, List, [], ◌++◌, length, take, drop, sym, ap, ◌∙◌, subst, arith, Some, None}
 use Rattle.std.proofs.lemmas.Option.{gets}
 use Rattle.std.proofs.lemmas.Grind.{common_steps}
 use Rattle.std.specs.Prelude.{slice_get}
@@ -6,6 +6,8 @@ use Rattle.td_num.specs.Numbers.{places_from}
 use Rattle.std.proofs.Math.Seq.{take-append_seam}
 use Rattle.td_core.specs.declared.outcome.Reason.TheVariants.{Impossible}
 use Rattle.td_core.specs.declared.outcome.Verdict.TheVariants.{Accept}
+use Rattle.td_core.specs.Outcome.{copies_by}
+use Rattle.td_meaning.specs.Copies.{opened}
 use Rattle.td_values.specs.declared.error.WriteRule.TheVariants.{Broken}
 use Rattle.td_values.specs.Writing.{Done, Refused, after_writing, writers_below, writing, in_machine, whole}
 use Rattle.td_write.specs.Answers.{IsRefusal}
@@ -19,8 +21,8 @@ returns-in_default-clause-cause c =
     let a = c.args in
     let missing : slice_get a.m.now.entries a.entry.number ≡ None = grind (arith, common_steps, gets) in
     let path : c.new-path.result.items ≡ [] = search rules in
-    let w : Refused (Broken Impossible) c.new-path.result.items ≡ writing whole a.m.now a.entry a.args.now a.cells.now a.value.now =
-    ap (Refused (Broken Impossible)) path ∙ sym (no_entry a.m.now a.entry a.args.now a.cells.now a.value.now whole missing) in
+    let w : Refused (Broken Impossible) c.new-path.result.items ≡ writing whole a.m.now a.entry a.args.now (opened a.m.now a.entry a.cells.now) a.value.now =
+    ap (Refused (Broken Impossible)) path ∙ sym (no_entry a.m.now a.entry a.args.now (opened a.m.now a.entry a.cells.now) a.value.now whole missing) in
     subst (λ w. IsRefusal w c.broken.result) w c.broken.ensures
 
 pub returns-in_default-clause-none : goal.returns-in_default-clause-none
@@ -32,44 +34,50 @@ pub returns-in_ok-extend_from_slice-in-Ok-clause-ok : goal.returns-in_ok-extend_
 returns-in_ok-extend_from_slice-in-Ok-clause-ok c =
     let a = c.args in
     let m = a.m.now in
+    let n = length a.cells.now in
+    let all : List ℕ = opened m a.entry a.cells.now in
     let there : slice_get m.entries a.entry.number ≡ Some c.in-Some.place.now = grind (arith, common_steps, gets) in
-    let places : c.as_slice-2.result.now ≡ places_from 0 (length a.cells.now) = search rules in
-    let bound : c.len.result ≡ length m.definitions = search rules in
+    let size : c.len.result ≡ length all = c.len.ensures ∙ c.in_ok-left.left.ok.0 ∙ ap length c.in_ok-left.ensures in
+    let places : c.as_slice-2.result.now ≡ places_from 0 (length all) = c.as_slice-2.ensures.value ∙ c.in_ok-places.ensures.ok ∙ ap (places_from 0) size in
+    let bound : c.len-2.result ≡ length m.definitions = search rules in
     let path : c.new-path.result.items ≡ [] = search rules in
     let none : c.new-written.result.items ≡ [] = search rules in
-    let left : c.as_mut_slice.result.now ≡ a.cells.now = search rules in
+    let left : c.as_mut_slice.result.now ≡ all = c.as_mut_slice.ensures.value ∙ c.in_ok-left.ensures in
+    let bytes : List ℕ = c.named.new.out.items in
+    let last : List ℕ = c.named.new.cells in
     let named = c.in-Ok.ensures.ok in
-    let w = writing in_machine m a.entry a.args.now a.cells.now a.value.now in
-    let total : w ≡ Done c.named.new.out.items c.named.new.cells =
-    whole_done w c.named.new.out.items c.named.new.cells
-    ((λ k. after_writing (sym none k) ((writing_at m a.entry a.args.now a.cells.now a.value.now in_machine c.in-Some.place.now there
+    let w = writing in_machine m a.entry a.args.now all a.value.now in
+    let total : w ≡ Done bytes last =
+    whole_done w bytes last
+    ((λ k. after_writing (sym none k) ((writing_at m a.entry a.args.now all a.value.now in_machine c.in-Some.place.now there
     ∙ (λ j. writers_below in_machine m.listed m.definitions (sym bound j) c.in-Some.place.now a.args.now (sym places j) (sym left j) (sym path j) (length (sym none j)) a.value.now)) k))
     ∙ named.total) in
     let same = same_writing m a.entry a.args.now a.cells.now a.value.now c.writing_is_in_range.ensures c.requires.writable c.requires.args c.requires.cells in
-    let grown : c.extend_from_slice.new.self.items ≡ a.out.now.items ++ c.named.new.out.items = search rules in
-    let long : c.len-in-Ok.result ≡ length c.named.new.out.items = c.len-in-Ok.ensures ∙ c.named.new.out.ok.0 in
-    let trace : c.new.result ≡ [] = search rules in
-    let copies : c.new-in-Ok.result ≡ [] = search rules in
-    let count : c.in_ok-left.left.len ≡ length c.named.new.cells = omega (arith, c.named.auto.cells, c.as_mut_slice.ensures.len) in
-    let last : c.of.result ≡ c.named.new.cells = c.of.ensures ∙ ap (λ n. take n (c.named.new.cells ++ drop (length c.named.new.cells) c.in_ok-left.left.items)) count ∙ take-append_seam c.named.new.cells (drop (length c.named.new.cells) c.in_ok-left.left.items) in
-    appended m a.entry a.args.now a.cells.now a.value.now c.writing_is_exact.ensures c.kinds_are_admitted.ensures c.requires.writable c.named.new.out.items c.named.new.cells a.out.now.items c.extend_from_slice.new.self.items _ (sym same ∙ total) (c.named.auto.cells ∙ ap length left) grown
-    (λ k. record { verdict = Accept (long k); trace = trace k; cells = last k; copies = copies k })
+    let grown : c.extend_from_slice.new.self.items ≡ a.out.now.items ++ bytes = search rules in
+    let text : c.as_slice-in-Ok.result.now ≡ bytes = c.as_slice-in-Ok.ensures.value in
+    let behind : List ℕ = drop (length last) c.in_ok-left.left.items in
+    let count : c.in_ok-left.left.len ≡ length last = omega (arith, c.named.auto.cells, c.as_mut_slice.ensures.len) in
+    let back : take c.in_ok-left.left.len (last ++ behind) ≡ last = ap (λ k. take k (last ++ behind)) count ∙ take-append_seam last behind in
+    appended m a.entry a.args.now a.cells.now a.value.now c.writing_is_exact.ensures c.kinds_are_admitted.ensures c.requires.writable bytes last a.out.now.items c.extend_from_slice.new.self.items c.in_ok-answer-in-Ok.answer (sym same ∙ total) grown
+    (c.in_ok-answer-in-Ok.ensures ∙ (λ k. record { verdict = Accept (length (text k)); trace = []; cells = take n (back k); copies = copies_by (text k) (drop n (back k)) }))
 
 pub returns-in-Err-clause-cause : goal.returns-in-Err-clause-cause
 returns-in-Err-clause-cause c =
     let a = c.args in
     let m = a.m.now in
+    let all : List ℕ = opened m a.entry a.cells.now in
     let there : slice_get m.entries a.entry.number ≡ Some c.in-Some.place.now = grind (arith, common_steps, gets) in
-    let places : c.as_slice-2.result.now ≡ places_from 0 (length a.cells.now) = search rules in
-    let bound : c.len.result ≡ length m.definitions = search rules in
+    let size : c.len.result ≡ length all = c.len.ensures ∙ c.in_ok-left.left.ok.0 ∙ ap length c.in_ok-left.ensures in
+    let places : c.as_slice-2.result.now ≡ places_from 0 (length all) = c.as_slice-2.ensures.value ∙ c.in_ok-places.ensures.ok ∙ ap (places_from 0) size in
+    let bound : c.len-2.result ≡ length m.definitions = search rules in
     let path : c.new-path.result.items ≡ [] = search rules in
     let none : c.new-written.result.items ≡ [] = search rules in
-    let left : c.as_mut_slice.result.now ≡ a.cells.now = search rules in
-    let by_place : writing in_machine m a.entry a.args.now a.cells.now a.value.now ≡ writers_below in_machine m.listed m.definitions c.len.result c.in-Some.place.now a.args.now c.as_slice-2.result.now c.as_mut_slice.result.now c.new-path.result.items (length c.new-written.result.items) a.value.now =
-    writing_at m a.entry a.args.now a.cells.now a.value.now in_machine c.in-Some.place.now there
+    let left : c.as_mut_slice.result.now ≡ all = c.as_mut_slice.ensures.value ∙ c.in_ok-left.ensures in
+    let by_place : writing in_machine m a.entry a.args.now all a.value.now ≡ writers_below in_machine m.listed m.definitions c.len-2.result c.in-Some.place.now a.args.now c.as_slice-2.result.now c.as_mut_slice.result.now c.new-path.result.items (length c.new-written.result.items) a.value.now =
+    writing_at m a.entry a.args.now all a.value.now in_machine c.in-Some.place.now there
     ∙ (λ j. writers_below in_machine m.listed m.definitions (sym bound j) c.in-Some.place.now a.args.now (sym places j) (sym left j) (sym path j) (length (sym none j)) a.value.now) in
     let same = same_writing m a.entry a.args.now a.cells.now a.value.now c.writing_is_in_range.ensures c.requires.writable c.requires.args c.requires.cells in
-    c.stopped.ensures (writing whole m a.entry a.args.now a.cells.now a.value.now)
+    c.stopped.ensures (writing whole m a.entry a.args.now all a.value.now)
     (subst (Halts c.in-Err.halt c.named.new.path.items) (sym by_place ∙ same) c.in-Err.ensures.err)
 
 pub returns-in-Err-clause-none : goal.returns-in-Err-clause-none
