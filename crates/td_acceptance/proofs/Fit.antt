@@ -6,13 +6,14 @@ use Rattle.td_core.specs.declared.module.Element.TheVariants.{Number, Listed, Na
 use Rattle.td_core.specs.declared.module.Extent.{Extent}
 use Rattle.td_core.specs.declared.module.Extent.TheVariants.{Filling}
 use Rattle.td_core.specs.declared.module.Bits.{Bits}
+use Rattle.td_core.specs.declared.module.CopyOut.{CopyOut}
 use Rattle.td_core.specs.declared.module.Field.{Field}
 use Rattle.td_core.specs.declared.module.Case.{Case}
 use Rattle.td_core.specs.declared.module.Body.{Body}
 use Rattle.td_core.specs.declared.module.Body.TheVariants.{Struct, Casetype}
 use Rattle.td_ir.specs.declared.tables.Parts.{Parts}
-use Rattle.td_ir.specs.Tables.{routine_of, map_of}
-use Rattle.td_verify.specs.Operands.{AreBelow}
+use Rattle.td_ir.specs.Tables.{routine_of}
+use Rattle.td_verify.specs.Operands.{IsCellMap}
 use Rattle.td_blocks.specs.Lowered.{parts_in}
 use Rattle.td_blocks.specs.Tops.{parts_cells}
 
@@ -22,12 +23,12 @@ BitsFit None = Unit {0}
 BitsFit (Some b) = (b.low + b.width ≤ 64) × (1 ≤ b.width)
 
 module _ (c : Parts) (depth : ℕ → ℕ) (busy : ℕ → Bool) (n : ℕ) where
-  -- a type that is named in routine n is less deep, and its cell map leads from its cells to this routine's; an enum has a set
+  -- a type that is named in routine n is less deep, and its cell map leads from its cells and buffers to this routine's; an enum has a set
   abbrev pub ElementFits : ℕ → Element → Type 0
   ElementFits site (Number type) = Unit {0}
   ElementFits site (Listed base v) = v < length c.sets
   ElementFits site (Named d args own) =
-      (depth d + 1 ≤ depth n) × ((map_of c site ≡ own) × ((length own ≡ (routine_of c d).cells) × AreBelow (routine_of c n).cells own))
+      (depth d + 1 ≤ depth n) × (site < length c.maps → IsCellMap c n d site)
   ElementFits site UnitElement = Unit {0}
   ElementFits site Rest = Unit {0}
   ElementFits site Zeros = Unit {0}
@@ -37,9 +38,15 @@ module _ (c : Parts) (depth : ℕ → ℕ) (busy : ℕ → Bool) (n : ℕ) where
   ArrayFits (Named d args own) (Filling size step) = busy d ≡ true
   ArrayFits element extent = Unit {0}
 
+  -- what is copied goes to one of the routine's buffers
+  abbrev pub CopyFits : Option CopyOut → Type 0
+  CopyFits None = Unit {0}
+  CopyFits (Some w) = w.buffer < length (routine_of c n).buffers
+
   pub record FieldFits (site : ℕ) (f : Field) : Type 0 where
     pub element : ElementFits site f.element
     pub array : ArrayFits f.element f.extent
+    pub copy : CopyFits f.copy
     pub cells : parts_cells f.parts ≤ (routine_of c n).cells
     pub bits : Each (λ p. BitsFit p.bits) f.parts
 

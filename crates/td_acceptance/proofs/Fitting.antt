@@ -1,14 +1,16 @@
 -- What the tables have for a checked module's fields.
-use Rattle.std.proofs.Common.{◌≡◌, ℕ, zero, suc, ◌+◌, ◌*◌, ◌<◌, ◌≤◌, max, List, [], ◌∷◌, ◌++◌, Bool, true, false, ◌&&◌, nat_eq, nat_lt, length, slice_get, Option, Some, None, refl, sym, subst, ◌∙◌, arith}
+use Rattle.std.proofs.Common.{◌≡◌, ℕ, zero, suc, ◌+◌, ◌*◌, ◌<◌, ◌≤◌, max, List, [], ◌∷◌, ◌++◌, Bool, true, false, ◌&&◌, nat_eq, nat_lt, length, slice_get, Option, Some, None, refl, sym, ap, subst, ◌∙◌, arith}
+use Rattle.std.proofs.lemmas.List.{length-map}
+use Rattle.std.proofs.lemmas.Option.{slice_get_within}
 use Rattle.std.proofs.lemmas.Bool.Decides.{nat_tests}
 use Rattle.td_num.specs.Numbers.{bytes_in}
 use Rattle.td_num.specs.declared.number.Width.{Width}
 use Rattle.td_num.specs.declared.number.Width.TheVariants.{One, Two, Four, Eight}
 use Rattle.td_num.specs.Lists.{Each}
 use Rattle.td_core.specs.declared.module.NameId.{NameId}
-use Rattle.td_core.specs.declared.expressions.Scalar.{Scalar}
 use Rattle.td_core.specs.Term.{Deed, done, set, keep, fork, answer, give_up}
-use Rattle.td_core.specs.Formed.{Bound, Takes, IsDeedFormed, IsActionFormed, ArePartsFormed, part_bound, parts_scope, AreCellsFormed, own_at, IsElementFormed, AreFieldsFormed, AreCasesFormed, IsDefaultFormed, IsBodyFormed, given}
+use Rattle.td_core.specs.Formed.{Bound, parts_scope, AreCellsFormed, own_bounds, own_at, IsElementFormed, AreFieldsFormed, AreCasesFormed, IsDefaultFormed, IsBodyFormed}
+use Rattle.td_core.specs.Copies.{IsCopyWhole, AreOwnGiven, IsElementGiven, NamesCells, IsFieldCopying}
 use Rattle.td_core.specs.WellFormed.{OfSome, EachField, HasParts, AreBitsOf, AreParts, AreFieldParts, IsEnumThere, IsFieldWhole}
 use Rattle.td_core.specs.Weights.{of_named, fields_depth, default_depth, cases_depth, body_depth}
 use Rattle.td_core.specs.declared.kind.Kind.{Kind}
@@ -17,6 +19,7 @@ use Rattle.td_core.specs.declared.module.Element.TheVariants.{Number as NumberEl
 use Rattle.td_core.specs.declared.module.Extent.{Extent}
 use Rattle.td_core.specs.declared.module.Extent.TheVariants.{Once, Filling, OnceFilling, UpToZero}
 use Rattle.td_core.specs.declared.module.Bits.{Bits}
+use Rattle.td_core.specs.declared.module.CopyOut.{CopyOut}
 use Rattle.td_core.specs.declared.module.Part.{Part}
 use Rattle.td_core.specs.declared.module.Field.{Field}
 use Rattle.td_core.specs.declared.module.Case.{Case}
@@ -29,48 +32,39 @@ use Rattle.td_kinds.specs.Kinds.{element_kind}
 use Rattle.td_kinds.specs.KindRules.{is_filled, fault_if, is_empty, field_faults, fields_faults, cases_faults, default_faults, body_faults}
 use Rattle.td_ir.specs.declared.tables.Parts.{Parts}
 use Rattle.td_ir.specs.Tables.{routine_of}
-use Rattle.td_verify.specs.Operands.{AreBelow}
 use Rattle.td_blocks.specs.Lowered.{parts_in}
 use Rattle.td_blocks.specs.Tabled.{Mapped, FieldsSited, DefaultSited, CasesSited, BodySited}
 use Rattle.td_blocks.specs.Tops.{deed_cells, option_cells, parts_cells}
-use Rattle.td_acceptance.proofs.Fit.{BitsFit, ElementFits, ArrayFits, FieldsFit, DefaultFits, CasesFit, BodyFits}
-use Rattle.td_core.proofs.Found.{cells_mapped as owned}
+use Rattle.td_acceptance.proofs.Fit.{BitsFit, ElementFits, ArrayFits, CopyFits, FieldsFit, DefaultFits, CasesFit, BodyFits}
+use Rattle.td_blocks.specs.Laid.{rooms}
+use Rattle.td_acceptance.proofs.Maps.{own_length, is_map}
+use Rattle.td_core.proofs.Found.{cells_mapped}
 
--- cells that are named are there
-taken : (cells : List Bound) (k : ℕ) (w : Scalar) → Takes (slice_get cells k) w → k < length cells
-taken [] k w h = absurd h
-taken (b ∷ bs) zero w h = omega arith
-taken (b ∷ bs) (suc k) w h = let x = taken bs k w h in omega (arith, x)
+-- cells that actions name
+deed_low : (n : ℕ) (d : Deed) → NamesCells n d → deed_cells d ≤ n
+deed_low n done h = omega arith
+deed_low n (set cell e then) h = let x = h.0 in let y = deed_low n then h.1 in omega (arith, x, y)
+deed_low n (keep cell then) h = let x = h.0 in let y = deed_low n then h.1 in omega (arith, x, y)
+deed_low n (fork e one other then) h = let x = deed_low n one h.0 in let y = deed_low n other h.1.0 in let z = deed_low n then h.1.1 in omega (arith, x, y, z)
+deed_low n (answer e) h = omega arith
+deed_low n give_up h = omega arith
 
-there : (cells : List Bound) (k : ℕ) (b : Bound) → slice_get cells k ≡ Some b → k < length cells
-there [] k b h = absurd (cc)
-there (x ∷ xs) zero b h = omega arith
-there (x ∷ xs) (suc k) b h = let y = there xs k b h in omega (arith, y)
+action_low : (n : ℕ) (o : Option Deed) → OfSome (NamesCells n) o → option_cells o ≤ n
+action_low n None h = omega arith
+action_low n (Some d) h = deed_low n d h
 
-deed_within : (cells scope : List Bound) (d : Deed) → IsDeedFormed cells scope d → deed_cells d ≤ length cells
-deed_within cells scope done h = omega arith
-deed_within cells scope (set cell e then) h = let x = taken cells cell _ h.1.0 in let y = deed_within cells scope then h.1.1 in omega (arith, x, y)
-deed_within cells scope (keep cell then) h = let x = h.0 in let y = deed_within cells (given scope (slice_get cells cell)) then h.1 in omega (arith, x, y)
-deed_within cells scope (fork e one other then) h =
-    let x = deed_within cells scope one h.1.0 in let y = deed_within cells scope other h.1.1.0 in let z = deed_within cells scope then h.1.1.1 in omega (arith, x, y, z)
-deed_within cells scope (answer e) h = omega arith
-deed_within cells scope give_up h = omega arith
+pub parts_low : (n : ℕ) (ps : List Part) → Each (λ p. OfSome (NamesCells n) p.action) ps → parts_cells ps ≤ n
+parts_low n [] h = omega arith
+parts_low n (p ∷ ps) h = let x = action_low n p.action h.0 in let y = parts_low n ps h.1 in omega (arith, x, y)
 
-action_within : (cells scope : List Bound) (o : Option Deed) → IsActionFormed cells scope o → option_cells o ≤ length cells
-action_within cells scope None h = omega arith
-action_within cells scope (Some d) h = deed_within cells _ d h
-
-pub parts_within : (cells : List Bound) (element : Element) (extent : Extent) (scope : List Bound) (ps : List Part) → ArePartsFormed cells element extent scope ps → parts_cells ps ≤ length cells
-parts_within cells element extent scope [] h = omega arith
-parts_within cells element extent scope (p ∷ ps) h =
-    let x = action_within cells _ p.action h.1.0 in let y = parts_within cells element extent (scope ++ part_bound element extent p.bits ∷ []) ps h.1.1 in omega (arith, x, y)
-
-own_below : (cells cs : List Bound) (own : List ℕ) → AreCellsFormed cells cs own → AreBelow (length cells) own
-own_below cells [] [] h j l = absurd (omega (arith, l))
-own_below cells [] (k ∷ ks) h j l = absurd h
-own_below cells (b ∷ bs) [] h j l = absurd h
-own_below cells (b ∷ bs) (k ∷ ks) h zero l = there cells k b h.0
-own_below cells (b ∷ bs) (k ∷ ks) h (suc j) l = own_below cells bs ks h.1 j (omega (arith, l))
+-- the buffer that a field is copied to
+pub buffer_low : (d : TypeDef) (f : Field) (w : CopyOut) → IsCopyWhole d f w → w.buffer < length d.buffers
+buffer_low d f w h =
+    let b = h.buffer in
+    let few = slice_get_within d.buffers b.number b.buffer b.there in
+    let x = b.cell_is in
+    let y = h.number in
+    omega (arith, few, x, y)
 
 -- bits of a number
 small : (w : Width) → 8 * bytes_in w ≤ 64
@@ -132,20 +126,29 @@ more_than_none : (k : ℕ) → (true && nat_eq k 0) ≡ false → nat_lt 0 k ≡
 more_than_none zero h = absurd (cc)
 more_than_none (suc k) h = grind (arith, nat_tests)
 
-module _ (c : Parts) (depth : ℕ → ℕ) (n : ℕ) (ds : List TypeDef) (count : ℕ) (E : ℕ → ℕ) (kinds : ℕ → Kind) (cells : List Bound)
-    (own_cells : length cells ≡ (routine_of c n).cells) (their_cells : (j : ℕ) → j < n → length (own_at (slice_get ds j)) ≡ (routine_of c j).cells)
+module _ (c : Parts) (depth : ℕ → ℕ) (n : ℕ) (ds : List TypeDef) (d : TypeDef) (count : ℕ) (E : ℕ → ℕ) (kinds : ℕ → Kind)
+    (cells : (routine_of c n).cells ≡ length d.cells) (buffers : (routine_of c n).buffers ≡ rooms d.buffers)
+    (theirs : (j : ℕ) → j < n → (e : TypeDef) × ((slice_get ds j ≡ Some e) × (((routine_of c j).cells ≡ length e.cells) × ((routine_of c j).buffers ≡ rooms e.buffers))))
     (sets : count ≤ length c.sets) (deeper : (j : ℕ) → j < n → depth j ≤ E j) where
-  element_fits : (site : ℕ) (scope : List Bound) (element : Element) → IsElementFormed ds n cells scope element → IsEnumThere count element → Mapped c site element → of_named E element + 1 ≤ depth n
+  element_fits : (site : ℕ) (scope : List Bound) (element : Element) → IsElementFormed ds n (own_bounds d) scope element → IsElementGiven ds d element → IsEnumThere count element → Mapped c n site element → of_named E element + 1 ≤ depth n
       → ElementFits c depth (λ j. nat_lt 0 (kinds j).least) n site element
-  element_fits site scope (NumberElement type) h l s d = tt
-  element_fits site scope (ListedElement base v) h l s d = omega (arith, l, sets)
-  element_fits site scope (NamedElement j args own) h l s d = (
-    (let x = deeper j h.0 in omega (arith, x, d)),
-    (s, (owned cells (own_at (slice_get ds j)) own h.1.1 ∙ their_cells j h.0, subst (λ x. AreBelow x own) own_cells (own_below cells (own_at (slice_get ds j)) own h.1.1))),
-  )
-  element_fits site scope UnitElement h l s d = tt
-  element_fits site scope Rest h l s d = tt
-  element_fits site scope Zeros h l s d = tt
+  element_fits site scope (NumberElement type) h g l s k = tt
+  element_fits site scope (ListedElement base v) h g l s k = omega (arith, l, sets)
+  element_fits site scope (NamedElement j args own) h g l s k =
+      let x = theirs j h.0 in
+      let e = x.0 in
+      let formed : AreCellsFormed (own_bounds d) (own_bounds e) own = subst (λ o. AreCellsFormed (own_bounds d) (own_at o) own) x.1.0 h.1.1 in
+      let given : AreOwnGiven d (Some e) own = subst (λ o. AreOwnGiven d o own) x.1.0 g in (
+        (let y = deeper j h.0 in omega (arith, y, k)),
+        λ there. is_map c n j site d e own cells buffers x.1.1.0 x.1.1.1 s (cells_mapped (own_bounds d) (own_bounds e) own formed ∙ own_length e) given there,
+      )
+  element_fits site scope UnitElement h g l s k = tt
+  element_fits site scope Rest h g l s k = tt
+  element_fits site scope Zeros h g l s k = tt
+
+  copy_fits : (f : Field) (o : Option CopyOut) → OfSome (IsCopyWhole d f) o → CopyFits c depth (λ j. nat_lt 0 (kinds j).least) n o
+  copy_fits f None h = tt
+  copy_fits f (Some w) h = let x = buffer_low d f w h in let y = ap length buffers ∙ length-map d.buffers (λ b. b.room) in omega (arith, x, y)
 
   array_fits : (element : Element) (extent : Extent) (f : KindFault) → fault_if (is_filled extent && nat_eq (element_kind kinds element).least 0) f ≡ [] → ArrayFits c depth (λ j. nat_lt 0 (kinds j).least) n element extent
   array_fits (NamedElement j args own) (Filling size step) f h = more_than_none (kinds j).least (not_so (true && nat_eq (kinds j).least 0) f h)
@@ -158,36 +161,38 @@ module _ (c : Parts) (depth : ℕ → ℕ) (n : ℕ) (ds : List TypeDef) (count 
   array_fits Rest extent f h = tt
   array_fits Zeros extent f h = tt
 
-  fields_fit : (ty : NameId) (site : ℕ) (scope : List Bound) (fs : List Field) → AreFieldsFormed ds n cells scope fs → Each (IsFieldWhole count) fs → FieldsSited c ty site fs → fields_faults kinds fs ≡ [] → fields_depth E fs + 1 ≤ depth n
+  fields_fit : (ty : NameId) (site : ℕ) (scope : List Bound) (fs : List Field) → AreFieldsFormed ds n (own_bounds d) scope fs → Each (IsFieldWhole count) fs → Each (IsFieldCopying ds d) fs → FieldsSited c n ty site fs → fields_faults kinds fs ≡ [] → fields_depth E fs + 1 ≤ depth n
       → FieldsFit c depth (λ j. nat_lt 0 (kinds j).least) n site fs
-  fields_fit ty site scope [] h w s k d = tt
-  fields_fit ty site scope (f ∷ fs) h w s k d =
+  fields_fit ty site scope [] h w g s k m = tt
+  fields_fit ty site scope (f ∷ fs) h w g s k m =
       let last = is_empty fs in
       let own = none_first (field_faults kinds f last) (fields_faults kinds fs) k in (
         record {
-          element = element_fits site scope f.element h.0 w.0.listed s.1.0 (omega (arith, d));
+          element = element_fits site scope f.element h.0 g.0.element w.0.listed s.1.0.0 (omega (arith, m));
           array = array_fits f.element f.extent (ZeroElement f.place) (none_first _ _ own);
-          cells = subst (λ x. parts_cells f.parts ≤ x) own_cells (parts_within cells f.element f.extent scope f.parts h.1.1.0);
+          copy = copy_fits f f.copy g.0.copy;
+          cells = subst (λ x. parts_cells f.parts ≤ x) (sym cells) (parts_low (length d.cells) f.parts g.0.actions);
           bits = parts_fit f.element f.extent f.parts w.0.parts;
         },
-        fields_fit ty (length f.parts + site) (parts_scope f.element f.extent scope f.parts) fs h.1.1.1 w.1 s.1.1.1 (none_then (field_faults kinds f last) (fields_faults kinds fs) k) (omega (arith, d)),
+        fields_fit ty (length f.parts + site) (parts_scope f.element f.extent scope f.parts) fs h.1.1.1 w.1 g.1 s.1.1.1 (none_then (field_faults kinds f last) (fields_faults kinds fs) k) (omega (arith, m)),
       )
 
-  default_fits : (ty : NameId) (switch site : ℕ) (scope : List Bound) (o : Option (List Field)) → IsDefaultFormed ds n cells scope o → OfSome (Each (IsFieldWhole count)) o → DefaultSited c ty switch site o → default_faults kinds o ≡ [] → default_depth E o + 1 ≤ depth n
-      → DefaultFits c depth (λ j. nat_lt 0 (kinds j).least) n site o
-  default_fits ty switch site scope None h w s k d = tt
-  default_fits ty switch site scope (Some fs) h w s k d = fields_fit ty site scope fs h w s k d
+  default_fits : (ty : NameId) (switch site : ℕ) (scope : List Bound) (o : Option (List Field)) → IsDefaultFormed ds n (own_bounds d) scope o → OfSome (Each (IsFieldWhole count)) o → OfSome (Each (IsFieldCopying ds d)) o → DefaultSited c n ty switch site o
+      → default_faults kinds o ≡ [] → default_depth E o + 1 ≤ depth n → DefaultFits c depth (λ j. nat_lt 0 (kinds j).least) n site o
+  default_fits ty switch site scope None h w g s k m = tt
+  default_fits ty switch site scope (Some fs) h w g s k m = fields_fit ty site scope fs h w g s k m
 
-  cases_fit : (ty : NameId) (switch site : ℕ) (scope : List Bound) (cs : List Case) (o : Option (List Field)) → AreCasesFormed ds n cells scope cs → IsDefaultFormed ds n cells scope o → Each (λ x. Each (IsFieldWhole count) x.fields) cs → OfSome (Each (IsFieldWhole count)) o
-      → CasesSited c ty switch site cs o → cases_faults kinds cs ≡ [] → default_faults kinds o ≡ [] → max (cases_depth E cs) (default_depth E o) + 1 ≤ depth n → CasesFit c depth (λ j. nat_lt 0 (kinds j).least) n site cs o
-  cases_fit ty switch site scope [] o h f w v s k l d = default_fits ty switch site scope o f v s l (omega (arith, d))
-  cases_fit ty switch site scope (x ∷ cs) o h f w v s k l d = (
-    fields_fit ty site scope x.fields h.0 w.0 s.0 (none_first (fields_faults kinds x.fields) (cases_faults kinds cs) k) (omega (arith, d)),
-    cases_fit ty switch (parts_in x.fields + site) scope cs o h.1 f w.1 v s.1 (none_then (fields_faults kinds x.fields) (cases_faults kinds cs) k) l (omega (arith, d)),
+  cases_fit : (ty : NameId) (switch site : ℕ) (scope : List Bound) (cs : List Case) (o : Option (List Field)) → AreCasesFormed ds n (own_bounds d) scope cs → IsDefaultFormed ds n (own_bounds d) scope o
+      → Each (λ x. Each (IsFieldWhole count) x.fields) cs → OfSome (Each (IsFieldWhole count)) o → Each (λ x. Each (IsFieldCopying ds d) x.fields) cs → OfSome (Each (IsFieldCopying ds d)) o
+      → CasesSited c n ty switch site cs o → cases_faults kinds cs ≡ [] → default_faults kinds o ≡ [] → max (cases_depth E cs) (default_depth E o) + 1 ≤ depth n → CasesFit c depth (λ j. nat_lt 0 (kinds j).least) n site cs o
+  cases_fit ty switch site scope [] o h f w v g y s k l m = default_fits ty switch site scope o f v y s l (omega (arith, m))
+  cases_fit ty switch site scope (x ∷ cs) o h f w v g y s k l m = (
+    fields_fit ty site scope x.fields h.0 w.0 g.0 s.0 (none_first (fields_faults kinds x.fields) (cases_faults kinds cs) k) (omega (arith, m)),
+    cases_fit ty switch (parts_in x.fields + site) scope cs o h.1 f w.1 v g.1 y s.1 (none_then (fields_faults kinds x.fields) (cases_faults kinds cs) k) l (omega (arith, m)),
   )
 
-  pub body_fits : (ty : NameId) (switch site : ℕ) (scope : List Bound) (b : Body) → IsBodyFormed ds n cells scope b → EachField (IsFieldWhole count) b → BodySited c ty switch site b → body_faults kinds b ≡ [] → body_depth E b + 1 ≤ depth n
-      → BodyFits c depth (λ j. nat_lt 0 (kinds j).least) n site b
-  body_fits ty switch site scope (Struct fs) h w s k d = fields_fit ty site scope fs h w s k d
-  body_fits ty switch site scope (Casetype e cases o) h w s k d =
-      cases_fit ty switch site scope cases o h.1.0 h.1.1 w.0 w.1 s (none_first (cases_faults kinds cases) (default_faults kinds o) k) (none_then (cases_faults kinds cases) (default_faults kinds o) k) d
+  pub body_fits : (ty : NameId) (switch site : ℕ) (scope : List Bound) (b : Body) → IsBodyFormed ds n (own_bounds d) scope b → EachField (IsFieldWhole count) b → EachField (IsFieldCopying ds d) b → BodySited c n ty switch site b
+      → body_faults kinds b ≡ [] → body_depth E b + 1 ≤ depth n → BodyFits c depth (λ j. nat_lt 0 (kinds j).least) n site b
+  body_fits ty switch site scope (Struct fs) h w g s k m = fields_fit ty site scope fs h w g s k m
+  body_fits ty switch site scope (Casetype e cases o) h w g s k m =
+      cases_fit ty switch site scope cases o h.1.0 h.1.1 w.0 w.1 g.0 g.1 s (none_first (cases_faults kinds cases) (default_faults kinds o) k) (none_then (cases_faults kinds cases) (default_faults kinds o) k) m

@@ -10,6 +10,7 @@ use Rattle.td_core.specs.declared.module.Element.TheVariants.{Number as NumberEl
 use Rattle.td_core.specs.declared.module.Extent.{Extent}
 use Rattle.td_core.specs.declared.module.Extent.TheVariants.{Once, Filling, OnceFilling, UpToZero}
 use Rattle.td_core.specs.declared.module.Bits.{Bits}
+use Rattle.td_core.specs.declared.module.CopyOut.{CopyOut}
 use Rattle.td_core.specs.declared.module.Part.{Part}
 use Rattle.td_core.specs.declared.module.Field.{Field}
 use Rattle.td_core.specs.declared.module.Case.{Case}
@@ -20,8 +21,8 @@ use Rattle.td_expr.specs.Same.{constant_of}
 use Rattle.td_meaning.specs.Naming.{is_needed}
 use Rattle.td_kinds.specs.declared.sizes.TheConstants.{SIZE_CAP}
 use Rattle.td_kinds.specs.Kinds.{joined, element_kind, sized_kind, field_kind, fields_kind, default_kind, spanned_with, cases_kind, body_kind}
-use Rattle.td_blocks.specs.Constructs.{Steps, Inner, Body}
-use Rattle.td_blocks.specs.Lowered.{number_slot, bits_step, test_step, action_step, when, is_read, parts_in, parts_steps, once_step, constant_step, filling_step, once_filling_step, up_to_zero_step, shape_step, fields_steps, last_case, cases_of, body_of, guarded_body, definition_body}
+use Rattle.td_blocks.specs.Constructs.{Steps, Inner, CopyAll, Body}
+use Rattle.td_blocks.specs.Lowered.{number_slot, bits_step, test_step, action_step, when, is_read, parts_in, parts_steps, once_step, constant_step, filling_step, once_filling_step, up_to_zero_step, shape_step, copied_step, content_step, fields_steps, last_case, cases_of, body_of, guarded_body, definition_body}
 use Rattle.td_blocks.specs.Placed.{ElementPlaced, ShapePlaced, FieldsPlaced, DefaultPlaced, CasesPlaced, BodyPlaced}
 use Rattle.td_acceptance.specs.Weights.{least_of, cases_least, body_least}
 
@@ -104,6 +105,18 @@ module _ (K : ℕ → Kind) (least : ℕ → ℕ) (n : ℕ) (params : ℕ → �
   shape_more L slot site needed element (OnceFilling size step) k p h = once_filling_more site (constant_of size) step element size k h
   shape_more L slot site needed element (UpToZero size) k p h = zero_more site element size k
 
+  copied_more : (site : ℕ) (o : Option ℕ) (w : CopyOut) (size : Term) (k : Steps) → 1 ≤ (sized_kind o).least + least_of least k → 1 ≤ least_of least (copied_step t o w size site k)
+  copied_more site None w size k h = omega (arith, h)
+  copied_more site (Some m) w size k h = constant_more m site (CopyAll (suc t) w.buffer m site) k (capped_more m (least_of least k) h)
+
+  content_more : (L slot site : ℕ) (needed : Bool) (element : Element) (extent : Extent) (copy : Option CopyOut) (k : Steps) → ShapePlaced n params R L t element extent → 1 ≤ (field_kind K element extent).least + least_of least k
+      → 1 ≤ least_of least (content_step t element extent copy needed slot site k)
+  content_more L slot site needed element extent None k p h = shape_more L slot site needed element extent k p h
+  content_more L slot site needed element Once (Some w) k p h = shape_more L slot site needed element Once k p h
+  content_more L slot site needed element (Filling size step) (Some w) k p h = copied_more site (constant_of size) w size k h
+  content_more L slot site needed element (OnceFilling size step) (Some w) k p h = shape_more L slot site needed element (OnceFilling size step) k p h
+  content_more L slot site needed element (UpToZero size) (Some w) k p h = shape_more L slot site needed element (UpToZero size) k p h
+
   -- of two that are joined one takes a byte
   joined_more : (a b : Kind) → 1 ≤ (joined a b).least → 1 ≤ a.least + b.least
   joined_more a b h = let x = capped_more (a.least + b.least) 0 (omega (arith, h)) in omega (arith, x)
@@ -116,7 +129,7 @@ module _ (K : ℕ → Kind) (least : ℕ → ℕ) (n : ℕ) (params : ℕ → �
   fields_more D site L [] p h = absurd (omega (arith, h))
   fields_more D site L (f ∷ []) p h =
       let needed = is_needed L f.parts [] in
-      shape_more L (number_slot L t f.parts) site needed f.element f.extent _ p.1.0 (omega (arith, h))
+      content_more L (number_slot L t f.parts) site needed f.element f.extent f.copy _ p.1.0.0 (omega (arith, h))
   fields_more D site L (f ∷ g ∷ fs) p h =
       let needed = is_needed L f.parts (g ∷ fs) in
       let rest = fields_steps t (length f.parts + site) (length f.parts + L) (g ∷ fs) in
@@ -124,7 +137,7 @@ module _ (K : ℕ → Kind) (least : ℕ → ℕ) (n : ℕ) (params : ℕ → �
       let inside : 1 ≤ (field_kind K f.element f.extent).least + least_of least rest =
       sum_more (field_kind K f.element f.extent).least (fields_kind K (g ∷ fs)).least (least_of least rest) (joined_more (field_kind K f.element f.extent) (fields_kind K (g ∷ fs)) h)
       (fields_more D (length f.parts + site) (length f.parts + L) (g ∷ fs) p.1.1.1.1.1) in
-      shape_more L (number_slot L t f.parts) site needed f.element f.extent _ p.1.0 (omega (arith, inside, same))
+      content_more L (number_slot L t f.parts) site needed f.element f.extent f.copy _ p.1.0.0 (omega (arith, inside, same))
 
   abbrev SomeLeast : Option Kind → Type 0
   SomeLeast None = Unit {0}

@@ -13,6 +13,7 @@ mod Lowered
 mod Goods
 pub mod Measured
 mod Least
+pub mod Maps
 mod Fitting
 pub mod Modules
 mod Operands

@@ -13,6 +13,7 @@ use Rattle.td_core.specs.declared.module.Element.TheVariants.{Number as NumberEl
 use Rattle.td_core.specs.declared.module.Extent.{Extent}
 use Rattle.td_core.specs.declared.module.Extent.TheVariants.{Once, Filling, OnceFilling, UpToZero}
 use Rattle.td_core.specs.declared.module.Bits.{Bits}
+use Rattle.td_core.specs.declared.module.CopyOut.{CopyOut}
 use Rattle.td_core.specs.declared.module.Part.{Part}
 use Rattle.td_core.specs.declared.module.Field.{Field}
 use Rattle.td_core.specs.declared.module.Case.{Case}
@@ -22,8 +23,8 @@ use Rattle.td_core.specs.declared.module.TypeDef.{TypeDef}
 use Rattle.td_expr.specs.Same.{constant_of}
 use Rattle.td_meaning.specs.Naming.{is_needed}
 use Rattle.td_meaning.specs.Meaning.{divides, equals}
-use Rattle.td_blocks.specs.Constructs.{Expr, Steps, Inner, Uneven, Body}
-use Rattle.td_blocks.specs.Lowered.{computed_of, compared_of, mask_of, expr_of, exprs_of, action_of, number_slot, bits_step, test_step, action_step, when, is_read, terms_of, arguments, parts_in, parts_steps, once_step, evenly, exactly, each_inner, one_inner, constant_step, filling_step, once_filling_step, up_to_zero_step, shape_step, fields_steps, last_case, cases_of, body_of, guarded_body, definition_body}
+use Rattle.td_blocks.specs.Constructs.{Expr, Steps, Inner, Uneven, CopyAll, Body}
+use Rattle.td_blocks.specs.Lowered.{computed_of, compared_of, mask_of, expr_of, exprs_of, action_of, number_slot, bits_step, test_step, action_step, when, is_read, terms_of, arguments, parts_in, parts_steps, once_step, evenly, exactly, each_inner, one_inner, constant_step, filling_step, once_filling_step, up_to_zero_step, shape_step, copied_step, content_step, fields_steps, last_case, cases_of, body_of, guarded_body, definition_body}
 use Rattle.td_blocks.specs.Placed.{ElementPlaced, ElementsPlaced, OnePlaced, ShapePlaced, FieldsPlaced, DefaultPlaced, CasesPlaced, BodyPlaced}
 use Rattle.td_acceptance.specs.Weights.{nodes, all_nodes, act_nodes, inner_weight, weight_of, cases_weight, body_weight}
 
@@ -191,6 +192,18 @@ module _ (W E : ℕ → ℕ) (n : ℕ) (params : ℕ → ℕ) (less : (j : ℕ) 
   shape_light L slot site m inner needed element (OnceFilling size step) k h s i = let x = once_filling_light L site (constant_of size) step element size k h.1.1.0 in omega (arith, x, s, i)
   shape_light L slot site m inner needed element (UpToZero size) k h s i = let x = zero_light site element size k in omega (arith, x, s, i)
 
+  copied_light : (site : ℕ) (o : Option ℕ) (w : CopyOut) (size : Term) (k : Steps) → weight_of W (copied_step t o w size site k) ≤ 67 + (8 * measure size + weight_of W k)
+  copied_light site None w size k = let y = nodes_are size in omega (arith, y)
+  copied_light site (Some m) w size k = let y = constant_light m site (CopyAll (suc t) w.buffer m site) k in omega (arith, y)
+
+  content_light : (L slot site m inner : ℕ) (needed : Bool) (element : Element) (extent : Extent) (copy : Option CopyOut) (k : Steps) → ShapePlaced n params R L t element extent → 1 ≤ m → element_nodes element + extent_nodes extent ≤ inner
+      → weight_of W (content_step t element extent copy needed slot site k) + (7 + (17 * m + 8 * (inner - (element_nodes element + extent_nodes extent)))) ≤ as_array extent (32 * m + (8 * inner + of_named E element)) + weight_of W k
+  content_light L slot site m inner needed element extent None k h s i = shape_light L slot site m inner needed element extent k h s i
+  content_light L slot site m inner needed element Once (Some w) k h s i = shape_light L slot site m inner needed element Once k h s i
+  content_light L slot site m inner needed element (Filling size step) (Some w) k h s i = let x = copied_light site (constant_of size) w size k in omega (arith, x, s, i)
+  content_light L slot site m inner needed element (OnceFilling size step) (Some w) k h s i = shape_light L slot site m inner needed element (OnceFilling size step) k h s i
+  content_light L slot site m inner needed element (UpToZero size) (Some w) k h s i = shape_light L slot site m inner needed element (UpToZero size) k h s i
+
   some_parts : (ps : List Part) → HasParts ps → 1 ≤ length ps
   some_parts [] h = absurd h
   some_parts (p ∷ ps) h = omega arith
@@ -201,7 +214,7 @@ module _ (W E : ℕ → ℕ) (n : ℕ) (params : ℕ → ℕ) (less : (j : ℕ) 
       let needed = is_needed L f.parts fs in
       let rest = fields_steps t (length f.parts + site) (length f.parts + L) fs in
       let inside = parts_steps t (is_read f.element f.extent needed) site L f.parts rest in
-      let x = shape_light L (number_slot L t f.parts) site (length f.parts) (inner_nodes f) needed f.element f.extent inside h.1.0 (some_parts f.parts w.0) (omega arith) in
+      let x = content_light L (number_slot L t f.parts) site (length f.parts) (inner_nodes f) needed f.element f.extent f.copy inside h.1.0.0 (some_parts f.parts w.0) (omega arith) in
       let y = parts_light (is_read f.element f.extent needed) site L f.parts rest in
       let z = fields_light D (length f.parts + site) (length f.parts + L) fs h.1.1.1.1.1 w.1 in
       omega (arith, x, y, z)

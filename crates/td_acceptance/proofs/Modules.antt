@@ -3,16 +3,14 @@ use Rattle.std.proofs.Common.{◌≡◌, ℕ, zero, suc, ◌+◌, ◌-◌, ◌<�
 use Rattle.std.proofs.lemmas.Bool.Decides.{nat_tests}
 use Rattle.td_num.specs.Lists.{Each}
 use Rattle.td_core.specs.declared.kind.Kind.{Kind}
-use Rattle.td_core.specs.declared.module.Cell.{Cell}
 use Rattle.td_core.specs.declared.module.Field.{Field}
 use Rattle.td_core.specs.declared.module.Case.{Case}
 use Rattle.td_core.specs.declared.module.Body.{Body as BodyDef}
 use Rattle.td_core.specs.declared.module.Body.TheVariants.{Struct as StructDef, Casetype as CasetypeDef}
 use Rattle.td_core.specs.declared.module.TypeDef.{TypeDef}
 use Rattle.td_core.specs.declared.module.Module.{Module}
-use Rattle.td_core.specs.Formed.{own_bounds, own_at, param_bounds}
-use Rattle.td_core.specs.Copies.{IsDefinitionCopyless}
-use Rattle.td_core.proofs.Copyless.{visible_count}
+use Rattle.td_core.specs.Formed.{param_bounds}
+use Rattle.td_core.specs.Copies.{IsDefinitionCopying}
 use Rattle.td_core.specs.WellFormed.{OfSome, EachField, HasParts, IsFieldWhole}
 use Rattle.td_core.specs.Weights.{definition_depth, body_depth, depth_of, definition_weight, weight_of, below_by, either_number}
 use Rattle.td_kinds.specs.Kinds.{kinds_below, definition_kind, body_kind, pick_kind}
@@ -24,7 +22,7 @@ use Rattle.td_verify.specs.Verify.{IsSound}
 use Rattle.td_blocks.specs.Block.{Stands, size}
 use Rattle.td_blocks.specs.Constructs.{Body, Struct, End, body}
 use Rattle.td_blocks.specs.Lowered.{definition_body, definition_block, block_of, sites_in, body_parts, first_site}
-use Rattle.td_blocks.specs.Laid.{IsLaid}
+use Rattle.td_blocks.specs.Laid.{IsLaid, rooms}
 use Rattle.td_blocks.specs.Tabled.{DefinitionSited, IsTabled}
 use Rattle.td_blocks.specs.Placed.{IsPlaced, HasPlaced, ArePlaced, params_of}
 use Rattle.td_acceptance.specs.Weights.{body_weight, body_least}
@@ -140,8 +138,8 @@ module _ (c : Parts) (units : ℕ → ℕ) (m : Module) (a : IsAdmissible m) (l 
   placed_at : (n : ℕ) (d : TypeDef) → n < length m.definitions → slice_get m.definitions n ≡ Some d → IsPlaced m.definitions n (routine_of c n).registers (units n) d
   placed_at n d h e = subst (HasPlaced m.definitions n (routine_of c n).registers (units n)) e (p n h)
 
-  sited_at : (n : ℕ) (d : TypeDef) → n < length m.definitions → slice_get m.definitions n ≡ Some d → DefinitionSited c (first_site m.definitions n) (Some d)
-  sited_at n d h e = subst (DefinitionSited c (first_site m.definitions n)) e (s.sited n h)
+  sited_at : (n : ℕ) (d : TypeDef) → n < length m.definitions → slice_get m.definitions n ≡ Some d → DefinitionSited c n (first_site m.definitions n) (Some d)
+  sited_at n d h e = subst (DefinitionSited c n (first_site m.definitions n)) e (s.sited n h)
 
   body_is : (n : ℕ) (d : TypeDef) → slice_get m.definitions n ≡ Some d → bodies n ≡ definition_body (first_site m.definitions n) (units n) d
   body_is n d e = ap (body_at (first_site m.definitions n) (units n)) e
@@ -159,21 +157,19 @@ module _ (c : Parts) (units : ℕ → ℕ) (m : Module) (a : IsAdmissible m) (l 
       let z = same_by definition_depth m.definitions n j h k in
       omega (arith, y, z)
 
-  own_count : (n : ℕ) (d : TypeDef) → slice_get m.definitions n ≡ Some d → length (own_bounds d) ≡ length d.cells
-  own_count n d e = visible_count d (each_at IsDefinitionCopyless m.definitions n d a.copyless e).buffers
-
-  their_cells : (n j : ℕ) → n ≤ length m.definitions → j < n → length (own_at (slice_get m.definitions j)) ≡ (routine_of c j).cells
-  their_cells n j h k =
+  theirs : (n j : ℕ) → n ≤ length m.definitions → j < n
+      → (e : TypeDef) × ((slice_get m.definitions j ≡ Some e) × (((routine_of c j).cells ≡ length e.cells) × ((routine_of c j).buffers ≡ rooms e.buffers)))
+  theirs n j h k =
       let x = got m.definitions j (omega (arith, h, k)) in
-      ap (λ o. length (own_at o)) x.1 ∙ (own_count j x.0 x.1 ∙ sym (q.cells j x.0 x.1))
+      (x.0, (x.1, (l.cells j x.0 x.1, l.buffers j x.0 x.1)))
 
   fits_at : (n : ℕ) (d : TypeDef) → n < length m.definitions → slice_get m.definitions n ≡ Some d → BodyFits c depth busy n (first_site m.definitions n + 2) d.body
   fits_at n d h e =
       let deep = some_deep n h d e in
-      body_fits c depth n m.definitions (length m.listed) (below_by definition_depth m.definitions n) (kinds_of m) (own_bounds d)
-      (own_count n d e ∙ sym (q.cells n d e)) (λ j k. their_cells n j (omega (arith, h)) k) q.sets (λ j k. deeper n j (omega (arith, h)) k)
+      body_fits c depth n m.definitions d (length m.listed) (below_by definition_depth m.definitions n) (kinds_of m)
+      (l.cells n d e) (l.buffers n d e) (λ j k. theirs n j (omega (arith, h)) k) q.sets (λ j k. deeper n j (omega (arith, h)) k)
       d.name (first_site m.definitions n + 1) (first_site m.definitions n + 2) (param_bounds d.params) d.body
-      (a.formed n d e).1 (each_at (λ x. EachField (IsFieldWhole (length m.listed)) x.body) m.definitions n d a.fields e) (sited_at n d h e).1 (no_faults (kinds_of m) m.definitions n d a.kinds e) (omega (arith, deep))
+      (a.formed n d e).1 (each_at (λ x. EachField (IsFieldWhole (length m.listed)) x.body) m.definitions n d a.fields e) (each_at (IsDefinitionCopying m.definitions) m.definitions n d a.copying e).fields (sited_at n d h e).1 (no_faults (kinds_of m) m.definitions n d a.kinds e) (omega (arith, deep))
 
   have_at : (n : ℕ) (d : TypeDef) → slice_get m.definitions n ≡ Some d → EachField (λ f. HasParts f.parts) d.body
   have_at n d e = body_has (length m.listed) d.body (each_at (λ x. EachField (IsFieldWhole (length m.listed)) x.body) m.definitions n d a.fields e)

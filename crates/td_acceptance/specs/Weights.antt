@@ -1,6 +1,6 @@
 -- What constructs weigh and the least bytes that they take, told of them before they are code (own rule).
 use Rattle.std.specs.Prelude.{ℕ, ◌+◌, ◌*◌, min, List, [], ◌∷◌}
-use Rattle.td_blocks.specs.Constructs.{Expr, Lit, Slot, Binary, Not, Complement, ShiftLeft, Both, Either, Choice, Range, Action, Finish, Assign, Read, If, Return, Abort, Inner, Nothing, Evenly, Exactly, Uneven, All, Zeroes, OneCall, OneListed, EachCall, EachListed, Steps, End, Start, Place, Skipped, Number, Listed, Part, Test, Act, Named, AllBytes, AllZeros, ZeroEnd, Never, Arguments, BySize, ByConstant, Cases, Case, Default, NoDefault, Body, Struct, Casetype, Where}
+use Rattle.td_blocks.specs.Constructs.{Expr, Lit, Slot, Binary, Not, Complement, ShiftLeft, Both, Either, Choice, Range, Action, Finish, Assign, Read, If, Return, Abort, Inner, Nothing, Evenly, Exactly, Uneven, All, Zeroes, OneCall, OneListed, EachCall, EachListed, CopyAll, Steps, End, Start, Place, Skipped, Number, Listed, Part, Test, Act, Named, AllBytes, AllZeros, ZeroEnd, Copied, Never, Arguments, BySize, ByConstant, Cases, Case, Default, NoDefault, Body, Struct, Casetype, Where}
 
 -- Nodes and weight
 
@@ -39,6 +39,7 @@ inner_weight W (OneCall t routine cells site count) = 1 + W routine
 inner_weight W (OneListed slot order width set site t) = 4
 inner_weight W (EachCall t routine cells site count) = 8 + 2 * W routine
 inner_weight W (EachListed slot order width set site t) = 14
+inner_weight W (CopyAll t buffer size site) = 3
 
 -- no more than the table of weights gives a definition: of its 32 the end and a `where`; of a case's 8 its test and its end; of a field's 32 (7 at its start, 1 for field_pos, 8 for its shape, 8 for a
 -- part, 4 each for a test and an action), 8 a node, the definition named; for arrays twice and 64 more
@@ -56,6 +57,7 @@ weight_of W (Named t routine cells site args k) = 8 + (8 * all_nodes args + (W r
 weight_of W (AllBytes k) = 8 + weight_of W k
 weight_of W (AllZeros site k) = 8 + weight_of W k
 weight_of W (ZeroEnd t width site e k) = 64 + (8 * nodes e + weight_of W k)
+weight_of W (Copied t buffer site e k) = 64 + (8 * nodes e + weight_of W k)
 weight_of W (Never site) = 64
 weight_of W (Arguments t args k) = 8 * all_nodes args + weight_of W k
 weight_of W (BySize t site e x k) = 64 + (8 * nodes e + (inner_weight W x + weight_of W k))
@@ -87,6 +89,7 @@ least_of least (Named t routine cells site args k) = least routine + least_of le
 least_of least (AllBytes k) = least_of least k
 least_of least (AllZeros site k) = least_of least k
 least_of least (ZeroEnd t width site e k) = width + least_of least k
+least_of least (Copied t buffer site e k) = least_of least k
 least_of least (Never site) = 1
 least_of least (Arguments t args k) = least_of least k
 least_of least (BySize t site e x k) = least_of least k

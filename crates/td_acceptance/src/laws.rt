@@ -28,7 +28,7 @@ pub fn blocks_have_code()
     ensures { BlocksHaveCode }
 {}
 
-/// A definition's actions name its own cells, and its bit fields are bits of a number.
+/// A definition's fields name its own cells and buffers, and its bit fields are bits of a number.
 pub fn operands_fit()
     ensures { OperandsFit }
 {}

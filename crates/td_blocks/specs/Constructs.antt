@@ -69,6 +69,7 @@ pub data Inner : Type 0 where
   OneListed : (slot order width set site t : ℕ) → Inner
   EachCall : (t routine cells site count : ℕ) → Inner
   EachListed : (slot order width set site t : ℕ) → Inner
+  CopyAll : (t buffer size site : ℕ) → Inner  -- so many bytes, which go to a buffer
 
 -- reads a number, and fails where it isn't in a set
 abbrev pub listed : (slot order width set site t : ℕ) → Block → Block
@@ -85,6 +86,7 @@ inner (OneCall t routine cells site count) = Then (i.Call t routine cells site) 
 inner (OneListed slot order width set site t) = listed slot order width set site t Done
 inner (EachCall t routine cells site count) = Loop (Then (i.Call t routine cells site) Done) Done
 inner (EachListed slot order width set site t) = Loop (listed slot order width set site t Done) Done
+inner (CopyAll t buffer size site) = Then (i.Const t size) (Then (i.Copy t buffer site) Done)
 
 -- Fields, step by step, up to the end of a struct or of a case. A size is a constant below 2^32 (one above can't be met), or a
 -- value
@@ -102,6 +104,7 @@ pub data Steps : Type 0 where
   AllBytes : Steps → Steps
   AllZeros : (site : ℕ) → Steps → Steps
   ZeroEnd : (t width site : ℕ) → Expr → Steps → Steps
+  Copied : (t buffer site : ℕ) → Expr → Steps → Steps  -- bytes that go to a buffer, by their number
   Never : (site : ℕ) → Steps  -- a constant size that no message has
   Arguments : (t : ℕ) → List Expr → Steps → Steps  -- of the elements of the array that follows
   BySize : (t site : ℕ) → Expr → Inner → Steps → Steps  -- an array or a single element
@@ -121,6 +124,7 @@ steps (Named t routine cells site args k) = values t args (Then (i.Call t routin
 steps (AllBytes k) = Then i.Rest (steps k)
 steps (AllZeros site k) = Then (i.Zeros site) (steps k)
 steps (ZeroEnd t width site e k) = value t e (Then (i.Zeroterm t width site) (steps k))
+steps (Copied t buffer site e k) = value t e (Then (i.Copy t buffer site) (steps k))
 steps (Never site) = Stop (i.Fail 0 site)
 steps (Arguments t args k) = values t args (steps k)
 steps (BySize t site e x k) = value t e (Window (i.Narrow t site) site (inner x) (steps k))

@@ -16,6 +16,7 @@ use Rattle.td_core.specs.declared.module.Element.TheVariants.{Number, Listed, Na
 use Rattle.td_core.specs.declared.module.Extent.{Extent}
 use Rattle.td_core.specs.declared.module.Extent.TheVariants.{Once, Filling, OnceFilling, UpToZero}
 use Rattle.td_core.specs.declared.module.Bits.{Bits as BitField}
+use Rattle.td_core.specs.declared.module.CopyOut.{CopyOut}
 use Rattle.td_core.specs.declared.module.Part.{Part as PartDef}
 use Rattle.td_core.specs.declared.module.Field.{Field as FieldDef}
 use Rattle.td_core.specs.declared.module.Case.{Case as CaseDef}
@@ -27,7 +28,7 @@ use Rattle.td_meaning.specs.Naming.{is_needed}
 use Rattle.td_meaning.specs.Meaning.{divides, equals}
 use Rattle.td_ir.specs.declared.instructions.Instr.TheVariants as i
 use Rattle.td_blocks.specs.Block.{Block, Stop}
-use Rattle.td_blocks.specs.Constructs.{Expr, Lit, Slot, Binary, Not, Complement, ShiftLeft, Both, Either, Choice, Range, Action, Finish, Assign, Read, If, Return, Abort, Inner, Nothing, Evenly, Exactly, Uneven, All, Zeroes, OneCall, OneListed, EachCall, EachListed, Steps, End, Start, Place, Skipped, Number as NumberStep, Listed as ListedStep, Part, Test, Act, Named as NamedStep, AllBytes, AllZeros, ZeroEnd, Never, Arguments, BySize, ByConstant, Cases, Case, Default, NoDefault, Body, Struct, Casetype, Where, body}
+use Rattle.td_blocks.specs.Constructs.{Expr, Lit, Slot, Binary, Not, Complement, ShiftLeft, Both, Either, Choice, Range, Action, Finish, Assign, Read, If, Return, Abort, Inner, Nothing, Evenly, Exactly, Uneven, All, Zeroes, OneCall, OneListed, EachCall, EachListed, CopyAll, Steps, End, Start, Place, Skipped, Number as NumberStep, Listed as ListedStep, Part, Test, Act, Named as NamedStep, AllBytes, AllZeros, ZeroEnd, Copied, Never, Arguments, BySize, ByConstant, Cases, Case, Default, NoDefault, Body, Struct, Casetype, Where, body}
 
 -- Expressions
 
@@ -221,11 +222,25 @@ module _ (t : ℕ) where
   shape_step element (OnceFilling size step) needed slot site k = once_filling_step (constant_of size) step element size site k
   shape_step element (UpToZero size) needed slot site k = up_to_zero_step element size site k
 
+  -- bytes that go to a buffer. A constant number of them stands in a window, since a window takes the bytes that it says and a
+  -- copy may take none
+  abbrev pub copied_step : Option ℕ → CopyOut → Term → ℕ → Steps → Steps
+  copied_step None c size site k = Copied (suc t) c.buffer site (expr_of size) k
+  copied_step (Some n) c size site k = constant_step n site (CopyAll (suc t) c.buffer n site) k
+
+  -- where its bytes are copied nothing else is done in the field's place
+  abbrev pub content_step : Element → Extent → Option CopyOut → Bool → ℕ → ℕ → Steps → Steps
+  content_step element extent None needed slot site k = shape_step element extent needed slot site k
+  content_step element (Filling size step) (Some c) needed slot site k = copied_step (constant_of size) c size site k
+  content_step element Once (Some c) needed slot site k = shape_step element Once needed slot site k
+  content_step element (OnceFilling size step) (Some c) needed slot site k = shape_step element (OnceFilling size step) needed slot site k
+  content_step element (UpToZero size) (Some c) needed slot site k = shape_step element (UpToZero size) needed slot site k
+
   abbrev pub fields_steps : (site level : ℕ) → List FieldDef → Steps
   fields_steps site level [] = End
   fields_steps site level (f ∷ later) =
       let needed = is_needed level f.parts later in
-      Start (shape_step f.element f.extent needed (number_slot level t f.parts) site
+      Start (content_step f.element f.extent f.copy needed (number_slot level t f.parts) site
       (parts_steps (is_read f.element f.extent needed) site level f.parts
       (fields_steps (length f.parts + site) (length f.parts + level) later)))
 

@@ -4,6 +4,7 @@ use Rattle.std.specs.Prelude.{◌≡◌, ℕ, suc, ◌+◌, ◌<◌, ◌≤◌, 
 use Rattle.td_core.specs.Term.{Term, number, name, complement, negation, compute, compare, both, either, choice, range_okay, Deed, done, set, keep, fork, answer, give_up}
 use Rattle.td_core.specs.declared.expressions.Scalar.TheVariants.{Truth}
 use Rattle.td_core.specs.declared.module.Bits.{Bits}
+use Rattle.td_core.specs.declared.module.CopyOut.{CopyOut}
 use Rattle.td_core.specs.declared.module.Part.{Part}
 use Rattle.td_core.specs.declared.module.Field.{Field}
 use Rattle.td_core.specs.declared.module.Case.{Case}
@@ -148,10 +149,18 @@ ShapePlaced n params R L t element (OnceFilling size step) =
     (suc (suc t + length (terms_of element)) + 1 < R) × (SizePlaced R L (suc t + length (terms_of element)) size (constant_of size) × (OnePlaced n params R L t element × IsStepOf element step))
 ShapePlaced n params R L t element (UpToZero size) = IsExpr R L (suc t) size × IsNumber element
 
+-- the size of what is copied, in a register, where it isn't constant; this one is then free
+abbrev pub CopyPlaced : (R L t : ℕ) → Extent → Option CopyOut → Type 0
+CopyPlaced R L t extent None = Unit {0}
+CopyPlaced R L t (Filling size step) (Some c) = IsExpr R L (suc t) size
+CopyPlaced R L t Once (Some c) = Unit {0}
+CopyPlaced R L t (OnceFilling size step) (Some c) = Unit {0}
+CopyPlaced R L t (UpToZero size) (Some c) = Unit {0}
+
 abbrev pub FieldsPlaced : (n : ℕ) (params : ℕ → ℕ) (R D L t : ℕ) → List Field → Type 0
 FieldsPlaced n params R D L t [] = Unit {0}
 FieldsPlaced n params R D L t (f ∷ later) =
-    (L ≤ D) × (ShapePlaced n params R L t f.element f.extent
+    (L ≤ D) × ((ShapePlaced n params R L t f.element f.extent × CopyPlaced R L t f.extent f.copy)
     × (PartsPlaced R D L t f.parts × (Alone f.parts
     × ((is_needed L f.parts later ≡ true → is_read f.element f.extent (is_needed L f.parts later) ≡ true) × FieldsPlaced n params R D (length f.parts + L) t later))))
 

@@ -1,8 +1,9 @@
 -- The tables of code have what the numbers that occur in it stand for.
-use Rattle.std.specs.Prelude.{◌≡◌, ℕ, suc, ◌+◌, ◌<◌, List, [], ◌∷◌, length, Option, Some, None, slice_get}
+use Rattle.std.specs.Prelude.{◌≡◌, ℕ, suc, ◌+◌, ◌*◌, ◌<◌, slice_index, List, [], ◌∷◌, length, Option, Some, None, slice_get}
 use Rattle.td_num.specs.Lists.{is_among}
 use Rattle.td_core.specs.Term.{Term}
 use Rattle.td_core.specs.declared.module.NameId.{NameId}
+use Rattle.td_core.specs.declared.module.CopyOut.{CopyOut}
 use Rattle.td_core.specs.declared.module.Part.{Part}
 use Rattle.td_core.specs.declared.module.Field.{Field}
 use Rattle.td_core.specs.declared.module.Case.{Case}
@@ -16,19 +17,25 @@ use Rattle.td_core.specs.declared.outcome.Spot.{Spot}
 use Rattle.td_core.specs.declared.outcome.Spot.TheVariants.{Field as AtField, Where as AtWhere, Switch as AtSwitch}
 use Rattle.td_meaning.specs.Meaning.{first_name, values_of}
 use Rattle.td_ir.specs.declared.tables.Parts.{Parts}
-use Rattle.td_ir.specs.Tables.{set_of, map_of}
+use Rattle.td_ir.specs.Tables.{routine_of, set_of, cells_by}
 use Rattle.td_ir.specs.Run.{place_of_site}
 use Rattle.td_blocks.specs.Lowered.{parts_in, first_site}
 
-module _ (c : Parts) where
+-- in the code of routine n
+module _ (c : Parts) (n : ℕ) where
   -- a named type's cells stand in the table of cell maps, under the number of its site
   abbrev pub Mapped : ℕ → Element → Type 0
   Mapped site (Number type) = Unit {0}
   Mapped site (Listed base v) = Unit {0}
-  Mapped site (Named d args own) = map_of c site ≡ own
+  Mapped site (Named d args own) = cells_by c n d site ≡ own
   Mapped site UnitElement = Unit {0}
   Mapped site Rest = Unit {0}
   Mapped site Zeros = Unit {0}
+
+  -- a copy's buffer is the routine's, with its cells behind the other ones
+  abbrev pub Buffered : Option CopyOut → Type 0
+  Buffered None = Unit {0}
+  Buffered (Some o) = ((routine_of c n).cells + 2 * o.buffer ≡ o.cell) × (slice_index (routine_of c n).buffers o.buffer ≡ o.room)
 
   module _ (ty : NameId) where
     -- a site's number stands for it
@@ -42,7 +49,7 @@ module _ (c : Parts) where
     abbrev pub FieldsSited : ℕ → List Field → Type 0
     FieldsSited site [] = Unit {0}
     FieldsSited site (f ∷ later) =
-        Sited site (AtField (first_name f.parts)) × (Mapped site f.element × (PartsSited site f.parts × FieldsSited (length f.parts + site) later))
+        Sited site (AtField (first_name f.parts)) × ((Mapped site f.element × Buffered f.copy) × (PartsSited site f.parts × FieldsSited (length f.parts + site) later))
 
     abbrev pub DefaultSited : (switch site : ℕ) → Option (List Field) → Type 0
     DefaultSited switch site None = Sited switch AtSwitch
@@ -66,5 +73,5 @@ module _ (c : Parts) where
 
 -- sites and cell maps are those of the definitions, and a set has the values of its enum
 pub record IsTabled (c : Parts) (m : Module) : Type 0 where
-  pub sited : (n : ℕ) → n < length m.definitions → DefinitionSited c (first_site m.definitions n) (slice_get m.definitions n)
+  pub sited : (n : ℕ) → n < length m.definitions → DefinitionSited c n (first_site m.definitions n) (slice_get m.definitions n)
   pub listed : (v n : ℕ) → is_among (set_of c v) n ≡ is_among (values_of m.listed v) n

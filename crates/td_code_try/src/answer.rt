@@ -25,7 +25,7 @@ fn put_error(error: ImageError, out: &mut String) -> Result<(), AllocError> {
     }
 }
 
-// Code of version 1 was turned when it was read, so its image is another one when it is written.
+// Code that is read of an older version is written in the latest one, so its image is another.
 fn put_again(
     alloc: Global,
     code: &Verified,
@@ -36,7 +36,7 @@ fn put_again(
     out.push_str(if again.as_slice() == bytes {
         "ok"
     } else {
-        "turned"
+        "older"
     })
 }
 

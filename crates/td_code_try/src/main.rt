@@ -1,7 +1,7 @@
 //! The program `td_code_try`: what td_image, td_verify, td_ir and td_vm answer to images of code, a line of output for each line
 //! of input, so that scripts can try any bytes and code written by hand. `HEX`, an image in hexadecimal digits: `ok` (it is
-//! read, and written again gives the same bytes), `turned` (it is read, and written again gives others, as one of version 1
-//! does), or why it isn't read. `written HEX`: the image that is written again, in digits. `listing HEX`: the lines of its
+//! read, and written again gives the same bytes), `older` (it is read, and written again gives others, as one of an older
+//! version does), or why it isn't read. `written HEX`: the image that is written again, in digits. `listing HEX`: the lines of its
 //! listing, parted by semicolons. `entry NAME HEX`: the number of the entry point of that name, or `none`. `run RUNS HEX`: what
 //! the machine answers to each of these runs, which semicolons part, as the answers too (how they are spelled stands in
 //! numbers.rt and written.rt).

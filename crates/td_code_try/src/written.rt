@@ -1,9 +1,10 @@
 //! Answers in words and numbers: `accept` and a position, or `reject`, the number of a reason and a position; of each frame of the
 //! trace `f`, the numbers of its type and field (or `where` or `switch`), the number of its reason and the position at which it
-//! began; of each cell `c` and its value; of each load `l`, its word and the value.
+//! began; of each cell `c` and its value; of each copy buffer `b` and the bytes that it holds in hexadecimal digits, `-` for none; of
+//! each load `l`, its word and the value.
 
 use itoa::Buffer;
-use std::alloc::AllocError;
+use std::alloc::{AllocError, Global};
 use td_core::outcome::{Reason, Spot, TraceFrame, Verdict};
 use td_stream::loads::Loads;
 use td_vm::validate::Frame;
@@ -47,11 +48,22 @@ fn put_frame(out: &mut String, frame: TraceFrame) -> Result<(), AllocError> {
     put(out, " ", u64::from(frame.start))
 }
 
-/// Puts how a run came out: its verdict, the trace and the cells with which the frame was left, and the loads.
+fn put_copy(alloc: Global, out: &mut String, bytes: &[u8]) -> Result<(), AllocError> {
+    out.push_str(" b ")?;
+    if bytes.is_empty() {
+        return out.push_str("-");
+    }
+    let digits = hex::encode(alloc, bytes)?;
+    out.push_str(digits.as_str())
+}
+
+/// Puts how a run came out: its verdict, the trace, the cells and so many buffers with which the frame was left, and the loads.
 pub fn put_outcome(
+    alloc: Global,
     out: &mut String,
     verdict: Verdict,
     frame: &Frame,
+    buffers: usize,
     loads: &Loads,
 ) -> Result<(), AllocError> {
     put_verdict(out, verdict)?;
@@ -60,6 +72,9 @@ pub fn put_outcome(
     }
     for value in frame.cells() {
         put(out, " c ", *value)?;
+    }
+    for buffer in frame.copies().iter().take(buffers) {
+        put_copy(alloc, out, buffer.as_slice())?;
     }
     for load in loads.as_slice() {
         put(out, " l ", u64::from(load.word))?;

@@ -10,6 +10,7 @@ use Rattle.td_meaning.specs.Copies.{opened}
 use Rattle.td_ir.specs.declared.tables.Parts.{Parts}
 use Rattle.td_ir.specs.Listing.{listing}
 use Rattle.td_ir.specs.Run.{run}
+use Rattle.td_ir.specs.Entries.{opened_by}
 use Rattle.td_lowered.specs.CodeRun.{IsMeaning}
 use Rattle.td_verify.specs.Verify.{IsSound}
 use Rattle.td_lower.specs.Code.{IsWritten}
@@ -20,7 +21,7 @@ use Rattle.td_image.specs.Answer.{IsImage, IsAnswerFor}
 use Rattle.td_image.specs.Image.{image}
 use Rattle.td_within.specs.Small.{IsSmall}
 
--- from each entry point of the module, for arguments and cells that fit it, on each message, the code's run from the same entry
+-- from each entry point of the module, for arguments and cells that fit it and with empty buffers, on each message, the code's run from the same entry
 -- point is left as the module's meaning ends, and looks at the places that the meaning reads, in the same order
 abbrev pub DoesWhatItMeans : Parts → Module → Type 0
 DoesWhatItMeans c m =
@@ -28,7 +29,7 @@ DoesWhatItMeans c m =
     entry.number < length m.entries →
     AllFit (params_at (entry_definition m entry.number)) args → AllFit (cells_at (entry_definition m entry.number)) cells →
     AreBytes message → length message < 2 ^ 32 →
-    IsMeaning (run c entry args cells message) (meaning m entry args (opened m entry cells) message)
+    IsMeaning (run c entry args (opened_by c entry cells) message) (meaning m entry args (opened m entry cells) message)
 
 -- the code that is written of the module, down to its names; the verifier accepts it, and it does so
 pub record IsCodeFor (c : Parts) (m : Module) : Type 0 where

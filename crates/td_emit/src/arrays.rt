@@ -4,11 +4,12 @@
 ghost use Rattle.std.specs.Prelude.{◌≡◌, ◌≤◌, ◌<◌, ◌^◌, ◌+◌, suc, cond, OnOk, IfOk, length};
 ghost use Rattle.td_meaning.specs.Meaning.{divides, equals};
 ghost use Rattle.td_blocks.specs.Constructs.{Uneven, BySize, Arguments};
-ghost use Rattle.td_blocks.specs.Lowered.{expr_of, terms_of, arguments, constant_step, evenly, exactly, each_inner, one_inner, filling_step, once_filling_step, up_to_zero_step, shape_step};
+ghost use Rattle.td_blocks.specs.Lowered.{expr_of, terms_of, arguments, constant_step, evenly, exactly, each_inner, one_inner, filling_step, once_filling_step, up_to_zero_step, shape_step, content_step};
 ghost use Rattle.td_expr.specs.Same.{constant_of};
-ghost use Rattle.td_blocks.specs.Tops.{term_top, terms_top, sized_top, shape_top};
+ghost use Rattle.td_blocks.specs.Tops.{term_top, terms_top, sized_top, shape_top, content_top, copy_cells};
 ghost use Rattle.td_emit.specs.Emission.{Writes, WritesSteps, GoesOn};
 
+use crate::copies::write_copied;
 use crate::elements::{
     write_each, write_each_if, write_evenly, write_exactly, write_one, write_one_if,
 };
@@ -17,7 +18,7 @@ use crate::fields::{terms_of, write_once, write_values};
 use crate::writer::Writer;
 use std::alloc::AllocError;
 use td_core::expressions::CoreExpr;
-use td_core::module::{Element, Extent};
+use td_core::module::{CopyOut, Element, Extent};
 use td_expr::constant::constant_of;
 use td_ir::instructions::Instr;
 use td_meaning::arrays::{divides, equals};
@@ -230,6 +231,38 @@ pub fn write_shape(
             Ok(true)
         }
         Extent::Filling { size, step } => write_filling(code, t, site, size, *step, element),
+        Extent::OnceFilling { size, step } => {
+            write_once_filling(code, t, site, size, *step, element)
+        }
+        Extent::UpToZero { size } => write_up_to_zero(code, t, site, size, element),
+    }
+}
+
+/// The same of a field whose bytes may be copied.
+pub fn write_content(
+    code: &mut Writer,
+    t: u16,
+    needed: bool,
+    slot: u16,
+    site: u32,
+    element: &Element,
+    extent: &Extent,
+    copy: Option<CopyOut>,
+) -> Result<bool, AllocError>
+    requires registers { content_top t element.now extent.now copy ≤ 2 ^ 16 }
+    requires cells { copy_cells copy ≤ 2 ^ 16 }
+    ensures { IfOk result (λ on. GoesOn on code.old code.new
+        (content_step t element.now extent.now copy needed slot site)) }
+{
+    let Some(c) = copy else {
+        return write_shape(code, t, needed, slot, site, element, extent);
+    };
+    match extent {
+        Extent::Filling { size, .. } => write_copied(code, t, site, size, c),
+        Extent::Once => {
+            write_once(code, t, needed, slot, site, element)?;
+            Ok(true)
+        }
         Extent::OnceFilling { size, step } => {
             write_once_filling(code, t, site, size, *step, element)
         }

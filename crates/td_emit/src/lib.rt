@@ -4,6 +4,7 @@
 
 pub mod actions;
 pub mod arrays;
+pub mod copies;
 pub mod counts;
 pub mod definitions;
 pub mod elements;

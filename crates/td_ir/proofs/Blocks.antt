@@ -8,20 +8,20 @@ use Rattle.td_num.proofs.Lists.{drop_range}
 use Rattle.td_num.proofs.Equals.{below_other}
 use Rattle.td_ir.specs.declared.tables.Parts.{Parts}
 use Rattle.td_ir.specs.declared.instructions.Instr.{Instr}
-use Rattle.td_ir.specs.Tables.{routine_of, map_of, first_of, end_of}
+use Rattle.td_ir.specs.Tables.{routine_of, cells_by, first_of, end_of}
 use Rattle.td_ir.specs.State.{State, left, registers_from, Way, Returned, Turned, Failed, Stuck, Exit, at_once, after}
 use Rattle.td_ir.specs.Flow.{Flow, Goes, Fails, Calls, Returns, Loops, Turns}
 use Rattle.td_ir.specs.Run.{Callees, back, back_by, again, again_by, turns, led, follow, pick, goes, exits, places_by, entered, below, calls_of, block}
 use Rattle.td_ir.specs.RunLaws.{HasEffect, RunGoes, RunFails, RunReturns, RunTurns, RunCalls, RunLoops, AfterAfter}
 
-pub pick_at : (c : Parts) (message places : List ℕ) (calls : Callees) (pc : ℕ) (js : List Instr) (k : ℕ) (s : State) → pick (exits c message places calls pc js) k s ≡ pick (exits c message places calls (pc + k) (drop k js)) 0 s
-pick_at c message places calls pc [] zero s = refl
-pick_at c message places calls pc [] (suc k) s = refl
-pick_at c message places calls pc (j ∷ js) zero s =
-    let e : pc ≡ pc + 0 = omega arith in ap (λ p. pick (exits c message places calls p (j ∷ js)) 0 s) e
-pick_at c message places calls pc (j ∷ js) (suc k) s =
+pub pick_at : (c : Parts) (n : ℕ) (message places : List ℕ) (calls : Callees) (pc : ℕ) (js : List Instr) (k : ℕ) (s : State) → pick (exits c n message places calls pc js) k s ≡ pick (exits c n message places calls (pc + k) (drop k js)) 0 s
+pick_at c n message places calls pc [] zero s = refl
+pick_at c n message places calls pc [] (suc k) s = refl
+pick_at c n message places calls pc (j ∷ js) zero s =
+    let e : pc ≡ pc + 0 = omega arith in ap (λ p. pick (exits c n message places calls p (j ∷ js)) 0 s) e
+pick_at c n message places calls pc (j ∷ js) (suc k) s =
     let e : pc + 1 + k ≡ pc + suc k = omega arith in
-    pick_at c message places calls (pc + 1) js k s ∙ ap (λ p. pick (exits c message places calls p (drop k js)) 0 s) e
+    pick_at c n message places calls (pc + 1) js k s ∙ ap (λ p. pick (exits c n message places calls p (drop k js)) 0 s) e
 
 range_first : {X : Type 0} (xs : List X) (a to : ℕ) (x : X) → slice_get xs a ≡ Some x → a < to → slice_range xs a to ≡ x ∷ slice_range xs (a + 1) to
 range_first {X} xs a to x h l =
@@ -33,7 +33,7 @@ range_first {X} xs a to x h l =
 
 -- where a jump from pc leads
 abbrev jump : Parts → List ℕ → ℕ → List ℕ → ℕ → ℕ → State → Exit
-jump c message n places pc t s = goes pc (exits c message places (calls_of c message n places) (pc + 1) (slice_range c.instructions (pc + 1) (end_of c n))) t s
+jump c message n places pc t s = goes pc (exits c n message places (calls_of c message n places) (pc + 1) (slice_range c.instructions (pc + 1) (end_of c n))) t s
 
 jump_to : (c : Parts) (message : List ℕ) (n : ℕ) (places : List ℕ) (pc t : ℕ) (s : State) → pc < t → t < end_of c n → jump c message n places pc t s ≡ block c message n places t s
 jump_to c message n places pc t s h l =
@@ -41,14 +41,14 @@ jump_to c message n places pc t s h l =
     let js = c.instructions in
     let e : pc + 1 + (t - (pc + 1)) ≡ t = omega arith in
     let m : pc + 1 + (t - (pc + 1)) ≤ to = omega arith in
-    ap (λ v. cond v (pick (exits c message places (calls_of c message n places) (pc + 1) (slice_range js (pc + 1) to)) (t - (pc + 1)) s) (at_once Stuck)) (lt-ltb pc t h)
-    ∙ pick_at c message places (calls_of c message n places) (pc + 1) (slice_range js (pc + 1) to) (t - (pc + 1)) s
-    ∙ ap (λ l. pick (exits c message places (calls_of c message n places) (pc + 1 + (t - (pc + 1))) l) 0 s) (drop_range js (pc + 1) (t - (pc + 1)) to m)
-    ∙ ap (λ p. pick (exits c message places (calls_of c message n places) p (slice_range js p to)) 0 s) e
+    ap (λ v. cond v (pick (exits c n message places (calls_of c message n places) (pc + 1) (slice_range js (pc + 1) to)) (t - (pc + 1)) s) (at_once Stuck)) (lt-ltb pc t h)
+    ∙ pick_at c n message places (calls_of c message n places) (pc + 1) (slice_range js (pc + 1) to) (t - (pc + 1)) s
+    ∙ ap (λ l. pick (exits c n message places (calls_of c message n places) (pc + 1 + (t - (pc + 1))) l) 0 s) (drop_range js (pc + 1) (t - (pc + 1)) to m)
+    ∙ ap (λ p. pick (exits c n message places (calls_of c message n places) p (slice_range js p to)) 0 s) e
 
 unfolded : (c : Parts) (message places : List ℕ) (n pc : ℕ) (s : State) (flow : Flow) (touched : List ℕ) (steps : ℕ) → HasEffect c message places n pc s flow touched steps → block c message n places pc s ≡ after touched steps (led c (calls_of c message n places) pc (jump c message n places pc) flow)
 unfolded c message places n pc s flow touched steps h =
-    ap (λ js. pick (exits c message places (calls_of c message n places) pc js) 0 s) (range_first c.instructions pc (end_of c n) h.instruction h.there h.within)
+    ap (λ js. pick (exits c n message places (calls_of c message n places) pc js) 0 s) (range_first c.instructions pc (end_of c n) h.instruction h.there h.within)
     ∙ ap (follow c (calls_of c message n places) pc (jump c message n places pc)) h.is
 
 pub run_goes : RunGoes
@@ -99,7 +99,7 @@ below_is c message (suc k) n places s h = at_test c message k n places s h (λ q
 pub run_calls : RunCalls
 run_calls c message places n pc first m cells site s t touched steps h l less =
     let args = registers_from t.regs first (routine_of c m).params in
-    let callee = below c message n m (places_by places (map_of c cells)) (entered (routine_of c m) args t) in
+    let callee = below c message n m (places_by places (cells_by c n m cells)) (entered (routine_of c m) args t) in
     unfolded c message places n pc s (Calls first m cells site t) touched steps h
     ∙ ap (after touched steps)
     (back_same c site t (jump c message n places pc (pc + 1)) (block c message n places (pc + 1)) (λ u. jump_to c message n places pc (pc + 1) u (omega arith) l) callee.touched callee.steps callee.way

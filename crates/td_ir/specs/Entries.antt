@@ -1,5 +1,5 @@
 -- Entry points of code by name, and what fits them.
-use Rattle.std.specs.Prelude.{◌≡◌, ℕ, ◌<◌, ◌^◌, ◌*◌, List, length, slice_get, slice_index, Some}
+use Rattle.std.specs.Prelude.{◌≡◌, ℕ, ◌<◌, ◌^◌, ◌*◌, List, ◌++◌, length, replicate, slice_get, slice_index, Some}
 use Rattle.td_num.specs.Numbers.{bytes_in}
 use Rattle.td_core.specs.declared.module.Entry.{Entry}
 use Rattle.td_core.specs.declared.module.Param.{Param}
@@ -38,3 +38,10 @@ pub record Fits (c : Parts) (entry : Entry) (args cells : List ℕ) : Type 0 whe
   pub cell_count : length cells ≡ length (entry_of c entry.number).cells
   pub args_fit : AreArguments (entry_of c entry.number).params args (length args)
   pub cells_fit : AreValues (entry_of c entry.number).cells cells (length cells)
+
+-- how many buffers an entry point has, and its cells with those of its buffers, which hold nothing at first
+abbrev pub buffers_of : Parts → Entry → ℕ
+buffers_of c entry = length (routine_of c (entry_of c entry.number).routine).buffers
+
+abbrev pub opened_by : Parts → Entry → List ℕ → List ℕ
+opened_by c entry cells = cells ++ replicate (2 * buffers_of c entry) 0

@@ -7,7 +7,7 @@ use Rattle.td_core.specs.declared.outcome.Reason.TheVariants.{NotEnough, ListSiz
 use Rattle.td_ir.specs.declared.instructions.Instr.{Instr}
 use Rattle.td_ir.specs.declared.instructions.Instr.TheVariants as i
 use Rattle.td_ir.specs.declared.tables.Parts.{Parts}
-use Rattle.td_ir.specs.Tables.{set_of}
+use Rattle.td_ir.specs.Tables.{routine_of, set_of}
 use Rattle.td_ir.specs.State.{State, reg, with_reg, at_pos, left}
 use Rattle.td_ir.specs.Values.{bit, operated, bits_of, reason_of, order_of, numbers_from, first_where, looked_at, is_zero, is_nonzero}
 
@@ -73,31 +73,41 @@ zeroterm message next site width bound room s =
     let count = looked_at first (min bound room) in
     record { flow = zeroterm_flow next site width bound room first s; touched = places_from s.pos (count * width); steps = 1 + count }
 
--- an instruction at pc of a routine whose cells are these of the entry point's
-abbrev pub effect : Parts → (message places : List ℕ) → ℕ → Instr → State → Effect
-effect c message places pc (i.Const into value) s = plain (Goes (pc + 1) (with_reg s into value))
-effect c message places pc (i.Member into source set) s = plain (Goes (pc + 1) (with_reg s into (bit (is_among (set_of c set) (reg s source)))))
-effect c message places pc (i.Op into operator x y) s = plain (Goes (pc + 1) (with_reg s into (operated operator (reg s x) (reg s y))))
-effect c message places pc (i.Bits into source low count) s = plain (Goes (pc + 1) (with_reg s into (bits_of (reg s source) low count)))
-effect c message places pc (i.Pos into) s = plain (Goes (pc + 1) (with_reg s into s.start))
-effect c message places pc (i.Jump target) s = plain (Goes target s)
-effect c message places pc (i.JumpIf test target) s = plain (cond (nat_eq (reg s test) 0) (Goes (pc + 1) s) (Goes target s))
-effect c message places pc (i.JumpUnless test target) s = plain (cond (nat_eq (reg s test) 0) (Goes target s) (Goes (pc + 1) s))
-effect c message places pc (i.Call first routine map site) s = plain (Calls first routine map site s)
-effect c message places pc i.Return s = plain (Returns s)
-effect c message places pc (i.Fetch into order width site) s = fetched message (pc + 1) into order width site s
-effect c message places pc (i.SkipK bytes site) s = skipped (pc + 1) bytes site s
-effect c message places pc (i.Skip size site) s = skipped (pc + 1) (reg s size) site s
-effect c message places pc i.Rest s = plain (Goes (pc + 1) (at_pos s s.end))
-effect c message places pc (i.Zeros site) s = zeros message (pc + 1) site s
-effect c message places pc (i.Zeroterm bound width site) s = zeroterm message (pc + 1) site width (reg s bound / width) (left s / width) s
-effect c message places pc (i.NarrowK bytes site) s = narrowed (pc + 1) bytes site s
-effect c message places pc (i.Narrow size site) s = narrowed (pc + 1) (reg s size) site s
-effect c message places pc (i.Divides size step site) s = plain (where_so (nat_eq (reg s size % step) 0) (pc + 1) s ListSize site)
-effect c message places pc (i.While target) s = plain (Loops target s)
-effect c message places pc (i.Again target) s = plain (Turns s)
-effect c message places pc (i.Widen site) s = plain (cond (nat_eq s.pos s.end) (Goes (pc + 1) (record s { end = s.outer })) (Fails ListSize site s.start s))
-effect c message places pc (i.Fail reason site) s = plain (Fails (reason_of reason) site s.start s)
-effect c message places pc (i.Get into cell) s = plain (Goes (pc + 1) (with_reg s into (slice_index s.cells (slice_index places cell))))
-effect c message places pc (i.Set source cell) s = plain (Goes (pc + 1) (record s { cells = slice_set s.cells (slice_index places cell) (reg s source) }))
-effect c message places pc i.Mark s = plain (Goes (pc + 1) (record s { start = s.pos }))
+-- so many bytes are taken, and the first ones, up to the room, stand in a buffer from then on: two cells get their place and their number
+abbrev pub copied : (next size room place count site : ℕ) → State → Effect
+copied next size room place count site s =
+    cond (has_bytes s size)
+    (record { flow = Goes next (record s { cells = slice_set (slice_set s.cells place s.pos) count (min size room); pos = s.pos + size }); touched = places_from s.pos (min size room); steps = 1 + min size room })
+    (plain (Fails NotEnough site s.start s))
+
+-- an instruction at pc of routine n, whose cells, and then those of its buffers, are these of the entry point's
+abbrev pub effect : Parts → ℕ → (message places : List ℕ) → ℕ → Instr → State → Effect
+effect c n message places pc (i.Const into value) s = plain (Goes (pc + 1) (with_reg s into value))
+effect c n message places pc (i.Member into source set) s = plain (Goes (pc + 1) (with_reg s into (bit (is_among (set_of c set) (reg s source)))))
+effect c n message places pc (i.Op into operator x y) s = plain (Goes (pc + 1) (with_reg s into (operated operator (reg s x) (reg s y))))
+effect c n message places pc (i.Bits into source low count) s = plain (Goes (pc + 1) (with_reg s into (bits_of (reg s source) low count)))
+effect c n message places pc (i.Pos into) s = plain (Goes (pc + 1) (with_reg s into s.start))
+effect c n message places pc (i.Jump target) s = plain (Goes target s)
+effect c n message places pc (i.JumpIf test target) s = plain (cond (nat_eq (reg s test) 0) (Goes (pc + 1) s) (Goes target s))
+effect c n message places pc (i.JumpUnless test target) s = plain (cond (nat_eq (reg s test) 0) (Goes target s) (Goes (pc + 1) s))
+effect c n message places pc (i.Call first routine map site) s = plain (Calls first routine map site s)
+effect c n message places pc i.Return s = plain (Returns s)
+effect c n message places pc (i.Fetch into order width site) s = fetched message (pc + 1) into order width site s
+effect c n message places pc (i.SkipK bytes site) s = skipped (pc + 1) bytes site s
+effect c n message places pc (i.Skip size site) s = skipped (pc + 1) (reg s size) site s
+effect c n message places pc i.Rest s = plain (Goes (pc + 1) (at_pos s s.end))
+effect c n message places pc (i.Zeros site) s = zeros message (pc + 1) site s
+effect c n message places pc (i.Zeroterm bound width site) s = zeroterm message (pc + 1) site width (reg s bound / width) (left s / width) s
+effect c n message places pc (i.NarrowK bytes site) s = narrowed (pc + 1) bytes site s
+effect c n message places pc (i.Narrow size site) s = narrowed (pc + 1) (reg s size) site s
+effect c n message places pc (i.Divides size step site) s = plain (where_so (nat_eq (reg s size % step) 0) (pc + 1) s ListSize site)
+effect c n message places pc (i.While target) s = plain (Loops target s)
+effect c n message places pc (i.Again target) s = plain (Turns s)
+effect c n message places pc (i.Widen site) s = plain (cond (nat_eq s.pos s.end) (Goes (pc + 1) (record s { end = s.outer })) (Fails ListSize site s.start s))
+effect c n message places pc (i.Fail reason site) s = plain (Fails (reason_of reason) site s.start s)
+effect c n message places pc (i.Get into cell) s = plain (Goes (pc + 1) (with_reg s into (slice_index s.cells (slice_index places cell))))
+effect c n message places pc (i.Set source cell) s = plain (Goes (pc + 1) (record s { cells = slice_set s.cells (slice_index places cell) (reg s source) }))
+effect c n message places pc i.Mark s = plain (Goes (pc + 1) (record s { start = s.pos }))
+effect c n message places pc (i.Copy size buffer site) s =
+    let first = (routine_of c n).cells + 2 * buffer in
+    copied (pc + 1) (reg s size) (slice_index (routine_of c n).buffers buffer) (slice_index places first) (slice_index places (first + 1)) site s

@@ -12,7 +12,7 @@ use Rattle.td_core.specs.Outcome.{FramePlace, frame_at}
 use Rattle.td_ir.specs.declared.instructions.Instr.{Instr}
 use Rattle.td_ir.specs.declared.tables.Parts.{Parts}
 use Rattle.td_ir.specs.declared.tables.Routine.{Routine}
-use Rattle.td_ir.specs.Tables.{routine_of, entry_of, site_of, map_of, first_of, end_of}
+use Rattle.td_ir.specs.Tables.{routine_of, entry_of, site_of, cells_by, first_of, end_of}
 use Rattle.td_ir.specs.State.{State, left, registers_from, Way, Returned, Turned, Failed, Stuck, Exit, at_once, after}
 use Rattle.td_ir.specs.Flow.{Flow, Goes, Fails, Calls, Returns, Loops, Turns, Effect, effect}
 
@@ -83,13 +83,13 @@ abbrev pub goes : ℕ → List (State → Exit) → ℕ → State → Exit
 goes pc fs t s = cond (nat_lt pc t) (pick fs (t - (pc + 1)) s) (at_once Stuck)
 
 -- before the exits that follow, that from one more instruction
-abbrev pub joined : Parts → (message places : List ℕ) → Callees → ℕ → Instr → List (State → Exit) → List (State → Exit)
-joined c message places calls pc j fs = (λ s. follow c calls pc (goes pc fs) (effect c message places pc j s)) ∷ fs
+abbrev pub joined : Parts → ℕ → (message places : List ℕ) → Callees → ℕ → Instr → List (State → Exit) → List (State → Exit)
+joined c n message places calls pc j fs = (λ s. follow c calls pc (goes pc fs) (effect c n message places pc j s)) ∷ fs
 
 -- the exit from each instruction on
-abbrev pub exits : Parts → (message places : List ℕ) → Callees → ℕ → List Instr → List (State → Exit)
-exits c message places calls pc [] = []
-exits c message places calls pc (j ∷ js) = joined c message places calls pc j (exits c message places calls (pc + 1) js)
+abbrev pub exits : Parts → ℕ → (message places : List ℕ) → Callees → ℕ → List Instr → List (State → Exit)
+exits c n message places calls pc [] = []
+exits c n message places calls pc (j ∷ js) = joined c n message places calls pc j (exits c n message places calls (pc + 1) js)
 
 -- the places of a callee's cells, by those of its caller
 abbrev pub places_by : List ℕ → List ℕ → List ℕ
@@ -105,8 +105,8 @@ below c message zero n places s = at_once Stuck
 below c message (suc k) n places s =
     cond (nat_eq n k)
     (pick
-    (exits c message places
-    (λ first m cells t. below c message k m (places_by places (map_of c cells)) (entered (routine_of c m) (registers_from t.regs first (routine_of c m).params) t))
+    (exits c k message places
+    (λ first m cells t. below c message k m (places_by places (cells_by c k m cells)) (entered (routine_of c m) (registers_from t.regs first (routine_of c m).params) t))
     (first_of c k) (slice_range c.instructions (first_of c k) (end_of c k)))
     0 s)
     (below c message k n places s)
@@ -114,11 +114,11 @@ below c message (suc k) n places s =
 -- a call out of routine n
 abbrev pub calls_of : Parts → List ℕ → ℕ → List ℕ → Callees
 calls_of c message n places first m cells t =
-    below c message n m (places_by places (map_of c cells)) (entered (routine_of c m) (registers_from t.regs first (routine_of c m).params) t)
+    below c message n m (places_by places (cells_by c n m cells)) (entered (routine_of c m) (registers_from t.regs first (routine_of c m).params) t)
 
 -- the exit from pc on in routine n
 abbrev pub block : Parts → List ℕ → ℕ → List ℕ → ℕ → State → Exit
-block c message n places pc s = pick (exits c message places (calls_of c message n places) pc (slice_range c.instructions pc (end_of c n))) 0 s
+block c message n places pc s = pick (exits c n message places (calls_of c message n places) pc (slice_range c.instructions pc (end_of c n))) 0 s
 
 -- before the first instruction: from byte 0 to the end of the message
 abbrev pub started : List ℕ → List ℕ → State

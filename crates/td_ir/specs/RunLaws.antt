@@ -3,7 +3,7 @@ use Rattle.std.specs.Prelude.{◌≡◌, ℕ, suc, ◌+◌, ◌<◌, List, [], �
 use Rattle.td_core.specs.declared.outcome.Reason.{Reason}
 use Rattle.td_ir.specs.declared.instructions.Instr.{Instr}
 use Rattle.td_ir.specs.declared.tables.Parts.{Parts}
-use Rattle.td_ir.specs.Tables.{routine_of, map_of, first_of, end_of}
+use Rattle.td_ir.specs.Tables.{routine_of, cells_by, first_of, end_of}
 use Rattle.td_ir.specs.State.{State, left, registers_from, Returned, Turned, Failed, Exit, at_once, after}
 use Rattle.td_ir.specs.Flow.{Flow, Goes, Fails, Calls, Returns, Loops, Turns, Effect, effect}
 use Rattle.td_ir.specs.Run.{frame, back, turns, places_by, entered, block}
@@ -13,7 +13,7 @@ pub record HasEffect (c : Parts) (message places : List ℕ) (n pc : ℕ) (s : S
   pub instruction : Instr
   pub there : slice_get c.instructions pc ≡ Some instruction
   pub within : pc < end_of c n
-  pub is : effect c message places pc instruction s ≡ record { flow = flow; touched = touched; steps = steps }
+  pub is : effect c n message places pc instruction s ≡ record { flow = flow; touched = touched; steps = steps }
 
 abbrev pub RunGoes : Type 0
 RunGoes =
@@ -46,7 +46,7 @@ RunCalls =
     HasEffect c message places n pc s (Calls first m cells site t) touched steps → pc + 1 < end_of c n → m < n →
     block c message n places pc s ≡
     after touched steps (back c site t (block c message n places (pc + 1))
-    (block c message m (places_by places (map_of c cells)) (first_of c m) (entered (routine_of c m) (registers_from t.regs first (routine_of c m).params) t)))
+    (block c message m (places_by places (cells_by c n m cells)) (first_of c m) (entered (routine_of c m) (registers_from t.regs first (routine_of c m).params) t)))
 
 -- a loop of which the body and what follows lie behind its While
 abbrev pub RunLoops : Type 0

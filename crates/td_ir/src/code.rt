@@ -9,9 +9,9 @@ use std::marker::Model;
 use thiserror::Error;
 
 /// A table has what it may not have: an index that isn't in its table (the routine of a site too), a routine of no
-/// instructions or with fewer registers than parameters, lengths of routines that aren't the count of instructions
-/// together, an entry point with another number of parameters or cells than its routine, or a set that doesn't strictly
-/// rise.
+/// instructions, with fewer registers than parameters or with 2^16 buffers or more, lengths of routines that aren't the count of
+/// instructions together, an entry point with another number of parameters, cells or buffers than its routine, or a set that
+/// doesn't strictly rise.
 #[derive(Clone, Copy, PartialEq, Eq, Debug, Drop, Error)]
 #[error("bad table")]
 pub struct BadTable;

@@ -1,10 +1,12 @@
 -- The tables of a module's code fit together, and stand for what they should. Cited by other crates.
 use Rattle.std.proofs.Common.{◌≡◌, ℕ, zero, suc, ◌+◌, ◌<◌, ◌≤◌, List, [], ◌∷◌, length, slice_index_or, slice_get, codes, Option, Some, None, refl, sym, ap, subst, ◌∙◌, arith, length-append, ◌-◌}
+use Rattle.std.proofs.lemmas.List.{length-map}
 use Rattle.td_num.specs.declared.number.Width.TheVariants.{One}
 use Rattle.td_num.specs.Lists.{Each, is_among}
 use Rattle.td_core.specs.declared.module.NameId.{NameId}
 use Rattle.td_core.specs.declared.module.Param.{Param}
 use Rattle.td_core.specs.declared.module.Cell.{Cell}
+use Rattle.td_core.specs.declared.module.Buffer.{Buffer}
 use Rattle.td_core.specs.declared.module.CellKind.TheVariants.{Pointer}
 use Rattle.td_core.specs.declared.module.Part.{Part}
 use Rattle.td_core.specs.declared.module.Field.{Field}
@@ -13,15 +15,15 @@ use Rattle.td_core.specs.declared.module.Body.{Body}
 use Rattle.td_core.specs.declared.module.Body.TheVariants.{Struct, Casetype}
 use Rattle.td_core.specs.declared.module.TypeDef.{TypeDef}
 use Rattle.td_core.specs.declared.module.Module.{Module}
-use Rattle.td_core.specs.Copies.{IsCopyless}
-use Rattle.td_core.specs.WellFormed.{OfSome, EachField, HasParts, IsWhole, IsNameThere, IsDefinitionNamed}
+use Rattle.td_core.specs.Formed.{own_bounds, param_bounds}
+use Rattle.td_core.specs.Copies.{IsDefinitionCopying}
+use Rattle.td_core.specs.WellFormed.{OfSome, EachField, HasParts, IsNameThere, IsDefinitionNamed, DefinitionWithin}
 use Rattle.td_meaning.specs.Meaning as meaning
-use Rattle.td_lexer.specs.Splits.{IsLongName}
 use Rattle.td_ir.specs.declared.tables.EntryPoint.{EntryPoint}
 use Rattle.td_ir.specs.declared.tables.Parts.{Parts}
 use Rattle.td_ir.specs.declared.tables.Site.{Site}
 use Rattle.td_ir.specs.Tables.{routine_of, site_of, entry_of, param_of, cell_of, lengths_of, begin}
-use Rattle.td_ir.specs.WellFormed.{IsName as IsNameIn, IsField, IsSite, IsRoutine, IsCellNamed, IsEntry, IsCode}
+use Rattle.td_ir.specs.WellFormed.{IsName as IsNameIn, IsField, IsSite, IsRoutine, IsCellNamed, AreBuffers, IsEntry, IsCode}
 use Rattle.td_blocks.specs.Block.{size, LayingOut}
 use Rattle.td_blocks.specs.Constructs.{body}
 use Rattle.td_blocks.specs.Lowered.{definition_body, definition_block, block_of, first_site, sites_in}
@@ -32,9 +34,10 @@ use Rattle.td_blocks.specs.Tops.{fields_levels, cases_levels, body_levels}
 use Rattle.td_acceptance.specs.Laws.{BlocksHaveCode}
 use Rattle.td_acceptance.specs.Modules.{IsSupplied}
 use Rattle.td_acceptance.specs.Good.{IsSiteOf}
-use Rattle.td_lower.specs.Tables.{where_name, switch_name, parts_sites, fields_sites, default_sites, cases_sites, body_sites, definition_sites, definitions_sites, definition_maps, params_or_none, cells_or_none, entry_for, entries_for}
-use Rattle.td_lower.specs.Code.{units_of, routine_for, IsWritten}
+use Rattle.td_lower.specs.Tables.{where_name, switch_name, parts_sites, fields_sites, default_sites, cases_sites, body_sites, definition_sites, definitions_sites, definition_maps, params_or_none, cells_or_none, buffer_names, buffers_or_none, entry_for, entries_for}
+use Rattle.td_lower.specs.Code.{units_of, routine_for, IsLowerable, IsWritten}
 use Rattle.td_lower.proofs.Standing.{From, all_from, sites_from, maps_from, all_sites, all_maps, definition_count}
+use Rattle.td_lower.proofs.Owning.{body_owned}
 use Rattle.td_lower.proofs.Tabling.{definition_sited, no_site}
 use Rattle.td_lower.proofs.Places.{routines_count, routine_is, length_is, begins, stands_at}
 use Rattle.td_num.proofs.Lists.{got, each_at, each_append, each_index}
@@ -131,6 +134,11 @@ module _ (count names routines : ℕ) (more : count ≤ names) where
       let x = each_index (λ x. IsNameThere count x.name × OfSome (IsNameThere count) x.field) cs (record { name = record { number = 0 }; field = None; kind = Pointer }) k h l in
       record { named = (let y = x.0 in omega (arith, y, more)); field_named = field_in _ x.1 }
 
+  buffers_named : (bs : List Buffer) → Each (λ b. IsNameThere count b.name) bs → AreBuffers names (buffer_names bs) (length (buffer_names bs))
+  buffers_named [] h k l = absurd (omega (arith, l))
+  buffers_named (b ∷ bs) h zero l = (let x = h.0 in omega (arith, x, more))
+  buffers_named (b ∷ bs) h (suc k) l = buffers_named bs h.1 k (omega (arith, l))
+
 -- levels begin with those that are given
 fields_up : (L : ℕ) (fs : List Field) → L ≤ fields_levels L fs
 fields_up L [] = omega arith
@@ -156,15 +164,14 @@ entries_count ds [] = refl
 entries_count ds (p ∷ ps) = ap suc (entries_count ds ps)
 
 abbrev no_entry : EntryPoint
-no_entry = record { routine = 0; params = []; cells = [] }
+no_entry = record { routine = 0; params = []; cells = []; buffers = [] }
 
 entry_at : (ds : List TypeDef) (places : List ℕ) (n place : ℕ) → slice_get places n ≡ Some place → slice_index_or (entries_for ds places) n no_entry ≡ entry_for ds place
 entry_at ds [] n place h = absurd (cc)
 entry_at ds (p ∷ ps) zero place h = (let same : p ≡ place = cc in ap (entry_for ds) same)
 entry_at ds (p ∷ ps) (suc n) place h = entry_at ds ps n place h
 
-module _ (c : Parts) (m : Module) (w : IsWritten c m) (copyless : IsCopyless m) (whole : IsWhole m) (named : Each (IsDefinitionNamed (length m.names)) m.definitions) (words : Each IsLongName m.names)
-    (law : LayingOut) (some : BlocksHaveCode) where
+module _ (c : Parts) (m : Module) (w : IsWritten c m) (l : IsLowerable m) (law : LayingOut) (some : BlocksHaveCode) where
   names_are : length c.names ≡ length m.names + 2
   names_are = (let x = ap length w.names in let y = length-append m.names (codes "where" ∷ codes "switch" ∷ []) in omega (arith, x, y))
 
@@ -176,7 +183,7 @@ module _ (c : Parts) (m : Module) (w : IsWritten c m) (copyless : IsCopyless m) 
       let k = names_are in
       let e = count_is in
       subst (Each (IsSite (length c.names) (length c.routines))) (sym w.sites)
-      (definitions_named (length m.names) (length c.names) (length c.routines) (omega (arith, k)) (where_name m) (switch_name m) (omega (arith, k)) (omega (arith, k)) 0 m.definitions (omega (arith, e)) named)
+      (definitions_named (length m.names) (length c.names) (length c.routines) (omega (arith, k)) (where_name m) (switch_name m) (omega (arith, k)) (omega (arith, k)) 0 m.definitions (omega (arith, e)) l.named)
 
   pub routine_at : (n : ℕ) (d : TypeDef) → slice_get m.definitions n ≡ Some d → routine_of c n ≡ routine_for (size (block_of (units_of m) m.definitions n)) (Some d)
   routine_at n d e =
@@ -187,35 +194,42 @@ module _ (c : Parts) (m : Module) (w : IsWritten c m) (copyless : IsCopyless m) 
       let x = got m.definitions n h in
       let d = x.0 in
       let r = routine_at n d x.1 in
-      let own = (each_at (IsDefinitionNamed (length m.names)) m.definitions n d named x.1).own in
+      let own = (each_at (IsDefinitionNamed (length m.names)) m.definitions n d l.named x.1).own in
       let k = names_are in
       let block : block_of (units_of m) m.definitions n ≡ body (definition_body (first_site m.definitions n) (units_of m n) d) = ap (definition_block (first_site m.definitions n) (units_of m n)) x.1 in
       let z = some (definition_body (first_site m.definitions n) (units_of m n) d) in
       let b = ap size block in
       let up = body_up (length d.params) d.body in
-      subst (IsRoutine (length c.names)) (sym r) (record { named = omega (arith, own, k); some = omega (arith, z, b); room = omega (arith, up) })
+      let few = (each_at DefinitionWithin m.definitions n d l.within.each x.1).buffers in
+      let count = length-map d.buffers (λ b. b.room) in
+      subst (IsRoutine (length c.names)) (sym r) (record { named = omega (arith, own, k); some = omega (arith, z, b); room = omega (arith, up); few = omega (arith, few, count) })
 
   entry_good : (n : ℕ) → n < length c.entries → IsEntry c (entry_of c n)
   entry_good n h =
-      let l = ap length w.entries ∙ entries_count m.definitions m.entries in
-      let p = got m.entries n (omega (arith, h, l)) in
-      let inside = each_at (λ place. place < length m.definitions) m.entries n p.0 whole.entries p.1 in
+      let many = ap length w.entries ∙ entries_count m.definitions m.entries in
+      let p = got m.entries n (omega (arith, h, many)) in
+      let inside = each_at (λ place. place < length m.definitions) m.entries n p.0 l.whole.entries p.1 in
       let x = got m.definitions p.0 inside in
       let d = x.0 in
-      let e : entry_of c n ≡ record { routine = p.0; params = d.params; cells = d.cells } =
-      ap (λ y. slice_index_or y n no_entry) w.entries ∙ (entry_at m.definitions m.entries n p.0 p.1 ∙ ap (λ o. record { routine = p.0; params = params_or_none o; cells = cells_or_none o }) x.1) in
+      let e : entry_of c n ≡ record { routine = p.0; params = d.params; cells = d.cells; buffers = buffer_names d.buffers } =
+      ap (λ y. slice_index_or y n no_entry) w.entries
+      ∙ (entry_at m.definitions m.entries n p.0 p.1 ∙ ap (λ o. record { routine = p.0; params = params_or_none o; cells = cells_or_none o; buffers = buffers_or_none o }) x.1) in
       let r = routine_at p.0 d x.1 in
       let k = names_are in
       let count = count_is in
-      let own = each_at (IsDefinitionNamed (length m.names)) m.definitions p.0 d named x.1 in
+      let own = each_at (IsDefinitionNamed (length m.names)) m.definitions p.0 d l.named x.1 in
       let rp : length d.params ≡ (routine_of c p.0).params = sym (ap (λ y. y.params) r) in
       let rc : length d.cells ≡ (routine_of c p.0).cells = sym (ap (λ y. y.cells) r) in
+      let rb : length (buffer_names d.buffers) ≡ length (routine_of c p.0).buffers =
+      length-map d.buffers (λ b. b.name) ∙ (sym (length-map d.buffers (λ b. b.room)) ∙ sym (ap (λ y. length y.buffers) r)) in
       subst (IsEntry c) (sym e) (record {
         there = omega (arith, inside, count);
         param_count = rp;
         cell_count = rc;
+        buffer_count = rb;
         params_named = λ j l'. params_named (length m.names) (length c.names) (length c.routines) (omega (arith, k)) d.params j own.params l';
         cells_named = λ j l'. cells_named (length m.names) (length c.names) (length c.routines) (omega (arith, k)) d.cells j own.cells l';
+        buffers_named = buffers_named (length m.names) (length c.names) (length c.routines) (omega (arith, k)) d.buffers own.buffers;
       })
 
   pub is_code : IsCode c
@@ -229,11 +243,12 @@ module _ (c : Parts) (m : Module) (w : IsWritten c m) (copyless : IsCopyless m) 
 
   pub is_laid : IsLaid c (units_of m) m
   is_laid = record {
-    copyless = copyless;
     count = count_is;
     stands = λ n h. stands_at c (units_of m) m.definitions w.routines w.instructions law n h;
     sizes = λ n h. length_is c (units_of m) m.definitions w.routines w.instructions n h;
     params = λ n h. (let x = got m.definitions n h in ap (λ y. y.params) (routine_at n x.0 x.1) ∙ sym (ap count_of x.1));
+    cells = λ n d e. ap (λ y. y.cells) (routine_at n d e);
+    buffers = λ n d e. ap (λ y. y.buffers) (routine_at n d e);
     entries = λ n place h. ap (λ y. (slice_index_or y n no_entry).routine) w.entries ∙ ap (λ y. y.routine) (entry_at m.definitions m.entries n place h);
     entry_count = ap length w.entries ∙ entries_count m.definitions m.entries;
     entry_params = λ n place d h e. ap (λ y. (slice_index_or y n no_entry).params) w.entries ∙ (ap (λ y. y.params) (entry_at m.definitions m.entries n place h) ∙ ap params_or_none e);
@@ -248,15 +263,22 @@ module _ (c : Parts) (m : Module) (w : IsWritten c m) (copyless : IsCopyless m) 
       (subst (λ k. From c.sites no_site k (definition_sites (where_name m) (switch_name m) (0 + n) d)) z
       (sites_from c.sites no_site (where_name m) (switch_name m) 0 m.definitions 0 n d (subst (λ y. From c.sites no_site 0 y) w.sites (all_from c.sites no_site)) e))
 
-  sited : (n : ℕ) → n < length m.definitions → DefinitionSited c (first_site m.definitions n) (slice_get m.definitions n)
+  theirs : (n j : ℕ) → n < length m.definitions → j < n → (e : TypeDef) × ((slice_get m.definitions j ≡ Some e) × ((routine_of c j).cells ≡ length e.cells))
+  theirs n j h k = (let x = got m.definitions j (omega (arith, h, k)) in (x.0, (x.1, ap (λ y. y.cells) (routine_at j x.0 x.1))))
+
+  sited : (n : ℕ) → n < length m.definitions → DefinitionSited c n (first_site m.definitions n) (slice_get m.definitions n)
   sited n h =
       let x = got m.definitions n h in
       let d = x.0 in
       let z : first_site m.definitions n + 0 ≡ first_site m.definitions n = omega arith in
       let g = maps_from c.maps [] m.definitions 0 n d (subst (λ y. From c.maps [] 0 y) w.maps (all_from c.maps [])) x.1 in
-      subst (DefinitionSited c (first_site m.definitions n)) (sym x.1)
-      (definition_sited c m w.names words n (first_site m.definitions n) d (each_at (λ y. EachField (λ f. HasParts f.parts) y.body) m.definitions n d whole.parts x.1)
-      (each_at (IsDefinitionNamed (length m.names)) m.definitions n d named x.1).fields
+      let r = routine_at n d x.1 in
+      subst (DefinitionSited c n (first_site m.definitions n)) (sym x.1)
+      (definition_sited c m w.names l.words n d (ap (λ y. y.cells) r) (ap (λ y. y.buffers) r) (λ j k. theirs n j h k)
+      (first_site m.definitions n) (each_at (λ y. EachField (λ f. HasParts f.parts) y.body) m.definitions n d l.whole.parts x.1)
+      (each_at (IsDefinitionNamed (length m.names)) m.definitions n d l.named x.1).fields
+      (body_owned m.definitions n (own_bounds d) (param_bounds d.params) d.body (l.ready.formed n d x.1).1)
+      (each_at (IsDefinitionCopying m.definitions) m.definitions n d l.copying x.1).fields
       (sites_at n d x.1)
       (subst (λ k. From c.maps [] k (definition_maps d)) z g))
 
@@ -287,7 +309,6 @@ module _ (c : Parts) (m : Module) (w : IsWritten c m) (copyless : IsCopyless m) 
 
   pub is_supplied : IsSupplied c m
   is_supplied = record {
-    cells = λ n d e. ap (λ y. y.cells) (routine_at n d e);
     sites = sites_own;
     maps = (let a = ap length w.sites in let b = all_sites (where_name m) (switch_name m) 0 m.definitions in let x = ap length w.maps in let y = all_maps m.definitions in omega (arith, a, b, x, y));
     sets = (let x = w.sets.count in omega (arith, x));

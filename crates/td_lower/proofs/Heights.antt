@@ -10,6 +10,7 @@ use Rattle.td_core.specs.declared.module.Element.{Element}
 use Rattle.td_core.specs.declared.module.Element.TheVariants.{Number, Listed, Named, Unit as UnitElement, Rest, Zeros}
 use Rattle.td_core.specs.declared.module.Extent.{Extent}
 use Rattle.td_core.specs.declared.module.Extent.TheVariants.{Once, Filling, OnceFilling, UpToZero}
+use Rattle.td_core.specs.declared.module.CopyOut.{CopyOut}
 use Rattle.td_core.specs.declared.module.Part.{Part}
 use Rattle.td_core.specs.declared.module.Field.{Field}
 use Rattle.td_core.specs.declared.module.Case.{Case}
@@ -19,7 +20,7 @@ use Rattle.td_core.specs.declared.module.TypeDef.{TypeDef}
 use Rattle.td_core.specs.Weights.{option_nodes, terms_nodes, deed_nodes, action_nodes, element_nodes, extent_nodes, part_nodes, total, fields_nodes, default_nodes, cases_nodes, body_nodes, head_nodes}
 use Rattle.td_blocks.specs.Constructs.{Expr}
 use Rattle.td_blocks.specs.Lowered.{compared_of, mask_of, expr_of, terms_of}
-use Rattle.td_blocks.specs.Tops.{deed_levels, action_levels, parts_levels, fields_levels, default_levels, cases_levels, body_levels, definition_levels, top, terms_top, test_top, deed_top, action_top, parts_top, sized_top, shape_top, fields_top, default_top, cases_top, body_top, definition_top}
+use Rattle.td_blocks.specs.Tops.{deed_levels, action_levels, parts_levels, fields_levels, default_levels, cases_levels, body_levels, definition_levels, top, terms_top, test_top, deed_top, action_top, parts_top, sized_top, shape_top, content_top, fields_top, default_top, cases_top, body_top, definition_top}
 use Rattle.td_core.proofs.Nodes.{some_node as some_measure, each_node as count_low}
 use Rattle.td_blocks.proofs.Heights.{computed_top}
 use Rattle.td_acceptance.proofs.Modules.{mapped}
@@ -267,6 +268,15 @@ shape_low ds n cells scope t element (Filling size step) h s k = sized_low ds n 
 shape_low ds n cells scope t element (OnceFilling size step) h s k = sized_low ds n cells scope t element size h s k
 shape_low ds n cells scope t element (UpToZero size) h s k = (let x = value_low scope (suc t) size s (omega (arith, k)) in omega (arith, x))
 
+content_low : (ds : List TypeDef) (n : ℕ) (cells scope : List Bound) (t : ℕ) (element : Element) (extent : Extent) (copy : Option CopyOut) → IsElementFormed ds n cells scope element → IsExtentFormed scope extent → length scope ≤ t
+    → content_top t element extent copy ≤ t + 4 + (element_nodes element + extent_nodes extent)
+content_low ds n cells scope t element extent None h s k = shape_low ds n cells scope t element extent h s k
+content_low ds n cells scope t element Once (Some w) h s k = shape_low ds n cells scope t element Once h s k
+content_low ds n cells scope t element (Filling size step) (Some w) h s k =
+    (let x = shape_low ds n cells scope t element (Filling size step) h s k in let y = value_low scope (suc t) size s (omega (arith, k)) in omega (arith, x, y))
+content_low ds n cells scope t element (OnceFilling size step) (Some w) h s k = shape_low ds n cells scope t element (OnceFilling size step) h s k
+content_low ds n cells scope t element (UpToZero size) (Some w) h s k = shape_low ds n cells scope t element (UpToZero size) h s k
+
 field_level : (L : ℕ) (fs : List Field) → L ≤ fields_levels L fs
 field_level L [] = omega arith
 field_level L (f ∷ fs) = (let x = first_level L f.parts in omega (arith, x))
@@ -275,7 +285,7 @@ all_low : (ds : List TypeDef) (n : ℕ) (cells scope : List Bound) (L t : ℕ) (
 all_low ds n cells scope L t [] h k l = omega arith
 all_low ds n cells scope L t (f ∷ fs) h k l =
     let up = field_level L (f ∷ fs) in
-    let x = shape_low ds n cells scope t f.element f.extent h.0 h.1.0 (omega (arith, k, up, l)) in
+    let x = content_low ds n cells scope t f.element f.extent f.copy h.0 h.1.0 (omega (arith, k, up, l)) in
     let y = members_low cells f.element f.extent scope L t f.parts h.1.1.0 k (omega (arith, l)) in
     let g = scope_low f.element f.extent scope f.parts in
     let z = all_low ds n cells (parts_scope f.element f.extent scope f.parts) (length f.parts + L) t fs h.1.1.1 (omega (arith, k, g)) (omega (arith, l)) in

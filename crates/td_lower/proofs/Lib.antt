@@ -1,4 +1,6 @@
 pub mod Standing
+mod Owning
+pub mod Mapping
 pub mod Tabling
 pub mod Places
 pub mod Codes

@@ -24,7 +24,7 @@ use Rattle.td_num.proofs.Lists.{got, each_at}
 use Rattle.td_acceptance.proofs.Modules.{last_site}
 
 admissible : (m : Module) → IsLowerable m → IsAdmissible m
-admissible m l = record { formed = l.ready.formed; copyless = l.copyless; fields = l.ready.fields; depth = l.depth; weight = l.weight; kinds = l.ready.kinds }
+admissible m l = record { formed = l.ready.formed; copying = l.copying; fields = l.ready.fields; depth = l.depth; weight = l.weight; kinds = l.ready.kinds }
 
 -- room in the operands of instructions
 pub room_for : OperandsFit → (m : Module) → IsLowerable m → (n : ℕ) (d : TypeDef) → slice_get m.definitions n ≡ Some d → HasRoomFor (first_site m.definitions n) d
@@ -37,13 +37,14 @@ room_for law m l n d e =
     let w = each_at DefinitionWithin m.definitions n d l.within.each e in
     let p = w.params in
     let c = w.cells in
+    let b = w.buffers in
     let cells = fit.0 in
     let last = last_site m.definitions n d h e in
     let sites = sites_less m.definitions in
     let parts = body_less d.body in
     record {
       registers = omega (arith, low, nodes, all);
-      cells = omega (arith, cells, c);
+      cells = omega (arith, cells, c, b);
       bits = fit.1;
       sites = omega (arith, last, sites, all);
       levels = omega (arith, p, parts, nodes, all);
@@ -68,13 +69,13 @@ sites_room m l = (let x = sites_less m.definitions in let y = l.nodes in omega (
 
 module _ (laws : HasLaws) (c : Parts) (m : Module) (w : IsWritten c m) (l : IsLowerable m) where
   pub code_fits : IsCode c
-  code_fits = is_code c m w l.copyless l.whole l.named l.words laws.laying laws.code
+  code_fits = is_code c m w l laws.laying laws.code
 
   placed : ArePlaced c (units_of m) m
   placed n h =
       let x = got m.definitions n h in
       let d = x.0 in
-      let r = routine_at c m w l.copyless l.whole l.named l.words laws.laying laws.code n d x.1 in
+      let r = routine_at c m w l laws.laying laws.code n d x.1 in
       let unit : units_of m n ≡ definition_levels d = ap unit_in x.1 in
       let own : IsPlaced m.definitions n (routine_of c n).registers (definition_levels d) d =
       laws.placed m n d (routine_of c n).registers (definition_levels d) l.ready x.1 (omega arith) (let y = ap (λ z. z.registers) r in omega (arith, y)) in
@@ -82,20 +83,20 @@ module _ (laws : HasLaws) (c : Parts) (m : Module) (w : IsWritten c m) (l : IsLo
 
   pub sound : IsSound c
   sound =
-      laws.accepted c (units_of m) m (admissible m l) (is_laid c m w l.copyless l.whole l.named l.words laws.laying laws.code) (is_tabled c m w l.copyless l.whole l.named l.words laws.laying laws.code) placed
-      (is_supplied c m w l.copyless l.whole l.named l.words laws.laying laws.code)
+      laws.accepted c (units_of m) m (admissible m l) (is_laid c m w l laws.laying laws.code) (is_tabled c m w l laws.laying laws.code) placed
+      (is_supplied c m w l laws.laying laws.code)
 
   pub no_heavier : IsNoHeavier c m
   no_heavier =
-      laws.light c (units_of m) m (admissible m l) (is_laid c m w l.copyless l.whole l.named l.words laws.laying laws.code) (is_tabled c m w l.copyless l.whole l.named l.words laws.laying laws.code) placed
-      (is_supplied c m w l.copyless l.whole l.named l.words laws.laying laws.code)
+      laws.light c (units_of m) m (admissible m l) (is_laid c m w l laws.laying laws.code) (is_tabled c m w l laws.laying laws.code) placed
+      (is_supplied c m w l laws.laying laws.code)
 
   pub code_of : IsCodeOf c m
   code_of = record {
     units = units_of m;
     code = code_fits;
-    laid = is_laid c m w l.copyless l.whole l.named l.words laws.laying laws.code;
-    tabled = is_tabled c m w l.copyless l.whole l.named l.words laws.laying laws.code;
+    laid = is_laid c m w l laws.laying laws.code;
+    tabled = is_tabled c m w l laws.laying laws.code;
     placed = placed;
   }
 

@@ -3,6 +3,7 @@
 #![tactic(auto)]
 
 pub mod lower;
+mod maps;
 mod routines;
 mod sets;
 mod tables;

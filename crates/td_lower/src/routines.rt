@@ -7,10 +7,11 @@ ghost use Rattle.td_blocks.specs.Constructs.{body};
 ghost use Rattle.td_blocks.specs.Lowered.{definition_body, first_site};
 ghost use Rattle.td_blocks.specs.Tops.{definition_levels};
 ghost use Rattle.td_emit.specs.Emission.{Finishes};
+ghost use Rattle.td_blocks.specs.Laid.{rooms};
 ghost use Rattle.td_lower.specs.Code.{unit_in, code_to, routine_for, routines_to, HasRoomFor};
 
 use std::alloc::{AllocError, Global};
-use td_core::module::TypeDef;
+use td_core::module::{Buffer, TypeDef};
 use td_emit::counts::count_sites;
 use td_emit::definitions::write_definition;
 use td_emit::writer::Writer;
@@ -18,6 +19,26 @@ use td_ir::tables::Routine;
 use td_num::items::Items;
 use td_registers::levels::definition_levels;
 use td_registers::tops::definition_top;
+
+// The rooms of buffers.
+fn push_rooms(all: &mut Items<u32>, buffers: &[Buffer]) -> Result<(), AllocError>
+    ensures { OnOk result (all.new ≡ all.old ++ rooms buffers.now) }
+{
+    let Some((buffer, rest)) = buffers.split_first() else {
+        return Ok(());
+    };
+    all.push(buffer.room)?;
+    push_rooms(all, rest)?;
+    Ok(())
+}
+
+fn rooms(alloc: Global, buffers: &[Buffer]) -> Result<Items<u32>, AllocError>
+    ensures { IfOk result (λ all. all ≡ rooms buffers.now) }
+{
+    let mut all = Items::new(alloc);
+    push_rooms(&mut all, buffers)?;
+    Ok(all)
+}
 
 // Writes the code of a definition, whose sites begin at `first`, and its routine.
 fn write_routine(
@@ -36,11 +57,13 @@ fn write_routine(
     let registers = definition_top(unit, d);
     let begin = code.place();
     write_definition(alloc, code, first, unit as u16, d)?;
+    let buffers = rooms(alloc, d.buffers.as_slice())?;
     routines.push(Routine {
         name: d.name,
         params: d.params.len() as u16,
         cells: d.cells.len() as u16,
         registers: registers as u16,
+        buffers,
         length: code.place() - begin,
     })?;
     Ok(())

@@ -145,18 +145,18 @@ truth_at e env s b h = by (natural_of e env) b (sym (ap truth_of (number_of_soun
     by zero b h = ap not_of h
     by (suc n) b h = nonzero n ∙ ap not_of h
 
-module _ (T : Parts) (message places : List ℕ) (calls : Calling) where
+module _ (T : Parts) (self : ℕ) (message places : List ℕ) (calls : Calling) where
   abbrev goes : Block → (State → Passage) → (State → Passage) → State → Passage
-  goes = ran T message places calls
+  goes = ran T self message places calls
 
   abbrev pub Put : (t v : ℕ) (s : State) (code : Block → Block) → Type 0
-  Put = Puts T message places calls
+  Put = Puts T self message places calls
 
   -- an expression, with the values that it names in their registers
   pub put_value : (e : Term) (env : List ℕ) (L t : ℕ) (s : State) → length env ≡ L → L ≤ t → IsExpr (length s.regs) L t e → Sound e env → Follows (λ j. names j e) env s.regs
       → Put t (natural_of e env) s (value t (expr_of e))
   put_value e env L t s le lt x sound f =
-      let p = puts T message places calls (expr_of e) t s x.1.1 (placed_low e L t lt x.0) in
+      let p = puts T self message places calls (expr_of e) t s x.1.1 (placed_low e L t lt x.0) in
       record {
         regs = p.regs;
         count = p.count;

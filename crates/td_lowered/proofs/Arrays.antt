@@ -1,6 +1,6 @@
 -- The code of what stands in a field.
 use Rattle.std.proofs.Common.{◌≡◌, ℕ, zero, suc, ◌+◌, ◌-◌, ◌*◌, ◌/◌, ◌%◌, ◌^◌, ◌<◌, ◌≤◌, Bool, true, false, cond, List, [], ◌∷◌, length, map, refl, sym, ap, ◌∙◌, subst, arith, nat_eq, nat_le, nat_lt, slice_index, slice_set, Option, Some, None, min}
-use Rattle.std.proofs.lemmas.List.{get_or-set_same, get_or-set_other}
+use Rattle.std.proofs.lemmas.List.{append-nil, get_or-set_same, get_or-set_other}
 use Rattle.std.proofs.Math.ListN.{length-set}
 use Rattle.std.proofs.Math.Nat.{suc-mul}
 use Rattle.std.proofs.lemmas.Bool.{eqb-true, leb-true, ltb-false}
@@ -9,16 +9,17 @@ use Rattle.td_num.specs.declared.number.Width.TheVariants.{One, Two, Four, Eight
 use Rattle.td_expr.specs.Same.{constant_of}
 use Rattle.td_expr.proofs.Folding.{constant_is}
 use Rattle.td_expr.specs.Value.{natural}
-use Rattle.td_num.specs.Numbers.{bytes_in, number_at, falling_on, rising_at}
+use Rattle.td_num.specs.Numbers.{places_from, bytes_in, number_at, falling_on, rising_at}
 use Rattle.td_num.specs.declared.number.ByteOrder.{ByteOrder}
 use Rattle.td_num.specs.declared.number.ByteOrder.TheVariants.{LittleEndian, BigEndian}
 use Rattle.td_num.specs.declared.number.NumberType.{NumberType}
 use Rattle.td_num.specs.Lists.{is_among}
 use Rattle.td_core.specs.Term.{Term}
-use Rattle.td_core.specs.Outcome.{Behavior, Accepted, and_then, within, accepted}
+use Rattle.td_core.specs.Outcome.{Behavior, Accepted, after_reading, and_then, within, accepted}
 use Rattle.td_core.specs.declared.module.NameId.{NameId}
 use Rattle.td_core.specs.declared.module.Element.{Element}
 use Rattle.td_core.specs.declared.module.Element.TheVariants.{Number, Listed, Named, Unit as UnitElement, Rest, Zeros}
+use Rattle.td_core.specs.declared.module.CopyOut.{CopyOut}
 use Rattle.td_core.specs.declared.module.Extent.{Extent}
 use Rattle.td_core.specs.declared.module.Extent.TheVariants.{Once, Filling, OnceFilling, UpToZero}
 use Rattle.td_core.specs.declared.outcome.Reason.TheVariants.{NotEnough, ListSize}
@@ -26,27 +27,28 @@ use Rattle.td_expr.specs.Sound.{Sound}
 use Rattle.td_expr.specs.Naming.{names}
 use Rattle.td_meaning.specs.Naming.{some_name, element_names, extent_names}
 use Rattle.td_meaning.specs.Doing.{natural_of}
-use Rattle.td_meaning.specs.Meaning.{Sense, values as values_in, taken, demanded, values_of, element_meaning, shape_meaning, number_places, elements, filled, filled_once, divides, equals, zeros_end, numbers_at, first_where, is_nonzero, byte_type, run_of, looked_at, up_to_zero, zero_end, one_more}
-use Rattle.td_meaning.specs.Throughout.{Through, OnEnding, OnAll, OnShape, OnElement, OnElements}
+use Rattle.td_meaning.specs.Meaning.{Sense, values as values_in, taken, demanded, values_of, element_meaning, shape_meaning, with_copy, copied_meaning, content_meaning, number_places, elements, filled, filled_once, divides, equals, zeros_end, numbers_at, first_where, is_nonzero, byte_type, run_of, looked_at, up_to_zero, zero_end, one_more}
+use Rattle.td_meaning.specs.Throughout.{Through, OnEnding, OnAll, OnShape, OnContent, spare, OnElement, OnElements}
+use Rattle.td_meaning.proofs.MachineMeaning.{has_room}
 use Rattle.td_ir.specs.declared.instructions.Instr.TheVariants as i
 use Rattle.td_blocks.specs.Block.{Block, Done, Then, Window}
-use Rattle.td_blocks.specs.Constructs.{Steps, steps, value, values, inner, Inner, Uneven, ByConstant, Never, listed}
-use Rattle.td_blocks.specs.Placed.{IsExpr, ArgsPlaced, ElementsPlaced, OnePlaced, SizePlaced, ShapePlaced}
+use Rattle.td_blocks.specs.Constructs.{Steps, steps, value, values, inner, Inner, Uneven, CopyAll, ByConstant, Never, listed}
+use Rattle.td_blocks.specs.Placed.{IsExpr, ArgsPlaced, ElementsPlaced, OnePlaced, SizePlaced, ShapePlaced, CopyPlaced}
 use Rattle.td_ir.specs.declared.tables.Parts.{Parts}
 use Rattle.td_ir.specs.State.{State, Turned, registers_from}
 use Rattle.td_lowered.proofs.BlockRun.{Passage, touching, plainly, onwards, if_so, turns, again, back, failed, Calling, ran, passage_of, onto}
 use Rattle.td_ir.specs.Values.{bit, operated}
-use Rattle.td_ir.specs.Flow.{where_so, zeros_flow, zeroterm_flow}
+use Rattle.td_ir.specs.Flow.{Effect, Goes, Fails, copied, where_so, zeros_flow, zeroterm_flow}
 use Rattle.td_sizes.specs.Sizes.{IsStepOf}
-use Rattle.td_blocks.specs.Lowered.{expr_of, exprs_of, shape_step, each_inner, terms_of, evenly, exactly as exactly_code, one_inner, once_filling_step, filling_step, constant_step, order_code}
-use Rattle.td_blocks.specs.Tabled.{Mapped}
+use Rattle.td_blocks.specs.Lowered.{expr_of, exprs_of, shape_step, copied_step, content_step, each_inner, terms_of, evenly, exactly as exactly_code, one_inner, once_filling_step, filling_step, constant_step, order_code}
+use Rattle.td_blocks.specs.Tabled.{Mapped, Buffered}
 use Rattle.td_lowered.proofs.Valued.{nonzero}
 use Rattle.td_lowered.proofs.Looking.{zeros_look, zeroterm_look}
 use Rattle.td_lowered.proofs.Ontos.{onto_then, onto_after, within_then, onto_on, onto_all, within_on, again_onto, turn_onto}
 use Rattle.td_lowered.proofs.Acts.{Follows, follows_kept, follows_some, put_value, not_of}
 use Rattle.td_lowered.proofs.Parts.{then_ending}
 use Rattle.td_lowered.proofs.Shapes.{at, InSlot, once_runs, listed_runs, call_is, give, picked_same, back_onto}
-use Rattle.td_ir.specs.Tables.{set_of, map_of}
+use Rattle.td_ir.specs.Tables.{routine_of, set_of, cells_by}
 use Rattle.td_ir.specs.Run.{place_of_site}
 use Rattle.td_num.proofs.Equals.{equal_itself as same_here}
 use Rattle.td_meaning.proofs.Filling.{on_accepted as at_ending}
@@ -160,26 +162,26 @@ room_is : (p m q : ℕ) → q ≡ p + m → q - p ≡ m
 room_is p m q e = omega (arith, e)
 
 -- a constant size that no message has fails as too few bytes do
-never_or : (T : Parts) (message places : List ℕ) (b : Bool) (site : ℕ) (r c : List ℕ) (p m end o : ℕ) → nat_lt m (2 ^ 32) ≡ b → (F : ℕ → List ℕ → Behavior) (next : ℕ → List ℕ → Passage) (X : Passage) (Y : Bool → Passage)
+never_or : (T : Parts) (self : ℕ) (message places : List ℕ) (b : Bool) (site : ℕ) (r c : List ℕ) (p m end o : ℕ) → nat_lt m (2 ^ 32) ≡ b → (F : ℕ → List ℕ → Behavior) (next : ℕ → List ℕ → Passage) (X : Passage) (Y : Bool → Passage)
     → Y true ≡ X → Y false ≡ failed T NotEnough site p (at r c p p end o) → end < 2 ^ 32
     → X ≡ onto (within (place_of_site T site p) (and_then (taken m p end p c) F)) next
     → Y b ≡ onto (within (place_of_site T site p) (and_then (taken m p end p c) F)) next
-never_or T message places true site r c p m end o e F next X Y y n small h = y ∙ h
-never_or T message places false site r c p m end o e F next X Y y n small h =
+never_or T self message places true site r c p m end o e F next X Y y n small h = y ∙ h
+never_or T self message places false site r c p m end o e F next X Y y n small h =
     n ∙ ap (λ b. onto (within (place_of_site T site p) (and_then (demanded NotEnough b p (p + m) c) F)) next) (sym (too_few (p + m) end (omega (arith, small, ltb-false m (2 ^ 32) e))))
   where
     too_few : (a b : ℕ) → b < a → nat_le a b ≡ false
     too_few a b h = grind (arith, h)
 
-module _ (T : Parts) (message places : List ℕ) (calls : Calling) (D t : ℕ) (dt : D ≤ t) where
+module _ (T : Parts) (self : ℕ) (message places : List ℕ) (calls : Calling) (D t : ℕ) (dt : D ≤ t) where
   abbrev goes : Block → (State → Passage) → (State → Passage) → State → Passage
-  goes = ran T message places calls
+  goes = ran T self message places calls
 
   module _ (sets : List (List ℕ)) (senses : ℕ → Sense) (throughs : ℕ → Through) (ty : NameId) (n : ℕ) (params : ℕ → ℕ)
       (setted : (v x : ℕ) → is_among (set_of T v) x ≡ is_among (values_of sets v) x)
       (called : (d first m : ℕ) (s : State) (args : List ℕ) → s.end < 2 ^ 32 → d < n → params d ≡ length args → registers_from s.regs first (length args) ≡ args
-      → throughs d args (map (slice_index places) (map_of T m)) s.cells message s.pos s.end
-      → calls first d m s ≡ passage_of (senses d args (map (slice_index places) (map_of T m)) s.cells message s.pos s.end)) where
+      → throughs d args (map (slice_index places) (cells_by T self d m)) s.cells message s.pos s.end
+      → calls first d m s ≡ passage_of (senses d args (map (slice_index places) (cells_by T self d m)) s.cells message s.pos s.end)) where
     -- turns of a loop, whose body is an element; what its registers are meanwhile
     turns_run : (Inv : List ℕ → Type 0) (each : ℕ → List ℕ → Behavior) (through : ℕ → List ℕ → Type 0) (body : State → Passage) (site start q o : ℕ) (next : State → Passage) (to : ℕ → List ℕ → Passage)
         → ((r c : List ℕ) (p : ℕ) (G : State → Passage) (X : ℕ → List ℕ → Passage) → Inv r → through p c
@@ -247,7 +249,7 @@ module _ (T : Parts) (message places : List ℕ) (calls : Calling) (D t : ℕ) (
 
     -- elements up to the end of the window
     each_runs : (element : Element) (CS : Option ℕ) (site u L : ℕ) (env r c : List ℕ) (p m q o : ℕ) (leave next : State → Passage) (to : ℕ → List ℕ → Passage)
-        → q < 2 ^ 32 → Mapped T site element → length env ≡ L → L ≤ t → t < u → u < length r → q ≡ p + m → IsStepOf element CS → divides CS m ≡ true
+        → q < 2 ^ 32 → Mapped T self site element → length env ≡ L → L ≤ t → t < u → u < length r → q ≡ p + m → IsStepOf element CS → divides CS m ≡ true
         → ElementsPlaced n params (length r) L t element → ((OnAll Sound (terms_of element) env) → registers_from r (suc t) (length (terms_of element)) ≡ values_in (terms_of element) env)
         → OnElements Sound (OnElement Sound throughs element env places message q) (element_meaning sets senses element env places message p q) (suc m) q p c
         → ((z d : List ℕ) (x : ℕ) → length z ≡ length r → ((j : ℕ) → j < L → slice_index z j ≡ slice_index r j) → (elements (element_meaning sets senses element env places message p q) (suc m) p q p c).ending ≡ Accepted x d
@@ -267,7 +269,7 @@ module _ (T : Parts) (message places : List ℕ) (calls : Calling) (D t : ℕ) (
         ap (λ k. turns (suc k) body (closing site next) (at r c p p q o)) (room_is p m q e)
         ∙ turns_run Inv each (OnElement Sound throughs (Listed base v) env places message q) body site p q o next to
         (λ z d x2 G X inv th k.
-        let run = listed_runs T message places calls D t dt sets senses throughs ty n params setted called base v t u site z d x2 p q o tu (omega (arith, ur, inv.0)) in
+        let run = listed_runs T self message places calls D t dt sets senses throughs ty n params setted called base v t u site z d x2 p q o tu (omega (arith, ur, inv.0)) in
         ap (again G) (run.by Done leave (λ s. plainly (Turned s)) (λ x3 d3. plainly (Turned (at run.regs d3 x3 p q o))) (λ acc. refl))
         ∙ again_onto G (place_of_site T site p) (each x2 d) (λ x3 d3. at run.regs d3 x3 p q o)
         ∙ onto_on (within (place_of_site T site p) (each x2 d)) (λ x3 d3. G (at run.regs d3 x3 p q o)) X
@@ -283,7 +285,7 @@ module _ (T : Parts) (message places : List ℕ) (calls : Calling) (D t : ℕ) (
         (λ z f x2 G X inv th k.
         let s = at z f x2 p q o in
         ap (λ w. again G (back T site s (λ s. plainly (Turned s)) w))
-        (call_is T message places calls D t dt sets senses throughs ty n params setted called d args own (suc t) site env s low mp x.0 x.1.0 (ap (λ w. registers_from w (suc t) (length args)) inv ∙ here th.0) th.1)
+        (call_is T self message places calls D t dt sets senses throughs ty n params setted called d args own (suc t) site env s low mp x.0 x.1.0 (ap (λ w. registers_from w (suc t) (length args)) inv ∙ here th.0) th.1)
         ∙ turn_onto T site s G (each x2 f)
         ∙ onto_on (within (place_of_site T site p) (each x2 f)) (λ x3 d3. G (at z d3 x3 p q o)) X
         (within_on (place_of_site T site p) (each x2 f) (λ x3 d3. G (at z d3 x3 p q o) ≡ X x3 d3) (λ x3 d3 acc. k z d3 x3 inv acc)))
@@ -325,14 +327,14 @@ module _ (T : Parts) (message places : List ℕ) (calls : Calling) (D t : ℕ) (
         by false y = refl
 
     abbrev pub InShape : (element : Element) (extent : Extent) (needed : Bool) (slot p : ℕ) → List ℕ → Type 0
-    InShape element Once needed slot p z = InSlot T message places calls D t dt sets senses throughs ty n params setted called element needed slot p z
+    InShape element Once needed slot p z = InSlot T self message places calls D t dt sets senses throughs ty n params setted called element needed slot p z
     InShape element (Filling size step) needed slot p z = Unit {0}
     InShape element (OnceFilling size step) needed slot p z = Unit {0}
     InShape element (UpToZero size) needed slot p z = Unit {0}
 
     -- an array, by a size in a register or a constant one
     fill_runs : (z0 : Option ℕ) (element : Element) (size : Term) (CS : Option ℕ) → constant_of size ≡ z0 → (site L : ℕ) (env r c : List ℕ) (p end o : ℕ) (k : Steps) (leave go : State → Passage) (next : ℕ → List ℕ → Passage)
-        → end < 2 ^ 32 → Mapped T site element → length env ≡ L → L ≤ D → suc (suc t + length (terms_of element)) < length r → SizePlaced (length r) L (suc t + length (terms_of element)) size z0 → ElementsPlaced n params (length r) L t element → IsStepOf element CS
+        → end < 2 ^ 32 → Mapped T self site element → length env ≡ L → L ≤ D → suc (suc t + length (terms_of element)) < length r → SizePlaced (length r) L (suc t + length (terms_of element)) size z0 → ElementsPlaced n params (length r) L t element → IsStepOf element CS
         → Follows (λ j. element_names j element) env r → Follows (λ j. names j size) env r
         → OnShape Sound sets senses throughs element (Filling size CS) env places message end p c
         → ((q : ℕ) (z d : List ℕ) (u : ℕ) → length z ≡ length r → ((j : ℕ) → j < L → slice_index z j ≡ slice_index r j)
@@ -347,7 +349,7 @@ module _ (T : Parts) (message places : List ℕ) (calls : Calling) (D t : ℕ) (
         let E : ℕ → ℕ → List ℕ → Behavior = λ q. elements (each q) (suc m) p q in
         let F : ℕ → List ℕ → Behavior = λ q c. and_then (demanded ListSize (divides CS m) p p c) (E q) in
         let K : State → Passage = goes (steps k) leave go in
-        let gave = give T message places calls D t dt args env L (suc t) (at r c p p end o) le (omega (arith, ld, dt)) (args_placed element n params (length r) L t y)
+        let gave = give T self message places calls D t dt args env L (suc t) (at r c p p end o) le (omega (arith, ld, dt)) (args_placed element n params (length r) L t y)
         (follows_some (λ j. some_name j args) (λ j. element_names j element) env r (args_named element) f) in
         let ready : (z : List ℕ) (v : ℕ) → length z ≡ length r → ((j : ℕ) → j < u → slice_index z j ≡ slice_index gave.regs j) → t < v → v < length z → nat_le (p + m) end ≡ true → divides CS m ≡ true
         → goes (inner (each_inner t element v site)) leave (closing site K) (at z c p p (p + m) end) ≡ onto (within (place_of_site T site p) (E (p + m) p c)) next =
@@ -363,7 +365,7 @@ module _ (T : Parts) (message places : List ℕ) (calls : Calling) (D t : ℕ) (
         elim z0 as (λ z0. SizePlaced (length r) L (suc t + length (terms_of element)) size z0 → constant_of size ≡ z0
         → goes (steps (filling_step t z0 CS element size site k)) leave go (at r c p p end o) ≡ onto (within (place_of_site T site p) (filled each CS m end p c)) next) [
           | None ↦ λ x ze.
-              let put = put_value T message places calls size env L u (at gave.regs c p p end o) le (omega (arith, ld, dt)) (subst (λ w. IsExpr w L u size) (sym gave.count) x) on.0
+              let put = put_value T self message places calls size env L u (at gave.regs c p p end o) le (omega (arith, ld, dt)) (subst (λ w. IsExpr w L u size) (sym gave.count) x) on.0
               (follows_kept (λ j. names j size) env r gave.regs (λ j l. gave.low j (omega (arith, l, le, ld, dt))) g) in
               let B = inner (evenly t CS u site (each_inner t element (suc u) site)) in
               gave.by (value u (expr_of size) (Window (i.Narrow u site) site B (steps k))) leave go
@@ -378,7 +380,7 @@ module _ (T : Parts) (message places : List ℕ) (calls : Calling) (D t : ℕ) (
               let B = inner (X m) in
               ap (λ v. goes (values (suc t) (exprs_of args) (steps (constant_step t v site (X v) k))) leave go (at r c p p end o)) same
               ∙ gave.by (steps (constant_step t m site (X m) k)) leave go
-              ∙ never_or T message places (nat_lt m (2 ^ 32)) site gave.regs c p m end o refl F next (goes (steps (ByConstant m site (X m) k)) leave go (at gave.regs c p p end o)) (λ b. goes (steps (cond b (ByConstant m site (X m) k) (Never site))) leave go (at gave.regs c p p end o)) refl refl small
+              ∙ never_or T self message places (nat_lt m (2 ^ 32)) site gave.regs c p m end o refl F next (goes (steps (ByConstant m site (X m) k)) leave go (at gave.regs c p p end o)) (λ b. goes (steps (cond b (ByConstant m site (X m) k) (Never site))) leave go (at gave.regs c p p end o)) refl refl small
               (window_runs B site gave.regs c p m end o leave K F next
               (λ e1. uneven_runs CS site (each_inner t element u site) gave.regs c p m (p + m) end leave (closing site K) (E (p + m)) next
               (λ e2. ready gave.regs u gave.count (λ j l. refl) (omega arith) (omega (arith, room, gave.count)) e1 e2)))
@@ -423,7 +425,7 @@ module _ (T : Parts) (message places : List ℕ) (calls : Calling) (D t : ℕ) (
 
     -- one element, and what follows it
     one_runs : (element : Element) (CS : Option ℕ) (site u L : ℕ) (env r c : List ℕ) (p m q o : ℕ) (leave after : State → Passage) (to : ℕ → List ℕ → Passage)
-        → q < 2 ^ 32 → Mapped T site element → L ≤ t → t < u → u < length r → q ≡ p + m → IsStepOf element CS → equals CS m ≡ true
+        → q < 2 ^ 32 → Mapped T self site element → L ≤ t → t < u → u < length r → q ≡ p + m → IsStepOf element CS → equals CS m ≡ true
         → OnePlaced n params (length r) L t element → ((OnAll Sound (terms_of element) env) → registers_from r (suc t) (length (terms_of element)) ≡ values_in (terms_of element) env)
         → OnElement Sound throughs element env places message q p c
         → ((z d : List ℕ) (x : ℕ) → length z ≡ length r → ((j : ℕ) → j < L → slice_index z j ≡ slice_index r j) → (element_meaning sets senses element env places message p q p c).ending ≡ Accepted x d
@@ -439,18 +441,18 @@ module _ (T : Parts) (message places : List ℕ) (calls : Calling) (D t : ℕ) (
         fits_in : (a b : ℕ) → a ≤ b → nat_le a b ≡ true
         fits_in a b h = grind (arith, h)
     one_runs (Listed base v) CS site u L env r c p m q o leave after to low mp lt tu ur e sp div x here on h =
-        let run = listed_runs T message places calls D t dt sets senses throughs ty n params setted called base v t u site r c p p q o tu ur in
+        let run = listed_runs T self message places calls D t dt sets senses throughs ty n params setted called base v t u site r c p p q o tu ur in
         run.by Done leave after to (λ acc. h run.regs c (p + bytes_in base.width) run.count (λ j l. run.low j (omega (arith, l, lt))) acc)
     one_runs (Named d args own) CS site u L env r c p m q o leave after to low mp lt tu ur e sp div x here on h =
         let a = element_meaning sets senses (Named d args own) env places message p q p c in
         let s = at r c p p q o in
-        ap (back T site s after) (call_is T message places calls D t dt sets senses throughs ty n params setted called d args own (suc t) site env s low mp x.0 x.1.0 (here on.0) on.1)
-        ∙ back_onto T message places calls D t dt site s after a
+        ap (back T site s after) (call_is T self message places calls D t dt sets senses throughs ty n params setted called d args own (suc t) site env s low mp x.0 x.1.0 (here on.0) on.1)
+        ∙ back_onto T self message places calls D t dt site s after a
         ∙ onto_on (within (place_of_site T site p) a) (λ x2 d2. after (at r d2 x2 p q o)) to (within_on (place_of_site T site p) a (λ x2 d2. after (at r d2 x2 p q o) ≡ to x2 d2) (λ x2 d2 acc. h r d2 x2 refl (λ j l. refl) acc))
     one_runs UnitElement CS site u L env r c p m q o leave after to low mp lt tu ur e sp div x here on h = h r c p refl (λ j l. refl) refl
     one_runs Rest CS site u L env r c p m q o leave after to low mp lt tu ur e sp div x here on h = h r c q refl (λ j l. refl) refl
     one_runs Zeros CS site u L env r c p m q o leave after to low mp lt tu ur e sp div x here on h =
-        zeros_look T message places calls site (at r c p p q o) after ∙ by first refl ∙ sym (onto_after R (within (place_of_site T site p) (zeros_end first q p c)) to)
+        zeros_look T self message places calls site (at r c p p q o) after ∙ by first refl ∙ sym (onto_after R (within (place_of_site T site p) (zeros_end first q p c)) to)
       where
         first : Option ℕ
         first = first_where is_nonzero (numbers_at byte_type message p (q - p))
@@ -464,7 +466,7 @@ module _ (T : Parts) (message places : List ℕ) (calls : Calling) (D t : ℕ) (
 
     -- a single element, by a size in a register or a constant one
     once_fill_runs : (z0 : Option ℕ) (element : Element) (size : Term) (CS : Option ℕ) → constant_of size ≡ z0 → (site L : ℕ) (env r c : List ℕ) (p end o : ℕ) (k : Steps) (leave go : State → Passage) (next : ℕ → List ℕ → Passage)
-        → end < 2 ^ 32 → Mapped T site element → length env ≡ L → L ≤ D → suc (suc t + length (terms_of element)) + 1 < length r → SizePlaced (length r) L (suc t + length (terms_of element)) size z0 → OnePlaced n params (length r) L t element → IsStepOf element CS
+        → end < 2 ^ 32 → Mapped T self site element → length env ≡ L → L ≤ D → suc (suc t + length (terms_of element)) + 1 < length r → SizePlaced (length r) L (suc t + length (terms_of element)) size z0 → OnePlaced n params (length r) L t element → IsStepOf element CS
         → Follows (λ j. element_names j element) env r → Follows (λ j. names j size) env r
         → OnShape Sound sets senses throughs element (OnceFilling size CS) env places message end p c
         → ((q : ℕ) (z d : List ℕ) (u : ℕ) → length z ≡ length r → ((j : ℕ) → j < L → slice_index z j ≡ slice_index r j)
@@ -479,7 +481,7 @@ module _ (T : Parts) (message places : List ℕ) (calls : Calling) (D t : ℕ) (
         let E : ℕ → ℕ → List ℕ → Behavior = λ q begin c. and_then (each q begin c) (λ x d. demanded ListSize (nat_eq x q) p x d) in
         let F : ℕ → List ℕ → Behavior = λ q c. and_then (demanded ListSize (equals CS m) p p c) (E q) in
         let K : State → Passage = goes (steps k) leave go in
-        let gave = give T message places calls D t dt args env L (suc t) (at r c p p end o) le (omega (arith, ld, dt)) (one_args_placed element n params (length r) L t y)
+        let gave = give T self message places calls D t dt args env L (suc t) (at r c p p end o) le (omega (arith, ld, dt)) (one_args_placed element n params (length r) L t y)
         (follows_some (λ j. some_name j args) (λ j. element_names j element) env r (args_named element) f) in
         let ready : (z : List ℕ) (v : ℕ) → length z ≡ length r → ((j : ℕ) → j < u → slice_index z j ≡ slice_index gave.regs j) → t < v → v < length z → nat_le (p + m) end ≡ true → equals CS m ≡ true
         → goes (inner (one_inner t element v site)) leave (closing site K) (at z c p p (p + m) end) ≡ onto (within (place_of_site T site p) (E (p + m) p c)) next =
@@ -506,7 +508,7 @@ module _ (T : Parts) (message places : List ℕ) (calls : Calling) (D t : ℕ) (
         elim z0 as (λ z0. SizePlaced (length r) L (suc t + length (terms_of element)) size z0 → constant_of size ≡ z0
         → goes (steps (once_filling_step t z0 CS element size site k)) leave go (at r c p p end o) ≡ onto (within (place_of_site T site p) (filled_once each CS m end p c)) next) [
           | None ↦ λ x ze.
-              let put = put_value T message places calls size env L u (at gave.regs c p p end o) le (omega (arith, ld, dt)) (subst (λ w. IsExpr w L u size) (sym gave.count) x) on.0
+              let put = put_value T self message places calls size env L u (at gave.regs c p p end o) le (omega (arith, ld, dt)) (subst (λ w. IsExpr w L u size) (sym gave.count) x) on.0
               (follows_kept (λ j. names j size) env r gave.regs (λ j l. gave.low j (omega (arith, l, le, ld, dt))) g) in
               let B = inner (exactly_code t CS u site (one_inner t element (suc u) site)) in
               gave.by (value u (expr_of size) (Window (i.Narrow u site) site B (steps k))) leave go
@@ -521,7 +523,7 @@ module _ (T : Parts) (message places : List ℕ) (calls : Calling) (D t : ℕ) (
               let B = inner (X m) in
               ap (λ v. goes (values (suc t) (exprs_of args) (steps (constant_step t v site (X v) k))) leave go (at r c p p end o)) same
               ∙ gave.by (steps (constant_step t m site (X m) k)) leave go
-              ∙ never_or T message places (nat_lt m (2 ^ 32)) site gave.regs c p m end o refl F next (goes (steps (ByConstant m site (X m) k)) leave go (at gave.regs c p p end o)) (λ b. goes (steps (cond b (ByConstant m site (X m) k) (Never site))) leave go (at gave.regs c p p end o)) refl refl small
+              ∙ never_or T self message places (nat_lt m (2 ^ 32)) site gave.regs c p m end o refl F next (goes (steps (ByConstant m site (X m) k)) leave go (at gave.regs c p p end o)) (λ b. goes (steps (cond b (ByConstant m site (X m) k) (Never site))) leave go (at gave.regs c p p end o)) refl refl small
               (window_runs B site gave.regs c p m end o leave K F next
               (λ e1. unequal_runs CS site (one_inner t element u site) gave.regs c p m (p + m) end leave (closing site K) (E (p + m)) next
               (λ e2. ready gave.regs u gave.count (λ j l. refl) (omega arith) (omega (arith, room, gave.count)) e1 e2)))
@@ -543,7 +545,7 @@ module _ (T : Parts) (message places : List ℕ) (calls : Calling) (D t : ℕ) (
         → goes (value (suc t) (expr_of size) (Then (i.Zeroterm (suc t) (bytes_in type.width) site) (steps k))) leave go (at r c p p end o)
         ≡ onto (within (place_of_site T site p) (up_to_zero type (natural_of size env) message end p c)) next
     zero_runs type size site L env r c p end o k leave go next le ld x g on h =
-        let put = put_value T message places calls size env L (suc t) (at r c p p end o) le (omega (arith, ld, dt)) x on g in
+        let put = put_value T self message places calls size env L (suc t) (at r c p p end o) le (omega (arith, ld, dt)) x on g in
         let s1 = at put.regs c p p end o in
         let v = natural_of size env in
         let w = bytes_in type.width in
@@ -558,21 +560,21 @@ module _ (T : Parts) (message places : List ℕ) (calls : Calling) (D t : ℕ) (
           | Some m ↦ λ e. ap (touching R) (h (p + suc m * w) put.regs put.count (λ j l. put.low j (omega (arith, l, ld, dt))) (ap (λ z. (zero_end z w bound room p c).ending) e))
         ] e in
         put.by (Then (i.Zeroterm (suc t) w site) (steps k)) leave go
-        ∙ zeroterm_look T message places calls type.width (suc t) site s1 K
+        ∙ zeroterm_look T self message places calls type.width (suc t) site s1 K
         ∙ ap (λ y. zero_ended type.width y site s1 (first_zero type.width LittleEndian y s1) K) put.at
         ∙ ap (λ y. zero_ended type.width v site s1 y K) (first_free type.width type.order message (min bound room) p)
         ∙ by first refl
         ∙ sym (onto_after R (within (place_of_site T site p) (zero_end first w bound room p c)) next)
 
     pub shape_runs : (element : Element) (extent : Extent) (needed : Bool) (slot site L : ℕ) (env r c : List ℕ) (p end o : ℕ) (k : Steps) (leave go : State → Passage) (next : ℕ → List ℕ → Passage)
-        → end < 2 ^ 32 → Mapped T site element → length env ≡ L → L ≤ D → L ≤ slot → slot ≤ t → t < length r → ShapePlaced n params (length r) L t element extent → Follows (λ j. element_names j element) env r → Follows (λ j. extent_names j extent) env r
+        → end < 2 ^ 32 → Mapped T self site element → length env ≡ L → L ≤ D → L ≤ slot → slot ≤ t → t < length r → ShapePlaced n params (length r) L t element extent → Follows (λ j. element_names j element) env r → Follows (λ j. extent_names j extent) env r
         → OnShape Sound sets senses throughs element extent env places message end p c
         → ((q : ℕ) (z d : List ℕ) (u : ℕ) → length z ≡ length r → ((j : ℕ) → j < L → slice_index z j ≡ slice_index r j) → InShape element extent needed slot p z
         → (shape_meaning sets senses element extent env places message end p c).ending ≡ Accepted q d → goes (steps k) leave go (at z d q p end u) ≡ next q d)
         → goes (steps (shape_step t element extent needed slot site k)) leave go (at r c p p end o)
         ≡ onto (within (place_of_site T site p) (shape_meaning sets senses element extent env places message end p c)) (λ q d. touching (number_places needed element extent p) (next q d))
     shape_runs element Once needed slot site L env r c p end o k leave go next small mp le ld ls st room x f g on h =
-        once_runs T message places calls D t dt sets senses throughs ty n params setted called element needed slot site L env r c p end o k leave go next small mp le ld ls st room x f on
+        once_runs T self message places calls D t dt sets senses throughs ty n params setted called element needed slot site L env r c p end o k leave go next small mp le ld ls st room x f on
         (λ q z d count low inside e. h q z d o count low inside e)
     shape_runs element (Filling size step) needed slot site L env r c p end o k leave go next small mp le ld ls st room x f g on h =
         let a = filled (element_meaning sets senses element env places message p) step (natural_of size env) end p c in
@@ -589,3 +591,109 @@ module _ (T : Parts) (message places : List ℕ) (calls : Calling) (D t : ℕ) (
     shape_runs UnitElement (UpToZero size) needed slot site L env r c p end o k leave go next small mp le ld ls st room x f g on h = absurd x.1
     shape_runs Rest (UpToZero size) needed slot site L env r c p end o k leave go next small mp le ld ls st room x f g on h = absurd x.1
     shape_runs Zeros (UpToZero size) needed slot site L env r c p end o k leave go next small mp le ld ls st room x f g on h = absurd x.1
+
+    -- bytes that are copied
+    copy_run : (size : Term) (w : CopyOut) (site L : ℕ) (env r c : List ℕ) (p end u : ℕ) (k : Steps) (leave go : State → Passage) (next : ℕ → List ℕ → Passage)
+        → length env ≡ L → L ≤ D → IsExpr (length r) L (suc t) size → Buffered T self (Some w) → Follows (λ j. names j size) env r → Sound size env → Sound (spare w size) env
+        → ((q : ℕ) (z d : List ℕ) → length z ≡ length r → ((j : ℕ) → j < L → slice_index z j ≡ slice_index r j)
+        → (copied_meaning w places (natural_of size env) end p c).ending ≡ Accepted q d → goes (steps k) leave go (at z d q p end u) ≡ next q d)
+        → goes (value (suc t) (expr_of size) (Then (i.Copy (suc t) w.buffer site) (steps k))) leave go (at r c p p end u)
+        ≡ onto (within (place_of_site T site p) (copied_meaning w places (natural_of size env) end p c)) next
+    copy_run size w site L env r c p end u k leave go next le ld x buffered g on within_room h =
+        let put = put_value T self message places calls size env L (suc t) (at r c p p end u) le (omega (arith, ld, dt)) x on g in
+        let s1 = at put.regs c p p end u in
+        let v = natural_of size env in
+        let few : min v w.room ≡ v = omega (arith, has_room w size env within_room) in
+        let F : ℕ → List ℕ → Behavior = λ q cells. after_reading (places_from p v) (accepted q (with_copy w places p v cells)) in
+        let K : State → Passage = goes (steps k) leave go in
+        let last = with_copy w places p v c in
+        let first = slice_index places w.cell in
+        let second = slice_index places (w.cell + 1) in
+        let done : Effect = record { flow = Goes 1 (record s1 { cells = slice_set (slice_set c first p) second (min v w.room); pos = p + v }); touched = places_from p (min v w.room); steps = 1 + min v w.room } in
+        let short : Effect = record { flow = Fails NotEnough site p s1; touched = []; steps = 1 } in
+        let passes_by : Effect → Passage = λ e. touching e.touched (onwards T calls e.flow K) in
+        let by : (b : Bool) → nat_le (p + v) end ≡ b → passes_by (cond b done short) ≡ onto (within (place_of_site T site p) (and_then (demanded NotEnough b p (p + v) c) F)) next =
+        λ b e. elim b as (λ b. nat_le (p + v) end ≡ b → passes_by (cond b done short) ≡ onto (within (place_of_site T site p) (and_then (demanded NotEnough b p (p + v) c) F)) next) [
+          | true ↦ λ e. (λ j. touching (places_from p (few j)) (K (at put.regs (slice_set (slice_set c first p) second (few j)) (p + v) p end u)))
+              ∙ ap (touching (places_from p v)) (h (p + v) put.regs last put.count (λ j l. put.low j (omega (arith, l, ld, dt))) (ap (λ b. (and_then (demanded NotEnough b p (p + v) c) F).ending) e))
+              ∙ ap (λ xs. touching xs (next (p + v) last)) (sym (append-nil (places_from p v)))
+          | false ↦ λ e. refl
+        ] e in
+        put.by (Then (i.Copy (suc t) w.buffer site) (steps k)) leave go
+        ∙ ap (λ y. passes_by (copied 1 y (slice_index (routine_of T self).buffers w.buffer) (slice_index places ((routine_of T self).cells + 2 * w.buffer)) (slice_index places ((routine_of T self).cells + 2 * w.buffer + 1)) site s1)) put.at
+        ∙ (λ j. passes_by (copied 1 v (buffered.1 j) (slice_index places (buffered.0 j)) (slice_index places (buffered.0 j + 1)) site s1))
+        ∙ by (nat_le (p + v) end) refl
+
+    -- a constant number of them, in a window that has as many
+    copy_all : (w : CopyOut) (m site L : ℕ) (r c : List ℕ) (p end : ℕ) (k : Steps) (leave go : State → Passage) (next : ℕ → List ℕ → Passage)
+        → L ≤ D → suc t < length r → Buffered T self (Some w) → m ≤ w.room → nat_le (p + m) end ≡ true
+        → ((q : ℕ) (z d : List ℕ) (u : ℕ) → length z ≡ length r → ((j : ℕ) → j < L → slice_index z j ≡ slice_index r j)
+        → (copied_meaning w places m end p c).ending ≡ Accepted q d → goes (steps k) leave go (at z d q p end u) ≡ next q d)
+        → goes (inner (CopyAll (suc t) w.buffer m site)) leave (closing site (goes (steps k) leave go)) (at r c p p (p + m) end)
+        ≡ onto (within (place_of_site T site p) (after_reading (places_from p m) (accepted (p + m) (with_copy w places p m c)))) next
+    copy_all w m site L r c p end k leave go next ld room buffered within_room fits h =
+        let few : min m w.room ≡ m = omega (arith, within_room) in
+        let F : ℕ → List ℕ → Behavior = λ q cells. after_reading (places_from p m) (accepted q (with_copy w places p m cells)) in
+        let K : State → Passage = goes (steps k) leave go in
+        let G : State → Passage = closing site K in
+        let r1 = slice_set r (suc t) m in
+        let s1 = at r1 c p p (p + m) end in
+        let last = with_copy w places p m c in
+        let first = slice_index places w.cell in
+        let second = slice_index places (w.cell + 1) in
+        let done : Effect = record { flow = Goes 1 (record s1 { cells = slice_set (slice_set c first p) second (min m w.room); pos = p + m }); touched = places_from p (min m w.room); steps = 1 + min m w.room } in
+        let short : Effect = record { flow = Fails NotEnough site p s1; touched = []; steps = 1 } in
+        let passes_by : Effect → Passage = λ e. touching e.touched (onwards T calls e.flow G) in
+        ap (λ y. passes_by (copied 1 y (slice_index (routine_of T self).buffers w.buffer) (slice_index places ((routine_of T self).cells + 2 * w.buffer)) (slice_index places ((routine_of T self).cells + 2 * w.buffer + 1)) site s1)) (get_or-set_same r (suc t) m 0 room)
+        ∙ (λ j. passes_by (copied 1 m (buffered.1 j) (slice_index places (buffered.0 j)) (slice_index places (buffered.0 j + 1)) site s1))
+        ∙ ap (λ b. passes_by (cond b done short)) (at_most (p + m))
+        ∙ (λ j. touching (places_from p (few j)) (G (at r1 (slice_set (slice_set c first p) second (few j)) (p + m) p (p + m) end)))
+        ∙ ap (λ b. touching (places_from p m) (onwards T calls (if_so b (at r1 last (p + m) p end end) ListSize site p (at r1 last (p + m) p (p + m) end)) K)) (itself (p + m))
+        ∙ ap (touching (places_from p m)) (h (p + m) r1 last end (length-set r (suc t) m) (λ j l. get_or-set_other r (suc t) j m 0 (λ z. absurd (omega (arith, l, ld, dt, z)))) (ap (λ b. (and_then (demanded NotEnough b p (p + m) c) F).ending) fits))
+        ∙ ap (λ xs. touching xs (next (p + m) last)) (sym (append-nil (places_from p m)))
+      where
+        at_most : (x : ℕ) → nat_le x x ≡ true
+        at_most x = grind arith
+
+        itself : (x : ℕ) → nat_eq x x ≡ true
+        itself x = grind arith
+
+    copied_runs : (z0 : Option ℕ) (size : Term) (w : CopyOut) → constant_of size ≡ z0 → (site L : ℕ) (env r c : List ℕ) (p end o : ℕ) (k : Steps) (leave go : State → Passage) (next : ℕ → List ℕ → Passage)
+        → end < 2 ^ 32 → length env ≡ L → L ≤ D → suc t < length r → IsExpr (length r) L (suc t) size → Buffered T self (Some w) → Follows (λ j. names j size) env r → Sound size env → Sound (spare w size) env
+        → ((q : ℕ) (z d : List ℕ) (u : ℕ) → length z ≡ length r → ((j : ℕ) → j < L → slice_index z j ≡ slice_index r j)
+        → (copied_meaning w places (natural_of size env) end p c).ending ≡ Accepted q d → goes (steps k) leave go (at z d q p end u) ≡ next q d)
+        → goes (steps (copied_step t z0 w size site k)) leave go (at r c p p end o)
+        ≡ onto (within (place_of_site T site p) (copied_meaning w places (natural_of size env) end p c)) next
+    copied_runs None size w ze site L env r c p end o k leave go next small le ld room x bf g on within_room h =
+        copy_run size w site L env r c p end o k leave go next le ld x bf g on within_room (λ q z d count low e. h q z d o count low e)
+    copied_runs (Some m0) size w ze site L env r c p end o k leave go next small le ld room x bf g on within_room h =
+        let m = natural_of size env in
+        let same : m0 ≡ m = sym (ap natural (constant_is size m0 env ze)) in
+        let F : ℕ → List ℕ → Behavior = λ q cells. after_reading (places_from p m) (accepted q (with_copy w places p m cells)) in
+        let X : ℕ → Inner = λ v. CopyAll (suc t) w.buffer v site in
+        let K : State → Passage = goes (steps k) leave go in
+        ap (λ v. goes (steps (constant_step t v site (X v) k)) leave go (at r c p p end o)) same
+        ∙ never_or T self message places (nat_lt m (2 ^ 32)) site r c p m end o refl F next (goes (steps (ByConstant m site (X m) k)) leave go (at r c p p end o)) (λ b. goes (steps (cond b (ByConstant m site (X m) k) (Never site))) leave go (at r c p p end o)) refl refl small
+        (window_runs (inner (X m)) site r c p m end o leave K F next
+        (λ e1. copy_all w m site L r c p end k leave go next ld room bf (has_room w size env within_room) e1 h))
+
+    pub content_runs : (element : Element) (extent : Extent) (copy : Option CopyOut) (needed : Bool) (slot site L : ℕ) (env r c : List ℕ) (p end o : ℕ) (k : Steps) (leave go : State → Passage) (next : ℕ → List ℕ → Passage)
+        → end < 2 ^ 32 → Mapped T self site element → Buffered T self copy → length env ≡ L → L ≤ D → L ≤ slot → slot ≤ t → t < length r → ShapePlaced n params (length r) L t element extent → CopyPlaced (length r) L t extent copy
+        → Follows (λ j. element_names j element) env r → Follows (λ j. extent_names j extent) env r
+        → OnContent Sound sets senses throughs element extent copy env places message end p c
+        → ((q : ℕ) (z d : List ℕ) (u : ℕ) → length z ≡ length r → ((j : ℕ) → j < L → slice_index z j ≡ slice_index r j) → InShape element extent needed slot p z
+        → (content_meaning sets senses element extent copy env places message end p c).ending ≡ Accepted q d → goes (steps k) leave go (at z d q p end u) ≡ next q d)
+        → goes (steps (content_step t element extent copy needed slot site k)) leave go (at r c p p end o)
+        ≡ onto (within (place_of_site T site p) (content_meaning sets senses element extent copy env places message end p c)) (λ q d. touching (number_places needed element extent p) (next q d))
+    content_runs element extent None needed slot site L env r c p end o k leave go next small mp bf le ld ls st room x y f g on h =
+        shape_runs element extent needed slot site L env r c p end o k leave go next small mp le ld ls st room x f g on h
+    content_runs element (Filling size step) (Some w) needed slot site L env r c p end o k leave go next small mp bf le ld ls st room x y f g on h =
+        let a = copied_meaning w places (natural_of size env) end p c in
+        copied_runs (constant_of size) size w refl site L env r c p end o k leave go next small le ld (omega (arith, x.0)) y bf g on.0 on.1 (λ q z d u count low e. h q z d u count low tt e)
+        ∙ onto_all (within (place_of_site T site p) a) next (λ q d. touching (number_places needed element (Filling size step) p) (next q d)) (λ q d. ap (λ l. touching l (next q d)) (sym (no_places needed element size step p)))
+    content_runs element Once (Some w) needed slot site L env r c p end o k leave go next small mp bf le ld ls st room x y f g on h =
+        shape_runs element Once needed slot site L env r c p end o k leave go next small mp le ld ls st room x f g on h
+    content_runs element (OnceFilling size step) (Some w) needed slot site L env r c p end o k leave go next small mp bf le ld ls st room x y f g on h =
+        shape_runs element (OnceFilling size step) needed slot site L env r c p end o k leave go next small mp le ld ls st room x f g on h
+    content_runs element (UpToZero size) (Some w) needed slot site L env r c p end o k leave go next small mp bf le ld ls st room x y f g on h =
+        shape_runs element (UpToZero size) needed slot site L env r c p end o k leave go next small mp le ld ls st room x f g on h

@@ -87,10 +87,10 @@ onwards c calls (Turns s) go = plainly (Turned s)
 abbrev pub nowhere : State → Passage
 nowhere s = plainly Stuck
 
-module _ (c : Parts) (message places : List ℕ) (calls : Calling) where
+module _ (c : Parts) (self : ℕ) (message places : List ℕ) (calls : Calling) where
   -- one instruction, and then go
   abbrev pub passes : Instr → (State → Passage) → State → Passage
-  passes j go s = touching (effect c message places 0 j s).touched (onwards c calls (effect c message places 0 j s).flow go)
+  passes j go s = touching (effect c self message places 0 j s).touched (onwards c calls (effect c self message places 0 j s).flow go)
 
   -- passed over where a register isn't 0 (true) or is 0 (false)
   abbrev pub guarded : Bool → ℕ → Passage → Passage → Passage

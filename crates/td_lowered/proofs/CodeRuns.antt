@@ -6,20 +6,17 @@ use Rattle.std.proofs.lemmas.Bool.{eqb-true, false≢true}
 use Rattle.td_num.specs.Numbers.{places_from}
 use Rattle.td_core.specs.declared.module.TypeDef.{TypeDef}
 use Rattle.td_core.specs.declared.module.Module.{Module}
-use Rattle.td_core.specs.WellFormed.{OfSome}
-use Rattle.td_core.specs.Copies.{IsDefinitionCopyless}
-use Rattle.td_core.proofs.Copyless.{copyless_at}
 use Rattle.td_expr.specs.Sound.{Sound}
 use Rattle.td_meaning.specs.Meaning.{below, pick, entry_place, meaning, definition_meaning}
-use Rattle.td_meaning.specs.Throughout.{OnDefinition, through_below, pick_through, Throughout}
 use Rattle.td_meaning.specs.Copies.{opened}
-use Rattle.td_meaning.proofs.Copying.{opened_copyless}
+use Rattle.td_meaning.specs.Throughout.{OnDefinition, through_below, pick_through}
 use Rattle.td_ir.specs.declared.tables.Parts.{Parts}
 use Rattle.td_ir.specs.declared.tables.Routine.{Routine}
 use Rattle.td_ir.specs.WellFormed.{IsCode}
-use Rattle.td_ir.specs.Tables.{routine_of, map_of, lengths_of, first_of, end_of, entry_of}
+use Rattle.td_ir.specs.Tables.{routine_of, cells_by, lengths_of, first_of, end_of, entry_of}
 use Rattle.td_ir.specs.State.{State, registers_from}
 use Rattle.td_ir.specs.Run as run
+use Rattle.td_ir.specs.Entries.{opened_by}
 use Rattle.td_ir.proofs.Begins.{begin_next, begin_up}
 use Rattle.td_blocks.specs.Block.{size}
 use Rattle.td_blocks.specs.Lowered.{definition_block, block_of, first_site}
@@ -31,6 +28,7 @@ use Rattle.td_lowered.specs.CodeRun.{CodeMeans}
 use Rattle.td_lowered.proofs.Definitions.{guard_runs}
 use Rattle.td_lowered.proofs.Laid.{stands_run}
 use Rattle.td_lowered.proofs.Forming.{block_forms, block_ends}
+use Rattle.td_lowered.proofs.Opening.{opened_same}
 
 less_of : (n d : ℕ) → d < suc n → nat_eq d n ≡ false → d < n
 less_of n d h e = grind arith
@@ -51,21 +49,21 @@ module _ (T : Parts) (units : ℕ → ℕ) (m : Module) (message : List ℕ) (co
   callees n places first k w u = passage (run.calls_of T message n places first k w u)
 
   -- one definition's block
-  one_runs : (n : ℕ) → n ≤ length ds → Runs n → (o : Option TypeDef) (first : ℕ) → OfSome IsDefinitionCopyless o → DefinitionSited T first o → (r : Routine) (t : ℕ) → HasPlaced ds n r.registers t o → (places args : List ℕ) (u : State) → u.end < 2 ^ 32 → length args ≡ count_of o
+  one_runs : (n : ℕ) → n ≤ length ds → Runs n → (o : Option TypeDef) (first : ℕ) → DefinitionSited T n first o → (r : Routine) (t : ℕ) → HasPlaced ds n r.registers t o → (places args : List ℕ) (u : State) → u.end < 2 ^ 32 → length args ≡ count_of o
       → OnDefinition Sound m.listed (below m.listed ds n) (through_below Sound m.listed ds n) o args places u.cells message u.pos u.end
-      → ran T message places (callees n places) (definition_block first t o) nowhere nowhere (run.entered r args u)
+      → ran T n message places (callees n places) (definition_block first t o) nowhere nowhere (run.entered r args u)
       ≡ passage_of (definition_meaning m.listed (below m.listed ds n) o args places u.cells message u.pos u.end)
-  one_runs n room ih None first alone sd r t x places args u small count on = absurd x
-  one_runs n room ih (Some d) first alone sd r t x places args u small count on =
+  one_runs n room ih None first sd r t x places args u small count on = absurd x
+  one_runs n room ih (Some d) first sd r t x places args u small count on =
       let R = r.registers in
       let regs = args ++ replicate (R - length args) 0 in
       let size : length regs ≡ R = length-append args (replicate (R - length args) 0) ∙ ap (λ z. length args + z) (length-replicate (R - length args) 0) ∙ omega (arith, count, x.levels, x.room) in
-      guard_runs T message places (callees n places) t t (omega arith) m.listed (below m.listed ds n) (through_below Sound m.listed ds n) d.name n (params_of ds) tabled.listed
+      guard_runs T n message places (callees n places) t t (omega arith) m.listed (below m.listed ds n) (through_below Sound m.listed ds n) d.name n (params_of ds) tabled.listed
       (λ k first w s vs low less same here th.
       let many : (routine_of T k).params ≡ length vs = laid.params k (omega (arith, less, room)) ∙ same in
-      ap (λ z. entering n k (run.places_by places (map_of T w)) z s) (ap (registers_from s.regs first) many ∙ here)
-      ∙ ih k less (map (slice_index places) (map_of T w)) vs s low (sym same) th)
-      d.guard d.body first (first + 1) (first + 2) (length d.params) args regs u.cells u.pos u.end u.end nowhere nowhere small alone.fields sd.0 sd.1 count x.levels (omega (arith, x.room, size))
+      ap (λ z. entering n k (run.places_by places (cells_by T n k w)) z s) (ap (registers_from s.regs first) many ∙ here)
+      ∙ ih k less (map (slice_index places) (cells_by T n k w)) vs s low (sym same) th)
+      d.guard d.body first (first + 1) (first + 2) (length d.params) args regs u.cells u.pos u.end u.end nowhere nowhere small sd.0 sd.1 count x.levels (omega (arith, x.room, size))
       (subst (λ z. OptionExpr z (length d.params) (suc t) d.guard) (sym size) x.guard)
       (subst (λ z. BodyPlaced n (params_of ds) z t (length d.params) t d.body) (sym size) x.inside)
       (λ j l. get_or_append_left args (replicate (R - length args) 0) 0 j l)
@@ -73,7 +71,7 @@ module _ (T : Parts) (units : ℕ → ℕ) (m : Module) (message : List ℕ) (co
 
   -- the routine in its place
   routine_runs : (n : ℕ) → n < length ds → (places : List ℕ) (s : State)
-      → passage (run.block T message n places (first_of T n) s) ≡ ran T message places (callees n places) (block_of units ds n) nowhere nowhere s
+      → passage (run.block T message n places (first_of T n) s) ≡ ran T n message places (callees n places) (block_of units ds n) nowhere nowhere s
   routine_runs n less places s =
       let b = block_of units ds n in
       let within : end_of T n ≤ length T.instructions =
@@ -104,7 +102,7 @@ module _ (T : Parts) (units : ℕ → ℕ) (m : Module) (message : List ℕ) (co
           let less : n < length ds = omega (arith, le) in
           ap (λ z. passage (run.block T message n places (first_of T n) (run.entered (routine_of T z) args u))) q
           ∙ routine_runs n less places (run.entered (routine_of T n) args u)
-          ∙ one_runs n (omega (arith, le)) ih (slice_get ds n) (first_site ds n) (copyless_at ds n laid.copyless) (tabled.sited n less) (routine_of T n) (units n) (placed n less) places args u small (count ∙ ap (params_of ds) q) on
+          ∙ one_runs n (omega (arith, le)) ih (slice_get ds n) (first_site ds n) (tabled.sited n less) (routine_of T n) (units n) (placed n less) places args u small (count ∙ ap (params_of ds) q) on
       by ih false e on = ih d (less_of n d h e) places args u small count on
 
   -- a routine run from outside
@@ -133,10 +131,9 @@ module _ (T : Parts) (units : ℕ → ℕ) (m : Module) (message : List ℕ) (co
               by next false e = next (less_of k d h e)
 
 pub code_means : CodeMeans
-code_means T m entry args cells message of fits small sound =
+code_means T m entry args cells message of fits small on =
     let ds = m.definitions in
-    let still : opened m entry cells ≡ cells = opened_copyless m entry cells of.laid.copyless in
-    let on = subst (λ xs. Throughout Sound m entry args xs message) still sound in
+    let all = opened m entry cells in
     let n = entry.number in
     let place = slice_index m.entries n in
     let e : slice_get m.entries n ≡ Some place = slice_get-get_or m.entries n 0 (omega (arith, fits.there, of.laid.entry_count)) in
@@ -145,10 +142,10 @@ code_means T m entry args cells message of fits small sound =
     let less : place < length ds = omega (arith, point.there, routine, of.laid.count) in
     let many : length args ≡ params_of ds place = fits.arg_count ∙ point.param_count ∙ ap (λ z. (routine_of T z).params) routine ∙ of.laid.params place less in
     let at_entry : entry_place (slice_get m.entries n) (length ds) ≡ place = ap (λ o. entry_place o (length ds)) e in
-    let same : passage (run.run T entry args cells message) ≡ passage_of (meaning m entry args (opened m entry cells) message) =
-    ap (λ k. passage (run.run_routine T k args cells message)) routine
-    ∙ outside T of.units m message of.code of.laid of.tabled of.placed place less args cells small many
-    (subst (λ k. through_below Sound m.listed ds (length ds) k args (places_from 0 (length cells)) cells message 0 (length message)) at_entry on)
-    ∙ ap (λ k. passage_of (below m.listed ds (length ds) k args (places_from 0 (length cells)) cells message 0 (length message))) (sym at_entry)
-    ∙ ap (λ xs. passage_of (meaning m entry args xs message)) (sym still) in
+    let same : passage (run.run T entry args (opened_by T entry cells) message) ≡ passage_of (meaning m entry args all message) =
+    ap (λ xs. passage (run.run T entry args xs message)) (opened_same T of.units m entry cells of.code of.laid fits.there)
+    ∙ ap (λ k. passage (run.run_routine T k args all message)) routine
+    ∙ outside T of.units m message of.code of.laid of.tabled of.placed place less args all small many
+    (subst (λ k. through_below Sound m.listed ds (length ds) k args (places_from 0 (length all)) all message 0 (length message)) at_entry on)
+    ∙ ap (λ k. passage_of (below m.listed ds (length ds) k args (places_from 0 (length all)) all message 0 (length message))) (sym at_entry) in
     record { way = ap (λ p. p.way) same; touched = ap (λ p. p.touched) same }

@@ -3,7 +3,7 @@ use Rattle.std.proofs.Common.{ℕ, ◌+◌, Bool, true, false, List, [], ◌∷�
 use Rattle.td_core.specs.declared.module.TypeDef.{TypeDef}
 use Rattle.std.specs.Prelude.{Option, Some, None}
 use Rattle.td_blocks.specs.Block.{Block, Done, Leave}
-use Rattle.td_blocks.specs.Constructs.{Expr, Lit, Slot, Binary, Not, Complement, ShiftLeft, Both, Either, Choice, Range, value, values, tested, acts, Action, Finish, Assign, Read, If, Return, Abort, Steps, End, Start, Place, Skipped, Number, Listed, Part, Test, Act, Named, AllBytes, AllZeros, ZeroEnd, Never, Arguments, BySize, ByConstant, Inner, Nothing, Evenly, Exactly, Uneven, All, Zeroes, OneCall, OneListed, EachCall, EachListed, inner, steps, Cases, Case, Default, NoDefault, cases, Body, Struct, Casetype, Where, body}
+use Rattle.td_blocks.specs.Constructs.{Expr, Lit, Slot, Binary, Not, Complement, ShiftLeft, Both, Either, Choice, Range, value, values, tested, acts, Action, Finish, Assign, Read, If, Return, Abort, Steps, End, Start, Place, Skipped, Number, Listed, Part, Test, Act, Named, AllBytes, AllZeros, ZeroEnd, Copied, Never, Arguments, BySize, ByConstant, Inner, Nothing, Evenly, Exactly, Uneven, All, Zeroes, OneCall, OneListed, EachCall, EachListed, CopyAll, inner, steps, Cases, Case, Default, NoDefault, cases, Body, Struct, Casetype, Where, body}
 use Rattle.td_blocks.specs.Lowered.{definition_body, definition_block}
 use Rattle.td_lowered.proofs.Laid.{Forms, Ends}
 
@@ -45,6 +45,7 @@ forms_inner (OneCall t routine cells site count) = (tt, tt)
 forms_inner (OneListed slot order width set site t) = (tt, (tt, (tt, tt)))
 forms_inner (EachCall t routine cells site count) = ((tt, tt), tt)
 forms_inner (EachListed slot order width set site t) = ((tt, (tt, (tt, tt))), tt)
+forms_inner (CopyAll t buffer size site) = (tt, (tt, tt))
 
 forms_steps : (x : Steps) → Forms false (steps x)
 forms_steps End = tt
@@ -60,6 +61,7 @@ forms_steps (Named t routine cells site args k) = forms_values false t args _ (t
 forms_steps (AllBytes k) = (tt, forms_steps k)
 forms_steps (AllZeros site k) = (tt, forms_steps k)
 forms_steps (ZeroEnd t width site e k) = forms_value false t e _ (tt, forms_steps k)
+forms_steps (Copied t buffer site e k) = forms_value false t e _ (tt, forms_steps k)
 forms_steps (Never site) = tt
 forms_steps (Arguments t args k) = forms_values false t args _ (forms_steps k)
 forms_steps (BySize t site e x k) = forms_value false t e _ (tt, (forms_inner x, forms_steps k))
@@ -105,6 +107,7 @@ ends_steps (Named t routine cells site args k) = ends_values t args _ (ends_step
 ends_steps (AllBytes k) = ends_steps k
 ends_steps (AllZeros site k) = ends_steps k
 ends_steps (ZeroEnd t width site e k) = ends_value t e _ (ends_steps k)
+ends_steps (Copied t buffer site e k) = ends_value t e _ (ends_steps k)
 ends_steps (Never site) = tt
 ends_steps (Arguments t args k) = ends_values t args _ (ends_steps k)
 ends_steps (BySize t site e x k) = ends_value t e _ (ends_steps k)

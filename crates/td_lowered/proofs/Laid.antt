@@ -113,6 +113,13 @@ module _ (T : Parts) (message places : List ℕ) (n : ℕ) (room : end_of T n �
     fetched true t touched reason site = ap (touching touched) (h t)
     fetched false t touched reason site = refl
 
+    abbrev put : ℕ → Bool → State → List ℕ → ℕ → Reason → ℕ → Effect
+    put next b t touched steps reason site = cond b (record { flow = Goes next t; touched = touched; steps = steps }) (record { flow = Fails reason site s.start s; touched = []; steps = 1 })
+
+    put_is : (b : Bool) (t : State) (touched : List ℕ) (steps : ℕ) (reason : Reason) (site : ℕ) → led pc to (put (pc + 1) b t touched steps reason site) ≡ touching (put 1 b t touched steps reason site).touched (onwards T calling (put 1 b t touched steps reason site).flow go)
+    put_is true t touched steps reason site = ap (touching touched) (h t)
+    put_is false t touched steps reason site = refl
+
     zeros_is : (touched : List ℕ) (steps site : ℕ) (o : Option ℕ) → led pc to (record { flow = zeros_flow (pc + 1) site o s; touched = touched; steps = steps }) ≡ touching touched (onwards T calling (zeros_flow 1 site o s) go)
     zeros_is touched steps site None = ap (touching touched) (h (record s { pos = s.end }))
     zeros_is touched steps site (Some k) = refl
@@ -121,7 +128,7 @@ module _ (T : Parts) (message places : List ℕ) (n : ℕ) (room : end_of T n �
     zeroterm_is touched steps site w bound left None = refl
     zeroterm_is touched steps site w bound left (Some k) = ap (touching touched) (h _)
 
-    passed : (j : Instr) → IsOnward j → led pc to (effect T message places pc j s) ≡ passes T message places calling j go s
+    passed : (j : Instr) → IsOnward j → led pc to (effect T n message places pc j s) ≡ passes T n message places calling j go s
     passed (i.Const a k) x = h _
     passed (i.Member a b t) x = h _
     passed (i.Op a o b k) x = h _
@@ -136,8 +143,8 @@ module _ (T : Parts) (message places : List ℕ) (n : ℕ) (room : end_of T n �
     passed (i.SkipK k site) x = tested _ _ _ site _
     passed (i.Skip b site) x = tested _ _ _ site _
     passed i.Rest x = h _
-    passed (i.Zeros site) x = zeros_is _ (effect T message places pc (i.Zeros site) s).steps site _
-    passed (i.Zeroterm b w site) x = zeroterm_is _ (effect T message places pc (i.Zeroterm b w site) s).steps site w _ _ _
+    passed (i.Zeros site) x = zeros_is _ (effect T n message places pc (i.Zeros site) s).steps site _
+    passed (i.Zeroterm b w site) x = zeroterm_is _ (effect T n message places pc (i.Zeroterm b w site) s).steps site w _ _ _
     passed (i.NarrowK k site) x = tested _ _ _ site _
     passed (i.Narrow b site) x = tested _ _ _ site _
     passed (i.Divides b k site) x = so _ _ site
@@ -148,8 +155,9 @@ module _ (T : Parts) (message places : List ℕ) (n : ℕ) (room : end_of T n �
     passed (i.Get a k) x = h _
     passed (i.Set b k) x = h _
     passed i.Mark x = h _
+    passed (i.Copy b k site) x = put_is _ _ _ _ _ site
 
-    stopped : (j : Instr) → IsLast j → led pc to (effect T message places pc j s) ≡ passes T message places calling j nowhere s
+    stopped : (j : Instr) → IsLast j → led pc to (effect T n message places pc j s) ≡ passes T n message places calling j nowhere s
     stopped i.Return x = refl
     stopped (i.Fail o site) x = refl
     stopped (i.Const a k) x = absurd x
@@ -176,12 +184,13 @@ module _ (T : Parts) (message places : List ℕ) (n : ℕ) (room : end_of T n �
     stopped (i.Get a k) x = absurd x
     stopped (i.Set b k) x = absurd x
     stopped i.Mark x = absurd x
+    stopped (i.Copy b k site) x = absurd x
 
   -- a jump ahead, within the routine
   hop : (pc t : ℕ) (s : State) → pc < t → t < end_of T n → passage (jump T message n places pc t s) ≡ from t s
   hop pc t s h l = ap passage (jump_to T message n places pc t s h l)
 
-  at_code : (pc : ℕ) (s : State) (j : Instr) → instruction_of T pc ≡ j → pc < end_of T n → from pc s ≡ led pc (jump T message n places pc) (effect T message places pc j s)
+  at_code : (pc : ℕ) (s : State) (j : Instr) → instruction_of T pc ≡ j → pc < end_of T n → from pc s ≡ led pc (jump T message n places pc) (effect T n message places pc j s)
   at_code pc s j e l = ap passage (opened T message places n pc s j e l room)
 
   moved : (p q : ℕ) (s : State) → p ≡ q → from p s ≡ from q s
@@ -206,7 +215,7 @@ module _ (T : Parts) (message places : List ℕ) (n : ℕ) (room : end_of T n �
       by false e = omega (arith, le.more e)
 
   pub stands_run : (b : Block) (p x : ℕ) (leaves ends : Bool) (leave go : State → Passage) → Stands T p x b → Forms leaves b → Leads p x leaves ends b leave go
-      → (s : State) → from p s ≡ ran T message places calling b leave go s
+      → (s : State) → from p s ≡ ran T n message places calling b leave go s
   stands_run Done p x leaves ends leave go st ne le s = by ends refl
     where
       by : (e : Bool) → ends ≡ e → from p s ≡ go s
@@ -223,7 +232,7 @@ module _ (T : Parts) (message places : List ℕ) (n : ℕ) (room : end_of T n �
         on = λ e s. moved (p + 1 + size b) (p + (1 + size b)) s (omega arith) ∙ le.on e s;
       } in
       at_code p s j st.0 (omega (arith, le.whole))
-      ∙ passed p s (jump T message n places p) (ran T message places calling b leave go)
+      ∙ passed p s (jump T message n places p) (ran T n message places calling b leave go)
       (λ t. hop p (p + 1) t (omega arith) (begun (p + 1) x leaves ends b leave go rest) ∙ stands_run b (p + 1) x leaves ends leave go st.1 ne.1 rest t) j ne.0
   stands_run (Stop j) p x leaves ends leave go st ne le s =
       at_code p s j st (omega (arith, le.whole)) ∙ stopped p s (jump T message n places p) (λ t. passage (jump T message n places p (p + 1) t)) (λ t. refl) j ne
@@ -231,8 +240,8 @@ module _ (T : Parts) (message places : List ℕ) (n : ℕ) (room : end_of T n �
       at_code p s (i.Jump x) st (omega (arith, le.whole)) ∙ hop p x s (omega (arith, le.near ne)) (le.inside ne) ∙ le.out ne s
   stands_run (Guard g r one rest) p x leaves ends leave go st ne le s =
       let q = p + 1 + size one in
-      let R = ran T message places calling rest leave go in
-      let O = ran T message places calling one leave R in
+      let R = ran T n message places calling rest leave go in
+      let O = ran T n message places calling one leave R in
       let later : Leads q x leaves ends rest leave go = record {
         whole = omega (arith, le.whole);
         near = λ e. omega (arith, le.near e);
@@ -257,7 +266,7 @@ module _ (T : Parts) (message places : List ℕ) (n : ℕ) (room : end_of T n �
       let here = hop p (p + 1) s (omega arith) (omega (arith, behind)) ∙ stands_run one (p + 1) x leaves false leave R st.1 ne.0 first s in
       let J = jump T message n places p in
       at_code p s (guard g r q) st.0 (omega (arith, behind))
-      ∙ elim g as (λ g. led p J (effect T message places p (guard g r q) s) ≡ guarded T message places calling g (reg s r) (O s) (R s)) [
+      ∙ elim g as (λ g. led p J (effect T n message places p (guard g r q) s) ≡ guarded T n message places calling g (reg s r) (O s) (R s)) [
         | true ↦ jumped (nat_eq (reg s r) 0) p s (p + 1) q (O s) (R s) here there
         | false ↦ jumped (nat_eq (reg s r) 0) p s q (p + 1) (R s) (O s) there here
       ]
@@ -268,7 +277,7 @@ module _ (T : Parts) (message places : List ℕ) (n : ℕ) (room : end_of T n �
       jumped false p s a k z w e f = f
   stands_run (Scope body rest) p x leaves ends leave go st ne le s =
       let q = p + size body in
-      let R = ran T message places calling rest leave go in
+      let R = ran T n message places calling rest leave go in
       let later : Leads q x leaves ends rest leave go = record {
         whole = omega (arith, le.whole);
         near = λ e. omega (arith, le.near e);
@@ -293,9 +302,9 @@ module _ (T : Parts) (message places : List ℕ) (n : ℕ) (room : end_of T n �
   stands_run (Window j site body rest) p x leaves ends leave go st ne le s =
       let w = p + 1 + size body in
       let q = w + 1 in
-      let R = ran T message places calling rest leave go in
-      let W : State → Passage = passes T message places calling (i.Widen site) R in
-      let B = ran T message places calling body leave W in
+      let R = ran T n message places calling rest leave go in
+      let W : State → Passage = passes T n message places calling (i.Widen site) R in
+      let B = ran T n message places calling body leave W in
       let later : Leads q x leaves ends rest leave go = record {
         whole = omega (arith, le.whole);
         near = λ e. omega (arith, le.near e);
@@ -324,9 +333,9 @@ module _ (T : Parts) (message places : List ℕ) (n : ℕ) (room : end_of T n �
   stands_run (Loop body rest) p x leaves ends leave go st ne le s =
       let w = p + 1 + size body in
       let q = w + 1 in
-      let R = ran T message places calling rest leave go in
+      let R = ran T n message places calling rest leave go in
       let W : State → Passage = λ t. plainly (Turned t) in
-      let B = ran T message places calling body leave W in
+      let B = ran T n message places calling body leave W in
       let later : Leads q x leaves ends rest leave go = record {
         whole = omega (arith, le.whole);
         near = λ e. omega (arith, le.near e);

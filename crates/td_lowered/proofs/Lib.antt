@@ -14,3 +14,4 @@ pub mod Laid
 pub mod Forming
 pub mod CodeRuns
 pub mod Fitting
+pub mod Opening

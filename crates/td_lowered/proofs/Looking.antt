@@ -38,9 +38,9 @@ nonzero_same (suc x) = ap (λ b. cond b false true) (nonzero x)
 by_one : (n : ℕ) → n ≡ n * 1
 by_one n = omega arith
 
-module _ (T : Parts) (message places : List ℕ) (calls : Calling) where
+module _ (T : Parts) (self : ℕ) (message places : List ℕ) (calls : Calling) where
   pub zeros_look : (site : ℕ) (s : State) (go : State → Passage)
-      → passes T message places calls (i.Zeros site) go s
+      → passes T self message places calls (i.Zeros site) go s
       ≡ (let first = first_where is_nonzero (numbers_at byte_type message s.pos (left s)) in
       touching (run_of byte_type s.pos (looked_at first (left s))) (onwards T calls (zeros_flow 1 site first s) go))
   zeros_look site s go =
@@ -51,7 +51,7 @@ module _ (T : Parts) (message places : List ℕ) (calls : Calling) where
       ∙ ap (λ k. touching (places_from s.pos k) (onwards T calls (zeros_flow 1 site first s) go)) (looked_same first n ∙ by_one (looked_at first n))
 
   pub zeroterm_look : (w : Width) (b site : ℕ) (s : State) (go : State → Passage)
-      → passes T message places calls (i.Zeroterm b (bytes_in w) site) go s
+      → passes T self message places calls (i.Zeroterm b (bytes_in w) site) go s
       ≡ (let bound = reg s b / bytes_in w in
       let room = left s / bytes_in w in
       let type : NumberType = record { width = w; order = LittleEndian } in

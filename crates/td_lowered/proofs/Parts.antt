@@ -78,9 +78,9 @@ ended_exit (Returned true c) site start q next bad h = refl
 ended_exit (Returned false c) site start q next bad h = h c
 ended_exit (Aborted c) site start q next bad h = h c
 
-module _ (T : Parts) (message places : List ℕ) (calls : Calling) (D t : ℕ) (dt : D ≤ t) where
+module _ (T : Parts) (self : ℕ) (message places : List ℕ) (calls : Calling) (D t : ℕ) (dt : D ≤ t) where
   abbrev goes : Block → (State → Passage) → (State → Passage) → State → Passage
-  goes = ran T message places calls
+  goes = ran T self message places calls
 
   pub record Refines (o : Option Term) (env : List ℕ) (L site : ℕ) (s : State) : Type 0 where
     pub regs : List ℕ
@@ -93,10 +93,10 @@ module _ (T : Parts) (message places : List ℕ) (calls : Calling) (D t : ℕ) (
       → Refines o env L site s
   refine_runs None env L site s le ld x on f = record { regs = s.regs; kept = kept_all L D (suc t) s.regs; by = λ k leave go q next h. h refl }
   refine_runs (Some e) env L site s le ld x on f =
-      let p = put_value T message places calls e env L (suc t) s le (omega (arith, ld, dt)) x on f in
+      let p = put_value T self message places calls e env L (suc t) s le (omega (arith, ld, dt)) x on f in
       record {
         regs = p.regs;
-        kept = kept_put T message places calls L D (suc t) (natural_of e env) s (value (suc t) (expr_of e)) p (omega (arith, ld, dt));
+        kept = kept_put T self message places calls L D (suc t) (natural_of e env) s (value (suc t) (expr_of e)) p (omega (arith, ld, dt));
         by = λ k leave go q next h.
             let s1 : State = record s { regs = p.regs } in
             let bad = failed T Constraint site s.start s in
@@ -126,7 +126,7 @@ module _ (T : Parts) (message places : List ℕ) (calls : Calling) (D t : ℕ) (
       } in
       let R = goes (steps k) leave go in
       let e = doing d (env ++ s.start ∷ []) places s.cells in
-      acts_run T message places calls site D d (suc t) (suc (suc L)) (env ++ s.start ∷ []) s1 Done R R (next q) (next q) (pushed_length env s.start ∙ ap suc le) x.0 (omega (arith, dt))
+      acts_run T self message places calls site D d (suc t) (suc (suc L)) (env ++ s.start ∷ []) s1 Done R R (next q) (next q) (pushed_length env s.start ∙ ap suc le) x.0 (omega (arith, dt))
       (subst (λ n. DeedPlaced n D (suc (suc L)) (suc t) d) (sym (length-set s.regs (suc L) s.start)) x.1.1)
       (follows_push (λ j. deed_names j d) env r s.start (follows_kept (λ j. deed_names j d) env s.regs r (λ j l. other j (inl (omega (arith, l, le)))) f)
       (λ m. ap (slice_index r) le ∙ get_or-set_same s.regs (suc L) s.start 0 x.1.0))
@@ -170,7 +170,7 @@ module _ (T : Parts) (message places : List ℕ) (calls : Calling) (D t : ℕ) (
 
   module _ (ty : NameId) (later : List Field) (read : Bool) (n : ℕ) where
     pub parts_run : (ps : List Part) (site L : ℕ) (env : List ℕ) (s : State) (k : Steps) (leave go : State → Passage) (next : ℕ → List ℕ → Passage)
-        → PartsSited T ty site ps → length env ≡ L → PartsPlaced (length s.regs) D L t ps → Alone ps → Source read L t n ps s.regs → (is_needed L ps later ≡ true → read ≡ true)
+        → PartsSited T self ty site ps → length env ≡ L → PartsPlaced (length s.regs) D L t ps → Alone ps → Source read L t n ps s.regs → (is_needed L ps later ≡ true → read ≡ true)
         → Follows (λ j. parts_name j ps || fields_name j later) env s.regs → OnParts Sound s.start n ps env places s.pos s.cells
         → ((r c : List ℕ) → length r ≡ length s.regs → Follows (λ j. fields_name j later) (extended env n ps) r
         → (parts_meaning ty s.start n ps env places s.pos s.cells).ending ≡ Accepted s.pos c → goes (steps k) leave go (record s { regs = r; cells = c }) ≡ next s.pos c)

@@ -79,9 +79,9 @@ low_more t u (Either a b) h l = (low_more t u a h l.0, low_more t u b h l.1)
 low_more t u (Choice c a b) h l = (low_more t u c h l.0, (low_more t u a h l.1.0, low_more t u b h l.1.1))
 low_more t u (Range size offset access) h l = (low_more t u size h l.0, (low_more t u offset h l.1.0, low_more t u access h l.1.1))
 
-module _ (T : Parts) (message places : List ℕ) (calls : Calling) where
+module _ (T : Parts) (self : ℕ) (message places : List ℕ) (calls : Calling) where
   abbrev pub go_on : Block → (State → Passage) → (State → Passage) → State → Passage
-  go_on = ran T message places calls
+  go_on = ran T self message places calls
 
   pub record Puts (t v : ℕ) (s : State) (code : Block → Block) : Type 0 where
     pub regs : List ℕ

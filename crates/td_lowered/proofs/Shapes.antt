@@ -37,7 +37,7 @@ use Rattle.td_lowered.proofs.Puts.{puts}
 use Rattle.td_lowered.proofs.Looking.{zeros_look}
 use Rattle.td_lowered.proofs.Ontos.{onto_after, onto_on, within_on}
 use Rattle.td_lowered.proofs.Acts.{Follows, follows_kept, follows_some, placed_low, named_low, not_of}
-use Rattle.td_ir.specs.Tables.{set_of, map_of}
+use Rattle.td_ir.specs.Tables.{set_of, cells_by}
 use Rattle.td_ir.specs.Run.{place_of_site}
 use Rattle.td_num.proofs.Truths.{or_right, or_left}
 
@@ -61,9 +61,9 @@ fetched_on T calls b touched t site s go = touching (fetched b touched t site s)
 abbrev pub at : (r c : List ℕ) (p start end outer : ℕ) → State
 at r c p start end outer = record { regs = r; cells = c; start = start; pos = p; end = end; outer = outer }
 
-module _ (T : Parts) (message places : List ℕ) (calls : Calling) (D t : ℕ) (dt : D ≤ t) where
+module _ (T : Parts) (self : ℕ) (message places : List ℕ) (calls : Calling) (D t : ℕ) (dt : D ≤ t) where
   abbrev goes : Block → (State → Passage) → (State → Passage) → State → Passage
-  goes = ran T message places calls
+  goes = ran T self message places calls
 
   -- arguments are put into registers, whether they are sound or not
   pub record Given (es : List Term) (env : List ℕ) (L u : ℕ) (s : State) : Type 0 where
@@ -76,7 +76,7 @@ module _ (T : Parts) (message places : List ℕ) (calls : Calling) (D t : ℕ) (
   pub give : (es : List Term) (env : List ℕ) (L u : ℕ) (s : State) → length env ≡ L → L ≤ u → ArgsPlaced (length s.regs) L u es → Follows (λ j. some_name j es) env s.regs → Given es env L u s
   give [] env L u s le lu x f = record { regs = s.regs; count = refl; low = λ j h. refl; here = λ h. refl; by = λ k leave go. refl }
   give (e ∷ es) env L u s le lu x f =
-      let p = puts T message places calls (expr_of e) u s x.0.1.1 (placed_low e L u lu x.0.0) in
+      let p = puts T self message places calls (expr_of e) u s x.0.1.1 (placed_low e L u lu x.0.0) in
       let s1 : State = record s { regs = p.regs } in
       let f1 = follows_some (λ j. some_name j es) (λ j. some_name j (e ∷ es)) env s.regs (λ j m. or_right (names j e) (some_name j es) m) f in
       let q = give es env L (u + 1) s1 le (omega (arith, lu)) (subst (λ n. ArgsPlaced n L (u + 1) es) (sym p.count) x.1) (follows_kept (λ j. some_name j es) env s.regs p.regs (λ j l. p.low j (omega (arith, l, le, lu))) f1) in
@@ -101,8 +101,8 @@ module _ (T : Parts) (message places : List ℕ) (calls : Calling) (D t : ℕ) (
   module _ (sets : List (List ℕ)) (senses : ℕ → Sense) (throughs : ℕ → Through) (ty : NameId) (n : ℕ) (params : ℕ → ℕ)
       (setted : (v x : ℕ) → is_among (set_of T v) x ≡ is_among (values_of sets v) x)
       (called : (d first m : ℕ) (s : State) (args : List ℕ) → s.end < 2 ^ 32 → d < n → params d ≡ length args → registers_from s.regs first (length args) ≡ args
-      → throughs d args (map (slice_index places) (map_of T m)) s.cells message s.pos s.end
-      → calls first d m s ≡ passage_of (senses d args (map (slice_index places) (map_of T m)) s.cells message s.pos s.end)) where
+      → throughs d args (map (slice_index places) (cells_by T self d m)) s.cells message s.pos s.end
+      → calls first d m s ≡ passage_of (senses d args (map (slice_index places) (cells_by T self d m)) s.cells message s.pos s.end)) where
     -- a number that was read stands in its slot
     abbrev pub InSlot : (element : Element) (needed : Bool) (slot p : ℕ) → List ℕ → Type 0
     InSlot (Number type) true slot p r = slice_index r slot ≡ number_at type message p
@@ -118,7 +118,7 @@ module _ (T : Parts) (message places : List ℕ) (calls : Calling) (D t : ℕ) (
     length_values (e ∷ es) env = ap suc (length_values es env)
 
     -- a call of an element
-    pub call_is : (d : ℕ) (args : List Term) (own : List ℕ) (u site : ℕ) (env : List ℕ) (s : State) → s.end < 2 ^ 32 → map_of T site ≡ own → d < n → params d ≡ length args → registers_from s.regs u (length args) ≡ values_in args env
+    pub call_is : (d : ℕ) (args : List Term) (own : List ℕ) (u site : ℕ) (env : List ℕ) (s : State) → s.end < 2 ^ 32 → cells_by T self d site ≡ own → d < n → params d ≡ length args → registers_from s.regs u (length args) ≡ values_in args env
         → throughs d (values_in args env) (map (slice_index places) own) s.cells message s.pos s.end
         → calls u d site s ≡ passage_of (senses d (values_in args env) (map (slice_index places) own) s.cells message s.pos s.end)
     call_is d args own u site env s low mapped less count here on =
@@ -126,7 +126,7 @@ module _ (T : Parts) (message places : List ℕ) (calls : Calling) (D t : ℕ) (
         called d u site s (values_in args env) low less (count ∙ sym same) (ap (registers_from s.regs u) same ∙ here) (subst (λ w. throughs d (values_in args env) (map (slice_index places) w) s.cells message s.pos s.end) (sym mapped) on)
         ∙ ap (λ w. passage_of (senses d (values_in args env) (map (slice_index places) w) s.cells message s.pos s.end)) mapped
 
-    pub call_runs : (d : ℕ) (args : List Term) (own : List ℕ) (u site : ℕ) (env r c : List ℕ) (p start end o : ℕ) (go : State → Passage) → end < 2 ^ 32 → map_of T site ≡ own → d < n → params d ≡ length args → registers_from r u (length args) ≡ values_in args env
+    pub call_runs : (d : ℕ) (args : List Term) (own : List ℕ) (u site : ℕ) (env r c : List ℕ) (p start end o : ℕ) (go : State → Passage) → end < 2 ^ 32 → cells_by T self d site ≡ own → d < n → params d ≡ length args → registers_from r u (length args) ≡ values_in args env
         → throughs d (values_in args env) (map (slice_index places) own) c message p end
         → back T site (at r c p start end o) go (calls u d site (at r c p start end o))
         ≡ onto (within (place_of_site T site start) (senses d (values_in args env) (map (slice_index places) own) c message p end)) (λ q c. go (at r c q start end o))
@@ -211,7 +211,7 @@ module _ (T : Parts) (message places : List ℕ) (calls : Calling) (D t : ℕ) (
         first k leave go next h false e = refl
 
     pub once_runs : (element : Element) (needed : Bool) (slot site L : ℕ) (env r c : List ℕ) (p end o : ℕ) (k : Steps) (leave go : State → Passage) (next : ℕ → List ℕ → Passage)
-        → end < 2 ^ 32 → Mapped T site element → length env ≡ L → L ≤ D → L ≤ slot → slot ≤ t → t < length r → ElementPlaced n params (length r) L (suc t) element → Follows (λ j. element_names j element) env r
+        → end < 2 ^ 32 → Mapped T self site element → length env ≡ L → L ≤ D → L ≤ slot → slot ≤ t → t < length r → ElementPlaced n params (length r) L (suc t) element → Follows (λ j. element_names j element) env r
         → OnElement Sound throughs element env places message end p c
         → ((q : ℕ) (z d : List ℕ) → length z ≡ length r → ((j : ℕ) → j < L → slice_index z j ≡ slice_index r j) → InSlot element needed slot p z
         → (element_meaning sets senses element env places message p end p c).ending ≡ Accepted q d → goes (steps k) leave go (at z d q p end o) ≡ next q d)
@@ -257,7 +257,7 @@ module _ (T : Parts) (message places : List ℕ) (calls : Calling) (D t : ℕ) (
     once_runs UnitElement needed slot site L env r c p end o k leave go next small mp le ld ls st room x f on h = h p r c refl (λ j l. refl) tt refl
     once_runs Rest needed slot site L env r c p end o k leave go next small mp le ld ls st room x f on h = h end r c refl (λ j l. refl) tt refl
     once_runs Zeros needed slot site L env r c p end o k leave go next small mp le ld ls st room x f on h =
-        zeros_look T message places calls site (at r c p p end o) (goes (steps k) leave go) ∙ by first refl ∙ sym (onto_after R (within (place_of_site T site p) (zeros_end first end p c)) next)
+        zeros_look T self message places calls site (at r c p p end o) (goes (steps k) leave go) ∙ by first refl ∙ sym (onto_after R (within (place_of_site T site p) (zeros_end first end p c)) next)
       where
         first : Option ℕ
         first = first_where is_nonzero (numbers_at byte_type message p (end - p))

@@ -22,7 +22,7 @@ range_first {X} xs a to d l within =
 
 -- where a jump from pc leads
 abbrev pub jump : Parts → List ℕ → ℕ → List ℕ → ℕ → ℕ → State → Exit
-jump c message n places pc t s = goes pc (exits c message places (calls_of c message n places) (pc + 1) (slice_range c.instructions (pc + 1) (end_of c n))) t s
+jump c message n places pc t s = goes pc (exits c n message places (calls_of c message n places) (pc + 1) (slice_range c.instructions (pc + 1) (end_of c n))) t s
 
 forward : (pc t : ℕ) → pc < t → nat_lt pc t ≡ true
 forward pc t h = grind arith
@@ -33,13 +33,13 @@ jump_to c message n places pc t s h l =
     let js = c.instructions in
     let e : pc + 1 + (t - (pc + 1)) ≡ t = omega arith in
     let m : pc + 1 + (t - (pc + 1)) ≤ to = omega arith in
-    ap (λ v. cond v (pick (exits c message places (calls_of c message n places) (pc + 1) (slice_range js (pc + 1) to)) (t - (pc + 1)) s) (at_once Stuck)) (forward pc t h)
-    ∙ pick_at c message places (calls_of c message n places) (pc + 1) (slice_range js (pc + 1) to) (t - (pc + 1)) s
-    ∙ ap (λ l. pick (exits c message places (calls_of c message n places) (pc + 1 + (t - (pc + 1))) l) 0 s) (range_later js (pc + 1) (t - (pc + 1)) to m)
-    ∙ ap (λ p. pick (exits c message places (calls_of c message n places) p (slice_range js p to)) 0 s) e
+    ap (λ v. cond v (pick (exits c n message places (calls_of c message n places) (pc + 1) (slice_range js (pc + 1) to)) (t - (pc + 1)) s) (at_once Stuck)) (forward pc t h)
+    ∙ pick_at c n message places (calls_of c message n places) (pc + 1) (slice_range js (pc + 1) to) (t - (pc + 1)) s
+    ∙ ap (λ l. pick (exits c n message places (calls_of c message n places) (pc + 1 + (t - (pc + 1))) l) 0 s) (range_later js (pc + 1) (t - (pc + 1)) to m)
+    ∙ ap (λ p. pick (exits c n message places (calls_of c message n places) p (slice_range js p to)) 0 s) e
 
 pub opened : (c : Parts) (message places : List ℕ) (n pc : ℕ) (s : State) (j : Instr) → instruction_of c pc ≡ j → pc < end_of c n → end_of c n ≤ length c.instructions
-    → block c message n places pc s ≡ follow c (calls_of c message n places) pc (jump c message n places pc) (effect c message places pc j s)
+    → block c message n places pc s ≡ follow c (calls_of c message n places) pc (jump c message n places pc) (effect c n message places pc j s)
 opened c message places n pc s j e l within =
-    ap (λ js. pick (exits c message places (calls_of c message n places) pc js) 0 s) (range_first c.instructions pc (end_of c n) (i.Fail 0 0) l within)
-    ∙ ap (λ j. follow c (calls_of c message n places) pc (jump c message n places pc) (effect c message places pc j s)) e
+    ap (λ js. pick (exits c n message places (calls_of c message n places) pc js) 0 s) (range_first c.instructions pc (end_of c n) (i.Fail 0 0) l within)
+    ∙ ap (λ j. follow c (calls_of c message n places) pc (jump c message n places pc) (effect c n message places pc j s)) e

@@ -10,7 +10,7 @@ use Rattle.td_meaning.specs.Copies.{opened, IsSoundOn}
 use Rattle.td_ir.specs.declared.tables.Parts.{Parts}
 use Rattle.td_ir.specs.WellFormed.{IsCode}
 use Rattle.td_ir.specs.State.{Way, Returned, Failed, Exit}
-use Rattle.td_ir.specs.Entries.{Fits}
+use Rattle.td_ir.specs.Entries.{Fits, opened_by}
 use Rattle.td_ir.specs.Run.{run}
 use Rattle.td_blocks.specs.Placed.{ArePlaced}
 use Rattle.td_blocks.specs.Tabled.{IsTabled}
@@ -41,7 +41,7 @@ abbrev pub CodeMeans : Type 0
 CodeMeans =
     (c : Parts) (m : Module) (entry : Entry) (args cells message : List ℕ) →
     IsCodeOf c m → Fits c entry args cells → length message < 2 ^ 32 → IsSoundOn m entry args cells message →
-    IsMeaning (run c entry args cells message) (meaning m entry args (opened m entry cells) message)
+    IsMeaning (run c entry args (opened_by c entry cells) message) (meaning m entry args (opened m entry cells) message)
 
 -- arguments and cells that fit the module's entry point fit that of its code
 abbrev pub ArgumentsFit : Type 0

@@ -13,6 +13,7 @@ use Rattle.td_core.specs.declared.module.Extent.{Extent}
 use Rattle.td_core.specs.declared.module.Extent.TheVariants.{Once, Filling, OnceFilling, UpToZero}
 use Rattle.td_core.specs.declared.module.Bits.{Bits}
 use Rattle.td_core.specs.declared.module.Param.{Param}
+use Rattle.td_core.specs.declared.module.CopyOut.{CopyOut}
 use Rattle.td_core.specs.declared.module.Part.{Part}
 use Rattle.td_core.specs.declared.module.Field.{Field}
 use Rattle.td_core.specs.declared.module.Case.{Case}
@@ -28,8 +29,8 @@ use Rattle.td_kinds.specs.KindRules.{field_faults, fields_faults, cases_faults, 
 use Rattle.td_kinds.specs.declared.error.KindFault.{KindFault}
 use Rattle.td_sizes.specs.Sizes.{HasSteps, IsFieldStepped}
 use Rattle.td_blocks.specs.Lowered.{terms_of, is_read}
-use Rattle.td_blocks.specs.Placed.{DeedPlaced, OptionExpr, OptionDeed, PartsPlaced, HasBits, AllBits, AloneFrom, Alone, ArgsPlaced, ElementPlaced, SizePlaced, ElementsPlaced, OnePlaced, IsNumber, ShapePlaced, FieldsPlaced, DefaultPlaced, CasesPlaced, BodyPlaced, count_of, params_of}
-use Rattle.td_blocks.specs.Tops.{deed_levels, action_levels, parts_levels, fields_levels, default_levels, cases_levels, body_levels, term_top, terms_top, test_top, deed_top, action_top, parts_top, shape_top, fields_top, default_top, cases_top, body_top}
+use Rattle.td_blocks.specs.Placed.{DeedPlaced, OptionExpr, OptionDeed, PartsPlaced, HasBits, AllBits, AloneFrom, Alone, ArgsPlaced, ElementPlaced, SizePlaced, ElementsPlaced, OnePlaced, IsNumber, ShapePlaced, CopyPlaced, FieldsPlaced, DefaultPlaced, CasesPlaced, BodyPlaced, count_of, params_of}
+use Rattle.td_blocks.specs.Tops.{deed_levels, action_levels, parts_levels, fields_levels, default_levels, cases_levels, body_levels, term_top, terms_top, test_top, deed_top, action_top, parts_top, shape_top, content_top, fields_top, default_top, cases_top, body_top}
 use Rattle.td_placed.specs.Ready.{DefinitionsArePlaced}
 use Rattle.td_placed.proofs.Rooms.{under_left, under_right, is_expr}
 use Rattle.td_placed.proofs.Hiding.{unneeded}
@@ -243,6 +244,22 @@ module _ (ds : List TypeDef) (n count : ℕ) (kinds : ℕ → Kind) (cells : Lis
       (omega (arith, room), (size_placed size scope L u (constant_of size) le x y (under_right (u + 3) (term_top u size) R h2), (one_placed element scope L le s b h1, w)))
   shape_placed element (UpToZero size) f last scope L le s x b y w z k h = (is_expr scope size false L (suc t) R le x y h, number_ended element size z)
 
+  shape_under : (element : Element) (extent : Extent) (copy : Option CopyOut) → content_top t element extent copy ≤ R → shape_top t element extent ≤ R
+  shape_under element extent None h = h
+  shape_under element Once (Some c) h = h
+  shape_under element (Filling size step) (Some c) h = under_left (shape_top t element (Filling size step)) (term_top (suc t) size) R h
+  shape_under element (OnceFilling size step) (Some c) h = h
+  shape_under element (UpToZero size) (Some c) h = h
+
+  copy_placed : (element : Element) (extent : Extent) (copy : Option CopyOut) (scope : List Bound) (L : ℕ) → length scope ≡ L → IsExtentFormed scope extent → IsExtentSorted extent
+      → content_top t element extent copy ≤ R → CopyPlaced R L t extent copy
+  copy_placed element extent None scope L le x y h = tt
+  copy_placed element Once (Some c) scope L le x y h = tt
+  copy_placed element (Filling size step) (Some c) scope L le x y h =
+      is_expr scope size false L (suc t) R le x y (under_right (shape_top t element (Filling size step)) (term_top (suc t) size) R h)
+  copy_placed element (OnceFilling size step) (Some c) scope L le x y h = tt
+  copy_placed element (UpToZero size) (Some c) scope L le x y h = tt
+
   -- Parts of a field
 
   all_bits : (type : NumberType) (ps : List Part) → Each (λ p. AreBitsOf type p.bits) ps → AllBits ps
@@ -310,12 +327,15 @@ module _ (ds : List TypeDef) (n count : ℕ) (kinds : ℕ → Kind) (cells : Lis
       let h1 = under_left (parts_levels L f.parts) (fields_levels after fs) D h in
       let h2 = under_right (parts_levels L f.parts) (fields_levels after fs) D h in
       let rest = max (parts_top L t f.parts) (fields_top after t fs) in
-      let g1 = under_left (shape_top t f.element f.extent) rest R g in
-      let g2 = under_right (shape_top t f.element f.extent) rest R g in
+      let g1 = under_left (content_top t f.element f.extent f.copy) rest R g in
+      let g2 = under_right (content_top t f.element f.extent f.copy) rest R g in
       let above = parts_above f.parts L in (
         omega (arith, h1, above),
         (
-          shape_placed f.element f.extent f (is_empty fs) scope L le s.0 s.1.0 b.0.0 b.0.1.0 y.0 w.0.ended k1 g1,
+          (
+            shape_placed f.element f.extent f (is_empty fs) scope L le s.0 s.1.0 b.0.0 b.0.1.0 y.0 w.0.ended k1 (shape_under f.element f.extent f.copy g1),
+            copy_placed f.element f.extent f.copy scope L le s.1.0 b.0.1.0 g1,
+          ),
           (
             parts_placed cells f.element f.extent f.parts scope L t D R le s.1.1.0 b.0.1.1 h1 (under_left (parts_top L t f.parts) (fields_top after t fs) R g2),
             (

@@ -5,11 +5,11 @@ ghost use Rattle.std.specs.Prelude.{◌≡◌, ◌<◌, ◌+◌, ◌*◌, ◌^�
 ghost use Rattle.td_core.specs.Term.{measure};
 ghost use Rattle.td_blocks.specs.Lowered.{terms_of};
 ghost use Rattle.td_core.specs.Weights.{terms_nodes, option_nodes, deed_nodes, action_nodes, part_nodes, element_nodes, extent_nodes, total, fields_nodes, default_nodes, cases_nodes, head_nodes, body_nodes};
-ghost use Rattle.td_blocks.specs.Tops.{term_top, terms_top, test_top, deed_top, action_top, parts_top, sized_top, shape_top, fields_top, default_top, cases_top, body_top, definition_top};
+ghost use Rattle.td_blocks.specs.Tops.{term_top, terms_top, test_top, deed_top, action_top, parts_top, sized_top, shape_top, content_top, fields_top, default_top, cases_top, body_top, definition_top};
 
 use td_core::actions::{Action, Step};
 use td_core::expressions::{CoreExpr, Node, Relation};
-use td_core::module::{Body, Case, Element, Extent, Field, Part, TypeDef};
+use td_core::module::{Body, Case, CopyOut, Element, Extent, Field, Part, TypeDef};
 use td_num::items::Items;
 
 // Of an expression in register `t`.
@@ -141,6 +141,18 @@ fn shape_top(t: u64, element: &Element, extent: &Extent) -> u64
     }
 }
 
+// The same, and of what is copied its size too.
+fn content_top(t: u64, element: &Element, extent: &Extent, copy: Option<CopyOut>) -> u64
+    requires { t + (element_nodes element.now + extent_nodes extent.now) + 4 < 2 ^ 60 }
+    ensures { result ≡ content_top t element.now extent.now copy }
+{
+    let shape = shape_top(t, element, extent);
+    match (copy, extent) {
+        (Some(_), Extent::Filling { size, .. }) => shape.max(value_top(t + 1, size)),
+        _ => shape,
+    }
+}
+
 // Of fields.
 fn fields_top(level: u64, t: u64, fields: &[Field]) -> u64
     requires { level + t + fields_nodes fields.now + 4 < 2 ^ 60 }
@@ -150,7 +162,7 @@ fn fields_top(level: u64, t: u64, fields: &[Field]) -> u64
         return t + 1;
     };
     let parts = field.parts.as_slice();
-    let shape = shape_top(t, &field.element, &field.extent);
+    let shape = content_top(t, &field.element, &field.extent, field.copy);
     let own = parts_top(level, t, parts);
     shape.max(own.max(fields_top(parts.len() as u64 + level, t, later)))
 }

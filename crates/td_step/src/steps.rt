@@ -13,6 +13,10 @@ pub trait Counter {
     /// One step more.
     fn more(&mut self)
         ensures { (n : ℕ) → tells self.old n → tells self.new (n + 1) };
+
+    /// So many steps more.
+    fn more_by(&mut self, more: u32)
+        ensures { (n : ℕ) → tells self.old n → tells self.new (n + more) };
 }
 
 /// Tells nothing. It takes no bytes, and counting has no code.
@@ -23,6 +27,8 @@ impl Counter for Untold {
     ghost tells = { λ _ _. Unit {0} };
 
     fn more(&mut self) {}
+
+    fn more_by(&mut self, _more: u32) {}
 }
 
 /// Tells how many steps there were; at 2^64 - 1 it stands still.
@@ -39,11 +45,15 @@ impl Counter for Told {
     fn more(&mut self) {
         self.count = self.count.saturating_add(1);
     }
+
+    fn more_by(&mut self, more: u32) {
+        self.count = self.count.saturating_add(u64::from(more));
+    }
 }
 
 /// How many steps were taken. The count itself takes no bytes and has no code: it stands in proofs alone; what a program is told of it is
-/// the counter's. A step is one instruction run, one byte that `Zeros` looks at, or one element that `Zeroterm` looks at
-/// (docs/language/code.md).
+/// the counter's. A step is one instruction run, one byte that `Zeros` looks at, one element that `Zeroterm` looks at, or one
+/// byte that `Copy` puts (docs/language/code.md).
 #[derive(Drop)]
 pub struct Steps<L: Ledger, C: Counter> {
     book: Book<L>,
@@ -84,6 +94,14 @@ impl<L: Ledger, C: Counter> Steps<L, C> {
     {
         self.book.add(&mut self.share, 1);
         self.counter.more();
+    }
+
+    /// So many steps more.
+    pub fn add(&mut self, more: u32)
+        ensures { self.new ≡ self.old + more }
+    {
+        self.book.add(&mut self.share, u64::from(more));
+        self.counter.more_by(more);
     }
 
     /// What the counter tells of them.

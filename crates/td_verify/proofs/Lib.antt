@@ -1,3 +1,4 @@
+pub mod CellMaps
 mod Chain
 pub mod Flat
 mod Marking

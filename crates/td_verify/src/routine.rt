@@ -79,7 +79,7 @@ fn breach(
     if !keeps_nesting(known.shapes, known.contexts, known.empties, marks, end, at) {
         return Some(Rule::Loop);
     }
-    if !has_tables(known.parts, known.tops, routine.cells, instruction)
+    if !has_tables(known.parts, known.tops, n, instruction)
         || !owns_site(known.parts, n, instruction)
     {
         return Some(Rule::Table);

@@ -1,15 +1,13 @@
 -- A run takes no more steps than what it runs weighs, for each byte that it passes and once more.
-use Rattle.std.proofs.Common.{◌≡◌, ℕ, zero, suc, ◌+◌, ◌-◌, ◌*◌, ◌<◌, ◌≤◌, Bool, true, false, cond, List, [], ◌∷◌, ◌++◌, length, Some, sym, refl, ap, ◌∙◌, subst, arith}
-use Rattle.std.specs.Prelude.{nat_eq, slice_get}
+use Rattle.std.proofs.Common.{◌≡◌, ℕ, zero, suc, ◌+◌, ◌-◌, ◌*◌, ◌<◌, ◌≤◌, Bool, true, false, cond, List, [], ◌∷◌, length, sym, refl, ap, ◌∙◌, subst, arith}
+use Rattle.std.specs.Prelude.{nat_eq}
 use Rattle.std.proofs.Math.Nat.{mul-le-mul_left}
 use Rattle.std.proofs.lemmas.Option.{slice_get-get_or}
 use Rattle.td_num.specs.Numbers.{places_from}
-use Rattle.td_core.specs.declared.module.Entry.{Entry}
 use Rattle.td_core.specs.declared.outcome.Reason.{Reason}
 use Rattle.td_ir.specs.declared.tables.Parts.{Parts}
-use Rattle.td_ir.specs.declared.instructions.Instr.{Instr}
 use Rattle.td_ir.specs.declared.instructions.Instr.TheVariants as i
-use Rattle.td_ir.specs.Tables.{routine_of, entry_of, map_of, instruction_of, lengths_of, first_of, end_of}
+use Rattle.td_ir.specs.Tables.{routine_of, entry_of, cells_by, instruction_of, lengths_of, first_of, end_of}
 use Rattle.td_ir.specs.State.{State, left, registers_from, Way, Returned, Turned, Failed, Stuck, Exit, at_once, after}
 use Rattle.td_ir.specs.Flow.{Flow, Goes, Fails, Calls, Returns, Loops, Turns, effect}
 use Rattle.td_ir.specs.Run.{back, back_by, again, again_by, turns, frame, places_by, entered, started, block, run}
@@ -22,12 +20,12 @@ use Rattle.td_verify.specs.Brackets.{shape_at, opened, in_loop, window_bytes}
 use Rattle.td_verify.specs.Ways.{MayBeEmpty}
 use Rattle.td_verify.specs.Verify.{IsIn, IsSound}
 use Rattle.td_verify.specs.Safe.{IsSafe, before, looped}
-use Rattle.td_step.specs.Stepping.{Passes, more}
+use Rattle.td_step.specs.Stepping.{Passes}
 use Rattle.td_vm.specs.Machine.{Idle, IsRunnable, IsStretch, IdleTurn, IdleReturn, scale}
-use Rattle.td_vm.specs.Outcomes.{weight, entry_weight}
+use Rattle.td_vm.specs.Outcomes.{weight}
 use Rattle.td_vm.specs.Laws.{RunIsBounded}
 use Rattle.td_vm.proofs.Shapes.{shape_here}
-use Rattle.td_vm.proofs.Effects.{Moves, Stops, Does, InOrder, does}
+use Rattle.td_vm.proofs.Effects.{Does, InOrder, does}
 use Rattle.td_vm.proofs.Keeps.{kept_on, goes_on, room_on, idle_more, idle_on, empty_up, step_cost, call_cost, loop_cost, spend_turn, spend_last, grown, end_kept}
 use Rattle.td_vm.proofs.Turns.{whole_stretch, body_stretch, loop_whole, turn_busy, return_outside, in_code, callee_at, call_steps, call_on, within_length}
 
@@ -218,8 +216,8 @@ calls_case c r b places n first to pc a m map site s0 s k x y light on h g f is 
     let o = call_on c n pc m r.safe g.place d.is in
     let l : m < length c.routines = omega (arith, d.lower, g.place.routine) in
     let s1 = entered (routine_of c m) (registers_from s.regs a (routine_of c m).params) s in
-    let e = block c b m (places_by places (map_of c map)) (first_of c m) s1 in
-    let q : Bounded c m (first_of c m) (end_of c m) s1 0 e = light m d.lower (places_by places (map_of c map)) s1 (record { within = g.order.within; around = omega arith }) in
+    let e = block c b m (places_by places (cells_by c n m map)) (first_of c m) s1 in
+    let q : Bounded c m (first_of c m) (end_of c m) s1 0 e = light m d.lower (places_by places (cells_by c n m map)) s1 (record { within = g.order.within; around = omega arith }) in
     let spent = callee_steps c m s1 e r l q in
     subst (Bounded c n first to s0 k) (sym (run_calls c b places n pc a m map site s s x y f o.1.to d.lower))
     (earlier c n first to s0 k y x (back c site s (block c b n places (pc + 1)) e)
@@ -321,11 +319,11 @@ on_from : (c : Parts) → IsRunnable c → (b : List ℕ) (n : ℕ) → ((m : �
 on_from c r b n light zero places first to pc s0 s k h g l = absurd (omega (arith, g.place.to, l))
 on_from c r b n light (suc d) places first to pc s0 s k h g l =
     let j = instruction_of c pc in
-    let e = effect c b places pc j s in
+    let e = effect c n b places pc j s in
     let there = slice_get-get_or c.instructions pc (i.Fail 0 0) (in_code c n pc r g.place) in
     flow_case c r b places n first to pc s0 s k e.flow e.touched e.steps light
     (λ first' to' q s0' s' k' p h' g'. on_from c r b n light d places first' to' q s0' s' k' h' g' (omega (arith, l, p)))
-    h g (record { instruction = j; there = there; within = g.place.to; is = refl }) (does c b places pc j s g.order (r.safe.each n pc g.place).operands)
+    h g (record { instruction = j; there = there; within = g.place.to; is = refl }) (does c n b places pc j s g.order (r.safe.each n pc g.place).operands)
 
 -- each routine, after those of lower numbers
 light_below : (c : Parts) → IsRunnable c → (b : List ℕ) (n m : ℕ) → m < n → m < length c.routines → IsLight c b m

@@ -1,15 +1,15 @@
 -- What one instruction does to the position and the end, and how many steps it takes.
-use Rattle.std.proofs.Common.{◌≡◌, ℕ, zero, suc, ◌+◌, ◌-◌, ◌*◌, ◌/◌, ◌<◌, ◌≤◌, ◌⊎◌, inl, inr, min, Bool, true, false, cond, List, [], ◌∷◌, length, Option, Some, None, ⊎_elim, refl, sym, ap, subst, ◌∙◌, arith}
+use Rattle.std.proofs.Common.{◌≡◌, ℕ, zero, suc, ◌+◌, ◌-◌, ◌*◌, ◌/◌, ◌<◌, ◌≤◌, inl, inr, min, Bool, true, false, cond, List, Option, Some, None, ⊎_elim, refl, sym, subst, arith}
 use Rattle.std.specs.Prelude.{nat_eq, ◌%◌, slice_index, slice_set}
 use Rattle.std.proofs.lemmas.Bool.{eqb-true, leb-true}
-use Rattle.std.proofs.Math.Nat.{div-mul-le_self, min-le_right, mul-le-mul_left, mul-le-mul_right}
+use Rattle.std.proofs.Math.Nat.{div-mul-le_self, min-le_left, min-le_right, mul-le-mul_left, mul-le-mul_right}
 use Rattle.td_num.specs.Numbers.{rising_at, ordered_at, places_from}
 use Rattle.td_num.specs.Lists.{is_among}
 use Rattle.td_core.specs.declared.outcome.Reason.TheVariants.{NotEnough, ListSize}
 use Rattle.td_ir.specs.declared.instructions.Instr.{Instr}
 use Rattle.td_ir.specs.declared.instructions.Instr.TheVariants as i
 use Rattle.td_ir.specs.declared.tables.Parts.{Parts}
-use Rattle.td_ir.specs.Tables.{set_of}
+use Rattle.td_ir.specs.Tables.{routine_of, set_of}
 use Rattle.td_ir.specs.State.{State, reg, with_reg, at_pos, left}
 use Rattle.td_ir.specs.Values.{bit, operated, bits_of, order_of, numbers_from, first_where, one_more, looked_at, is_zero, is_nonzero}
 use Rattle.td_ir.specs.Flow.{Flow, Goes, Fails, Calls, Returns, Loops, Turns, Effect, effect, plain, where_so, has_bytes, zeros_flow, zeroterm_flow}
@@ -123,57 +123,66 @@ zeroterm_does pc site width bound most n s o is l (Some k) f =
     let first = next_wide k width in
     (tt, refl, on_by width 2 (1 + suc k) s (s.pos + suc k * width) o (omega (arith, first)) (omega (arith, a, o.within)) (omega (arith, b)))
 
-pub does : (c : Parts) (b places : List ℕ) (pc : ℕ) (j : Instr) (s : State) → InOrder s → HasOperands j → Does pc j s (effect c b places pc j s).steps (effect c b places pc j s).flow
-does c b places pc (i.Const into value) s o h = (tt, refl, stays (Straight 0 1) s (with_reg s into value) refl refl o refl refl refl)
-does c b places pc (i.Member into source set) s o h = (tt, refl, stays (Straight 0 1) s (with_reg s into (bit (is_among (set_of c set) (reg s source)))) refl refl o refl refl refl)
-does c b places pc (i.Op into operator x y) s o h = (tt, refl, stays (Straight 0 1) s (with_reg s into (operated operator (reg s x) (reg s y))) refl refl o refl refl refl)
-does c b places pc (i.Bits into source low count) s o h = (tt, refl, stays (Straight 0 1) s (with_reg s into (bits_of (reg s source) low count)) refl refl o refl refl refl)
-does c b places pc (i.Pos into) s o h = (tt, refl, stays (Straight 0 1) s (with_reg s into s.start) refl refl o refl refl refl)
-does c b places pc (i.Jump target) s o h = (tt, refl, stays (Jump target) s (s) refl refl o refl refl refl)
-does c b places pc (i.JumpIf test target) s o h = either (Does pc (i.JumpIf test target) s 1) (nat_eq (reg s test) 0) (Goes (pc + 1) s) (Goes target s) (λ v. (tt, inr refl, stays (Branch target) s (s) refl refl o refl refl refl)) (λ v. (tt, inl refl, stays (Branch target) s (s) refl refl o refl refl refl))
-does c b places pc (i.JumpUnless test target) s o h = either (Does pc (i.JumpUnless test target) s 1) (nat_eq (reg s test) 0) (Goes target s) (Goes (pc + 1) s) (λ v. (tt, inl refl, stays (Branch target) s (s) refl refl o refl refl refl)) (λ v. (tt, inr refl, stays (Branch target) s (s) refl refl o refl refl refl))
-does c b places pc (i.Call first routine map site) s o h = (refl, refl, refl)
-does c b places pc i.Return s o h = (refl, refl, refl)
-does c b places pc (i.Fetch into order width site) s o h =
+pub does : (c : Parts) (n : ℕ) (b places : List ℕ) (pc : ℕ) (j : Instr) (s : State) → InOrder s → HasOperands j → Does pc j s (effect c n b places pc j s).steps (effect c n b places pc j s).flow
+does c n b places pc (i.Const into value) s o h = (tt, refl, stays (Straight 0 1) s (with_reg s into value) refl refl o refl refl refl)
+does c n b places pc (i.Member into source set) s o h = (tt, refl, stays (Straight 0 1) s (with_reg s into (bit (is_among (set_of c set) (reg s source)))) refl refl o refl refl refl)
+does c n b places pc (i.Op into operator x y) s o h = (tt, refl, stays (Straight 0 1) s (with_reg s into (operated operator (reg s x) (reg s y))) refl refl o refl refl refl)
+does c n b places pc (i.Bits into source low count) s o h = (tt, refl, stays (Straight 0 1) s (with_reg s into (bits_of (reg s source) low count)) refl refl o refl refl refl)
+does c n b places pc (i.Pos into) s o h = (tt, refl, stays (Straight 0 1) s (with_reg s into s.start) refl refl o refl refl refl)
+does c n b places pc (i.Jump target) s o h = (tt, refl, stays (Jump target) s (s) refl refl o refl refl refl)
+does c n b places pc (i.JumpIf test target) s o h = either (Does pc (i.JumpIf test target) s 1) (nat_eq (reg s test) 0) (Goes (pc + 1) s) (Goes target s) (λ v. (tt, inr refl, stays (Branch target) s (s) refl refl o refl refl refl)) (λ v. (tt, inl refl, stays (Branch target) s (s) refl refl o refl refl refl))
+does c n b places pc (i.JumpUnless test target) s o h = either (Does pc (i.JumpUnless test target) s 1) (nat_eq (reg s test) 0) (Goes target s) (Goes (pc + 1) s) (λ v. (tt, inl refl, stays (Branch target) s (s) refl refl o refl refl refl)) (λ v. (tt, inr refl, stays (Branch target) s (s) refl refl o refl refl refl))
+does c n b places pc (i.Call first routine map site) s o h = (refl, refl, refl)
+does c n b places pc i.Return s o h = (refl, refl, refl)
+does c n b places pc (i.Fetch into order width site) s o h =
     either (λ (e : Effect). Does pc (i.Fetch into order width site) s e.steps e.flow) (has_bytes s width)
     (record { flow = Goes (pc + 1) (at_pos (with_reg s into (ordered_at (order_of order) b s.pos width)) (s.pos + width)); touched = places_from s.pos width; steps = 1 })
     (plain (Fails NotEnough site s.start s))
     (λ v. let l = fits s width v in (tt, refl, record { takes = omega arith; within = l; around = o.around; outer = omega arith; ends = refl; cost = omega arith }))
     (λ v. (tt, stops (Straight width 1) s o))
-does c b places pc (i.SkipK bytes site) s o h =
+does c n b places pc (i.SkipK bytes site) s o h =
     either (Does pc (i.SkipK bytes site) s 1) (has_bytes s bytes) (Goes (pc + 1) (at_pos s (s.pos + bytes))) (Fails NotEnough site s.start s)
     (λ v. (tt, refl, on_by bytes 1 1 s (s.pos + bytes) o (omega arith) (fits s bytes v) (omega arith)))
     (λ v. (tt, stops (Straight bytes 1) s o))
-does c b places pc (i.Skip size site) s o h =
+does c n b places pc (i.Skip size site) s o h =
     either (Does pc (i.Skip size site) s 1) (has_bytes s (reg s size)) (Goes (pc + 1) (at_pos s (s.pos + reg s size))) (Fails NotEnough site s.start s)
     (λ v. (tt, refl, on_by 0 1 1 s (s.pos + reg s size) o (omega arith) (fits s (reg s size) v) (omega arith)))
     (λ v. (tt, stops (Straight 0 1) s o))
-does c b places pc i.Rest s o h = (tt, refl, on_by 0 1 1 s s.end o (omega (arith, o.within)) (omega arith) (omega arith))
-does c b places pc (i.Zeros site) s o h =
+does c n b places pc i.Rest s o h = (tt, refl, on_by 0 1 1 s s.end o (omega (arith, o.within)) (omega arith) (omega arith))
+does c n b places pc (i.Zeros site) s o h =
     zeros_do pc site s o (first_where is_nonzero (numbers_from b s.pos 1 (left s))) (found_within is_nonzero b s.pos 1 (left s))
-does c b places pc (i.Zeroterm bound width site) s o h =
+does c n b places pc (i.Zeroterm bound width site) s o h =
     let n = min (reg s bound / width) (left s / width) in
     zeroterm_does pc site width bound (reg s bound / width) n s o h (min-le_right (reg s bound / width) (left s / width)) (first_where is_zero (numbers_from b s.pos width n)) (found_within is_zero b s.pos width n)
-does c b places pc (i.NarrowK bytes site) s o h =
+does c n b places pc (i.NarrowK bytes site) s o h =
     either (Does pc (i.NarrowK bytes site) s 1) (has_bytes s bytes) (Goes (pc + 1) (record s { end = s.pos + bytes; outer = s.end })) (Fails NotEnough site s.start s)
     (λ v. (tt, refl, narrows bytes bytes s o (omega arith) (fits s bytes v)))
     (λ v. (tt, stops (Open bytes) s o))
-does c b places pc (i.Narrow size site) s o h =
+does c n b places pc (i.Narrow size site) s o h =
     either (Does pc (i.Narrow size site) s 1) (has_bytes s (reg s size)) (Goes (pc + 1) (record s { end = s.pos + reg s size; outer = s.end })) (Fails NotEnough site s.start s)
     (λ v. (tt, refl, narrows 0 (reg s size) s o (omega arith) (fits s (reg s size) v)))
     (λ v. (tt, stops (Open 0) s o))
-does c b places pc (i.Divides size step site) s o h = by (nat_eq (reg s size % step) 0)
+does c n b places pc (i.Divides size step site) s o h = by (nat_eq (reg s size % step) 0)
   where
     by : (v : Bool) → Does pc (i.Divides size step site) s 1 (where_so v (pc + 1) s ListSize site)
     by true = (tt, refl, stays (Straight 0 1) s (s) refl refl o refl refl refl)
     by false = (tt, stops (Straight 0 1) s o)
-does c b places pc (i.While target) s o h = (refl, refl, refl)
-does c b places pc (i.Again target) s o h = (target, refl, refl, refl)
-does c b places pc (i.Widen site) s o h =
+does c n b places pc (i.While target) s o h = (refl, refl, refl)
+does c n b places pc (i.Again target) s o h = (target, refl, refl, refl)
+does c n b places pc (i.Widen site) s o h =
     either (Does pc (i.Widen site) s 1) (nat_eq s.pos s.end) (Goes (pc + 1) (record s { end = s.outer })) (Fails ListSize site s.start s)
     (λ v. (tt, refl, widens s o (eqb-true s.pos s.end v)))
     (λ v. (tt, stops Close s o))
-does c b places pc (i.Fail reason site) s o h = (tt, stops shapes.Fail s o)
-does c b places pc (i.Get into cell) s o h = (tt, refl, stays (Straight 0 1) s (with_reg s into (slice_index s.cells (slice_index places cell))) refl refl o refl refl refl)
-does c b places pc (i.Set source cell) s o h = (tt, refl, stays (Straight 0 1) s (record s { cells = slice_set s.cells (slice_index places cell) (reg s source) }) refl refl o refl refl refl)
-does c b places pc i.Mark s o h = (tt, refl, stays (Straight 0 1) s (record s { start = s.pos }) refl refl o refl refl refl)
+does c n b places pc (i.Fail reason site) s o h = (tt, stops shapes.Fail s o)
+does c n b places pc (i.Get into cell) s o h = (tt, refl, stays (Straight 0 1) s (with_reg s into (slice_index s.cells (slice_index places cell))) refl refl o refl refl refl)
+does c n b places pc (i.Set source cell) s o h = (tt, refl, stays (Straight 0 1) s (record s { cells = slice_set s.cells (slice_index places cell) (reg s source) }) refl refl o refl refl refl)
+does c n b places pc i.Mark s o h = (tt, refl, stays (Straight 0 1) s (record s { start = s.pos }) refl refl o refl refl refl)
+does c n b places pc (i.Copy size buffer site) s o h =
+    let first = (routine_of c n).cells + 2 * buffer in
+    let room = slice_index (routine_of c n).buffers buffer in
+    let k = min (reg s size) room in
+    either (λ (e : Effect). Does pc (i.Copy size buffer site) s e.steps e.flow) (has_bytes s (reg s size))
+    (record { flow = Goes (pc + 1) (record s { cells = slice_set (slice_set s.cells (slice_index places first) s.pos) (slice_index places (first + 1)) k; pos = s.pos + reg s size }); touched = places_from s.pos k; steps = 1 + k })
+    (plain (Fails NotEnough site s.start s))
+    (λ v. let l = fits s (reg s size) v in let m = min-le_left (reg s size) room in (tt, refl, record { takes = omega arith; within = l; around = o.around; outer = omega arith; ends = refl; cost = omega (arith, m) }))
+    (λ v. (tt, stops (Straight 0 2) s o))

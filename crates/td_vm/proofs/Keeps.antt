@@ -18,7 +18,7 @@ use Rattle.td_verify.specs.Rules.{cost}
 use Rattle.td_verify.specs.Verify.{IsIn, weights}
 use Rattle.td_verify.specs.Safe.{IsSafe, IsWholeAt, Stays, before, cost_at, looped}
 use Rattle.td_step.specs.Stepping.{Passes, least, more, Ends, IsFine}
-use Rattle.td_vm.specs.Need.{called, greatest, need, room_below, registers, cells}
+use Rattle.td_vm.specs.Need.{called, greatest, need, room_below, registers}
 use Rattle.td_vm.specs.Machine.{Idle, IsRunnable, scale}
 use Rattle.td_verify.proofs.Flat.{next_opened}
 
@@ -54,11 +54,11 @@ callee_need f c n p m i e l =
     omega (arith, a, is)
 
 -- an instruction as the machine asks for it
-pub fine_at : (c : Parts) (n p R P : ℕ) (i : Instr) → IsSafe c → IsIn c n p → i ≡ instruction_of c p → R ≡ registers c n → P ≡ cells c n → IsFine c R P i
-fine_at c n p R P i s h e r q =
+pub fine_at : (c : Parts) (n p R : ℕ) (i : Instr) → IsSafe c → IsIn c n p → i ≡ instruction_of c p → R ≡ registers c n → IsFine c n R i
+fine_at c n p R i s h e r =
     let a = s.each n p h in
-    let base : IsFine c (registers c n) (cells c n) (instruction_of c p) = record { registers_in = a.registers; tables_in = a.tables; operands_in = a.operands } in
-    subst (λ x. IsFine c x P i) (sym r) (subst (λ x. IsFine c (registers c n) x i) (sym q) (subst (IsFine c (registers c n) (cells c n)) (sym e) base))
+    let base : IsFine c n (registers c n) (instruction_of c p) = record { registers_in = a.registers; tables_in = a.tables; operands_in = a.operands } in
+    subst (λ x. IsFine c n x i) (sym r) (subst (IsFine c n (registers c n)) (sym e) base)
 
 -- windows and loops on the way
 

@@ -6,3 +6,6 @@ mod Rooms
 mod Told
 mod Effects
 mod Bounds
+mod Places
+mod Lent
+pub mod Alone

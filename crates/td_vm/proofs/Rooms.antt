@@ -1,12 +1,14 @@
 -- The room of chains of calls.
-use Rattle.std.proofs.Common.{◌≡◌, ℕ, zero, suc, ◌+◌, ◌-◌, ◌*◌, ◌<◌, ◌≤◌, max, List, [], ◌∷◌, ◌++◌, length, slice_index, ⊎_elim, sym, refl, ap, ◌∙◌, subst, arith, take}
+use Rattle.std.proofs.Common.{◌≡◌, ℕ, zero, suc, ◌+◌, ◌-◌, ◌*◌, ◌<◌, ◌≤◌, max, List, [], ◌∷◌, ◌++◌, length, map, slice_index, ⊎_elim, sym, refl, ap, ◌∙◌, subst, arith, take}
 use Rattle.std.proofs.lemmas.Bool.{cases_lt}
-use Rattle.std.proofs.lemmas.List.{take-take, take-append-le}
+use Rattle.std.proofs.lemmas.List.{take-take, take-append-le, get_or-map, length-map, map-append}
 use Rattle.std.proofs.Math.ListN.{get_or-append}
 use Rattle.std.proofs.Math.Seq.{get_or-append_seam}
+use Rattle.td_num.specs.Numbers.{places_from}
 use Rattle.td_core.specs.declared.module.Entry.{Entry}
+use Rattle.td_stream.specs.Copies.{BufferView, rooms_of}
 use Rattle.td_ir.specs.declared.tables.Parts.{Parts}
-use Rattle.td_ir.specs.Tables.{entry_of, lengths_of, begin, first_of, end_of as end_at}
+use Rattle.td_ir.specs.Tables.{routine_of, entry_of, lengths_of, begin, first_of, end_of as end_at}
 use Rattle.td_ir.specs.Entries.{Fits}
 use Rattle.td_verify.specs.declared.shape.Shape.{Shape}
 use Rattle.td_verify.specs.declared.shape.Shape.TheVariants.{Straight, Jump, Branch, Call, Return, Fail, While, Again, Open, Close}
@@ -16,10 +18,11 @@ use Rattle.td_verify.specs.Rules.{CallsWell}
 use Rattle.td_verify.specs.Verify.{IsIn, depths}
 use Rattle.td_step.specs.declared.activation.TraceRoom.{TraceRoom}
 use Rattle.td_step.specs.declared.activation.Env.{Env}
-use Rattle.td_vm.specs.Need.{called, greatest, need, room_below, most, most_cells, most_entry_cells, registers, cells, level}
+use Rattle.td_vm.specs.Need.{called, greatest, need, room_below, most, greatest_of, entry_cells, entry_rooms, most_entry_cells, most_buffers, most_room, most_rooms, registers, cells, level}
 use Rattle.td_vm.specs.Frames.{FrameView, AreBegins, IsArmed}
-use Rattle.td_vm.specs.Machine.{IsRunnable, HasEntryRoom}
+use Rattle.td_vm.specs.Machine.{IsRunnable, HasEntryRoom, AreRoomy}
 use Rattle.td_vm.proofs.Keeps.{own_need}
+use Rattle.td_vm.proofs.Places.{own_place, own_snoc, length_places}
 
 greatest_same : (s : List Shape) (f g : ℕ → ℕ) (from n : ℕ) → ((k : ℕ) → k < n → called f (shape_at s (from + k)) ≡ called g (shape_at s (from + k))) → greatest s f from n ≡ greatest s g from n
 greatest_same s f g from zero h = refl
@@ -63,13 +66,13 @@ nothing_past (x ∷ xs) zero h = absurd (omega arith)
 nothing_past (x ∷ xs) (suc m) h = nothing_past xs m (omega (arith, h))
 
 -- entries of a table of needs are small, those that it hasn't too
-pub told_small : (xs : List ℕ) (n bound : ℕ) → length xs ≡ n → ((m : ℕ) → m < n → slice_index xs m ≤ 65535 * (m + 1)) → (m : ℕ) → (m < n → 65535 * (m + 1) ≤ bound) → slice_index xs m ≤ bound
+pub told_small : (xs : List ℕ) (n bound : ℕ) → length xs ≡ n → ((m : ℕ) → m < n → slice_index xs m ≤ 196605 * (m + 1)) → (m : ℕ) → (m < n → 196605 * (m + 1) ≤ bound) → slice_index xs m ≤ bound
 told_small xs n bound e h m l = ⊎_elim
     (λ (q : m < n). let a = h m q in let b = l q in omega (arith, a, b))
     (λ q. let a = nothing_past xs m (omega (arith, q, e)) in omega (arith, a))
     (cases_lt m n)
 
-pub small_more : (xs : List ℕ) (n x : ℕ) → length xs ≡ n → ((m : ℕ) → m < n → slice_index xs m ≤ 65535 * (m + 1)) → x ≤ 65535 * (n + 1) → (m : ℕ) → m < n + 1 → slice_index (xs ++ x ∷ []) m ≤ 65535 * (m + 1)
+pub small_more : (xs : List ℕ) (n x : ℕ) → length xs ≡ n → ((m : ℕ) → m < n → slice_index xs m ≤ 196605 * (m + 1)) → x ≤ 196605 * (n + 1) → (m : ℕ) → m < n + 1 → slice_index (xs ++ x ∷ []) m ≤ 196605 * (m + 1)
 small_more xs n x e h k m l = ⊎_elim
     (λ (q : m < n). let a = get_or-append xs (x ∷ []) 0 m (omega (arith, q, e)) in let b = h m q in omega (arith, a, b))
     (λ q.
@@ -105,16 +108,58 @@ entry_ready e f entry args places spare t r a h b p s l =
     }
 
 -- the front of a list of which the front was changed
-pub front_kept : (k n : ℕ) (xs ys : List ℕ) → k ≤ n → k ≤ length xs → take k (take n (xs ++ ys)) ≡ take k xs
+pub front_kept : {X : Type 0} (k n : ℕ) (xs ys : List X) → k ≤ n → k ≤ length xs → take k (take n (xs ++ ys)) ≡ take k xs
 front_kept k n xs ys h l = take-take k n (xs ++ ys) h ∙ take-append-le k xs ys l
 
--- cells that fit an entry point
-most_cells_at : (c : Parts) (n k : ℕ) → k < n → length (entry_of c k).cells ≤ most_cells c n
-most_cells_at c zero k h = absurd (omega arith)
-most_cells_at c (suc n) k h = ⊎_elim
-    (λ (q : k < n). let a = most_cells_at c n k q in omega (arith, a))
-    (λ q. let z : k ≡ n = omega (arith, h, q) in let a = ap (λ m. length (entry_of c m).cells) z in omega (arith, a))
+-- the greatest is no less than what is said of each
+greatest_at : (f : ℕ → ℕ) (n k : ℕ) → k < n → f k ≤ greatest_of f n
+greatest_at f zero k h = absurd (omega arith)
+greatest_at f (suc n) k h = ⊎_elim
+    (λ (q : k < n). let a = greatest_at f n k q in omega (arith, a))
+    (λ q. let z : k ≡ n = omega (arith, h, q) in let a = ap f z in omega (arith, a))
     (cases_lt k n)
 
+pub entry_fits : (c : Parts) (k : ℕ) → k < length c.entries → entry_cells c k ≤ most_entry_cells c
+entry_fits c k h = greatest_at (entry_cells c) (length c.entries) k h
+
+-- cells that fit an entry point
 pub fitting_cells : (c : Parts) (entry : Entry) (args cells : List ℕ) → Fits c entry args cells → length cells ≤ most_entry_cells c
-fitting_cells c entry args cells h = let a = most_cells_at c (length c.entries) entry.number h.there in omega (arith, a, h.cell_count)
+fitting_cells c entry args cells h = let a = entry_fits c entry.number h.there in omega (arith, a, h.cell_count)
+
+-- the greatest rooms are room for each entry point's buffers
+pub entry_roomy : (c : Parts) (k : ℕ) → k < length c.entries → AreRoomy (entry_rooms c k) (most_rooms c)
+entry_roomy c k h =
+    let all = places_from 0 (most_buffers c) in
+    let count : length (most_rooms c) ≡ most_buffers c = length-map all (most_room c) ∙ length_places (most_buffers c) 0 in
+    let most = greatest_at (λ n. length (entry_rooms c n)) (length c.entries) k h in
+    record {
+      count = omega (arith, most, count);
+      each = λ j l.
+          let there : j < length all = (let e = length_places (most_buffers c) 0 in omega (arith, l, most, e)) in
+          let place : slice_index all j ≡ j = (let e = own_place (most_buffers c) 0 j (omega (arith, l, most)) in omega (arith, e)) in
+          let is : slice_index (most_rooms c) j ≡ most_room c j = get_or-map (most_room c) all j 0 0 there ∙ ap (most_room c) place in
+          let a = greatest_at (λ n. slice_index (entry_rooms c n) j) (length c.entries) k h in
+          omega (arith, a, is);
+    }
+
+-- buffers of these rooms are no fewer than an entry point's
+pub entry_few : (c : Parts) (k : ℕ) (copies : List BufferView) → k < length c.entries → rooms_of copies ≡ most_rooms c → length (entry_rooms c k) ≤ length copies
+entry_few c k copies h e =
+    let few = (entry_roomy c k h).count in
+    let many = length-map copies (λ (v : BufferView). v.room) in
+    let long = ap length e in
+    omega (arith, few, many, long)
+
+-- the same of an entry point's routine
+pub entry_lends : (c : Parts) (k n : ℕ) (copies : List BufferView) → k < length c.entries → rooms_of copies ≡ most_rooms c → (entry_of c k).routine ≡ n → length (routine_of c n).buffers ≤ length copies
+entry_lends c k n copies h e is = subst (λ (m : ℕ). length (routine_of c m).buffers ≤ length copies) is (entry_few c k copies h e)
+
+-- rooms that are listed one after the other
+pub rooms_more : (f : ℕ → ℕ) (xs : List ℕ) (n x : ℕ) → xs ≡ map f (places_from 0 n) → x ≡ f n → xs ++ x ∷ [] ≡ map f (places_from 0 (n + 1))
+rooms_more f xs n x h e =
+    let z : n ≡ 0 + n = omega arith in
+    let s : n + 1 ≡ suc n = omega arith in
+    ap (λ ys. ys ++ x ∷ []) h
+    ∙ ap (λ y. map f (places_from 0 n) ++ y ∷ []) (e ∙ ap f z)
+    ∙ sym (map-append f (places_from 0 n) ((0 + n) ∷ []))
+    ∙ ap (map f) (sym (own_snoc n 0) ∙ ap (places_from 0) (sym s))

@@ -1,9 +1,6 @@
 -- Turns of loops, calls, and the room of a run.
 use Rattle.std.proofs.Common.{◌≡◌, ℕ, zero, suc, ◌+◌, ◌-◌, ◌*◌, ◌<◌, ◌≤◌, true, false, cond, List, [], ◌∷◌, ◌++◌, length, Option, Some, None, sym, refl, ap, ◌∙◌, subst, arith, take, drop}
 use Rattle.std.specs.Prelude.{slice_range, slice_index, slice_set, replicate, nat_eq}
-use Rattle.std.specs.List.{All}
-use Rattle.std.proofs.lemmas.List.Elements.{All-nil, All-cons, All-map, All-weaker, All-get_or}
-use Rattle.std.proofs.lemmas.List.{length-map}
 use Rattle.std.proofs.Math.Nat.{mul-le-mul_left, mul-le-mul_right}
 use Rattle.std.proofs.Math.Seq.{drop-cons, take-suc-set}
 use Rattle.td_num.specs.Numbers.{places_from}
@@ -13,14 +10,14 @@ use Rattle.td_ir.specs.declared.tables.Parts.{Parts}
 use Rattle.td_ir.specs.declared.tables.Routine.{Routine}
 use Rattle.td_ir.specs.declared.instructions.Instr.{Instr}
 use Rattle.td_ir.specs.declared.instructions.Instr.TheVariants as instr
-use Rattle.td_ir.specs.Tables.{routine_of, map_of, instruction_of, lengths_of, first_of, end_of as end_at}
+use Rattle.td_ir.specs.Tables.{routine_of, cells_by, instruction_of, lengths_of, first_of, end_of as end_at}
 use Rattle.td_ir.specs.State.{State, left, registers_from, Exit, after}
 use Rattle.td_ir.specs.State as ir
 use Rattle.td_ir.specs.Run.{places_by, entered, again, turns}
 use Rattle.td_ir.proofs.Begins.{begin_next, begin_up}
 use Rattle.td_verify.specs.declared.shape.Shape.TheVariants.{While, Call, Return}
 use Rattle.td_verify.specs.Shape.{shape, shapes_of}
-use Rattle.td_verify.specs.Operands.{HasRegisters, HasTables, callee_params, AreBelow}
+use Rattle.td_verify.specs.Operands.{HasRegisters, HasTables, callee_params}
 use Rattle.td_verify.specs.Rules.{CallsWell}
 use Rattle.td_verify.specs.declared.bracket.Bracket.{Bracket}
 use Rattle.td_verify.specs.declared.bracket.Bracket.TheVariants.{Loop}
@@ -34,47 +31,42 @@ use Rattle.td_step.specs.declared.activation.Left.{Left}
 use Rattle.td_step.specs.declared.activation.Left.TheVariants.{Returned, Turned, Failed}
 use Rattle.td_vm.specs.Exits.{frames_of, exit_by, way_of, call_way, WhenTurned, WhenReturned, NotTurned, Traced}
 use Rattle.td_vm.specs.Need.{registers, cells, level}
-use Rattle.td_vm.specs.Machine.{Idle, IsRunnable, HasRoom, HasEntryRoom, IsStretch, IsCallee, IdleTurn, IdleReturn, scale, IsKept}
+use Rattle.td_vm.specs.Machine.{Idle, IsRunnable, HasRoom, HasEntryRoom, IsStretch, IsCallee, IdleTurn, IdleReturn, scale, IsKept, AreRoomy}
 use Rattle.td_vm.specs.declared.level.Spare.{Spare}
+use Rattle.td_step.specs.Stepping.{HasPlaces}
 use Rattle.td_vm.proofs.Keeps.{callee_need, goes_on}
+use Rattle.td_vm.proofs.Places.{callee_places, entry_places, own_snoc}
 use Rattle.td_verify.proofs.Flat.{next_opened}
 use Rattle.td_verify.proofs.Sums.{shape_there}
 
 pub none_left : (n : ℕ) → (1 ≤ n → ⊥) → n ≡ 0
 none_left n h = grind arith
 
-below_all : (n : ℕ) (xs : List ℕ) → AreBelow n xs → All (λ x. x < n) xs
-below_all n [] h = All-nil (λ x. x < n)
-below_all n (x ∷ xs) h = All-cons (λ x. x < n) x xs (h 0 (omega arith)) (below_all n xs (λ j l. h (suc j) (omega (arith, l))))
-
 -- the room of a callee
-pub callee_room : (e : Env) (n at m first k : ℕ) (places spare_places regs spare all mine_places rest_places mine rest : List ℕ) (t : TraceRoom) → HasRoom e n places spare_places regs spare all t → IsCallee e.parts.now n at m first k → length rest_places + cells e.parts.now m ≡ length spare_places → length mine ≡ registers e.parts.now m → length rest + registers e.parts.now m ≡ length spare → mine_places ≡ places_by places (map_of e.parts.now k) → HasRoom e m mine_places rest_places mine rest all t
-callee_room e n at m first k places sp regs spare all mp rp mine rest t h l pr rc rr q =
+pub callee_room : (e : Env) (n at m arg k first : ℕ) (places spare_places regs spare all rooms mine_places rest_places mine rest : List ℕ) (t : TraceRoom) → HasRoom e n first places spare_places regs spare all rooms t → IsCallee e.parts.now n at m arg k → length rest_places + cells e.parts.now m ≡ length spare_places → length mine ≡ registers e.parts.now m → length rest + registers e.parts.now m ≡ length spare → mine_places ≡ places_by places (cells_by e.parts.now n m k) → HasRoom e m first mine_places rest_places mine rest all rooms t
+callee_room e n at m arg k first places sp regs spare all rooms mp rp mine rest t h l pr rc rr q =
     let c = e.parts.now in
-    let xs = map_of c k in
     record {
       runnable = h.runnable;
       begins = h.begins;
       routine = omega (arith, h.routine, l.lower);
-      place_count = ap length q ∙ length-map xs (slice_index places) ∙ l.cell_map.size;
       place_room = omega (arith, callee_need (cells c) c n at m l.place l.is l.lower, h.place_room, pr);
       register_count = rc;
       register_room = omega (arith, callee_need (registers c) c n at m l.place l.is l.lower, h.register_room, rr);
-      in_cells = subst (All (λ c. c < length all)) (sym q) (All-map (λ c. c < length all) (slice_index places) xs (All-weaker (λ c. c < length places) (λ c. slice_index places c < length all) (λ c k. All-get_or (λ c. c < length all) places c 0 k h.in_cells) xs (subst (λ n. All (λ x. x < n) xs) (sym h.place_count) (below_all (cells c n) xs l.cell_map.numbers))));
+      in_cells = subst (λ ps. HasPlaces c m ps first (length all) rooms) (sym q) (callee_places c n m k places first (length all) rooms h.in_cells l.cell_map);
       trace = h.trace;
       trace_room = omega (arith, callee_need level c n at m l.place l.is l.lower, h.trace_room);
     }
 
-pub room_kept : (e : Env) (n : ℕ) (places spare_places spare_places' regs regs' spare spare' all all' : List ℕ) (t t' : TraceRoom) → HasRoom e n places spare_places regs spare all t → length spare_places' ≡ length spare_places → length regs' ≡ length regs → length spare' ≡ length spare → length all' ≡ length all → t'.count ≡ 0 → length t'.frames.items ≡ length t.frames.items → HasRoom e n places spare_places' regs' spare' all' t'
-room_kept e n places sp sp' regs regs' spare spare' all all' t t' h a b c d x f = record {
+pub room_kept : (e : Env) (n first : ℕ) (places spare_places spare_places' regs regs' spare spare' all all' rooms rooms' : List ℕ) (t t' : TraceRoom) → HasRoom e n first places spare_places regs spare all rooms t → length spare_places' ≡ length spare_places → length regs' ≡ length regs → length spare' ≡ length spare → length all' ≡ length all → rooms' ≡ rooms → t'.count ≡ 0 → length t'.frames.items ≡ length t.frames.items → HasRoom e n first places spare_places' regs' spare' all' rooms' t'
+room_kept e n first places sp sp' regs regs' spare spare' all all' rooms rooms' t t' h a b c d r x f = record {
   runnable = h.runnable;
   begins = h.begins;
   routine = h.routine;
-  place_count = h.place_count;
   place_room = omega (arith, h.place_room, a);
   register_count = b ∙ h.register_count;
   register_room = omega (arith, h.register_room, c);
-  in_cells = subst (λ k. All (λ x. x < k) places) (sym d) h.in_cells;
+  in_cells = subst (λ (k : ℕ). HasPlaces e.parts.now n places first k rooms') (sym d) (subst (HasPlaces e.parts.now n places first (length all)) (sym r) h.in_cells);
   trace = x;
   trace_room = omega (arith, h.trace_room, f);
 }
@@ -182,7 +174,7 @@ callee_at c n p x m k site j s i e f =
     let is : instruction_of c p ≡ instr.Call x m k site = sym e ∙ f in
     let shaped : shape_at (shapes_of c) p ≡ Call m = shape_there c p ∙ ap shape is in
     let registers_in = subst (λ y. HasRegisters (routine_of c n).registers (callee_params c y) y) is a.registers in
-    let tables_in = subst (HasTables c (routine_of c n).cells) is a.tables in
+    let tables_in = subst (HasTables c n) is a.tables in
     let calls = subst (CallsWell (depths (shapes_of c) (lengths_of c) n) n) shaped a.calls in
     record { place = i; is = shaped; lower = calls.0; arguments = registers_in; cell_map = tables_in.1 }
 
@@ -222,36 +214,21 @@ call_spent k s0 s1 s2 s3 p1 p2 p3 e f h l =
     omega (arith, e, f, h, x)
 
 -- places that are their own
-own_within : (n k : ℕ) → All (λ c. c < k + n) (places_from k n)
-own_within zero k = All-nil (λ c. c < k + zero)
-own_within (suc n) k =
-    let e : k + 1 + n ≡ k + suc n = omega arith in
-    All-cons (λ c. c < k + suc n) k (places_from (k + 1) n) (omega arith) (subst (λ x. All (λ c. c < x) (places_from (k + 1) n)) e (own_within n (k + 1)))
-
-length_places : (n k : ℕ) → length (places_from k n) ≡ n
-length_places zero k = refl
-length_places (suc n) k = ap suc (length_places n (k + 1))
-
-own_snoc : (n a : ℕ) → places_from a (suc n) ≡ places_from a n ++ (a + n) ∷ []
-own_snoc zero a = let e : a ≡ a + zero = omega arith in ap (λ x. x ∷ []) e
-own_snoc (suc n) a = let e : a + 1 + n ≡ a + suc n = omega arith in ap (λ l. a ∷ l) (own_snoc n (a + 1) ∙ ap (λ x. places_from (a + 1) n ++ x ∷ []) e)
-
 pub own_more : (xs : List ℕ) (i : ℕ) → i < length xs → take i xs ≡ places_from 0 i → take (i + 1) (slice_set xs i i) ≡ places_from 0 (i + 1)
 own_more xs i l h =
     let e : i + 1 ≡ suc i = omega arith in
     let z : i ≡ 0 + i = omega arith in
     ap (λ k. take k (slice_set xs i i)) e ∙ take-suc-set xs i i l ∙ ap (λ ys. ys ++ i ∷ []) h ∙ ap (λ x. places_from 0 i ++ x ∷ []) z ∙ sym (own_snoc i 0) ∙ ap (places_from 0) (sym e)
 
-pub entry_room : (e : Env) (n : ℕ) (places all_places spare_places regs all_regs spare all : List ℕ) (t : TraceRoom) → HasEntryRoom e n all_places all_regs t → places ≡ places_from 0 (cells e.parts.now n) → length all ≡ cells e.parts.now n → length spare_places + cells e.parts.now n ≡ length all_places → length regs ≡ registers e.parts.now n → length spare + registers e.parts.now n ≡ length all_regs → t.count ≡ 0 → HasRoom e n places spare_places regs spare all t
-entry_room e n places ap' sp regs ar spare all t h q c pr rc rr tc = record {
+pub entry_room : (e : Env) (n : ℕ) (places all_places spare_places regs all_regs spare all rooms : List ℕ) (t : TraceRoom) → HasEntryRoom e n all_places all_regs t → places ≡ places_from 0 (cells e.parts.now n) → length all ≡ (routine_of e.parts.now n).cells + 2 * length rooms → AreRoomy (routine_of e.parts.now n).buffers rooms → length spare_places + cells e.parts.now n ≡ length all_places → length regs ≡ registers e.parts.now n → length spare + registers e.parts.now n ≡ length all_regs → t.count ≡ 0 → HasRoom e n (routine_of e.parts.now n).cells places spare_places regs spare all rooms t
+entry_room e n places ap' sp regs ar spare all rooms t h q c w pr rc rr tc = record {
   runnable = h.runnable;
   begins = h.begins;
   routine = h.routine;
-  place_count = ap length q ∙ length_places (cells e.parts.now n) 0;
   place_room = omega (arith, h.place_room, pr);
   register_count = rc;
   register_room = omega (arith, h.register_room, rr);
-  in_cells = subst (All (λ x. x < length all)) (sym q) (subst (λ k. All (λ x. x < k) (places_from 0 (cells e.parts.now n))) (let z : 0 + cells e.parts.now n ≡ length all = omega (arith, c) in z) (own_within (cells e.parts.now n) 0));
+  in_cells = subst (λ ps. HasPlaces e.parts.now n ps (routine_of e.parts.now n).cells (length all) rooms) (sym q) (entry_places e.parts.now n (length all) rooms c w);
   trace = tc;
   trace_room = h.trace_room;
 }

@@ -1,11 +1,12 @@
 -- What a frame has room for (own rule).
-use Rattle.std.specs.Prelude.{◌≡◌, ℕ, ◌+◌, ◌≤◌, List, length, slice_index, []}
+use Rattle.std.specs.Prelude.{◌≡◌, ℕ, ◌+◌, ◌≤◌, List, length, take, slice_index}
 use Rattle.td_core.specs.declared.outcome.Outcome.{Outcome}
 use Rattle.td_core.specs.declared.outcome.TraceFrame.{TraceFrame}
 use Rattle.td_core.specs.declared.outcome.Verdict.{Verdict}
+use Rattle.td_stream.specs.Copies.{BufferView, held_by, rooms_of}
 use Rattle.td_ir.specs.declared.tables.Parts.{Parts}
 use Rattle.td_ir.specs.Tables.{first_of}
-use Rattle.td_vm.specs.Need.{most_need, most_entry_cells, registers, cells, level}
+use Rattle.td_vm.specs.Need.{most_need, most_entry_cells, most_rooms, registers, cells, level}
 
 -- how many registers, places of cells, cells and frames the lists of a frame have memory for, whatever they hold
 pub record FrameMemory : Type 0 where
@@ -14,8 +15,8 @@ pub record FrameMemory : Type 0 where
   pub cells : ℕ
   pub trace : ℕ
 
--- a table of where routines begin, how many registers, places, frames and cells there is room for, the memory of these lists, the
--- cells, and the frames of the last failure
+-- a table of where routines begin, how many registers, places, frames and cells (with two for each buffer) there is room for, the
+-- memory of these lists, the cells, the frames of the last failure, and the buffers, of which an entry point has the first ones
 pub record FrameView : Type 0 where
   pub begins : List ℕ
   pub register_room : ℕ
@@ -25,10 +26,11 @@ pub record FrameView : Type 0 where
   pub memory : FrameMemory
   pub cells : List ℕ
   pub trace : List TraceFrame
+  pub copies : List BufferView
 
--- the outcome of a validation that had this verdict and left the frame so; no instruction copies
-abbrev pub outcome_in : FrameView → Verdict → Outcome
-outcome_in f verdict = record { verdict = verdict; trace = f.trace; cells = f.cells; copies = [] }
+-- the outcome of a validation from an entry point with k buffers that had this verdict and left the frame so
+abbrev pub outcome_in : FrameView → (k : ℕ) → Verdict → Outcome
+outcome_in f k verdict = record { verdict = verdict; trace = f.trace; cells = f.cells; copies = held_by (take k f.copies) }
 
 -- where each routine begins, and where the last one ends
 pub record AreBegins (c : Parts) (begins : List ℕ) : Type 0 where
@@ -47,3 +49,4 @@ pub record IsArmed (c : Parts) (f : FrameView) : Type 0 where
   pub trace_room : f.trace_room ≡ most_need level c
   pub cell_room : f.cell_room ≡ most_entry_cells c
   pub memory : f.memory ≡ memory_for c
+  pub rooms : rooms_of f.copies ≡ most_rooms c

@@ -1,6 +1,5 @@
 -- What the machine rests on, and what its calls keep; of use in this crate alone.
-use Rattle.std.specs.Prelude.{◌≡◌, ℕ, ◌+◌, ◌<◌, ◌≤◌, true, cond, List, length}
-use Rattle.std.specs.List.{All}
+use Rattle.std.specs.Prelude.{◌≡◌, ℕ, ◌+◌, ◌<◌, ◌≤◌, true, cond, List, length, slice_index}
 use Rattle.td_ir.specs.declared.tables.Parts.{Parts}
 use Rattle.td_ir.specs.Tables.{routine_of, lengths_of, end_of}
 use Rattle.td_ir.specs.WellFormed.{IsCode}
@@ -14,6 +13,7 @@ use Rattle.td_verify.specs.Verify.{IsIn}
 use Rattle.td_verify.specs.Safe.{IsSafe, looped}
 use Rattle.td_step.specs.declared.activation.TraceRoom.{TraceRoom}
 use Rattle.td_step.specs.declared.activation.Env.{Env}
+use Rattle.td_step.specs.Stepping.{HasPlaces}
 use Rattle.td_vm.specs.declared.level.Spare.{Spare}
 use Rattle.td_vm.specs.Frames.{AreBegins}
 use Rattle.td_vm.specs.Need.{room_below, registers, cells, level}
@@ -39,16 +39,15 @@ Idle c n from to = IdleWay (shapes_of c) (MayBeEmpty (shapes_of c) (lengths_of c
 abbrev pub scale : Parts → ℕ → ℕ
 scale c p = cond (looped c p) 2 1
 
--- what a run needs: runnable code, as many registers and places as routine n has, and room for its calls
-pub record HasRoom (e : Env) (n : ℕ) (places spare_places regs spare all : List ℕ) (t : TraceRoom) : Type 0 where
+-- what a run needs: runnable code, as many registers and places as routine n has, these among the first cells and the pairs of buffers of these rooms, and room for its calls
+pub record HasRoom (e : Env) (n first : ℕ) (places spare_places regs spare all rooms : List ℕ) (t : TraceRoom) : Type 0 where
   pub runnable : IsRunnable e.parts.now
   pub begins : AreBegins e.parts.now e.begins.now
   pub routine : n < length e.parts.now.routines
-  pub place_count : length places ≡ cells e.parts.now n
   pub place_room : room_below (cells e.parts.now) e.parts.now n ≤ length spare_places
   pub register_count : length regs ≡ registers e.parts.now n
   pub register_room : room_below (registers e.parts.now) e.parts.now n ≤ length spare
-  pub in_cells : All (λ c. c < length all) places
+  pub in_cells : HasPlaces e.parts.now n places first (length all) rooms
   pub trace : t.count ≡ 0
   pub trace_room : room_below level e.parts.now n + 1 ≤ length t.frames.items
 
@@ -88,7 +87,7 @@ pub record IsCallee (c : Parts) (n at m first map : ℕ) : Type 0 where
   pub is : shape_at (shapes_of c) at ≡ Call m
   pub lower : m < n
   pub arguments : (j : ℕ) → j < (routine_of c m).params → first + j < registers c n
-  pub cell_map : IsCellMap c (cells c n) m map
+  pub cell_map : IsCellMap c n m map
 
 -- room for routine n, run from outside, and for its calls
 pub record HasEntryRoom (e : Env) (n : ℕ) (spare_places spare : List ℕ) (t : TraceRoom) : Type 0 where
@@ -98,3 +97,8 @@ pub record HasEntryRoom (e : Env) (n : ℕ) (spare_places spare : List ℕ) (t :
   pub place_room : cells e.parts.now n + room_below (cells e.parts.now) e.parts.now n ≤ length spare_places
   pub register_room : registers e.parts.now n + room_below (registers e.parts.now) e.parts.now n ≤ length spare
   pub trace_room : room_below level e.parts.now n + 1 ≤ length t.frames.items
+
+-- for each buffer of a routine one, with room for it
+pub record AreRoomy (wanted rooms : List ℕ) : Type 0 where
+  pub count : length wanted ≤ length rooms
+  pub each : (k : ℕ) → k < length wanted → slice_index wanted k ≤ slice_index rooms k

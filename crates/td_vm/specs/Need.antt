@@ -1,5 +1,6 @@
 -- The room that a routine needs with its calls: the greatest over the chains of calls that begin at it (own rule).
-use Rattle.std.specs.Prelude.{ℕ, zero, suc, ◌+◌, max, cond, nat_eq, List, length, slice_index}
+use Rattle.std.specs.Prelude.{ℕ, zero, suc, ◌+◌, ◌*◌, max, cond, nat_eq, List, length, map, slice_index}
+use Rattle.td_num.specs.Numbers.{places_from}
 use Rattle.td_ir.specs.declared.tables.Parts.{Parts}
 use Rattle.td_ir.specs.Tables.{routine_of, entry_of, lengths_of, begin}
 use Rattle.td_verify.specs.declared.shape.Shape.{Shape}
@@ -34,20 +35,40 @@ most f c (suc n) = max (most f c n) (f n + room_below f c n)
 abbrev pub most_need : (ℕ → ℕ) → Parts → ℕ
 most_need f c = most f c (length c.routines)
 
--- what routine n takes itself: registers, places of cells, a level of calls
+-- what routine n takes itself: registers, places of cells (two for each buffer too), a level of calls
 abbrev pub registers : Parts → ℕ → ℕ
 registers c n = (routine_of c n).registers
 
 abbrev pub cells : Parts → ℕ → ℕ
-cells c n = (routine_of c n).cells
+cells c n = (routine_of c n).cells + 2 * length (routine_of c n).buffers
 
 abbrev pub level : ℕ → ℕ
 level n = 1
 
--- the most cells of the first n entry points, and of all
-abbrev pub most_cells : Parts → ℕ → ℕ
-most_cells c zero = 0
-most_cells c (suc n) = max (most_cells c n) (length (entry_of c n).cells)
+-- the greatest of what is said of the first n entry points, and of all
+abbrev pub greatest_of : (ℕ → ℕ) → ℕ → ℕ
+greatest_of f zero = 0
+greatest_of f (suc n) = max (greatest_of f n) (f n)
+
+abbrev pub of_entries : Parts → (ℕ → ℕ) → ℕ
+of_entries c f = greatest_of f (length c.entries)
+
+-- the cells of entry point n, with two for each of its buffers, and the rooms of these
+abbrev pub entry_cells : Parts → ℕ → ℕ
+entry_cells c n = length (entry_of c n).cells + 2 * length (entry_of c n).buffers
+
+abbrev pub entry_rooms : Parts → ℕ → List ℕ
+entry_rooms c n = (routine_of c (entry_of c n).routine).buffers
 
 abbrev pub most_entry_cells : Parts → ℕ
-most_entry_cells c = most_cells c (length c.entries)
+most_entry_cells c = of_entries c (entry_cells c)
+
+-- the greatest rooms, place by place
+abbrev pub most_buffers : Parts → ℕ
+most_buffers c = of_entries c (λ n. length (entry_rooms c n))
+
+abbrev pub most_room : Parts → ℕ → ℕ
+most_room c k = of_entries c (λ n. slice_index (entry_rooms c n) k)
+
+abbrev pub most_rooms : Parts → List ℕ
+most_rooms c = map (most_room c) (places_from 0 (most_buffers c))

@@ -1,25 +1,26 @@
 //! Runs a routine from outside.
 
-ghost use Rattle.std.specs.Prelude.{◌≡◌, ◌≤◌, length, vec_capacity};
+ghost use Rattle.std.specs.Prelude.{◌≡◌, ◌+◌, ◌*◌, ◌≤◌, length, vec_capacity};
 ghost use Rattle.td_num.specs.Numbers.{places_from};
 ghost use Rattle.td_ir.specs.Tables.{routine_of};
 ghost use Rattle.td_ir.specs.Run.{run_routine};
 ghost use Rattle.td_stream.specs.StreamInvariant.{IsStream, Later, length_of, position, end_of};
-ghost use Rattle.td_step.specs.Stepping.{Ran};
+ghost use Rattle.td_stream.specs.Copies.{rooms_of};
+ghost use Rattle.td_step.specs.Stepping.{Ran, Hold};
 ghost use Rattle.td_vm.specs.Exits.{frames_of, exit_by, call_way, NotTurned, WhenReturned};
-ghost use Rattle.td_vm.specs.Machine.{HasEntryRoom, IsKept};
-ghost use Rattle.td_vm.specs.Need.{cells as cells_in};
+ghost use Rattle.td_vm.specs.Machine.{HasEntryRoom, IsKept, AreRoomy};
 
 use crate::level::{Level, Spare, Stretch};
-use crate::machine::{run_block, set_registers};
+use crate::machine::{place_count, run_block, set_registers};
 use std::sync::ledger::Ledger;
 use td_step::activation::{Activation, Env, Left, TraceRoom};
 use td_step::steps::{Counter, Steps};
 use td_step::tables::routine_at;
+use td_stream::copies::Buffer;
 use td_stream::stream::Stream;
 use td_stream::words::Words;
 
-// The cells of an entry point are its own, in order.
+// The cells of an entry point are its own, in order, and behind them those of its buffers.
 fn set_own_places(mine: &mut [usize])
     ensures { mine.new ≡ places_from 0 (length mine.old) }
 {
@@ -28,19 +29,22 @@ fn set_own_places(mine: &mut [usize])
     }
 }
 
-/// Runs routine n over a stream that stands at its start.
+/// Runs routine n over a stream that stands at its start, with its cells and behind them two for each of its buffers.
 pub fn run_entry<W: Words, L: Ledger, C: Counter>(
     env: &Env<'_>,
     n: usize,
     args: &[u64],
     spare: &mut Spare<'_, '_>,
     cells: &mut [u64],
+    copies: &mut [Buffer],
     stream: &mut Stream<W>,
     trace: &mut TraceRoom,
     steps: &mut Steps<L, C>,
 ) -> Left
     requires room { HasEntryRoom env.now n spare.old.places.now spare.old.registers.now trace.old }
-    requires cells { length cells.old ≡ cells_in env.now.parts.now n }
+    requires cells { length cells.old ≡ (routine_of env.now.parts.now n).cells + 2 * length copies.old }
+    requires buffers { length copies.old ≡ length (routine_of env.now.parts.now n).buffers }
+    requires rooms { AreRoomy (routine_of env.now.parts.now n).buffers (rooms_of copies.old) }
     requires empty { trace.old.count ≡ 0 }
     requires args { length args.now ≡ (routine_of env.now.parts.now n).params }
     requires whole { IsStream W.loads W.size stream.old }
@@ -54,6 +58,8 @@ pub fn run_entry<W: Words, L: Ledger, C: Counter>(
     ensures frames { trace.new.count ≤ length trace.new.frames.items }
     ensures no_turn { NotTurned result }
     ensures none { WhenReturned result (trace.new.count ≡ 0) }
+    ensures rooms { rooms_of copies.new ≡ rooms_of copies.old }
+    ensures held { Hold W.loads stream.old stream.new (routine_of env.now.parts.now n).cells cells.old cells.new copies.old copies.new }
     ensures same { Ran W.loads stream.old stream.new steps.old steps.new (λ b touched taken. length b ≡ length_of stream.old →
         run_routine env.now.parts.now n args.now cells.old b
         ≡ exit_by (call_way result (position stream.new) cells.new (frames_of trace.new)) touched taken) }
@@ -64,7 +70,7 @@ pub fn run_entry<W: Words, L: Ledger, C: Counter>(
     let registers = &mut *spare.registers;
     let places = &mut *spare.places;
     let (mine, rest) = registers.split_at_mut(routine.registers as usize);
-    let (mine_places, rest_places) = places.split_at_mut(routine.cells as usize);
+    let (mine_places, rest_places) = places.split_at_mut(place_count(routine));
     set_registers(mine, args);
     set_own_places(mine_places);
     let mut act = Activation {
@@ -74,6 +80,7 @@ pub fn run_entry<W: Words, L: Ledger, C: Counter>(
     let level = Level {
         env: *env,
         n,
+        first: routine.cells as usize,
         places: mine_places,
     };
     let mut free = Spare {
@@ -86,6 +93,7 @@ pub fn run_entry<W: Words, L: Ledger, C: Counter>(
         &mut free,
         mine,
         cells,
+        copies,
         &mut act,
         stream,
         trace,

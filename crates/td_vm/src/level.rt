@@ -2,11 +2,13 @@
 
 use td_step::activation::Env;
 
-/// A routine that runs: the code, its number, and the places of its cells.
+/// A routine that runs: the code, its number, how many cells the entry point has (behind them are those of its buffers), and the
+/// places of the routine's cells among these.
 #[derive(Clone, Copy)]
 pub struct Level<'c, 'p> {
     pub env: Env<'c>,
     pub n: usize,
+    pub first: usize,
     pub places: &'p [usize],
 }
 

@@ -1,9 +1,9 @@
 //! Runs a routine.
 
-ghost use Rattle.std.specs.Prelude.{◌≡◌, ℕ, suc, ◌+◌, ◌-◌, ◌<◌, ◌≤◌, true, false, List, [], ◌∷◌, ◌++◌, length, replicate, vec_capacity};
+ghost use Rattle.std.specs.Prelude.{◌≡◌, ℕ, suc, ◌+◌, ◌-◌, ◌*◌, ◌^◌, ◌<◌, ◌≤◌, true, false, List, [], ◌∷◌, ◌++◌, length, take, drop, replicate, slice_index, vec_capacity};
 ghost use Rattle.td_core.specs.Outcome as outcomes;
 ghost use Rattle.td_ir.specs.WellFormed.{IsCode};
-ghost use Rattle.td_ir.specs.Tables.{routine_of, map_of, lengths_of, first_of};
+ghost use Rattle.td_ir.specs.Tables.{routine_of, lengths_of, first_of, buffer_cells, own_cells, cells_by};
 ghost use Rattle.td_ir.specs.State.{State, Exit, registers_from};
 ghost use Rattle.td_ir.specs.Run.{place_of_site, places_by, entered, turns, block};
 ghost use Rattle.td_verify.specs.declared.shape.Shape.TheVariants.{While};
@@ -14,7 +14,8 @@ ghost use Rattle.td_verify.specs.Operands.{AreBelow};
 ghost use Rattle.td_verify.specs.Verify.{IsIn};
 ghost use Rattle.td_verify.specs.Safe.{looped};
 ghost use Rattle.td_stream.specs.StreamInvariant.{IsStream, Later, position, end_of};
-ghost use Rattle.td_step.specs.Stepping.{state_of, Ran, InWindow};
+ghost use Rattle.td_stream.specs.Copies.{rooms_of};
+ghost use Rattle.td_step.specs.Stepping.{state_of, Ran, InWindow, Hold};
 ghost use Rattle.td_vm.specs.Exits.{frames_of, exit_by, way_of, call_way, loop_exit, WhenTurned, WhenReturned, NotTurned, NotReturned, Traced};
 ghost use Rattle.td_vm.specs.Machine.{AreLaws, HasRoom, IsStretch, IsCallee, IsKept, IdleTurn, IdleReturn};
 ghost use Rattle.td_vm.specs.Need.{room_below, level as levels};
@@ -25,11 +26,12 @@ use td_core::outcome::Reason;
 use td_ir::laws::{
     run_calls, run_fails, run_goes, run_loops, run_returns, run_turns as run_turned,
 };
-use td_ir::tables::Parts;
+use td_ir::tables::{Parts, Routine};
 use td_step::activation::{Activation, Left, Step, TraceRoom};
 use td_step::step::step;
 use td_step::steps::{Counter, Steps};
 use td_step::tables::{frame_at, instruction_at, map_at, routine_at};
+use td_stream::copies::Buffer;
 use td_stream::stream::Stream;
 use td_stream::words::Words;
 
@@ -71,6 +73,15 @@ fn arguments(regs: &[u64], first: usize, count: usize) -> &[u64]
     }
 }
 
+/// How many places a routine has: one for each cell, two for each buffer.
+pub fn place_count(routine: &Routine) -> usize
+    requires { length routine.now.buffers < 2 ^ 16 }
+    ensures is { result ≡ routine.now.cells + 2 * length routine.now.buffers }
+    ensures small { result ≤ 196605 }
+{
+    usize::from(routine.cells) + 2 * routine.buffers.len()
+}
+
 /// The registers of a routine that begins: its arguments, and zeros.
 pub fn set_registers(mine: &mut [u64], args: &[u64])
     requires { length args.now ≤ length mine.old }
@@ -82,7 +93,7 @@ pub fn set_registers(mine: &mut [u64], args: &[u64])
 }
 
 // The places of a callee's cells, by those of its caller.
-fn set_places(mine: &mut [usize], places: &[usize], map: &[u32])
+fn set_cell_places(mine: &mut [usize], places: &[usize], map: &[u32])
     requires within { AreBelow (length places.now) map.now }
     requires fits { length mine.old ≡ length map.now }
     ensures { mine.new ≡ places_by places.now map.now }
@@ -90,6 +101,32 @@ fn set_places(mine: &mut [usize], places: &[usize], map: &[u32])
     for i in 0..map.len() {
         mine[i] = places[map[i] as usize];
     }
+}
+
+// The places of the cells of a callee's buffers, by those of its caller, which has so many other cells.
+fn set_buffer_places(mine: &mut [usize], places: &[usize], cells: usize, buffers: &[u32])
+    requires within { (k : ℕ) → k < length buffers.now → cells + 2 * slice_index buffers.now k + 1 < length places.now }
+    requires fits { length mine.old ≡ 2 * length buffers.now }
+    ensures { mine.new ≡ places_by places.now (buffer_cells cells buffers.now) }
+{
+    for i in 0..buffers.len() {
+        let at = cells + 2 * (buffers[i] as usize);
+        mine[2 * i] = places[at];
+        mine[2 * i + 1] = places[at + 1];
+    }
+}
+
+// The places of a callee's cells and of its buffers', by those of its caller, by a cell map of which so many numbers are cells.
+fn set_places(mine: &mut [usize], places: &[usize], cells: usize, map: &[u32], count: usize)
+    requires fits { length mine.old ≡ count + 2 * (length map.now - count) }
+    requires count { count ≤ length map.now }
+    requires within { AreBelow (length places.now) (take count map.now) }
+    requires buffers { (k : ℕ) → k < length (drop count map.now) → cells + 2 * slice_index (drop count map.now) k + 1 < length places.now }
+    ensures { mine.new ≡ places_by places.now (own_cells cells count map.now) }
+{
+    let (front, behind) = mine.split_at_mut(count);
+    set_cell_places(front, places, &map[..count]);
+    set_buffer_places(behind, places, cells, &map[count..]);
 }
 
 /// Runs from an instruction on, to the end of the routine or of a loop's turn.
@@ -100,12 +137,13 @@ pub fn run_block<W: Words, L: Ledger, C: Counter>(
     spare: &mut Spare<'_, '_>,
     regs: &mut [u64],
     cells: &mut [u64],
+    copies: &mut [Buffer],
     act: &mut Activation,
     stream: &mut Stream<W>,
     trace: &mut TraceRoom,
     steps: &mut Steps<L, C>,
 ) -> Left
-    requires room { HasRoom level.now.env level.now.n level.now.places.now spare.old.places.now regs.old spare.old.registers.now cells.old trace.old }
+    requires room { HasRoom level.now.env level.now.n level.now.first level.now.places.now spare.old.places.now regs.old spare.old.registers.now cells.old (rooms_of copies.old) trace.old }
     requires stretch { IsStretch level.now.env.parts.now level.now.n stretch.first stretch.to }
     requires whole { IsStream W.loads W.size stream.old }
     requires window { InWindow act.old stream.old }
@@ -122,6 +160,8 @@ pub fn run_block<W: Words, L: Ledger, C: Counter>(
     ensures idle_turn { WhenTurned result (position stream.old ≡ position stream.new → IdleTurn level.now.env.parts.now level.now.n stretch.first) }
     ensures idle_return { WhenReturned result (position stream.old ≡ position stream.new → IdleReturn level.now.env.parts.now level.now.n stretch.first) }
     ensures end { WhenTurned result (end_of stream.new ≡ end_of stream.old) }
+    ensures rooms { rooms_of copies.new ≡ rooms_of copies.old }
+    ensures held { Hold W.loads stream.old stream.new level.now.first cells.old cells.new copies.old copies.new }
     ensures same { Ran W.loads stream.old stream.new steps.old steps.new (λ b touched taken.
         block level.now.env.parts.now b level.now.n level.now.places.now stretch.first (state_of regs.old cells.old act.old stream.old)
         ≡ exit_by (way_of result (state_of regs.new cells.new act.new stream.new) (frames_of trace.new)) touched taken) }
@@ -133,11 +173,14 @@ pub fn run_block<W: Words, L: Ledger, C: Counter>(
         let instruction = instruction_at(level.env.parts, pc);
         match step(
             level.env.parts,
+            level.n,
             instruction,
             pc,
+            level.first,
             level.places,
             regs,
             cells,
+            copies,
             act,
             stream,
             steps,
@@ -167,6 +210,7 @@ pub fn run_block<W: Words, L: Ledger, C: Counter>(
                     spare,
                     regs,
                     cells,
+                    copies,
                     stream,
                     trace,
                     steps,
@@ -190,6 +234,7 @@ pub fn run_block<W: Words, L: Ledger, C: Counter>(
                     spare,
                     regs,
                     cells,
+                    copies,
                     act,
                     stream,
                     trace,
@@ -215,12 +260,13 @@ fn run_turns<W: Words, L: Ledger, C: Counter>(
     spare: &mut Spare<'_, '_>,
     regs: &mut [u64],
     cells: &mut [u64],
+    copies: &mut [Buffer],
     act: &mut Activation,
     stream: &mut Stream<W>,
     trace: &mut TraceRoom,
     steps: &mut Steps<L, C>,
 ) -> Left
-    requires room { HasRoom level.now.env level.now.n level.now.places.now spare.old.places.now regs.old spare.old.registers.now cells.old trace.old }
+    requires room { HasRoom level.now.env level.now.n level.now.first level.now.places.now spare.old.places.now regs.old spare.old.registers.now cells.old (rooms_of copies.old) trace.old }
     requires place { IsIn level.now.env.parts.now level.now.n stretch.first }
     requires loops { shape_at (shapes_of level.now.env.parts.now) stretch.first ≡ While stretch.to }
     requires whole { IsStream W.loads W.size stream.old }
@@ -235,6 +281,8 @@ fn run_turns<W: Words, L: Ledger, C: Counter>(
     ensures trace_memory { vec_capacity trace.new.frames ≡ vec_capacity trace.old.frames }
     ensures no_return { NotReturned result }
     ensures end { WhenTurned result (end_of stream.new ≡ end_of stream.old) }
+    ensures rooms { rooms_of copies.new ≡ rooms_of copies.old }
+    ensures held { Hold W.loads stream.old stream.new level.now.first cells.old cells.new copies.old copies.new }
     ensures same { Ran W.loads stream.old stream.new steps.old steps.new (λ b touched taken. (behind : State → Exit) →
         turns (suc (end_of stream.old - position stream.old)) (block level.now.env.parts.now b level.now.n level.now.places.now (stretch.first + 1)) behind (state_of regs.old cells.old act.old stream.old)
         ≡ loop_exit result behind (state_of regs.new cells.new act.new stream.new) (frames_of trace.new) touched taken) }
@@ -249,6 +297,7 @@ fn run_turns<W: Words, L: Ledger, C: Counter>(
             spare,
             regs,
             cells,
+            copies,
             act,
             stream,
             trace,
@@ -270,11 +319,12 @@ fn call<W: Words, L: Ledger, C: Counter>(
     spare: &mut Spare<'_, '_>,
     regs: &[u64],
     cells: &mut [u64],
+    copies: &mut [Buffer],
     stream: &mut Stream<W>,
     trace: &mut TraceRoom,
     steps: &mut Steps<L, C>,
 ) -> Left
-    requires room { HasRoom level.now.env level.now.n level.now.places.now spare.old.places.now regs.now spare.old.registers.now cells.old trace.old }
+    requires room { HasRoom level.now.env level.now.n level.now.first level.now.places.now spare.old.places.now regs.now spare.old.registers.now cells.old (rooms_of copies.old) trace.old }
     requires callee { IsCallee level.now.env.parts.now level.now.n callee.at callee.routine callee.first callee.map }
     requires whole { IsStream W.loads W.size stream.old }
     ensures later { Later W.loads W.reaches stream.old stream.new }
@@ -286,8 +336,10 @@ fn call<W: Words, L: Ledger, C: Counter>(
     ensures trace_memory { vec_capacity trace.new.frames ≡ vec_capacity trace.old.frames }
     ensures no_turn { NotTurned result }
     ensures idle { WhenReturned result (position stream.old ≡ position stream.new → MayBeEmpty (shapes_of level.now.env.parts.now) (lengths_of level.now.env.parts.now) (suc callee.routine) callee.routine) }
+    ensures rooms { rooms_of copies.new ≡ rooms_of copies.old }
+    ensures held { Hold W.loads stream.old stream.new level.now.first cells.old cells.new copies.old copies.new }
     ensures same { (start outer : ℕ) → Ran W.loads stream.old stream.new steps.old steps.new (λ b touched taken.
-        block level.now.env.parts.now b callee.routine (places_by level.now.places.now (map_of level.now.env.parts.now callee.map)) (first_of level.now.env.parts.now callee.routine)
+        block level.now.env.parts.now b callee.routine (places_by level.now.places.now (cells_by level.now.env.parts.now level.now.n callee.routine callee.map)) (first_of level.now.env.parts.now callee.routine)
         (entered (routine_of level.now.env.parts.now callee.routine) (registers_from regs.now callee.first (routine_of level.now.env.parts.now callee.routine).params)
         (record { regs = regs.now; cells = cells.old; start = start; pos = position stream.old; end = end_of stream.old; outer = outer }))
         ≡ exit_by (call_way result (position stream.new) cells.new (frames_of trace.new)) touched taken) }
@@ -298,12 +350,14 @@ fn call<W: Words, L: Ledger, C: Counter>(
     let registers = &mut *spare.registers;
     let places = &mut *spare.places;
     let (mine, rest) = registers.split_at_mut(routine.registers as usize);
-    let (mine_places, rest_places) = places.split_at_mut(routine.cells as usize);
+    let (mine_places, rest_places) = places.split_at_mut(place_count(routine));
     set_registers(mine, arguments(regs, callee.first, routine.params as usize));
     set_places(
         mine_places,
         level.places,
+        routine_at(level.env.parts, level.n).cells as usize,
         map_at(level.env.parts, callee.map),
+        routine.cells as usize,
     );
     let end = stream.end();
     let mut act = Activation {
@@ -313,6 +367,7 @@ fn call<W: Words, L: Ledger, C: Counter>(
     let inner = Level {
         env: level.env,
         n: callee.routine,
+        first: level.first,
         places: mine_places,
     };
     let mut free = Spare {
@@ -325,6 +380,7 @@ fn call<W: Words, L: Ledger, C: Counter>(
         &mut free,
         mine,
         cells,
+        copies,
         &mut act,
         stream,
         trace,

@@ -1,27 +1,31 @@
 //! Runs a routine over a message.
 
-ghost use Rattle.std.specs.Prelude.{◌≡◌, ℕ, ◌≤◌, List, [], length, take, vec_capacity};
+ghost use Rattle.std.specs.Prelude.{◌≡◌, ℕ, ◌+◌, ◌-◌, ◌*◌, ◌≤◌, List, [], ◌++◌, length, map, take, drop, replicate, vec_capacity};
 ghost use Rattle.td_ir.specs.Tables.{routine_of};
 ghost use Rattle.td_ir.specs.Run.{run_routine};
 ghost use Rattle.td_stream.specs.Layouts.{count_in};
 ghost use Rattle.td_stream.specs.Loads.{Carries, Inside, IsRising};
+ghost use Rattle.td_stream.specs.Copies.{rooms_of, held_by, empty_with};
 ghost use Rattle.td_vm.specs.Exits.{frames_of};
 ghost use Rattle.td_vm.specs.Outcomes.{IsRun};
-ghost use Rattle.td_vm.specs.Machine.{HasEntryRoom, IsKept};
+ghost use Rattle.td_vm.specs.Machine.{HasEntryRoom, IsKept, AreRoomy};
 ghost use Rattle.td_vm.specs.Need.{cells as cells_in};
 
 use crate::entry::run_entry;
 use crate::level::Spare;
+use crate::machine::place_count;
 use std::sync::ledger::Ledger;
 use td_core::outcome::Verdict;
 use td_step::activation::{Env, Left, TraceRoom};
 use td_step::steps::{Counter, Steps};
 use td_step::tables::routine_at;
+use td_stream::copies::Buffer;
 use td_stream::layout::Layout;
 use td_stream::stream::Stream;
 use td_stream::words::Words;
 
-/// Runs routine n over a message that lies so in words of which none was loaded.
+/// Runs routine n over a message that lies so in words of which none was loaded, with its cells and behind them two for each of its
+/// buffers, which hold nothing.
 pub fn run_message<W: Words, L: Ledger, C: Counter>(
     env: &Env<'_>,
     n: usize,
@@ -29,12 +33,17 @@ pub fn run_message<W: Words, L: Ledger, C: Counter>(
     layout: &Layout,
     spare: &mut Spare<'_, '_>,
     cells: &mut [u64],
+    copies: &mut [Buffer],
     trace: &mut TraceRoom,
     words: &mut W,
     steps: &mut Steps<L, C>,
 ) -> Verdict
     requires room { HasEntryRoom env.now n spare.old.places.now spare.old.registers.now trace.old }
-    requires cells { length cells.old ≡ cells_in env.now.parts.now n }
+    requires cells { length cells.old ≡ (routine_of env.now.parts.now n).cells + 2 * length copies.old }
+    requires opened { drop (routine_of env.now.parts.now n).cells cells.old ≡ replicate (2 * length copies.old) 0 }
+    requires buffers { length copies.old ≡ length (routine_of env.now.parts.now n).buffers }
+    requires rooms { AreRoomy (routine_of env.now.parts.now n).buffers (rooms_of copies.old) }
+    requires none { copies.old ≡ map empty_with (rooms_of copies.old) }
     requires empty { trace.old.count ≡ 0 }
     requires args { length args.now ≡ (routine_of env.now.parts.now n).params }
     requires words { count_in layout.now ≤ W.size words.old }
@@ -46,19 +55,40 @@ pub fn run_message<W: Words, L: Ledger, C: Counter>(
     ensures trace_room { length trace.new.frames.items ≡ length trace.old.frames.items }
     ensures trace_memory { vec_capacity trace.new.frames ≡ vec_capacity trace.old.frames }
     ensures frames { trace.new.count ≤ length trace.new.frames.items }
+    ensures rooms { rooms_of copies.new ≡ rooms_of copies.old }
     ensures run { (b : List ℕ) → Carries layout.now b (W.loads words.new)
-        → IsRun layout.now (cells_in env.now.parts.now n) b (W.loads words.new) (run_routine env.now.parts.now n args.now cells.old b)
-        (record { verdict = result; trace = frames_of trace.new; cells = cells.new; copies = [] }) steps.old steps.new }
+        → IsRun layout.now (routine_of env.now.parts.now n).cells b (W.loads words.new) (run_routine env.now.parts.now n args.now cells.old b)
+        (record { verdict = result; trace = frames_of trace.new; cells = take (routine_of env.now.parts.now n).cells cells.new; copies = held_by copies.new }) steps.old steps.new }
 {
     let mut stream = Stream::over(words, layout);
-    match run_entry(env, n, args, spare, cells, &mut stream, trace, steps) {
+    match run_entry(
+        env,
+        n,
+        args,
+        spare,
+        cells,
+        copies,
+        &mut stream,
+        trace,
+        steps,
+    ) {
         Left::Returned => Verdict::Accept { pos: stream.pos() },
         Left::Turned => unreachable!(),
         Left::Failed { reason, pos } => Verdict::Reject { reason, pos },
     }
 }
 
-/// The same with the first cells of a longer list, as many as the routine has, and a trace that is emptied first.
+// The cells of buffers that hold nothing, behind the first cells.
+fn open_cells(cells: &mut [u64], first: usize)
+    requires { first ≤ length cells.old }
+    ensures { cells.new ≡ take first cells.old ++ replicate (length cells.old - first) 0 }
+{
+    let (_, behind) = cells.split_at_mut(first);
+    behind.fill(0);
+}
+
+/// The same with the first cells of a longer list, as many as the routine has and two for each of its buffers, which are set to
+/// zero, with the first buffers of others, and a trace that is emptied first.
 pub fn run_front<W: Words, L: Ledger, C: Counter>(
     env: &Env<'_>,
     n: usize,
@@ -66,6 +96,7 @@ pub fn run_front<W: Words, L: Ledger, C: Counter>(
     layout: &Layout,
     spare: &mut Spare<'_, '_>,
     all: &mut [u64],
+    copies: &mut [Buffer],
     trace: &mut TraceRoom,
     words: &mut W,
     steps: &mut Steps<L, C>,
@@ -73,6 +104,8 @@ pub fn run_front<W: Words, L: Ledger, C: Counter>(
     requires room { HasEntryRoom env.now n spare.old.places.now spare.old.registers.now trace.old }
     requires args { length args.now ≡ (routine_of env.now.parts.now n).params }
     requires cell_room { cells_in env.now.parts.now n ≤ length all.old }
+    requires rooms { AreRoomy (routine_of env.now.parts.now n).buffers (rooms_of copies.old) }
+    requires none { copies.old ≡ map empty_with (rooms_of copies.old) }
     requires words { count_in layout.now ≤ W.size words.old }
     requires fresh { W.loads words.old ≡ [] }
     ensures reaches { W.reaches words.old words.new }
@@ -82,12 +115,21 @@ pub fn run_front<W: Words, L: Ledger, C: Counter>(
     ensures trace_room { length trace.new.frames.items ≡ length trace.old.frames.items }
     ensures trace_memory { vec_capacity trace.new.frames ≡ vec_capacity trace.old.frames }
     ensures frames { trace.new.count ≤ length trace.new.frames.items }
+    ensures rooms { rooms_of copies.new ≡ rooms_of copies.old }
     ensures run { (b : List ℕ) → Carries layout.now b (W.loads words.new)
-        → IsRun layout.now (cells_in env.now.parts.now n) b (W.loads words.new) (run_routine env.now.parts.now n args.now (take (cells_in env.now.parts.now n) all.old) b)
-        (record { verdict = result; trace = frames_of trace.new; cells = take (cells_in env.now.parts.now n) all.new; copies = [] }) steps.old steps.new }
+        → IsRun layout.now (routine_of env.now.parts.now n).cells b (W.loads words.new)
+        (run_routine env.now.parts.now n args.now (take (routine_of env.now.parts.now n).cells all.old ++ replicate (2 * length (routine_of env.now.parts.now n).buffers) 0) b)
+        (record {
+          verdict = result;
+          trace = frames_of trace.new;
+          cells = take (routine_of env.now.parts.now n).cells all.new;
+          copies = held_by (take (length (routine_of env.now.parts.now n).buffers) copies.new);
+        }) steps.old steps.new }
 {
     trace.count = 0;
-    let count = routine_at(env.parts, n).cells as usize;
-    let (mine, _) = all.split_at_mut(count);
-    run_message(env, n, args, layout, spare, mine, trace, words, steps)
+    let routine = routine_at(env.parts, n);
+    let (mine, _) = all.split_at_mut(place_count(routine));
+    open_cells(mine, routine.cells as usize);
+    let (lent, _) = copies.split_at_mut(routine.buffers.len());
+    run_message(env, n, args, layout, spare, mine, lent, trace, words, steps)
 }

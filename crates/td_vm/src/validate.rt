@@ -1,18 +1,21 @@
 //! Validates messages by verified code, in room that was taken before.
 
-ghost use Rattle.std.specs.Prelude.{◌≡◌, ℕ, ◌≤◌, List, [], length as size_of, take, IfOk, vec_capacity};
+ghost use Rattle.std.specs.Prelude.{◌≡◌, ℕ, ◌<◌, ◌≤◌, List, [], length as size_of, map, take, IfOk, vec_capacity};
 ghost use Rattle.td_ir.specs.declared.tables.Parts as tables;
-ghost use Rattle.td_ir.specs.Entries.{Fits};
+ghost use Rattle.td_stream.specs.Copies.{empty_with};
+ghost use Rattle.td_ir.specs.Entries.{Fits, buffers_of, opened_by};
 ghost use Rattle.td_ir.specs.Run.{run};
 ghost use Rattle.td_stream.specs.Layouts.{count_in};
 ghost use Rattle.td_stream.specs.Loads.{Carries, Inside, IsRising};
 ghost use Rattle.td_vm.specs.Frames.{IsArmed, outcome_in};
 ghost use Rattle.td_vm.specs.Machine.{IsRunnable};
+ghost use Rattle.td_vm.specs.Need.{most_rooms};
 ghost use Rattle.td_vm.specs.Outcomes.{IsRun};
 
-use crate::arm::{Kind, begins_of, most_cells, need_of};
+use crate::arm::{Kind, begins_of, buffer_count, most_cells, need_of, rooms_for};
 use crate::level::Spare;
 use crate::message::run_front;
+use crate::outcome::held_by_first;
 use std::alloc::{AllocError, Global};
 use std::marker::Model;
 use std::sync::ledger::Ledger;
@@ -23,26 +26,31 @@ use td_num::items::Items;
 use td_step::activation::{Env, TraceRoom};
 use td_step::steps::{Counter, Steps};
 use td_step::tables::entry_at;
+use td_stream::copies::{Buffer, Copies};
 use td_stream::layout::Layout;
 use td_stream::words::Words;
 use td_verify::laws::sound_code_is_safe;
 use td_verify::verify::Verified;
 
-/// Room for validations by one code, with the cells that the next one begins with and those and the trace that the last
-/// one left. A contract sees how much room there is, how much memory its lists have, the cells and the trace.
+/// Room for validations by one code, with the cells that the next one begins with, and those, the trace and the copies that the
+/// last one left. A contract sees how much room there is, how much memory its lists have, the cells, the trace and the buffers of
+/// copies.
 #[derive(Drop)]
 pub struct Frame {
     begins: Vec<usize>,
     registers: Vec<u64>,
     places: Vec<usize>,
     cells: Vec<u64>,
-    // How many of the cells are in use.
+    // How many of the cells are in use, behind which are those of the buffers.
     count: usize,
     trace: TraceRoom,
+    copies: Copies,
+    // No lists, and memory for one of what each buffer holds, when the outcome is taken.
+    kept: Vec<Items<u8>>,
 }
 
 impl Model for Frame {
-    ghost use Rattle.std.specs.Prelude.{◌≤◌, length, take, vec_capacity};
+    ghost use Rattle.std.specs.Prelude.{◌≡◌, ◌≤◌, [], length, take, vec_capacity};
     ghost use Rattle.td_vm.specs.Frames.{FrameView};
     ghost use Rattle.td_vm.specs.Exits.{frames_of};
 
@@ -62,9 +70,11 @@ impl Model for Frame {
       };
       cells = take f.count f.cells.items;
       trace = frames_of f.trace;
+      copies = f.copies.buffers.items;
     } };
 
-    ghost invariant = { λ f. (f.count ≤ length f.cells.items) × (f.trace.count ≤ length f.trace.frames.items) };
+    ghost invariant = { λ f. (f.count ≤ length f.cells.items) × (f.trace.count ≤ length f.trace.frames.items)
+        × (f.kept.items ≡ []) × (length f.copies.buffers.items ≤ vec_capacity f.kept) };
 }
 
 // The parts of verified code, which can be run.
@@ -108,18 +118,21 @@ fn first_of<T: Copy>(mut elements: Vec<T>, count: usize) -> Items<T>
 
 impl Frame {
     /// Room for all validations by this code: the registers and the places of cells of the chain of calls that needs most of
-    /// each, a frame for each level of the deepest, and the cells of the entry point that has most. It has no cells and an
-    /// empty trace. `AllocError`: there was no memory for it.
+    /// each, a frame for each level of the deepest, the cells of the entry point that has most, and buffers for copies, place by
+    /// place as large as any entry point's. It has no cells, an empty trace and empty buffers. `AllocError`: there was no memory for
+    /// it.
     pub fn arm(alloc: Global, code: &Verified) -> Result<Frame, AllocError>
         ensures armed { IfOk result (λ frame. IsArmed code.now frame) }
         ensures cells { IfOk result (λ frame. frame.cells ≡ []) }
         ensures trace { IfOk result (λ frame. frame.trace ≡ []) }
+        ensures copies { IfOk result (λ frame. frame.copies ≡ map empty_with (most_rooms code.now)) }
     {
         let parts = runnable(code);
         let begins = begins_of(alloc, parts)?;
         let registers = need_of(alloc, parts, &begins, Kind::Registers)?;
         let places = need_of(alloc, parts, &begins, Kind::Cells)?;
         let levels = need_of(alloc, parts, &begins, Kind::Levels)?;
+        let rooms = rooms_for(alloc, parts)?;
         let empty = TraceFrame {
             ty: NameId { number: 0 },
             field: Spot::Where,
@@ -136,6 +149,8 @@ impl Frame {
                 frames: filled(alloc, empty, levels as usize)?,
                 count: 0,
             },
+            copies: Copies::with_rooms(alloc, &rooms)?,
+            kept: Vec::with_capacity(alloc, rooms.len())?,
         })
     }
 
@@ -144,6 +159,7 @@ impl Frame {
         requires { size_of values.now ≤ self.old.cell_room }
         ensures cells { self.new.cells ≡ values.now }
         ensures trace { self.new.trace ≡ self.old.trace }
+        ensures copies { self.new.copies ≡ self.old.copies }
         ensures armed { (c : tables.Parts) → IsArmed c self.old → IsArmed c self.new }
     {
         fill(self.cells.as_mut_slice(), values);
@@ -173,18 +189,28 @@ impl Frame {
         self.trace.frames.len()
     }
 
-    /// The outcome of the last validation, which had this verdict: with the frame's trace and cells, and no copies. Takes no memory.
-    pub fn into_outcome(self, verdict: Verdict) -> Outcome
-        ensures { result ≡ outcome_in self verdict }
+    /// What was copied to the buffers: those of the last validation's entry point are the first ones, as many as it has.
+    pub fn copies(&self) -> &[Buffer]
+        ensures { result.now ≡ self.now.copies }
     {
-        let alloc = *self.cells.allocator();
+        self.copies.buffers.as_slice()
+    }
+
+    /// The outcome of the last validation, which was by this code from this entry point and had this verdict: with the frame's trace
+    /// and cells, and what the entry point's buffers hold. Takes no memory.
+    pub fn into_outcome(self, code: &Verified, entry: Entry, verdict: Verdict) -> Outcome
+        requires armed { IsArmed code.now self }
+        requires there { entry.number < size_of code.now.entries }
+        ensures { result ≡ outcome_in self (buffers_of code.now entry) verdict }
+    {
+        let buffers = buffer_count(runnable(code), entry);
         let most = self.trace.count;
         let count = self.count;
         Outcome {
             verdict,
             trace: first_of(self.trace.frames, most),
             cells: first_of(self.cells, count),
-            copies: Items::new(alloc),
+            copies: held_by_first(self.copies.buffers, self.kept, buffers),
         }
     }
 }
@@ -193,7 +219,7 @@ impl Frame {
 /// frame was armed for this code, and the arguments and the frame's cells fit the entry point (`td_ir::entries::fits`). It
 /// is handed no allocator and nothing to wait by. Words are loaded only where a byte of them is looked at, in rising order, each at
 /// most once; the verdict, and the frame's trace and cells, are those of `run` on each message that carries these loads, and
-/// so is the count of steps.
+/// so are the count of steps and, as many as the entry point has, the frame's copies.
 pub fn validate<W: Words, L: Ledger, C: Counter>(
     code: &Verified,
     entry: Entry,
@@ -211,8 +237,8 @@ pub fn validate<W: Words, L: Ledger, C: Counter>(
     ensures rising { IsRising (W.loads words.new) }
     ensures within { Inside layout.now (W.loads words.new) }
     ensures run { (b : List ℕ) → Carries layout.now b (W.loads words.new)
-        → IsRun layout.now (size_of frame.old.cells) b (W.loads words.new) (run code.now entry args.now frame.old.cells b)
-        (outcome_in frame.new result) steps.old steps.new }
+        → IsRun layout.now (size_of frame.old.cells) b (W.loads words.new) (run code.now entry args.now (opened_by code.now entry frame.old.cells) b)
+        (outcome_in frame.new (buffers_of code.now entry) result) steps.old steps.new }
     ensures cell_count { size_of frame.new.cells ≡ size_of frame.old.cells }
     ensures armed { IsArmed code.now frame.new }
 {
@@ -222,6 +248,7 @@ pub fn validate<W: Words, L: Ledger, C: Counter>(
         parts,
         begins: frame.begins.as_slice(),
     };
+    frame.copies.clear();
     let places = frame.places.as_mut_slice();
     let registers = frame.registers.as_mut_slice();
     let mut spare = Spare { places, registers };
@@ -232,6 +259,7 @@ pub fn validate<W: Words, L: Ledger, C: Counter>(
         layout,
         &mut spare,
         frame.cells.as_mut_slice(),
+        frame.copies.buffers.as_mut_slice(),
         &mut frame.trace,
         words,
         steps,

@@ -1,9 +1,10 @@
-use Rattle.std.proofs.Common.{rules, ◌≡◌, ℕ, ◌-◌, [], ◌∷◌, ◌++◌, length, ap, ◌∙◌, arith}
+use Rattle.std.proofs.Common.{rules, ◌≡◌, ℕ, ◌-◌, List, [], ◌∷◌, ◌++◌, length, ap, ◌∙◌, arith}
 use Rattle.td_core.specs.declared.module.NameId.{NameId}
 use Rattle.td_ir.specs.declared.tables.Routine.{Routine}
 use Rattle.td_blocks.specs.Block.{size}
 use Rattle.td_blocks.specs.Constructs.{body}
 use Rattle.td_blocks.specs.Lowered.{definition_body}
+use Rattle.td_blocks.specs.Laid.{rooms}
 use Rattle.td_blocks.specs.Tops.{definition_levels, definition_top}
 use Rattle.td_emit.proofs.Writing.{grown_to, longer}
 use Rattle.td_lower.proofs.routines.write_routine.Goals as goal
@@ -17,8 +18,8 @@ overflow_sub-place c =
     omega (arith, l, a, b)
 
 -- a routine by its counts
-abbrev routine : NameId → (p q g l : ℕ) → Routine
-routine name p q g l = record { name = name; params = p; cells = q; registers = g; length = l }
+abbrev routine : NameId → (p q g l : ℕ) → List ℕ → Routine
+routine name p q g l b = record { name = name; params = p; cells = q; registers = g; buffers = b; length = l }
 
 pub returns-clause-routine : goal.returns-clause-routine
 returns-clause-routine c =
@@ -33,8 +34,10 @@ returns-clause-routine c =
     let q : c.len-2.result ≡ length d.cells = search rules in
     let g : c.definition_top-registers.result ≡ definition_top (definition_levels d) d = c.definition_top-registers.ensures ∙ ap (λ t. definition_top t d) u in
     let l : c.place.result - c.place-begin.result ≡ size (m (definition_levels d)) = omega (arith, w, a, b, s) in
+    let b' : c.in_ok-buffers.buffers ≡ rooms d.buffers = search rules in
     c.in_ok-push.ensures.ok
-    ∙ (ap (λ n. c.args.routines.now ++ routine d.name n c.len-2.result c.definition_top-registers.result (c.place.result - c.place-begin.result) ∷ []) p
-    ∙ (ap (λ n. c.args.routines.now ++ routine d.name (length d.params) n c.definition_top-registers.result (c.place.result - c.place-begin.result) ∷ []) q
-    ∙ (ap (λ n. c.args.routines.now ++ routine d.name (length d.params) (length d.cells) n (c.place.result - c.place-begin.result) ∷ []) g
-    ∙ ap (λ n. c.args.routines.now ++ routine d.name (length d.params) (length d.cells) (definition_top (definition_levels d) d) n ∷ []) l)))
+    ∙ (ap (λ n. c.args.routines.now ++ routine d.name n c.len-2.result c.definition_top-registers.result (c.place.result - c.place-begin.result) c.in_ok-buffers.buffers ∷ []) p
+    ∙ (ap (λ n. c.args.routines.now ++ routine d.name (length d.params) n c.definition_top-registers.result (c.place.result - c.place-begin.result) c.in_ok-buffers.buffers ∷ []) q
+    ∙ (ap (λ n. c.args.routines.now ++ routine d.name (length d.params) (length d.cells) n (c.place.result - c.place-begin.result) c.in_ok-buffers.buffers ∷ []) g
+    ∙ (ap (λ n. c.args.routines.now ++ routine d.name (length d.params) (length d.cells) (definition_top (definition_levels d) d) n c.in_ok-buffers.buffers ∷ []) l
+    ∙ ap (λ n. c.args.routines.now ++ routine d.name (length d.params) (length d.cells) (definition_top (definition_levels d) d) (size (m (definition_levels d))) n ∷ []) b'))))

@@ -24,10 +24,10 @@ loop-n-preserved c =
     let s : suc n ≡ n + 1 = omega arith in
     let e = end_is C n in
     let q = ap (first_of C) s in
-    let from : c.loop-n.from + c.routine_at.result.length ≡ first_of C (n + 1) = omega (arith, i.from, r, e, q) in
+    let from : c.loop-n.from + c.routine_at.result.now.length ≡ first_of C (n + 1) = omega (arith, i.from, r, e, q) in
     let items = c.in_ok-push-2.ensures.items in
     record {
       from = from;
       count = omega (arith, i.count, c.in_ok-push-2.ensures.len);
-      each = λ m z. subst (λ ys. slice_index ys m ≡ first_of C m) (sym items) (told_more (first_of C) c.loop-n.begins.items (n + 1) (c.loop-n.from + c.routine_at.result.length) i.count (λ k l. i.each k (omega (arith, l))) from m (omega (arith, z)));
+      each = λ m z. subst (λ ys. slice_index ys m ≡ first_of C m) (sym items) (told_more (first_of C) c.loop-n.begins.items (n + 1) (c.loop-n.from + c.routine_at.result.now.length) i.count (λ k l. i.each k (omega (arith, l))) from m (omega (arith, z)));
     }

@@ -31,7 +31,7 @@ overflow_add-need c =
     let i = c.loop-n.invariant in
     let C = c.args.parts.now in
     let f = own_of c.args.kind C in
-    let small = c.room_of-room.ensures.small (65535 * 4294967296) (λ m l. subst (λ ys. slice_index ys m ≤ 65535 * 4294967296) (sym c.deref.ensures.value) (told_small c.loop-n.needs.items c.loop-n.n (65535 * 4294967296) i.count i.small m (λ q. omega (arith, l)))) in
+    let small = c.room_of-room.ensures.small (196605 * 4294967296) (λ m l. subst (λ ys. slice_index ys m ≤ 196605 * 4294967296) (sym c.deref.ensures.value) (told_small c.loop-n.needs.items c.loop-n.n (196605 * 4294967296) i.count i.small m (λ q. omega (arith, l)))) in
     omega (arith, small, c.own.ensures.small)
 
 pub loop-n-preserved : goal.loop-n-preserved
@@ -52,10 +52,10 @@ loop-n-preserved c =
     let need = c.own.result + c.room_of-room.result in
     let is : need ≡ F n = omega (arith, room, own) in
     let items = c.in_ok-push.ensures.items in
-    let low = c.room_of-room.ensures.small (65535 * n) (λ m z. subst (λ ys. slice_index ys m ≤ 65535 * n) (sym c.deref.ensures.value) (told_small c.loop-n.needs.items n (65535 * n) i.count i.small m (λ w. omega (arith, w)))) in
+    let low = c.room_of-room.ensures.small (196605 * n) (λ m z. subst (λ ys. slice_index ys m ≤ 196605 * n) (sym c.deref.ensures.value) (told_small c.loop-n.needs.items n (196605 * n) i.count i.small m (λ w. omega (arith, w)))) in
     record {
       count = omega (arith, i.count, c.in_ok-push.ensures.len);
       each = λ m z. subst (λ ys. slice_index ys m ≡ F m) (sym items) (told_more F c.loop-n.needs.items n need i.count i.each is m z);
-      small = λ m z. subst (λ ys. slice_index ys m ≤ 65535 * (m + 1)) (sym items) (small_more c.loop-n.needs.items n need i.count i.small (omega (arith, low, c.own.ensures.small)) m z);
+      small = λ m z. subst (λ ys. slice_index ys m ≤ 196605 * (m + 1)) (sym items) (small_more c.loop-n.needs.items n need i.count i.small (omega (arith, low, c.own.ensures.small)) m z);
       most = c.greater-most.ensures ∙ ap (λ x. max x need) i.most ∙ ap (max (most_of f C n)) is ∙ ap (most_of f C) r;
     }

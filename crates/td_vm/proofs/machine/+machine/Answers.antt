@@ -1,6 +1,6 @@
-use Rattle.std.proofs.Common.{rules, ◌≡◌, suc, ◌+◌, ◌-◌, ◌*◌, ◌<◌, ◌≤◌, cond, ◌++◌, length, arith, sym, ap, ◌∙◌, subst, refl}
+use Rattle.std.proofs.Common.{rules, ◌≡◌, suc, ◌+◌, ◌-◌, ◌<◌, ◌≤◌, ◌++◌, length, arith, sym, ap, ◌∙◌, subst, refl}
 use Rattle.std.specs.Prelude.{slice_index}
-use Rattle.td_ir.specs.Tables.{routine_of, map_of, lengths_of, first_of, end_of as end_at}
+use Rattle.td_ir.specs.Tables.{routine_of, own_cells, cells_by, lengths_of, first_of}
 use Rattle.td_ir.specs.State.{State, Exit, after, registers_from}
 use Rattle.td_ir.specs.State as ir
 use Rattle.td_ir.specs.Run.{back, turns, places_by, entered, block}
@@ -8,24 +8,26 @@ use Rattle.td_ir.proofs.Begins.{begin_up}
 use Rattle.td_verify.specs.declared.shape.Shape.TheVariants.{Call, While}
 use Rattle.td_verify.specs.Shape.{shape, shapes_of}
 use Rattle.td_verify.specs.Brackets.{in_loop, window_bytes}
-use Rattle.td_verify.specs.Safe.{before}
 use Rattle.td_stream.specs.Layouts.{length_in}
 use Rattle.td_stream.specs.StreamInvariant.{position, end_of, length_of}
-use Rattle.td_step.specs.Stepping.{state_of, more, Passes, Ends}
-use Rattle.td_step.proofs.Stretches.{later_trans, later_self, ran_self, ran_weaker}
+use Rattle.td_step.specs.Stepping.{state_of, Ends}
+use Rattle.td_stream.specs.Copies.{rooms_of}
+use Rattle.td_step.proofs.Stretches.{later_trans, later_self, hold_on, carried, ran_self, ran_weaker}
 use Rattle.td_vm.specs.Exits.{frames_of, exit_by}
 use Rattle.td_vm.specs.Need.{room_below, registers, cells, level}
-use Rattle.td_vm.specs.Machine.{scale}
 use Rattle.td_vm.proofs.Stretches.{ran_trans, ran_step, ran_ticked, ran_after, after_more, after_once, after_none}
 use Rattle.td_vm.proofs.Shapes.{shape_here}
-use Rattle.td_vm.proofs.Keeps.{fine_at, kept_on, goes_on, room_on, idle_more, idle_on, empty_up, step_cost, call_cost, loop_cost, spend_turn, spend_last, grown, end_kept, callee_need}
-use Rattle.td_vm.proofs.Turns.{none_left, callee_room, room_kept, one_frame, whole_stretch, body_stretch, loop_whole, turn_busy, no_turn, call_idle, begun, entered_is, call_left, turn_more, turn_fails, turns_over, return_outside, in_code, callee_at, traced_more, call_steps, call_on, call_spent, length_registers, spare_same, spare_on}
+use Rattle.td_vm.proofs.Places.{widens}
+use Rattle.td_vm.proofs.Keeps.{fine_at, kept_on, goes_on, room_on, idle_more, idle_on, empty_up, grown, end_kept, callee_need}
+use Rattle.td_vm.proofs.Turns.{none_left, callee_room, room_kept, one_frame, whole_stretch, body_stretch, loop_whole, turn_busy, no_turn, call_idle, begun, entered_is, call_left, turn_more, turn_fails, turns_over, return_outside, in_code, callee_at, traced_more, call_on, length_registers, spare_same, spare_on}
 use Rattle.td_vm.proofs.machine.+machine.Goals as goal
 
 pub run_block-steps-init : goal.run_block-steps-init
 run_block-steps-init g t c =
     record {
       room = c.requires.room;
+      rooms = refl;
+      held = λ b h k. k;
       kept = spare_same c.args.spare.now;
       place = c.requires.stretch.place;
       on = omega arith;
@@ -47,7 +49,7 @@ run_block-steps-init g t c =
 pub run_block-step-requires-clause-fine : goal.run_block-step-requires-clause-fine
 run_block-step-requires-clause-fine g t c =
     let i = c.steps.invariant in
-    fine_at c.args.level.now.env.parts.now c.args.level.now.n c.steps.pc _ _ c.instruction_at-instruction.result.now i.room.runnable.safe i.place c.instruction_at-instruction.ensures.is i.room.register_count i.room.place_count
+    fine_at c.args.level.now.env.parts.now c.args.level.now.n c.steps.pc _ c.instruction_at-instruction.result.now i.room.runnable.safe i.place c.instruction_at-instruction.ensures.is i.room.register_count
 
 pub run_block-steps-preserved-in-Goes : goal.run_block-steps-preserved-in-Goes
 run_block-steps-preserved-in-Goes g t c =
@@ -67,7 +69,9 @@ run_block-steps-preserved-in-Goes g t c =
     let s = c.steps.stream in
     let u = c.step.new.stream in
     record {
-      room = room_kept c.args.level.now.env n c.args.level.now.places.now c.steps.spare.places.now c.steps.spare.places.now c.steps.regs c.step.new.regs c.steps.spare.registers.now c.steps.spare.registers.now c.steps.cells c.step.new.cells c.steps.trace c.steps.trace i.room refl c.step.auto.regs refl c.step.auto.cells i.room.trace refl;
+      room = room_kept c.args.level.now.env n c.args.level.now.first c.args.level.now.places.now c.steps.spare.places.now c.steps.spare.places.now c.steps.regs c.step.new.regs c.steps.spare.registers.now c.steps.spare.registers.now c.steps.cells c.step.new.cells (rooms_of c.steps.copies) (rooms_of c.step.new.copies) c.steps.trace c.steps.trace i.room refl c.step.auto.regs refl c.step.auto.cells e.rooms i.room.trace refl;
+      rooms = e.rooms ∙ i.rooms;
+      held = hold_on s0 s u c.args.level.now.first c.args.cells.now c.steps.cells c.step.new.cells c.args.copies.now c.steps.copies c.step.new.copies i.later e.later i.held e.held;
       kept = i.kept;
       place = o.1;
       on = omega (arith, i.on, o.0);
@@ -91,6 +95,8 @@ run_block-steps-preserved-in-Goes g t c =
 pub run_turns-turns-init : goal.run_turns-turns-init
 run_turns-turns-init g t c = record {
   room = c.requires.room;
+  rooms = refl;
+  held = λ b h k. k;
   kept = spare_same c.args.spare.now;
   later = later_self g.met.W.Words.reaches_itself c.args.stream.now;
   whole = c.requires.whole;
@@ -201,21 +207,25 @@ pub call-split_at_mut-mine_places-requires : goal.call-split_at_mut-mine_places-
 call-split_at_mut-mine_places-requires g t c =
     let C = c.args.level.now.env.parts.now in
     let r = ap (λ x. x.cells) c.routine_at-routine.ensures in
+    let b = ap (λ x. length x.buffers) c.routine_at-routine.ensures in
     let d = c.requires.callee in
-    omega (arith, r, callee_need (cells C) C c.args.level.now.n c.args.callee.at c.args.callee.routine d.place d.is d.lower, c.requires.room.place_room)
+    omega (arith, r, b, c.place_count.ensures.is, callee_need (cells C) C c.args.level.now.n c.args.callee.at c.args.callee.routine d.place d.is d.lower, c.requires.room.place_room)
 
 pub call-run_block-left-requires : goal.call-run_block-left-requires
 call-run_block-left-requires g t c =
     let C = c.args.level.now.env.parts.now in
     let m = c.args.callee.routine in
     let d = c.requires.callee in
-    let cell = ap (λ x. x.cells) c.routine_at-routine.ensures in
+    let cell : c.routine_at-routine.result.now.cells ≡ (routine_of C m).cells = ap (λ x. x.cells) c.routine_at-routine.ensures in
+    let buffer : length c.routine_at-routine.result.now.buffers ≡ length (routine_of C m).buffers = ap (λ x. length x.buffers) c.routine_at-routine.ensures in
+    let own : c.routine_at.result.now.cells ≡ (routine_of C c.args.level.now.n).cells = ap (λ x. x.cells) c.routine_at.ensures in
+    let places = c.set_places.ensures ∙ (λ i. places_by c.args.level.now.places.now (own_cells (own i) (cell i) (c.map_at.ensures i))) in
     let register = ap (λ x. x.registers) c.routine_at-routine.ensures in
     let l : m < length C.routines = omega (arith, d.lower, c.requires.room.routine) in
     let b = c.requires.room.begins.each m (omega (arith, l)) in
     let q : m + 1 ≡ suc m = omega arith in
     let f = c.requires.room.begins.each (m + 1) (omega (arith, l)) ∙ ap (first_of C) q in
-    let room = callee_room c.args.level.now.env c.args.level.now.n c.args.callee.at m c.args.callee.first c.args.callee.map c.args.level.now.places.now c.args.spare.now.places.now c.args.regs.now c.args.spare.now.registers.now c.args.cells.now c.set_places.new.mine c.split_at_mut-mine_places.result.1.now c.set_registers.new.mine c.split_at_mut-mine.result.1.now c.args.trace.now c.requires.room d (omega (arith, cell, c.split_at_mut-mine_places.ensures.back_len, c.split_at_mut-mine_places.ensures.front_len)) (omega (arith, register, c.set_registers.auto.mine, c.split_at_mut-mine.ensures.front_len)) (omega (arith, register, c.split_at_mut-mine.ensures.back_len)) (c.set_places.ensures ∙ ap (places_by c.args.level.now.places.now) c.map_at.ensures) in
+    let room = callee_room c.args.level.now.env c.args.level.now.n c.args.callee.at m c.args.callee.first c.args.callee.map c.args.level.now.first c.args.level.now.places.now c.args.spare.now.places.now c.args.regs.now c.args.spare.now.registers.now c.args.cells.now (rooms_of c.args.copies.now) c.set_places.new.mine c.split_at_mut-mine_places.result.1.now c.set_registers.new.mine c.split_at_mut-mine.result.1.now c.args.trace.now c.requires.room d (omega (arith, cell, buffer, c.place_count.ensures.is, c.split_at_mut-mine_places.ensures.back_len, c.split_at_mut-mine_places.ensures.front_len)) (omega (arith, register, c.set_registers.auto.mine, c.split_at_mut-mine.ensures.front_len)) (omega (arith, register, c.split_at_mut-mine.ensures.back_len)) places in
     λ κs h. (omega (arith, c.decreases, b, f), (h.0, (h.1.0, (h.1.1, (room, (whole_stretch C m _ _ c.requires.room.runnable l b f, (c.requires.whole, record { around = omega (arith, c.end-end.ensures); within = omega (arith, c.end-end.ensures, c.requires.whole.short) })))))))
 
 pub call-returns-clause-traced : goal.call-returns-clause-traced
@@ -243,7 +253,9 @@ call-returns-clause-same g t c = λ start outer.
     let s1 = c.run_block-left.new.stream in
     let s2 = c.widen.new.self in
     let S : State = record { regs = c.args.regs.now; cells = c.args.cells.now; start = start; pos = position s0; end = end_of s0; outer = outer } in
-    let places = c.set_places.ensures ∙ ap (places_by c.args.level.now.places.now) c.map_at.ensures in
+    let cell : c.routine_at-routine.result.now.cells ≡ r.cells = ap (λ x. x.cells) is in
+    let own : c.routine_at.result.now.cells ≡ (routine_of C c.args.level.now.n).cells = ap (λ x. x.cells) c.routine_at.ensures in
+    let places = c.set_places.ensures ∙ (λ i. places_by c.args.level.now.places.now (own_cells (own i) (cell i) (c.map_at.ensures i))) in
     let args = registers_from c.args.regs.now c.args.callee.first r.params in
     let regs = begun r args c.arguments.result.now c.set_registers.new.mine _ c.set_registers.ensures (c.arguments.ensures ∙ ap (λ k. registers_from c.args.regs.now c.args.callee.first k.params) is) (c.split_at_mut-mine.ensures.front_len ∙ ap (λ k. k.registers) is) in
     let turn = no_turn C m _ c.run_block-left.result c.requires.room.runnable l b' c.run_block-left.ensures.inside in
@@ -261,7 +273,7 @@ run_block-call-requires g t c =
     let C = c.args.level.now.env.parts.now in
     let n = c.args.level.now.n in
     let d = callee_at C n c.steps.pc c.in-Calls.from c.in-Calls.routine c.in-Calls.map c.in-Calls.site c.instruction_at-instruction.result.now i.room.runnable.safe i.place c.instruction_at-instruction.ensures.is e.leads in
-    let room = room_kept c.args.level.now.env n c.args.level.now.places.now c.steps.spare.places.now c.steps.spare.places.now c.steps.regs c.step.new.regs c.steps.spare.registers.now c.steps.spare.registers.now c.steps.cells c.step.new.cells c.steps.trace c.steps.trace i.room refl c.step.auto.regs refl c.step.auto.cells i.room.trace refl in
+    let room = room_kept c.args.level.now.env n c.args.level.now.first c.args.level.now.places.now c.steps.spare.places.now c.steps.spare.places.now c.steps.regs c.step.new.regs c.steps.spare.registers.now c.steps.spare.registers.now c.steps.cells c.step.new.cells (rooms_of c.steps.copies) (rooms_of c.step.new.copies) c.steps.trace c.steps.trace i.room refl c.step.auto.regs refl c.step.auto.cells e.rooms i.room.trace refl in
     let up = begin_up (lengths_of C) (suc c.in-Calls.routine) n (omega (arith, d.lower)) in
     λ κs h. (omega (arith, c.decreases, up, c.requires.stretch.place.from, c.requires.stretch.place.to), (h.0, (h.1.0, (h.1.1, (room, (d, e.whole))))))
 
@@ -284,12 +296,15 @@ run_block-steps-preserved-in-Returned g t c =
     let u = c.step.new.stream in
     let v = c.call.new.stream in
     let still : end_of u ≡ end_of s = subst (λ x. Ends (shape x) (position s) (end_of s) (end_of u)) e.leads e.end in
-    let room = room_kept c.args.level.now.env n c.args.level.now.places.now c.steps.spare.places.now c.call.new.spare.places.now c.steps.regs c.step.new.regs c.steps.spare.registers.now c.call.new.spare.registers.now c.steps.cells c.call.new.cells c.steps.trace c.call.new.trace i.room c.call.ensures.kept.places c.step.auto.regs c.call.ensures.kept.registers (c.call.auto.cells ∙ c.step.auto.cells) f.traced f.trace_room in
+    let room = room_kept c.args.level.now.env n c.args.level.now.first c.args.level.now.places.now c.steps.spare.places.now c.call.new.spare.places.now c.steps.regs c.step.new.regs c.steps.spare.registers.now c.call.new.spare.registers.now c.steps.cells c.call.new.cells (rooms_of c.steps.copies) (rooms_of c.call.new.copies) c.steps.trace c.call.new.trace i.room c.call.ensures.kept.places c.step.auto.regs c.call.ensures.kept.registers (c.call.auto.cells ∙ c.step.auto.cells) (f.rooms ∙ e.rooms) f.traced f.trace_room in
     let long : length_of v ≡ length_of u = ap length_in f.later.layout in
     let later1 = later_trans g.met.W.Words.reaches_on s0 s u i.later e.later in
     let U : State = state_of c.step.new.regs c.step.new.cells c.step.new.act u in
     record {
       room = room;
+      rooms = f.rooms ∙ e.rooms ∙ i.rooms;
+      held = hold_on s0 u v c.args.level.now.first c.args.cells.now c.step.new.cells c.call.new.cells c.args.copies.now c.step.new.copies c.call.new.copies later1 f.later
+          (hold_on s0 s u c.args.level.now.first c.args.cells.now c.steps.cells c.step.new.cells c.args.copies.now c.steps.copies c.step.new.copies i.later e.later i.held e.held) f.held;
       kept = spare_on _ _ _ i.kept f.kept;
       place = o.1;
       on = omega (arith, i.on);
@@ -305,7 +320,7 @@ run_block-steps-preserved-in-Returned g t c =
       end = λ h. f.end ∙ still ∙ i.end h;
       narrow = let a = ap window_bytes o.2 in omega (arith, a, f.end, still, i.narrow);
       idle = λ z. idle_more C n first pc (pc + 1) (Call m) d.is (omega arith) refl (empty_up (shapes_of C) (lengths_of C) n m d.lower (f.idle (omega (arith, z, i.later.pos, e.later.pos, f.later.pos)))) (i.idle (omega (arith, z, i.later.pos, e.later.pos, f.later.pos)));
-      same = ran_trans s0 u v c.args.steps.now c.step.new.steps c.call.new.steps (λ b x j. block C b n c.args.level.now.places.now first (state_of c.args.regs.now c.args.cells.now c.args.act.now s0) ≡ after x j (back C c.in-Calls.site U (block C b n c.args.level.now.places.now (pc + 1)) (block C b m (places_by c.args.level.now.places.now (map_of C c.in-Calls.map)) (first_of C m) (entered (routine_of C m) (registers_from c.step.new.regs c.in-Calls.from (routine_of C m).params) U)))) _ _
+      same = ran_trans s0 u v c.args.steps.now c.step.new.steps c.call.new.steps (λ b x j. block C b n c.args.level.now.places.now first (state_of c.args.regs.now c.args.cells.now c.args.act.now s0) ≡ after x j (back C c.in-Calls.site U (block C b n c.args.level.now.places.now (pc + 1)) (block C b m (places_by c.args.level.now.places.now (cells_by C n m c.in-Calls.map)) (first_of C m) (entered (routine_of C m) (registers_from c.step.new.regs c.in-Calls.from (routine_of C m).params) U)))) _ _
           later1 f.later
           (ran_step s0 s u c.args.steps.now c.steps.steps c.tick.new.self c.step.new.steps _ _ _ i.later e.later i.same e.same c.tick.ensures (λ b x y j k p q.
           p ∙ ap (after x j) (c.laws.ensures.calls C b c.args.level.now.places.now n pc c.in-Calls.from m c.in-Calls.map c.in-Calls.site _ _ y (1 + k) (record { instruction = I; there = c.instruction_at-instruction.ensures.there; within = i.place.to; is = q }) o.1.to d.lower)
@@ -339,7 +354,7 @@ run_block-returns-in-Failed-clause-same g t c =
     let u = c.step.new.stream in
     let v = c.call.new.stream in
     let U : State = state_of c.step.new.regs c.step.new.cells c.step.new.act u in
-    ran_trans s0 u v c.args.steps.now c.step.new.steps c.call.new.steps (λ b x j. block C b n c.args.level.now.places.now c.args.stretch.first (state_of c.args.regs.now c.args.cells.now c.args.act.now s0) ≡ after x j (back C c.in-Calls.site U (block C b n c.args.level.now.places.now (pc + 1)) (block C b m (places_by c.args.level.now.places.now (map_of C c.in-Calls.map)) (first_of C m) (entered (routine_of C m) (registers_from c.step.new.regs c.in-Calls.from (routine_of C m).params) U)))) _ _
+    ran_trans s0 u v c.args.steps.now c.step.new.steps c.call.new.steps (λ b x j. block C b n c.args.level.now.places.now c.args.stretch.first (state_of c.args.regs.now c.args.cells.now c.args.act.now s0) ≡ after x j (back C c.in-Calls.site U (block C b n c.args.level.now.places.now (pc + 1)) (block C b m (places_by c.args.level.now.places.now (cells_by C n m c.in-Calls.map)) (first_of C m) (entered (routine_of C m) (registers_from c.step.new.regs c.in-Calls.from (routine_of C m).params) U)))) _ _
     (later_trans g.met.W.Words.reaches_on s0 s u i.later e.later) f.later
     (ran_step s0 s u c.args.steps.now c.steps.steps c.tick.new.self c.step.new.steps _ _ _ i.later e.later i.same e.same c.tick.ensures (λ b x y j k p q.
     p ∙ ap (after x j) (c.laws.ensures.calls C b c.args.level.now.places.now n pc c.in-Calls.from m c.in-Calls.map c.in-Calls.site _ _ y (1 + k) (record { instruction = I; there = c.instruction_at-instruction.ensures.there; within = i.place.to; is = q }) o.1.to d.lower)
@@ -356,7 +371,7 @@ run_block-run_turns-requires g t c =
     let C = c.args.level.now.env.parts.now in
     let n = c.args.level.now.n in
     let at = shape_here C c.steps.pc c.instruction_at-instruction.result.now c.instruction_at-instruction.ensures.is in
-    let room = room_kept c.args.level.now.env n c.args.level.now.places.now c.steps.spare.places.now c.steps.spare.places.now c.steps.regs c.step.new.regs c.steps.spare.registers.now c.steps.spare.registers.now c.steps.cells c.step.new.cells c.steps.trace c.steps.trace i.room refl c.step.auto.regs refl c.step.auto.cells i.room.trace refl in
+    let room = room_kept c.args.level.now.env n c.args.level.now.first c.args.level.now.places.now c.steps.spare.places.now c.steps.spare.places.now c.steps.regs c.step.new.regs c.steps.spare.registers.now c.steps.spare.registers.now c.steps.cells c.step.new.cells (rooms_of c.steps.copies) (rooms_of c.step.new.copies) c.steps.trace c.steps.trace i.room refl c.step.auto.regs refl c.step.auto.cells e.rooms i.room.trace refl in
     λ κs h. (omega (arith, c.decreases, i.on, i.place.to, i.place.from), (h.0, (h.1.0, (h.1.1, (room, (i.place, (at ∙ ap shape e.leads, (e.whole, e.window))))))))
 
 pub run_block-steps-smaller : goal.run_block-steps-smaller
@@ -387,7 +402,10 @@ run_block-steps-preserved g t c =
     let still : end_of u ≡ end_of s = subst (λ x. Ends (shape x) (position s) (end_of s) (end_of u)) e.leads e.end in
     let later1 = later_trans g.met.W.Words.reaches_on s0 s u i.later e.later in
     record {
-      room = room_kept c.args.level.now.env n c.args.level.now.places.now c.steps.spare.places.now c.run_turns.new.spare.places.now c.steps.regs c.run_turns.new.regs c.steps.spare.registers.now c.run_turns.new.spare.registers.now c.steps.cells c.run_turns.new.cells c.steps.trace c.run_turns.new.trace i.room c.run_turns.ensures.kept.places (c.run_turns.auto.regs ∙ c.step.auto.regs) c.run_turns.ensures.kept.registers (c.run_turns.auto.cells ∙ c.step.auto.cells) f.traced f.trace_room;
+      room = room_kept c.args.level.now.env n c.args.level.now.first c.args.level.now.places.now c.steps.spare.places.now c.run_turns.new.spare.places.now c.steps.regs c.run_turns.new.regs c.steps.spare.registers.now c.run_turns.new.spare.registers.now c.steps.cells c.run_turns.new.cells (rooms_of c.steps.copies) (rooms_of c.run_turns.new.copies) c.steps.trace c.run_turns.new.trace i.room c.run_turns.ensures.kept.places (c.run_turns.auto.regs ∙ c.step.auto.regs) c.run_turns.ensures.kept.registers (c.run_turns.auto.cells ∙ c.step.auto.cells) (f.rooms ∙ e.rooms) f.traced f.trace_room;
+      rooms = f.rooms ∙ e.rooms ∙ i.rooms;
+      held = hold_on s0 u v c.args.level.now.first c.args.cells.now c.step.new.cells c.run_turns.new.cells c.args.copies.now c.step.new.copies c.run_turns.new.copies later1 f.later
+          (hold_on s0 s u c.args.level.now.first c.args.cells.now c.steps.cells c.step.new.cells c.args.copies.now c.steps.copies c.step.new.copies i.later e.later i.held e.held) f.held;
       kept = spare_on _ _ _ i.kept f.kept;
       place = w.behind;
       on = omega (arith, i.on, w.body);
@@ -468,7 +486,9 @@ run_turns-turns-preserved g t c =
     let k = i.same.0 in
     let few : end_of s - position s < k = i.same.1 in
     record {
-      room = room_kept c.args.level.now.env n c.args.level.now.places.now c.turns.spare.places.now c.run_block.new.spare.places.now c.turns.regs c.run_block.new.regs c.turns.spare.registers.now c.run_block.new.spare.registers.now c.turns.cells c.run_block.new.cells c.turns.trace c.run_block.new.trace i.room c.run_block.ensures.kept.places c.run_block.auto.regs c.run_block.ensures.kept.registers c.run_block.auto.cells e.traced e.trace_room;
+      room = room_kept c.args.level.now.env n c.args.level.now.first c.args.level.now.places.now c.turns.spare.places.now c.run_block.new.spare.places.now c.turns.regs c.run_block.new.regs c.turns.spare.registers.now c.run_block.new.spare.registers.now c.turns.cells c.run_block.new.cells (rooms_of c.turns.copies) (rooms_of c.run_block.new.copies) c.turns.trace c.run_block.new.trace i.room c.run_block.ensures.kept.places c.run_block.auto.regs c.run_block.ensures.kept.registers c.run_block.auto.cells e.rooms e.traced e.trace_room;
+      rooms = e.rooms ∙ i.rooms;
+      held = hold_on s0 s v c.args.level.now.first c.args.cells.now c.turns.cells c.run_block.new.cells c.args.copies.now c.turns.copies c.run_block.new.copies i.later e.later i.held e.held;
       kept = spare_on _ _ _ i.kept e.kept;
       later = later_trans g.met.W.Words.reaches_on s0 s v i.later e.later;
       whole = e.whole;
@@ -530,7 +550,7 @@ call-set_registers-requires g t c =
     let m = c.args.callee.routine in
     let is = c.routine_at-routine.ensures in
     let l : m < length C.routines = omega (arith, c.requires.callee.lower, c.requires.room.routine) in
-    let count = ap length c.arguments.ensures ∙ length_registers c.args.regs.now c.args.callee.first c.routine_at-routine.result.params in
+    let count = ap length c.arguments.ensures ∙ length_registers c.args.regs.now c.args.callee.first c.routine_at-routine.result.now.params in
     omega (arith, count, ap (λ x. x.params) is, ap (λ x. x.registers) is, (c.requires.room.runnable.code.routines m l).room, c.split_at_mut-mine.ensures.front_len)
 
 pub call-returns-clause-later : goal.call-returns-clause-later
@@ -544,3 +564,88 @@ call-returns-clause-no_turn g t c =
 
 pub call-returns-clause-kept : goal.call-returns-clause-kept
 call-returns-clause-kept g t c = record { same_places = refl; same_registers = refl; places = search rules; registers = search rules }
+
+pub run_block-returns-in-Fails-clause-held : goal.run_block-returns-in-Fails-clause-held
+run_block-returns-in-Fails-clause-held g t c =
+    let i = c.steps.invariant in
+    let e = c.in-Fails.ensures in
+    hold_on c.args.stream.now c.steps.stream c.step.new.stream c.args.level.now.first c.args.cells.now c.steps.cells c.step.new.cells c.args.copies.now c.steps.copies c.step.new.copies i.later e.later i.held e.held
+
+pub run_block-returns-in-Returns-clause-held : goal.run_block-returns-in-Returns-clause-held
+run_block-returns-in-Returns-clause-held g t c =
+    let i = c.steps.invariant in
+    let e = c.in-Returns.ensures in
+    hold_on c.args.stream.now c.steps.stream c.step.new.stream c.args.level.now.first c.args.cells.now c.steps.cells c.step.new.cells c.args.copies.now c.steps.copies c.step.new.copies i.later e.later i.held e.held
+
+pub run_block-returns-in-Turns-clause-held : goal.run_block-returns-in-Turns-clause-held
+run_block-returns-in-Turns-clause-held g t c =
+    let i = c.steps.invariant in
+    let e = c.in-Turns.ensures in
+    hold_on c.args.stream.now c.steps.stream c.step.new.stream c.args.level.now.first c.args.cells.now c.steps.cells c.step.new.cells c.args.copies.now c.steps.copies c.step.new.copies i.later e.later i.held e.held
+
+pub run_block-returns-in-Failed-clause-held : goal.run_block-returns-in-Failed-clause-held
+run_block-returns-in-Failed-clause-held g t c =
+    let i = c.steps.invariant in
+    let e = c.in-Calls.ensures in
+    let f = c.in-Failed.ensures in
+    let s0 = c.args.stream.now in
+    let s = c.steps.stream in
+    let u = c.step.new.stream in
+    hold_on s0 u c.call.new.stream c.args.level.now.first c.args.cells.now c.step.new.cells c.call.new.cells c.args.copies.now c.step.new.copies c.call.new.copies
+    (later_trans g.met.W.Words.reaches_on s0 s u i.later e.later) f.later
+    (hold_on s0 s u c.args.level.now.first c.args.cells.now c.steps.cells c.step.new.cells c.args.copies.now c.steps.copies c.step.new.copies i.later e.later i.held e.held) f.held
+
+pub run_block-returns-in-Failed-run_turns-clause-held : goal.run_block-returns-in-Failed-run_turns-clause-held
+run_block-returns-in-Failed-run_turns-clause-held g t c =
+    let i = c.steps.invariant in
+    let e = c.in-Loops.ensures in
+    let f = c.in-Failed-run_turns.ensures in
+    let s0 = c.args.stream.now in
+    let s = c.steps.stream in
+    let u = c.step.new.stream in
+    hold_on s0 u c.run_turns.new.stream c.args.level.now.first c.args.cells.now c.step.new.cells c.run_turns.new.cells c.args.copies.now c.step.new.copies c.run_turns.new.copies
+    (later_trans g.met.W.Words.reaches_on s0 s u i.later e.later) f.later
+    (hold_on s0 s u c.args.level.now.first c.args.cells.now c.steps.cells c.step.new.cells c.args.copies.now c.steps.copies c.step.new.copies i.later e.later i.held e.held) f.held
+
+pub run_turns-returns-in-Failed-clause-held : goal.run_turns-returns-in-Failed-clause-held
+run_turns-returns-in-Failed-clause-held g t c =
+    let i = c.turns.invariant in
+    let e = c.in-Failed.ensures in
+    hold_on c.args.stream.now c.turns.stream c.run_block.new.stream c.args.level.now.first c.args.cells.now c.turns.cells c.run_block.new.cells c.args.copies.now c.turns.copies c.run_block.new.copies i.later e.later i.held e.held
+
+pub call-returns-clause-held : goal.call-returns-clause-held
+call-returns-clause-held g t c = λ b h k.
+    let d = carried c.args.stream.now c.run_block-left.new.stream c.widen.new.self b c.run_block-left.ensures.later c.widen.ensures.later h in
+    c.run_block-left.ensures.held b d.0 k
+
+pub call-place_count-requires : goal.call-place_count-requires
+call-place_count-requires g t c =
+    let C = c.args.level.now.env.parts.now in
+    let m = c.args.callee.routine in
+    let l : m < length C.routines = omega (arith, c.requires.callee.lower, c.requires.room.routine) in
+    omega (arith, ap (λ x. length x.buffers) c.routine_at-routine.ensures, (c.requires.room.runnable.code.routines m l).few)
+
+pub call-set_places-requires-clause-fits : goal.call-set_places-requires-clause-fits
+call-set_places-requires-clause-fits g t c =
+    let C = c.args.level.now.env.parts.now in
+    let w = widens C c.args.level.now.n c.args.callee.routine c.args.callee.map c.args.level.now.places.now c.args.level.now.first (length c.args.cells.now) (rooms_of c.args.copies.now) c.requires.room.in_cells c.requires.callee.cell_map c.routine_at-routine.result.now.cells c.routine_at.result.now.cells c.map_at.result.now (ap (λ x. x.cells) c.routine_at-routine.ensures) (ap (λ x. x.cells) c.routine_at.ensures) c.map_at.ensures in
+    let b = ap (λ x. length x.buffers) c.routine_at-routine.ensures in
+    omega (arith, b, w.size, c.place_count.ensures.is, c.split_at_mut-mine_places.ensures.front_len)
+
+pub call-set_places-requires-clause-count : goal.call-set_places-requires-clause-count
+call-set_places-requires-clause-count g t c =
+    let C = c.args.level.now.env.parts.now in
+    let w = widens C c.args.level.now.n c.args.callee.routine c.args.callee.map c.args.level.now.places.now c.args.level.now.first (length c.args.cells.now) (rooms_of c.args.copies.now) c.requires.room.in_cells c.requires.callee.cell_map c.routine_at-routine.result.now.cells c.routine_at.result.now.cells c.map_at.result.now (ap (λ x. x.cells) c.routine_at-routine.ensures) (ap (λ x. x.cells) c.routine_at.ensures) c.map_at.ensures in
+    omega (arith, w.size)
+
+pub call-set_places-requires-clause-within : goal.call-set_places-requires-clause-within
+call-set_places-requires-clause-within g t c =
+    let C = c.args.level.now.env.parts.now in
+    let w = widens C c.args.level.now.n c.args.callee.routine c.args.callee.map c.args.level.now.places.now c.args.level.now.first (length c.args.cells.now) (rooms_of c.args.copies.now) c.requires.room.in_cells c.requires.callee.cell_map c.routine_at-routine.result.now.cells c.routine_at.result.now.cells c.map_at.result.now (ap (λ x. x.cells) c.routine_at-routine.ensures) (ap (λ x. x.cells) c.routine_at.ensures) c.map_at.ensures in
+    w.below
+
+pub call-set_places-requires-clause-buffers : goal.call-set_places-requires-clause-buffers
+call-set_places-requires-clause-buffers g t c =
+    let C = c.args.level.now.env.parts.now in
+    let w = widens C c.args.level.now.n c.args.callee.routine c.args.callee.map c.args.level.now.places.now c.args.level.now.first (length c.args.cells.now) (rooms_of c.args.copies.now) c.requires.room.in_cells c.requires.callee.cell_map c.routine_at-routine.result.now.cells c.routine_at.result.now.cells c.map_at.result.now (ap (λ x. x.cells) c.routine_at-routine.ensures) (ap (λ x. x.cells) c.routine_at.ensures) c.map_at.ensures in
+    w.behind

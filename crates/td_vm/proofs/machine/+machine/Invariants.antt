@@ -5,10 +5,11 @@ use Rattle.td_ir.specs.Run.{turns, block}
 use Rattle.td_verify.specs.Shape.{shapes_of}
 use Rattle.td_verify.specs.Brackets.{opened, window_bytes}
 use Rattle.td_verify.specs.Verify.{IsIn}
-use Rattle.td_verify.specs.Safe.{before, looped}
+use Rattle.td_verify.specs.Safe.{looped}
 use Rattle.td_stream.specs.StreamInvariant.{IsStream, Later, position, end_of}
-use Rattle.td_step.specs.Stepping.{state_of, Ran, InWindow}
-use Rattle.td_vm.specs.Machine.{Idle, HasRoom, IsKept, scale}
+use Rattle.td_stream.specs.Copies.{rooms_of}
+use Rattle.td_step.specs.Stepping.{state_of, Ran, InWindow, Hold}
+use Rattle.td_vm.specs.Machine.{Idle, HasRoom, IsKept}
 use Rattle.td_vm.proofs.machine.+machine.Given as goal
 
 abbrev pub decreases-run_block : goal.decreases-run_block
@@ -22,7 +23,9 @@ decreases-run_turns g l = 2 * (first_of l.level.now.env.parts.now l.level.now.n 
 
 abbrev pub invariant-run_block-steps : goal.invariant-run_block-steps
 invariant-run_block-steps g l = record {
-  room : HasRoom l.level.env l.level.n l.level.places.now l.spare.places.now l.regs l.spare.registers.now l.cells l.trace;
+  room : HasRoom l.level.env l.level.n l.level.first l.level.places.now l.spare.places.now l.regs l.spare.registers.now l.cells (rooms_of l.copies) l.trace;
+  rooms : rooms_of l.copies ≡ rooms_of l.fn.copies;
+  held : Hold g.W.Words.loads l.fn.stream l.stream l.level.first l.fn.cells l.cells l.fn.copies l.copies;
   kept : IsKept l.fn.spare l.spare;
   place : IsIn l.level.env.parts.now l.level.n l.pc;
   on : l.stretch.first ≤ l.pc;
@@ -46,7 +49,9 @@ decreases-run_block-steps g l = l.stretch.to - l.pc
 
 abbrev pub invariant-run_turns-turns : goal.invariant-run_turns-turns
 invariant-run_turns-turns g l = record {
-  room : HasRoom l.level.env l.level.n l.level.places.now l.spare.places.now l.regs l.spare.registers.now l.cells l.trace;
+  room : HasRoom l.level.env l.level.n l.level.first l.level.places.now l.spare.places.now l.regs l.spare.registers.now l.cells (rooms_of l.copies) l.trace;
+  rooms : rooms_of l.copies ≡ rooms_of l.fn.copies;
+  held : Hold g.W.Words.loads l.fn.stream l.stream l.level.first l.fn.cells l.cells l.fn.copies l.copies;
   kept : IsKept l.fn.spare l.spare;
   later : Later g.W.Words.loads g.W.Words.reaches l.fn.stream l.stream;
   whole : IsStream g.W.Words.loads g.W.Words.size l.stream;
