@@ -1,4 +1,5 @@
--- What is read can be written: code of version 1, turned, is within the limits of the version that is written.
+-- What is read can be written: code of version 2, and that of version 1, turned, is within the limits of the version that is
+-- written.
 use Rattle.std.proofs.Common.{◌≡◌, ℕ, zero, suc, ◌-◌, ◌^◌, ◌≤◌, ◌<◌, Bool, true, false, ◌&&◌, ◌||◌, not, List, [], ◌∷◌, length, map, take, drop, refl, sym, subst, ◌∙◌, arith}
 use Rattle.std.specs.Prelude.{nat_le, nat_lt, ◌==◌, cond}
 use Rattle.std.proofs.lemmas.Bool.{leb-true, le-leb}
@@ -6,6 +7,8 @@ use Rattle.td_num.specs.Lists.{Each}
 use Rattle.td_ir.specs.declared.instructions.Instr.{Instr}
 use Rattle.td_ir.specs.declared.instructions.Instr.TheVariants as i
 use Rattle.td_ir.specs.declared.tables.Parts.{Parts}
+use Rattle.td_ir.specs.declared.tables.Site.{Site}
+use Rattle.td_ir.specs.declared.tables.Routine.{Routine}
 use Rattle.td_ir.specs.Tables.{site_of, first_of, end_of}
 use Rattle.td_turning.specs.Turning.{used_by, renumbered, routine_code, number_in, own_code, code_below, sites_below, turned}
 use Rattle.td_turning.specs.Laws.{IsDivided}
@@ -15,10 +18,12 @@ use Rattle.td_ir.proofs.Begins.{begin_next}
 use Rattle.td_ir.specs.WellFormed.{IsCode}
 use Rattle.std.proofs.lemmas.List.{length-take}
 use Rattle.td_turning.proofs.Places.{place_within}
-use Rattle.td_image.specs.declared.limits.TheConstants.{MOST_ROWS, FIRST_ROWS, MOST_INSTRUCTIONS, FIRST_INSTRUCTIONS, MOST_NUMBERS, FIRST_NUMBERS}
+use Rattle.td_image.specs.declared.limits.TheConstants.{MOST_ROWS, FIRST_ROWS, MOST_INSTRUCTIONS, FIRST_INSTRUCTIONS, MOST_NUMBERS, FIRST_NUMBERS, MOST_MAPPED}
 use Rattle.td_image.specs.declared.version.ImageVersion.{ImageVersion}
-use Rattle.td_image.specs.declared.version.ImageVersion.TheVariants.{First, Second}
+use Rattle.td_image.specs.declared.version.ImageVersion.TheVariants.{First, Second, Third}
+use Rattle.td_image.specs.Versions.{most_mapped}
 use Rattle.td_image.specs.declared.version.Spelled.{Spelled}
+use Rattle.td_image.specs.declared.routines.Room.{Room}
 use Rattle.td_image.specs.Format.{Format, all_fit}
 use Rattle.td_names.specs.Names.{is_seen, with_name}
 use Rattle.td_image.specs.Names.{is_name, are_two_names}
@@ -33,9 +38,9 @@ use Rattle.td_num.proofs.Lists.{each_append}
 use Rattle.td_num.proofs.Truths.{both_true as both}
 
 -- operands of what fits are small
-small_of : (j : Instr) → format.instruction.Fits j → HasSmallOperands (fields_of j)
+small_of : (v : ImageVersion) (j : Instr) → (format.instruction v).Fits j → HasSmallOperands (fields_of j)
 unfolding format.fields
-small_of j (number, (x, (a, (b, (c, (t, (s, k))))))) = record { x = x.0; a = a.0; b = b.0; c = c.0; t = t.0; site = s.0; k = k.0 }
+small_of v j (number, (x, (a, (b, (c, (t, (s, k))))))) = record { x = x.0; a = a.0; b = b.0; c = c.0; t = t.0; site = s.0; k = k.0 }
 
 and_both : (a b : Bool) → a ≡ true → b ≡ true → (a && b) ≡ true
 and_both true b e f = f
@@ -92,9 +97,10 @@ module _ (g : ℕ → ℕ) (G : (k : ℕ) → g k < 2 ^ 32) where
   renumbered_small (i.Get into cell) h = h
   renumbered_small (i.Set source cell) h = h
   renumbered_small i.Mark h = h
+  renumbered_small (i.Copy size buffer site) h = record { x = h.x; a = h.a; b = h.b; c = h.c; t = h.t; site = G site; k = h.k }
 
-  renumbered_fits : (j : Instr) → format.instruction.Fits j → format.instruction.Fits (renumbered g j)
-  renumbered_fits j h = instruction_fits (renumbered g j) (renumbered_small j (small_of j h))
+  renumbered_fits : (v : ImageVersion) (j : Instr) → (format.instruction v).Fits j → (format.instruction Third).Fits (renumbered g j)
+  renumbered_fits v j h = instruction_fits (renumbered g j) (renumbered_small j (small_of v j h))
 
 module _ (p : Parts) (D : IsDivided p) where
   number_by : (b : Bool) (x : ℕ) → x < 2 ^ 32 → cond b x NO_SITE < 2 ^ 32
@@ -111,12 +117,12 @@ module _ (p : Parts) (D : IsDivided p) where
       let at = place_within k (used_by p n) in
       number_by (nat_lt k (length p.sites)) _ (omega (arith, u, c, b, s, w, at, D.few))
 
-  code_fits : (r : ℕ) → r ≤ length p.routines → Each format.instruction.Fits p.instructions → Each format.instruction.Fits (code_below p r)
+  code_fits : (r : ℕ) → r ≤ length p.routines → Each (format.instruction First).Fits p.instructions → Each (format.instruction Third).Fits (code_below p r)
   code_fits zero le h = tt
   code_fits (suc r) le h =
-      each_append format.instruction.Fits (code_below p r) (own_code p r) (code_fits r (omega (arith, le)) h)
-      (each_map_to format.instruction.Fits format.instruction.Fits (renumbered (number_in p r)) (renumbered_fits (number_in p r) (number_small r (omega (arith, le)))) (routine_code p r)
-      (each_take format.instruction.Fits (end_of p r - first_of p r) (drop (first_of p r) p.instructions) (each_drop format.instruction.Fits (first_of p r) p.instructions h)))
+      each_append (format.instruction Third).Fits (code_below p r) (own_code p r) (code_fits r (omega (arith, le)) h)
+      (each_map_to (format.instruction First).Fits (format.instruction Third).Fits (renumbered (number_in p r)) (renumbered_fits (number_in p r) (number_small r (omega (arith, le))) First) (routine_code p r)
+      (each_take (format.instruction First).Fits (end_of p r - first_of p r) (drop (first_of p r) p.instructions) (each_drop (format.instruction First).Fits (first_of p r) p.instructions h)))
 
 -- ---- larger limits
 
@@ -130,7 +136,51 @@ sets_more left more (xs ∷ xss) le h =
     let l = leb-true (length xs) left h.0.0.1 in
     (((h.0.0.0, le-leb (length xs) more (omega (arith, l, le))), h.0.1), sets_more (left - length xs) (more - length xs) xss (omega (arith, le)) h.1)
 
--- a name of version 1 is one of version 2
+-- ---- what fits in a version fits in the version that is written
+
+all_more : {S A : Type 0} (f g : S → Format A) (next : S → A → S) → ((s : S) (x : A) → (f s).Fits x → (g s).Fits x) → (s : S) (xs : List A) → all_fit f next s xs → all_fit g next s xs
+unfolding all_fit
+all_more f g next more s [] h = tt
+all_more f g next more s (x ∷ xs) h = (more s x h.0, all_more f g next more (next s x) xs h.1)
+
+times_more : {A : Type 0} (f g : Format A) → ((x : A) → f.Fits x → g.Fits x) → (xs : List A) → all_fit (λ (s : Unit {0}). f) (λ s x. s) tt xs → all_fit (λ (s : Unit {0}). g) (λ s x. s) tt xs
+times_more f g more xs h = all_more (λ (s : Unit {0}). f) (λ (s : Unit {0}). g) (λ s x. s) (λ s. more) tt xs h
+
+few_mapped : (v : ImageVersion) (n : ℕ) → n ≤ most_mapped v → n ≤ MOST_MAPPED
+few_mapped First n le = omega (arith, le)
+few_mapped Second n le = omega (arith, le)
+few_mapped Third n le = le
+
+map_more : (v : ImageVersion) (mapped : List ℕ) → (format.map_format v).Fits mapped → (format.map_format Third).Fits mapped
+unfolding format.map_format
+map_more v mapped h = ((h.0.0, le-leb (length mapped) MOST_MAPPED (few_mapped v (length mapped) (leb-true (length mapped) (most_mapped v) h.0.1))), h.1)
+
+no_buffers : (rooms : List ℕ) → rooms ≡ [] → (format.buffers Third).Fits rooms
+unfolding format.rooms all_fit
+no_buffers [] e = ((omega arith, refl), (refl, tt))
+no_buffers (x ∷ xs) e = absurd (cc e)
+
+buffers_more : (v : ImageVersion) (rooms : List ℕ) → (format.buffers v).Fits rooms → (format.buffers Third).Fits rooms
+buffers_more First rooms h = no_buffers rooms h
+buffers_more Second rooms h = no_buffers rooms h
+buffers_more Third rooms h = h
+
+routine_more : (v : ImageVersion) (names : ℕ) (room : Room) (r : Routine) → (format.routine v names room).Fits r → (format.routine Third names room).Fits r
+unfolding format.routine
+routine_more v names room r (name, (params, (cells, (registers, (l, buffers))))) = (name, (params, (cells, (registers, (l, buffers_more v r.buffers buffers)))))
+
+instruction_more : (v : ImageVersion) (j : Instr) → (format.instruction v).Fits j → (format.instruction Third).Fits j
+instruction_more v j h = instruction_fits j (small_of v j h)
+
+name_more : (seen : List (List ℕ)) (name : List ℕ) → (format.name Second seen).Fits name → (format.name Third seen).Fits name
+unfolding format.name
+name_more seen name h = h
+
+site_more : (names routines : ℕ) (s : Site) → (format.site Second names routines).Fits s → (format.site Third names routines).Fits s
+unfolding format.site
+site_more names routines s h = h
+
+-- a name of version 1 is one of each version
 name_again : (name : List ℕ) (rest more : Bool) → ((is_name name || false) && rest) ≡ true → ((is_name name || more) && rest) ≡ true
 name_again name rest more h = by (is_name name) rest h
   where
@@ -138,12 +188,12 @@ name_again name rest more h = by (is_name name) rest h
     by true r e = e
     by false r e = absurd cc
 
-names_again : (seen xs : List (List ℕ)) → all_fit (format.name First) with_name seen xs → all_fit (format.name Second) with_name seen xs
+names_again : (seen xs : List (List ℕ)) → all_fit (format.name First) with_name seen xs → all_fit (format.name Third) with_name seen xs
 unfolding all_fit format.name
 names_again seen [] h = tt
 names_again seen (x ∷ xs) h = ((h.0.0, (h.0.1.0, name_again x (not (is_seen seen x)) (are_two_names x) h.0.1.1)), names_again (with_name seen x) xs h.1)
 
-turned_with : (p : Parts) → IsDivided p → IsCode (turned p) → FitsAs First p → FitsAs Second (turned p)
+turned_with : (p : Parts) → IsDivided p → IsCode (turned p) → FitsAs First p → FitsAs Third (turned p)
 unfolding format.image format.header
 turned_with p D C ((m, (o, (z, (n, (s, (a, (t, (r, (e, i))))))))), (names, (sites, (maps, (sets, (routines, (entries, instructions))))))) =
     let ns = length p.names in
@@ -157,15 +207,42 @@ turned_with p D C ((m, (o, (z, (n, (s, (a, (t, (r, (e, i))))))))), (names, (site
     let row : length (sites_below p rs) ≤ MOST_ROWS = omega (arith, sites_few, D.whole, few) in
     let ns_few = leb-true ns FIRST_ROWS n.1 in
     let rs_few = leb-true rs FIRST_ROWS r.1 in
-    let new = each_at (format.site Second ns rs).Fits (sites_below p rs) _ (λ k lt. site_fits ns rs (site_of (turned p) k) (omega (arith, ns_few)) (omega (arith, rs_few)) (C.sites k lt)) in
-    let left = subst (λ (l : ℕ). all_fit (format.routine ns) format.after_routine (record { left = l; more = rs }) p.routines) (sym same) routines.1 in (
+    let new = each_at (format.site Third ns rs).Fits (sites_below p rs) _ (λ k lt. site_fits ns rs (site_of (turned p) k) (omega (arith, ns_few)) (omega (arith, rs_few)) (C.sites k lt)) in
+    let own = all_more (format.routine First ns) (format.routine Third ns) format.after_routine (routine_more First ns) (record { left = length p.instructions; more = rs }) p.routines routines.1 in
+    let mapped = times_more (format.map_format First) (format.map_format Third) (map_more First) p.maps maps.1 in
+    let left = subst (λ (l : ℕ). all_fit (format.routine Third ns) format.after_routine (record { left = l; more = rs }) p.routines) (sym same) own in (
       (m, ((omega arith, refl), (z, (rows_more _ n, (most_fits (length (sites_below p rs)) MOST_ROWS row (omega arith), (rows_more _ a, (rows_more _ t, (rows_more _ r, (rows_more _ e, count))))))))),
-      ((names.0, names_again [] p.names names.1), ((refl, each_fits (format.site Second ns rs) (sites_below p rs) new), (maps, ((sets.0, sets_more FIRST_NUMBERS MOST_NUMBERS p.sets (omega arith) sets.1), ((routines.0, left), (entries, (refl, each_fits format.instruction (code_below p rs) (code_fits p D rs (omega arith) (fits_each format.instruction p.instructions instructions.1))))))))),
+      ((names.0, names_again [] p.names names.1), ((refl, each_fits (format.site Third ns rs) (sites_below p rs) new), ((maps.0, mapped), ((sets.0, sets_more FIRST_NUMBERS MOST_NUMBERS p.sets (omega arith) sets.1), ((routines.0, left), (entries, (refl, each_fits (format.instruction Third) (code_below p rs) (code_fits p D rs (omega arith) (fits_each (format.instruction First) p.instructions instructions.1))))))))),
     )
 
-fits_again : (v : ImageVersion) (p : Parts) → FitsAs v p → FitsAs Second (code_in v p)
+second_again : (p : Parts) → FitsAs Second p → FitsAs Third p
+unfolding format.image format.header
+second_again p ((m, (o, (z, counts))), (names, (sites, (maps, (sets, (routines, (entries, instructions))))))) =
+    let ns = length p.names in
+    let rs = length p.routines in (
+      (m, ((omega arith, refl), (z, counts))),
+      (
+        (names.0, all_more (format.name Second) (format.name Third) with_name name_more [] p.names names.1),
+        (
+          (sites.0, times_more (format.site Second ns rs) (format.site Third ns rs) (site_more ns rs) p.sites sites.1),
+          (
+            (maps.0, times_more (format.map_format Second) (format.map_format Third) (map_more Second) p.maps maps.1),
+            (
+              sets,
+              (
+                (routines.0, all_more (format.routine Second ns) (format.routine Third ns) format.after_routine (routine_more Second ns) (record { left = length p.instructions; more = rs }) p.routines routines.1),
+                (entries, (instructions.0, times_more (format.instruction Second) (format.instruction Third) (instruction_more Second) p.instructions instructions.1)),
+              ),
+            ),
+          ),
+        ),
+      ),
+    )
+
+fits_again : (v : ImageVersion) (p : Parts) → FitsAs v p → FitsAs Third (code_in v p)
 fits_again First p fits = turned_with p (is_divided p fits) (fit_in First p fits) fits
-fits_again Second p fits = fits
+fits_again Second p fits = second_again p fits
+fits_again Third p fits = fits
 
 -- what is read can be written
 pub written_again : (s : Spelled) → format.image.Fits s → format.image.Fits (written (code_of s))

@@ -1,5 +1,5 @@
 -- Parts that have an image fit together.
-use Rattle.std.proofs.Common.{◌≡◌, ℕ, zero, suc, ◌+◌, ◌-◌, ◌≤◌, ◌<◌, inl, inr, Bool, true, false, ◌&&◌, ◌||◌, not, List, [], ◌∷◌, length, map, Option, Some, None, refl, sym, ap, subst, ◌∙◌, arith, slice_index_or}
+use Rattle.std.proofs.Common.{◌≡◌, ℕ, zero, suc, ◌+◌, ◌-◌, ◌^◌, ◌≤◌, ◌<◌, inl, inr, Bool, true, false, ◌&&◌, ◌||◌, not, List, [], ◌∷◌, length, map, Option, Some, None, refl, sym, ap, subst, ◌∙◌, arith, slice_index_or}
 use Rattle.std.specs.Prelude.{nat_le, nat_lt, ◌==◌}
 use Rattle.std.proofs.lemmas.Bool.{eqb-true, leb-true, ltb-true}
 use Rattle.td_core.specs.declared.module.NameId.{NameId}
@@ -9,15 +9,15 @@ use Rattle.td_ir.specs.declared.tables.Parts.{Parts}
 use Rattle.td_ir.specs.declared.tables.Site.{Site}
 use Rattle.td_ir.specs.declared.tables.Routine.{Routine}
 use Rattle.td_ir.specs.declared.tables.EntryPoint.{EntryPoint}
-use Rattle.td_ir.specs.Tables.{routine_of, site_of, entry_of, set_of, param_of, cell_of, begin}
+use Rattle.td_ir.specs.Tables.{routine_of, site_of, entry_of, set_of, param_of, cell_of, buffer_of, begin}
 use Rattle.td_ir.specs.WellFormed.{IsName, IsField, IsRoutine, IsCellNamed, IsEntry, Rises, IsCode}
 use Rattle.td_ir.specs.Tables.{lengths_of}
 use Rattle.td_image.specs.declared.routines.Room.{Room}
 use Rattle.td_image.specs.declared.limits.TheConstants.{NO_FIELD}
 use Rattle.td_image.specs.declared.version.ImageVersion.{ImageVersion}
-use Rattle.td_image.specs.declared.version.ImageVersion.TheVariants.{First, Second}
+use Rattle.td_image.specs.declared.version.ImageVersion.TheVariants.{First, Second, Third}
 use Rattle.td_image.specs.declared.version.Spelled.{Spelled}
-use Rattle.td_image.specs.Versions.{most_numbers, most_instructions}
+use Rattle.td_image.specs.Versions.{most_numbers, most_instructions, has_owners}
 use Rattle.td_image.specs.Answer.{code_in, code_of}
 use Rattle.td_turning.specs.Laws.{IsDivided, IsOldCode}
 use Rattle.td_turning.proofs.Codes.{turned_is_code}
@@ -43,13 +43,18 @@ site_fits : (v : ImageVersion) (names routines : ℕ) (s : Site) → (format.sit
 unfolding format.site
 site_fits v names routines s (ty, (field, routine)) = (ltb-true _ _ ty.1, ltb-true _ _ field.1)
 
-owner_fits : (names routines : ℕ) (s : Site) → (format.site Second names routines).Fits s → s.routine < routines
+owner_fits : (v : ImageVersion) (names routines : ℕ) (s : Site) → has_owners v ≡ true → (format.site v names routines).Fits s → s.routine < routines
 unfolding format.site
-owner_fits names routines s (ty, (field, routine)) = ltb-true _ _ routine.1
+owner_fits First names routines s own fits = absurd (cc own)
+owner_fits Second names routines s own (ty, (field, routine)) = ltb-true _ _ routine.1
+owner_fits Third names routines s own (ty, (field, routine)) = ltb-true _ _ routine.1
 
 param_fits : (names : ℕ) (p : Param) → (format.param names).Fits p → IsName names p.name
 unfolding format.param
 param_fits names p (name, width) = ltb-true _ _ name.1
+
+name_fits : (names : ℕ) (name : NameId) → (format.name_place names).Fits name → IsName names name
+name_fits names name fits = ltb-true _ _ fits.1
 
 no_name : (name : NameId) → format.field_of NO_FIELD ≡ Some name → ⊥
 no_name name e = absurd cc
@@ -73,16 +78,23 @@ has_length room n e =
     let q = both (nat_le 1 n) (nat_le n room.left) p.0 in
     (leb-true _ _ q.0, leb-true _ _ q.1, λ one. eqb-true _ _ (not_or (room.more == 1) (n == room.left) (subst (λ (m : ℕ). (m == 1) ≡ true) (sym one) refl) p.1))
 
-length_fits : (names : ℕ) (room : Room) (r : Routine) → (format.routine names room).Fits r → format.is_length room r.length ≡ true
-unfolding format.routine
-length_fits names room r (name, (params, (cells, (registers, l)))) = l.1
+few_buffers : (v : ImageVersion) (rooms : List ℕ) → (format.buffers v).Fits rooms → length rooms < 2 ^ 16
+unfolding format.rooms
+few_buffers First rooms fits = let none : length rooms ≡ 0 = ap length fits in omega (arith, none)
+few_buffers Second rooms fits = let none : length rooms ≡ 0 = ap length fits in omega (arith, none)
+few_buffers Third rooms (count, fits) = let few = leb-true _ _ count.1 in omega (arith, few)
 
-routine_fits : (names : ℕ) (room : Room) (r : Routine) → (format.routine names room).Fits r → IsRoutine names r
+length_fits : (v : ImageVersion) (names : ℕ) (room : Room) (r : Routine) → (format.routine v names room).Fits r → format.is_length room r.length ≡ true
 unfolding format.routine
-routine_fits names room r (name, (params, (cells, (registers, l)))) = record {
+length_fits v names room r (name, (params, (cells, (registers, (l, buffers))))) = l.1
+
+routine_fits : (v : ImageVersion) (names : ℕ) (room : Room) (r : Routine) → (format.routine v names room).Fits r → IsRoutine names r
+unfolding format.routine
+routine_fits v names room r (name, (params, (cells, (registers, (l, buffers))))) = record {
   named = ltb-true _ _ name.1;
   some = (has_length room r.length l.1).0;
   room = leb-true _ _ (both _ _ registers.1).0;
+  few = few_buffers v r.buffers buffers;
 }
 
 -- the sum of the routines' lengths
@@ -90,20 +102,20 @@ abbrev pub sum_of : List Routine → ℕ
 sum_of [] = 0
 sum_of (r ∷ rs) = r.length + sum_of rs
 
-sums : (names : ℕ) (room : Room) (r : Routine) (rs : List Routine) → room.more ≡ suc (length rs) → all_fit (format.routine names) format.after_routine room (r ∷ rs) → sum_of (r ∷ rs) ≡ room.left
+sums : (v : ImageVersion) (names : ℕ) (room : Room) (r : Routine) (rs : List Routine) → room.more ≡ suc (length rs) → all_fit (format.routine v names) format.after_routine room (r ∷ rs) → sum_of (r ∷ rs) ≡ room.left
 unfolding all_fit
-sums names room r [] more fits =
-    let l = has_length room r.length (length_fits names room r fits.0) in
+sums v names room r [] more fits =
+    let l = has_length room r.length (length_fits v names room r fits.0) in
     let e = l.2 more in
     omega (arith, e)
-sums names room r (x ∷ rs) more fits =
-    let l = has_length room r.length (length_fits names room r fits.0) in
-    let e = sums names (format.after_routine room r) x rs (omega (arith, more)) fits.1 in
+sums v names room r (x ∷ rs) more fits =
+    let l = has_length room r.length (length_fits v names room r fits.0) in
+    let e = sums v names (format.after_routine room r) x rs (omega (arith, more)) fits.1 in
     omega (arith, e, l.1)
 
-divided : (names : ℕ) (rs : List Routine) (n : ℕ) → all_fit (format.routine names) format.after_routine (record { left = n; more = length rs }) rs → (nat_lt 0 (length rs) || (n == 0)) ≡ true → sum_of rs ≡ n
-divided names [] n fits e = sym (eqb-true _ _ e)
-divided names (r ∷ rs) n fits e = sums names (record { left = n; more = length (r ∷ rs) }) r rs refl fits
+divided : (v : ImageVersion) (names : ℕ) (rs : List Routine) (n : ℕ) → all_fit (format.routine v names) format.after_routine (record { left = n; more = length rs }) rs → (nat_lt 0 (length rs) || (n == 0)) ≡ true → sum_of rs ≡ n
+divided v names [] n fits e = sym (eqb-true _ _ e)
+divided v names (r ∷ rs) n fits e = sums v names (record { left = n; more = length (r ∷ rs) }) r rs refl fits
 
 begin_cons : (l : ℕ) (ls : List ℕ) (n : ℕ) → begin (l ∷ ls) (suc n) ≡ l + begin ls n
 begin_cons l ls zero = omega arith
@@ -117,12 +129,14 @@ begin_whole (r ∷ rs) = begin_cons r.length (map (λ x. x.length) rs) (length r
 
 entry_fits : (c : Parts) (e : EntryPoint) → (format.entry (length c.names) c.routines).Fits e → IsEntry c e
 unfolding format.entry
-entry_fits c e (routine, (params, cells)) = record {
+entry_fits c e (routine, (params, (cells, buffers))) = record {
   there = ltb-true _ _ routine.1;
   param_count = params.0;
   cell_count = cells.0;
+  buffer_count = buffers.0;
   params_named = λ k lt. let f = fit_at (λ (s : Unit {0}). format.param (length c.names)) (λ s x. s) tt e.params _ k params.1 lt in param_fits (length c.names) (param_of e.params k) f.1;
   cells_named = λ k lt. let f = fit_at (λ (s : Unit {0}). format.cell (length c.names)) (λ s x. s) tt e.cells _ k cells.1 lt in cell_fits (length c.names) (cell_of e.cells k) f.1;
+  buffers_named = λ k lt. let f = fit_at (λ (s : Unit {0}). format.name_place (length c.names)) (λ s x. s) tt e.buffers _ k buffers.1 lt in name_fits (length c.names) (buffer_of e.buffers k) f.1;
 }
 
 -- ---- sets
@@ -150,23 +164,23 @@ old_code v p ((m, (o, (z, (n, (s, (a, (t, (r, (e, i))))))))), (names, (sites, (m
     let rs = length p.routines in
     record {
       sites = λ k lt. let f = fit_at (λ (s : Unit {0}). format.site v ns rs) (λ s x. s) tt p.sites _ k sites.1 lt in site_fits v ns rs (site_of p k) f.1;
-      routines = λ k lt. let f = fit_at (format.routine ns) format.after_routine _ p.routines _ k routines.1 lt in routine_fits ns f.0 (routine_of p k) f.1;
+      routines = λ k lt. let f = fit_at (format.routine v ns) format.after_routine _ p.routines _ k routines.1 lt in routine_fits v ns f.0 (routine_of p k) f.1;
       entries = λ k lt. let f = fit_at (λ (s : Unit {0}). format.entry ns p.routines) (λ s x. s) tt p.entries _ k entries.1 lt in entry_fits p (entry_of p k) f.1;
       sets = λ k lt. let f = fit_at format.set (λ left x. left - length x) (most_numbers v) p.sets _ k sets.1 lt in set_fits f.0 (set_of p k) f.1;
     }
 
-owned : (p : Parts) → FitsAs Second p → (k : ℕ) → k < length p.sites → (site_of p k).routine < length p.routines
+owned : (v : ImageVersion) (p : Parts) → has_owners v ≡ true → FitsAs v p → (k : ℕ) → k < length p.sites → (site_of p k).routine < length p.routines
 unfolding format.image format.header
-owned p ((m, (o, (z, (n, (s, (a, (t, (r, (e, i))))))))), (names, (sites, (maps, (sets, (routines, (entries, instructions))))))) k lt =
+owned v p own ((m, (o, (z, (n, (s, (a, (t, (r, (e, i))))))))), (names, (sites, (maps, (sets, (routines, (entries, instructions))))))) k lt =
     let ns = length p.names in
     let rs = length p.routines in
-    let f = fit_at (λ (s : Unit {0}). format.site Second ns rs) (λ s x. s) tt p.sites _ k sites.1 lt in owner_fits ns rs (site_of p k) f.1
+    let f = fit_at (λ (s : Unit {0}). format.site v ns rs) (λ s x. s) tt p.sites _ k sites.1 lt in owner_fits v ns rs (site_of p k) own f.1
 
 counted : (v : ImageVersion) (p : Parts) → FitsAs v p → (length p.instructions ≤ most_instructions v) × (begin (lengths_of p) (length p.routines) ≡ length p.instructions)
 unfolding format.image format.header
 counted v p ((m, (o, (z, (n, (s, (a, (t, (r, (e, i))))))))), (names, (sites, (maps, (sets, (routines, (entries, instructions))))))) =
     let b = both (nat_le (length p.instructions) (most_instructions v)) (nat_lt 0 (length p.routines) || (length p.instructions == 0)) i.1 in
-    (leb-true _ _ b.0, begin_whole p.routines ∙ divided (length p.names) p.routines (length p.instructions) routines.1 b.1)
+    (leb-true _ _ b.0, begin_whole p.routines ∙ divided v (length p.names) p.routines (length p.instructions) routines.1 b.1)
 
 pub is_divided : (p : Parts) → FitsAs First p → IsDivided p
 is_divided p fits = let c = counted First p fits in record { whole = c.1; few = omega (arith, c.0) }
@@ -175,17 +189,21 @@ pub few_routines : (p : Parts) → FitsAs First p → length p.routines ≤ 4294
 unfolding format.image format.header
 few_routines p ((m, (o, (z, (n, (s, (a, (t, (r, (e, i))))))))), rest) = let f = leb-true _ _ r.1 in omega (arith, f)
 
-pub fit_in : (v : ImageVersion) (p : Parts) → FitsAs v p → IsCode (code_in v p)
-fit_in First p fits = turned_is_code p (is_divided p fits) (old_code First p fits)
-fit_in Second p fits =
-    let o = old_code Second p fits in
+with_owners : (v : ImageVersion) (p : Parts) → has_owners v ≡ true → FitsAs v p → IsCode p
+with_owners v p own fits =
+    let o = old_code v p fits in
     record {
-      sites = λ k lt. let s = o.sites k lt in record { ty_named = s.0; field_named = s.1; of_routine = owned p fits k lt };
+      sites = λ k lt. let s = o.sites k lt in record { ty_named = s.0; field_named = s.1; of_routine = owned v p own fits k lt };
       routines = o.routines;
-      whole = (counted Second p fits).1;
+      whole = (counted v p fits).1;
       entries = o.entries;
       sets = o.sets;
     }
+
+pub fit_in : (v : ImageVersion) (p : Parts) → FitsAs v p → IsCode (code_in v p)
+fit_in First p fits = turned_is_code p (is_divided p fits) (old_code First p fits)
+fit_in Second p fits = with_owners Second p refl fits
+fit_in Third p fits = with_owners Third p refl fits
 
 pub tables_fit : (s : Spelled) → format.image.Fits s → IsCode (code_of s)
 tables_fit s fits = fit_in s.version s.parts fits

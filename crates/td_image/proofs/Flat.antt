@@ -6,11 +6,12 @@ use Rattle.std.proofs.lemmas.List.Concat.{flat_map-cons}
 use Rattle.td_ir.specs.declared.tables.Parts.{Parts}
 use Rattle.td_image.specs.declared.limits.TheConstants.{MAGIC, VERSION, MOST_NUMBERS}
 use Rattle.td_names.specs.Names.{with_name}
-use Rattle.td_image.specs.declared.version.ImageVersion.TheVariants.{Second}
+use Rattle.td_image.specs.declared.version.ImageVersion.TheVariants.{Third}
 use Rattle.td_image.specs.Answer.{written}
 use Rattle.td_image.specs.declared.operands.Fields.{Fields}
 use Rattle.td_ir.specs.declared.tables.Site.{Site}
 use Rattle.td_ir.specs.declared.tables.Routine.{Routine}
+use Rattle.td_core.specs.declared.module.NameId.{NameId}
 use Rattle.td_core.specs.declared.module.Param.{Param}
 use Rattle.td_core.specs.declared.module.Cell.{Cell}
 use Rattle.td_ir.specs.declared.tables.EntryPoint.{EntryPoint}
@@ -30,11 +31,11 @@ flat f next g same s (x ∷ xs) = rw (flat_map-cons, same s x, flat f next g sam
 pub flat_times : {A : Type 0} (n : ℕ) (f : Format A) (xs : List A) → (times n f).bytes xs ≡ flat_map f.bytes xs
 flat_times n f xs = flat (λ (s : Unit {0}). f) (λ s x. s) f.bytes (λ s x. refl) tt xs
 
-pub site_same : (n r : ℕ) (x : Site) → (format.site Second n r).bytes x ≡ rows.site x
+pub site_same : (n r : ℕ) (x : Site) → (format.site Third n r).bytes x ≡ rows.site x
 unfolding format.site
 site_same n r x = refl
 
-pub name_same : (s : List (List ℕ)) (x : List ℕ) → (format.name Second s).bytes x ≡ rows.name x
+pub name_same : (s : List (List ℕ)) (x : List ℕ) → (format.name Third s).bytes x ≡ rows.name x
 unfolding format.name
 name_same s x = refl
 
@@ -42,9 +43,17 @@ pub set_same : (s : ℕ) (x : List ℕ) → (format.set s).bytes x ≡ rows.set 
 unfolding format.set
 set_same s x = refl
 
-pub routine_same : (n : ℕ) (s : Room) (x : Routine) → (format.routine n s).bytes x ≡ rows.routine x
+pub routine_same : (n : ℕ) (s : Room) (x : Routine) → (format.routine Third n s).bytes x ≡ rows.routine x
 unfolding format.routine
 routine_same n s x = refl
+
+pub rooms_flat : (xs : List ℕ) → rows.rooms xs ≡ to_le_bytes w32 (length xs) ++ flat_map rows.number xs
+unfolding format.rooms
+rooms_flat xs = ap (λ (l : List ℕ). to_le_bytes w32 (length xs) ++ l) (flat_times (length xs) format.buffer_room xs)
+
+pub routine_flat : (r : Routine) → rows.routine r ≡ to_le_bytes w32 r.name.number ++ (to_le_bytes w32 r.params ++ (to_le_bytes w32 r.cells ++ (to_le_bytes w32 r.registers ++ (to_le_bytes w32 r.length ++ rows.rooms r.buffers))))
+unfolding format.routine
+routine_flat r = refl
 
 pub param_same : (n : ℕ) (x : Param) → (format.param n).bytes x ≡ rows.param x
 unfolding format.param
@@ -60,6 +69,9 @@ params_same n k xs = flat (λ (s : Unit {0}). format.param n) (λ s x. s) rows.p
 cells_same : (n k : ℕ) (xs : List Cell) → (times k (format.cell n)).bytes xs ≡ flat_map rows.cell xs
 cells_same n k xs = flat (λ (s : Unit {0}). format.cell n) (λ s x. s) rows.cell (λ s x. cell_same n x) tt xs
 
+places_same : (n k : ℕ) (xs : List NameId) → (times k (format.name_place n)).bytes xs ≡ flat_map rows.name_place xs
+places_same n k xs = flat (λ (s : Unit {0}). format.name_place n) (λ s x. s) rows.name_place (λ s x. refl) tt xs
+
 pub entry_same : (n : ℕ) (rs : List Routine) (x : EntryPoint) → (format.entry n rs).bytes x ≡ rows.entry x
 unfolding format.entry
 entry_same n rs x =
@@ -67,8 +79,10 @@ entry_same n rs x =
     rw (
       params_same n ((format.routine_of rs r).params) x.params,
       cells_same n ((format.routine_of rs r).cells) x.cells,
+      places_same n (length (format.routine_of rs r).buffers) x.buffers,
       params_same 0 ((format.routine_of [] r).params) x.params,
       cells_same 0 ((format.routine_of [] r).cells) x.cells,
+      places_same 0 (length (format.routine_of [] r).buffers) x.buffers,
     ) refl
 
 pub map_flat : (xs : List ℕ) → rows.map xs ≡ to_le_bytes w32 (length xs) ++ flat_map rows.number xs
@@ -79,30 +93,30 @@ pub set_flat : (xs : List ℕ) → rows.set xs ≡ to_le_bytes w32 (length xs) +
 unfolding format.set
 set_flat xs = ap (λ (l : List ℕ). to_le_bytes w32 (length xs) ++ l) (flat format.element (λ last x. Some x) rows.element (λ s x. refl) None xs)
 
-pub entry_flat : (x : EntryPoint) → rows.entry x ≡ to_le_bytes w32 x.routine ++ (flat_map rows.param x.params ++ flat_map rows.cell x.cells)
+pub entry_flat : (x : EntryPoint) → rows.entry x ≡ to_le_bytes w32 x.routine ++ (flat_map rows.param x.params ++ (flat_map rows.cell x.cells ++ flat_map rows.name_place x.buffers))
 unfolding format.entry
 entry_flat x =
     let r = x.routine in
-    rw (params_same 0 ((format.routine_of [] r).params) x.params, cells_same 0 ((format.routine_of [] r).cells) x.cells) refl
+    rw (params_same 0 ((format.routine_of [] r).params) x.params, cells_same 0 ((format.routine_of [] r).cells) x.cells, places_same 0 (length (format.routine_of [] r).buffers) x.buffers) refl
 
-pub fields_flat : (f : Fields) → format.fields.bytes f ≡ to_le_bytes w8 f.number ++ (to_le_bytes w8 f.x ++ (to_le_bytes w16 f.a ++ (to_le_bytes w16 f.b ++ (to_le_bytes w16 f.c
+pub fields_flat : (f : Fields) → (format.fields Third).bytes f ≡ to_le_bytes w8 f.number ++ (to_le_bytes w8 f.x ++ (to_le_bytes w16 f.a ++ (to_le_bytes w16 f.b ++ (to_le_bytes w16 f.c
     ++ (to_le_bytes w32 f.t ++ (to_le_bytes w32 f.site ++ to_le_bytes w64 f.k))))))
 unfolding format.fields
 fields_flat f = refl
 
-pub header_flat : (p : Parts) → format.header.bytes (format.counts_of Second p) ≡ to_le_bytes w32 MAGIC ++ (to_le_bytes w16 VERSION ++ (to_le_bytes w16 0 ++ (to_le_bytes w32 (length p.names) ++ (to_le_bytes w32 (length p.sites)
+pub header_flat : (p : Parts) → format.header.bytes (format.counts_of Third p) ≡ to_le_bytes w32 MAGIC ++ (to_le_bytes w16 VERSION ++ (to_le_bytes w16 0 ++ (to_le_bytes w32 (length p.names) ++ (to_le_bytes w32 (length p.sites)
     ++ (to_le_bytes w32 (length p.maps) ++ (to_le_bytes w32 (length p.sets) ++ (to_le_bytes w32 (length p.routines) ++ (to_le_bytes w32 (length p.entries) ++ to_le_bytes w32 (length p.instructions)))))))))
 unfolding format.header
 header_flat p = refl
 
-pub image_flat : (p : Parts) → format.image.bytes (written p) ≡ format.header.bytes (format.counts_of Second p) ++ rows.tables p
+pub image_flat : (p : Parts) → format.image.bytes (written p) ≡ format.header.bytes (format.counts_of Third p) ++ rows.tables p
 unfolding format.image
 image_flat p =
-    let n = flat (format.name Second) with_name rows.name name_same [] p.names in
-    let s = flat (λ (s : Unit {0}). format.site Second (length p.names) (length p.routines)) (λ s x. s) rows.site (λ s x. site_same (length p.names) (length p.routines) x) tt p.sites in
-    let m = flat_times (length p.maps) format.map_format p.maps in
+    let n = flat (format.name Third) with_name rows.name name_same [] p.names in
+    let s = flat (λ (s : Unit {0}). format.site Third (length p.names) (length p.routines)) (λ s x. s) rows.site (λ s x. site_same (length p.names) (length p.routines) x) tt p.sites in
+    let m = flat_times (length p.maps) (format.map_format Third) p.maps in
     let t = flat format.set (λ left x. left - length x) rows.set set_same MOST_NUMBERS p.sets in
-    let r = flat (format.routine (length p.names)) format.after_routine rows.routine (routine_same (length p.names)) (record { left = length p.instructions; more = length p.routines }) p.routines in
+    let r = flat (format.routine Third (length p.names)) format.after_routine rows.routine (routine_same (length p.names)) (record { left = length p.instructions; more = length p.routines }) p.routines in
     let e = flat (λ (s : Unit {0}). format.entry (length p.names) p.routines) (λ s x. s) rows.entry (λ s x. entry_same (length p.names) p.routines x) tt p.entries in
-    let i = flat_times (length p.instructions) format.instruction p.instructions in
-    ap (λ (l : List ℕ). format.header.bytes (format.counts_of Second p) ++ l) (joined n (joined s (joined m (joined t (joined r (joined e i))))))
+    let i = flat_times (length p.instructions) (format.instruction Third) p.instructions in
+    ap (λ (l : List ℕ). format.header.bytes (format.counts_of Third p) ++ l) (joined n (joined s (joined m (joined t (joined r (joined e i))))))

@@ -1,5 +1,5 @@
 -- The format of images is exact.
-use Rattle.std.proofs.Common.{◌≡◌, ℕ, ◌-◌, inl, inr, Bool, true, false, ◌&&◌, ◌||◌, not, if◌then◌else◌, List, [], length, Some, None, refl, sym, ap, subst, ◌∙◌}
+use Rattle.std.proofs.Common.{◌≡◌, ℕ, ◌-◌, ◌≤◌, inl, inr, Bool, true, false, ◌&&◌, ◌||◌, not, if◌then◌else◌, List, [], length, Some, None, refl, sym, ap, subst, ◌∙◌, arith}
 use Rattle.std.specs.Prelude.{nat_le, nat_lt, ◌==◌}
 use Rattle.std.specs.Int.{Width as Size, w8, w16, w32, w64}
 use Rattle.std.proofs.lemmas.Bool.{eqb-true, leb-true}
@@ -12,19 +12,19 @@ use Rattle.td_ir.specs.declared.tables.Routine.{Routine}
 use Rattle.td_ir.specs.declared.tables.Parts.{Parts}
 use Rattle.td_image.specs.declared.fault.Cause.{Cause}
 use Rattle.td_image.specs.declared.fault.Cause.TheVariants.{Magic, Version, Field}
-use Rattle.td_image.specs.declared.limits.TheConstants.{MAGIC, VERSION, FIRST_VERSION, MOST_CELLS, MOST_PARAMETERS, MOST_REGISTERS, NO_FIELD, LAST_KIND}
+use Rattle.td_image.specs.declared.limits.TheConstants.{MAGIC, VERSION, SECOND_VERSION, FIRST_VERSION, MOST_CELLS, MOST_BUFFERS, MOST_ROOM, MOST_PARAMETERS, MOST_REGISTERS, NO_FIELD}
 use Rattle.td_image.specs.declared.counts.Counts.{Counts}
 use Rattle.td_image.specs.declared.version.ImageVersion.{ImageVersion}
-use Rattle.td_image.specs.declared.version.ImageVersion.TheVariants.{First, Second}
-use Rattle.td_image.specs.Versions.{number_of, is_version, version_of, most_rows, most_numbers, most_instructions, has_owners}
+use Rattle.td_image.specs.declared.version.ImageVersion.TheVariants.{First, Second, Third}
+use Rattle.td_image.specs.Versions.{number_of, is_version, version_of, most_rows, most_numbers, most_instructions, most_mapped, last_kind, has_owners, has_buffers}
 use Rattle.td_image.specs.declared.routines.Room.{Room}
 use Rattle.td_image.specs.declared.operands.Fields.{Fields}
 use Rattle.td_image.specs.Format.{Format, number, text, allowed, ◌then◌, times}
 use Rattle.td_image.specs.Instructions.{has_x, has_a, has_b, has_c, has_t, has_site, has_k, instruction_of, fields_of}
 use Rattle.td_image.specs.Names.{is_image_name}
-use Rattle.td_image.specs.Image.{constant, up_to, place, counted, version, count, site_routine, header, name, names, name_place, site, map_format, rises, element, elements, set, sets, is_length, after_routine, routine, routines, is_width, bits_of, width_of, width, param, field_of, field_number, cell_field, kind_of, kind_bits, cell_kind, cell, routine_of, entry, operand, fields, instruction, counts_of, image}
+use Rattle.td_image.specs.Image.{constant, up_to, place, counted, version, count, site_routine, header, name, names, name_place, site, map_format, rises, element, elements, set, sets, is_length, after_routine, buffer_room, rooms, buffers, routine, routines, is_width, bits_of, width_of, width, param, field_of, field_number, cell_field, kind_of, kind_bits, cell_kind, cell, routine_of, entry, operand, fields, instruction, counts_of, image}
 use Rattle.td_image.proofs.Exact.{IsExact, IsWide, wide8, wide16, wide32, wide64, number_exact, since_exact, text_exact, allowed_exact, then_exact, made_exact, within_exact, each_exact}
-use Rattle.td_image.proofs.Twentysix.{given_back, keep, kept_by}
+use Rattle.td_image.proofs.GivenBack.{given_back, keep, kept_by}
 use Rattle.td_num.proofs.Truths.{or_cases as either}
 
 pub constant_exact : (w : Size) (wide : IsWide w) (cause : Cause) (n : ℕ) → IsExact (constant w cause n)
@@ -66,9 +66,9 @@ unfolding site
 site_exact v n routines =
     made_exact _ _ _ (then_exact _ _ (name_place_exact n) (λ t. then_exact _ _ (name_place_exact n) (λ f. site_routine_exact v routines))) (λ a fits. refl) (λ b. refl)
 
-pub map_exact : IsExact map_format
+pub map_exact : (v : ImageVersion) → IsExact (map_format v)
 unfolding map_format
-map_exact = counted_exact (up_to MOST_CELLS) (λ n. times n (number w32)) (up_to_exact MOST_CELLS) (λ n. times_exact n (number w32) (number_exact w32 wide32)) (λ n xs fits. fits.0)
+map_exact v = counted_exact (up_to (most_mapped v)) (λ n. times n (number w32)) (up_to_exact (most_mapped v)) (λ n. times_exact n (number w32) (number_exact w32 wide32)) (λ n xs fits. fits.0)
 
 pub elements_exact : (n : ℕ) → IsExact (elements n)
 elements_exact n = each_exact element (λ last x. Some x) (λ last. choice_exact w64 wide64 (rises last)) n None
@@ -80,15 +80,23 @@ set_exact left = counted_exact (up_to left) elements (up_to_exact left) elements
 pub sets_exact : (v : ImageVersion) (n : ℕ) → IsExact (sets v n)
 sets_exact v n = each_exact set (λ left x. left - length x) set_exact n (most_numbers v)
 
-pub routine_exact : (names : ℕ) (room : Room) → IsExact (routine names room)
+pub rooms_exact : IsExact rooms
+unfolding rooms
+rooms_exact =
+    counted_exact (up_to MOST_BUFFERS) (λ n. times n buffer_room) (up_to_exact MOST_BUFFERS) (λ n. times_exact n buffer_room (choice_exact w32 wide32 (λ k. nat_le 1 k && nat_le k MOST_ROOM))) (λ n xs fits. fits.0)
+
+pub buffers_exact : (v : ImageVersion) → IsExact (buffers v)
+buffers_exact v = since_exact (has_buffers v) [] rooms rooms_exact
+
+pub routine_exact : (v : ImageVersion) (names : ℕ) (room : Room) → IsExact (routine v names room)
 unfolding routine
-routine_exact names room =
+routine_exact v names room =
     made_exact _ _ _ (then_exact _ _ (name_place_exact names) (λ name. then_exact _ _ (up_to_exact MOST_PARAMETERS) (λ params. then_exact _ _ (up_to_exact MOST_CELLS) (λ cells.
-    then_exact _ _ (choice_exact w32 wide32 (λ n. nat_le params n && nat_le n MOST_REGISTERS)) (λ registers. choice_exact w32 wide32 (is_length room))))))
+    then_exact _ _ (choice_exact w32 wide32 (λ n. nat_le params n && nat_le n MOST_REGISTERS)) (λ registers. then_exact _ _ (choice_exact w32 wide32 (is_length room)) (λ length. buffers_exact v))))))
     (λ a fits. refl) (λ b. refl)
 
-pub routines_exact : (names n instructions : ℕ) → IsExact (routines names n instructions)
-routines_exact names n instructions = each_exact (routine names) after_routine (routine_exact names) n (record { left = instructions; more = n })
+pub routines_exact : (v : ImageVersion) (names n instructions : ℕ) → IsExact (routines v names n instructions)
+routines_exact v names n instructions = each_exact (routine v names) after_routine (routine_exact v names) n (record { left = instructions; more = n })
 
 -- what holds of each width holds of a number that is one
 each_width : (P : ℕ → Type 0) (n : ℕ) → is_width n ≡ true → P 8 → P 16 → P 32 → P 64 → P n
@@ -156,16 +164,17 @@ cell_exact names = made_exact _ _ _ (then_exact _ _ (name_place_exact names) (λ
 pub entry_exact : (names : ℕ) (routines : List Routine) → IsExact (entry names routines)
 unfolding entry
 entry_exact names routines =
-    made_exact _ _ _ (then_exact _ _ (place_exact (length routines)) (λ n. then_exact _ _ (times_exact ((routine_of routines n).params) (param names) (param_exact names)) (λ params. times_exact ((routine_of routines n).cells) (cell names) (cell_exact names))))
+    made_exact _ _ _ (then_exact _ _ (place_exact (length routines)) (λ n. then_exact _ _ (times_exact ((routine_of routines n).params) (param names) (param_exact names)) (λ params.
+    then_exact _ _ (times_exact ((routine_of routines n).cells) (cell names) (cell_exact names)) (λ cells. times_exact (length (routine_of routines n).buffers) (name_place names) (name_place_exact names)))))
     (λ a fits. refl) (λ b. refl)
 
 pub operand_exact : (w : Size) (wide : IsWide w) (used : Bool) → IsExact (operand w used)
 operand_exact w wide used = choice_exact w wide (λ n. used || (n == 0))
 
-pub fields_exact : IsExact fields
+pub fields_exact : (v : ImageVersion) → IsExact (fields v)
 unfolding fields
-fields_exact =
-    made_exact _ _ _ (then_exact _ _ (choice_exact w8 wide8 (λ n. nat_le n LAST_KIND)) (λ n. then_exact _ _ (operand_exact w8 wide8 (has_x n)) (λ x. then_exact _ _ (operand_exact w16 wide16 (has_a n)) (λ a.
+fields_exact v =
+    made_exact _ _ _ (then_exact _ _ (choice_exact w8 wide8 (λ n. nat_le n (last_kind v))) (λ n. then_exact _ _ (operand_exact w8 wide8 (has_x n)) (λ x. then_exact _ _ (operand_exact w16 wide16 (has_a n)) (λ a.
     then_exact _ _ (operand_exact w16 wide16 (has_b n)) (λ b. then_exact _ _ (operand_exact w16 wide16 (has_c n)) (λ c. then_exact _ _ (operand_exact w32 wide32 (has_t n)) (λ t.
     then_exact _ _ (operand_exact w32 wide32 (has_site n)) (λ site. operand_exact w64 wide64 (has_k n)))))))))
     (λ a fits. refl) (λ b. refl)
@@ -174,26 +183,34 @@ keeps : (used : Bool) (n : ℕ) → (used || (n == 0)) ≡ true → keep used n 
 keeps true n e = refl
 keeps false n e = sym (eqb-true _ _ e)
 
-fields_back : (f : Fields) → fields.Fits f → fields_of (instruction_of f) ≡ f
+-- no version has a kind of a greater number
+no_greater : (v : ImageVersion) (n : ℕ) → n ≤ last_kind v → n ≤ 26
+no_greater First n le = omega (arith, le)
+no_greater Second n le = omega (arith, le)
+no_greater Third n le = omega (arith, le)
+
+fields_back : (v : ImageVersion) (f : Fields) → (fields v).Fits f → fields_of (instruction_of f) ≡ f
 unfolding fields
-fields_back f (number, (x, (a, (b, (c, (t, (s, k))))))) =
+fields_back v f (number, (x, (a, (b, (c, (t, (s, k))))))) =
     let n = f.number in
-    kept_by n f (leb-true _ _ number.1)
+    kept_by n f (no_greater v n (leb-true _ _ number.1))
     ∙ rw (keeps (has_x n) f.x x.1, keeps (has_a n) f.a a.1, keeps (has_b n) f.b b.1, keeps (has_c n) f.c c.1, keeps (has_t n) f.t t.1, keeps (has_site n) f.site s.1, keeps (has_k n) f.k k.1) refl
 
-pub instruction_exact : IsExact instruction
-instruction_exact = made_exact instruction_of fields_of fields fields_exact fields_back given_back
+pub instruction_exact : (v : ImageVersion) → IsExact (instruction v)
+instruction_exact v = made_exact instruction_of fields_of (fields v) (fields_exact v) (fields_back v) given_back
 
-version_by : (n : ℕ) (b : Bool) → (n == FIRST_VERSION) ≡ b → (b || (n == VERSION)) ≡ true → number_of (if b then First else Second) ≡ n
-version_by n true e h = sym (eqb-true _ _ e)
-version_by n false e h = sym (eqb-true _ _ h)
+version_by : (n : ℕ) (a b : Bool) → (n == FIRST_VERSION) ≡ a → (n == SECOND_VERSION) ≡ b → (a || b || (n == VERSION)) ≡ true → number_of (if a then First else (if b then Second else Third)) ≡ n
+version_by n true b e f h = sym (eqb-true _ _ e)
+version_by n false true e f h = sym (eqb-true _ _ f)
+version_by n false false e f h = sym (eqb-true _ _ h)
 
 version_back : (n : ℕ) → is_version n ≡ true → number_of (version_of n) ≡ n
-version_back n h = version_by n (n == FIRST_VERSION) refl h
+version_back n h = version_by n (n == FIRST_VERSION) (n == SECOND_VERSION) refl refl h
 
 version_there : (v : ImageVersion) → version_of (number_of v) ≡ v
 version_there First = refl
 version_there Second = refl
+version_there Third = refl
 
 pub version_exact : IsExact version
 version_exact = made_exact version_of number_of (allowed Version is_version (number w16)) (allowed_exact Version is_version (number w16) (number_exact w16 wide16)) (λ n fits. version_back n fits.1) version_there
@@ -214,8 +231,8 @@ pub image_exact : IsExact image
 unfolding image
 image_exact =
     made_exact _ _ _ (then_exact _ _ header_exact (λ c. then_exact _ _ (names_exact c.version c.names) (λ names. then_exact _ _ (times_exact c.sites (site c.version c.names c.routines) (site_exact c.version c.names c.routines)) (λ sites.
-    then_exact _ _ (times_exact c.maps map_format map_exact) (λ maps. then_exact _ _ (sets_exact c.version c.sets) (λ sets. then_exact _ _ (routines_exact c.names c.routines c.instructions) (λ routines.
-    then_exact _ _ (times_exact c.entries (entry c.names routines) (entry_exact c.names routines)) (λ entries. times_exact c.instructions instruction instruction_exact))))))))
+    then_exact _ _ (times_exact c.maps (map_format c.version) (map_exact c.version)) (λ maps. then_exact _ _ (sets_exact c.version c.sets) (λ sets. then_exact _ _ (routines_exact c.version c.names c.routines c.instructions) (λ routines.
+    then_exact _ _ (times_exact c.entries (entry c.names routines) (entry_exact c.names routines)) (λ entries. times_exact c.instructions (instruction c.version) (instruction_exact c.version)))))))))
     (λ (c, (names, (sites, (maps, (sets, (routines, (entries, instructions))))))) (h, (n, (s, (m, (t, (r, (e, i))))))).
     let p : Parts = record { names = names; sites = sites; maps = maps; sets = sets; routines = routines; entries = entries; instructions = instructions } in
     ap (λ (c : Counts). (c, (names, (sites, (maps, (sets, (routines, (entries, instructions)))))))) (same_counts c p n.0 s.0 m.0 t.0 r.0 e.0 i.0)) (λ b. refl)

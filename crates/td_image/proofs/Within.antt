@@ -22,18 +22,18 @@ use Rattle.td_ir.specs.declared.tables.Parts.{Parts}
 use Rattle.td_ir.specs.declared.tables.Site.{Site}
 use Rattle.td_ir.specs.declared.tables.Routine.{Routine}
 use Rattle.td_ir.specs.declared.tables.EntryPoint.{EntryPoint}
-use Rattle.td_ir.specs.Tables.{site_of, entry_of, param_of, cell_of}
+use Rattle.td_ir.specs.Tables.{site_of, entry_of, param_of, cell_of, buffer_of}
 use Rattle.td_ir.specs.WellFormed.{IsName, IsField, IsSite, IsRoutine, IsCellNamed, IsEntry, Rises, IsCode}
 use Rattle.td_image.specs.declared.routines.Room.{Room}
-use Rattle.td_image.specs.declared.limits.TheConstants.{MOST_ROWS, MOST_INSTRUCTIONS, MOST_CELLS, MOST_NUMBERS, MOST_PARAMETERS, MOST_REGISTERS, NO_FIELD}
+use Rattle.td_image.specs.declared.limits.TheConstants.{MOST_ROWS, MOST_INSTRUCTIONS, MOST_CELLS, MOST_BUFFERS, MOST_ROOM, MOST_MAPPED, MOST_NUMBERS, MOST_PARAMETERS, MOST_REGISTERS, NO_FIELD}
 use Rattle.td_image.specs.declared.operands.Fields.{Fields}
 use Rattle.td_image.specs.Format.{Format, number, all_fit}
 use Rattle.td_image.specs.Instructions.{has_x, has_a, has_b, has_c, has_t, has_site, has_k, fields_of}
 use Rattle.td_image.specs.Names.{is_image_name}
-use Rattle.td_image.specs.declared.version.ImageVersion.TheVariants.{Second}
+use Rattle.td_image.specs.declared.version.ImageVersion.TheVariants.{Third}
 use Rattle.td_image.specs.Answer.{written}
 use Rattle.td_image.specs.Image as format
-use Rattle.td_image.specs.Within.{IsSpelled, AreApart, IsSmallMap, total, IsSmallRoutine, HasSmallOperands, IsWithinFormat}
+use Rattle.td_image.specs.Within.{IsSpelled, AreApart, IsSmallMap, total, IsRoom, IsSmallRoutine, HasSmallOperands, IsWithinFormat}
 use Rattle.td_image.proofs.Fitting.{sum_of, begin_whole}
 use Rattle.td_num.proofs.Truths.{or_right, or_left, false_by}
 use Rattle.td_num.proofs.Lists.{each_by as each_at, each_map}
@@ -59,16 +59,16 @@ each_fits g (x ∷ xs) fits = (fits.0, each_fits g xs fits.1)
 
 -- ---- names
 
-some_bytes : (name : List ℕ) → is_image_name Second name ≡ true → 1 ≤ length name
+some_bytes : (name : List ℕ) → is_image_name Third name ≡ true → 1 ≤ length name
 some_bytes [] e = absurd cc
 some_bytes (b ∷ bs) e = omega arith
 
-name_fits : (seen : List (List ℕ)) (name : List ℕ) → IsSpelled name → is_seen seen name ≡ false → (format.name Second seen).Fits name
+name_fits : (seen : List (List ℕ)) (name : List ℕ) → IsSpelled name → is_seen seen name ≡ false → (format.name Third seen).Fits name
 unfolding format.name
 name_fits seen name spelled unseen =
     let some : nat_le 1 (length name) ≡ true = le-leb 1 (length name) (some_bytes name spelled.word) in
     let few : length name < 2 ^ 32 = spelled.few in
-    let allowed : (is_image_name Second name && not (is_seen seen name)) ≡ true = and_both (is_image_name Second name) (not (is_seen seen name)) spelled.word (ap not unseen) in
+    let allowed : (is_image_name Third name && not (is_seen seen name)) ≡ true = and_both (is_image_name Third name) (not (is_seen seen name)) spelled.word (ap not unseen) in
     ((few, some), ((refl, spelled.bytes), allowed))
 
 unseen_after : (seen : List (List ℕ)) (x y : List ℕ) → is_seen seen x ≡ false → is_seen seen y ≡ false → (y ≡ x → ⊥) → is_seen (with_name seen x) y ≡ false
@@ -76,7 +76,7 @@ unseen_after seen x y ex ey never =
     let apart : bytes_eq y x ≡ false = false_by (bytes_eq y x) (λ e. never ((bytes_eq-Decides y x).0 e)) in
     rw ex (list_any-append (bytes_eq y) seen (x ∷ []) ∙ rw (ey, apart) refl)
 
-names_fit : (seen xs : List (List ℕ)) → Each IsSpelled xs → ((k : ℕ) (name : List ℕ) → slice_get xs k ≡ Some name → is_seen seen name ≡ false) → AreApart xs → all_fit (format.name Second) with_name seen xs
+names_fit : (seen xs : List (List ℕ)) → Each IsSpelled xs → ((k : ℕ) (name : List ℕ) → slice_get xs k ≡ Some name → is_seen seen name ≡ false) → AreApart xs → all_fit (format.name Third) with_name seen xs
 unfolding all_fit
 names_fit seen [] spelled unseen apart = tt
 names_fit seen (x ∷ xs) spelled unseen apart =
@@ -92,7 +92,7 @@ names_fit seen (x ∷ xs) spelled unseen apart =
 place_fits : (names n : ℕ) → names ≤ MOST_ROWS → n < names → (format.place names).Fits n
 place_fits names n few lt = (omega (arith, few, lt), lt-ltb n names lt)
 
-pub site_fits : (names routines : ℕ) (s : Site) → names ≤ MOST_ROWS → routines ≤ MOST_ROWS → IsSite names routines s → (format.site Second names routines).Fits s
+pub site_fits : (names routines : ℕ) (s : Site) → names ≤ MOST_ROWS → routines ≤ MOST_ROWS → IsSite names routines s → (format.site Third names routines).Fits s
 unfolding format.site
 site_fits names routines s few more named =
     (place_fits names s.ty.number few named.ty_named, (place_fits names s.field.number few named.field_named, place_fits routines s.routine more named.of_routine))
@@ -100,9 +100,9 @@ site_fits names routines s few more named =
 pub most_fits : (n most : ℕ) → n ≤ most → most < 2 ^ 32 → (format.up_to most).Fits n
 most_fits n most le few = (omega (arith, le, few), le-leb n most le)
 
-map_fits : (cells : List ℕ) → IsSmallMap cells → format.map_format.Fits cells
+map_fits : (mapped : List ℕ) → IsSmallMap mapped → (format.map_format Third).Fits mapped
 unfolding format.map_format
-map_fits cells small = (most_fits (length cells) MOST_CELLS small.few (omega arith), (refl, each_fits (number w32) cells small.numbers))
+map_fits mapped small = (most_fits (length mapped) MOST_MAPPED small.few (omega arith), (refl, each_fits (number w32) mapped small.numbers))
 
 -- ---- sets
 
@@ -142,7 +142,14 @@ is_length room r rs more sum some =
     let most : nat_le r.length room.left ≡ true = le-leb r.length room.left (omega (arith, sum)) in
     and_both (nat_le 1 r.length && nat_le r.length room.left) (not (room.more == 1) || (r.length == room.left)) (and_both (nat_le 1 r.length) (nat_le r.length room.left) least most) (is_last room r rs more sum)
 
-routines_fit : (names : ℕ) (room : Room) (rs : List Routine) → names ≤ MOST_ROWS → room.more ≡ length rs → sum_of rs ≡ room.left → room.left < 2 ^ 32 → Each (IsRoutine names) rs → Each IsSmallRoutine rs → all_fit (format.routine names) format.after_routine room rs
+room_fits : (n : ℕ) → IsRoom n → format.buffer_room.Fits n
+room_fits n h = (omega (arith, h.1), and_both (nat_le 1 n) (nat_le n MOST_ROOM) (le-leb 1 n h.0) (le-leb n MOST_ROOM h.1))
+
+buffers_fit : (r : Routine) → IsSmallRoutine r → (format.buffers Third).Fits r.buffers
+unfolding format.rooms
+buffers_fit r s = (most_fits (length r.buffers) MOST_BUFFERS s.buffers (omega arith), (refl, each_fits format.buffer_room r.buffers (each_map IsRoom format.buffer_room.Fits r.buffers room_fits s.rooms)))
+
+routines_fit : (names : ℕ) (room : Room) (rs : List Routine) → names ≤ MOST_ROWS → room.more ≡ length rs → sum_of rs ≡ room.left → room.left < 2 ^ 32 → Each (IsRoutine names) rs → Each IsSmallRoutine rs → all_fit (format.routine Third names) format.after_routine room rs
 unfolding all_fit format.routine
 routines_fit names room [] few more sum left named small = tt
 routines_fit names room (r ∷ rs) few more sum left named small =
@@ -157,7 +164,7 @@ routines_fit names room (r ∷ rs) few more sum left named small =
           most_fits r.params MOST_PARAMETERS s.params (omega arith),
           (
             most_fits r.cells MOST_CELLS s.cells (omega arith),
-            ((omega (arith, s.registers), and_both (nat_le r.params r.registers) (nat_le r.registers MOST_REGISTERS) least most), (omega (arith, sum, left), length_fits)),
+            ((omega (arith, s.registers), and_both (nat_le r.params r.registers) (nat_le r.registers MOST_REGISTERS) least most), ((omega (arith, sum, left), length_fits), buffers_fit r s)),
           ),
         ),
       ),
@@ -194,6 +201,9 @@ cell_fits : (names : ℕ) (c : Cell) → names ≤ MOST_ROWS → IsCellNamed nam
 unfolding format.cell
 cell_fits names c few named = (place_fits names c.name.number few named.named, (field_fits names c.field few named.field_named, kind_fits c.kind))
 
+buffer_fits : (names : ℕ) (name : NameId) → names ≤ MOST_ROWS → IsName names name → (format.name_place names).Fits name
+buffer_fits names name few named = place_fits names name.number few named
+
 entry_fits : (c : Parts) (e : EntryPoint) → length c.names ≤ MOST_ROWS → length c.routines ≤ MOST_ROWS → IsEntry c e → (format.entry (length c.names) c.routines).Fits e
 unfolding format.entry
 entry_fits c e names routines fits =
@@ -201,7 +211,10 @@ entry_fits c e names routines fits =
       place_fits (length c.routines) e.routine routines fits.there,
       (
         (fits.param_count, each_fits (format.param ns) e.params (each_at (format.param ns).Fits e.params _ (λ k lt. param_fits ns (param_of e.params k) names (fits.params_named k lt)))),
-        (fits.cell_count, each_fits (format.cell ns) e.cells (each_at (format.cell ns).Fits e.cells _ (λ k lt. cell_fits ns (cell_of e.cells k) names (fits.cells_named k lt)))),
+        (
+          (fits.cell_count, each_fits (format.cell ns) e.cells (each_at (format.cell ns).Fits e.cells _ (λ k lt. cell_fits ns (cell_of e.cells k) names (fits.cells_named k lt)))),
+          (fits.buffer_count, each_fits (format.name_place ns) e.buffers (each_at (format.name_place ns).Fits e.buffers _ (λ k lt. buffer_fits ns (buffer_of e.buffers k) names (fits.buffers_named k lt)))),
+        ),
       ),
     )
 
@@ -243,8 +256,9 @@ unused (i.Fail reason site) = (refl, refl, refl, refl, refl, refl, refl)
 unused (i.Get into cell) = (refl, refl, refl, refl, refl, refl, refl)
 unused (i.Set source cell) = (refl, refl, refl, refl, refl, refl, refl)
 unused i.Mark = (refl, refl, refl, refl, refl, refl, refl)
+unused (i.Copy size buffer site) = (refl, refl, refl, refl, refl, refl, refl)
 
-known : (j : Instr) → format.kind.Fits (fields_of j).number
+known : (j : Instr) → (format.kind Third).Fits (fields_of j).number
 known (i.Const into value) = (omega arith, refl)
 known (i.Member into source set) = (omega arith, refl)
 known (i.Op into operator left right) = (omega arith, refl)
@@ -271,8 +285,9 @@ known (i.Fail reason site) = (omega arith, refl)
 known (i.Get into cell) = (omega arith, refl)
 known (i.Set source cell) = (omega arith, refl)
 known i.Mark = (omega arith, refl)
+known (i.Copy size buffer site) = (omega arith, refl)
 
-pub instruction_fits : (j : Instr) → HasSmallOperands (fields_of j) → format.instruction.Fits j
+pub instruction_fits : (j : Instr) → HasSmallOperands (fields_of j) → (format.instruction Third).Fits j
 unfolding format.fields
 instruction_fits j small =
     let u = unused j in
@@ -287,7 +302,7 @@ count_allowed (r ∷ rs) n sum = or_left (nat_lt 0 (length (r ∷ rs))) (n == 0)
 rows_fit : (n : ℕ) → n ≤ MOST_ROWS → (format.up_to MOST_ROWS).Fits n
 rows_fit n le = most_fits n MOST_ROWS le (omega arith)
 
-header_fits : (p : Parts) → IsCode p → IsWithinFormat p → format.header.Fits (format.counts_of Second p)
+header_fits : (p : Parts) → IsCode p → IsWithinFormat p → format.header.Fits (format.counts_of Third p)
 unfolding format.header
 header_fits p code within =
     let sum : sum_of p.routines ≡ length p.instructions = sym (begin_whole p.routines) ∙ code.whole in
@@ -328,24 +343,24 @@ within_fits p code within =
     let sum : sum_of p.routines ≡ length p.instructions = sym (begin_whole p.routines) ∙ code.whole in
     let few : length p.instructions < 2 ^ 32 = omega (arith, within.instructions) in
     let rs = length p.routines in
-    let sites = each_at (format.site Second ns rs).Fits p.sites _ (λ k lt. site_fits ns rs (site_of p k) within.names within.routines (code.sites k lt)) in
-    let maps = each_map IsSmallMap format.map_format.Fits p.maps map_fits within.small_maps in
+    let sites = each_at (format.site Third ns rs).Fits p.sites _ (λ k lt. site_fits ns rs (site_of p k) within.names within.routines (code.sites k lt)) in
+    let maps = each_map IsSmallMap (format.map_format Third).Fits p.maps map_fits within.small_maps in
     let rising = each_at Rises p.sets _ (λ k lt. code.sets k lt) in
     let named = each_at (IsRoutine ns) p.routines _ (λ k lt. code.routines k lt) in
     let entries = each_at (format.entry ns p.routines).Fits p.entries _ (λ k lt. entry_fits p (entry_of p k) within.names within.routines (code.entries k lt)) in
-    let instructions = each_map (λ j. HasSmallOperands (fields_of j)) format.instruction.Fits p.instructions instruction_fits within.small_operands in (
+    let instructions = each_map (λ j. HasSmallOperands (fields_of j)) (format.instruction Third).Fits p.instructions instruction_fits within.small_operands in (
       header_fits p code within,
       (
         (refl, names_fit [] p.names within.spelled (λ k name e. refl) within.apart),
         (
-          (refl, each_fits (format.site Second ns rs) p.sites sites),
+          (refl, each_fits (format.site Third ns rs) p.sites sites),
           (
-            (refl, each_fits format.map_format p.maps maps),
+            (refl, each_fits (format.map_format Third) p.maps maps),
             (
               (refl, sets_fit MOST_NUMBERS p.sets (omega arith) within.few_numbers within.numbers rising),
               (
                 (refl, routines_fit ns (record { left = length p.instructions; more = length p.routines }) p.routines within.names refl sum few named within.small_routines),
-                ((refl, each_fits (format.entry ns p.routines) p.entries entries), (refl, each_fits format.instruction p.instructions instructions)),
+                ((refl, each_fits (format.entry ns p.routines) p.entries entries), (refl, each_fits (format.instruction Third) p.instructions instructions)),
               ),
             ),
           ),

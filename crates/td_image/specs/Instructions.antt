@@ -15,27 +15,27 @@ has_x n = (n == 2) || (n == 3) || (n == 10) || (n == 22)
 abbrev pub has_a : ℕ → Bool
 has_a n = (n == 0) || (n == 1) || (n == 2) || (n == 3) || (n == 4) || (n == 8) || (n == 10) || (n == 23)
 
--- Member, Op, Bits, JumpIf, JumpUnless, Skip, Zeroterm, Narrow, Divides, Set
+-- Member, Op, Bits, JumpIf, JumpUnless, Skip, Zeroterm, Narrow, Divides, Set, Copy
 abbrev pub has_b : ℕ → Bool
-has_b n = (n == 1) || (n == 2) || (n == 3) || (n == 6) || (n == 7) || (n == 12) || (n == 15) || (n == 17) || (n == 18) || (n == 24)
+has_b n = (n == 1) || (n == 2) || (n == 3) || (n == 6) || (n == 7) || (n == 12) || (n == 15) || (n == 17) || (n == 18) || (n == 24) || (n == 26)
 
--- Op, Bits, Fetch, Zeroterm, Get, Set
+-- Op, Bits, Fetch, Zeroterm, Get, Set, Copy
 abbrev pub has_c : ℕ → Bool
-has_c n = (n == 2) || (n == 3) || (n == 10) || (n == 15) || (n == 23) || (n == 24)
+has_c n = (n == 2) || (n == 3) || (n == 10) || (n == 15) || (n == 23) || (n == 24) || (n == 26)
 
 -- Member, Jump, JumpIf, JumpUnless, Call, While, Again
 abbrev pub has_t : ℕ → Bool
 has_t n = (n == 1) || (n == 5) || (n == 6) || (n == 7) || (n == 8) || (n == 19) || (n == 20)
 
--- Call, Fetch, SkipK, Skip, Zeros, Zeroterm, NarrowK, Narrow, Divides, Widen, Fail
+-- Call, Fetch, SkipK, Skip, Zeros, Zeroterm, NarrowK, Narrow, Divides, Widen, Fail, Copy
 abbrev pub has_site : ℕ → Bool
-has_site n = (n == 8) || (n == 10) || (n == 11) || (n == 12) || (n == 14) || (n == 15) || (n == 16) || (n == 17) || (n == 18) || (n == 21) || (n == 22)
+has_site n = (n == 8) || (n == 10) || (n == 11) || (n == 12) || (n == 14) || (n == 15) || (n == 16) || (n == 17) || (n == 18) || (n == 21) || (n == 22) || (n == 26)
 
 -- Const, Call, SkipK, NarrowK, Divides
 abbrev pub has_k : ℕ → Bool
 has_k n = (n == 0) || (n == 8) || (n == 11) || (n == 16) || (n == 18)
 
--- the instructions of kinds 0 to 24 from fields, in order; Mark has none
+-- the instructions of all kinds from fields, in order
 abbrev pub makers : List (Fields → Instr)
 makers =
     (λ f. i.Const f.a f.k) ∷
@@ -63,6 +63,8 @@ makers =
     (λ f. i.Fail f.x f.site) ∷
     (λ f. i.Get f.a f.c) ∷
     (λ f. i.Set f.b f.c) ∷
+    (λ f. i.Mark) ∷
+    (λ f. i.Copy f.b f.c f.site) ∷
     []
 
 abbrev pub instruction_by : ℕ → Fields → Instr
@@ -103,3 +105,4 @@ fields_of (i.Fail reason site) = record { number = 22; x = reason; a = 0; b = 0;
 fields_of (i.Get into cell) = record { number = 23; x = 0; a = into; b = 0; c = cell; t = 0; site = 0; k = 0 }
 fields_of (i.Set source cell) = record { number = 24; x = 0; a = 0; b = source; c = cell; t = 0; site = 0; k = 0 }
 fields_of i.Mark = record { number = 25; x = 0; a = 0; b = 0; c = 0; t = 0; site = 0; k = 0 }
+fields_of (i.Copy size buffer site) = record { number = 26; x = 0; a = 0; b = size; c = buffer; t = 0; site = site; k = 0 }

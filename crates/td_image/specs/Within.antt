@@ -3,16 +3,16 @@ use Rattle.std.specs.Prelude.{◌≡◌, ℕ, ◌+◌, ◌^◌, ◌<◌, ◌≤�
 use Rattle.td_num.specs.Lists.{Each}
 use Rattle.td_ir.specs.declared.tables.Routine.{Routine}
 use Rattle.td_ir.specs.declared.tables.Parts.{Parts}
-use Rattle.td_image.specs.declared.limits.TheConstants.{MOST_ROWS, MOST_INSTRUCTIONS, MOST_CELLS, MOST_NUMBERS, MOST_PARAMETERS, MOST_REGISTERS}
+use Rattle.td_image.specs.declared.limits.TheConstants.{MOST_ROWS, MOST_INSTRUCTIONS, MOST_CELLS, MOST_BUFFERS, MOST_ROOM, MOST_MAPPED, MOST_NUMBERS, MOST_PARAMETERS, MOST_REGISTERS}
 use Rattle.td_image.specs.declared.operands.Fields.{Fields}
 use Rattle.td_image.specs.Format.{AreBytes}
 use Rattle.td_image.specs.Instructions.{fields_of}
-use Rattle.td_image.specs.declared.version.ImageVersion.TheVariants.{Second}
+use Rattle.td_image.specs.declared.version.ImageVersion.TheVariants.{Third}
 use Rattle.td_image.specs.Names.{is_image_name}
 
 -- a name of the version that is written
 pub record IsSpelled (name : List ℕ) : Type 0 where
-  pub word : is_image_name Second name ≡ true
+  pub word : is_image_name Third name ≡ true
   pub bytes : AreBytes name
   pub few : length name < 2 ^ 32
 
@@ -20,18 +20,25 @@ pub record IsSpelled (name : List ℕ) : Type 0 where
 abbrev pub AreApart : List (List ℕ) → Type 0
 AreApart names = (i j : ℕ) (name : List ℕ) → slice_get names i ≡ Some name → slice_get names j ≡ Some name → i ≡ j
 
-pub record IsSmallMap (cells : List ℕ) : Type 0 where
-  pub few : length cells ≤ MOST_CELLS
-  pub numbers : Each (λ n. n < 2 ^ 32) cells
+-- cells, and then buffers
+pub record IsSmallMap (mapped : List ℕ) : Type 0 where
+  pub few : length mapped ≤ MOST_MAPPED
+  pub numbers : Each (λ n. n < 2 ^ 32) mapped
 
 abbrev pub total : List (List ℕ) → ℕ
 total [] = 0
 total (xs ∷ xss) = length xs + total xss
 
+-- the room of a copy buffer
+abbrev pub IsRoom : ℕ → Type 0
+IsRoom n = (1 ≤ n) × (n ≤ MOST_ROOM)
+
 pub record IsSmallRoutine (r : Routine) : Type 0 where
   pub params : r.params ≤ MOST_PARAMETERS
   pub cells : r.cells ≤ MOST_CELLS
   pub registers : r.registers ≤ MOST_REGISTERS
+  pub buffers : length r.buffers ≤ MOST_BUFFERS
+  pub rooms : Each IsRoom r.buffers
 
 -- operands are numbers of their fields' bytes
 pub record HasSmallOperands (f : Fields) : Type 0 where

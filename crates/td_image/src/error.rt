@@ -14,7 +14,7 @@ pub enum ImageError {
     /// I1: the first four bytes aren't those of an image.
     #[error("no image")]
     Magic,
-    /// I2: the version isn't 1.
+    /// I2: the version is none that is read.
     #[error("unknown version")]
     Version,
     /// I3: a field isn't whole. The place is the length of the bytes.

@@ -8,18 +8,18 @@ ghost use Rattle.td_image.specs.Reading.{Reads, IsDecided, RanOutOnlyIf};
 
 use crate::fault::{Cause, ReadError};
 use crate::fields::{u8_at, u16_at, u32_at, u64_at, wrong};
-use crate::limits::LAST_KIND;
 use crate::operands::{Fields, has_a, has_b, has_c, has_k, has_site, has_t, has_x, instruction_of};
+use crate::version::{ImageVersion, last_kind};
 use std::alloc::Global;
 use td_ir::instructions::Instr;
 use td_num::items::Items;
 
-fn kind_at(bytes: &[u8]) -> Result<(u8, &[u8]), ReadError>
-    ensures read { Reads (λ x. (x.0, x.1.now)) result (format.kind.read bytes.now) }
+fn kind_at(version: ImageVersion, bytes: &[u8]) -> Result<(u8, &[u8]), ReadError>
+    ensures read { Reads (λ x. (x.0, x.1.now)) result ((format.kind version).read bytes.now) }
     ensures decided { IsDecided result }
 {
     let (n, rest) = u8_at(bytes)?;
-    if n <= LAST_KIND {
+    if n <= last_kind(version) {
         Ok((n, rest))
     } else {
         Err(wrong(Cause::Field, bytes))
@@ -76,11 +76,11 @@ fn u64_operand(used: bool, bytes: &[u8]) -> Result<(u64, &[u8]), ReadError>
 }
 
 #[tactic(auto, unfolding(crate::specs::Image::fields))]
-fn fields_at(bytes: &[u8]) -> Result<(Fields, &[u8]), ReadError>
-    ensures read { Reads (λ x. (x.0, x.1.now)) result (format.fields.read bytes.now) }
+fn fields_at(version: ImageVersion, bytes: &[u8]) -> Result<(Fields, &[u8]), ReadError>
+    ensures read { Reads (λ x. (x.0, x.1.now)) result ((format.fields version).read bytes.now) }
     ensures decided { IsDecided result }
 {
-    let (number, rest) = kind_at(bytes)?;
+    let (number, rest) = kind_at(version, bytes)?;
     let (x, rest) = u8_operand(has_x(number), rest)?;
     let (a, rest) = u16_operand(has_a(number), rest)?;
     let (b, rest) = u16_operand(has_b(number), rest)?;
@@ -101,27 +101,28 @@ fn fields_at(bytes: &[u8]) -> Result<(Fields, &[u8]), ReadError>
     Ok((fields, rest))
 }
 
-fn instruction_at(bytes: &[u8]) -> Result<(Instr, &[u8]), ReadError>
-    ensures read { Reads (λ x. (x.0, x.1.now)) result (format.instruction.read bytes.now) }
+fn instruction_at(version: ImageVersion, bytes: &[u8]) -> Result<(Instr, &[u8]), ReadError>
+    ensures read { Reads (λ x. (x.0, x.1.now)) result ((format.instruction version).read bytes.now) }
     ensures decided { IsDecided result }
 {
-    let (fields, rest) = fields_at(bytes)?;
+    let (fields, rest) = fields_at(version, bytes)?;
     let instruction = instruction_of(fields);
     Ok((instruction, rest))
 }
 
 pub(crate) fn instructions_of(
     alloc: Global,
+    version: ImageVersion,
     count: u32,
     bytes: &[u8],
 ) -> Result<(Items<Instr>, &[u8]), ReadError>
-    ensures read { Reads (λ x. (x.0, x.1.now)) result ((times count format.instruction).read bytes.now) }
-    ensures memory { RanOutOnlyIf result ((times count format.instruction).RunsOut bytes.now) }
+    ensures read { Reads (λ x. (x.0, x.1.now)) result ((times count (format.instruction version)).read bytes.now) }
+    ensures memory { RanOutOnlyIf result ((times count (format.instruction version)).RunsOut bytes.now) }
 {
     let mut rows = Items::new(alloc);
     let mut rest = bytes;
     for _ in 0..count {
-        let (row, after) = instruction_at(rest)?;
+        let (row, after) = instruction_at(version, rest)?;
         rows.push(row)?;
         rest = after;
     }

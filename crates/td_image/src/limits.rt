@@ -1,12 +1,14 @@
-//! The numbers of the format of images: those of version 2 and, where they differ, of version 1 (own rule).
+//! The numbers of the format of images: those of version 3 and, where they differ, of the versions before it (own rule).
 //! docs/language/images.md has the whole format. They are the versions' own: an image of a version keeps them whatever the
 //! limits of a module become, which stand in td_core.
 
 /// The first four bytes as a number, the byte of least weight first: `54 44 33 49`, in ASCII `TD3I`.
 pub const MAGIC: u32 = 1_228_096_596;
 /// The version that is written.
-pub const VERSION: u16 = 2;
-/// The version before it, which is read too.
+pub const VERSION: u16 = 3;
+/// The versions before it, which are read too.
+pub const SECOND_VERSION: u16 = 2;
+
 pub const FIRST_VERSION: u16 = 1;
 /// Rows at most of each table but that of instructions.
 pub const MOST_ROWS: usize = 1_048_576;
@@ -16,8 +18,16 @@ pub const FIRST_ROWS: usize = 65_536;
 pub const MOST_INSTRUCTIONS: u32 = 4_194_304;
 /// The same in version 1.
 pub const FIRST_INSTRUCTIONS: u32 = 1_048_576;
-/// Cells at most in a cell map, and of a routine.
+/// Cells at most of a routine.
 pub const MOST_CELLS: u16 = 64;
+/// Copy buffers at most of a routine.
+pub const MOST_BUFFERS: u16 = 16;
+/// Bytes at most that a copy buffer has room for.
+pub const MOST_ROOM: u32 = 65_536;
+/// Numbers at most in a cell map: of cells and of buffers.
+pub const MOST_MAPPED: usize = 80;
+/// The same before version 3: of cells alone.
+pub const SECOND_MAPPED: usize = 64;
 /// Numbers at most in all sets together.
 pub const MOST_NUMBERS: usize = 1_048_576;
 /// The same in version 1.
@@ -29,4 +39,6 @@ pub const MOST_REGISTERS: u16 = 65_535;
 /// What stands in place of a field's name where a cell isn't one of a record.
 pub const NO_FIELD: u32 = 4_294_967_295;
 /// The greatest number of a kind of instruction.
-pub const LAST_KIND: u8 = 25;
+pub const LAST_KIND: u8 = 26;
+/// The same before version 3.
+pub const SECOND_KIND: u8 = 25;

@@ -43,12 +43,13 @@ pub(crate) fn has_b(n: u8) -> bool
         || n == 17
         || n == 18
         || n == 24
+        || n == 26
 }
 
 pub(crate) fn has_c(n: u8) -> bool
     ensures { result ≡ instructions.has_c n }
 {
-    n == 2 || n == 3 || n == 10 || n == 15 || n == 23 || n == 24
+    n == 2 || n == 3 || n == 10 || n == 15 || n == 23 || n == 24 || n == 26
 }
 
 pub(crate) fn has_t(n: u8) -> bool
@@ -71,6 +72,7 @@ pub(crate) fn has_site(n: u8) -> bool
         || n == 18
         || n == 21
         || n == 22
+        || n == 26
 }
 
 pub(crate) fn has_k(n: u8) -> bool
@@ -170,6 +172,11 @@ pub(crate) fn instruction_of(f: Fields) -> Instr
         24 => Instr::Set {
             source: f.b,
             cell: f.c,
+        },
+        26 => Instr::Copy {
+            size: f.b,
+            buffer: f.c,
+            site: f.site,
         },
         // 25; no fields have a greater number
         _ => Instr::Mark,
@@ -324,6 +331,12 @@ pub(crate) fn fields_of(instruction: Instr) -> Fields
             ..no_operands(24)
         },
         Instr::Mark => no_operands(25),
+        Instr::Copy { size, buffer, site } => Fields {
+            b: size,
+            c: buffer,
+            site,
+            ..no_operands(26)
+        },
     }
 }
 

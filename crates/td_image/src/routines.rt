@@ -5,9 +5,11 @@ ghost use Rattle.td_image.specs.Format.{times};
 ghost use Rattle.td_image.specs.Image as format;
 ghost use Rattle.td_image.specs.Reading.{Reads, IsDecided, RanOutOnlyIf};
 
+use crate::buffers::{buffer_names_of, buffers_of};
 use crate::fault::{Cause, ReadError};
 use crate::fields::{name_place, place, u16_between, u16_up_to, u32_at, wrong};
 use crate::limits::{MOST_CELLS, MOST_PARAMETERS, MOST_REGISTERS, NO_FIELD};
+use crate::version::ImageVersion;
 use std::alloc::Global;
 use td_core::module::{Cell, CellKind, NameId, Param};
 use td_ir::tables::{EntryPoint, Routine};
@@ -28,8 +30,8 @@ fn is_length(room: Room, n: u32) -> bool
     1 <= n && n <= room.left && (!(room.more == 1) || n == room.left)
 }
 
-fn after_routine(room: Room, routine: Routine) -> Room
-    ensures { result ≡ format.after_routine room routine }
+fn after_routine(room: Room, routine: &Routine) -> Room
+    ensures { result ≡ format.after_routine room routine.now }
 {
     Room {
         left: room.left.saturating_sub(routine.length),
@@ -50,20 +52,28 @@ fn length_of(room: Room, bytes: &[u8]) -> Result<(u32, &[u8]), ReadError>
 }
 
 #[tactic(auto, unfolding(crate::specs::Image::routine))]
-fn routine_of(names: usize, room: Room, bytes: &[u8]) -> Result<(Routine, &[u8]), ReadError>
-    ensures read { Reads (λ x. (x.0, x.1.now)) result ((format.routine names room).read bytes.now) }
-    ensures decided { IsDecided result }
+fn routine_of(
+    alloc: Global,
+    version: ImageVersion,
+    names: usize,
+    room: Room,
+    bytes: &[u8],
+) -> Result<(Routine, &[u8]), ReadError>
+    ensures read { Reads (λ x. (x.0, x.1.now)) result ((format.routine version names room).read bytes.now) }
+    ensures memory { RanOutOnlyIf result ((format.routine version names room).RunsOut bytes.now) }
 {
     let (name, rest) = name_place(bytes, names)?;
     let (params, rest) = u16_up_to(rest, MOST_PARAMETERS)?;
     let (cells, rest) = u16_up_to(rest, MOST_CELLS)?;
     let (registers, rest) = u16_between(rest, params, MOST_REGISTERS)?;
     let (length, rest) = length_of(room, rest)?;
+    let (buffers, rest) = buffers_of(alloc, version, rest)?;
     let routine = Routine {
         name,
         params,
         cells,
         registers,
+        buffers,
         length,
     };
     Ok((routine, rest))
@@ -71,13 +81,14 @@ fn routine_of(names: usize, room: Room, bytes: &[u8]) -> Result<(Routine, &[u8])
 
 pub(crate) fn routines_of(
     alloc: Global,
+    version: ImageVersion,
     count: u32,
     names: usize,
     instructions: u32,
     bytes: &[u8],
 ) -> Result<(Items<Routine>, &[u8]), ReadError>
-    ensures read { Reads (λ x. (x.0, x.1.now)) result ((format.routines names count instructions).read bytes.now) }
-    ensures memory { RanOutOnlyIf result ((format.routines names count instructions).RunsOut bytes.now) }
+    ensures read { Reads (λ x. (x.0, x.1.now)) result ((format.routines version names count instructions).read bytes.now) }
+    ensures memory { RanOutOnlyIf result ((format.routines version names count instructions).RunsOut bytes.now) }
 {
     let mut rows = Items::new(alloc);
     let mut room = Room {
@@ -86,9 +97,9 @@ pub(crate) fn routines_of(
     };
     let mut rest = bytes;
     for _ in 0..count {
-        let (row, after) = routine_of(names, room, rest)?;
+        let (row, after) = routine_of(alloc, version, names, room, rest)?;
+        room = after_routine(room, &row);
         rows.push(row)?;
-        room = after_routine(room, row);
         rest = after;
     }
     Ok((rows, rest))
@@ -231,14 +242,22 @@ fn cells_of(
     Ok((rows, rest))
 }
 
-fn routine_at(routines: &[Routine], n: usize) -> Routine
+fn routine_at(routines: &[Routine], n: usize) -> &Routine
     requires { n < length routines.now }
-    ensures { result ≡ format.routine_of routines.now n }
+    ensures { result.now ≡ format.routine_of routines.now n }
 {
-    routines[n]
+    &routines[n]
 }
 
-/// An entry point, with as many parameters and cells as its routine.
+// How many copy buffers a routine has.
+fn buffer_count(routines: &[Routine], n: usize) -> usize
+    requires { n < length routines.now }
+    ensures { result ≡ length (format.routine_of routines.now n).buffers }
+{
+    routine_at(routines, n).buffers.len()
+}
+
+/// An entry point, with as many parameters, cells and buffers as its routine.
 #[tactic(auto, unfolding(crate::specs::Image::entry))]
 fn entry_of<'a>(
     alloc: Global,
@@ -251,12 +270,15 @@ fn entry_of<'a>(
 {
     let (routine, rest) = place(bytes, routines.len())?;
     let called = routine_at(routines, routine as usize);
+    let count = buffer_count(routines, routine as usize);
     let (params, rest) = params_of(alloc, called.params, names, rest)?;
     let (cells, rest) = cells_of(alloc, called.cells, names, rest)?;
+    let (buffers, rest) = buffer_names_of(alloc, count, names, rest)?;
     let entry = EntryPoint {
         routine,
         params,
         cells,
+        buffers,
     };
     Ok((entry, rest))
 }

@@ -4,8 +4,8 @@ ghost use Rattle.std.specs.Prelude.{◌≡◌};
 ghost use Rattle.td_image.specs.Versions as versions;
 
 use crate::limits::{
-    FIRST_INSTRUCTIONS, FIRST_NUMBERS, FIRST_ROWS, FIRST_VERSION, MOST_INSTRUCTIONS, MOST_NUMBERS,
-    MOST_ROWS,
+    FIRST_INSTRUCTIONS, FIRST_NUMBERS, FIRST_ROWS, FIRST_VERSION, LAST_KIND, MOST_INSTRUCTIONS,
+    MOST_MAPPED, MOST_NUMBERS, MOST_ROWS, SECOND_KIND, SECOND_MAPPED, SECOND_VERSION,
 };
 use td_ir::tables::Parts;
 
@@ -16,6 +16,8 @@ pub enum ImageVersion {
     First,
     /// A site names its routine, a name may be two, joined by a dot, and the limits are larger.
     Second,
+    /// A routine may have copy buffers, and there is one more kind of instruction.
+    Third,
 }
 
 /// What an image spells.
@@ -30,8 +32,10 @@ pub(crate) fn version_of(number: u16) -> ImageVersion
 {
     if number == FIRST_VERSION {
         ImageVersion::First
-    } else {
+    } else if number == SECOND_VERSION {
         ImageVersion::Second
+    } else {
+        ImageVersion::Third
     }
 }
 
@@ -41,6 +45,7 @@ pub(crate) fn most_rows(version: ImageVersion) -> usize
     match version {
         ImageVersion::First => FIRST_ROWS,
         ImageVersion::Second => MOST_ROWS,
+        ImageVersion::Third => MOST_ROWS,
     }
 }
 
@@ -50,6 +55,29 @@ pub(crate) fn most_numbers(version: ImageVersion) -> usize
     match version {
         ImageVersion::First => FIRST_NUMBERS,
         ImageVersion::Second => MOST_NUMBERS,
+        ImageVersion::Third => MOST_NUMBERS,
+    }
+}
+
+/// Numbers at most in a cell map.
+pub(crate) fn most_mapped(version: ImageVersion) -> usize
+    ensures { result ≡ versions.most_mapped version }
+{
+    match version {
+        ImageVersion::First => SECOND_MAPPED,
+        ImageVersion::Second => SECOND_MAPPED,
+        ImageVersion::Third => MOST_MAPPED,
+    }
+}
+
+/// The greatest number of a kind of instruction.
+pub(crate) fn last_kind(version: ImageVersion) -> u8
+    ensures { result ≡ versions.last_kind version }
+{
+    match version {
+        ImageVersion::First => SECOND_KIND,
+        ImageVersion::Second => SECOND_KIND,
+        ImageVersion::Third => LAST_KIND,
     }
 }
 
@@ -60,6 +88,7 @@ pub(crate) fn has_dots(version: ImageVersion) -> bool
     match version {
         ImageVersion::First => false,
         ImageVersion::Second => true,
+        ImageVersion::Third => true,
     }
 }
 
@@ -69,5 +98,6 @@ pub(crate) fn most_instructions(version: ImageVersion) -> u32
     match version {
         ImageVersion::First => FIRST_INSTRUCTIONS,
         ImageVersion::Second => MOST_INSTRUCTIONS,
+        ImageVersion::Third => MOST_INSTRUCTIONS,
     }
 }

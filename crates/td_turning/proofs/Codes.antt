@@ -48,7 +48,15 @@ module _ (c : Parts) (O : IsOldCode c) where
       (own_new r (omega (arith, le)) (used_by c r) (old_used (length c.sites) (routine_code c r) [] tt))
 
   entry_new : (e : EntryPoint) → IsEntry c e → IsEntry (turned c) e
-  entry_new e h = record { there = h.there; param_count = h.param_count; cell_count = h.cell_count; params_named = h.params_named; cells_named = h.cells_named }
+  entry_new e h = record {
+    there = h.there;
+    param_count = h.param_count;
+    cell_count = h.cell_count;
+    buffer_count = h.buffer_count;
+    params_named = h.params_named;
+    cells_named = h.cells_named;
+    buffers_named = h.buffers_named;
+  }
 
 pub turned_is_code : TurnedIsCode
 turned_is_code c D O = record {

@@ -14,7 +14,7 @@ named n = record { number = n }
 
 -- names A and f, site (A, f), two routines of `SkipK 1 0`, `Return`
 abbrev routine : Routine
-routine = record { name = named 0; params = 0; cells = 0; registers = 0; length = 2 }
+routine = record { name = named 0; params = 0; cells = 0; registers = 0; buffers = []; length = 2 }
 
 abbrev site : ℕ → Site
 site n = record { ty = named 0; field = named 1; routine = n }

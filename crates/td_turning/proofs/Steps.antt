@@ -10,7 +10,7 @@ use Rattle.td_core.specs.Outcome.{frame_at}
 use Rattle.td_ir.specs.declared.instructions.Instr.{Instr}
 use Rattle.td_ir.specs.declared.instructions.Instr.TheVariants as i
 use Rattle.td_ir.specs.declared.tables.Parts.{Parts}
-use Rattle.td_ir.specs.Tables.{set_of}
+use Rattle.td_ir.specs.Tables.{routine_of, set_of}
 use Rattle.td_ir.specs.State.{State, reg, with_reg, at_pos, left, Way, Returned, Turned, Failed, Stuck, Exit, at_once, after}
 use Rattle.td_ir.specs.Values.{bit, operated, bits_of, reason_of, order_of, numbers_from, first_where, looked_at, is_zero, is_nonzero}
 use Rattle.td_ir.specs.Flow.{Flow, Goes, Fails, Calls, Effect, plain, where_so, has_bytes, zeros_flow, zeroterm_flow, effect}
@@ -23,7 +23,7 @@ pub frame_same : (c : Parts) (m k : ℕ) (s : State) (reason : Reason) → IsSam
 frame_same c m k s reason e =
     ap (λ (x : NameId × NameId). frame_at (record { ty = x.0; field = spot_named (slice_index_or c.names x.1.number []) x.1; start = s.start }) reason) e
 
-module _ (c : Parts) (message places : List ℕ) (g : ℕ → ℕ) (calls' calls : Callees) (pc : ℕ) (go' go : ℕ → State → Exit)
+module _ (c : Parts) (n : ℕ) (message places : List ℕ) (g : ℕ → ℕ) (calls' calls : Callees) (pc : ℕ) (go' go : ℕ → State → Exit)
     (C : (a b m : ℕ) (s : State) → calls' a b m s ≡ calls a b m s) (G : (t : ℕ) (s : State) → go' t s ≡ go t s) where
   abbrev new : Flow → Exit
   new f = led (turned c) calls' pc go' f
@@ -73,7 +73,7 @@ module _ (c : Parts) (message places : List ℕ) (g : ℕ → ℕ) (calls' calls
   zeroterm_same next k width bound room None s e = fails (cond (nat_le bound room) Constraint NotEnough) k s.start s e
 
   abbrev Leads : Instr → State → Type 0
-  Leads j s = follow_new (effect (turned c) message places pc (renumbered g j) s) ≡ follow_old (effect c message places pc j s)
+  Leads j s = follow_new (effect (turned c) n message places pc (renumbered g j) s) ≡ follow_old (effect c n message places pc j s)
 
   pub step_same : (j : Instr) (s : State) → OfNamed (λ k. IsSame c (g k) k) (named j) → Leads j s
   step_same (i.Const into value) s a = ap (after [] 1) (G (pc + 1) (with_reg s into value))
@@ -124,15 +124,24 @@ module _ (c : Parts) (message places : List ℕ) (g : ℕ → ℕ) (calls' calls
   step_same (i.Get into cell) s a = ap (after [] 1) (G (pc + 1) (with_reg s into (slice_index s.cells (slice_index places cell))))
   step_same (i.Set source cell) s a = ap (after [] 1) (G (pc + 1) (record s { cells = slice_set s.cells (slice_index places cell) (reg s source) }))
   step_same i.Mark s a = ap (after [] 1) (G (pc + 1) (record s { start = s.pos }))
+  step_same (i.Copy size buffer site) s a =
+      let v = reg s size in
+      let few = min v (slice_index (routine_of c n).buffers buffer) in
+      let first = (routine_of c n).cells + 2 * buffer in
+      let next = record s { cells = slice_set (slice_set s.cells (slice_index places first) s.pos) (slice_index places (first + 1)) few; pos = s.pos + v } in
+      either_effect (has_bytes s v)
+      (record { flow = Goes (pc + 1) next; touched = places_from s.pos few; steps = 1 + few }) (plain (Fails NotEnough (g site) s.start s))
+      (record { flow = Goes (pc + 1) next; touched = places_from s.pos few; steps = 1 + few }) (plain (Fails NotEnough site s.start s))
+      (ap (after (places_from s.pos few) (1 + few)) (G (pc + 1) next)) (ap (after [] 1) (fails NotEnough site s.start s a))
 
 -- the exits from all instructions of a stretch
-pub exits_same : (c : Parts) (message places : List ℕ) (g : ℕ → ℕ) (calls' calls : Callees) → ((a b m : ℕ) (s : State) → calls' a b m s ≡ calls a b m s)
+pub exits_same : (c : Parts) (n : ℕ) (message places : List ℕ) (g : ℕ → ℕ) (calls' calls : Callees) → ((a b m : ℕ) (s : State) → calls' a b m s ≡ calls a b m s)
     → (pc : ℕ) (js : List Instr) → Each (λ j. OfNamed (λ k. IsSame c (g k) k) (named j)) js → (k : ℕ) (s : State)
-    → pick (exits (turned c) message places calls' pc (map (renumbered g) js)) k s ≡ pick (exits c message places calls pc js) k s
-exits_same c message places g calls' calls C pc [] h k s = refl
-exits_same c message places g calls' calls C pc (j ∷ js) h zero s =
-    step_same c message places g calls' calls pc
-    (goes pc (exits (turned c) message places calls' (pc + 1) (map (renumbered g) js))) (goes pc (exits c message places calls (pc + 1) js)) C
-    (λ t u. branch_same (nat_lt pc t) _ (at_once Stuck) _ (at_once Stuck) (exits_same c message places g calls' calls C (pc + 1) js h.1 (t - (pc + 1)) u) refl)
+    → pick (exits (turned c) n message places calls' pc (map (renumbered g) js)) k s ≡ pick (exits c n message places calls pc js) k s
+exits_same c n message places g calls' calls C pc [] h k s = refl
+exits_same c n message places g calls' calls C pc (j ∷ js) h zero s =
+    step_same c n message places g calls' calls pc
+    (goes pc (exits (turned c) n message places calls' (pc + 1) (map (renumbered g) js))) (goes pc (exits c n message places calls (pc + 1) js)) C
+    (λ t u. branch_same (nat_lt pc t) _ (at_once Stuck) _ (at_once Stuck) (exits_same c n message places g calls' calls C (pc + 1) js h.1 (t - (pc + 1)) u) refl)
     j s h.0
-exits_same c message places g calls' calls C pc (j ∷ js) h (suc k) s = exits_same c message places g calls' calls C (pc + 1) js h.1 k s
+exits_same c n message places g calls' calls C pc (j ∷ js) h (suc k) s = exits_same c n message places g calls' calls C (pc + 1) js h.1 k s

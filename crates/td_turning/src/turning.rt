@@ -33,6 +33,7 @@ fn named(instruction: Instr) -> Option<u32>
         Instr::Divides { site, .. } => Some(site),
         Instr::Widen { site } => Some(site),
         Instr::Fail { site, .. } => Some(site),
+        Instr::Copy { site, .. } => Some(site),
         _ => None,
     }
 }
@@ -81,6 +82,11 @@ fn with_site(instruction: Instr, site: u32) -> Instr
         } => Instr::Divides { size, step, site },
         Instr::Widen { site: _ } => Instr::Widen { site },
         Instr::Fail { reason, site: _ } => Instr::Fail { reason, site },
+        Instr::Copy {
+            size,
+            buffer,
+            site: _,
+        } => Instr::Copy { size, buffer, site },
         other => other,
     }
 }

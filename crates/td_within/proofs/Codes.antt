@@ -25,7 +25,8 @@ use Rattle.td_within.proofs.Blocks.{IsRoomy, AreRoomy}
 use Rattle.td_within.proofs.Fields.{definition_roomy}
 use Rattle.td_within.proofs.Operands.{all_small}
 use Rattle.td_within.proofs.Sets.{sets_few, sets_small}
-use Rattle.td_within.proofs.Tables.{maps_small, routines_small, code_few, code_to_roomy}
+use Rattle.td_within.proofs.Maps.{maps_small}
+use Rattle.td_within.proofs.Tables.{routines_small, code_few, code_to_roomy}
 use Rattle.td_within.proofs.Words.{all_spelled, all_apart}
 use Rattle.td_num.proofs.Lists.{each_at}
 use Rattle.td_lower.proofs.Codes.{there, entries_count}
@@ -72,7 +73,7 @@ module _ (c : Parts) (m : Module) (h : IsChecked m) (s : IsSmall m) (w : IsWritt
   sets_count = (let a = w.sets.count in let b = s.enums in omega (arith, a, b))
 
   routines_are : Each IsSmallRoutine c.routines
-  routines_are = subst (Each IsSmallRoutine) (sym w.routines) (routines_small (units_of m) m.definitions (length m.definitions) h.within.each h.nodes h.formed)
+  routines_are = subst (Each IsSmallRoutine) (sym w.routines) (routines_small (units_of m) m.definitions (length m.definitions) (record { within = h.within.each; copying = h.copying; nodes = h.nodes; formed = h.formed }))
 
   within : IsCode c → IsSound c → IsWithinFormat c
   within code sound = record {
@@ -85,7 +86,7 @@ module _ (c : Parts) (m : Module) (h : IsChecked m) (s : IsSmall m) (w : IsWritt
     instructions = omega (arith, instructions_few);
     spelled = subst (Each IsSpelled) (sym w.names) (all_spelled m.names h.words s.short);
     apart = subst AreApart (sym w.names) (all_apart m.names h.words h.apart);
-    small_maps = subst (Each IsSmallMap) (sym w.maps) (maps_small m.definitions h.within.each h.copyless h.formed);
+    small_maps = subst (Each IsSmallMap) (sym w.maps) (maps_small m.definitions h.within.each h.copying h.formed);
     numbers = sets_small IsWord m.listed c.sets w.sets s.numbers;
     few_numbers = let a = sets_few m.listed c.sets w.sets in let b = s.values in omega (arith, a, b);
     small_routines = routines_are;

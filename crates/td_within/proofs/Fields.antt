@@ -1,5 +1,6 @@
 -- The blocks of a definition: numbers beside those that the verifier bounds have room in the fields of instructions.
-use Rattle.std.proofs.Common.{ℕ, zero, suc, ◌+◌, ◌^◌, ◌<◌, List, [], ◌∷◌, ◌++◌, Bool, true, false, cond, nat_lt, length, Option, Some, None, slice_get, arith}
+use Rattle.std.proofs.Common.{◌≡◌, ℕ, zero, suc, ◌+◌, ◌^◌, ◌<◌, List, [], ◌∷◌, ◌++◌, Bool, true, false, cond, nat_lt, length, Option, Some, None, slice_get, refl, arith}
+use Rattle.std.proofs.lemmas.Bool.{ltb-true}
 use Rattle.td_num.specs.Lists.{Each}
 use Rattle.td_core.specs.declared.expressions.Scalar.TheVariants as scalar
 use Rattle.td_core.specs.Term.{Term, Deed}
@@ -10,6 +11,7 @@ use Rattle.td_core.specs.declared.module.Element.TheVariants.{Number as NumberEl
 use Rattle.td_core.specs.declared.module.Extent.{Extent}
 use Rattle.td_core.specs.declared.module.Extent.TheVariants.{Once, Filling, OnceFilling, UpToZero}
 use Rattle.td_core.specs.declared.module.Bits.{Bits}
+use Rattle.td_core.specs.declared.module.CopyOut.{CopyOut}
 use Rattle.td_core.specs.declared.module.Part.{Part}
 use Rattle.td_core.specs.declared.module.Field.{Field}
 use Rattle.td_core.specs.declared.module.Case.{Case}
@@ -20,8 +22,8 @@ use Rattle.td_expr.specs.Same.{constant_of}
 use Rattle.td_meaning.specs.Naming.{is_needed}
 use Rattle.td_meaning.specs.Meaning.{divides, equals}
 use Rattle.td_blocks.specs.Block.{Done}
-use Rattle.td_blocks.specs.Constructs.{Steps, ByConstant, Never, Inner, Uneven, Body, inner, steps, cases, body}
-use Rattle.td_blocks.specs.Lowered.{expr_of, action_of, number_slot, bits_step, test_step, action_step, when, is_read, terms_of, parts_in, parts_steps, once_step, evenly, exactly, each_inner, one_inner, constant_step, filling_step, once_filling_step, up_to_zero_step, shape_step, fields_steps, last_case, cases_of, body_of, guarded_body, definition_body, arguments}
+use Rattle.td_blocks.specs.Constructs.{Steps, ByConstant, Never, Inner, Uneven, CopyAll, Body, inner, steps, cases, body}
+use Rattle.td_blocks.specs.Lowered.{expr_of, action_of, number_slot, bits_step, test_step, action_step, when, is_read, terms_of, parts_in, parts_steps, once_step, evenly, exactly, each_inner, one_inner, constant_step, filling_step, once_filling_step, up_to_zero_step, shape_step, copied_step, content_step, fields_steps, last_case, cases_of, body_of, guarded_body, definition_body, arguments}
 use Rattle.td_within.specs.Small.{IsWord, HasSmallStep, IsFieldSmall, HasSmallCases}
 use Rattle.td_within.proofs.Blocks.{AreRoomy}
 use Rattle.td_within.proofs.Values.{IsRoomyExpr, expr_roomy, value_roomy, values_roomy, args_roomy, deed_roomy, acts_roomy}
@@ -145,6 +147,22 @@ module _ (ds : List TypeDef) (n t : ℕ) (few : n < 2 ^ 32) (low : suc t < 2 ^ 1
   shape_roomy cells scope slot site needed element (OnceFilling size step) k f e s h = once_filling_roomy cells scope site (constant_of size) step element size k f e s h
   shape_roomy cells scope slot site needed element (UpToZero size) k f e s h = zero_roomy scope site element size k e h
 
+  copied_roomy : (scope : List Bound) (site : ℕ) (o : Option ℕ) (w : CopyOut) (size : Term) (k : Steps) → IsScoped scope size → AreRoomy (steps k) → AreRoomy (steps (copied_step t o w size site k))
+  copied_roomy scope site None w size k e h = value_roomy (suc t) (expr_of size) _ (expr_roomy scope size e) (tt, h)
+  copied_roomy scope site (Some m) w size k e h = by (nat_lt m (2 ^ 32)) refl
+    where
+      by : (b : Bool) → nat_lt m (2 ^ 32) ≡ b → AreRoomy (steps (cond b (ByConstant m site (CopyAll (suc t) w.buffer m site) k) (Never site)))
+      by true l = (tt, ((omega (arith, ltb-true m (2 ^ 32) l), (tt, tt)), h))
+      by false l = tt
+
+  content_roomy : (cells scope : List Bound) (slot site : ℕ) (needed : Bool) (element : Element) (extent : Extent) (copy : Option CopyOut) (k : Steps) → IsElementFormed ds n cells scope element → IsExtentFormed scope extent → HasSmallStep extent
+      → AreRoomy (steps k) → AreRoomy (steps (content_step t element extent copy needed slot site k))
+  content_roomy cells scope slot site needed element extent None k f e s h = shape_roomy cells scope slot site needed element extent k f e s h
+  content_roomy cells scope slot site needed element Once (Some w) k f e s h = shape_roomy cells scope slot site needed element Once k f e s h
+  content_roomy cells scope slot site needed element (Filling size step) (Some w) k f e s h = copied_roomy scope site (constant_of size) w size k e h
+  content_roomy cells scope slot site needed element (OnceFilling size step) (Some w) k f e s h = shape_roomy cells scope slot site needed element (OnceFilling size step) k f e s h
+  content_roomy cells scope slot site needed element (UpToZero size) (Some w) k f e s h = shape_roomy cells scope slot site needed element (UpToZero size) k f e s h
+
   fields_roomy : (cells scope : List Bound) (site L : ℕ) (fs : List Field) → AreFieldsFormed ds n cells scope fs → Each IsFieldSmall fs → AreRoomy (steps (fields_steps t site L fs))
   fields_roomy cells scope site L [] f s = tt
   fields_roomy cells scope site L (x ∷ fs) f s =
@@ -152,7 +170,7 @@ module _ (ds : List TypeDef) (n t : ℕ) (few : n < 2 ^ 32) (low : suc t < 2 ^ 1
       let rest = fields_steps t (length x.parts + site) (length x.parts + L) fs in
       let read = is_read x.element x.extent needed in (
         tt,
-        shape_roomy cells scope (number_slot L t x.parts) site needed x.element x.extent (parts_steps t read site L x.parts rest) f.0 f.1.0 s.0
+        content_roomy cells scope (number_slot L t x.parts) site needed x.element x.extent x.copy (parts_steps t read site L x.parts rest) f.0 f.1.0 s.0
             (parts_roomy cells x.element x.extent scope read site L x.parts rest f.1.1.0
             (fields_roomy cells (parts_scope x.element x.extent scope x.parts) (length x.parts + site) (length x.parts + L) fs f.1.1.1 s.1)),
       )

@@ -5,6 +5,7 @@ mod Fields
 mod Sizes
 mod Operands
 mod Sets
+mod Maps
 mod Tables
 mod Words
 mod Tokens

@@ -22,16 +22,17 @@ width_low w (inr (inl e)) = omega (arith, e)
 width_low w (inr (inr (inl e))) = omega (arith, e)
 width_low w (inr (inr (inr e))) = omega (arith, e)
 
--- how long tables may be, how many registers, and how many cells
-pub record HasRoom (c : Parts) (r n : ℕ) : Type 0 where
-  pub registers : r < 2 ^ 16
-  pub cells : n < 2 ^ 16
+-- how long tables may be, and how many registers, cells and buffers routine n has
+pub record HasRoom (c : Parts) (n : ℕ) : Type 0 where
+  pub registers : (routine_of c n).registers < 2 ^ 16
+  pub cells : (routine_of c n).cells < 2 ^ 16
+  pub buffers : length (routine_of c n).buffers < 2 ^ 16
   pub sites : length c.sites < 2 ^ 32
   pub maps : length c.maps < 2 ^ 32
   pub sets : length c.sets < 2 ^ 32
 
-module _ (c : Parts) (registers cells params : ℕ) (room : HasRoom c registers cells) where
-  operands_small : (j : Instr) → IsRoomy j → HasRegisters registers params j → HasTables c cells j → HasOperands j → HasSmallOperands (fields_of j)
+module _ (c : Parts) (n params : ℕ) (room : HasRoom c n) where
+  operands_small : (j : Instr) → IsRoomy j → HasRegisters (routine_of c n).registers params j → HasTables c n j → HasOperands j → HasSmallOperands (fields_of j)
   operands_small (i.Const into value) y h t o = record { x = omega arith; a = omega (arith, room.registers, h); b = omega arith; c = omega arith; t = omega arith; site = omega arith; k = y }
   operands_small (i.Member into source set) y h t o = record { x = omega arith; a = omega (arith, room.registers, h.0); b = omega (arith, room.registers, h.1); c = omega arith; t = omega (arith, room.sets, t); site = omega arith; k = omega arith }
   operands_small (i.Op into operator left right) y h t o = record { x = omega (arith, o); a = omega (arith, room.registers, h.0); b = omega (arith, room.registers, h.1); c = omega (arith, room.registers, h.2); t = omega arith; site = omega arith; k = omega arith }
@@ -58,6 +59,7 @@ module _ (c : Parts) (registers cells params : ℕ) (room : HasRoom c registers 
   operands_small (i.Get into cell) y h t o = record { x = omega arith; a = omega (arith, room.registers, h); b = omega arith; c = omega (arith, room.cells, t); t = omega arith; site = omega arith; k = omega arith }
   operands_small (i.Set source cell) y h t o = record { x = omega arith; a = omega arith; b = omega (arith, room.registers, h); c = omega (arith, room.cells, t); t = omega arith; site = omega arith; k = omega arith }
   operands_small i.Mark y h t o = record { x = omega arith; a = omega arith; b = omega arith; c = omega arith; t = omega arith; site = omega arith; k = omega arith }
+  operands_small (i.Copy size buffer site) y h t o = record { x = omega arith; a = omega arith; b = omega (arith, room.registers, h); c = omega (arith, room.buffers, t.1); t = omega arith; site = omega (arith, room.sites, t.0); k = omega arith }
 
 -- the routine of an instruction
 routine_around : (ls : List ℕ) (n p : ℕ) → p < begin ls n → (k : ℕ) × (k < n) × (begin ls k ≤ p) × (p < begin ls (suc k))
@@ -79,7 +81,7 @@ all_small c code sound sites maps sets routines roomy = each_by (λ j. HasSmallO
         let n = r.0 in
         let inside : IsIn c n p = record { routine = r.1; from = r.2; to = r.3 } in
         let own = each_of IsSmallRoutine c.routines no_routine n routines r.1 in
-        let room : HasRoom c (routine_of c n).registers (routine_of c n).cells =
-        record { registers = omega (arith, own.registers); cells = omega (arith, own.cells); sites = omega (arith, sites); maps = omega (arith, maps); sets = omega (arith, sets) } in
-        operands_small c (routine_of c n).registers (routine_of c n).cells (callee_params c (instruction_of c p)) room (instruction_of c p)
+        let room : HasRoom c n =
+        record { registers = omega (arith, own.registers); cells = omega (arith, own.cells); buffers = omega (arith, own.buffers); sites = omega (arith, sites); maps = omega (arith, maps); sets = omega (arith, sets) } in
+        operands_small c n (callee_params c (instruction_of c p)) room (instruction_of c p)
         (each_of IsRoomy c.instructions (i.Fail 0 0) p roomy h) (sound n p inside rules.Register) (sound n p inside rules.Table).0 (sound n p inside rules.Operand)

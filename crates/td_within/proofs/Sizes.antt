@@ -10,6 +10,7 @@ use Rattle.td_core.specs.declared.module.Element.TheVariants.{Number as NumberEl
 use Rattle.td_core.specs.declared.module.Extent.{Extent}
 use Rattle.td_core.specs.declared.module.Extent.TheVariants.{Once, Filling, OnceFilling, UpToZero}
 use Rattle.td_core.specs.declared.module.Bits.{Bits}
+use Rattle.td_core.specs.declared.module.CopyOut.{CopyOut}
 use Rattle.td_core.specs.declared.module.Part.{Part}
 use Rattle.td_core.specs.declared.module.Field.{Field}
 use Rattle.td_core.specs.declared.module.Case.{Case}
@@ -21,8 +22,8 @@ use Rattle.td_meaning.specs.Naming.{is_needed}
 use Rattle.td_meaning.specs.Meaning.{divides, equals}
 use Rattle.td_ir.specs.declared.instructions.Instr.TheVariants as i
 use Rattle.td_blocks.specs.Block.{Done, Then, Stop, Guard, Window, size}
-use Rattle.td_blocks.specs.Constructs.{Steps, ByConstant, Never, BySize, Inner, Uneven, Body, inner, steps, cases, body}
-use Rattle.td_blocks.specs.Lowered.{expr_of, action_of, number_slot, bits_step, test_step, action_step, when, is_read, terms_of, arguments, parts_in, parts_steps, once_step, evenly, exactly, each_inner, one_inner, constant_step, filling_step, once_filling_step, up_to_zero_step, shape_step, fields_steps, last_case, cases_of, body_of, guarded_body, definition_body}
+use Rattle.td_blocks.specs.Constructs.{Steps, ByConstant, Never, BySize, Inner, Uneven, CopyAll, Body, inner, steps, cases, body}
+use Rattle.td_blocks.specs.Lowered.{expr_of, action_of, number_slot, bits_step, test_step, action_step, when, is_read, terms_of, arguments, parts_in, parts_steps, once_step, evenly, exactly, each_inner, one_inner, constant_step, filling_step, once_filling_step, up_to_zero_step, shape_step, copied_step, content_step, fields_steps, last_case, cases_of, body_of, guarded_body, definition_body}
 use Rattle.td_within.proofs.Values.{value_size, values_size, acts_size}
 use Rattle.td_core.proofs.Nodes.{some_parts}
 use Rattle.td_acceptance.proofs.Measured.{nodes_are, all_are, acts_are, args_are}
@@ -164,13 +165,28 @@ module _ (t : ℕ) where
   shape_size slot site needed element (OnceFilling e step) k = let x = once_filling_size site (constant_of e) step element e k in omega (arith, x)
   shape_size slot site needed element (UpToZero e) k = let x = zero_size site element e k in omega (arith, x)
 
+  copied_size : (site : ℕ) (o : Option ℕ) (w : CopyOut) (e : Term) (k : Steps) → size (steps (copied_step t o w e site k)) ≤ 4 + (5 * measure e + size (steps k))
+  copied_size site None w e k =
+      let x = value_size (suc t) (expr_of e) (Then (i.Copy (suc t) w.buffer site) (steps k)) in
+      let y = nodes_are e in
+      omega (arith, x, y)
+  copied_size site (Some n) w e k = let x = constant_size n site (CopyAll (suc t) w.buffer n site) k in omega (arith, x)
+
+  content_size : (slot site : ℕ) (needed : Bool) (element : Element) (extent : Extent) (copy : Option CopyOut) (k : Steps)
+      → size (steps (content_step t element extent copy needed slot site k)) ≤ 12 + (5 * (element_nodes element + extent_nodes extent) + size (steps k))
+  content_size slot site needed element extent None k = shape_size slot site needed element extent k
+  content_size slot site needed element Once (Some w) k = shape_size slot site needed element Once k
+  content_size slot site needed element (Filling e step) (Some w) k = let x = copied_size site (constant_of e) w e k in omega (arith, x)
+  content_size slot site needed element (OnceFilling e step) (Some w) k = shape_size slot site needed element (OnceFilling e step) k
+  content_size slot site needed element (UpToZero e) (Some w) k = shape_size slot site needed element (UpToZero e) k
+
   fields_size : (site L : ℕ) (fs : List Field) → Each (λ f. HasParts f.parts) fs → size (steps (fields_steps t site L fs)) ≤ 1 + 16 * fields_nodes fs
   fields_size site L [] h = omega arith
   fields_size site L (f ∷ fs) h =
       let needed = is_needed L f.parts fs in
       let rest = fields_steps t (length f.parts + site) (length f.parts + L) fs in
       let inside = parts_steps t (is_read f.element f.extent needed) site L f.parts rest in
-      let x = shape_size (number_slot L t f.parts) site needed f.element f.extent inside in
+      let x = content_size (number_slot L t f.parts) site needed f.element f.extent f.copy inside in
       let y = parts_size (is_read f.element f.extent needed) site L f.parts rest in
       let z = fields_size (length f.parts + site) (length f.parts + L) fs h.1 in
       let w = some_parts f.parts h.0 in

@@ -2,7 +2,6 @@
 use Rattle.std.proofs.Common.{◌≡◌, ℕ, true, false, not, ◌&&◌, [], refl, Option, Some, None, is_none}
 use Rattle.td_ast.specs.declared.expressions.UnaryOperator.{UnaryOperator}
 use Rattle.td_ast.specs.declared.expressions.UnaryOperator.TheVariants.{Not, Complement}
-use Rattle.td_ast.specs.declared.expressions.SizeofOperand.TheVariants as operand
 use Rattle.td_ast.specs.declared.token.Span.{Span}
 use Rattle.td_ast.specs.Trees.{Tree, span_of}
 use Rattle.td_ast.specs.Trees as tree
@@ -42,6 +41,7 @@ name_sorted (found.Local (local.Value i w most)) at e = tt
 name_sorted (found.Local local.Unreadable) at e = absurd cc
 name_sorted (found.Local (local.Cell c t)) at e = absurd cc
 name_sorted (found.Local (local.Row c r)) at e = absurd cc
+name_sorted (found.Local (local.Buffer n)) at e = absurd cc
 name_sorted (found.Global (meaning.Constant n)) at e = tt
 name_sorted (found.Global (meaning.Member n)) at e = tt
 name_sorted (found.Global (meaning.Number t)) at e = absurd cc

@@ -9,16 +9,16 @@ use Rattle.td_image.proofs.instructions.instructions_of.Goals as goal
 pub returns-in_err-row-clause-read : goal.returns-in_err-row-clause-read
 returns-in_err-row-clause-read c =
     let p = err_from_is_err_and c.from_residual.result c.from_residual.ensures.1 in
-    rw (p.1, p.2) (ends (λ (s : Unit {0}). format.instruction) (λ s x. s) c.in_err-row.field-0.0 c.loop.rows c.args.count c.loop.counter tt c.loop.rest.now ((times c.args.count format.instruction).read c.args.bytes.now) c.loop-test.true c.in_err-row.ensures.read c.loop.invariant.0)
+    rw (p.1, p.2) (ends (λ (s : Unit {0}). format.instruction c.args.version) (λ s x. s) c.in_err-row.field-0.0 c.loop.rows c.args.count c.loop.counter tt c.loop.rest.now ((times c.args.count (format.instruction c.args.version)).read c.args.bytes.now) c.loop-test.true c.in_err-row.ensures.read c.loop.invariant.0)
 
 pub returns-in_err-push-clause-memory : goal.returns-in_err-push-clause-memory
-returns-in_err-push-clause-memory c = memory_where _ _ (omega arith, inr (first_row (λ (s : Unit {0}). format.instruction) tt tt c.args.bytes.now c.loop.rest.now c.loop.invariant.1 (c.in_ok-row.row, c.in_ok-row.after.now, c.in_ok-row.ensures.read)))
+returns-in_err-push-clause-memory c = memory_where _ _ (omega arith, inr (first_row (λ (s : Unit {0}). format.instruction c.args.version) tt tt c.args.bytes.now c.loop.rest.now c.loop.invariant.1 (c.in_ok-row.row, c.in_ok-row.after.now, c.in_ok-row.ensures.read)))
 
 pub loop-preserved : goal.loop-preserved
 loop-preserved c = (
-  rw c.in_ok-push.ensures.ok (goes_on (λ (s : Unit {0}). format.instruction) (λ s x. s) c.loop.rows c.args.count c.loop.counter tt c.loop.rest.now c.in_ok-row.row c.in_ok-row.after.now ((times c.args.count format.instruction).read c.args.bytes.now) c.loop-test.true c.in_ok-row.ensures.read c.loop.invariant.0),
-  inr (first_row (λ (s : Unit {0}). format.instruction) tt tt c.args.bytes.now c.loop.rest.now c.loop.invariant.1 (c.in_ok-row.row, c.in_ok-row.after.now, c.in_ok-row.ensures.read)),
+  rw c.in_ok-push.ensures.ok (goes_on (λ (s : Unit {0}). format.instruction c.args.version) (λ s x. s) c.loop.rows c.args.count c.loop.counter tt c.loop.rest.now c.in_ok-row.row c.in_ok-row.after.now ((times c.args.count (format.instruction c.args.version)).read c.args.bytes.now) c.loop-test.true c.in_ok-row.ensures.read c.loop.invariant.0),
+  inr (first_row (λ (s : Unit {0}). format.instruction c.args.version) tt tt c.args.bytes.now c.loop.rest.now c.loop.invariant.1 (c.in_ok-row.row, c.in_ok-row.after.now, c.in_ok-row.ensures.read)),
 )
 
 pub returns-clause-read : goal.returns-clause-read
-returns-clause-read c = is_done (λ (s : Unit {0}). format.instruction) (λ s x. s) c.loop.rows c.args.count c.loop.counter tt c.loop.rest.now ((times c.args.count format.instruction).read c.args.bytes.now) c.loop-test.false c.loop.invariant.0
+returns-clause-read c = is_done (λ (s : Unit {0}). format.instruction c.args.version) (λ s x. s) c.loop.rows c.args.count c.loop.counter tt c.loop.rest.now ((times c.args.count (format.instruction c.args.version)).read c.args.bytes.now) c.loop-test.false c.loop.invariant.0

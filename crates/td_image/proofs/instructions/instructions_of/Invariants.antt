@@ -6,4 +6,4 @@ use Rattle.td_image.proofs.Kept.{Begun}
 use Rattle.td_image.proofs.instructions.instructions_of.Given as goal
 
 abbrev pub invariant-loop : goal.invariant-loop
-invariant-loop l = (with_front l.rows (read_all (λ (s : Unit {0}). format.instruction) (λ s x. s) (l.count - l.counter) tt l.rest) ≡ (times l.count format.instruction).read l.bytes) × Begun (λ (s : Unit {0}). format.instruction) tt tt l.bytes l.rest
+invariant-loop l = (with_front l.rows (read_all (λ (s : Unit {0}). format.instruction l.fn.version) (λ s x. s) (l.count - l.counter) tt l.rest) ≡ (times l.count (format.instruction l.fn.version)).read l.bytes) × Begun (λ (s : Unit {0}). format.instruction l.fn.version) tt tt l.bytes l.rest

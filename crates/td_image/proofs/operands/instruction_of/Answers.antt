@@ -1,4 +1,5 @@
-use Rattle.std.proofs.Common.{◌≤◌, refl, sym, ap, arith}
+use Rattle.std.proofs.Common.{◌≡◌, ◌≤◌, inl, inr, refl, sym, ap, arith}
+use Rattle.std.proofs.lemmas.Bool.{cases_lt}
 use Rattle.std.proofs.lemmas.List.{get_or_past}
 use Rattle.td_ir.specs.declared.instructions.Instr.{Instr}
 use Rattle.td_image.specs.declared.operands.Fields.{Fields}
@@ -80,7 +81,13 @@ returns-in-23 c = rw (c.in-23.is) refl
 pub returns-in-24 : goal.returns-in-24
 returns-in-24 c = rw (c.in-24.is) refl
 
+pub returns-in-26 : goal.returns-in-26
+returns-in-26 c = rw (c.in-26.is) refl
+
 pub returns-in_default : goal.returns-in_default
-returns-in_default c =
-    let past : 25 ≤ c.args.f.number = omega (arith, c.in_default) in
-    sym (ap (λ (m : Fields → Instr). m c.args.f) (get_or_past makers _ _ past))
+returns-in_default c = elim (cases_lt c.args.f.number 26) [
+  | inl few ↦ (let is : c.args.f.number ≡ 25 = omega (arith, c.in_default, few) in rw (is) refl)
+  | inr more ↦
+      let past : 27 ≤ c.args.f.number = omega (arith, c.in_default, more) in
+      sym (ap (λ (m : Fields → Instr). m c.args.f) (get_or_past makers _ _ past))
+]

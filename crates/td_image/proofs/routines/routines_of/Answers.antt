@@ -2,22 +2,27 @@ use Rattle.std.proofs.Common.{inr, arith}
 use Rattle.td_image.specs.Image as format
 use Rattle.std.proofs.lemmas.Result.{err_from_is_err_and}
 use Rattle.td_image.proofs.Loop.{goes_on, ends, is_done}
-use Rattle.td_image.proofs.Kept.{first_row, memory_where}
+use Rattle.td_image.proofs.Kept.{first_row, row_runs_out, memory_where}
 use Rattle.td_image.proofs.routines.routines_of.Goals as goal
 
 pub returns-in_err-row-clause-read : goal.returns-in_err-row-clause-read
 returns-in_err-row-clause-read c =
     let p = err_from_is_err_and c.from_residual.result c.from_residual.ensures.1 in
-    rw (p.1, p.2) (ends (format.routine c.args.names) format.after_routine c.in_err-row.field-0.0 c.loop.rows c.args.count c.loop.counter c.loop.room c.loop.rest.now ((format.routines c.args.names c.args.count c.args.instructions).read c.args.bytes.now) c.loop-test.true c.in_err-row.ensures.read c.loop.invariant.0)
+    rw (p.1, p.2) (ends (format.routine c.args.version c.args.names) format.after_routine c.in_err-row.field-0.0 c.loop.rows c.args.count c.loop.counter c.loop.room c.loop.rest.now ((format.routines c.args.version c.args.names c.args.count c.args.instructions).read c.args.bytes.now) c.loop-test.true c.in_err-row.ensures.read c.loop.invariant.0)
 
 pub returns-in_err-push-clause-memory : goal.returns-in_err-push-clause-memory
-returns-in_err-push-clause-memory c = memory_where _ _ (omega arith, inr (first_row (format.routine c.args.names) (record { left = c.args.instructions; more = c.args.count }) c.loop.room c.args.bytes.now c.loop.rest.now c.loop.invariant.1 (c.in_ok-row.row, c.in_ok-row.after.now, c.in_ok-row.ensures.read)))
+returns-in_err-push-clause-memory c = memory_where _ _ (omega arith, inr (first_row (format.routine c.args.version c.args.names) (record { left = c.args.instructions; more = c.args.count }) c.loop.room c.args.bytes.now c.loop.rest.now c.loop.invariant.1 (c.in_ok-row.row, c.in_ok-row.after.now, c.in_ok-row.ensures.read)))
+
+pub returns-in_err-row-clause-memory : goal.returns-in_err-row-clause-memory
+returns-in_err-row-clause-memory c =
+    let p = err_from_is_err_and c.from_residual.result c.from_residual.ensures.1 in
+    rw (p.1, p.2) (λ ran. (omega arith, row_runs_out (format.routine c.args.version c.args.names) (record { left = c.args.instructions; more = c.args.count }) c.loop.room c.args.bytes.now c.loop.rest.now c.loop.invariant.1 (c.in_err-row.ensures.memory ran)))
 
 pub loop-preserved : goal.loop-preserved
 loop-preserved c = (
-  rw (c.in_ok-push.ensures.ok, c.after_routine-room.ensures) (goes_on (format.routine c.args.names) format.after_routine c.loop.rows c.args.count c.loop.counter c.loop.room c.loop.rest.now c.in_ok-row.row c.in_ok-row.after.now ((format.routines c.args.names c.args.count c.args.instructions).read c.args.bytes.now) c.loop-test.true c.in_ok-row.ensures.read c.loop.invariant.0),
-  inr (first_row (format.routine c.args.names) (record { left = c.args.instructions; more = c.args.count }) c.loop.room c.args.bytes.now c.loop.rest.now c.loop.invariant.1 (c.in_ok-row.row, c.in_ok-row.after.now, c.in_ok-row.ensures.read)),
+  rw (c.in_ok-push.ensures.ok, c.after_routine-room.ensures) (goes_on (format.routine c.args.version c.args.names) format.after_routine c.loop.rows c.args.count c.loop.counter c.loop.room c.loop.rest.now c.in_ok-row.row c.in_ok-row.after.now ((format.routines c.args.version c.args.names c.args.count c.args.instructions).read c.args.bytes.now) c.loop-test.true c.in_ok-row.ensures.read c.loop.invariant.0),
+  inr (first_row (format.routine c.args.version c.args.names) (record { left = c.args.instructions; more = c.args.count }) c.loop.room c.args.bytes.now c.loop.rest.now c.loop.invariant.1 (c.in_ok-row.row, c.in_ok-row.after.now, c.in_ok-row.ensures.read)),
 )
 
 pub returns-clause-read : goal.returns-clause-read
-returns-clause-read c = is_done (format.routine c.args.names) format.after_routine c.loop.rows c.args.count c.loop.counter c.loop.room c.loop.rest.now ((format.routines c.args.names c.args.count c.args.instructions).read c.args.bytes.now) c.loop-test.false c.loop.invariant.0
+returns-clause-read c = is_done (format.routine c.args.version c.args.names) format.after_routine c.loop.rows c.args.count c.loop.counter c.loop.room c.loop.rest.now ((format.routines c.args.version c.args.names c.args.count c.args.instructions).read c.args.bytes.now) c.loop-test.false c.loop.invariant.0

@@ -32,6 +32,7 @@ given_back (i.Fail reason site) = refl
 given_back (i.Get into cell) = refl
 given_back (i.Set source cell) = refl
 given_back i.Mark = refl
+given_back (i.Copy size buffer site) = refl
 
 abbrev pub keep : Bool → ℕ → ℕ
 keep used n = cond used n 0
@@ -41,7 +42,7 @@ abbrev pub kept : ℕ → Fields → Fields
 kept n f =
     record { number = n; x = keep (has_x n) f.x; a = keep (has_a n) f.a; b = keep (has_b n) f.b; c = keep (has_c n) f.c; t = keep (has_t n) f.t; site = keep (has_site n) f.site; k = keep (has_k n) f.k }
 
-pub kept_by : (number : ℕ) (f : Fields) → number ≤ 25 → fields_of (instruction_by number f) ≡ kept number f
+pub kept_by : (number : ℕ) (f : Fields) → number ≤ 26 → fields_of (instruction_by number f) ≡ kept number f
 kept_by zero f le = refl
 kept_by (suc zero) f le = refl
 kept_by (suc (suc zero)) f le = refl
@@ -68,4 +69,5 @@ kept_by (suc (suc (suc (suc (suc (suc (suc (suc (suc (suc (suc (suc (suc (suc (s
 kept_by (suc (suc (suc (suc (suc (suc (suc (suc (suc (suc (suc (suc (suc (suc (suc (suc (suc (suc (suc (suc (suc (suc (suc zero))))))))))))))))))))))) f le = refl
 kept_by (suc (suc (suc (suc (suc (suc (suc (suc (suc (suc (suc (suc (suc (suc (suc (suc (suc (suc (suc (suc (suc (suc (suc (suc zero)))))))))))))))))))))))) f le = refl
 kept_by (suc (suc (suc (suc (suc (suc (suc (suc (suc (suc (suc (suc (suc (suc (suc (suc (suc (suc (suc (suc (suc (suc (suc (suc (suc zero))))))))))))))))))))))))) f le = refl
-kept_by (suc (suc (suc (suc (suc (suc (suc (suc (suc (suc (suc (suc (suc (suc (suc (suc (suc (suc (suc (suc (suc (suc (suc (suc (suc (suc n)))))))))))))))))))))))))) f le = absurd (omega (arith, le))
+kept_by (suc (suc (suc (suc (suc (suc (suc (suc (suc (suc (suc (suc (suc (suc (suc (suc (suc (suc (suc (suc (suc (suc (suc (suc (suc (suc zero)))))))))))))))))))))))))) f le = refl
+kept_by (suc (suc (suc (suc (suc (suc (suc (suc (suc (suc (suc (suc (suc (suc (suc (suc (suc (suc (suc (suc (suc (suc (suc (suc (suc (suc (suc n))))))))))))))))))))))))))) f le = absurd (omega (arith, le))

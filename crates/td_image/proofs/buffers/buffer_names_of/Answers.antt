@@ -1,0 +1,24 @@
+use Rattle.std.proofs.Common.{inr, arith}
+use Rattle.td_image.specs.Format.{times}
+use Rattle.td_image.specs.Image.{name_place}
+use Rattle.std.proofs.lemmas.Result.{err_from_is_err_and}
+use Rattle.td_image.proofs.Loop.{goes_on, ends, is_done}
+use Rattle.td_image.proofs.Kept.{first_row, memory_where}
+use Rattle.td_image.proofs.buffers.buffer_names_of.Goals as goal
+
+pub returns-in_err-row-clause-read : goal.returns-in_err-row-clause-read
+returns-in_err-row-clause-read c =
+    let p = err_from_is_err_and c.from_residual.result c.from_residual.ensures.1 in
+    rw (p.1, p.2) (ends (λ (s : Unit {0}). name_place c.args.names) (λ s x. s) c.in_err-row.field-0.0 c.loop.rows c.args.count c.loop.counter tt c.loop.rest.now ((times c.args.count (name_place c.args.names)).read c.args.bytes.now) c.loop-test.true c.in_err-row.ensures.read c.loop.invariant.0)
+
+pub returns-in_err-push-clause-memory : goal.returns-in_err-push-clause-memory
+returns-in_err-push-clause-memory c = memory_where _ _ (omega arith, inr (first_row (λ (s : Unit {0}). name_place c.args.names) tt tt c.args.bytes.now c.loop.rest.now c.loop.invariant.1 (c.in_ok-row.row, c.in_ok-row.after.now, c.in_ok-row.ensures.read)))
+
+pub loop-preserved : goal.loop-preserved
+loop-preserved c = (
+  rw c.in_ok-push.ensures.ok (goes_on (λ (s : Unit {0}). name_place c.args.names) (λ s x. s) c.loop.rows c.args.count c.loop.counter tt c.loop.rest.now c.in_ok-row.row c.in_ok-row.after.now ((times c.args.count (name_place c.args.names)).read c.args.bytes.now) c.loop-test.true c.in_ok-row.ensures.read c.loop.invariant.0),
+  inr (first_row (λ (s : Unit {0}). name_place c.args.names) tt tt c.args.bytes.now c.loop.rest.now c.loop.invariant.1 (c.in_ok-row.row, c.in_ok-row.after.now, c.in_ok-row.ensures.read)),
+)
+
+pub returns-clause-read : goal.returns-clause-read
+returns-clause-read c = is_done (λ (s : Unit {0}). name_place c.args.names) (λ s x. s) c.loop.rows c.args.count c.loop.counter tt c.loop.rest.now ((times c.args.count (name_place c.args.names)).read c.args.bytes.now) c.loop-test.false c.loop.invariant.0
