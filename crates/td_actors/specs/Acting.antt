@@ -12,6 +12,7 @@ use Rattle.td_ring.specs.declared.post.Post.{Post}
 use Rattle.td_ring.specs.Ring.{PassState, pass_state, ring_view}
 use Rattle.td_ring.specs.Tickets.{DrawerState, drawer_state, ticket_view}
 use Rattle.td_stream.specs.Layouts.{count_in}
+use Rattle.td_stream.specs.Copies.{empty_with}
 use Rattle.td_posts.specs.declared.job.Step.{Step}
 use Rattle.td_posts.specs.declared.job.Step.TheVariants as step
 use Rattle.td_posts.specs.declared.mail.Mail.{Mail}
@@ -37,6 +38,7 @@ pub record AreArmed (cs : List Parts) (frames : List FrameView) : Type 0 where
   pub each : (n : ℕ) (c : Parts) (d : FrameView) → slice_get cs n ≡ Some c → IsArmed c (slice_index_or frames n d)
 
 -- the post is one of the job's, by its first of that name, and its room is empty and large enough, with memory for just so many frames
+-- and with the job's copy buffers, which hold nothing
 pub record Fits (frames : ℕ) (job : HostJob) (p : Post) : Type 0 where
   pub mail : Mail
   pub is : mail_named p.name (all_mails 1 job.guests) ≡ Some mail
@@ -48,6 +50,7 @@ pub record Fits (frames : ℕ) (job : HostJob) (p : Post) : Type 0 where
   pub cells : p.room.cells.items ≡ zeros job.cells
   pub untold : p.room.trace.items ≡ []
   pub trace_room : vec_capacity p.room.trace ≡ frames
+  pub copies : p.room.copies.buffers.items ≡ map empty_with job.rooms
 
 abbrev pub post_of : Mail → Reply → Post
 post_of m r = record { name = m.name; made = m.made; room = r }

@@ -6,6 +6,7 @@ ghost use Rattle.std.specs.List.{All};
 ghost use Rattle.td_ring.specs.declared.post.Post.{Post};
 ghost use Rattle.td_ring.specs.Ring.{pass_with, did_take};
 ghost use Rattle.td_posts.specs.Posts.{all_mails, layout_of, reply_name};
+ghost use Rattle.td_stream.specs.Copies.{rooms_of};
 ghost use Rattle.td_stream.specs.Layouts.{AreWithin};
 ghost use Rattle.td_live.specs.Live.{HasLoaded};
 ghost use Rattle.td_vm.specs.Frames.{IsArmed};
@@ -21,6 +22,7 @@ use td_core::module::Entry;
 use td_core::outcome::TraceFrame;
 use td_live::gate::Gate;
 use td_live::slot::validate_slot;
+use td_posts::copies::keep_copies;
 use td_posts::job::HostJob;
 use td_posts::laws::each_mail_is_named;
 use td_posts::mail::{Mail, mail_of};
@@ -120,6 +122,7 @@ fn answer<G: Gate>(
     ensures answered { Answered job.now result }
     ensures read { HasLoaded (layout_in mails.now result) seat.old seat.new result.loads.list }
     ensures memory { (vec_capacity result.trace ≡ vec_capacity post.room.trace) × (vec_capacity result.cells ≡ vec_capacity post.room.cells) }
+    ensures rooms { rooms_of result.copies.buffers.items ≡ rooms_of post.room.copies.buffers.items }
 {
     each_mail_is_named();
     fitting_cells_have_room();
@@ -136,6 +139,7 @@ fn answer<G: Gate>(
         verdict: _,
         mut trace,
         mut cells,
+        mut copies,
         mut loads,
     } = room;
     let Some(mail) = mail_of(mails, name) else {
@@ -159,6 +163,7 @@ fn answer<G: Gate>(
         gate,
     );
     keep(frame, &mut trace, cells.as_mut_slice());
+    keep_copies(frame.copies(), copies.buffers.as_mut_slice());
     Reply {
         guest: name.guest,
         number: name.number,
@@ -167,6 +172,7 @@ fn answer<G: Gate>(
         verdict,
         trace,
         cells,
+        copies,
         loads,
     }
 }
@@ -197,6 +203,7 @@ fn answer_now<G: Gate>(
     ensures answered { Answered job.now result }
     ensures read { HasLoaded (layout_in mails.now result) seat.old seat.new result.loads.list }
     ensures memory { (vec_capacity result.trace ≡ vec_capacity post.room.trace) × (vec_capacity result.cells ≡ vec_capacity post.room.cells) }
+    ensures rooms { rooms_of result.copies.buffers.items ≡ rooms_of post.room.copies.buffers.items }
 {
     let version = codes.current(swap);
     let number = version.number as usize;

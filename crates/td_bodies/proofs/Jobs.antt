@@ -1,16 +1,13 @@
 -- A job that is run by its module's code.
-use Rattle.std.proofs.Common.{◌≡◌, ℕ, suc, ◌<◌, ◌≤◌, List, [], ◌∷◌, length, refl, ap, ◌∙◌, subst, sym, Option, Some, None}
+use Rattle.std.proofs.Common.{◌≡◌, ℕ, suc, ◌<◌, ◌≤◌, List, [], ◌∷◌, length, map, refl, arith, ap, ◌∙◌, subst, sym, Option, Some, None}
 use Rattle.td_core.specs.declared.module.Module.{Module}
 use Rattle.td_core.specs.declared.outcome.Outcome.{Outcome}
-use Rattle.td_core.specs.Entries.{definition_at, entry_definition}
-use Rattle.std.specs.Prelude.{slice_get}
-use Rattle.td_core.specs.Copies.{IsDefinitionCopyless, IsCopyless}
+use Rattle.td_core.specs.Entries.{entry_definition}
 use Rattle.td_core.specs.Formed.{Bound, AllFit, cell_bound, cells_at}
-use Rattle.td_core.specs.WellFormed.{OfSome}
+use Rattle.td_core.specs.declared.module.Buffer.{Buffer}
 use Rattle.td_core.specs.declared.module.TypeDef.{TypeDef}
-use Rattle.td_core.proofs.Copyless.{copyless_at}
-use Rattle.td_direct.specs.Copies.{AreBuffersFor, AreOfDefinition, AreOfEntry}
-use Rattle.td_stream.specs.Copies.{BufferView, held_by, rooms_of}
+use Rattle.td_direct.specs.Copies.{AreBuffersFor, AreOfDefinition, AreOfEntry, empty_for, empty_of}
+use Rattle.td_stream.specs.Copies.{BufferView}
 use Rattle.std.proofs.lemmas.List.{length-map}
 use Rattle.td_stream.specs.declared.load.Load.{Load}
 use Rattle.td_front.specs.Checked.{IsChecked}
@@ -60,44 +57,34 @@ pub run_is_inside : (c : Parts) (job : RunJob) (outcome : Outcome) (loads : List
 run_is_inside c job outcome loads args cells words stores layout r run = subst (λ (l : Option (List Stretch)). Inside (laid job.length l) loads) r run.inside
 
 -- a run whose outcome is the meaning's, from lists that are alike, is meant
-pub outcome_is_meant : (m : Module) (job : RunJob) (loads : List Load) (args start left cells : List ℕ) (held : List (List ℕ)) (verdict : Verdict) (trace : List TraceFrame) (layout : List Stretch) → IsSoundJob m job → HasRoom job
-    → layout ≡ laid job.length job.layout → args ≡ job.args → start ≡ job.cells → cells ≡ left → held ≡ []
+pub outcome_is_meant : (m : Module) (job : RunJob) (loads : List Load) (args start left cells : List ℕ) (held copies : List (List ℕ)) (verdict : Verdict) (trace : List TraceFrame) (layout : List Stretch) → IsSoundJob m job → HasRoom job
+    → layout ≡ laid job.length job.layout → args ≡ job.args → start ≡ job.cells → cells ≡ left → copies ≡ held
     → ((b : List ℕ) → Carries layout b loads → IsSoundOn m job.entry args start b → IsMeant layout m job.entry args start b loads (record { verdict = verdict; trace = trace; cells = left; copies = held }))
-    → IsJobMeant m job (record { verdict = verdict; trace = trace; cells = cells; copies = [] }) loads
-outcome_is_meant m job loads args start left cells held verdict trace layout sound room o p q r none told =
+    → IsJobMeant m job (record { verdict = verdict; trace = trace; cells = cells; copies = copies }) loads
+outcome_is_meant m job loads args start left cells held copies verdict trace layout sound room o p q r same told =
     let R : List (List ℕ) → List ℕ → List ℕ → List ℕ → List Stretch → Type 0 = λ w a s z l. (b : List ℕ) → Carries l b loads → IsSoundOn m job.entry a s b → IsMeant l m job.entry a s b loads (record { verdict = verdict; trace = trace; cells = z; copies = w }) in
-    let h : R [] job.args job.cells cells (laid job.length job.layout) =
-    subst (λ w. R w job.args job.cells cells (laid job.length job.layout)) none
+    let h : R copies job.args job.cells cells (laid job.length job.layout) =
+    subst (λ w. R w job.args job.cells cells (laid job.length job.layout)) (sym same)
     (subst (λ l. R held job.args job.cells cells l) o (subst (λ z. R held job.args job.cells z layout) (sym r) (subst (λ s. R held job.args s left layout) q (subst (λ a. R held a start left layout) p told)))) in
     λ b bytes carried. h b carried (sound b bytes (carried.size ∙ room.long))
 
--- ---- a checked module has no buffers
+-- ---- empty buffers are an entry point's
 all_long : (bs : List Bound) (vs : List ℕ) → AllFit bs vs → length vs ≡ length bs
 all_long [] [] h = refl
 all_long [] (v ∷ vs) h = absurd h
 all_long (b ∷ bs) [] h = absurd h
 all_long (b ∷ bs) (v ∷ vs) h = ap suc (all_long bs vs h.1)
 
-bare_definition : (o : Option TypeDef) (cells : List ℕ) → OfSome IsDefinitionCopyless o → AllFit (cells_at o) cells → AreOfDefinition o (length cells) []
-bare_definition None cells c h = refl
-bare_definition (Some d) cells c h =
-    (all_long (cells_at (Some d)) cells h ∙ length-map d.cells (λ x. cell_bound x.kind), subst (λ bs. AreBuffersFor bs []) (sym c.buffers) tt)
+each_empty : (bs : List Buffer) → AreBuffersFor bs (map empty_for bs)
+each_empty [] = tt
+each_empty (b ∷ bs) = (refl, (omega arith, each_empty bs))
 
-bare_entry : (m : Module) (o : Option ℕ) → IsCopyless m → OfSome IsDefinitionCopyless (definition_at m o)
-bare_entry m None c = tt
-bare_entry m (Some place) c = copyless_at m.definitions place c
+empty_fit : (o : Option TypeDef) (cells : List ℕ) → AllFit (cells_at o) cells → AreOfDefinition o (length cells) (empty_of o)
+empty_fit None cells h = refl
+empty_fit (Some d) cells h = (all_long (cells_at (Some d)) cells h ∙ length-map d.cells (λ x. cell_bound x.kind), each_empty d.buffers)
 
-pub no_buffers : (m : Module) (job : RunJob) (cells : List ℕ) (buffers : List BufferView) → IsChecked m → HasValues m job → cells ≡ job.cells → buffers ≡ [] → AreOfEntry m job.entry (length cells) buffers
-no_buffers m job cells buffers checked values e none =
+pub buffers_fit : (m : Module) (job : RunJob) (cells : List ℕ) (buffers : List BufferView) → HasValues m job → cells ≡ job.cells → buffers ≡ empty_of (entry_definition m job.entry.number) → AreOfEntry m job.entry (length cells) buffers
+buffers_fit m job cells buffers values e same =
     let o = entry_definition m job.entry.number in
     let fits : AllFit (cells_at o) job.cells = subst (λ b. AllFit b job.cells) (same_cells o) values.cells in
-    subst (λ vs. AreOfEntry m job.entry (length cells) vs) (sym none)
-    (subst (λ xs. AreOfEntry m job.entry (length xs) []) (sym e) (bare_definition o job.cells (bare_entry m (slice_get m.entries job.entry.number) checked.copyless) fits))
-
--- buffers of no rooms hold nothing
-no_rooms : (vs : List BufferView) → rooms_of vs ≡ [] → held_by vs ≡ []
-no_rooms [] h = refl
-no_rooms (v ∷ vs) h = absurd (let e : v.room ∷ rooms_of vs ≡ [] = h in cc)
-
-pub hold_nothing : (vs ws : List BufferView) → rooms_of vs ≡ rooms_of ws → ws ≡ [] → held_by vs ≡ []
-hold_nothing vs ws h none = no_rooms vs (h ∙ ap rooms_of none)
+    subst (λ vs. AreOfEntry m job.entry (length cells) vs) (sym same) (subst (λ xs. AreOfEntry m job.entry (length xs) (empty_of o)) (sym e) (empty_fit o job.cells fits))

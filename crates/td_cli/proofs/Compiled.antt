@@ -61,11 +61,12 @@ run_with c job outcome loads args cells words stores layout p q r t u h =
     (subst (λ z. IsRunBy c (make z cells words stores layout) outcome loads) p h))))
 
 -- a run by the code of a message's module is a run of the message
-pub has_run : (k : ℕ) (c : Parts) (m : Module) (message : NamedJob) (job : RunJob) (verdict : Verdict) (trace : List TraceFrame) (cells : List ℕ) (loads : List Load)
+pub has_run : (k : ℕ) (c : Parts) (m : Module) (message : NamedJob) (job : RunJob) (verdict : Verdict) (trace : List TraceFrame) (cells : List ℕ) (copies : List (List ℕ)) (loads : List Load)
     → IsModuleText (text_of (format_of k)) m → IsMessage k message → IsNamedJob m message job → IsCodeOf c m → IsSoundJob m job → HasRoom job
-    → IsRunBy c (input_of job) (record { verdict = verdict; trace = trace; cells = cells; copies = [] }) loads → HasRun k verdict loads
-has_run k c m message job verdict trace cells loads text made is of sound room run = record {
+    → IsRunBy c (input_of job) (record { verdict = verdict; trace = trace; cells = cells; copies = copies }) loads → HasRun k verdict loads
+has_run k c m message job verdict trace cells copies loads text made is of sound room run = record {
   trace = trace;
   cells = cells;
-  is = message_run k m message job (record { outcome = record { verdict = verdict; trace = trace; cells = cells; copies = [] }; loads = loads }) text made is (run_of c m job (record { verdict = verdict; trace = trace; cells = cells; copies = [] }) loads of sound room run);
+  copies = copies;
+  is = message_run k m message job (record { outcome = record { verdict = verdict; trace = trace; cells = cells; copies = copies }; loads = loads }) text made is (run_of c m job (record { verdict = verdict; trace = trace; cells = cells; copies = copies }) loads of sound room run);
 }

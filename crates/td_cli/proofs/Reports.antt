@@ -58,8 +58,8 @@ reports_determine_runs below one other text a b same =
     let other_shown = shown below other text b in
     let parts =
     below.determine a.m a.outcome b.outcome a.job.entry b.job.entry a.job.layout b.job.layout a.job.written b.job.written a.loads b.loads words.0 words.1
-    first.named second.named first.frames second.frames first.cells second.cells one_shown other_shown (is_sized below one text a).written (is_sized below other text b).written equal in
+    first.named second.named first.frames second.frames first.cells second.cells first.copies second.copies one_shown other_shown (is_sized below one text a).written (is_sized below other text b).written equal in
     let alike = λ (over : a.job.layout ≡ b.job.layout).
     below.one a.job.layout a.loads b.loads one_shown (subst (λ (l : Option (List Stretch)). All (IsShownLoad l) b.loads) (sym over) other_shown)
-    (parts.3 ∙ ap (λ (l : Option (List Stretch)). shown_loads l b.loads) (sym over)) in
-    (parts.0, parts.1, parts.2, parts.3, alike, parts.4)
+    (parts.4 ∙ ap (λ (l : Option (List Stretch)). shown_loads l b.loads) (sym over)) in
+    (parts.0, parts.1, parts.2, parts.3, parts.4, alike, parts.5)

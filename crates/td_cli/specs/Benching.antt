@@ -75,4 +75,5 @@ totals_with t run = record {
 pub record HasRun (k : ℕ) (verdict : Verdict) (loads : List Load) : Type 0 where
   pub trace : List TraceFrame
   pub cells : List ℕ
-  pub is : IsMessageRun k (record { outcome = record { verdict = verdict; trace = trace; cells = cells; copies = [] }; loads = loads })
+  pub copies : List (List ℕ)
+  pub is : IsMessageRun k (record { outcome = record { verdict = verdict; trace = trace; cells = cells; copies = copies }; loads = loads })

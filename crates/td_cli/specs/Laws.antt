@@ -32,11 +32,12 @@ NeverBoth = (command : Command) (input : List ℕ) (refusal : Refusal) → Admit
 abbrev pub AlwaysOne : Type 0
 AlwaysOne = (command : Command) (input : List ℕ) → Admits command input ⊎ ((refusal : Refusal) × Refuses command input refusal)
 
--- runs of one module (as those of inputs with one module text are) whose reports are equal have equal verdicts, traces and cells,
--- loads of which a report says the same, which are equal where the jobs have one layout, or none, and the same written bytes, or none
+-- runs of one module (as those of inputs with one module text are) whose reports are equal have equal verdicts, traces, cells
+-- and copies, loads of which a report says the same, which are equal where the jobs have one layout, or none, and the same written bytes, or none
 abbrev pub ReportsDetermineRuns : Type 0
 ReportsDetermineRuns =
     (one other text : List ℕ) (a : IsReport one text) (b : IsReport other text) → a.m ≡ b.m →
     (a.outcome.verdict ≡ b.outcome.verdict) × (a.outcome.trace ≡ b.outcome.trace) × (a.outcome.cells ≡ b.outcome.cells)
+    × (a.outcome.copies ≡ b.outcome.copies)
     × (shown_loads a.job.layout a.loads ≡ shown_loads b.job.layout b.loads) × (a.job.layout ≡ b.job.layout → a.loads ≡ b.loads)
     × (a.job.written ≡ b.job.written)

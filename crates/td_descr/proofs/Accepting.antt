@@ -14,7 +14,7 @@ use Rattle.td_stream.specs.Layouts.{plain}
 use Rattle.td_stream.specs.Loads.{Carries, IsRising}
 use Rattle.td_ir.specs.declared.tables.Parts.{Parts}
 use Rattle.td_meaning.specs.Copies.{opened, IsSoundOn}
-use Rattle.td_meaning.proofs.Copying.{opened_copyless}
+use Rattle.td_meaning.proofs.Copying.{opened_alone}
 use Rattle.td_stream.specs.Loads.{Inside}
 use Rattle.td_leaves.specs.Outcomes.{IsMeant}
 use Rattle.td_lowered.specs.CodeRun.{IsCodeOf}
@@ -43,7 +43,7 @@ accepted_within c room most loads o carry code v =
     let bytes : AreBytes b = bytes_of b message.2 in
     let size : length b < 2 ^ 32 = (let e = message.1.size in omega (arith, e)) in
     let is = v.meant code.format b code.code message.1 (code.ring.sound b bytes size) in
-    let alone = opened_copyless code.format desc_entry desc_cells code.code.laid.copyless in
+    let alone = opened_alone code.format desc_entry desc_cells code.ring.bare in
     let end : List ℕ → Ending = λ cells. (meaning code.format desc_entry (desc_args room most) cells b).ending in
     let within : OnEnding (end (opened code.format desc_entry desc_cells)) (λ q cells. AreWithin room most cells) =
     subst (λ cells. OnEnding (end cells) (λ q cells. AreWithin room most cells)) (sym alone) (code.ring.within b bytes) in

@@ -1,5 +1,5 @@
 -- What is known of a module of the shape of that of descriptors.
-use Rattle.std.proofs.Common.{◌≡◌, ℕ, ◌<◌, ◌≤◌, ◌^◌, Bool, true, false, ◌&&◌, List, [], ◌∷◌, ◌++◌, slice_get, slice_index, slice_set, Option, Some, None, refl, sym, ap, ◌∙◌, subst, arith}
+use Rattle.std.proofs.Common.{◌≡◌, ℕ, ◌<◌, ◌≤◌, ◌^◌, Bool, true, false, ◌&&◌, List, [], ◌∷◌, ◌++◌, length, slice_get, slice_index, slice_set, Option, Some, None, refl, sym, ap, ◌∙◌, subst, arith}
 use Rattle.std.specs.Prelude.{ℤ, pos, ◌-ℤ◌, int_lt}
 use Rattle.std.proofs.lemmas.Bool.{eqb-true, false≢true}
 use Rattle.td_num.proofs.Truths.{both_true}
@@ -16,6 +16,7 @@ use Rattle.td_core.specs.declared.module.Element.TheVariants as element
 use Rattle.td_core.specs.declared.module.Extent.{Extent}
 use Rattle.td_core.specs.declared.module.Extent.TheVariants.{Once, Filling, OnceFilling, UpToZero}
 use Rattle.td_core.specs.declared.module.Bits.{Bits}
+use Rattle.td_core.specs.declared.module.Buffer.{Buffer}
 use Rattle.td_core.specs.declared.module.CopyOut.{CopyOut}
 use Rattle.td_core.specs.declared.module.Part.{Part}
 use Rattle.td_core.specs.declared.module.Field.{Field}
@@ -30,8 +31,9 @@ use Rattle.td_core.specs.Outcome.{accepted}
 use Rattle.td_expr.specs.Value.{value_of, natural, number_of, flip, both_of}
 use Rattle.td_meaning.specs.Doing.{doing, On}
 use Rattle.td_meaning.specs.Meaning.{acted, ended}
+use Rattle.td_meaning.specs.Copies.{buffers_at}
 use Rattle.td_descr.specs.Format.{any_field}
-use Rattle.td_descr.specs.Shape.{is_level, is_rest, is_left, is_up_to, is_fit, is_done, is_delivery, delivered, undone, untested, is_four, is_two, is_little, holds, kept, whole, alone, is_number, are_fields, is_struct, is_only, is_first, are_params, are_cells, are_no_buffers, ShapeFits}
+use Rattle.td_descr.specs.Shape.{is_level, is_rest, is_left, is_up_to, is_fit, is_done, is_delivery, delivered, undone, untested, is_four, is_two, is_little, holds, kept, whole, alone, is_number, are_fields, is_struct, is_only, is_first, are_params, are_cells, are_no_buffers, ShapeFits, ShapeHasNoBuffers}
 
 -- ---- values
 abbrev at : List ℕ → ℕ → ℤ
@@ -289,3 +291,21 @@ pub shape_fits : ShapeFits
 shape_fits m h room most a b =
     let both = both_true (is_first m.entries) (is_only m.definitions) h in
     subst (λ (e : Option ℕ). FitAt (definition_at m e) room most) (sym (first_is m.entries both.0)) (fit_at m.definitions room most both.1 a b)
+
+-- ---- copy buffers
+none_listed : (buffers : List Buffer) → are_no_buffers buffers ≡ true → length buffers ≡ 0
+none_listed [] h = refl
+none_listed (b ∷ buffers) h = absurd (false≢true h)
+
+none_at : (definitions : List TypeDef) → is_only definitions ≡ true → buffers_at (slice_get definitions 0) ≡ 0
+none_at [] h = absurd (false≢true h)
+none_at (d ∷ []) h =
+    let outer = both_true (untested d.guard && is_struct d.body) (are_params d.params && (are_cells d.cells && are_no_buffers d.buffers)) h in
+    let both = both_true (are_params d.params) (are_cells d.cells && are_no_buffers d.buffers) outer.1 in
+    none_listed d.buffers (both_true (are_cells d.cells) (are_no_buffers d.buffers) both.1).1
+none_at (d ∷ e ∷ definitions) h = absurd (false≢true h)
+
+pub shape_has_no_buffers : ShapeHasNoBuffers
+shape_has_no_buffers m h =
+    let both = both_true (is_first m.entries) (is_only m.definitions) h in
+    subst (λ (o : Option ℕ). buffers_at (definition_at m o) ≡ 0) (sym (first_is m.entries both.0)) (none_at m.definitions both.1)

@@ -8,7 +8,8 @@ use Rattle.td_core.specs.declared.outcome.Outcome.{Outcome}
 use Rattle.td_core.specs.declared.outcome.Verdict.{Verdict}
 use Rattle.td_core.specs.declared.outcome.Verdict.TheVariants.{Accept, Reject}
 use Rattle.td_meaning.specs.Meaning.{meaning}
-use Rattle.td_meaning.specs.Copies.{IsSoundOn as IsSound}
+use Rattle.td_core.specs.Entries.{entry_definition}
+use Rattle.td_meaning.specs.Copies.{buffers_at, IsSoundOn as IsSound}
 use Rattle.td_meaning.specs.Throughout.{OnEnding}
 use Rattle.td_stream.specs.declared.load.Load.{Load}
 use Rattle.td_stream.specs.Layouts.{plain}
@@ -73,6 +74,7 @@ pub record AreWithin (room most : ℕ) (cells : List ℕ) : Type 0 where
 -- this module is one of descriptors for such a room: each expression that it evaluates lies in its type's range, and what it accepts lies
 -- within the room
 pub record IsRing (m : Module) (room most : ℕ) : Type 0 where
+  pub bare : buffers_at (entry_definition m desc_entry.number) ≡ 0
   pub sound : (b : List ℕ) → AreBytes b → length b < 2 ^ 32 → IsSoundOn m room most b
   pub within : (b : List ℕ) → AreBytes b → OnEnding (meaning m desc_entry (desc_args room most) desc_cells b).ending (λ q cells. AreWithin room most cells)
 

@@ -29,6 +29,7 @@ use Rattle.td_core.specs.declared.module.Module.{Module}
 use Rattle.td_core.specs.Entries.{entry_definition}
 use Rattle.td_core.specs.Formed.{AllFit, params_at, cells_at}
 use Rattle.td_meaning.specs.Meaning.{meaning}
+use Rattle.td_meaning.specs.Copies.{buffers_at}
 use Rattle.td_meaning.specs.Throughout.{OnEnding}
 use Rattle.td_descr.specs.Ring.{desc_entry, desc_args, desc_cells, AreWithin}
 
@@ -197,3 +198,7 @@ abbrev pub ShapeFits : Type 0
 ShapeFits =
     (m : Module) → has_ring_shape m ≡ true → (room most : ℕ) → room < 2 ^ 32 → most < 2 ^ 32 →
     AllFit (params_at (entry_definition m desc_entry.number)) (desc_args room most) × AllFit (cells_at (entry_definition m desc_entry.number)) desc_cells
+
+-- which has no copy buffers
+abbrev pub ShapeHasNoBuffers : Type 0
+ShapeHasNoBuffers = (m : Module) → has_ring_shape m ≡ true → buffers_at (entry_definition m desc_entry.number) ≡ 0

@@ -1,7 +1,7 @@
 //! Laws of rings. They do nothing when they are called.
 
 ghost use Rattle.td_descr.specs.Laws.{IsWorkedRing, DescriptorsLieWithin};
-ghost use Rattle.td_descr.specs.Shape.{ShapeAcceptsWithin, ShapeFits};
+ghost use Rattle.td_descr.specs.Shape.{ShapeAcceptsWithin, ShapeFits, ShapeHasNoBuffers};
 
 /// The worked ring.
 pub fn worked_ring()
@@ -21,4 +21,9 @@ pub fn shape_lies_within()
 /// Room and greatest size of 32 bits fit the entry point of such a module, and so do cells of zeros.
 pub fn shape_fits()
     ensures { ShapeFits }
+{}
+
+/// The entry point of such a module has no copy buffers.
+pub fn shape_has_no_buffers()
+    ensures { ShapeHasNoBuffers }
 {}

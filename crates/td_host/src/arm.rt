@@ -1,8 +1,9 @@
 //! Takes all room for a job, and makes what acts in it.
 
-ghost use Rattle.std.specs.Prelude.{◌≡◌, ◌+◌, ◌-◌, ◌*◌, ◌<◌, ◌≤◌, ◌^◌, [], ◌++◌, length, vec_capacity, IfOk, OnOk, None, Some};
+ghost use Rattle.std.specs.Prelude.{◌≡◌, ◌+◌, ◌-◌, ◌*◌, ◌<◌, ◌≤◌, ◌^◌, [], ◌++◌, map, length, vec_capacity, IfOk, OnOk, None, Some};
 ghost use Rattle.std.specs.List.{All};
 ghost use Rattle.td_ring.specs.declared.post.Post.{Post};
+ghost use Rattle.td_stream.specs.Copies.{empty_with};
 ghost use Rattle.td_stream.specs.Layouts.{count_in};
 ghost use Rattle.td_posts.specs.Posts.{mails_of, all_mails, mail_named, scattered, zeros, reply_name};
 ghost use Rattle.td_posts.specs.Servable.{IsServable};
@@ -29,6 +30,7 @@ use td_posts::mail::{Mail, word_count};
 use td_posts::name::PostName;
 use td_posts::reply::Reply;
 use td_ring::naming::Naming;
+use td_stream::copies::Copies;
 use td_stream::layout::Layout;
 use td_stream::loads::Loads;
 use td_swap::codes::Codes;
@@ -90,11 +92,12 @@ pub(crate) fn mails_of_all(alloc: Global, guests: &[Items<Step>]) -> Result<Vec<
     Ok(mails)
 }
 
-/// Room for the reply of a validation with so many cells, of a message of so many words without a list of stretches, whose failure has
-/// so many frames at most.
+/// Room for the reply of a validation with so many cells and with copy buffers of these rooms, of a message of so many words without a
+/// list of stretches, whose failure has so many frames at most.
 pub(crate) fn room_for(
     alloc: Global,
     cells: u32,
+    rooms: &[u32],
     frames: usize,
     name: PostName,
     words: u32,
@@ -106,6 +109,7 @@ pub(crate) fn room_for(
     ensures cells { IfOk result (λ r. r.cells.items ≡ zeros cells) }
     ensures untold { IfOk result (λ r. r.trace.items ≡ []) }
     ensures trace_room { IfOk result (λ r. vec_capacity r.trace ≡ frames) }
+    ensures copies { IfOk result (λ r. r.copies.buffers.items ≡ map empty_with rooms.now) }
 {
     Ok(Reply {
         guest: name.guest,
@@ -115,6 +119,7 @@ pub(crate) fn room_for(
         verdict: Verdict::Accept { pos: 0 },
         trace: Vec::with_capacity(alloc, frames)?,
         cells: vec![in alloc; 0; cells as usize]?,
+        copies: Copies::with_rooms(alloc, rooms)?,
         loads: Loads::with_room(alloc, words)?,
     })
 }
@@ -134,8 +139,10 @@ fn scatter_room(
     ensures cells { IfOk result (λ r. r.cells.items ≡ zeros job.now.cells) }
     ensures untold { IfOk result (λ r. r.trace.items ≡ []) }
     ensures trace_room { IfOk result (λ r. vec_capacity r.trace ≡ frames) }
+    ensures copies { IfOk result (λ r. r.copies.buffers.items ≡ map empty_with job.now.rooms) }
 {
-    let mut room = room_for(alloc, job.cells, frames, name, layout.count())?;
+    let rooms = job.rooms.as_slice();
+    let mut room = room_for(alloc, job.cells, rooms, frames, name, layout.count())?;
     room.layout = Some(layout.copied(alloc)?);
     Ok(room)
 }
@@ -153,6 +160,7 @@ fn rooms_for<J: Naming>(
     requires said { (p : Post) → Fits frames job.now p → J.names p }
     ensures { IfOk result (λ rooms. RoomsFor J.names (mails_of guest script.now) rooms.items) }
 {
+    let copies = job.rooms.as_slice();
     let mut rooms = VecDeque::new(alloc);
     let mut number = 0;
     for step in script {
@@ -162,7 +170,7 @@ fn rooms_for<J: Naming>(
                 number += 1;
                 let name = PostName { guest, number };
                 let words = word_count(*length);
-                rooms.push_back(room_for(alloc, job.cells, frames, name, words)?)?;
+                rooms.push_back(room_for(alloc, job.cells, copies, frames, name, words)?)?;
             }
             Step::Scatter { layout } => {
                 number += 1;

@@ -42,8 +42,9 @@ fn take_room(
         guest: 0,
         number: 0,
     };
-    let descr = room_for(alloc, DESC_CELLS, desc_frames, nobody, DESC_WORDS)?;
-    let message = room_for(alloc, job.cells, frames, nobody, ring.most / 8 + 2)?;
+    let descr = room_for(alloc, DESC_CELLS, &[], desc_frames, nobody, DESC_WORDS)?;
+    let rooms = job.rooms.as_slice();
+    let message = room_for(alloc, job.cells, rooms, frames, nobody, ring.most / 8 + 2)?;
     Ok(Room { descr, message })
 }
 

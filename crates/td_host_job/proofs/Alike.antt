@@ -1,12 +1,13 @@
--- Two lists of parameters or cells are the same, or they aren't.
-use Rattle.std.proofs.Common.{◌≡◌, ℕ, List, [], ◌∷◌, Bool, true, false, Option, Some, None, ◌⊎◌, inl, inr, refl, ap}
+-- Two lists of parameters, cells or copy buffers are the same, or they aren't.
+use Rattle.std.proofs.Common.{◌≡◌, ℕ, List, [], ◌∷◌, Bool, true, false, Option, Some, None, ◌⊎◌, inl, inr, refl, ap, arith}
+use Rattle.std.proofs.lemmas.Bool.{cases_order}
 use Rattle.std.proofs.lemmas.Slice.Eq.{bytes_eq-Decides}
 use Rattle.std.specs.Prelude.{bytes_eq}
 use Rattle.td_num.specs.declared.number.Width.{Width}
 use Rattle.td_num.specs.declared.number.Width.TheVariants.{One, Two, Four, Eight}
 use Rattle.td_core.specs.declared.module.CellKind.{CellKind}
 use Rattle.td_core.specs.declared.module.CellKind.TheVariants.{Number, Pointer}
-use Rattle.td_host_job.specs.Swaps.{Named}
+use Rattle.td_host_job.specs.Swaps.{Named, NamedRoom}
 
 abbrev pub Decided : Type 0 → Type 0
 Decided P = P ⊎ (P → ⊥)
@@ -17,6 +18,12 @@ name_decided a b = by_test (bytes_eq a b) refl
     by_test : (test : Bool) → bytes_eq a b ≡ test → Decided (a ≡ b)
     by_test true e = inl ((bytes_eq-Decides a b).0 e)
     by_test false e = inr (λ same. let yes = (bytes_eq-Decides a b).1 same in cc)
+
+number_decided : (a b : ℕ) → Decided (a ≡ b)
+number_decided a b = elim (cases_order a b) [
+  | inl same ↦ inl same
+  | inr other ↦ inr (λ e. elim other [ inl less ↦ omega (arith, less, e) | inr more ↦ omega (arith, more, e) ])
+]
 
 field_decided : (a b : Option (List ℕ)) → Decided (a ≡ b)
 field_decided None None = inl refl
@@ -56,7 +63,7 @@ kind_decided (Number v) (Number w) =
       | inr other ↦ inr (λ e. let same : v ≡ w = cc in other same)
     ]
 
-named_decided : (a b : Named) → Decided (a ≡ b)
+pub named_decided : (a b : Named) → Decided (a ≡ b)
 named_decided a b =
     elim (name_decided a.name b.name) [
       | inr other ↦ inr (λ e. other (ap (λ (n : Named). n.name) e))
@@ -69,14 +76,25 @@ named_decided a b =
       ]
     ]
 
-pub list_decided : (xs ys : List Named) → Decided (xs ≡ ys)
-list_decided [] [] = inl refl
-list_decided [] (y ∷ ys) = inr (λ e. cc)
-list_decided (x ∷ xs) [] = inr (λ e. cc)
-list_decided (x ∷ xs) (y ∷ ys) =
-    elim (named_decided x y) [
+pub room_decided : (a b : NamedRoom) → Decided (a ≡ b)
+room_decided a b =
+    elim (name_decided a.name b.name) [
+      | inr other ↦ inr (λ e. other (ap (λ (n : NamedRoom). n.name) e))
+      | inl name ↦ elim (number_decided a.room b.room) [
+        | inr other ↦ inr (λ e. other (ap (λ (n : NamedRoom). n.room) e))
+        | inl room ↦ inl (λ i. record { name = name i; room = room i })
+      ]
+    ]
+
+-- lists of what is decided
+pub list_decided : {A : Type 0} → ((a b : A) → Decided (a ≡ b)) → (xs ys : List A) → Decided (xs ≡ ys)
+list_decided each [] [] = inl refl
+list_decided each [] (y ∷ ys) = inr (λ e. cc)
+list_decided each (x ∷ xs) [] = inr (λ e. cc)
+list_decided each (x ∷ xs) (y ∷ ys) =
+    elim (each x y) [
       | inr other ↦ inr (λ e. let same : x ≡ y = cc in other same)
-      | inl first ↦ elim (list_decided xs ys) [
+      | inl first ↦ elim (list_decided each xs ys) [
         | inr other ↦ inr (λ e. let same : xs ≡ ys = cc in other same)
         | inl rest ↦ inl (λ i. first i ∷ rest i)
       ]

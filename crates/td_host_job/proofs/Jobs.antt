@@ -22,7 +22,7 @@ use Rattle.td_posts.specs.declared.ring.RingJob.{RingJob}
 use Rattle.td_host_job.specs.Guests.{workers_faults, given_guests}
 use Rattle.td_host_job.specs.Rings.{given_rings}
 use Rattle.td_host_job.specs.Swaps.{given_swaps}
-use Rattle.td_host_job.specs.HostJobs.{given_buffer, buffer_words, before_faults, after_faults, AreSwapsOf, LaterFault, FirstFault, IsHost, IsHostJob, RefusedHostJob}
+use Rattle.td_host_job.specs.HostJobs.{given_buffer, buffer_words, rooms_in, before_faults, after_faults, AreSwapsOf, LaterFault, FirstFault, IsHost, IsHostJob, RefusedHostJob}
 use Rattle.td_host_job.proofs.Swapping.{Texts, one_versions, fault_or_versions, one_swap_fault, versions_or_fault}
 
 abbrev name_in : Data → Option (List ℕ)
@@ -38,16 +38,17 @@ module _ (texts : Texts) where
       let entries : a.entries ≡ b.entries = ha.begins ∙ ((λ i. entry i ∷ versions.1 i) ∙ sym hb.begins) in
       let args = ha.args ∙ ap (λ (e : Entry). given_args (entry_definition m e.number) job) entry ∙ sym hb.args in
       let cells = ha.cells ∙ ap (λ (e : Entry). length (cells_bounds (entry_definition m e.number))) entry ∙ sym hb.cells in
+      let rooms = ha.roomy ∙ ap (λ (e : Entry). rooms_in (entry_definition m e.number)) entry ∙ sym hb.roomy in
       let words = filled_once (given_buffer job) (buffer_words job) a.words b.words ha.filled hb.filled in
       let wa = ha.worked in
       let wb = hb.worked in
       let workers : a.workers ≡ b.workers = cc in
       let guests = ha.scripted ∙ sym hb.scripted in
       let rings = ha.looked_at ∙ sym hb.looked_at in
-      let make : List Module → List Entry → List ℕ → ℕ → List ℕ → ℕ → List (List Step) → List RingJob → HostJob =
-      λ formats entries args cells words workers guests rings.
-      record { formats = formats; entries = entries; args = args; cells = cells; words = words; workers = workers; guests = guests; rings = rings } in
-      λ i. make (formats i) (entries i) (args i) (cells i) (words i) (workers i) (guests i) (rings i)
+      let make : List Module → List Entry → List ℕ → ℕ → List ℕ → List ℕ → ℕ → List (List Step) → List RingJob → HostJob =
+      λ formats entries args cells rooms words workers guests rings.
+      record { formats = formats; entries = entries; args = args; cells = cells; rooms = rooms; words = words; workers = workers; guests = guests; rings = rings } in
+      λ i. make (formats i) (entries i) (args i) (cells i) (rooms i) (words i) (workers i) (guests i) (rings i)
 
   pub one_host_job : (bytes : List ℕ) (m : Module) (a b : HostJob) → IsHostJob bytes m a → IsHostJob bytes m b → a ≡ b
   one_host_job bytes m a b ha hb =
@@ -87,7 +88,7 @@ module _ (texts : Texts) where
         ]
         | inr s ↦ elim y.1 [
           | inl t ↦ absurd (fault_or_versions m entry (name_in job) texts 0 (given_swaps job) b s.0 s.1 t s.2)
-          | inr t ↦ one_first (after_faults job) a b s.3 t.3
+          | inr t ↦ one_first (after_faults (entry_definition m entry.number) job) a b s.3 t.3
         ]
       ]
 
@@ -114,7 +115,7 @@ has_workers None h = absurd (cc)
 has_workers (Some n) h = (n, refl)
 
 faultless_job : (m : Module) (job : Data) (entry : Entry) (fs : List Module) (gs : List Entry) → IsEntry m (name_in job) entry → before_faults (entry_definition m entry.number) job ≡ []
-    → AreSwapsOf m job entry fs gs → after_faults job ≡ [] → (j : HostJob) × IsHost m job j
+    → AreSwapsOf m job entry fs gs → after_faults (entry_definition m entry.number) job ≡ [] → (j : HostJob) × IsHost m job j
 faultless_job m job entry fs gs named before swaps after =
     let d = entry_definition m entry.number in
     let list = both_empty _ _ before in
@@ -128,6 +129,7 @@ faultless_job m job entry fs gs named before swaps after =
         entries = entry ∷ gs;
         args = given_args d job;
         cells = length (cells_bounds d);
+        rooms = rooms_in d;
         words = words.0;
         workers = number.0;
         guests = given_guests job;
@@ -145,6 +147,7 @@ faultless_job m job entry fs gs named before swaps after =
         begins = refl;
         args = refl;
         cells = refl;
+        roomy = refl;
         filled = words.1;
         worked = number.1;
         scripted = refl;
@@ -158,7 +161,7 @@ Made m job = ((j : HostJob) × IsHost m job j) ⊎ ((e : JobError) × FirstFault
 
 module _ (always : AlwaysOne) where
   by_after : (m : Module) (job : Data) (entry : Entry) (fs : List Module) (gs : List Entry) → IsEntry m (name_in job) entry → before_faults (entry_definition m entry.number) job ≡ []
-      → AreSwapsOf m job entry fs gs → (faults : List JobError) → after_faults job ≡ faults → Made m job
+      → AreSwapsOf m job entry fs gs → (faults : List JobError) → after_faults (entry_definition m entry.number) job ≡ faults → Made m job
   by_after m job entry fs gs named before swaps [] h = inl (faultless_job m job entry fs gs named before swaps h)
   by_after m job entry fs gs named before swaps (e ∷ others) h = inr (e, inr (entry, named, inr (before, inr (fs, gs, swaps, record { others = others; is = h }))))
 
@@ -167,7 +170,7 @@ module _ (always : AlwaysOne) where
   by_before m job entry named [] h =
       elim (versions_or_fault m entry (name_in job) always 0 (given_swaps job)) [
         | inr wrong ↦ inr (wrong.0, inr (entry, named, inr (h, inl wrong.1)))
-        | inl good ↦ by_after m job entry good.0 good.1 named h good.2 (after_faults job) refl
+        | inl good ↦ by_after m job entry good.0 good.1 named h good.2 (after_faults (entry_definition m entry.number) job) refl
       ]
 
   made : (m : Module) (job : Data) → Made m job

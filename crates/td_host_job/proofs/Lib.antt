@@ -1,6 +1,7 @@
 pub mod Alike
 pub mod Zeros
 pub mod Counting
+pub mod CopyTotals
 pub mod Elements
 pub mod Jobs
 pub mod Looping

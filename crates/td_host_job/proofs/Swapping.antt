@@ -20,8 +20,8 @@ use Rattle.td_job.specs.Jobs.{IsEntry}
 use Rattle.td_job.proofs.Existing.{entry_or_fault}
 use Rattle.td_job.proofs.Unique.{one_entry}
 use Rattle.td_job.proofs.Unique.{entry_or_fault as never_both_entry}
-use Rattle.td_host_job.specs.Swaps.{params_named, cells_named, Replaces, IsSwap, NoSwap, Spells, AreSwaps, ElementFault, FirstSwapFault}
-use Rattle.td_host_job.proofs.Alike.{list_decided}
+use Rattle.td_host_job.specs.Swaps.{params_named, cells_named, buffers_named, Replaces, IsSwap, NoSwap, Spells, AreSwaps, ElementFault, FirstSwapFault}
+use Rattle.td_host_job.proofs.Alike.{named_decided, room_decided, list_decided}
 
 -- what is known of module texts
 pub record Texts : Type 0 where
@@ -39,11 +39,14 @@ module _ (m : Module) (entry : Entry) (name : Option (List ℕ)) where
         | inr wrong ↦ inr (λ g h. never_both_entry f name g wrong.0 h.named wrong.1)
         | inl found ↦
             let g = found.0 in
-            elim (list_decided (params_named f (entry_definition f g.number)) (params_named m (entry_definition m entry.number))) [
+            elim (list_decided named_decided (params_named f (entry_definition f g.number)) (params_named m (entry_definition m entry.number))) [
               | inr other ↦ inr (λ x h. other (subst (λ (y : Entry). params_named f (entry_definition f y.number) ≡ params_named m (entry_definition m entry.number)) (one_entry f name x g h.named found.1) h.params))
-              | inl params ↦ elim (list_decided (cells_named f (entry_definition f g.number)) (cells_named m (entry_definition m entry.number))) [
+              | inl params ↦ elim (list_decided named_decided (cells_named f (entry_definition f g.number)) (cells_named m (entry_definition m entry.number))) [
                 | inr other ↦ inr (λ x h. other (subst (λ (y : Entry). cells_named f (entry_definition f y.number) ≡ cells_named m (entry_definition m entry.number)) (one_entry f name x g h.named found.1) h.cells))
-                | inl cells ↦ inl (g, record { named = found.1; params = params; cells = cells })
+                | inl cells ↦ elim (list_decided room_decided (buffers_named f (entry_definition f g.number)) (buffers_named m (entry_definition m entry.number))) [
+                  | inr other ↦ inr (λ x h. other (subst (λ (y : Entry). buffers_named f (entry_definition f y.number) ≡ buffers_named m (entry_definition m entry.number)) (one_entry f name x g h.named found.1) h.buffers))
+                  | inl buffers ↦ inl (g, record { named = found.1; params = params; cells = cells; buffers = buffers })
+                ]
               ]
             ]
       ]

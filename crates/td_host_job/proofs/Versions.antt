@@ -19,8 +19,8 @@ use Rattle.td_job.proofs.Numbers.{both_empty, args_fit}
 use Rattle.td_job.proofs.Unique.{named_within}
 use Rattle.td_posts.specs.declared.job.HostJob.{HostJob}
 use Rattle.td_posts.specs.Posts.{IsVersion}
-use Rattle.td_host_job.specs.Swaps.{Named, named_param, named_cell, params_named, cells_named, given_swaps, Replaces, IsSwap, AreSwaps}
-use Rattle.td_host_job.specs.HostJobs.{IsHost, IsHostJob, IsOrStands, HasVersionValues, HasHostValues}
+use Rattle.td_host_job.specs.Swaps.{Named, NamedRoom, named_param, named_cell, named_buffer, params_named, cells_named, buffers_named, given_swaps, Replaces, IsSwap, AreSwaps}
+use Rattle.td_host_job.specs.HostJobs.{rooms_in, IsHost, IsHostJob, IsOrStands, HasVersionValues, HasHostValues}
 use Rattle.td_host_job.proofs.Swapping.{as_many_formats, as_many_entries}
 
 -- ---- what is named bounds the values
@@ -47,6 +47,14 @@ same_args m entry name f g h =
 same_cells : (m : Module) (entry : Entry) (name : Option (List ℕ)) (f : Module) (g : Entry) → Replaces m entry name f g → cells_bounds (entry_definition m entry.number) ≡ cells_bounds (entry_definition f g.number)
 same_cells m entry name f g h =
     bounds_named m (entry_definition m entry.number) ∙ (ap (map bound_of) (sym h.cells) ∙ sym (bounds_named f (entry_definition f g.number)))
+
+rooms_named : (m : Module) (d : Option TypeDef) → rooms_in d ≡ map (λ (n : NamedRoom). n.room) (buffers_named m d)
+rooms_named m None = refl
+rooms_named m (Some d) = map_twice (λ (n : NamedRoom). n.room) (named_buffer m) d.buffers
+
+same_rooms : (m : Module) (entry : Entry) (name : Option (List ℕ)) (f : Module) (g : Entry) → Replaces m entry name f g → rooms_in (entry_definition m entry.number) ≡ rooms_in (entry_definition f g.number)
+same_rooms m entry name f g h =
+    rooms_named m (entry_definition m entry.number) ∙ (ap (map (λ (n : NamedRoom). n.room)) (sym h.buffers) ∙ sym (rooms_named f (entry_definition f g.number)))
 
 -- ---- versions by their numbers
 
@@ -85,6 +93,7 @@ values_of_first m job j h =
       entry = named_within m (text_of key.Entry job) h.entry h.named;
       args = subst (AllFit (args_bounds d)) (sym h.args) (args_fit (args_bounds d) (field_of key.Args job) lists.0);
       cells = h.cells;
+      rooms = h.roomy;
     }
 
 values_of_swap : (m : Module) (job : Data) (j : HostJob) → (h : IsHost m job j) → (f : Module) (g : Entry) → Replaces m h.entry (text_of key.Entry job) f g → HasVersionValues j f g
@@ -94,6 +103,7 @@ values_of_swap m job j h f g is =
       entry = named_within f (text_of key.Entry job) g is.named;
       args = subst (λ (bounds : List Bound). AllFit bounds j.args) (same_args m h.entry (text_of key.Entry job) f g is) first.args;
       cells = first.cells ∙ ap (length {A = Bound}) (same_cells m h.entry (text_of key.Entry job) f g is);
+      rooms = first.rooms ∙ same_rooms m h.entry (text_of key.Entry job) f g is;
     }
 
 each_version : (m : Module) (job : Data) (j : HostJob) → (h : IsHost m job j) → (n : ℕ) (f : Module) (g : Entry) → slice_get (m ∷ h.formats) n ≡ Some f → slice_get (h.entry ∷ h.entries) n ≡ Some g → HasVersionValues j f g

@@ -2,16 +2,17 @@
 --
 -- A host job is a JSON object with the fields `entry`, `args`, `buffer`, `workers`, `guests`, `rings` and `swaps`. Its faults stand in
 -- that order, each field looked at for all that can be wrong with it (a list first for its length, and then element by element),
--- then the fields of other names, and at last the totals `posts`, `stores` and `words` over all scripts and rings; at one place the
--- lower code stands first. The answer is the first fault. `entry` and `args` are those of a run job, and `buffer` is as its
+-- then the fields of other names, and at last the totals `posts`, `stores`, `words` and `copies` over all scripts and rings; at one
+-- place the lower code stands first. The answer is the first fault. `entry` and `args` are those of a run job, and `buffer` is as its
 -- `bytes`.
-use Rattle.std.specs.Prelude.{◌≡◌, ℕ, ◌+◌, ◌<◌, ◌≤◌, ◌^◌, ◌⊎◌, List, [], ◌∷◌, ◌++◌, length, slice_get, Option, Some}
+use Rattle.std.specs.Prelude.{◌≡◌, ℕ, ◌+◌, ◌<◌, ◌≤◌, ◌^◌, ◌⊎◌, List, [], ◌∷◌, ◌++◌, map, length, slice_get, Option, Some}
 use Rattle.std.specs.List.{All}
 use Rattle.serde_json.specs.Data.{Data}
 use Rattle.serde_json.specs.Find.{as_object}
 use Rattle.td_core.specs.declared.module.Module.{Module}
 use Rattle.td_core.specs.declared.module.Entry.{Entry}
 use Rattle.td_core.specs.declared.module.TypeDef.{TypeDef}
+use Rattle.td_core.specs.declared.module.Buffer.{Buffer}
 use Rattle.td_core.specs.Entries.{entry_definition}
 use Rattle.td_core.specs.Formed.{AllFit}
 use Rattle.td_front.specs.ModuleText.{IsModuleText}
@@ -32,9 +33,9 @@ use Rattle.td_posts.specs.declared.limits.TheConstants.{MOST_GUESTS, MOST_SWAPS,
 use Rattle.td_stream.specs.declared.layout.TheConstants.{MOST_STRETCHES}
 use Rattle.td_stream.specs.Layouts.{length_in}
 use Rattle.td_posts.specs.Posts.{IsVersion, words_in, layout_of}
-use Rattle.td_posts.specs.Servable.{job_mails, IsRingWithin}
+use Rattle.td_posts.specs.Servable.{job_mails, room_in, IsRingWithin}
 use Rattle.td_host_job.specs.Guests.{listed_in, workers_faults, guests_faults, given_guests, BeginsWithName}
-use Rattle.td_host_job.specs.Swaps.{swaps_faults, given_swaps, AreSwaps, FirstSwapFault, MayLackSwap}
+use Rattle.td_host_job.specs.Swaps.{buffers_in, swaps_faults, given_swaps, AreSwaps, FirstSwapFault, MayLackSwap}
 use Rattle.td_host_job.specs.Rings.{rings_faults, given_rings}
 use Rattle.td_host_job.specs.Totals.{totals_faults}
 
@@ -59,9 +60,13 @@ before_faults d job =
     ++ rings_faults (buffer_words job) (field_of key.Rings job)
     ++ swaps_faults (field_of key.Swaps job)
 
+-- the rooms of the copy buffers of an entry point with this definition
+abbrev pub rooms_in : Option TypeDef → List ℕ
+rooms_in d = map (λ (b : Buffer). b.room) (buffers_in d)
+
 -- the faults after those of the elements of `swaps`
-abbrev pub after_faults : Data → List JobError
-after_faults job = unknown_faults path.Unknown (first_unknown host_keys (as_object job)) ++ totals_faults (given_guests job) (given_rings job)
+abbrev pub after_faults : Option TypeDef → Data → List JobError
+after_faults d job = unknown_faults path.Unknown (first_unknown host_keys (as_object job)) ++ totals_faults (room_in (rooms_in d)) (given_guests job) (given_rings job)
 
 -- the elements of `swaps` stand for these modules and entry points, which may replace the module with this entry point
 abbrev pub AreSwapsOf : Module → Data → Entry → List Module → List Entry → Type 0
@@ -73,7 +78,7 @@ LaterFault m job entry e =
     IsFirst (before_faults (entry_definition m entry.number) job) e
     ⊎ ((before_faults (entry_definition m entry.number) job ≡ [])
     × (FirstSwapFault m entry (text_of key.Entry job) 0 (given_swaps job) e
-    ⊎ ((formats : List Module) × (entries : List Entry) × AreSwapsOf m job entry formats entries × IsFirst (after_faults job) e)))
+    ⊎ ((formats : List Module) × (entries : List Entry) × AreSwapsOf m job entry formats entries × IsFirst (after_faults (entry_definition m entry.number) job) e)))
 
 -- the first fault of a job
 abbrev pub FirstFault : Module → Data → JobError → Type 0
@@ -99,7 +104,7 @@ LacksRest m job entry =
     ⊎ (BeginsWithName (rest_faults (buffer_words job) job)
     ⊎ ((rest_faults (buffer_words job) job ≡ [])
     × (MayLackSwap m entry (text_of key.Entry job) (given_swaps job)
-    ⊎ ((formats : List Module) × (entries : List Entry) × AreSwapsOf m job entry formats entries × ((after_faults job ≡ []) ⊎ BeginsWithName (after_faults job))))))
+    ⊎ ((formats : List Module) × (entries : List Entry) × AreSwapsOf m job entry formats entries × ((after_faults (entry_definition m entry.number) job ≡ []) ⊎ BeginsWithName (after_faults (entry_definition m entry.number) job))))))
 
 pub record MayLackMemory (m : Module) (job : Data) : Type 0 where
   pub entry : Entry
@@ -114,11 +119,12 @@ pub record IsHost (m : Module) (job : Data) (j : HostJob) : Type 0 where
   pub named : IsEntry m (text_of key.Entry job) entry
   pub before : before_faults (entry_definition m entry.number) job ≡ []
   pub swaps : AreSwapsOf m job entry formats entries
-  pub after : after_faults job ≡ []
+  pub after : after_faults (entry_definition m entry.number) job ≡ []
   pub by : j.formats ≡ m ∷ formats
   pub begins : j.entries ≡ entry ∷ entries
   pub args : j.args ≡ given_args (entry_definition m entry.number) job
   pub cells : j.cells ≡ length (cells_bounds (entry_definition m entry.number))
+  pub roomy : j.rooms ≡ rooms_in (entry_definition m entry.number)
   pub filled : IsFilled (given_buffer job) (buffer_words job) j.words
   pub worked : number_of key.Workers job ≡ Some j.workers
   pub scripted : j.guests ≡ given_guests job
@@ -134,11 +140,13 @@ RefusedHostJob bytes m e =
     ((e ≡ Fault rule.NotJson path.Job) × ((job : Data) → Reads bytes job → ⊥))
     ⊎ ((job : Data) × Reads bytes job × FirstFault m job e)
 
--- the entry point is this module's, each of its parameters has its value, which fits there, and its cells are so many
+-- the entry point is this module's, each of its parameters has its value, which fits there, its cells are so many, and its copy
+-- buffers have these rooms
 pub record HasVersionValues (j : HostJob) (f : Module) (g : Entry) : Type 0 where
   pub entry : g.number < length f.entries
   pub args : AllFit (args_bounds (entry_definition f g.number)) j.args
   pub cells : j.cells ≡ length (cells_bounds (entry_definition f g.number))
+  pub rooms : j.rooms ≡ rooms_in (entry_definition f g.number)
 
 -- the module itself, or one for which a text stands
 abbrev pub IsOrStands : Module → Module → Type 0

@@ -1,9 +1,9 @@
 -- The texts by which a host job's module is replaced while it is served, and what is wrong with one (own rule).
 --
 -- `swaps` is a list (J2) of at most 16 elements (J8); it may be left out. Each element is a text (J2) that may replace the job's
--- module (J9): it stands for a module that has the entry point which the job names, with the same parameters and the same cells, that
--- is as many, of the same names and widths, in the same order. Of a cell that is a field of an output record the field's name counts
--- too, and a pointer is no number. The order of a number's bytes, an enum, and another name of a type don't show in them.
+-- module (J9): it stands for a module that has the entry point which the job names, with the same parameters, the same cells and the
+-- same copy buffers, that is as many, of the same names and widths or rooms, in the same order. Of a cell that is a field of an output
+-- record the field's name counts too, and a pointer is no number. The order of a number's bytes, an enum, and another name of a type don't show in them.
 use Rattle.std.specs.Prelude.{◌≡◌, ℕ, ◌+◌, ◌-◌, ◌≤◌, ◌^◌, List, [], ◌∷◌, map, length, nat_lt, Option, Some, None, ◌⊎◌}
 use Rattle.std.specs.Option.{option_map}
 use Rattle.serde_json.specs.Data.{Data, Items, no_items, item}
@@ -14,6 +14,7 @@ use Rattle.td_core.specs.declared.module.Entry.{Entry}
 use Rattle.td_core.specs.declared.module.TypeDef.{TypeDef}
 use Rattle.td_core.specs.declared.module.Param.{Param}
 use Rattle.td_core.specs.declared.module.Cell.{Cell}
+use Rattle.td_core.specs.declared.module.Buffer.{Buffer}
 use Rattle.td_core.specs.declared.module.CellKind.{CellKind}
 use Rattle.td_core.specs.declared.module.CellKind.TheVariants.{Number}
 use Rattle.td_core.specs.Entries.{entry_definition, name_bytes}
@@ -71,11 +72,26 @@ abbrev pub cells_in : Option TypeDef → List Cell
 cells_in None = []
 cells_in (Some d) = d.cells
 
+abbrev pub buffers_in : Option TypeDef → List Buffer
+buffers_in None = []
+buffers_in (Some d) = d.buffers
+
+-- a copy buffer, as a code's tables have it
+pub record NamedRoom : Type 0 where
+  pub name : List ℕ
+  pub room : ℕ
+
+abbrev pub named_buffer : Module → Buffer → NamedRoom
+named_buffer m b = record { name = name_bytes m b.name; room = b.room }
+
 abbrev pub params_named : Module → Option TypeDef → List Named
 params_named m d = map (named_param m) (params_in d)
 
 abbrev pub cells_named : Module → Option TypeDef → List Named
 cells_named m d = map (named_cell m) (cells_in d)
+
+abbrev pub buffers_named : Module → Option TypeDef → List NamedRoom
+buffers_named m d = map (named_buffer m) (buffers_in d)
 
 -- ---- a swap
 
@@ -84,6 +100,7 @@ pub record Replaces (m : Module) (entry : Entry) (name : Option (List ℕ)) (f :
   pub named : IsEntry f name g
   pub params : params_named f (entry_definition f g.number) ≡ params_named m (entry_definition m entry.number)
   pub cells : cells_named f (entry_definition f g.number) ≡ cells_named m (entry_definition m entry.number)
+  pub buffers : buffers_named f (entry_definition f g.number) ≡ buffers_named m (entry_definition m entry.number)
 
 -- a text that stands for such a module
 abbrev pub IsSwap : Module → Entry → Option (List ℕ) → List ℕ → Module → Entry → Type 0

@@ -1,18 +1,19 @@
 //! The fields of a host job, each looked at for all that can be wrong with it.
 
-ghost use Rattle.std.specs.Prelude.{◌≡◌, ◌≢◌, [], ◌⊎◌, Err, Some, OnOk, IfOk, IfErr};
+ghost use Rattle.std.specs.Prelude.{◌≡◌, ◌≢◌, [], ◌⊎◌, Err, Some, option_map, OnOk, IfOk, IfErr};
 ghost use Rattle.serde_json.specs.View.{view};
 ghost use Rattle.td_job.specs.Fields.{IsFirst, number_of};
 ghost use Rattle.td_host_job.specs.Guests.{BeginsWithName};
 ghost use Rattle.td_host_job.specs.HostJobs.{buffer_words, FirstFault, HasGoodFields, rest_faults, after_faults};
 
+use crate::copies::buffers_in;
 use crate::guests::{check_each_guest, listed_guests, spelled_guests, workers_of};
 use crate::rings::{check_each_ring, listed_rings, spelled_rings};
 use crate::swaps::check_swap_list;
 use crate::totals::check_totals;
 use serde_json::Value;
 use std::alloc::Global;
-use td_core::module::{Entry, Module};
+use td_core::module::{Entry, Module, TypeDef};
 use td_job::checks::{check_names, count_of, entry_of};
 use td_job::error::{JobError, Key};
 use td_job::values::{check_args, definition_of, params_of};
@@ -60,13 +61,22 @@ pub(crate) fn check_rest(alloc: Global, job: &Value, words: u32) -> Result<(), J
     Ok(())
 }
 
-/// Tests a job for the faults after the elements of `swaps`: the fields of other names, and the totals; the first fault of these.
+/// Tests a job for the faults after the elements of `swaps`: the fields of other names, and the totals, where this is the entry point's
+/// definition; the first fault of these.
 /// `NoMemory`: that is a field of another name, and there was no memory for the name, which is all that takes any.
-pub(crate) fn check_after(alloc: Global, job: &Value) -> Result<(), JobError>
-    ensures ok { OnOk result (after_faults (view job.now) ≡ []) }
-    ensures err { IfErr result (λ e. (e ≡ JobError.NoMemory) ⊎ IsFirst (after_faults (view job.now)) e) }
-    ensures memory { result ≡ Err JobError.NoMemory → BeginsWithName (after_faults (view job.now)) }
+pub(crate) fn check_after(
+    alloc: Global,
+    job: &Value,
+    definition: Option<&TypeDef>,
+) -> Result<(), JobError>
+    ensures ok { OnOk result (after_faults (option_map (λ d. d.now) definition.entry) (view job.now) ≡ []) }
+    ensures err { IfErr result (λ e. (e ≡ JobError.NoMemory) ⊎ IsFirst (after_faults (option_map (λ d. d.now) definition.entry) (view job.now)) e) }
+    ensures memory { result ≡ Err JobError.NoMemory → BeginsWithName (after_faults (option_map (λ d. d.now) definition.entry) (view job.now)) }
 {
     check_names(alloc, job, FIELDS)?;
-    check_totals(spelled_guests(job), spelled_rings(job))
+    check_totals(
+        spelled_guests(job),
+        spelled_rings(job),
+        buffers_in(definition),
+    )
 }

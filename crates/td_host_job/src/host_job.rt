@@ -2,10 +2,12 @@
 
 ghost use Rattle.std.specs.Prelude.{◌≡◌, [], ◌∷◌, ◌⊎◌, ◌<◌, ◌≤◌, ◌*◌, ◌^◌, Err, Some, length, IfOk, IfErr, OnOk, OnErr, MatchResult};
 ghost use Rattle.serde_json.specs.View.{view};
+ghost use Rattle.td_core.specs.Entries.{entry_definition};
 ghost use Rattle.td_posts.specs.Servable.{IsServable};
 ghost use Rattle.td_job.specs.Fields.{number_of};
 ghost use Rattle.td_host_job.specs.HostJobs.{buffer_words, FirstFault, rest_faults, after_faults, AreSwapsOf, HasGoodFields, MayLackMemory, IsHost, IsHostJob, RefusedHostJob, HasHostValues, HasShortMessages};
 
+use crate::copies::rooms_of;
 use crate::fields::{check_after, check_first, check_rest};
 use crate::guests::guests_of;
 use crate::rings::rings_of;
@@ -70,13 +72,13 @@ fn test_job(alloc: Global, job: &Value, m: &Module) -> Result<Tested, JobError>
     ensures words { IfOk result (λ x. buffer_words (view job.now) ≡ x.words) }
     ensures workers { IfOk result (λ x. number_of Key.Workers (view job.now) ≡ Some x.workers) }
     ensures swaps { IfOk result (λ x. AreSwapsOf m.now (view job.now) x.entry x.swaps.formats.items x.swaps.entries.items) }
-    ensures after { IfOk result (λ x. after_faults (view job.now) ≡ []) }
+    ensures after { IfOk result (λ x. after_faults (entry_definition m.now x.entry.number) (view job.now) ≡ []) }
     ensures err { IfErr result (λ e. (e ≡ JobError.NoMemory) ⊎ FirstFault m.now (view job.now) e) }
     ensures memory { result ≡ Err JobError.NoMemory → MayLackMemory m.now (view job.now) }
 {
     let (entry, words, workers) = check_fields(alloc, job, m)?;
     let swaps = swaps_of(alloc, job, m, entry)?;
-    check_after(alloc, job)?;
+    check_after(alloc, job, definition_of(m, entry))?;
     Ok(Tested {
         entry,
         words,
@@ -130,7 +132,7 @@ fn made_of(alloc: Global, job: &Value, m: &Module, tested: Tested) -> Result<Hos
     requires words { buffer_words (view job.now) ≡ tested.words }
     requires workers { number_of Key.Workers (view job.now) ≡ Some tested.workers }
     requires swaps { AreSwapsOf m.now (view job.now) tested.entry tested.swaps.formats.items tested.swaps.entries.items }
-    requires after { after_faults (view job.now) ≡ [] }
+    requires after { after_faults (entry_definition m.now tested.entry.number) (view job.now) ≡ [] }
     ensures ok { IfOk result (λ j. IsHost m.now (view job.now) j) }
     ensures words { IfOk result (λ j. length j.words < 2 ^ 32) }
     ensures bytes { IfOk result (λ j. 0 < length j.rings → 8 * length j.words < 2 ^ 32) }
@@ -154,6 +156,7 @@ fn made_of(alloc: Global, job: &Value, m: &Module, tested: Tested) -> Result<Hos
         entries: entries_of(alloc, entry, entries)?,
         args: values_of(alloc, job, Key::Args, params)?,
         cells: count_of(cells_of(definition).len())?,
+        rooms: rooms_of(alloc, definition)?,
         words: fill_words(alloc, bytes.as_slice(), words)?,
         workers,
         guests,

@@ -3,6 +3,7 @@
 //! for, or with its first fault in the order of the fields, each exactly where the definition says so, out of memory apart.
 #![tactic(auto)]
 
+mod copies;
 mod fields;
 mod guests;
 pub mod host_job;

@@ -1,6 +1,6 @@
 //! The rings of a host job.
 
-ghost use Rattle.std.specs.Prelude.{◌≡◌, ◌≢◌, ◌<◌, ◌-◌, ◌^◌, ℕ, [], ◌⊎◌, length, min, Err, IsOk, OnOk, IfOk, IfErr, IsSomeAnd};
+ghost use Rattle.std.specs.Prelude.{◌≡◌, ◌≢◌, ◌<◌, ◌*◌, ◌-◌, ◌^◌, ℕ, [], ◌⊎◌, length, min, Err, IsOk, OnOk, IfOk, IfErr, IsSomeAnd};
 ghost use Rattle.serde_json.specs.Find.{as_object};
 ghost use Rattle.serde_json.specs.View.{view, items_view};
 ghost use Rattle.td_job.specs.Fields.{field_of, number_of, IsFirst};
@@ -60,6 +60,13 @@ pub(crate) fn message_words(value: &Value) -> u64
 {
     let ring = spelled_ring(value);
     ring.takes.saturating_mul(ring.most / 8 + 2)
+}
+
+/// How many bytes the copy buffers of a ring's takes have, where those of one take have so many; at most 2^64 - 1.
+pub(crate) fn copied_bytes(value: &Value, room: u64) -> u64
+    ensures { result ≡ min ((given_ring (view value.now)).takes * room) (2 ^ 64 - 1) }
+{
+    spelled_ring(value).takes.saturating_mul(room)
 }
 
 /// Tests a field of a ring. J2: it is missing or no whole number.

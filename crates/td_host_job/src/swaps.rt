@@ -8,13 +8,14 @@ ghost use Rattle.td_front.specs.declared.error.FrontError.{FrontError};
 ghost use Rattle.td_front.specs.ModuleText.{IsModuleText, RefusedBy};
 ghost use Rattle.td_lexer.specs.Splits.{HasToken};
 ghost use Rattle.td_job.specs.Fields.{field_of, text_of, IsFirst};
-ghost use Rattle.td_host_job.specs.Swaps.{swaps_faults, given_swaps, named_param, named_cell, params_in, cells_in, params_named, cells_named, Replaces, IsSwap, NoSwap, Spells, AreSwaps, ElementFault, FirstSwapFault, MayLackText, MayLackSwap};
+ghost use Rattle.td_host_job.specs.Swaps.{swaps_faults, given_swaps, named_param, named_cell, named_buffer, params_in, cells_in, params_named, cells_named, buffers_named, Replaces, IsSwap, NoSwap, Spells, AreSwaps, ElementFault, FirstSwapFault, MayLackText, MayLackSwap};
 
+use crate::copies::buffers_in;
 use crate::guests::listed;
 use serde_json::Value;
 use std::alloc::{AllocError, Global};
 use td_core::entries::name_bytes;
-use td_core::module::{Cell, Entry, Module, NameId, Param, TypeDef};
+use td_core::module::{Buffer, Cell, Entry, Module, NameId, Param, TypeDef};
 use td_front::{FrontError, check_module};
 use td_job::checks::entry_of;
 use td_job::error::{JobError, JobRule, Key, Path};
@@ -125,6 +126,27 @@ fn are_same_cells(m: &Module, ones: &[Cell], f: &Module, others: &[Cell]) -> boo
     true
 }
 
+fn is_same_buffer(m: &Module, one: Buffer, f: &Module, other: Buffer) -> bool
+    ensures { IsTrue result ↔ (named_buffer m.now one ≡ named_buffer f.now other) }
+{
+    one.room == other.room && is_same_name(m, one.name, f, other.name)
+}
+
+/// Whether these copy buffers are as many, of the same names and rooms, in the same order.
+fn are_same_buffers(m: &Module, ones: &[Buffer], f: &Module, others: &[Buffer]) -> bool
+    ensures { IsTrue result ↔ (map (named_buffer m.now) ones.now ≡ map (named_buffer f.now) others.now) }
+{
+    if ones.len() != others.len() {
+        return false;
+    }
+    for (index, one) in ones.iter().enumerate() {
+        if !is_same_buffer(m, *one, f, others[index]) {
+            return false;
+        }
+    }
+    true
+}
+
 /// Whether two entry points have the same parameters.
 fn takes_same(m: &Module, entry: Entry, f: &Module, other: Entry) -> bool
     ensures { IsTrue result ↔ (params_named f.now (entry_definition f.now other.number) ≡ params_named m.now (entry_definition m.now entry.number)) }
@@ -143,15 +165,27 @@ fn fills_same(m: &Module, entry: Entry, f: &Module, other: Entry) -> bool
     are_same_cells(f, ones, m, others)
 }
 
-/// The entry point with which a module may replace that of a job. Takes no memory. None: it has none of that name, or that takes
-/// or fills others.
+/// Whether two entry points have the same copy buffers.
+fn copies_same(m: &Module, entry: Entry, f: &Module, other: Entry) -> bool
+    ensures { IsTrue result ↔ (buffers_named f.now (entry_definition f.now other.number) ≡ buffers_named m.now (entry_definition m.now entry.number)) }
+{
+    let ones = buffers_in(definition_of(f, other));
+    let others = buffers_in(definition_of(m, entry));
+    are_same_buffers(f, ones, m, others)
+}
+
+/// The entry point with which a module may replace that of a job. Takes no memory. None: it has none of that name, or that takes,
+/// fills or copies to others.
 fn replacing(job: &Value, m: &Module, entry: Entry, f: &Module) -> Option<Entry>
     ensures some { IfSome result (λ g. Replaces m.now entry (text_of Key.Entry (view job.now)) f.now g) }
     ensures none { result ≡ None → (g : Entry) → Replaces m.now entry (text_of Key.Entry (view job.now)) f.now g → ⊥ }
 {
     match entry_of(job, f) {
         Err(_) => None,
-        Ok(found) => if takes_same(m, entry, f, found) && fills_same(m, entry, f, found) {
+        Ok(found) => if takes_same(m, entry, f, found)
+            && fills_same(m, entry, f, found)
+            && copies_same(m, entry, f, found)
+        {
             Some(found)
         } else {
             None

@@ -1,24 +1,27 @@
-//! The totals over a host job: its posts, its stores, and the words of its messages.
+//! The totals over a host job: its posts, its stores, the words of its messages, and the bytes of its copy buffers.
 
-ghost use Rattle.std.specs.Prelude.{◌≡◌, ◌≢◌, ◌+◌, ◌-◌, ◌^◌, [], ℕ, min, OnOk, IfErr};
+ghost use Rattle.std.specs.Prelude.{◌≡◌, ◌≢◌, ◌+◌, ◌-◌, ◌^◌, [], ℕ, map, min, OnOk, IfErr};
 ghost use Rattle.std.specs.List.{sum_by};
 ghost use Rattle.serde_json.specs.View.{view, items_view};
 ghost use Rattle.td_job.specs.Fields.{IsFirst};
 ghost use Rattle.td_posts.specs.declared.job.Step.TheVariants as step;
+ghost use Rattle.td_posts.specs.Servable.{room_in};
 ghost use Rattle.td_job.specs.Stretches.{each_stretch};
 ghost use Rattle.td_host_job.specs.Steps.{spelled_step, step_in, store_in, each_step};
 ghost use Rattle.td_host_job.specs.Guests.{given_script, each_script};
 ghost use Rattle.td_host_job.specs.Rings.{given_ring, each_ring};
 ghost use Rattle.td_host_job.specs.Totals.{weight, ring_weight, most_of, key_of, total, total_fault, totals_faults};
 
+use crate::copies::check_copies;
 use crate::guests::listed;
-use crate::rings::message_words;
+use crate::rings::{copied_bytes, message_words};
 use crate::scatter::Measure;
 use crate::steps::{Spelled, spelled_step};
 use serde_json::Value;
+use td_core::module::Buffer;
 use td_job::error::{JobError, JobRule, Key, Path};
 use td_job::stores::word_of;
-use td_posts::limits::{MOST_MESSAGE_WORDS, MOST_POSTS, MOST_STORES};
+use td_posts::limits::{MOST_COPIED_BYTES, MOST_MESSAGE_WORDS, MOST_POSTS, MOST_STORES};
 
 /// What is counted over a host job.
 #[derive(Clone, Copy)]
@@ -26,6 +29,8 @@ pub(crate) enum Total {
     Posts,
     Stores,
     Words,
+    /// Where the copy buffers of one validation have so many bytes.
+    Copies(u64),
 }
 
 impl Total {
@@ -35,7 +40,7 @@ impl Total {
     {
         match self {
             Total::Stores => 1,
-            Total::Posts | Total::Words => 0,
+            Total::Posts | Total::Words | Total::Copies(_) => 0,
         }
     }
 
@@ -47,6 +52,7 @@ impl Total {
             Total::Posts => 1,
             Total::Stores => 0,
             Total::Words => length.div_ceil(8),
+            Total::Copies(room) => room,
         }
     }
 
@@ -58,6 +64,7 @@ impl Total {
             Total::Posts => 1,
             Total::Stores => 0,
             Total::Words => Measure::Words.over(stretches),
+            Total::Copies(room) => room,
         }
     }
 
@@ -91,6 +98,7 @@ impl Total {
             Total::Posts => MOST_POSTS as u64,
             Total::Stores => MOST_STORES as u64,
             Total::Words => MOST_MESSAGE_WORDS,
+            Total::Copies(_) => MOST_COPIED_BYTES,
         }
     }
 
@@ -102,6 +110,7 @@ impl Total {
             Total::Posts => Key::Posts,
             Total::Stores => Key::Stores,
             Total::Words => Key::Words,
+            Total::Copies(_) => Key::Copies,
         }
     }
 
@@ -144,6 +153,7 @@ impl Total {
         match self {
             Total::Posts | Total::Stores => 0,
             Total::Words => message_words(value),
+            Total::Copies(room) => copied_bytes(value, room),
         }
     }
 
@@ -166,7 +176,7 @@ impl Total {
     }
 
     /// Tests a total. J8: it is too much.
-    fn check(self, guests: &[Value], rings: &[Value]) -> Result<(), JobError>
+    pub(crate) fn check(self, guests: &[Value], rings: &[Value]) -> Result<(), JobError>
         ensures ok { OnOk result (total_fault self (each_script (items_view guests.now)) (each_ring (items_view rings.now)) ≡ []) }
         ensures err { IfErr result (IsFirst (total_fault self (each_script (items_view guests.now)) (each_ring (items_view rings.now)))) }
         ensures broken { IfErr result (λ e. e ≢ JobError.NoMemory) }
@@ -179,15 +189,20 @@ impl Total {
     }
 }
 
-/// Tests the totals over the scripts of these guests and over these rings, as the job spells them. J8: there are more than 4,096 posts,
-/// more than 65,536 stores, or messages of more than 1,048,576 words in all, with those that takes from the rings can have; the first of
-/// these. Takes no memory.
-pub(crate) fn check_totals(guests: &[Value], rings: &[Value]) -> Result<(), JobError>
-    ensures ok { OnOk result (totals_faults (each_script (items_view guests.now)) (each_ring (items_view rings.now)) ≡ []) }
-    ensures err { IfErr result (IsFirst (totals_faults (each_script (items_view guests.now)) (each_ring (items_view rings.now)))) }
+/// Tests the totals over the scripts of these guests and over these rings, as the job spells them, whose validations have these copy
+/// buffers. J8: there are more than 4,096 posts, more than 65,536 stores, messages of more than 1,048,576 words in all, with those that
+/// takes from the rings can have, or copy buffers of more than 16,777,216 bytes; the first of these. Takes no memory.
+pub(crate) fn check_totals(
+    guests: &[Value],
+    rings: &[Value],
+    buffers: &[Buffer],
+) -> Result<(), JobError>
+    ensures ok { OnOk result (totals_faults (room_in (map (λ b. b.room) buffers.now)) (each_script (items_view guests.now)) (each_ring (items_view rings.now)) ≡ []) }
+    ensures err { IfErr result (IsFirst (totals_faults (room_in (map (λ b. b.room) buffers.now)) (each_script (items_view guests.now)) (each_ring (items_view rings.now)))) }
     ensures broken { IfErr result (λ e. e ≢ JobError.NoMemory) }
 {
     Total::Posts.check(guests, rings)?;
     Total::Stores.check(guests, rings)?;
-    Total::Words.check(guests, rings)
+    Total::Words.check(guests, rings)?;
+    check_copies(guests, rings, buffers)
 }

@@ -27,8 +27,8 @@ host_are_lines : (ms : List Module) (es : List Entry) (rs : List Reply) (ring : 
 host_are_lines ms es rs ring ts words hr ht =
     lines_append (reply_lines ms es rs) (take_lines ms es ring ts) (replies_are_lines ms es rs words hr) (takes_are_lines ms es ring ts words ht)
 
-before_takes : (ms : List Module) (es : List Entry) (rs : List Reply) → All (Others 110) (reply_lines ms es rs)
-before_takes ms es rs = replies_others 110 ms es rs apart_from_rings (λ e. differ 110 114 (lit< tt) (sym e)) (λ e. differ 110 112 (lit< tt) (sym e))
+before_takes : (ms : List Module) (es : List Entry) (rs : List Reply) → All (Others 103) (reply_lines ms es rs)
+before_takes ms es rs = replies_others 103 ms es rs apart_from_rings (λ e. differ 103 115 (lit< tt) (sym e)) (λ e. differ 103 108 (lit< tt) (sym e))
 
 pub host_reports_determine_replies : HostReportsDetermineReplies
 host_reports_determine_replies ms es fs rs qs ring other ts us words none hr hq alike ht hu same =
@@ -36,6 +36,6 @@ host_reports_determine_replies ms es fs rs qs ring other ts us words none hr hq 
     same_lines (all_lines ms es rs ring ts) (all_lines ms fs qs other us) (host_are_lines ms es rs ring ts words hr ht) (host_are_lines ms fs qs other us words hq hu)
     (sym (host_by_lines ms es rs ring ts) ∙ same ∙ host_by_lines ms fs qs other us) in
     let parts =
-    cut_seam 110 (reply_lines ms es rs) (take_lines ms es ring ts) (reply_lines ms fs qs) (take_lines ms fs other us)
+    cut_seam 103 (reply_lines ms es rs) (take_lines ms es ring ts) (reply_lines ms fs qs) (take_lines ms fs other us)
     (before_takes ms es rs) (seam ms es ring ts) (before_takes ms fs qs) (seam ms fs other us) lines in
     (same_replies ms es fs rs qs words none hr hq parts.0, same_takes ms es fs ring other alike words none ts us ht hu parts.1)

@@ -1,4 +1,4 @@
--- Lists of lines that are cut where a line with another third byte begins, and lines of two numbers.
+-- Lists of lines that are cut where a line with another fourth byte begins, and lines of two numbers.
 use Rattle.std.proofs.Common.{◌≡◌, ◌≢◌, ℕ, ◌<◌, ◌^◌, List, [], ◌∷◌, ◌++◌, refl, sym, ap, ◌∙◌, append_assoc, arith, codes, decimal}
 use Rattle.std.proofs.lemmas.Fmt.{decimal_injective}
 use Rattle.std.proofs.lemmas.List.Elements.{All-head, All-tail}
@@ -6,18 +6,19 @@ use Rattle.std.specs.List.{All}
 use Rattle.td_report.proofs.Cutting.{Above, above_append, cut_after}
 use Rattle.td_report.proofs.Lines.{decimal_above}
 
--- the third byte of a line tells those of replies, rings and messages from all others
-abbrev pub third_of : List ℕ → ℕ
-third_of [] = 0
-third_of (x ∷ []) = 0
-third_of (x ∷ y ∷ []) = 0
-third_of (x ∷ y ∷ z ∷ l) = z
+-- the fourth byte of a line tells those of replies and rings from all others, and those of messages from the others of a take
+abbrev pub fourth_of : List ℕ → ℕ
+fourth_of [] = 0
+fourth_of (x ∷ []) = 0
+fourth_of (x ∷ y ∷ []) = 0
+fourth_of (x ∷ y ∷ z ∷ []) = 0
+fourth_of (x ∷ y ∷ z ∷ w ∷ l) = w
 
 abbrev pub Begins : ℕ → List ℕ → Type 0
-Begins c l = third_of l ≡ c
+Begins c l = fourth_of l ≡ c
 
 abbrev pub Others : ℕ → List ℕ → Type 0
-Others c l = third_of l ≢ c
+Others c l = fourth_of l ≢ c
 
 -- no line is left, or the first of them begins so
 abbrev pub IsSeam : ℕ → List (List ℕ) → Type 0
@@ -29,11 +30,11 @@ cut_seam c [] us [] vs hx hu hy hv e = (refl, e)
 cut_seam c [] [] (y ∷ ys) vs hx hu hy hv e = absurd (cc)
 cut_seam c [] (u ∷ us) (y ∷ ys) vs hx hu hy hv e =
     let same : y ≡ u = cc in
-    absurd ((All-head (Others c) y ys hy) (ap third_of same ∙ hu))
+    absurd ((All-head (Others c) y ys hy) (ap fourth_of same ∙ hu))
 cut_seam c (x ∷ xs) us [] [] hx hu hy hv e = absurd (cc)
 cut_seam c (x ∷ xs) us [] (v ∷ vs) hx hu hy hv e =
     let same : x ≡ v = cc in
-    absurd ((All-head (Others c) x xs hx) (ap third_of same ∙ hv))
+    absurd ((All-head (Others c) x xs hx) (ap fourth_of same ∙ hv))
 cut_seam c (x ∷ xs) us (y ∷ ys) vs hx hu hy hv e =
     let rest = cut_seam c xs us ys vs (All-tail (Others c) x xs hx) hu (All-tail (Others c) y ys hy) hv (cc) in
     let others = rest.0 in

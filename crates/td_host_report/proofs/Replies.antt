@@ -50,7 +50,7 @@ version_by_lines versions v = by (nat_lt 1 versions)
     by true = sym (append_nil (line (version_words v)))
     by false = refl
 
-version_others : (c versions v : ℕ) → 114 ≢ c → All (Others c) (version_lines versions v)
+version_others : (c versions v : ℕ) → 115 ≢ c → All (Others c) (version_lines versions v)
 version_others c versions v apart = by (nat_lt 1 versions)
   where
     by : (b : Bool) → All (Others c) (cond b (version_words v ∷ []) [])
@@ -113,7 +113,7 @@ later_are_lines ms es r words h =
     (version_are_lines (length ms) r.version h.version)
     (under_are_lines ms es r.version h.format h.entry r words h.is_format h.is_entry h.run)
 
-later_others : (c : ℕ) (ms : List Module) (es : List Entry) (r : Reply) → IsApart c → 114 ≢ c → All (Others c) (later_words ms es r)
+later_others : (c : ℕ) (ms : List Module) (es : List Entry) (r : Reply) → IsApart c → 115 ≢ c → All (Others c) (later_words ms es r)
 later_others c ms es r apart other =
     both_all (Others c) (version_lines (length ms) r.version) (words_under (slice_get ms r.version) (slice_get es r.version) r)
     (version_others c (length ms) r.version other) (under_others c (slice_get ms r.version) (slice_get es r.version) r apart)
@@ -126,8 +126,8 @@ replies_are_lines ms es (r ∷ replies) words h =
     (pair_above (codes "reply ") r.guest r.number (search arith) here.guest here.number, later_are_lines ms es r words here)
     (replies_are_lines ms es replies words (All-tail (IsReportable ms es) r replies h))
 
--- no line of a reply has such a third byte
-pub replies_others : (c : ℕ) (ms : List Module) (es : List Entry) (replies : List Reply) → IsApart c → 114 ≢ c → 112 ≢ c → All (Others c) (reply_lines ms es replies)
+-- no line of a reply has such a fourth byte
+pub replies_others : (c : ℕ) (ms : List Module) (es : List Entry) (replies : List Reply) → IsApart c → 115 ≢ c → 108 ≢ c → All (Others c) (reply_lines ms es replies)
 replies_others c ms es [] apart version reply = All-nil (Others c)
 replies_others c ms es (r ∷ replies) apart version reply =
     both_all (Others c) (reply_words r ∷ later_words ms es r) (reply_lines ms es replies)
@@ -136,15 +136,21 @@ replies_others c ms es (r ∷ replies) apart version reply =
 
 -- ---- cut where the line of a reply begins
 
-seam : (ms : List Module) (es : List Entry) (replies : List Reply) → IsSeam 112 (reply_lines ms es replies)
+seam : (ms : List Module) (es : List Entry) (replies : List Reply) → IsSeam 108 (reply_lines ms es replies)
 seam ms es [] = tt
 seam ms es (r ∷ replies) = refl
 
-apart_from_replies : IsApart 112
-apart_from_replies = record { accept = differ 99 112 (lit< tt); reject = differ 106 112 (lit< tt); frame_or_load = differ 97 112 (lit< tt); out = λ e. differ 112 116 (lit< tt) (sym e) }
+apart_from_replies : IsApart 108
+apart_from_replies = record {
+  verdict = differ 101 108 (lit< tt);
+  frame = λ e. differ 108 109 (lit< tt) (sym e);
+  out = differ 32 108 (lit< tt);
+  copy = λ e. differ 108 121 (lit< tt) (sym e);
+  load = differ 100 108 (lit< tt);
+}
 
-before_reply : (ms : List Module) (es : List Entry) (r : Reply) → All (Others 112) (later_words ms es r)
-before_reply ms es r = later_others 112 ms es r apart_from_replies (λ e. differ 112 114 (lit< tt) (sym e))
+before_reply : (ms : List Module) (es : List Entry) (r : Reply) → All (Others 108) (later_words ms es r)
+before_reply ms es r = later_others 108 ms es r apart_from_replies (λ e. differ 108 115 (lit< tt) (sym e))
 
 same_reply : (ms : List Module) (es fs : List Entry) (r q : Reply) → All HasWords ms → All HasNoSpotWord ms → IsReportable ms es r → IsReportable ms fs q
     → reply_words r ≡ reply_words q → later_words ms es r ≡ later_words ms fs q → reported_reply r ≡ reported_reply q
@@ -172,7 +178,7 @@ same_replies ms es fs (r ∷ rs) (q ∷ qs) words none hr hq same =
     let first : reply_words r ≡ reply_words q = cc in
     let later : later_words ms es r ++ reply_lines ms es rs ≡ later_words ms fs q ++ reply_lines ms fs qs = cc in
     let parts =
-    cut_seam 112 (later_words ms es r) (reply_lines ms es rs) (later_words ms fs q) (reply_lines ms fs qs)
+    cut_seam 108 (later_words ms es r) (reply_lines ms es rs) (later_words ms fs q) (reply_lines ms fs qs)
     (before_reply ms es r) (seam ms es rs) (before_reply ms fs q) (seam ms fs qs) later in
     let here = same_reply ms es fs r q words none (All-head R r rs hr) (All-head Q q qs hq) first parts.0 in
     let others = same_replies ms es fs rs qs words none (All-tail R r rs hr) (All-tail Q q qs hq) parts.1 in

@@ -15,8 +15,9 @@ use Rattle.td_stream.specs.declared.stretch.Stretch.{Stretch}
 use Rattle.td_report.specs.Report.{line, report}
 use Rattle.td_report.specs.Laws.{HasWords, HasNoSpotWord, frames_of, ShownLoad}
 use Rattle.td_report.proofs.Cutting.{AreLines}
+use Rattle.td_report.proofs.Copied.{copy_words}
 use Rattle.td_report.proofs.Lines.{verdict_words, frame_words, cell_words, load_words}
-use Rattle.td_report.proofs.Determining.{shown_cells, part_words, report_by_lines, parts_are_lines, all_begin, both_all, reports_determine_outcomes}
+use Rattle.td_report.proofs.Determining.{shown_cells, shown_copies, part_words, report_by_lines, parts_are_lines, all_begin, both_all, reports_determine_outcomes}
 use Rattle.td_posts.specs.declared.reply.Reply.{Reply}
 use Rattle.td_posts.specs.Posts.{outcome_in}
 use Rattle.td_host_report.specs.Report.{run_by, run_under}
@@ -40,18 +41,19 @@ under_by_lines (Some m) None r = refl
 under_by_lines None entry r = refl
 
 pub run_are_lines : (m : Module) (entry : Entry) (r : Reply) → HasWords m → IsReportableRun m entry r → AreLines (run_words m entry r)
-run_are_lines m entry r words h = parts_are_lines m entry (outcome_in r) r.loads.list r.layout words h.named h.cells h.loads
+run_are_lines m entry r words h = parts_are_lines m entry (outcome_in r) r.loads.list r.layout words h.named h.cells h.copies h.loads
 
--- a third byte that no line of a run's report has
+-- a fourth byte that no line of a run's report has
 pub record IsApart (c : ℕ) : Type 0 where
-  pub accept : 99 ≢ c
-  pub reject : 106 ≢ c
-  pub frame_or_load : 97 ≢ c
-  pub out : 116 ≢ c
+  pub verdict : 101 ≢ c
+  pub frame : 109 ≢ c
+  pub out : 32 ≢ c
+  pub copy : 121 ≢ c
+  pub load : 100 ≢ c
 
 verdict_others : (c : ℕ) (v : Verdict) → IsApart c → Others c (verdict_words v)
-verdict_others c (Accept pos) apart e = apart.accept e
-verdict_others c (Reject reason pos) apart e = apart.reject e
+verdict_others c (Accept pos) apart e = apart.verdict e
+verdict_others c (Reject reason pos) apart e = apart.verdict e
 
 pub run_others : (c : ℕ) (m : Module) (entry : Entry) (r : Reply) → IsApart c → All (Others c) (run_words m entry r)
 run_others c m entry r apart =
@@ -61,22 +63,25 @@ run_others c m entry r apart =
     let layout : Option (List Stretch) = r.layout in
     let frames = map (frame_words m) (frames_of o.verdict o.trace) in
     let cells = map (cell_words m) (shown_cells m entry o) in
+    let copies = map (copy_words m) (shown_copies m entry o) in
     All-cons P (verdict_words o.verdict) (part_words m entry o loads layout) (verdict_others c o.verdict apart)
-    (both_all P frames (cells ++ map (load_words layout) loads)
-    (all_begin P (frame_words m) (λ f e. apart.frame_or_load e) (frames_of o.verdict o.trace))
-    (both_all P cells (map (load_words layout) loads)
+    (both_all P frames (cells ++ (copies ++ map (load_words layout) loads))
+    (all_begin P (frame_words m) (λ f e. apart.frame e) (frames_of o.verdict o.trace))
+    (both_all P cells (copies ++ map (load_words layout) loads)
     (all_begin P (cell_words m) (λ d e. apart.out e) (shown_cells m entry o))
-    (all_begin P (load_words layout) (λ l e. apart.frame_or_load e) loads)))
+    (both_all P copies (map (load_words layout) loads)
+    (all_begin P (copy_words m) (λ k e. apart.copy e) (shown_copies m entry o))
+    (all_begin P (load_words layout) (λ l e. apart.load e) loads))))
 
 pub same_run : (m : Module) (e f : Entry) (r q : Reply) → HasWords m → HasNoSpotWord m → IsReportableRun m e r → IsReportableRun m f q → run_words m e r ≡ run_words m f q → reported_run r ≡ reported_run q
 same_run m e f r q words none hr hq lines =
     let reports : run_by m e r ≡ run_by m f q = run_by_lines m e r ∙ ap (flat_map line) lines ∙ sym (run_by_lines m f q) in
     let parts =
     reports_determine_outcomes m (outcome_in r) (outcome_in q) e f r.layout q.layout None None r.loads.list q.loads.list words none
-    hr.named hq.named hr.frames hq.frames hr.cells hq.cells hr.loads hq.loads tt tt reports in
-    let make : Verdict → List TraceFrame → List ℕ → List ShownLoad → ReportedRun =
-    λ verdict trace cells loads. record { outcome = record { verdict = verdict; trace = trace; cells = cells; copies = [] }; loads = loads } in
-    λ i. make (parts.0 i) (parts.1 i) (parts.2 i) (parts.3 i)
+    hr.named hq.named hr.frames hq.frames hr.cells hq.cells hr.copies hq.copies hr.loads hq.loads tt tt reports in
+    let make : Verdict → List TraceFrame → List ℕ → List (List ℕ) → List ShownLoad → ReportedRun =
+    λ verdict trace cells copies loads. record { outcome = record { verdict = verdict; trace = trace; cells = cells; copies = copies }; loads = loads } in
+    λ i. make (parts.0 i) (parts.1 i) (parts.2 i) (parts.3 i) (parts.4 i)
 
 -- ---- under a version
 

@@ -144,10 +144,16 @@ takes_are_lines ms es ring (t ∷ takes) words h =
 
 -- ---- cut where the line of a take begins
 
-pub apart_from_rings : IsApart 110
-apart_from_rings = record { accept = differ 99 110 (lit< tt); reject = differ 106 110 (lit< tt); frame_or_load = differ 97 110 (lit< tt); out = λ e. differ 110 116 (lit< tt) (sym e) }
+pub apart_from_rings : IsApart 103
+apart_from_rings = record {
+  verdict = differ 101 103 (lit< tt);
+  frame = λ e. differ 103 109 (lit< tt) (sym e);
+  out = differ 32 103 (lit< tt);
+  copy = λ e. differ 103 121 (lit< tt) (sym e);
+  load = differ 100 103 (lit< tt);
+}
 
-pub seam : (ms : List Module) (es : List Entry) (ring : Option (Module × Entry)) (takes : List Take) → IsSeam 110 (take_lines ms es ring takes)
+pub seam : (ms : List Module) (es : List Entry) (ring : Option (Module × Entry)) (takes : List Take) → IsSeam 103 (take_lines ms es ring takes)
 seam ms es ring [] = tt
 seam ms es ring (t ∷ takes) = refl
 
@@ -160,16 +166,16 @@ message_others : (c : ℕ) (ms : List Module) (es : List Entry) (r : Option Repl
 message_others c ms es None apart = All-nil (Others c)
 message_others c ms es (Some r) apart = under_others c (slice_get ms 0) (slice_get es 0) r apart
 
-answer_others : (ms : List Module) (es : List Entry) (ring : Option (Module × Entry)) (n : Next) (d r : Option Reply) → All (Others 110) (answer_lines ms es ring n d r)
-answer_others ms es ring (Idle made) d r = All-cons (Others 110) (codes "idle") [] (λ e. differ 108 110 (lit< tt) e) (All-nil (Others 110))
-answer_others ms es ring (Overrun made) d r = All-cons (Others 110) (codes "overrun") [] (λ e. differ 101 110 (lit< tt) e) (All-nil (Others 110))
-answer_others ms es ring (Bad reason pos) d r = descr_others 110 ring d apart_from_rings
+answer_others : (ms : List Module) (es : List Entry) (ring : Option (Module × Entry)) (n : Next) (d r : Option Reply) → All (Others 103) (answer_lines ms es ring n d r)
+answer_others ms es ring (Idle made) d r = All-cons (Others 103) (codes "idle") [] (λ e. differ 101 103 (lit< tt) e) (All-nil (Others 103))
+answer_others ms es ring (Overrun made) d r = All-cons (Others 103) (codes "overrun") [] (λ e. differ 103 114 (lit< tt) (sym e)) (All-nil (Others 103))
+answer_others ms es ring (Bad reason pos) d r = descr_others 103 ring d apart_from_rings
 answer_others ms es ring (Message number place size id) d r =
-    both_all (Others 110) (descr_lines ring d) (message_words number ∷ message_lines ms es r) (descr_others 110 ring d apart_from_rings)
-    (All-cons (Others 110) (message_words number) (message_lines ms es r) (λ e. differ 110 115 (lit< tt) (sym e)) (message_others 110 ms es r apart_from_rings))
+    both_all (Others 103) (descr_lines ring d) (message_words number ∷ message_lines ms es r) (descr_others 103 ring d apart_from_rings)
+    (All-cons (Others 103) (message_words number) (message_lines ms es r) (λ e. differ 103 115 (lit< tt) (sym e)) (message_others 103 ms es r apart_from_rings))
 
-later_others : (ms : List Module) (es : List Entry) (ring : Option (Module × Entry)) (t : Take) → All (Others 110) (later_lines ms es ring t)
-later_others ms es ring t = All-cons (Others 110) (head_words t.head) (answer_lines ms es ring t.next t.descr t.message) (λ e. differ 97 110 (lit< tt) e) (answer_others ms es ring t.next t.descr t.message)
+later_others : (ms : List Module) (es : List Entry) (ring : Option (Module × Entry)) (t : Take) → All (Others 103) (later_lines ms es ring t)
+later_others ms es ring t = All-cons (Others 103) (head_words t.head) (answer_lines ms es ring t.next t.descr t.message) (λ e. differ 100 103 (lit< tt) e) (answer_others ms es ring t.next t.descr t.message)
 
 -- ---- what an answer's lines say
 
@@ -224,7 +230,13 @@ module _ (ms : List Module) (es fs : List Entry) (ring other : Option (Module ×
       → answer_lines ms es ring (Message number place size id) (Some d) (Some r) ≡ answer_lines ms fs other (Message number' place' size' id') (Some e) (Some q)
       → IsSaid (Message number place size id) (Some d) (Some r) (Message number' place' size' id') (Some e) (Some q)
   same_message head head' number place size id number' place' size' id' d e r q hn hk same =
-      let apart : IsApart 115 = record { accept = differ 99 115 (lit< tt); reject = differ 106 115 (lit< tt); frame_or_load = differ 97 115 (lit< tt); out = λ e. differ 115 116 (lit< tt) (sym e) } in
+      let apart : IsApart 115 = record {
+        verdict = differ 101 115 (lit< tt);
+        frame = differ 109 115 (lit< tt);
+        out = differ 32 115 (lit< tt);
+        copy = λ e. differ 115 121 (lit< tt) (sym e);
+        load = differ 100 115 (lit< tt);
+      } in
       let parts =
       cut_seam 115 (descr_lines ring (Some d)) (message_words number ∷ message_lines ms es (Some r)) (descr_lines other (Some e)) (message_words number' ∷ message_lines ms fs (Some q))
       (descr_others 115 ring (Some d) apart) refl (descr_others 115 other (Some e) apart) refl same in
@@ -290,7 +302,7 @@ module _ (ms : List Module) (es fs : List Entry) (ring other : Option (Module ×
       let first : ring_words t ≡ ring_words u = cc in
       let later : later_lines ms es ring t ++ take_lines ms es ring ts ≡ later_lines ms fs other u ++ take_lines ms fs other us = cc in
       let parts =
-      cut_seam 110 (later_lines ms es ring t) (take_lines ms es ring ts) (later_lines ms fs other u) (take_lines ms fs other us)
+      cut_seam 103 (later_lines ms es ring t) (take_lines ms es ring ts) (later_lines ms fs other u) (take_lines ms fs other us)
       (later_others ms es ring t) (seam ms es ring ts) (later_others ms fs other u) (seam ms fs other us) later in
       let here = same_take t u (All-head T t ts ht) (All-head U u us hu) first parts.0 in
       let others = same_takes ts us (All-tail T t ts ht) (All-tail U u us hu) parts.1 in

@@ -6,7 +6,7 @@ use Rattle.td_core.specs.declared.module.Module.{Module}
 use Rattle.td_core.specs.declared.module.Entry.{Entry}
 use Rattle.td_core.specs.declared.outcome.Outcome.{Outcome}
 use Rattle.td_core.specs.declared.outcome.Verdict.TheVariants.{Accept, Reject}
-use Rattle.td_report.specs.Laws.{HasWords, HasNoSpotWord, IsNamedOutcome, HasFrames, HasCells, IsShownLoad, ShownLoad, shown_loads}
+use Rattle.td_report.specs.Laws.{HasWords, HasNoSpotWord, IsNamedOutcome, HasFrames, HasCells, HasCopies, IsShownLoad, ShownLoad, shown_loads}
 use Rattle.td_posts.specs.declared.reply.Reply.{Reply}
 use Rattle.td_posts.specs.Posts.{outcome_in}
 use Rattle.td_descr.specs.declared.next.Next.{Next}
@@ -55,11 +55,12 @@ reported_take t =
     }
 
 -- ---- what can be read back
--- a validation of this entry point's cells and this module's names, within 64 bits
+-- a validation of this entry point's cells and copy buffers and this module's names, within 64 bits
 pub record IsReportableRun (m : Module) (entry : Entry) (r : Reply) : Type 0 where
   pub named : IsNamedOutcome m (outcome_in r)
   pub frames : HasFrames r.verdict r.trace.items
   pub cells : HasCells m entry (outcome_in r)
+  pub copies : HasCopies m entry (outcome_in r)
   pub loads : All (IsShownLoad r.layout) r.loads.list
 
 -- a reply under one of these versions, of its entry point's cells and its module's names, within 64 bits

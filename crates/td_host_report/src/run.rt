@@ -8,8 +8,8 @@ use td_io::{Sink, WriteFault};
 use td_posts::reply::Reply;
 use td_report::report::report_of_parts;
 
-/// Writes the report of the run that a reply tells of, by the names of this module and the cells of this entry point, and its loads by
-/// the stretches of its message where it has a list of these.
+/// Writes the report of the run that a reply tells of, by the names of this module and the cells and copy buffers of this entry point,
+/// and its loads by the stretches of its message where it has a list of these.
 pub(crate) fn write_run<O: Sink>(
     out: &mut O,
     format: &Module,
@@ -23,6 +23,7 @@ pub(crate) fn write_run<O: Sink>(
         reply.verdict,
         reply.trace.as_slice(),
         &reply.cells,
+        &reply.copies.buffers,
         reply.loads.as_slice(),
         reply.layout.as_ref(),
         format,

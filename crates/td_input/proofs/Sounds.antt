@@ -78,6 +78,7 @@ fits_versions m job all = λ n f entry version.
     let cells : AllFit (cells_bounds o) (zeros job.cells) = subst (λ n. AllFit (cells_bounds o) (zeros n)) (sym values.cells) (zeros_fit (cells_bounds o)) in
     record {
       entry_is = values.entry;
+      rooms = values.rooms;
       args = subst (λ (b : List Bound). AllFit b job.args) (same_args o) values.args;
       cells = subst (λ (b : List Bound). AllFit b (zeros job.cells)) (same_cells o) cells;
     }

@@ -12,7 +12,7 @@ use Rattle.td_job.specs.declared.run_job.RunJob.{RunJob}
 use Rattle.td_job.specs.Jobs.{IsRunJob, RefusedJob}
 use Rattle.td_posts.specs.declared.job.HostJob.{HostJob}
 use Rattle.td_posts.specs.Posts.{IsVersion, zeros}
-use Rattle.td_host_job.specs.HostJobs.{IsHostJob, RefusedHostJob}
+use Rattle.td_host_job.specs.HostJobs.{rooms_in, IsHostJob, RefusedHostJob}
 use Rattle.td_input.specs.declared.refusal.Refusal.{Refusal}
 use Rattle.td_input.specs.declared.refusal.Refusal.TheVariants.{TooLong, NoJob, BadModule, BadJob, NoRing}
 use Rattle.td_input.specs.Marker.{IsMarker, IsFirstMarker, text_part, job_part}
@@ -57,11 +57,13 @@ abbrev pub IsSoundHost : HostJob → Type 0
 IsSoundHost job =
     (n : ℕ) (m : Module) (entry : Entry) → IsVersion job n m entry → IsSoundFrom m entry job.args (zeros job.cells)
 
--- the entry point is the module's, each of its parameters has its value, and its cells are zeros, each in its range
+-- the entry point is the module's, each of its parameters has its value, its cells are zeros, each in its range, and its copy buffers
+-- have the job's rooms
 pub record FitsEntry (job : HostJob) (m : Module) (entry : Entry) : Type 0 where
   pub entry_is : entry.number < length m.entries
   pub args : AllFit (params_at (entry_definition m entry.number)) job.args
   pub cells : AllFit (cells_at (entry_definition m entry.number)) (zeros job.cells)
+  pub rooms : job.rooms ≡ rooms_in (entry_definition m entry.number)
 
 -- so it is for each version
 abbrev pub FitsVersions : HostJob → Type 0

@@ -11,6 +11,7 @@ use Rattle.td_core.specs.declared.module.TypeDef.{TypeDef}
 use Rattle.td_core.specs.Entries.{entry_definition}
 use Rattle.td_core.specs.Formed.{AllFit, params_at, cells_at}
 use Rattle.td_meaning.specs.Meaning.{meaning}
+use Rattle.td_meaning.specs.Copies.{opened}
 use Rattle.td_values.specs.declared.error.WriteRule.{WriteRule}
 use Rattle.td_values.specs.declared.limits.TheConstants.{MOST_WRITTEN}
 use Rattle.td_values.specs.Datum.{Datum}
@@ -36,10 +37,10 @@ use Rattle.td_job.proofs.Numbers.{first_of_more}
 
 -- what is accepted to its end is refused by nothing
 none_refused : WritingIsExact → KindsAreAdmitted → (m : Module) (entry : Entry) (args cells : List ℕ) (v : Datum) → IsWritable m → (bytes : List ℕ) → IsAccepted m entry args cells v bytes
-    → write_faults (writing whole m entry args cells v) ≡ []
-none_refused law kinds m entry args cells v h bytes a = by (writing whole m entry args cells v) refl
+    → write_faults (writing whole m entry args (opened m entry cells) v) ≡ []
+none_refused law kinds m entry args cells v h bytes a = by (writing whole m entry args (opened m entry cells) v) refl
   where
-    by : (w : Written) → writing whole m entry args cells v ≡ w → write_faults w ≡ []
+    by : (w : Written) → writing whole m entry args (opened m entry cells) v ≡ w → write_faults w ≡ []
     by (Done b last) e = refl
     by (Refused r places) e = absurd (nowhere m entry args cells v law kinds h r places e bytes a)
 
@@ -50,11 +51,11 @@ written_as law kinds m entry args cells v h bytes answer x =
     (record { faultless = none_refused law kinds m entry args cells v h x.0 x.1.0; spelled = x.1.0.spelled; short = x.1.0.short })
 
 -- a value without a fault is spelled within the limit
-pub faultless_short : WritingIsExact → KindsAreAdmitted → (m : Module) (entry : Entry) (args cells : List ℕ) (v : Datum) → IsWritable m → write_faults (writing whole m entry args cells v) ≡ []
+pub faultless_short : WritingIsExact → KindsAreAdmitted → (m : Module) (entry : Entry) (args cells : List ℕ) (v : Datum) → IsWritable m → write_faults (writing whole m entry args (opened m entry cells) v) ≡ []
     → length (spelled_or_none (spelling m entry args v)) ≤ MOST_WRITTEN
-faultless_short law kinds m entry args cells v h none = by (writing whole m entry args cells v) none (law m entry args cells v h.copyless (kinds m h.formed h.kinds))
+faultless_short law kinds m entry args cells v h none = by (writing whole m entry args (opened m entry cells) v) none (law m entry args (opened m entry cells) v h.copying (kinds m h.formed h.kinds))
   where
-    by : (w : Written) → write_faults w ≡ [] → IsExact w (spelling m entry args v) (λ bytes. (meaning m entry args cells bytes).ending) → length (spelled_or_none (spelling m entry args v)) ≤ MOST_WRITTEN
+    by : (w : Written) → write_faults w ≡ [] → IsExact w (spelling m entry args v) (λ bytes. (meaning m entry args (opened m entry cells) bytes).ending) → length (spelled_or_none (spelling m entry args v)) ≤ MOST_WRITTEN
     by (Done bytes last) e x = subst (λ o. length (spelled_or_none o) ≤ MOST_WRITTEN) (sym x.0) x.1.0
     by (Refused r places) e x = absurd (cc)
 
@@ -70,23 +71,23 @@ module _ (m : Module) (job value : Data) (entry : Entry) (begins : BeginsWithVal
 
   -- the faults are those of writing, and those after the value
   written_front : faults_by (Some value) m entry job
-      ≡ write_faults (writing whole m entry (given_args (entry_definition m entry.number) job) (given_cells (entry_definition m entry.number) job) (datum_of value))
+      ≡ write_faults (writing whole m entry (given_args (entry_definition m entry.number) job) (opened m entry (given_cells (entry_definition m entry.number) job)) (datum_of value))
       ++ stores_left (words_with (length (spelled_or_none (spelling m entry (given_args (entry_definition m entry.number) job) (datum_of value)))))
       ++ names_left
   written_front =
       let d = entry_definition m entry.number in
       front (args_faults (args_bounds d) (field_of key.Args job)) (cells_faults (cells_bounds d) (field_of key.Cells job)) (beside_faults job) (form_faults key.Value (form_of value))
-      (write_faults (writing whole m entry (given_args d job) (given_cells d job) (datum_of value)))
+      (write_faults (writing whole m entry (given_args d job) (opened m entry (given_cells d job)) (datum_of value)))
       (stores_left (words_with (length (spelled_or_none (spelling m entry (given_args d job) (datum_of value)))))) names_left
       begins.args begins.cells begins.alone begins.form
 
   pub written_first : (args cells : List ℕ) → args ≡ given_args (entry_definition m entry.number) job → cells ≡ given_cells (entry_definition m entry.number) job → (e : JobError)
-      → (e ≡ NoMemory) ⊎ IsFirst (write_faults (writing whole m entry args cells (datum_of value))) e → (e ≡ NoMemory) ⊎ FirstFaultBy (faults_by (Some value)) m job e
+      → (e ≡ NoMemory) ⊎ IsFirst (write_faults (writing whole m entry args (opened m entry cells) (datum_of value))) e → (e ≡ NoMemory) ⊎ FirstFaultBy (faults_by (Some value)) m job e
   written_first args cells ha hc e (inl memory) = inl memory
   written_first args cells ha hc e (inr first) =
       let d = entry_definition m entry.number in
-      let here = subst (λ faults. IsFirst faults e) (λ i. write_faults (writing whole m entry (ha i) (hc i) (datum_of value))) first in
-      let w = write_faults (writing whole m entry (given_args d job) (given_cells d job) (datum_of value)) in
+      let here = subst (λ faults. IsFirst faults e) (λ i. write_faults (writing whole m entry (ha i) (opened m entry (hc i)) (datum_of value))) first in
+      let w = write_faults (writing whole m entry (given_args d job) (opened m entry (given_cells d job)) (datum_of value)) in
       let s = stores_left (words_with (length (spelled_or_none (spelling m entry (given_args d job) (datum_of value))))) in
       let more = first_of_more (w ++ s) names_left e (first_of_more w s e here) in
       inr (inr (entry, begins.named, record { others = more.others; is = written_front ∙ more.is }))
@@ -95,8 +96,8 @@ module _ (m : Module) (job value : Data) (entry : Entry) (args cells bytes : Lis
   spelled_there : spelled_or_none (spelling m entry (given_args (entry_definition m entry.number) job) (datum_of value)) ≡ bytes
   spelled_there = (λ i. spelled_or_none (spelling m entry (sym s.args_are i) (datum_of value))) ∙ ap spelled_or_none s.written.spelled
 
-  none_written : write_faults (writing whole m entry (given_args (entry_definition m entry.number) job) (given_cells (entry_definition m entry.number) job) (datum_of value)) ≡ []
-  none_written = (λ i. write_faults (writing whole m entry (sym s.args_are i) (sym s.cells_are i) (datum_of value))) ∙ s.written.faultless
+  none_written : write_faults (writing whole m entry (given_args (entry_definition m entry.number) job) (opened m entry (given_cells (entry_definition m entry.number) job)) (datum_of value)) ≡ []
+  none_written = (λ i. write_faults (writing whole m entry (sym s.args_are i) (opened m entry (sym s.cells_are i)) (datum_of value))) ∙ s.written.faultless
 
   -- what is left are the faults after the value
   pub rest_faults : faults_by (Some value) m entry job ≡ stores_faults (words_with (length bytes)) (field_of key.Stores job) ++ unknown_faults path.Unknown (first_unknown run_keys (as_object job))

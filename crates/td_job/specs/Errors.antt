@@ -34,6 +34,7 @@ key_name key.Takes = codes "takes"
 key_name key.Swaps = codes "swaps"
 key_name key.Posts = codes "posts"
 key_name key.Words = codes "words"
+key_name key.Copies = codes "copies"
 
 abbrev pub rule_code : JobRule → List ℕ
 rule_code rule.NotJson = codes "J1"

@@ -23,6 +23,7 @@ use Rattle.td_num.specs.Numbers.{rising_at}
 use Rattle.td_stream.specs.declared.stretch.Stretch.{Stretch}
 use Rattle.td_stream.specs.Layouts.{length_in, count_in, laid, counted, IsOver}
 use Rattle.td_values.specs.Spelling.{spelling}
+use Rattle.td_meaning.specs.Copies.{opened}
 use Rattle.td_values.specs.Writing.{writing, whole as whole_numbers}
 use Rattle.td_sched.specs.declared.store.PlannedStore.{PlannedStore}
 use Rattle.td_job.specs.declared.error.Key.{Key}
@@ -229,7 +230,7 @@ of_written bytes faults = record {
 abbrev pub from_datum : Module → Entry → List ℕ → List ℕ → Data → Data → Given
 from_datum m entry args cells job value =
     of_written (spelled_or_none (spelling m entry args (datum_of value)))
-    (beside_faults job ++ form_faults key.Value (form_of value) ++ write_faults (writing whole_numbers m entry args cells (datum_of value)))
+    (beside_faults job ++ form_faults key.Value (form_of value) ++ write_faults (writing whole_numbers m entry args (opened m entry cells) (datum_of value)))
 
 abbrev pub from_value : Module → Entry → Data → Data → Given
 from_value m entry job value = from_datum m entry (given_args (entry_definition m entry.number) job) (given_cells (entry_definition m entry.number) job) job value

@@ -7,6 +7,7 @@ use Rattle.td_core.specs.Entries.{entry_definition}
 use Rattle.td_values.specs.declared.limits.TheConstants.{MOST_WRITTEN}
 use Rattle.td_values.specs.Datum.{Datum}
 use Rattle.td_values.specs.Spelling.{spelling}
+use Rattle.td_meaning.specs.Copies.{opened}
 use Rattle.td_values.specs.Writing.{writing, whole}
 use Rattle.td_job.specs.Values.{given_args, given_cells}
 use Rattle.td_job.specs.Jobs.{BeginsWithValue}
@@ -14,7 +15,7 @@ use Rattle.td_job.specs.Written.{datum_of, write_faults}
 
 -- a value is written, as these bytes
 pub record IsWrittenAs (m : Module) (entry : Entry) (args cells : List ℕ) (v : Datum) (bytes : List ℕ) : Type 0 where
-  pub faultless : write_faults (writing whole m entry args cells v) ≡ []
+  pub faultless : write_faults (writing whole m entry args (opened m entry cells) v) ≡ []
   pub spelled : spelling m entry args v ≡ Some bytes
   pub short : length bytes ≤ MOST_WRITTEN
 

@@ -55,6 +55,8 @@ pub enum Key {
     Posts,
     /// The total of the words of all messages.
     Words,
+    /// The total of the bytes of all copy buffers.
+    Copies,
 }
 
 impl Key {
@@ -83,6 +85,7 @@ impl Key {
             Key::Swaps => "swaps",
             Key::Posts => "posts",
             Key::Words => "words",
+            Key::Copies => "copies",
         }
     }
 }

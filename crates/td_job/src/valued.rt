@@ -6,6 +6,7 @@ ghost use Rattle.serde_json.specs.Find.{as_object};
 ghost use Rattle.serde_json.specs.View.{view};
 ghost use Rattle.td_core.specs.Entries.{entry_definition};
 ghost use Rattle.td_core.specs.Formed.{AllFit, params_at, cells_at};
+ghost use Rattle.td_meaning.specs.Copies.{opened};
 ghost use Rattle.td_values.specs.Writing.{Written, writing, whole};
 ghost use Rattle.td_write.specs.Answers.{IsWritable, IsRefusal};
 ghost use Rattle.td_job.specs.Fields.{field_of, fault_if_there, IsFirst};
@@ -105,7 +106,7 @@ fn bytes_of_value(
     requires args { AllFit (params_at (entry_definition m.now entry.number)) args.now }
     requires cells { AllFit (cells_at (entry_definition m.now entry.number)) cells.now }
     ensures ok { IfOk result (IsWrittenAs m.now entry args.now cells.now (datum_of (view value.now))) }
-    ensures err { IfErr result (λ e. (e ≡ JobError.NoMemory) ⊎ IsFirst (write_faults (writing whole m.now entry args.now cells.now (datum_of (view value.now)))) e) }
+    ensures err { IfErr result (λ e. (e ≡ JobError.NoMemory) ⊎ IsFirst (write_faults (writing whole m.now entry args.now (opened m.now entry cells.now) (datum_of (view value.now)))) e) }
 {
     writing_is_exact();
     kinds_are_admitted();

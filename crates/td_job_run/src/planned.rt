@@ -2,7 +2,7 @@
 
 ghost use Rattle.std.specs.Prelude.{◌≡◌, ℕ, ◌+◌, ◌<◌, ◌≤◌, ◌^◌, [], None, option_map, length as size_of, IfOk, IsErr, IsOk};
 ghost use Rattle.td_stream.specs.Layouts.{count_in, counted, laid, IsOver};
-ghost use Rattle.td_ir.specs.Entries.{Fits};
+ghost use Rattle.td_ir.specs.Entries.{Fits, buffers_of};
 ghost use Rattle.td_vm.specs.Frames.{IsArmed, outcome_in};
 ghost use Rattle.td_job_run.specs.Runs.{IsRunBy};
 
@@ -97,7 +97,7 @@ pub fn prepare<'a>(
 }
 
 /// Runs code once over words that were prepared, in a frame that was armed for the code, from an entry point that these arguments
-/// and cells fit, on a message that lies so in the words. The frame is left with the trace and the cells. It has no allocator and no
+/// and cells fit, on a message that lies so in the words. The frame is left with the trace, the cells and the copies. It has no allocator and no
 /// error: from the first load on nothing can stand in place of the verdict.
 pub fn run_prepared(
     code: &Verified,
@@ -113,7 +113,7 @@ pub fn run_prepared(
     requires room { count_in message.now ≤ counted prepared.words.layout (size_of prepared.words.opening) }
     ensures run { (n : ℕ) → message.now ≡ laid n prepared.entry.words.layout → IsRunBy code.now
         (record { entry = entry; args = args.now; cells = cells.now; length = n; layout = prepared.entry.words.layout; words = prepared.entry.words.opening; stores = prepared.entry.words.stores })
-        (outcome_in frame.new result.verdict) result.loads.list }
+        (outcome_in frame.new (buffers_of code.now entry) result.verdict) result.loads.list }
     ensures armed { IsArmed code.now frame.new }
 {
     fitting_cells_have_room();
@@ -143,7 +143,7 @@ fn run_laid(
     requires room { count_in (laid length (option_map (λ l. l.now) layout)) ≤ counted prepared.words.layout (size_of prepared.words.opening) }
     ensures run { IsRunBy code.now
         (record { entry = entry; args = args.now; cells = cells.now; length = length; layout = prepared.entry.words.layout; words = prepared.entry.words.opening; stores = prepared.entry.words.stores })
-        (outcome_in frame.new result.verdict) result.loads.list }
+        (outcome_in frame.new (buffers_of code.now entry) result.verdict) result.loads.list }
     ensures armed { IsArmed code.now frame.new }
 {
     match layout {
@@ -174,7 +174,7 @@ pub fn run_counted<L: Ledger>(
     requires room { count_in (laid length (option_map (λ l. l.now) layout)) ≤ counted prepared.words.layout (size_of prepared.words.opening) }
     ensures run { IsRunBy code.now
         (record { entry = entry; args = args.now; cells = cells.now; length = length; layout = prepared.entry.words.layout; words = prepared.entry.words.opening; stores = prepared.entry.words.stores })
-        (outcome_in frame.new result.verdict) result.loads.list }
+        (outcome_in frame.new (buffers_of code.now entry) result.verdict) result.loads.list }
     ensures armed { IsArmed code.now frame.new }
     ensures counted { looks.new ≡ looks.old + size_of result.loads.list }
 {
@@ -185,7 +185,7 @@ pub fn run_counted<L: Ledger>(
 
 /// Runs code once, in a frame that was armed for it, from an entry point that these arguments and cells fit, on a message of
 /// `length` bytes, by a layout or at the front of the words, while others store to the words by a plan. The frame is left with the
-/// trace and the cells. `AllocError`: there was no memory; never where there are neither words nor stores and no layout. That comes of
+/// trace, the cells and the copies. `AllocError`: there was no memory; never where there are neither words nor stores and no layout. That comes of
 /// `prepare`, which loads no word; `run_prepared`, which follows, takes none, so want of memory never hides an outcome.
 pub fn run_in_frame(
     alloc: Global,
@@ -206,7 +206,7 @@ pub fn run_in_frame(
     requires over { IsOver (size_of words.now) (option_map (λ l. l.now) layout) }
     ensures run { IfOk result (λ ran. IsRunBy code.now
         (record { entry = entry; args = args.now; cells = cells.now; length = length; layout = option_map (λ l. l.now) layout.entry; words = words.now; stores = stores.now })
-        (outcome_in frame.new ran.verdict) ran.loads.list) }
+        (outcome_in frame.new (buffers_of code.now entry) ran.verdict) ran.loads.list) }
     ensures armed { IsArmed code.now frame.new }
     ensures untouched { IsErr result → frame.new ≡ frame.old }
     ensures memory { words.now ≡ [] → stores.now ≡ [] → option_map (λ l. l.now) layout.entry ≡ None → IsOk result }
@@ -240,7 +240,7 @@ pub fn run_planned(
         alloc, code, &mut frame, entry, args, cells, length, layout, words, stores,
     )?;
     Ok(Run {
-        outcome: frame.into_outcome(ran.verdict),
+        outcome: frame.into_outcome(code, entry, ran.verdict),
         loads: ran.loads,
     })
 }

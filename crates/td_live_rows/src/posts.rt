@@ -8,6 +8,7 @@ use td_posts::name::PostName;
 use td_posts::reply::Reply;
 use td_ring::naming::Naming;
 use td_ring::post::Post;
+use td_stream::copies::Copies;
 use td_stream::loads::Loads;
 
 // Every post will do.
@@ -31,6 +32,7 @@ pub fn post(alloc: Global, guest: u32, number: u32) -> Result<Post, AllocError>
             verdict: Verdict::Accept { pos: 0 },
             trace: Vec::new(alloc),
             cells: Vec::new(alloc),
+            copies: Copies::with_rooms(alloc, &[])?,
             loads: Loads::with_room(alloc, 0)?,
         },
     })

@@ -89,7 +89,7 @@ pub(crate) fn validated<G: Gate>(
         gate,
     );
     Some(Ran {
-        outcome: frame.into_outcome(verdict),
+        outcome: frame.into_outcome(code, ENTRY, verdict),
         loads,
     })
 }

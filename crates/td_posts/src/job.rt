@@ -29,6 +29,8 @@ pub struct HostJob {
     pub args: Items<u64>,
     /// How many cells it has; each validation begins with zeros in them.
     pub cells: u32,
+    /// For how many bytes each of its copy buffers has room; those of all versions are the same.
+    pub rooms: Items<u32>,
     /// The words that the buffer opens with.
     pub words: Items<u64>,
     /// How many workers there are.

@@ -3,6 +3,7 @@
 //! each, which words are stored, and which jobs a host can serve.
 #![tactic(auto)]
 
+pub mod copies;
 pub mod job;
 pub mod laws;
 pub mod limits;

@@ -12,6 +12,8 @@ pub const MOST_POSTS: usize = 4_096;
 pub const MOST_STORES: usize = 65_536;
 /// Words of all messages, those that are posted and those that rings can name.
 pub const MOST_MESSAGE_WORDS: u64 = 1_048_576;
+/// Bytes of all copy buffers, those of each post and those of each look at a ring.
+pub const MOST_COPIED_BYTES: u64 = 16_777_216;
 /// Rings.
 pub const MOST_RINGS: usize = 16;
 /// Entries of a ring.

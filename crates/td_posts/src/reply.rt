@@ -1,6 +1,7 @@
 //! Replies to posts.
 
 use td_core::outcome::{TraceFrame, Verdict};
+use td_stream::copies::Copies;
 use td_stream::layout::Layout;
 use td_stream::loads::Loads;
 
@@ -20,6 +21,8 @@ pub struct Reply {
     pub trace: Vec<TraceFrame>,
     /// The cells as they then are.
     pub cells: Vec<u64>,
+    /// What the copy buffers then hold.
+    pub copies: Copies,
     /// The loads, the message's words counted from 0.
     pub loads: Loads,
 }

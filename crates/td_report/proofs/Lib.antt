@@ -1,4 +1,5 @@
 pub mod Composing
+pub mod Copied
 pub mod Cutting
 pub mod Determining
 pub mod Digits

@@ -21,11 +21,11 @@ unfolding bytes_line
 written_is None = refl
 written_is (Some bytes) = sym (append-nil (bytes_line bytes))
 
-digits_above : (bytes : List ℕ) → Above 10 (byte_digits bytes)
+pub digits_above : (bytes : List ℕ) → Above 10 (byte_digits bytes)
 digits_above [] = tt
 digits_above (b ∷ bytes) = above_append 10 (hex_digits 2 b) (byte_digits bytes) (hex_above 2 b) (digits_above bytes)
 
-spaced_above : (digits : List ℕ) → Above 10 digits → Above 10 (after_space digits)
+pub spaced_above : (digits : List ℕ) → Above 10 digits → Above 10 (after_space digits)
 spaced_above [] h = tt
 spaced_above (x ∷ digits) h = (omega arith, h)
 
@@ -33,14 +33,14 @@ pub written_above : (written : Option (List ℕ)) → AreLines (written_words wr
 written_above None = tt
 written_above (Some bytes) = (above_append 10 (codes "bytes") _ (search arith) (spaced_above (byte_digits bytes) (digits_above bytes)), tt)
 
-same_spaced : (a b : List ℕ) → after_space a ≡ after_space b → a ≡ b
+pub same_spaced : (a b : List ℕ) → after_space a ≡ after_space b → a ≡ b
 same_spaced [] [] e = refl
 same_spaced [] (y ∷ b) e = cc
 same_spaced (x ∷ a) [] e = cc
 same_spaced (x ∷ a) (y ∷ b) e = cc
 
 -- equal digits are of equal bytes
-same_digits : (a b : List ℕ) → All (λ b. b < 256) a → All (λ b. b < 256) b → byte_digits a ≡ byte_digits b → a ≡ b
+pub same_digits : (a b : List ℕ) → All (λ b. b < 256) a → All (λ b. b < 256) b → byte_digits a ≡ byte_digits b → a ≡ b
 unfolding hex_digits
 same_digits [] [] ha hb e = refl
 same_digits [] (y ∷ b) ha hb e = cc

@@ -1,50 +1,49 @@
--- Cells with their values, by their lengths.
-use Rattle.std.proofs.Common.{◌≡◌, ℕ, zero, suc, ◌<◌, ◌≤◌, List, [], ◌∷◌, length, take, get_or, None, refl, sym, ap, ◌∙◌, arith}
-use Rattle.td_core.specs.declared.module.Cell.{Cell}
-use Rattle.td_core.specs.declared.module.CellKind.TheVariants.{Number as NumberCell}
-use Rattle.td_num.specs.declared.number.Width.TheVariants.{One}
-use Rattle.td_report.specs.Report.{CellValue, with_values}
+-- What is made of two lists element by element, by their lengths.
+use Rattle.std.proofs.Common.{◌≡◌, ℕ, zero, suc, ◌<◌, ◌≤◌, List, [], ◌∷◌, length, map, take, get_or, refl, ap, ◌∙◌, sym, arith}
+use Rattle.td_report.specs.Report.{paired}
 
-pub zipped_cells : (cells : List Cell) (values : List ℕ) → length (with_values cells values) ≤ length cells
-zipped_cells [] values = omega arith
-zipped_cells (cell ∷ cells) [] = omega arith
-zipped_cells (cell ∷ cells) (value ∷ values) = let rest = zipped_cells cells values in omega arith
+pub few_first : {A B C : Type 0} (make : A → B → C) (xs : List A) (ys : List B) → length (paired make xs ys) ≤ length xs
+few_first make [] ys = omega arith
+few_first make (x ∷ xs) [] = omega arith
+few_first make (x ∷ xs) (y ∷ ys) = let rest = few_first make xs ys in omega (arith, rest)
 
-pub zipped_values : (cells : List Cell) (values : List ℕ) → length (with_values cells values) ≤ length values
-zipped_values [] values = omega arith
-zipped_values (cell ∷ cells) [] = omega arith
-zipped_values (cell ∷ cells) (value ∷ values) = let rest = zipped_values cells values in omega arith
+pub few_second : {A B C : Type 0} (make : A → B → C) (xs : List A) (ys : List B) → length (paired make xs ys) ≤ length ys
+few_second make [] ys = omega arith
+few_second make (x ∷ xs) [] = omega arith
+few_second make (x ∷ xs) (y ∷ ys) = let rest = few_second make xs ys in omega (arith, rest)
 
--- a cell that has a value
-pub zipped_within : (cells : List Cell) (values : List ℕ) (i : ℕ) → i < length cells → i < length values → i < length (with_values cells values)
-zipped_within [] values i h k = absurd (omega (arith, h))
-zipped_within (cell ∷ cells) [] i h k = absurd (omega (arith, k))
-zipped_within (cell ∷ cells) (value ∷ values) zero h k = omega arith
-zipped_within (cell ∷ cells) (value ∷ values) (suc i) h k = let rest = zipped_within cells values i (omega (arith, h)) (omega (arith, k)) in omega arith
+-- where both have one
+pub pair_within : {A B C : Type 0} (make : A → B → C) (xs : List A) (ys : List B) (i : ℕ) → i < length xs → i < length ys → i < length (paired make xs ys)
+pair_within make [] ys i h k = absurd (omega (arith, h))
+pair_within make (x ∷ xs) [] i h k = absurd (omega (arith, k))
+pair_within make (x ∷ xs) (y ∷ ys) zero h k = omega arith
+pair_within make (x ∷ xs) (y ∷ ys) (suc i) h k = let rest = pair_within make xs ys i (omega (arith, h)) (omega (arith, k)) in omega (arith, rest)
 
-pub zipped_at : (cells : List Cell) (values : List ℕ) (i : ℕ) (d : CellValue) → i < length cells → i < length values
-    → get_or (with_values cells values) i d ≡ record { cell = get_or cells i d.cell; value = get_or values i d.value }
-zipped_at [] values i d h k = absurd (omega (arith, h))
-zipped_at (cell ∷ cells) [] i d h k = absurd (omega (arith, k))
-zipped_at (cell ∷ cells) (value ∷ values) zero d h k = refl
-zipped_at (cell ∷ cells) (value ∷ values) (suc i) d h k = zipped_at cells values i d (omega (arith, h)) (omega (arith, k))
+pub pair_at : {A B C : Type 0} (make : A → B → C) (xs : List A) (ys : List B) (i : ℕ) (x : A) (y : B) → i < length xs → i < length ys
+    → get_or (paired make xs ys) i (make x y) ≡ make (get_or xs i x) (get_or ys i y)
+pair_at make [] ys i d e h k = absurd (omega (arith, h))
+pair_at make (x ∷ xs) [] i d e h k = absurd (omega (arith, k))
+pair_at make (x ∷ xs) (y ∷ ys) zero d e h k = refl
+pair_at make (x ∷ xs) (y ∷ ys) (suc i) d e h k = pair_at make xs ys i d e (omega (arith, h)) (omega (arith, k))
+
+-- what has this second part
+pub pair_here : {A B C : Type 0} (make : A → B → C) (xs : List A) (ys : List B) (i : ℕ) (x : A) (y : B) → i < length xs → i < length ys → y ≡ get_or ys i y
+    → get_or (paired make xs ys) i (make x y) ≡ make (get_or xs i x) y
+pair_here make xs ys i x y h k is = pair_at make xs ys i x y h k ∙ ap (make (get_or xs i x)) (sym is)
 
 -- so many of them are all
-pub zipped_all : (xs : List CellValue) (n : ℕ) → length xs ≤ n → take n xs ≡ xs
-zipped_all [] zero h = refl
-zipped_all [] (suc n) h = refl
-zipped_all (x ∷ xs) zero h = absurd (omega (arith, h))
-zipped_all (x ∷ xs) (suc n) h = ap (λ l. x ∷ l) (zipped_all xs n (omega (arith, h)))
+pub take_whole : {A : Type 0} (xs : List A) (n : ℕ) → length xs ≤ n → take n xs ≡ xs
+take_whole [] zero h = refl
+take_whole [] (suc n) h = refl
+take_whole (x ∷ xs) zero h = absurd (omega (arith, h))
+take_whole (x ∷ xs) (suc n) h = ap (λ l. x ∷ l) (take_whole xs n (omega (arith, h)))
 
-abbrev pub no_cell : Cell
-no_cell = record { name = record { number = 0 }; field = None; kind = NumberCell One }
+-- what is made of an element
+pub mapped_at : {A B : Type 0} (f : A → B) (xs : List A) (i : ℕ) (x : A) → get_or (map f xs) i (f x) ≡ f (get_or xs i x)
+mapped_at f [] i d = refl
+mapped_at f (x ∷ xs) zero d = refl
+mapped_at f (x ∷ xs) (suc i) d = mapped_at f xs i d
 
-abbrev pub beside : ℕ → CellValue
-beside value = record { cell = no_cell; value = value }
-
--- a cell that has this value
-pub zipped_here : (cells : List Cell) (values : List ℕ) (i value : ℕ) → i < length cells → i < length values → value ≡ get_or values i value
-    → get_or (with_values cells values) i (beside value) ≡ record { cell = get_or cells i no_cell; value = value }
-zipped_here cells values i value h k is =
-    let shown : ℕ → CellValue = λ v. record { cell = get_or cells i no_cell; value = v } in
-    zipped_at cells values i (beside value) h k ∙ ap shown (sym is)
+pub mapped_same : {A : Type 0} (xs : List A) → map (λ (x : A). x) xs ≡ xs
+mapped_same [] = refl
+mapped_same (x ∷ xs) = ap (λ l. x ∷ l) (mapped_same xs)

@@ -2,6 +2,7 @@
 //! sink gets the whole text that the definition names, or a prefix of it where a write failed.
 #![tactic(auto)]
 
+pub mod copies;
 pub mod error_line;
 pub mod hexadecimal;
 pub mod laws;
@@ -12,6 +13,7 @@ pub mod report;
 pub mod summary;
 mod written;
 
+pub use copies::CopyBuffer;
 pub use error_line::front_line;
 pub use report::{report_of_parts, run_report};
 pub use summary::module_summary;

@@ -1,6 +1,6 @@
 //! The report of a run.
 
-ghost use Rattle.std.specs.Prelude.{◌≡◌, ◌<◌, ◌++◌, true, false, Some, None, flat_map, [], option_map, codes, decimal};
+ghost use Rattle.std.specs.Prelude.{◌≡◌, ◌<◌, ◌++◌, true, false, Some, None, flat_map, map, option_map, codes, decimal};
 ghost use Rattle.std.specs.List.{All};
 ghost use Rattle.td_stream.specs.Layouts.{count_in, IsNumberOf};
 ghost use Rattle.td_core.specs.Entries.{entry_definition};
@@ -8,6 +8,7 @@ ghost use Rattle.td_io.specs.States.{Writes};
 ghost use Rattle.td_report.specs.Paged.{Waits};
 ghost use Rattle.td_report.specs.Report.{report, reason_word, spot_word, verdict_line, frame_line, frame_lines, entry_cells, with_values, cell_line, load_line};
 
+use crate::copies::{CopyBuffer, buffers_of, write_copies};
 use crate::hexadecimal::digits_of;
 use crate::paged::hand_on;
 use crate::pieces::write_pieces;
@@ -252,13 +253,15 @@ fn write_loads<O: Sink>(
 }
 
 /// Writes the report of a run by its parts: the bytes that were written, where the message is made of a value, how it ended,
-/// the frames of its failure by the names of the module, the cells of the entry point, and the loads. Takes no memory.
+/// the frames of its failure by the names of the module, the cells of the entry point, what its copy buffers hold, and the loads.
+/// Takes no memory.
 ///
 /// `WriteFault`: a write failed. What went out is a prefix of the report.
-pub fn report_of_parts<O: Sink>(
+pub fn report_of_parts<O: Sink, B: CopyBuffer>(
     verdict: Verdict,
     trace: &[TraceFrame],
     cells: &[u64],
+    copies: &[B],
     loads: &[Load],
     layout: Option<&Layout>,
     m: &Module,
@@ -267,12 +270,13 @@ pub fn report_of_parts<O: Sink>(
     out: &mut O,
 ) -> Result<(), WriteFault>
     requires { All (λ l. IsNumberOf (option_map (λ l. l.now) layout) l.word) loads.now }
-    ensures { Writes (O.state out.old) (O.state out.new) (report (record { verdict = verdict; trace = trace.now; cells = cells.now; copies = [] }) m.now entry loads.now (option_map (λ l. l.now) layout.entry) (option_map (λ w. w.now) written.entry)) result }
+    ensures { Writes (O.state out.old) (O.state out.new) (report (record { verdict = verdict; trace = trace.now; cells = cells.now; copies = map B.held copies.now }) m.now entry loads.now (option_map (λ l. l.now) layout.entry) (option_map (λ w. w.now) written.entry)) result }
 {
     write_written(out, written)?;
     write_verdict(out, verdict)?;
     write_trace(out, m, verdict, trace)?;
     write_cells(out, m, cells_of(m, entry), cells)?;
+    write_copies(out, m, buffers_of(m, entry), copies)?;
     write_loads(out, loads, layout)
 }
 
@@ -293,6 +297,7 @@ fn report_by_line<O: Sink>(
         outcome.verdict,
         outcome.trace.as_slice(),
         outcome.cells.as_slice(),
+        outcome.copies.as_slice(),
         loads.as_slice(),
         layout,
         m,
@@ -303,8 +308,9 @@ fn report_by_line<O: Sink>(
 }
 
 /// Writes the report of a run: the bytes that were written, where the message is made of a value, how it ended, the frames of
-/// its failure by the names of the module, the cells of the entry point, and the loads. A report of at most 4,096 bytes goes out by
-/// one write; of a longer one each line but those of loads, which are gathered in pages of as many bytes. Takes no memory.
+/// its failure by the names of the module, the cells of the entry point, what its copy buffers hold, and the loads. A report of at
+/// most 4,096 bytes goes out by one write; of a longer one each line but those of loads, which are gathered in pages of as many
+/// bytes. Takes no memory.
 ///
 /// `WriteFault`: a write failed. What went out is a prefix of the report.
 pub fn run_report<O: Sink>(

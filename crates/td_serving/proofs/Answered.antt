@@ -8,7 +8,6 @@ use Rattle.td_front.specs.Checked.{IsChecked}
 use Rattle.td_front.specs.Laws.{OneModuleEach}
 use Rattle.td_report.specs.Laws.{HasWords, HasNoSpotWord}
 use Rattle.td_posts.specs.declared.job.HostJob.{HostJob}
-use Rattle.td_posts.specs.declared.reply.Reply.{Reply}
 use Rattle.td_posts.specs.declared.ring.RingJob.{RingJob}
 use Rattle.td_posts.specs.Posts.{all_mails}
 use Rattle.td_posts.specs.Servable.{IsRingWithin}
@@ -23,7 +22,6 @@ use Rattle.td_told.specs.Laws.{IsHostSized}
 use Rattle.td_input.specs.Marker.{text_part, job_part}
 use Rattle.td_input.proofs.Sounds.{all_checked}
 use Rattle.td_serving.specs.Rings.{ring_bytes, IsRingModule, IsRingOf, at_desc}
-use Rattle.td_serving.specs.Serving.{IsServedInput}
 use Rattle.td_serving.specs.Laws.{AreReportable, ServedAreReportable, HostReportsDetermineServed, ServedCanBeShown}
 use Rattle.td_serving.proofs.Reported.{Below, SmallPair, all_message_words, all_versions, replies_small, takers_small, all_numbered, all_reportable}
 use Rattle.td_serving.proofs.Takes.{BelowTakes, IsSmallRing, takes_reportable, takes_named}

@@ -1,5 +1,5 @@
--- An input is refused for one reason alone, and never where it is served.
-use Rattle.std.proofs.Common.{◌≡◌, ◌⊎◌, inl, inr, ℕ, List, [], ◌∷◌, Option, Some, None, refl, sym, ap, ◌∙◌, subst}
+-- An input is refused for one reason alone, and never where it is served. Cited by other crates.
+use Rattle.std.proofs.Common.{◌≡◌, ◌⊎◌, inl, inr, ℕ, List, [], ◌∷◌, Option, sym, ap, subst}
 use Rattle.td_core.specs.declared.module.Module.{Module}
 use Rattle.td_front.specs.ModuleText.{IsModuleText}
 use Rattle.td_front.specs.Laws.{OneModuleEach}

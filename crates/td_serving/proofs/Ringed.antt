@@ -1,9 +1,9 @@
 -- The module of descriptors, and the readers of rings by it.
-use Rattle.std.proofs.Common.{◌≡◌, ◌⊎◌, inl, inr, ℕ, ◌+◌, ◌*◌, ◌<◌, ◌≤◌, ◌^◌, Bool, true, false, List, [], ◌∷◌, ◌++◌, length, Option, Some, None, refl, sym, ap, ◌∙◌, subst, arith}
-use Rattle.std.specs.Prelude.{slice_get, Result, Ok, Err, IfOk}
+use Rattle.std.proofs.Common.{◌≡◌, ◌⊎◌, inl, inr, ℕ, ◌+◌, ◌<◌, ◌^◌, Bool, true, false, List, [], ◌∷◌, ◌++◌, length, Option, Some, None, refl, sym, ap, ◌∙◌, subst, arith}
+use Rattle.std.specs.Prelude.{Result, Ok, Err, IfOk}
 use Rattle.std.specs.List.{All}
 use Rattle.std.proofs.lemmas.Bool.{false≢true}
-use Rattle.std.proofs.lemmas.List.Elements.{All-nil, All-cons, All-head, All-tail, All-weaker}
+use Rattle.std.proofs.lemmas.List.Elements.{All-weaker}
 use Rattle.td_num.specs.Lists.{AreBytes}
 use Rattle.td_num.proofs.Lists.{got, each_at}
 use Rattle.td_num.proofs.Truths.{both_true}
@@ -13,8 +13,7 @@ use Rattle.td_core.specs.Entries.{entry_definition}
 use Rattle.td_core.specs.Formed.{AllFit, params_at, cells_at}
 use Rattle.td_core.proofs.Found.{entry_found}
 use Rattle.td_arith.specs.Laws.{EvaluatedIsSound}
-use Rattle.td_front.specs.declared.error.FrontError.{FrontError}
-use Rattle.td_front.specs.ModuleText.{IsModuleText, RefusedBy}
+use Rattle.td_front.specs.ModuleText.{IsModuleText}
 use Rattle.td_front.specs.Checked.{IsChecked}
 use Rattle.td_front.specs.Laws.{AlwaysOne, OneModuleEach, NeverBoth}
 use Rattle.td_formats.specs.declared.ring.TheConstants.{RING}
@@ -23,8 +22,8 @@ use Rattle.td_posts.specs.Servable.{IsRingWithin}
 use Rattle.td_ir.specs.declared.tables.Parts.{Parts}
 use Rattle.td_lowered.specs.CodeRun.{IsCodeOf, ArgumentsFit}
 use Rattle.td_descr.specs.Ring.{desc_entry, desc_args, desc_cells, IsRingCode, IsSoundOn, ReaderView}
-use Rattle.td_descr.specs.Shape.{is_first, is_only, has_ring_shape, ShapeAcceptsWithin, ShapeFits}
-use Rattle.td_host.specs.Gathered.{IsReaderOf, AreReadersOf, IsReaderBy}
+use Rattle.td_descr.specs.Shape.{is_first, is_only, has_ring_shape, ShapeAcceptsWithin, ShapeFits, ShapeHasNoBuffers}
+use Rattle.td_host.specs.Gathered.{IsReaderOf, AreReadersOf}
 use Rattle.td_serving.specs.Rings.{ring_bytes, IsRingModule, RingsAreRead, IsRingOf, NoRingModule}
 
 -- ---- the module
@@ -43,6 +42,7 @@ pub record Below : Type 0 where
   pub arguments : ArgumentsFit
   pub fits : ShapeFits
   pub within : ShapeAcceptsWithin
+  pub none : ShapeHasNoBuffers
 
 module _ (below : Below) (m : Module) (shape : has_ring_shape m ≡ true) (room most : ℕ) (few_room : room < 2 ^ 32) (few_most : most < 2 ^ 32) where
   -- each expression that it evaluates lies in its type's range
@@ -65,7 +65,7 @@ module _ (below : Below) (m : Module) (shape : has_ring_shape m ≡ true) (room 
         format = m;
         code = code;
         fits = below.arguments c m desc_entry (desc_args room most) desc_cells code (entry_there m shape) fit.0 fit.1;
-        ring = record { sound = ring_sound checked; within = below.within m shape room most };
+        ring = record { bare = below.none m shape; sound = ring_sound checked; within = below.within m shape room most };
       }
 
 -- ---- whether there is one

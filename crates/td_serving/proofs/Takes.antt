@@ -18,7 +18,7 @@ use Rattle.td_stream.specs.Layouts.{plain, IsNumberOf}
 use Rattle.td_stream.specs.Loads.{Inside}
 use Rattle.td_meaning.specs.Meaning.{meaning}
 use Rattle.td_meaning.specs.Copies.{opened, outcome}
-use Rattle.td_meaning.proofs.Copying.{opened_copyless}
+use Rattle.td_meaning.proofs.Copying.{opened_alone}
 use Rattle.td_meaning.specs.Throughout.{OnEnding}
 use Rattle.td_front.specs.Checked.{IsChecked}
 use Rattle.td_words.specs.declared.view.Access.{Access}
@@ -39,14 +39,14 @@ use Rattle.td_descr.specs.declared.next.Standing.{Standing}
 use Rattle.td_descr.specs.declared.next.Standing.TheVariants.{Nothing, Lost, Waiting}
 use Rattle.td_descr.specs.Words.{load_of, raised}
 use Rattle.td_descr.specs.Ring.{standing, desc_entry, desc_args, desc_cells, desc_bytes, answer, AreWithin}
-use Rattle.td_descr.specs.Shape.{is_first, is_only, has_ring_shape, ShapeAcceptsWithin, ShapeFits}
+use Rattle.td_descr.specs.Shape.{is_first, is_only, has_ring_shape, ShapeAcceptsWithin, ShapeFits, ShapeHasNoBuffers}
 use Rattle.td_takes.specs.declared.take.Take.{Take}
 use Rattle.td_takes.specs.Takes.{ring_layout, message_layout, ring_steps, message_steps, take_steps, all_steps, loads_of, taken_after, IsDescriptor, IsMessage, HasMessage, IsAnswer, IsTake, AreTakes}
 use Rattle.td_takes.specs.TakesServed.{AreTaken, all_takes, TakesServed}
 use Rattle.td_host.specs.Served.{In}
 use Rattle.td_host_report.specs.Report.{HasMessageWords, HasTakenWords}
-use Rattle.td_host_report.specs.Laws.{IsReportableRun, IsReportableDescr, IsReportableMessage, IsReportableAnswer, IsReportableTake}
-use Rattle.td_serving.proofs.Reported.{Below, SmallPair, all_left, all_right, at_version}
+use Rattle.td_host_report.specs.Laws.{IsReportableDescr, IsReportableMessage, IsReportableAnswer, IsReportableTake}
+use Rattle.td_serving.proofs.Reported.{Below, SmallPair, at_version}
 
 -- ---- what was loaded
 
@@ -103,6 +103,7 @@ pub record BelowTakes : Type 0 where
   pub told : OutcomesAreTold
   pub fits : ShapeFits
   pub within : ShapeAcceptsWithin
+  pub none : ShapeHasNoBuffers
 
 -- limits of a ring
 pub record IsSmallRing (ring : RingJob) : Type 0 where
@@ -147,14 +148,14 @@ module _ (below : Below) (more : BelowTakes) (top : Module) (job : HostJob) (che
         is_ring = refl;
         words = words.0;
         no_spot_word = words.1;
-        run = record { named = told.named; frames = told.frames; cells = told.cells; loads = descr_loads most d h small };
+        run = record { named = told.named; frames = told.frames; cells = told.cells; copies = told.copies; loads = descr_loads most d h small };
       }
 
   descr_within : (most pos : ℕ) (d : Reply) → IsDescriptor m room most d → d.verdict ≡ Accept pos → AreWithin room most d.cells.items
   descr_within most pos d h accepts =
       let c = carried most d h in
       let end : List ℕ → Ending = λ cells. (meaning m desc_entry (desc_args room most) cells c.0).ending in
-      let alone = opened_copyless m desc_entry desc_cells own.copyless in
+      let alone = opened_alone m desc_entry desc_cells (more.none m shape) in
       let within : OnEnding (end (opened m desc_entry desc_cells)) (λ q cells. AreWithin room most cells) =
       subst (λ (cells : List ℕ). OnEnding (end cells) (λ q cells. AreWithin room most cells)) (sym alone) (more.within m shape room most c.0 c.1) in
       by c.0 (end (opened m desc_entry desc_cells)) c.3 within
@@ -187,6 +188,7 @@ module _ (below : Below) (more : BelowTakes) (top : Module) (job : HostJob) (che
           named = own_told.named;
           frames = own_told.frames;
           cells = own_told.cells;
+          copies = own_told.copies;
           loads = subst (λ (o : Option (List Stretch)). All (IsShownLoad o) r.loads.list) (sym h.is.list)
               (shown_by_stretches layout r.loads.list is_sized limit h.is.inside (of_64_bits layout r.loads.list limit h.is.inside small));
         };

@@ -2,7 +2,7 @@
 
 ghost use Rattle.td_serving.specs.Laws.{HostReportsDetermineServed, RingsReadOrNot, ServedAreReportable, ServedCanBeShown};
 
-use td_descr::laws::{shape_fits, shape_lies_within};
+use td_descr::laws::{shape_fits, shape_has_no_buffers, shape_lies_within};
 use td_front::laws::{module_or_refusal, modules_are_checked, one_answer_each};
 use td_host_report::laws::host_reports_determine_replies;
 use td_stream::laws::some_message_carries;
@@ -20,6 +20,7 @@ pub fn served_are_reportable()
     outcomes_are_told();
     shape_fits();
     shape_lies_within();
+    shape_has_no_buffers();
     some_message_carries();
 }
 

@@ -12,7 +12,7 @@ use std::alloc::{AllocError, Global};
 use td_arith::laws::evaluated_is_sound;
 use td_coding::code_of;
 use td_core::module::Module;
-use td_descr::laws::{shape_fits, shape_lies_within};
+use td_descr::laws::{shape_fits, shape_has_no_buffers, shape_lies_within};
 use td_descr::{Descr, is_ring};
 use td_formats::ring_text;
 use td_front::{FrontError, check_module};
@@ -60,6 +60,7 @@ fn reader_of(alloc: Global, m: &Module, ring: RingJob, room: u32) -> Result<Desc
     arguments_fit();
     shape_fits();
     shape_lies_within();
+    shape_has_no_buffers();
     let code = code_of(alloc, m)?;
     Descr::arm(alloc, code, ring.entries, room, ring.most)
 }

@@ -34,6 +34,7 @@ use td_num::items::Items;
 use td_posts::job::HostJob;
 use td_posts::reply::Reply;
 use td_takes::Take;
+use td_told::laws::copies_have_room;
 use td_verify::verify::Verified;
 
 /// The replies to the posts of an input's job, by guest and number, the takes of its rings, by ring and number, and what names them in a
@@ -68,6 +69,7 @@ pub fn job_codes(alloc: Global, job: &HostJob) -> Result<Vec<Verified>, AllocErr
     ensures { IfOk result (λ codes. IsJobCode codes.items job.now) }
 {
     arguments_fit();
+    copies_have_room();
     codes_of(alloc, job.formats.as_slice())
 }
 
@@ -85,6 +87,7 @@ fn served_of(served: ServedJob, ring: Option<Module>) -> ServedInput
         entries,
         args: _,
         cells: _,
+        rooms: _,
         words: _,
         workers: _,
         guests: _,

@@ -31,16 +31,15 @@ use Rattle.td_takes.specs.Kept.{IsOutcome, KeptBy, IsKept}
 use Rattle.td_takes.specs.Takes.{message_layout, Describes, IsMessage, IsDescriptor, IsAnswer, HasDone, loads_of, taken_after, IfJudged}
 
 -- ---- the message
-abbrev Said : Module → List Stretch × List Load × List ℕ × List ℕ × Outcome × Entry → Type 0
-Said m x = IsRising x.1 × Inside x.0 x.1 × ((b : List ℕ) → AreBytes b → Carries x.0 b x.1 → IsMeant x.0 m x.5 x.2 x.3 b x.1 x.4)
+abbrev Said : HostJob → Module → Entry → List Stretch × List Load × Outcome → Type 0
+Said job m entry x = IsRising x.1 × Inside x.0 x.1 × ((b : List ℕ) → AreBytes b → Carries x.0 b x.1 → IsMeant x.0 m entry job.args (zeros job.cells) b x.1 x.2)
 
-pub message_by : (job : HostJob) (m : Module) (entry used : Entry) (place size : ℕ) (r : Reply) (layout : List Stretch) (loads : List Load) (args cells : List ℕ) (o : Outcome)
-    → IsVersion job 0 m entry → used ≡ entry → r.guest ≡ 0 → version_in r ≡ 0 → r.layout ≡ Some layout → layout ≡ message_layout place size → r.loads.list ≡ loads → outcome_in r ≡ o → args ≡ job.args → cells ≡ zeros job.cells
-    → IsRising loads → Inside layout loads
-    → ((b : List ℕ) → AreBytes b → Carries layout b loads → IsMeant layout m used args cells b loads o)
+pub message_by : (job : HostJob) (m : Module) (entry : Entry) (place size : ℕ) (r : Reply) (layout : List Stretch) (loads : List Load) (o : Outcome)
+    → IsVersion job 0 m entry → r.guest ≡ 0 → version_in r ≡ 0 → r.layout ≡ Some layout → layout ≡ message_layout place size → r.loads.list ≡ loads → outcome_in r ≡ o → IsRising loads → Inside layout loads
+    → ((b : List ℕ) → AreBytes b → Carries layout b loads → IsMeant layout m entry job.args (zeros job.cells) b loads o)
     → IsMessage job place size r
-message_by job m entry used place size r layout loads args cells o version begins guest number lies e f g a z rising inside meant =
-    let t = subst (Said m) (λ i. (e i, sym f i, a i, z i, sym g i, begins i)) (rising, inside, meant) in
+message_by job m entry place size r layout loads o version guest number lies e f g rising inside meant =
+    let t = subst (Said job m entry) (λ i. (e i, sym f i, sym g i)) (rising, inside, meant) in
     record { is = record { guest = guest; number = number; list = lies ∙ ap (λ l. Some l) e; rising = t.0; inside = t.1 }; format = m; entry = entry; version = version; meant = t.2 }
 
 -- an entry point that a list has at a place stands there

@@ -1,5 +1,5 @@
 -- Takes from a ring: what each answers, and what its seat loaded (own rule).
-use Rattle.std.specs.Prelude.{◌≡◌, ℕ, ◌+◌, ◌*◌, ◌/◌, ◌<◌, ◌≤◌, ◌^◌, List, [], ◌∷◌, ◌++◌, length, vec_capacity, Option, Some, None}
+use Rattle.std.specs.Prelude.{◌≡◌, ℕ, ◌+◌, ◌*◌, ◌/◌, ◌<◌, ◌≤◌, ◌^◌, List, [], ◌∷◌, ◌++◌, map, length, vec_capacity, Option, Some, None}
 use Rattle.td_num.specs.Lists.{AreBytes}
 use Rattle.td_core.specs.declared.module.Module.{Module}
 use Rattle.td_core.specs.declared.module.Entry.{Entry}
@@ -7,6 +7,7 @@ use Rattle.td_core.specs.declared.outcome.Verdict.{Verdict}
 use Rattle.td_stream.specs.declared.load.Load.{Load}
 use Rattle.td_stream.specs.declared.stretch.Stretch.{Stretch}
 use Rattle.td_stream.specs.Layouts.{plain}
+use Rattle.td_stream.specs.Copies.{empty_with}
 use Rattle.td_stream.specs.Loads.{IsRising, Inside, Carries}
 use Rattle.td_leaves.specs.Outcomes.{IsMeant}
 use Rattle.td_ir.specs.declared.tables.Parts.{Parts}
@@ -145,12 +146,12 @@ pub record IsReplyRoom (loads frames : ℕ) (r : Reply) : Type 0 where
   pub untold : r.trace.items ≡ []
   pub trace_room : frames ≤ vec_capacity r.trace
 
--- for a message, and for a descriptor
+-- for a message, with its copies, and for a descriptor, of which there are none
 abbrev pub IsMessageRoom : HostJob → ℕ → ℕ → Reply → Type 0
-IsMessageRoom job frames most r = IsReplyRoom (most / 8 + 2) frames r × (r.cells.items ≡ zeros job.cells)
+IsMessageRoom job frames most r = IsReplyRoom (most / 8 + 2) frames r × (r.cells.items ≡ zeros job.cells) × (r.copies.buffers.items ≡ map empty_with job.rooms)
 
 abbrev pub IsDescRoom : ℕ → Reply → Type 0
-IsDescRoom frames r = IsReplyRoom 2 frames r × (length r.cells.items ≡ 3)
+IsDescRoom frames r = IsReplyRoom 2 frames r × (length r.cells.items ≡ 3) × (r.copies.buffers.items ≡ [])
 
 -- a fact for where there is a verdict
 abbrev pub IfJudged : Option Verdict → Type 0 → Type 0

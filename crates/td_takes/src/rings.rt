@@ -37,10 +37,20 @@ fn desc_reply(descr: &Descr, number: u32, room: Reply) -> Option<Reply>
                 verdict: _,
                 trace,
                 cells,
+                copies,
                 mut loads,
             } = room;
             last.loads.put(&mut loads);
-            Some(reply_of(descr.frame(), number, None, verdict, trace, cells, loads))
+            Some(reply_of(
+                descr.frame(),
+                number,
+                None,
+                verdict,
+                trace,
+                cells,
+                copies,
+                loads,
+            ))
         }
     }
 }

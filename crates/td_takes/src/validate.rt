@@ -2,11 +2,12 @@
 
 ghost use Rattle.std.specs.Prelude.{◌≡◌, ◌+◌, ◌*◌, ◌≤◌, ◌<◌, ◌^◌, [], ◌∷◌, length, vec_capacity};
 ghost use Rattle.td_vm.specs.Frames.{IsArmed};
+ghost use Rattle.td_stream.specs.Copies.{held_by};
 ghost use Rattle.td_posts.specs.Posts.{outcome_in};
 ghost use Rattle.td_posts.specs.declared.limits.TheConstants.{MOST_ENTRIES as most_entries};
 ghost use Rattle.td_live.specs.Live.{HasLoaded};
 ghost use Rattle.td_descr.specs.Words.{load_of, raised};
-ghost use Rattle.td_descr.specs.Ring.{Answers, LiesWithin, standing, ring_words, desc_word, frame_outcome};
+ghost use Rattle.td_descr.specs.Ring.{Answers, LiesWithin, standing, ring_words, desc_word};
 ghost use Rattle.td_takes.specs.Codes.{IsMessageCode};
 ghost use Rattle.td_takes.specs.Takes.{IsMessage, IsMessageRoom, frames_of, message_layout, ring_layout};
 
@@ -15,7 +16,9 @@ use td_descr::{Descr, Next};
 use td_live::gate::{OpenGate, PostName};
 use td_live::live::LiveWords;
 use td_live::slot::validate_slot;
+use td_posts::copies::keep_copies;
 use td_posts::{HostJob, Reply, RingJob};
+use td_stream::copies::Copies;
 use td_stream::laws::message_is_short;
 use td_stream::layout::Layout;
 use td_stream::loads::Loads;
@@ -39,7 +42,8 @@ fn keep(frame: &Frame, trace: &mut Vec<TraceFrame>, cells: &mut [u64])
     };
 }
 
-/// The reply of a validation that left its trace and cells in a frame, in room that was taken for it; of no guest, and with version 0.
+/// The reply of a validation that left its trace and cells in a frame, in room that was taken for it, with these copies; of no guest, and
+/// with version 0.
 pub fn reply_of(
     frame: &Frame,
     number: u32,
@@ -47,6 +51,7 @@ pub fn reply_of(
     verdict: Verdict,
     mut trace: Vec<TraceFrame>,
     mut cells: Vec<u64>,
+    copies: Copies,
     loads: Loads,
 ) -> Reply
     requires empty { trace.items ≡ [] }
@@ -55,7 +60,7 @@ pub fn reply_of(
     ensures guest { result.guest ≡ 0 }
     ensures version { result.version ≡ 0 }
     ensures layout { result.layout ≡ layout }
-    ensures outcome { outcome_in result ≡ frame_outcome frame.now verdict }
+    ensures outcome { outcome_in result ≡ record { verdict = verdict; trace = frame.now.trace; cells = frame.now.cells; copies = held_by copies.buffers.items } }
     ensures loads { result.loads ≡ loads }
 {
     keep(frame, &mut trace, cells.as_mut_slice());
@@ -67,6 +72,7 @@ pub fn reply_of(
         verdict,
         trace,
         cells,
+        copies,
         loads,
     }
 }
@@ -102,6 +108,7 @@ pub fn validate_message(
         verdict: _,
         trace,
         cells,
+        mut copies,
         mut loads,
     } = room;
     let layout = Layout::one(place, size);
@@ -114,7 +121,17 @@ pub fn validate_message(
     let verdict = validate_slot(
         code, entries[0], args, shared, seat, &layout, name, frame, &mut loads, &mut gate,
     );
-    reply_of(frame, number, Some(layout), verdict, trace, cells, loads)
+    keep_copies(frame.copies(), copies.buffers.as_mut_slice());
+    reply_of(
+        frame,
+        number,
+        Some(layout),
+        verdict,
+        trace,
+        cells,
+        copies,
+        loads,
+    )
 }
 
 /// Looks at the ring once, from its seat.

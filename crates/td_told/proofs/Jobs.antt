@@ -111,7 +111,7 @@ record Shaped (j : RunJob) : Type 0 where
   written : IsWritten j.written
 
 writable : (m : Module) → IsChecked m → IsWritable m
-writable m checked = record { formed = checked.formed; copyless = checked.copyless; kinds = checked.kinds; safe = checked.safe }
+writable m checked = record { formed = checked.formed; copying = checked.copying; kinds = checked.kinds; safe = checked.safe }
 
 shaped : WritingIsExact → KindsAreAdmitted → (m : Module) (job : Data) (j : RunJob) (o : Option Data) → IsChecked m → Small job → IsJobWith (given_by o m j.entry job) m job j → Shaped j
 shaped law kinds m job j None checked small h =

@@ -4,6 +4,7 @@ pub mod Names
 pub mod Posts
 pub mod Reading
 pub mod Told
+pub mod Rooms
 pub mod Runs
 pub mod Hosts
 pub mod Words

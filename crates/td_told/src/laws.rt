@@ -1,9 +1,9 @@
 //! Laws of what reports tell. They do nothing when they are called.
 
-ghost use Rattle.td_told.specs.Laws.{HostJobsAreSized, JobsAreSized, LoadsAreTold, ModulesHaveWords, OutcomesAreTold, RepliesAreTold, RunsAreTold};
+ghost use Rattle.td_told.specs.Laws.{CopiesHaveRoom, HostJobsAreSized, JobsAreSized, LoadsAreTold, ModulesHaveWords, OutcomesAreTold, RepliesAreTold, RunsAreTold};
 
 use td_arith::laws::evaluated_is_sound;
-use td_endings::laws::endings_are_within;
+use td_endings::laws::{copies_are_within, endings_are_within};
 use td_host_job::laws::jobs_keep_limits;
 use td_meaning::laws::{frames_are_named, rejections_are_framed};
 use td_spelled::laws::{kinds_are_admitted, writing_is_exact};
@@ -32,7 +32,7 @@ pub fn modules_have_words()
 {}
 
 /// The outcome of a checked module on a message of at most a MiB, from arguments and cells that fit, has named frames, numbers of 64 bits,
-/// and a value for each cell: that of a descriptor of a ring, too.
+/// a value for each cell, and bytes for each copy buffer: that of a descriptor of a ring, too.
 pub fn outcomes_are_told()
     ensures { OutcomesAreTold }
 {
@@ -42,14 +42,23 @@ pub fn outcomes_are_told()
     rejections_are_framed();
 }
 
-/// The outcome of a good job has named frames, numbers of 64 bits, and a value for each cell.
+/// What a checked module copies of a message, from arguments and cells that fit, fits the rooms of the entry point's copy buffers.
+pub fn copies_have_room()
+    ensures { CopiesHaveRoom }
+{
+    evaluated_is_sound();
+    copies_are_within();
+}
+
+/// The outcome of a good job has named frames, numbers of 64 bits, a value for each cell, and bytes for each copy buffer.
 pub fn runs_are_told()
     ensures { RunsAreTold }
 {
     outcomes_are_told();
 }
 
-/// The outcome that a version of a good host job has on a message has named frames, numbers of 64 bits, and a value for each cell.
+/// The outcome that a version of a good host job has on a message has named frames, numbers of 64 bits, a value for each cell, and bytes
+/// for each copy buffer.
 pub fn replies_are_told()
     ensures { RepliesAreTold }
 {

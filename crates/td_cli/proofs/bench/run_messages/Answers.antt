@@ -1,4 +1,4 @@
-use Rattle.std.proofs.Common.{◌≡◌, ◌+◌, refl, ap, ◌∙◌, length, arith, []}
+use Rattle.std.proofs.Common.{◌≡◌, ◌+◌, refl, ap, ◌∙◌, length, arith}
 use Rattle.std.proofs.lemmas.Result.{err_from_is_err_and}
 use Rattle.td_cli.specs.declared.totals.Totals.{Totals}
 use Rattle.td_cli.specs.Bench.{MessageRun}
@@ -24,8 +24,8 @@ returns-in_err-run-clause-cause c =
 pub loop-k-preserved : goal.loop-k-preserved
 loop-k-preserved c =
     let h = c.in_ok-run.ensures.run in
-    let run : MessageRun = record { outcome = record { verdict = c.in_ok-run.run'.verdict; trace = h.trace; cells = h.cells; copies = [] }; loads = c.in_ok-run.run'.loads.list } in
-    let totals : c.with_run-totals.result ≡ totals_with c.loop-k.totals run = c.with_run-totals.ensures.totals h.trace h.cells in
+    let run : MessageRun = record { outcome = record { verdict = c.in_ok-run.run'.verdict; trace = h.trace; cells = h.cells; copies = h.copies }; loads = c.in_ok-run.run'.loads.list } in
+    let totals : c.with_run-totals.result ≡ totals_with c.loop-k.totals run = c.with_run-totals.ensures.totals h.trace h.cells h.copies in
     let loads : c.with_run-totals.result.loads ≡ c.loop-k.totals.loads + length run.loads = ap (λ (t : Totals). t.loads) totals in
     record {
       modules = c.run_one.ensures.prepared;

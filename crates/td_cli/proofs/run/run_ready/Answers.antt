@@ -3,6 +3,7 @@ use Rattle.std.proofs.Common.{◌∙◌, sym, subst}
 use Rattle.td_core.specs.declared.outcome.Outcome.{Outcome}
 use Rattle.td_stream.specs.declared.stretch.Stretch.{Stretch}
 use Rattle.td_stream.specs.Layouts.{count_in, counted, laid}
+use Rattle.td_ir.specs.Entries.{buffers_of}
 use Rattle.td_vm.specs.Frames.{outcome_in}
 use Rattle.td_cli.specs.Run.{IsRunOf}
 use Rattle.td_cli.proofs.Compiled.{job_fits, fits_with, run_with, run_of}
@@ -33,7 +34,7 @@ returns-clause-run g c =
     let job = c.args.input.now.job in
     let p = c.args.ready.prepared in
     let loads = c.run_counted-ran.result.loads.list in
-    let outcome : Outcome = outcome_in c.run_counted-ran.new.frame c.run_counted-ran.result.verdict in
+    let outcome : Outcome = outcome_in c.run_counted-ran.new.frame (buffers_of code job.entry) c.run_counted-ran.result.verdict in
     subst (λ (o : Outcome). IsRunOf m job o loads) (sym c.into_outcome.ensures)
     (run_of code m job outcome loads c.requires.code c.requires.sound c.requires.room
     (run_with code job outcome loads c.as_slice-args.result.now c.as_slice-cells.result.now p.words.opening p.words.stores p.words.layout c.as_slice-args.ensures c.as_slice-cells.ensures c.requires.opening c.requires.stores c.requires.layout c.run_counted-ran.ensures.run))

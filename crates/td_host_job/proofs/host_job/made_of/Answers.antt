@@ -11,7 +11,7 @@ use Rattle.td_job.proofs.Numbers.{both_empty}
 use Rattle.td_job.proofs.Tested.{memory_alone}
 use Rattle.td_host_job.specs.Guests.{listed_in, guests_faults}
 use Rattle.td_host_job.specs.Rings.{rings_faults}
-use Rattle.td_host_job.specs.HostJobs.{given_buffer}
+use Rattle.td_host_job.specs.HostJobs.{given_buffer, rooms_in}
 use Rattle.td_host_job.proofs.Naming.{none_of_rest}
 use Rattle.td_host_job.proofs.host_job.made_of.Goals as goal
 
@@ -62,6 +62,7 @@ returns-clause-ok c =
       begins = c.in_ok-entries_of.ensures;
       args = c.in_ok-values_of.ensures.ok ∙ ap (λ b. given_values b (field_of key.Args job)) params;
       cells = c.in_ok-count_of.ensures.ok ∙ c.len.ensures ∙ ap length slots;
+      roomy = c.in_ok-rooms_of.ensures ∙ ap rooms_in c.definition_of-definition.ensures;
       filled = subst (λ n. IsFilled (given_buffer job) n c.in_ok-fill_words.field-0) (sym words) of_bytes;
       worked = c.requires.workers;
       scripted = c.in_ok-guests.ensures.ok.1;

@@ -72,4 +72,4 @@ returns-in-Err-read_run_job-clause-memory c =
 pub read_run_job-requires : goal.read_run_job-requires
 read_run_job-requires c =
     let checked = c.in-Ok.ensures.checked in
-    record { formed = checked.formed; copyless = checked.copyless; kinds = checked.kinds; safe = checked.safe }
+    record { formed = checked.formed; copying = checked.copying; kinds = checked.kinds; safe = checked.safe }

@@ -12,6 +12,7 @@ use Rattle.td_core.specs.declared.outcome.Outcome.{Outcome}
 use Rattle.td_meaning.specs.Copies.{IsSoundOn}
 use Rattle.td_leaves.specs.Outcomes.{IsMeant}
 use Rattle.td_ir.specs.declared.tables.Parts.{Parts}
+use Rattle.td_ir.specs.Entries.{buffers_of, opened_by}
 use Rattle.td_ir.specs.Run.{run}
 use Rattle.td_lowered.specs.CodeRun.{IsCodeOf}
 use Rattle.td_vm.specs.Outcomes.{IsRun}
@@ -34,12 +35,12 @@ held v w loads plays fresh recorded =
 -- the same run, and the same meant, of cells that were set and of a layout by another name
 moved : (p : Parts) (entry : Entry) (args : List ℕ) (n : ℕ) (o : Option (List Stretch)) (words : List ℕ) (stores : List PlannedStore) (loads : List Load) (outcome : Outcome) (cells cells' : List ℕ) (layout : List Stretch) → cells' ≡ cells → layout ≡ laid n o
     → IsRising loads → Inside layout loads → ArePlanned words stores 0 (buffered o loads)
-    → ((b : List ℕ) → Carries layout b loads → IsRun layout (length cells') b loads (run p entry args cells' b) outcome 0 (run p entry args cells' b).steps)
+    → ((b : List ℕ) → Carries layout b loads → IsRun layout (length cells') b loads (run p entry args (opened_by p entry cells') b) outcome 0 (run p entry args (opened_by p entry cells') b).steps)
     → ((m : Module) (b : List ℕ) → IsCodeOf p m → Carries layout b loads → IsSoundOn m entry args cells' b → IsMeant layout m entry args cells' b loads outcome)
     → IsRunBy p (record { entry = entry; args = args; cells = cells; length = n; layout = o; words = words; stores = stores }) outcome loads
 moved p entry args n o words stores loads outcome cells cells' layout same at rising inside planned ran meant =
     let R : List ℕ × List Stretch → Type 0 = λ x. Inside x.1 loads
-    × ((b : List ℕ) → Carries x.1 b loads → IsRun x.1 (length x.0) b loads (run p entry args x.0 b) outcome 0 (run p entry args x.0 b).steps)
+    × ((b : List ℕ) → Carries x.1 b loads → IsRun x.1 (length x.0) b loads (run p entry args (opened_by p entry x.0) b) outcome 0 (run p entry args (opened_by p entry x.0) b).steps)
     × ((m : Module) (b : List ℕ) → IsCodeOf p m → Carries x.1 b loads → IsSoundOn m entry args x.0 b → IsMeant x.1 m entry args x.0 b loads outcome) in
     let now : R (cells, laid n o) = subst R (λ i. (same i, at i)) (inside, ran, meant) in
     record { rising = rising; inside = now.0; held = planned; ran = now.1; meant = now.2 }
@@ -50,6 +51,6 @@ returns-clause-run c = λ n at.
     let p = c.args.prepared in
     let loads = c.validate_recorded-verdict.new.loads.list in
     moved c.args.code.now c.args.entry c.args.args.now n p.words.layout p.words.opening p.words.stores loads
-    (outcome_in c.validate_recorded-verdict.new.frame c.validate_recorded-verdict.result)
+    (outcome_in c.validate_recorded-verdict.new.frame (buffers_of c.args.code.now c.args.entry) c.validate_recorded-verdict.result)
     c.args.cells.now c.set_cells.new.self.cells c.args.message.now c.set_cells.ensures.cells at
     done.rising done.inside (held p.words c.validate_recorded-verdict.new.words loads done.reaches p.fresh done.loads) done.run done.behavior

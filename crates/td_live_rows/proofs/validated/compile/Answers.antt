@@ -7,7 +7,7 @@ use Rattle.td_live_rows.proofs.validated.compile.Goals as goal
 lowerable : (m : Module) → IsChecked m → IsLowerable m
 lowerable m h = record {
   ready = record { formed = h.formed; sorted = h.sorted; fields = h.fields; steps = h.steps; kinds = h.kinds };
-  copyless = h.copyless;
+  copying = h.copying;
   whole = h.whole;
   named = h.named;
   words = h.words;

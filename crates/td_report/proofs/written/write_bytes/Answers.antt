@@ -1,12 +1,20 @@
-use Rattle.std.proofs.Common.{◌≡◌, length, arith}
-use Rattle.std.proofs.lemmas.Bool.Decides.{nat_tests}
-use Rattle.td_report.proofs.Composing.{writes_as}
-use Rattle.td_report.proofs.Parts.{none_line}
+use Rattle.std.proofs.Common.{◌++◌, codes}
+use Rattle.td_report.specs.ErrorLine.{after_space}
+use Rattle.td_report.specs.Report.{byte_digits}
+use Rattle.td_report.proofs.Composing.{writes_both, writes_stopped, writes_as}
+use Rattle.td_report.proofs.Parts.{bytes_parts}
 use Rattle.td_report.proofs.written.write_bytes.Goals as goal
 
-pub returns-then-is_empty : goal.returns-then-is_empty
-returns-then-is_empty g c =
-    let empty = c.if-is_empty.true in
-    let tested = c.is_empty.ensures in
-    let none : length c.args.bytes.now ≡ 0 = grind (arith, nat_tests) in
-    writes_as (none_line c.args.bytes.now none) c.write_pieces.ensures
+pub returns-in_err-write_pieces : goal.returns-in_err-write_pieces
+returns-in_err-write_pieces g c =
+    writes_as (bytes_parts c.args.bytes.now)
+    (writes_stopped (after_space (byte_digits c.args.bytes.now) ++ codes "\n") c.from_residual.result c.from_residual.ensures.0 c.in_err-write_pieces.ensures)
+
+pub returns-in_err-write_spaced : goal.returns-in_err-write_spaced
+returns-in_err-write_spaced g c =
+    writes_as (bytes_parts c.args.bytes.now)
+    (writes_both c.in_ok-write_pieces.ensures
+    (writes_stopped (codes "\n") c.from_residual-in_err-write_spaced.result c.from_residual-in_err-write_spaced.ensures.0 c.in_err-write_spaced.ensures))
+
+pub returns : goal.returns
+returns g c = writes_as (bytes_parts c.args.bytes.now) (writes_both c.in_ok-write_pieces.ensures (writes_both c.in_ok-write_spaced.ensures c.write_pieces-2.ensures))

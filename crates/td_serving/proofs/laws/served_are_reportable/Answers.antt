@@ -12,5 +12,5 @@ returns c =
         told = c.replies_are_told.ensures;
         carry = c.some_message_carries.ensures;
       };
-      takes = record { told = c.outcomes_are_told.ensures; fits = c.shape_fits.ensures; within = c.shape_lies_within.ensures };
+      takes = record { told = c.outcomes_are_told.ensures; fits = c.shape_fits.ensures; within = c.shape_lies_within.ensures; none = c.shape_has_no_buffers.ensures };
     })

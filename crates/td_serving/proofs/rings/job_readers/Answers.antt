@@ -1,13 +1,12 @@
-use Rattle.std.proofs.Common.{◌≡◌, ◌⊎◌, inl, inr, ℕ, ◌*◌, ◌<◌, ◌^◌, List, [], length, None, Some, refl, sym, ap, ◌∙◌, subst, arith}
+use Rattle.std.proofs.Common.{◌≡◌, ◌*◌, ◌<◌, List, [], length, sym, ◌∙◌, subst}
 use Rattle.std.proofs.lemmas.Bool.{eqb-true, eqb-false}
-use Rattle.std.proofs.lemmas.Result.{err_from_is_err_and}
 use Rattle.std.proofs.lemmas.List.Elements.{All-nil}
 use Rattle.std.specs.List.{All}
 use Rattle.td_num.proofs.Lists.{got}
 use Rattle.td_posts.specs.declared.ring.RingJob.{RingJob}
 use Rattle.td_descr.specs.Ring.{ReaderView}
-use Rattle.td_host.specs.Gathered.{AreReadersOf, IsReaderBy}
-use Rattle.td_serving.proofs.Ringed.{HasEntry, no_readers, have_entries, ring_of_none, ring_of_some, no_ring, nothing_listed, some_listed}
+use Rattle.td_host.specs.Gathered.{IsReaderBy}
+use Rattle.td_serving.proofs.Ringed.{no_readers, ring_of_none, ring_of_some, nothing_listed, some_listed}
 use Rattle.td_serving.proofs.rings.job_readers.Goals as goal
 
 pub returns-then-is_empty-clause-readers : goal.returns-then-is_empty-clause-readers

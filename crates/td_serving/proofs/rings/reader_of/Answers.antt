@@ -1,18 +1,17 @@
-use Rattle.std.proofs.Common.{◌≡◌, ℕ, ◌<◌, ◌^◌, arith, refl, sym, ap, ◌∙◌, subst}
+use Rattle.std.proofs.Common.{arith, sym, subst}
 use Rattle.td_takes.specs.Takes.{Describes}
-use Rattle.td_descr.specs.Ring.{ReaderView}
-use Rattle.td_host.specs.Gathered.{IsReaderOf, IsReaderBy}
+use Rattle.td_host.specs.Gathered.{IsReaderBy}
 use Rattle.td_serving.proofs.Ringed.{Below, ring_sound, ring_code, if_ok_map}
 use Rattle.td_serving.proofs.rings.reader_of.Goals as goal
 
 pub arm-requires-clause-code : goal.arm-requires-clause-code
 arm-requires-clause-code c =
-    let below : Below = record { sound = c.evaluated_is_sound.ensures; arguments = c.arguments_fit.ensures; fits = c.shape_fits.ensures; within = c.shape_lies_within.ensures } in
+    let below : Below = record { sound = c.evaluated_is_sound.ensures; arguments = c.arguments_fit.ensures; fits = c.shape_fits.ensures; within = c.shape_lies_within.ensures; none = c.shape_has_no_buffers.ensures } in
     ring_code below c.args.m.now c.requires.«module».1 c.args.room c.args.ring.most (omega (arith)) (omega (arith)) c.requires.checked c.in_ok-code.code c.in_ok-code.ensures.code
 
 pub returns-clause-by : goal.returns-clause-by
 returns-clause-by c =
-    let below : Below = record { sound = c.evaluated_is_sound.ensures; arguments = c.arguments_fit.ensures; fits = c.shape_fits.ensures; within = c.shape_lies_within.ensures } in
+    let below : Below = record { sound = c.evaluated_is_sound.ensures; arguments = c.arguments_fit.ensures; fits = c.shape_fits.ensures; within = c.shape_lies_within.ensures; none = c.shape_has_no_buffers.ensures } in
     let m = c.args.m.now in
     let own : Describes m c.in_ok-code.code c.args.room c.args.ring.most = record {
       code = c.in_ok-code.ensures.code;

@@ -1,6 +1,5 @@
 use Rattle.std.proofs.Common.{◌≡◌, ℕ, List, inl, inr, refl, sym, ap, ◌∙◌, subst}
 use Rattle.std.proofs.lemmas.Bool.{false≢true}
-use Rattle.td_core.specs.declared.module.Module.{Module}
 use Rattle.td_front.specs.declared.error.FrontError.{FrontError}
 use Rattle.td_front.specs.ModuleText.{IsModuleText, RefusedBy}
 use Rattle.td_descr.specs.Shape.{has_ring_shape}

@@ -1,6 +1,7 @@
 use Rattle.std.proofs.Common.{◌≡◌, List, ◌++◌, Option, Some, refl, sym, ap, ◌∙◌, subst}
 use Rattle.td_core.specs.declared.outcome.Verdict.{Verdict}
 use Rattle.td_stream.specs.declared.load.Load.{Load}
+use Rattle.td_stream.specs.Copies.{BufferView, held_by}
 use Rattle.td_stream.specs.Room.{LoadsView}
 use Rattle.td_vm.specs.Frames.{FrameView}
 use Rattle.td_descr.specs.declared.next.Look.{Look}
@@ -20,7 +21,10 @@ returns-in-Some c =
         guest = r.ensures.guest;
         number = r.ensures.version;
         layout = r.ensures.layout;
-        outcome = r.ensures.outcome ∙ ap (λ (x : FrameView). frame_outcome x c.in-Some.verdict) c.frame.ensures.frame;
+        outcome =
+            r.ensures.outcome
+            ∙ ap (λ (x : List BufferView). record { verdict = c.in-Some.verdict; trace = c.frame.result.now.trace; cells = c.frame.result.now.cells; copies = held_by x }) c.requires.room.2
+            ∙ ap (λ (x : FrameView). frame_outcome x c.in-Some.verdict) c.frame.ensures.frame;
         loads = ap (λ (x : LoadsView). x.list) r.ensures.loads ∙ (c.put.ensures.list ∙ (ap (λ (l : List Load). l ++ c.last-last.result.now.loads) c.requires.room.0.empty ∙ ap (λ (x : Look). x.loads) c.last-last.ensures));
       },
     )

@@ -1,13 +1,17 @@
-use Rattle.std.proofs.Common.{ℕ, ◌<◌, ◌^◌, List, [], length, sym, ap, ◌∙◌, subst, arith}
+use Rattle.std.proofs.Common.{ℕ, List, length, sym, ap, ◌∙◌, subst, arith}
 use Rattle.std.specs.Prelude.{slice_index_or}
 use Rattle.std.proofs.lemmas.Option.{slice_get_within}
 use Rattle.td_core.specs.declared.module.Entry.{Entry}
+use Rattle.td_core.specs.declared.outcome.Outcome.{Outcome}
+use Rattle.td_stream.specs.Copies.{held_by}
 use Rattle.td_stream.specs.Room.{LoadsView}
 use Rattle.td_posts.specs.Posts.{zeros}
-use Rattle.td_ir.specs.Entries.{Fits}
-use Rattle.td_meaning.specs.Copies.{IsSoundOn}
+use Rattle.td_ir.specs.Entries.{Fits, buffers_of}
+use Rattle.td_vm.specs.Frames.{FrameView, outcome_in}
 use Rattle.td_takes.specs.Codes.{IsCodeAt, IsMessageCode}
+use Rattle.td_takes.proofs.Cells.{whole}
 use Rattle.td_takes.proofs.Messages.{message_by, entry_at}
+use Rattle.td_takes.proofs.Roomy.{meant_of, copies_fit, kept_fits, kept_same}
 use Rattle.td_takes.proofs.validate.validate_message.Goals as goal
 
 abbrev none : Entry
@@ -41,21 +45,43 @@ validate_slot-verdict-requires-clause-fits c =
     let begins = entry_at job.entries c.as_slice-entries.result.now 0 code.0 none c.as_slice-entries.ensures code.1.version.1 in
     subst (λ (x : List ℕ × List ℕ × Entry). Fits c.args.code.now x.2 x.0 x.1) (λ i. (sym c.as_slice-args.ensures i, sym zero i, sym begins i)) code.1.can.fits
 
-pub returns-clause-message : goal.returns-clause-message
+pub keep_copies-requires : goal.keep_copies-requires
 unfolding IsMessageCode
-returns-clause-message c =
+keep_copies-requires c =
     let job = c.args.job.now in
     let code : (entry : Entry) × IsCodeAt c.args.code.now job 0 entry = c.requires.code in
     let v = c.validate_slot-verdict in
     let zero = c.set_cells.ensures.cells ∙ (c.as_slice.ensures.value ∙ c.requires.room.1) in
     let used : Entry = slice_index_or c.as_slice-entries.result.now 0 none in
     let begins = entry_at job.entries c.as_slice-entries.result.now 0 code.0 none c.as_slice-entries.ensures code.1.version.1 in
-    message_by job code.1.format code.0 used c.args.place c.args.size c.reply_of.result c.one-layout.result v.new.loads.list c.as_slice-args.result.now c.set_cells.new.self.cells
-    (record { verdict = v.result; trace = v.new.frame.trace; cells = v.new.frame.cells; copies = [] })
-    code.1.version begins c.reply_of.ensures.guest c.reply_of.ensures.version c.reply_of.ensures.layout c.one-layout.ensures (ap (λ (l : LoadsView). l.list) c.reply_of.ensures.loads) c.reply_of.ensures.outcome c.as_slice-args.ensures zero
-    v.ensures.rising v.ensures.within
-    (λ b bytes h.
-    let size = h.size in
-    let small : length b < 2 ^ 32 = omega (arith, size, c.message_is_short.ensures) in
-    v.ensures.behavior code.1.format b code.1.can.code h
-    (subst (λ (x : List ℕ × List ℕ × Entry). IsSoundOn code.1.format x.2 x.0 x.1 b) (λ i. (sym c.as_slice-args.ensures i, sym zero i, sym begins i)) (code.1.can.sound b bytes small)))
+    let k : ℕ = buffers_of c.args.code.now used in
+    let o : Outcome = outcome_in v.new.frame k v.result in
+    let meant = meant_of job c.args.code.now code.1.format code.0 used c.one-layout.result v.new.loads.list c.as_slice-args.result.now c.set_cells.new.self.cells o
+    code.1.can begins c.as_slice-args.ensures zero c.message_is_short.ensures v.ensures.behavior in
+    kept_fits job.rooms k c.copies.result.now v.new.frame.copies c.as_mut_slice.result.now (c.as_mut_slice.ensures.value ∙ c.requires.room.2) c.copies.ensures
+    (copies_fit job code.1.format code.0 c.one-layout.result v.new.loads.list o code.1.can.roomy v.ensures.rising c.message_is_short.ensures meant)
+
+pub returns-clause-message : goal.returns-clause-message
+unfolding IsMessageCode
+returns-clause-message c =
+    let job = c.args.job.now in
+    let code : (entry : Entry) × IsCodeAt c.args.code.now job 0 entry = c.requires.code in
+    let v = c.validate_slot-verdict in
+    let frame : FrameView = v.new.frame in
+    let zero = c.set_cells.ensures.cells ∙ (c.as_slice.ensures.value ∙ c.requires.room.1) in
+    let used : Entry = slice_index_or c.as_slice-entries.result.now 0 none in
+    let begins = entry_at job.entries c.as_slice-entries.result.now 0 code.0 none c.as_slice-entries.ensures code.1.version.1 in
+    let k : ℕ = buffers_of c.args.code.now used in
+    let o : Outcome = outcome_in frame k v.result in
+    let meant = meant_of job c.args.code.now code.1.format code.0 used c.one-layout.result v.new.loads.list c.as_slice-args.result.now c.set_cells.new.self.cells o
+    code.1.can begins c.as_slice-args.ensures zero c.message_is_short.ensures v.ensures.behavior in
+    let fit = copies_fit job code.1.format code.0 c.one-layout.result v.new.loads.list o code.1.can.roomy v.ensures.rising c.message_is_short.ensures meant in
+    let all = whole c.args.room.copies.buffers.len c.keep_copies.new.copies c.args.room.copies.buffers.items (c.keep_copies.auto.copies ∙ c.as_mut_slice.ensures.len) in
+    let held =
+    ap held_by all
+    ∙ (c.keep_copies.ensures.held
+    ∙ kept_same job.rooms k c.copies.result.now frame.copies c.as_mut_slice.result.now (c.as_mut_slice.ensures.value ∙ c.requires.room.2) c.copies.ensures fit) in
+    message_by job code.1.format code.0 c.args.place c.args.size c.reply_of.result c.one-layout.result v.new.loads.list o
+    code.1.version c.reply_of.ensures.guest c.reply_of.ensures.version c.reply_of.ensures.layout c.one-layout.ensures (ap (λ (l : LoadsView). l.list) c.reply_of.ensures.loads)
+    (c.reply_of.ensures.outcome ∙ ap (λ (x : List (List ℕ)). record { verdict = v.result; trace = frame.trace; cells = frame.cells; copies = x }) held)
+    v.ensures.rising v.ensures.within meant
