@@ -20,7 +20,7 @@ typedef enum {
   TD_UNFIT = 2,     /* arguments or cells are more or fewer than the entry point's, or one is too wide; nothing was loaded */
   TD_CLOSED = 3,    /* the handle holds no session (no codes, no seat) */
   TD_NO_MEMORY = 4,
-  TD_MISSING = 5,   /* the code has no such entry point, parameter, cell or name, the last failure no such frame, or there is no such code */
+  TD_MISSING = 5,   /* the code has no such entry point, parameter, cell, copy buffer or name, the last failure no such frame, or there is no such code */
   TD_PAST = 6,      /* the message doesn't lie within the words; nothing was loaded */
   TD_POINTER = 7,   /* a pointer is null, or that of the words isn't aligned to 8 */
   TD_TOO_MUCH = 8,  /* a message of more than 64 stretches, or of 2^32 bytes and more, and nothing was loaded; more than 17 codes */
@@ -47,10 +47,12 @@ typedef struct { void *at; bool full; } td_session;
 /* Why bytes are no image. */
 typedef struct { uint64_t place; uint32_t rule; } td_fault;
 
-typedef struct { uint32_t name, unused; uint64_t param_count, cell_count; } td_entry_point;
+typedef struct { uint32_t name, unused; uint64_t param_count, cell_count, buffer_count; } td_entry_point;
 /* A parameter or a cell. For a cell that is a field of an output record has_field is 1 and field the number of its name. is_place is 1
    where it is a place in the message. */
 typedef struct { uint32_t name, has_field, field, bytes, is_place; } td_part;
+/* A copy buffer: the number of its name, and for how many bytes it has room. */
+typedef struct { uint32_t name, room; } td_buffer_part;
 /* A type that encloses a failure: the numbers of its name and of the field's (where spot is TD_FIELD), the byte at which that
    began, and why. */
 typedef struct { uint32_t kind, spot, field, start, reason; } td_frame_row;
@@ -66,7 +68,7 @@ typedef struct {
   uint64_t step_count;             /* out, likewise: how many steps of code were run: one for each instruction, and for each byte or element
                                       that one looks at for zeros (docs/language/code.md); 2^64 - 1 where they are more */
   uint64_t args[16];               /* in */
-  uint64_t cells[64];              /* in and out: as the validation left them, where it rejected, too */
+  uint64_t cells[64];              /* in and out: as the validation left them, where it rejected, too. What was copied td_copy tells */
 } td_call;
 
 typedef struct { const uint64_t *at; size_t count; } td_words;
@@ -90,6 +92,8 @@ int32_t td_c_entry(td_session *s, bool full, const uint8_t *name, size_t size, u
 int32_t td_c_describe(td_session *s, bool full, uint32_t entry, td_entry_point *told);
 int32_t td_c_param(td_session *s, bool full, uint32_t entry, size_t place, td_part *told);
 int32_t td_c_cell(td_session *s, bool full, uint32_t entry, size_t place, td_part *told);
+int32_t td_c_buffer(td_session *s, bool full, uint32_t entry, size_t place, td_buffer_part *told);
+int32_t td_c_copy(td_session *s, bool full, size_t place, uint8_t *bytes, size_t room, uint64_t *size);
 int32_t td_c_frame(td_session *s, bool full, size_t place, td_frame_row *told);
 int32_t td_c_name(td_session *s, bool full, uint32_t number, uint8_t *bytes, size_t room, uint64_t *size);
 int32_t td_c_validate(td_session *s, bool full, td_call *call, td_words *words, size_t count, td_load *loads, size_t room);
@@ -142,6 +146,20 @@ static inline int32_t td_param(td_session *s, uint32_t entry, size_t place, td_p
 static inline int32_t td_cell(td_session *s, uint32_t entry, size_t place, td_part *told) {
   if (!s || !told) return TD_POINTER;
   return td_c_cell(s, s->full, entry, place, told);
+}
+
+static inline int32_t td_buffer(td_session *s, uint32_t entry, size_t place, td_buffer_part *told) {
+  if (!s || !told) return TD_POINTER;
+  return td_c_buffer(s, s->full, entry, place, told);
+}
+
+/* As many bytes of what the entry point's copy buffer at this place holds after the last validation as there is room for, and how many it holds. They
+   are bytes of the loads that were validated. After a rejection it holds what was copied before the failure. TD_MISSING: no entry point has so many
+   buffers. */
+static inline int32_t td_copy(td_session *s, size_t place, void *bytes, size_t room, uint64_t *size) {
+  if (!s || (!bytes && room) || !size) return TD_POINTER;
+  uint8_t none;
+  return td_c_copy(s, s->full, place, room ? (uint8_t *)bytes : &none, room, size);
 }
 
 /* A frame of the last failure; place 0 is the innermost. */

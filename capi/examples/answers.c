@@ -37,6 +37,10 @@ static void tables(td_session *s, uint32_t entry) {
   }
   row("a parameter too many", TD_MISSING, td_param(s, entry, point.param_count, &part));
   row("a cell too many", TD_MISSING, td_cell(s, entry, point.cell_count, &part));
+  td_buffer_part buffer = {0};
+  row("a copy buffer too many", TD_MISSING, td_buffer(s, entry, point.buffer_count, &buffer));
+  uint64_t size = 0;
+  row("a copy that no entry point has", TD_MISSING, td_copy(s, 16, 0, 0, &size));
   row("an entry point too many", TD_MISSING, td_describe(s, 99, &point));
 }
 

@@ -58,6 +58,22 @@ static void say_cells(td_session *s, const td_call *call) {
   }
 }
 
+/* What was copied: as much as the buffer has room for, never more. */
+static void say_copies(td_session *s, const td_call *call, size_t count) {
+  static uint8_t bytes[65536];
+  for (size_t i = 0; i < count; i++) {
+    td_buffer_part part = {0};
+    uint64_t size = 0;
+    int32_t code = td_buffer(s, call->entry, i, &part);
+    if (code) stop("td_buffer", code);
+    code = td_copy(s, i, bytes, part.room, &size);
+    if (code) stop("td_copy", code);
+    printf(size ? "copy %s " : "copy %s", name_of(s, part.name));
+    for (size_t k = 0; k < size; k++) printf("%02x", bytes[k]);
+    printf("\n");
+  }
+}
+
 static void say_frames(td_session *s, const td_call *call) {
   for (size_t i = 0; i < call->frame_count; i++) {
     td_frame_row f = {0};
@@ -96,6 +112,7 @@ int main(int argc, char **argv) {
   else printf("reject %s %u\n", td_reason_word(call.reason), call.position);
   say_frames(&s, &call);
   say_cells(&s, &call);
+  say_copies(&s, &call, (size_t)point.buffer_count);
   if (part_count || call.place == 0) say_loads(&call, part_count);
   printf("steps %llu\n", (unsigned long long)call.step_count);
   td_close(&s);

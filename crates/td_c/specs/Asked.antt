@@ -10,7 +10,9 @@ use Rattle.td_stream.specs.Loads.{buffered}
 use Rattle.td_ir.specs.declared.tables.Parts.{Parts}
 use Rattle.td_foreign.specs.declared.noted.TdLoad.{TdLoad}
 use Rattle.td_foreign.specs.Noted.{AreRows}
-use Rattle.td_ir.specs.Entries.{Fits}
+use Rattle.td_ir.specs.Entries.{Fits, buffers_of}
+use Rattle.td_stream.specs.Copies.{held_by}
+use Rattle.td_vm.specs.Frames.{FrameView}
 use Rattle.td_session.specs.Validated.{IsValidated}
 use Rattle.td_c.specs.declared.answers.Refusal.{Refusal}
 use Rattle.td_c.specs.declared.answers.Refusal.TheVariants.{Past, NoEntry, Unfit}
@@ -25,6 +27,10 @@ args_of call = take call.arg_count call.args
 
 abbrev pub cells_of : TdCall → List ℕ
 cells_of call = take call.cell_count call.cells
+
+-- what the buffers of an entry point hold, in a session's room
+abbrev pub copied_by : Parts → Entry → FrameView → List (List ℕ)
+copied_by c entry frame = held_by (take (buffers_of c entry) frame.copies)
 
 -- the message where it is one stretch
 abbrev pub layout_of : TdCall → List Stretch
@@ -54,15 +60,15 @@ pub record IsTold (v : Verdict) (trace : List TraceFrame) (loads : List Load) (a
   pub frames : after.frame_count ≡ length trace
   pub counted : after.load_count ≡ length loads
 
--- this answer was found, with these loads of the message's words, these of the memory's, and these rows
-pub record HasAnswered (c : Parts) (trace : List TraceFrame) (answer : Result Verdict Refusal) (loads made : List Load) (rows : List TdLoad)
+-- this answer was found, with this room as it was left, these loads of the message's words, these of the memory's, and these rows
+pub record HasAnswered (c : Parts) (frame : FrameView) (answer : Result Verdict Refusal) (loads made : List Load) (rows : List TdLoad)
     (asked after : TdCall) (layout : List Stretch) (count : ℕ) : Type 0 where
   -- a verdict is found just where what is asked can be validated
   pub asked_well : IsOk answer ↔ IsAsked c asked layout count
   -- the verdict is that of the code's run, and so is the count of steps
   pub validated : IfOk answer (λ v. IsValidated c (entry_asked asked) (args_of asked) (cells_of asked) layout loads
-      (record { verdict = v; trace = trace; cells = cells_of after; copies = [] }) after.step_count)
-  pub told : IfOk answer (λ v. IsTold v trace loads after)
+      (record { verdict = v; trace = frame.trace; cells = cells_of after; copies = copied_by c (entry_asked asked) frame }) after.step_count)
+  pub told : IfOk answer (λ v. IsTold v frame.trace loads after)
   -- else nothing was loaded
   pub refused : IfErr answer (λ r. IsCause c asked layout count r)
   pub unloaded : IfErr answer (λ r. loads ≡ [])

@@ -29,7 +29,7 @@ SameCode a b = code_stays a.session b.session
 
 abbrev pub answered_by : Option Session → Option Session → Slot → TdCall → TdCall → List Stretch → ℕ → List Load → List TdLoad → ℤ → Type 0
 answered_by (Some s) (Some t) slot asked after layout count made rows number =
-    HasAnswered (arc_value s.code) t.frame.trace slot.answer slot.made made rows asked after layout count × (number ≡ answer_number slot.answer)
+    HasAnswered (arc_value s.code) t.frame slot.answer slot.made made rows asked after layout count × (number ≡ answer_number slot.answer)
 answered_by None t slot asked after layout count made rows number = number ≡ pos 3
 answered_by (Some s) None slot asked after layout count made rows number = ⊥
 

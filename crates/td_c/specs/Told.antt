@@ -7,11 +7,12 @@ use Rattle.td_core.specs.declared.module.Param.{Param}
 use Rattle.td_core.specs.declared.module.Cell.{Cell}
 use Rattle.td_core.specs.declared.module.CellKind.{CellKind}
 use Rattle.td_core.specs.declared.module.CellKind.TheVariants.{Number, Pointer}
-use Rattle.td_ir.specs.Tables.{entry_of, routine_of, param_of, cell_of}
+use Rattle.td_ir.specs.Tables.{entry_of, routine_of, param_of, cell_of, buffer_of}
 use Rattle.td_ir.specs.Entries.{IsEntryNamed, IsFirstNamed}
 use Rattle.td_session.specs.declared.session.Session.{Session}
 use Rattle.td_c.specs.declared.answers.TdFrame.{TdFrame}
 use Rattle.td_c.specs.declared.handle.Slot.{Slot}
+use Rattle.td_c.specs.declared.tables.TdBuffer.{TdBuffer}
 use Rattle.td_c.specs.declared.tables.TdEntry.{TdEntry}
 use Rattle.td_c.specs.declared.tables.TdPart.{TdPart}
 use Rattle.td_c.specs.Numbers.{frame_told}
@@ -53,6 +54,7 @@ pub record IsEntry (s : Session) (number : ℕ) (told : TdEntry) : Type 0 where
   pub name : told.name ≡ (routine_of (arc_value s.code) (entry_of (arc_value s.code) number).routine).name.number
   pub params : told.param_count ≡ length (entry_of (arc_value s.code) number).params
   pub cells : told.cell_count ≡ length (entry_of (arc_value s.code) number).cells
+  pub buffers : told.buffer_count ≡ length (entry_of (arc_value s.code) number).buffers
 
 abbrev pub HasEntry : Slot → ℕ → TdEntry → Type 0
 HasEntry slot number told = IsSomeAnd slot.session (λ s. IsEntry s number told)
@@ -79,6 +81,26 @@ HasCell slot number place told = IsSomeAnd slot.session (λ s. (number < length 
 abbrev pub LacksCell : Slot → ℕ → ℕ → Type 0
 LacksCell slot number place = IsSomeAnd slot.session (λ s. (length (arc_value s.code).entries ≤ number)
     ⊎ (length (entry_of (arc_value s.code) number).cells ≤ place))
+
+-- the copy buffer at this place among an entry point's: its name, and its room
+abbrev pub HasBuffer : Slot → ℕ → ℕ → TdBuffer → Type 0
+HasBuffer slot number place told = IsSomeAnd slot.session (λ s. (number < length (arc_value s.code).entries)
+    × (place < length (entry_of (arc_value s.code) number).buffers)
+    × (told.name ≡ (buffer_of (entry_of (arc_value s.code) number).buffers place).number)
+    × (slice_get (routine_of (arc_value s.code) (entry_of (arc_value s.code) number).routine).buffers place ≡ Some told.room))
+
+abbrev pub LacksBuffer : Slot → ℕ → ℕ → Type 0
+LacksBuffer slot number place = IsSomeAnd slot.session (λ s. (length (arc_value s.code).entries ≤ number)
+    ⊎ (length (entry_of (arc_value s.code) number).buffers ≤ place))
+
+-- how many bytes the copy buffer at this place holds, and as many of them as there is room for
+abbrev pub HasCopy : Slot → ℕ → List ℕ → ℕ → Type 0
+HasCopy slot place bytes size = IsSomeAnd slot.session (λ s. IsSomeAnd (slice_get s.frame.copies place) (λ b.
+    (size ≡ length b.held) × (take (min (length b.held) (length bytes)) bytes ≡ take (min (length b.held) (length bytes)) b.held)))
+
+-- no entry point of the code has so many buffers
+abbrev pub LacksCopy : Slot → ℕ → Type 0
+LacksCopy slot place = IsSomeAnd slot.session (λ s. length s.frame.copies ≤ place)
 
 abbrev pub HasFrame : Slot → ℕ → TdFrame → Type 0
 HasFrame slot place told = IsSomeAnd slot.session (λ s. IsSomeAnd (slice_get s.frame.trace place) (λ f. told ≡ frame_told f))

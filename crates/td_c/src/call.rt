@@ -7,7 +7,7 @@ ghost use Rattle.td_stream.specs.Loads.{buffered};
 ghost use Rattle.td_ir.specs.Entries.{Fits};
 ghost use Rattle.td_foreign.specs.Noted.{IsNoted};
 ghost use Rattle.td_session.specs.Validated.{IsValidated};
-ghost use Rattle.td_c.specs.Asked.{HasAnswered, SameQuestion, entry_asked, args_of, cells_of};
+ghost use Rattle.td_c.specs.Asked.{HasAnswered, SameQuestion, entry_asked, args_of, cells_of, copied_by};
 ghost use Rattle.td_c.specs.Numbers.{position_told, reason_told};
 
 use crate::answers::{Answer, Refusal, reason_of};
@@ -68,7 +68,7 @@ fn run_noted<W: Words>(
     ensures code { arc_value session.new.code ≡ arc_value session.old.code }
     ensures fits { IsSome result.0 ↔ Fits (arc_value session.old.code) entry args.now cells.old }
     ensures validated { IfSome result.0 (λ v. IsValidated (arc_value session.old.code) entry args.now cells.old layout.now (W.loads words.new)
-        (record { verdict = v.0; trace = session.new.frame.trace; cells = cells.new; copies = [] }) v.1) }
+        (record { verdict = v.0; trace = session.new.frame.trace; cells = cells.new; copies = copied_by (arc_value session.old.code) entry session.new.frame }) v.1) }
     ensures reaches { W.reaches words.old words.new }
     ensures unloaded { IsNone result.0 → W.loads words.new ≡ [] }
     ensures noted { IsNoted layout.now (W.loads words.new) result.1 rows.new }
@@ -94,7 +94,7 @@ fn run_session(
     ensures code { arc_value session.new.code ≡ arc_value session.old.code }
     ensures fits { IsSome result.verdict ↔ Fits (arc_value session.old.code) entry args.now cells.old }
     ensures validated { IfSome result.verdict (λ v. IsValidated (arc_value session.old.code) entry args.now cells.old layout.now result.made
-        (record { verdict = v.0; trace = session.new.frame.trace; cells = cells.new; copies = [] }) v.1) }
+        (record { verdict = v.0; trace = session.new.frame.trace; cells = cells.new; copies = copied_by (arc_value session.old.code) entry session.new.frame }) v.1) }
     ensures unloaded { IsNone result.verdict → result.made ≡ [] }
     ensures loaded { result.words.made ≡ buffered (Some layout.now) result.made }
     ensures noted { IsNoted layout.now result.made result.count rows.new }
@@ -130,7 +130,7 @@ fn run_front(
     ensures code { arc_value session.new.code ≡ arc_value session.old.code }
     ensures fits { IsSome result.verdict ↔ Fits (arc_value session.old.code) entry (take arg_count args.now) (take cell_count cells.old) }
     ensures validated { IfSome result.verdict (λ v. IsValidated (arc_value session.old.code) entry (take arg_count args.now) (take cell_count cells.old) layout.now result.made
-        (record { verdict = v.0; trace = session.new.frame.trace; cells = take cell_count cells.new; copies = [] }) v.1) }
+        (record { verdict = v.0; trace = session.new.frame.trace; cells = take cell_count cells.new; copies = copied_by (arc_value session.old.code) entry session.new.frame }) v.1) }
     ensures unloaded { IsNone result.verdict → result.made ≡ [] }
     ensures loaded { result.words.made ≡ buffered (Some layout.now) result.made }
     ensures noted { IsNoted layout.now result.made result.count rows.new }
@@ -156,7 +156,7 @@ fn run_call(
     ensures code { arc_value session.new.code ≡ arc_value session.old.code }
     ensures fits { IsSome result.verdict ↔ Fits (arc_value session.old.code) (entry_asked call.old) (args_of call.old) (cells_of call.old) }
     ensures validated { IfSome result.verdict (λ v. IsValidated (arc_value session.old.code) (entry_asked call.old) (args_of call.old) (cells_of call.old) layout.now result.made
-        (record { verdict = v.0; trace = session.new.frame.trace; cells = cells_of call.new; copies = [] }) v.1) }
+        (record { verdict = v.0; trace = session.new.frame.trace; cells = cells_of call.new; copies = copied_by (arc_value session.old.code) (entry_asked call.old) session.new.frame }) v.1) }
     ensures unloaded { IsNone result.verdict → result.made ≡ [] }
     ensures loaded { result.words.made ≡ buffered (Some layout.now) result.made }
     ensures noted { IsNoted layout.now result.made result.count rows.new }
@@ -192,7 +192,7 @@ pub(crate) fn validate(
     requires inside { AreWithin words.count layout.now }
     requires fresh { words.made ≡ [] }
     ensures code { arc_value session.new.code ≡ arc_value session.old.code }
-    ensures answered { HasAnswered (arc_value session.old.code) session.new.frame.trace result.0 result.1 result.2.made rows.new call.old call.new layout.now words.count }
+    ensures answered { HasAnswered (arc_value session.old.code) session.new.frame result.0 result.1 result.2.made rows.new call.old call.new layout.now words.count }
 {
     if (call.entry as usize) >= session.entry_count() {
         return (Err(Refusal::NoEntry), Made::new(), words);
@@ -234,7 +234,7 @@ pub(crate) fn validate_within(
     requires count { words.count ≡ count }
     requires fresh { words.made ≡ [] }
     ensures code { arc_value session.new.code ≡ arc_value session.old.code }
-    ensures answered { HasAnswered (arc_value session.old.code) session.new.frame.trace result.0 result.1 result.2.made rows.new call.old call.new layout.now count }
+    ensures answered { HasAnswered (arc_value session.old.code) session.new.frame result.0 result.1 result.2.made rows.new call.old call.new layout.now count }
 {
     if !inside {
         return (Err(Refusal::Past), Made::new(), words);

@@ -1,14 +1,14 @@
 //! What C calls to find entry points, names, parameters, cells and frames.
 
 ghost use Rattle.std.specs.Prelude.{◌≡◌, pos, true, false};
-ghost use Rattle.td_c.specs.Told.{IsLookup, IsFound, IsLost, HasParam, HasCell, HasFrame, HasEntry, HasName, LacksParam, LacksCell, LacksFrame, LacksEntry, LacksName, param_told, field_told, kind_told, cell_told};
+ghost use Rattle.td_c.specs.Told.{IsLookup, IsFound, IsLost, HasParam, HasCell, HasBuffer, HasCopy, HasFrame, HasEntry, HasName, LacksParam, LacksCell, LacksBuffer, LacksCopy, LacksFrame, LacksEntry, LacksName, param_told, field_told, kind_told, cell_told};
 
 use crate::answers::{CLOSED, DONE, MISSING, TdFrame, frame_of};
 use crate::handle::{Slot, TdSession};
 use td_core::module::{Cell, CellKind, Entry, NameId, Param};
 use td_num::number::byte_count;
 
-/// An entry point: the number of its name, and how many parameters and cells it has.
+/// An entry point: the number of its name, and how many parameters, cells and copy buffers it has.
 #[repr(C)]
 #[derive(Clone, Copy)]
 pub struct TdEntry {
@@ -16,6 +16,15 @@ pub struct TdEntry {
     pub unused: u32,
     pub param_count: u64,
     pub cell_count: u64,
+    pub buffer_count: u64,
+}
+
+/// A copy buffer: the number of its name, and for how many bytes it has room.
+#[repr(C)]
+#[derive(Clone, Copy)]
+pub struct TdBuffer {
+    pub name: u32,
+    pub room: u32,
 }
 
 /// A parameter or a cell: the number of its name; for a field of an output record 1 and the number of the field's name; how many bytes its number has, and 1 where it
@@ -124,10 +133,11 @@ fn describe(slot: &Slot, number: u32, told: &mut TdEntry) -> i32
         return CLOSED;
     };
     let entry = Entry { number };
-    let (Some(name), Some(params), Some(cells)) = (
+    let (Some(name), Some(params), Some(cells), Some(buffers)) = (
         session.entry_name(entry),
         session.params(entry),
         session.cells(entry),
+        session.buffers(entry),
     ) else {
         return MISSING;
     };
@@ -136,6 +146,7 @@ fn describe(slot: &Slot, number: u32, told: &mut TdEntry) -> i32
         unused: 0,
         param_count: params.len() as u64,
         cell_count: cells.len() as u64,
+        buffer_count: buffers.len() as u64,
     };
     DONE
 }
@@ -246,6 +257,96 @@ pub extern "C" fn td_c_cell(
     }
     let slot = handle.take();
     let code = cell_at(slot, number, place, told);
+    handle.put(slot);
+    code
+}
+
+fn buffer_at(slot: &Slot, number: u32, place: usize, told: &mut TdBuffer) -> i32
+    ensures answer { IsLookup slot.now result }
+    ensures buffer { result ≡ pos 0 → HasBuffer slot.now number place told.new }
+    ensures missing { result ≡ pos 5 → LacksBuffer slot.now number place }
+{
+    let Some(session) = &slot.session else {
+        return CLOSED;
+    };
+    let entry = Entry { number };
+    let (Some(names), Some(rooms)) = (session.buffers(entry), session.rooms(entry)) else {
+        return MISSING;
+    };
+    if place >= names.len() {
+        return MISSING;
+    }
+    *told = TdBuffer {
+        name: names[place].number,
+        room: rooms[place],
+    };
+    DONE
+}
+
+/// A copy buffer of an entry point, by its place.
+#[unsafe(no_mangle)]
+pub extern "C" fn td_c_buffer(
+    handle: &mut TdSession,
+    full: bool,
+    number: u32,
+    place: usize,
+    told: &mut TdBuffer,
+) -> i32
+    requires { handle.old.full ≡ full }
+    ensures closed { full ≡ false → result ≡ pos 3 }
+    ensures kept { full ≡ true → (handle.new.full ≡ true) × (handle.new.value ≡ handle.old.value) }
+    ensures answer { full ≡ true → IsLookup handle.old.value result }
+    ensures buffer { full ≡ true → result ≡ pos 0 → HasBuffer handle.old.value number place told.new }
+    ensures missing { full ≡ true → result ≡ pos 5 → LacksBuffer handle.old.value number place }
+{
+    if !full {
+        return CLOSED;
+    }
+    let slot = handle.take();
+    let code = buffer_at(slot, number, place, told);
+    handle.put(slot);
+    code
+}
+
+fn copy_at(slot: &Slot, place: usize, bytes: &mut [u8], size: &mut u64) -> i32
+    ensures answer { IsLookup slot.now result }
+    ensures copy { result ≡ pos 0 → HasCopy slot.now place bytes.new size.new }
+    ensures missing { result ≡ pos 5 → LacksCopy slot.now place }
+{
+    let Some(session) = &slot.session else {
+        return CLOSED;
+    };
+    let Some(buffer) = session.copies().get(place) else {
+        return MISSING;
+    };
+    let held = buffer.as_slice();
+    let count = held.len().min(bytes.len());
+    bytes[..count].copy_from_slice(&held[..count]);
+    *size = held.len() as u64;
+    DONE
+}
+
+/// Writes as much of what a copy buffer holds after the last validation as there is room for, and how many bytes it holds.
+#[unsafe(no_mangle)]
+pub extern "C" fn td_c_copy(
+    handle: &mut TdSession,
+    full: bool,
+    place: usize,
+    bytes: &mut [u8],
+    size: &mut u64,
+) -> i32
+    requires { handle.old.full ≡ full }
+    ensures closed { full ≡ false → result ≡ pos 3 }
+    ensures kept { full ≡ true → (handle.new.full ≡ true) × (handle.new.value ≡ handle.old.value) }
+    ensures answer { full ≡ true → IsLookup handle.old.value result }
+    ensures copy { full ≡ true → result ≡ pos 0 → HasCopy handle.old.value place bytes.new size.new }
+    ensures missing { full ≡ true → result ≡ pos 5 → LacksCopy handle.old.value place }
+{
+    if !full {
+        return CLOSED;
+    }
+    let slot = handle.take();
+    let code = copy_at(slot, place, bytes, size);
     handle.put(slot);
     code
 }

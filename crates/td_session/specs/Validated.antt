@@ -9,6 +9,7 @@ use Rattle.td_stream.specs.declared.stretch.Stretch.{Stretch}
 use Rattle.td_stream.specs.Loads.{Carries, Inside, IsRising}
 use Rattle.td_leaves.specs.Outcomes.{IsMeant}
 use Rattle.td_ir.specs.declared.tables.Parts.{Parts}
+use Rattle.td_ir.specs.Entries.{opened_by}
 use Rattle.td_ir.specs.Run.{run}
 use Rattle.td_lowered.specs.CodeRun.{IsCodeOf}
 use Rattle.td_vm.specs.Outcomes.{IsRun}
@@ -20,9 +21,9 @@ pub record IsValidated (c : Parts) (entry : Entry) (args cells : List ℕ) (layo
   pub rising : IsRising loads
   pub inside : Inside layout loads
   -- the steps told are the run's, or 2^64 - 1 where these are more
-  pub steps : (b : List ℕ) → Carries layout b loads → told ≡ min (run c entry args cells b).steps (2 ^ 64 - 1)
+  pub steps : (b : List ℕ) → Carries layout b loads → told ≡ min (run c entry args (opened_by c entry cells) b).steps (2 ^ 64 - 1)
   -- on every byte list that carries the loads the outcome is that of the code's run, and exactly the words that it looks at were loaded
-  pub run : (b : List ℕ) → Carries layout b loads → IsRun layout (length cells) b loads (run c entry args cells b) outcome 0 (run c entry args cells b).steps
+  pub run : (b : List ℕ) → Carries layout b loads → IsRun layout (length cells) b loads (run c entry args (opened_by c entry cells) b) outcome 0 (run c entry args (opened_by c entry cells) b).steps
   -- where the code is a module's, the outcome is what the module means
   pub behavior : (m : Module) (b : List ℕ) → IsCodeOf c m → Carries layout b loads
       → IsSoundOn m entry args cells b → IsMeant layout m entry args cells b loads outcome

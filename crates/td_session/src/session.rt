@@ -1,10 +1,11 @@
 //! A verified code with room for its validations.
 
-ghost use Rattle.std.specs.Prelude.{◌≡◌, ℕ, ◌<◌, ◌^◌, ◌≤◌, ◌↔◌, [], IfOk, IfErr, IfSome, IsSome, IsNone, MatchOption, Some, length as size_of, slice_get};
+ghost use Rattle.std.specs.Prelude.{◌≡◌, ℕ, ◌<◌, ◌^◌, ◌≤◌, ◌↔◌, [], IfOk, IfErr, IfSome, IsSome, IsNone, MatchOption, Some, length as size_of, slice_get, take};
 ghost use Rattle.std.specs.Arc.{arc_value};
 ghost use Rattle.td_image.specs.Answer.{IsImage, IsRefused};
 ghost use Rattle.td_stream.specs.Layouts.{count_in};
-ghost use Rattle.td_ir.specs.Entries.{Fits, IsEntryNamed, IsFirstNamed};
+ghost use Rattle.td_ir.specs.Entries.{Fits, IsEntryNamed, IsFirstNamed, buffers_of};
+ghost use Rattle.td_stream.specs.Copies.{held_by};
 ghost use Rattle.td_ir.specs.WellFormed.{IsCode};
 ghost use Rattle.td_vm.specs.Frames.{IsArmed};
 ghost use Rattle.td_session.specs.Validated.{IsValidated};
@@ -18,6 +19,7 @@ use td_core::outcome::{TraceFrame, Verdict};
 use td_image::{ImageError, read_image};
 use td_ir::entries::{entry_in, fits};
 use td_ir::tables::Parts;
+use td_stream::copies::Buffer;
 use td_stream::layout::Layout;
 use td_stream::words::Words;
 use td_swap::codes::Codes;
@@ -108,6 +110,13 @@ impl Session {
         self.frame.trace()
     }
 
+    /// What was copied to the buffers of the code: those of the last validation's entry point are the first ones, as many as it has.
+    pub fn copies(&self) -> &[Buffer]
+        ensures { result.now ≡ self.now.frame.copies }
+    {
+        self.frame.copies()
+    }
+
     /// Validates a message that lies so in the words, of which none was loaded yet. None: arguments and cells don't fit the entry point, and
     /// nothing was loaded. The cells begin as they are, and are left as the validation left them. Beside the verdict it tells how many
     /// steps the code's run took (docs/language/code.md), 2^64 - 1 where they are more. Takes no memory and waits for nobody.
@@ -125,9 +134,10 @@ impl Session {
         ensures code { arc_value self.new.code ≡ arc_value self.old.code }
         // It validates exactly where arguments and cells fit the entry point.
         ensures fits { IsSome result ↔ Fits (arc_value self.old.code) entry args.now cells.old }
-        // Then the verdict, with the session's trace and the cells as they are left, is the outcome, of so many steps.
+        // Then the verdict, with the session's trace, the cells as they are left and what the entry point's buffers hold, is the outcome, of so
+        // many steps.
         ensures validated { IfSome result (λ v. IsValidated (arc_value self.old.code) entry args.now cells.old layout.now (W.loads words.new)
-            (record { verdict = v.0; trace = self.new.frame.trace; cells = cells.new; copies = [] }) v.1) }
+            (record { verdict = v.0; trace = self.new.frame.trace; cells = cells.new; copies = held_by (take (buffers_of (arc_value self.old.code) entry) self.new.frame.copies) }) v.1) }
         ensures reaches { W.reaches words.old words.new }
         // Else nothing was loaded, and the cells are as they were.
         ensures unloaded { IsNone result → W.loads words.new ≡ [] }

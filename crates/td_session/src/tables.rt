@@ -54,6 +54,33 @@ impl Session {
         Some(point.params.as_slice())
     }
 
+    /// The names of an entry point's copy buffers. None: the code has no such entry point.
+    pub fn buffers(&self, entry: Entry) -> Option<&[NameId]>
+        ensures there { IsSome result ↔ (entry.number < length (arc_value self.now.code).entries) }
+        ensures buffers { IfSome result (λ list. list.now ≡ (entry_of (arc_value self.now.code) entry.number).buffers) }
+    {
+        let parts = self.parts();
+        if (entry.number as usize) >= parts.entries.len() {
+            return None;
+        }
+        let point = entry_at(parts, entry.number as usize);
+        Some(point.buffers.as_slice())
+    }
+
+    /// The rooms of an entry point's copy buffers, in bytes: as many as there are names. None: the code has no such entry point.
+    pub fn rooms(&self, entry: Entry) -> Option<&[u32]>
+        ensures there { IsSome result ↔ (entry.number < length (arc_value self.now.code).entries) }
+        ensures count { IfSome result (λ list. length list.now ≡ length (entry_of (arc_value self.now.code) entry.number).buffers) }
+        ensures rooms { IfSome result (λ list. list.now ≡ (routine_of (arc_value self.now.code) (entry_of (arc_value self.now.code) entry.number).routine).buffers) }
+    {
+        let parts = self.parts();
+        if (entry.number as usize) >= parts.entries.len() {
+            return None;
+        }
+        let point = entry_at(parts, entry.number as usize);
+        Some(routine_at(parts, point.routine as usize).buffers.as_slice())
+    }
+
     /// The cells of an entry point, with their names and kinds. None: the code has no such entry point.
     pub fn cells(&self, entry: Entry) -> Option<&[Cell]>
         ensures there { IsSome result ↔ (entry.number < length (arc_value self.now.code).entries) }

@@ -8,7 +8,7 @@ use Rattle.td_stream.specs.declared.load.Load.{Load}
 use Rattle.td_stream.specs.Layouts.{plain}
 use Rattle.td_stream.specs.Loads.{Carries, Inside, IsRising}
 use Rattle.td_ir.specs.declared.tables.Parts.{Parts}
-use Rattle.td_ir.specs.Entries.{Fits, IsFirstNamed}
+use Rattle.td_ir.specs.Entries.{Fits, IsFirstNamed, opened_by}
 use Rattle.td_ir.specs.Run.{run}
 use Rattle.td_image.specs.Answer.{IsImage}
 use Rattle.td_vm.specs.Outcomes.{IsRun}
@@ -21,7 +21,7 @@ same_on u v w p q = q ∙ p
 pub record IsValidated (c : Parts) (entry : Entry) (args cells : List ℕ) (length : ℕ) (loads : List Load) (outcome : Outcome) : Type 0 where
   pub rising : IsRising loads
   pub inside : Inside (plain length) loads
-  pub ran : (b : List ℕ) → Carries (plain length) b loads → IsRun (plain length) (size_of cells) b loads (run c entry args cells b) outcome 0 (run c entry args cells b).steps
+  pub ran : (b : List ℕ) → Carries (plain length) b loads → IsRun (plain length) (size_of cells) b loads (run c entry args (opened_by c entry cells) b) outcome 0 (run c entry args (opened_by c entry cells) b).steps
 
 -- the same by the code whose image the bytes are, from its first entry point of a name, with cells that begin at zero
 pub record IsAnswer (image name args : List ℕ) (length : ℕ) (loads : List Load) (outcome : Outcome) : Type 0 where

@@ -35,5 +35,5 @@ pub fn validated(
     frame.set_cells(cells);
     let layout = Layout::plain(length);
     let verdict = validate_compiled(code, entry, args, &layout, &mut frame, words);
-    Ok(frame.into_outcome(verdict))
+    Ok(frame.into_outcome(code, entry, verdict))
 }

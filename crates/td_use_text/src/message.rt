@@ -1,6 +1,7 @@
 //! From a message to its report.
 
-ghost use Rattle.std.specs.Prelude.{◌≡◌, ◌<◌, ◌^◌, [], Err, length, IfOk, OnOk};
+ghost use Rattle.std.specs.Prelude.{◌≡◌, ◌<◌, ◌^◌, [], Err, length, take, IfOk, OnOk};
+ghost use Rattle.td_ir.specs.Entries.{buffers_of};
 ghost use Rattle.td_lowered.specs.CodeRun.{IsCodeOf};
 ghost use Rattle.td_coding.specs.Coding.{DoesWhatItMeans};
 ghost use Rattle.td_vm.specs.Frames.{IsArmed, outcome_in};
@@ -18,9 +19,12 @@ use td_lowered::laws::arguments_fit;
 use td_report::report::report_of_parts;
 use td_sched::laws::loads_are_planned;
 use td_sched::planned::Planned;
+use td_step::tables::{entry_at, routine_at};
+use td_stream::copies::Buffer;
 use td_stream::laws::{plain_carries, plain_message};
 use td_stream::layout::Layout;
 use td_stream::loads::Loads;
+use td_verify::verify::Verified;
 use td_vm::laws::fitting_cells_have_room;
 use td_vm::validate::Frame;
 use thiserror::Error;
@@ -80,7 +84,7 @@ fn validated(
     requires short { length message.now < 2 ^ 32 }
     ensures armed { IsArmed compiled.now.code frame.new }
     ensures run { IfOk result (λ ran. IsRunOf compiled.now.module entry cells.now message.now ran.loads.list
-        (outcome_in frame.new ran.verdict)) }
+        (outcome_in frame.new (buffers_of compiled.now.code entry) ran.verdict)) }
 {
     arguments_fit();
     fitting_cells_have_room();
@@ -105,6 +109,22 @@ fn validated(
     Ok(Ran { verdict, loads })
 }
 
+// What the entry point's copy buffers hold: they are the frame's first ones, as many as the entry point has.
+fn copies_of<'a>(code: &Verified, entry: Entry, frame: &'a Frame) -> &'a [Buffer]
+    requires { entry.number < length code.now.entries }
+    ensures { result.now ≡ take (buffers_of code.now entry) frame.now.copies }
+{
+    let parts = code.code().parts();
+    let point = entry_at(parts, entry.number as usize);
+    let count = routine_at(parts, point.routine as usize).buffers.len();
+    let copies = frame.copies();
+    if count < copies.len() {
+        &copies[..count]
+    } else {
+        copies
+    }
+}
+
 /// Validates a message from an entry point on, and writes the report. The frame was armed for the code, and serves the next message.
 /// `NoMemory`: there was no memory, and nothing was written; `Write`: a write failed, and a prefix of the report was written.
 pub fn report_message<O: Sink>(
@@ -126,11 +146,13 @@ pub fn report_message<O: Sink>(
     ensures written { OnOk result (Reports compiled.now.module entry cells.now message.now (O.state out.old) (O.state out.new)) }
     ensures nothing { result ≡ Err MessageError.NoMemory → O.state out.new ≡ O.state out.old }
 {
+    arguments_fit();
     let ran = validated(alloc, compiled, entry, cells, message, frame)?;
     report_of_parts(
         ran.verdict,
         frame.trace(),
         frame.cells(),
+        copies_of(&compiled.code, entry, frame),
         ran.loads.as_slice(),
         None,
         &compiled.module,

@@ -1,5 +1,5 @@
 use Rattle.std.proofs.Common.{◌*◌, ◌≤◌, [], length, sym, subst, ◌∙◌, arith}
-use Rattle.td_ir.specs.Entries.{Fits}
+use Rattle.td_ir.specs.Entries.{Fits, buffers_of}
 use Rattle.td_vm.specs.Frames.{outcome_in}
 use Rattle.td_use_text.proofs.Carrying.{carried}
 use Rattle.td_use_text.proofs.Meaning.{means}
@@ -35,7 +35,7 @@ returns-clause-run c =
       rising = done.ensures.rising;
       carried = carrying;
       meant = means c.args.compiled.now.code c.args.compiled.now.module c.args.entry (length message) loads c.args.cells.now c.set_cells.new.self.cells c.plain-layout.result
-          (outcome_in done.new.frame done.result)
+          (outcome_in done.new.frame (buffers_of c.args.compiled.now.code c.args.entry) done.result)
           c.set_cells.ensures.cells c.plain-layout.ensures.layout c.requires.short c.requires.means c.requires.entry c.requires.begins done.ensures.run
           message (λ i. omega (arith, c.type_inv.message i)) carrying;
     }

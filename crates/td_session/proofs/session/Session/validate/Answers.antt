@@ -1,6 +1,8 @@
-use Rattle.std.proofs.Common.{ℕ, List, sym, subst, ◌∙◌, []}
+use Rattle.std.proofs.Common.{ℕ, List, take, sym, subst, ◌∙◌}
 use Rattle.std.specs.Arc.{arc_value}
 use Rattle.td_ir.specs.declared.tables.Parts.{Parts}
+use Rattle.td_stream.specs.Copies.{held_by}
+use Rattle.td_ir.specs.Entries.{buffers_of}
 use Rattle.td_session.specs.Validated.{IsValidated}
 use Rattle.td_session.proofs.session.Session.validate.Goals as goal
 
@@ -8,7 +10,7 @@ pub returns-clause-validated : goal.returns-clause-validated
 returns-clause-validated g c =
     let done = c.validate_told-found in
     let V : Parts → List ℕ → List ℕ → Type 0 = λ code before after. IsValidated code c.args.entry c.args.args.now before c.args.layout.now
-    (g.W.Words.loads done.new.words) (record { verdict = done.result.0; trace = done.new.frame.trace; cells = after; copies = [] }) done.result.1 in
+    (g.W.Words.loads done.new.words) (record { verdict = done.result.0; trace = done.new.frame.trace; cells = after; copies = held_by (take (buffers_of code c.args.entry) done.new.frame.copies) }) done.result.1 in
     let v : V c.verified-2.result.now c.set_cells.new.self.cells done.new.frame.cells = record {
       rising = done.ensures.rising;
       inside = done.ensures.inside;
