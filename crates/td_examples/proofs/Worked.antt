@@ -44,4 +44,9 @@ are_worked = record {
   single = refl;
   single_means_1 = refl;
   single_means_2 = refl;
+  copied = refl;
+  copied_means_1 = refl;
+  copied_means_2 = refl;
+  copied_means_3 = refl;
+  copied_means_4 = refl;
 }

@@ -6,6 +6,7 @@ use Rattle.td_ast.specs.declared.token.Base.TheVariants.{Decimal}
 use Rattle.td_ast.specs.Trees as tree
 use Rattle.td_ast.specs.declared.actions.Assigned.TheVariants.{Value}
 use Rattle.td_ast.specs.declared.actions.ActionKind.TheVariants.{Act}
+use Rattle.td_ast.specs.declared.actions.ActionTree.TheVariants.{Done}
 use Rattle.td_ast.specs.Statements.{Store}
 use Rattle.td_ast.specs.declared.names.ConstTree.TheVariants as constant
 use Rattle.td_ast.specs.declared.parameters.TargetTree.TheVariants as target
@@ -37,5 +38,5 @@ enums =
     ((Enum (record { base = (record { number = (number One LittleEndian); span = (sp 0 5) }); name = (nm "E" 11 12); items = (record { name = (nm "A" 15 16); value = None } ∷ []) }) ∷ Struct (record { entry = false; tag = (nm "_S" 34 36); head = (record { params = []; condition = None }); fields = (record { type_tree = (record { span = (sp 39 40); kind = type.Named (codes "E") ((tree.Number (sp 41 42) 1 Decimal) ∷ []) }); name = (nm "e" 44 45); extent = None; refinement = None; action = None } ∷ []); name = (nm "S" 49 50) }) ∷ []), Some (WrongArgs, 39)) ∷
     -- UINT16 enum E { A = 300 } typedef struct _S(mutable UINT8 *p) { E e {:act *p = e;}; } S;
     -- Y2 at byte 79
-    ((Enum (record { base = (record { number = (number Two LittleEndian); span = (sp 0 6) }); name = (nm "E" 12 13); items = (record { name = (nm "A" 16 17); value = (Some (constant.Number (record { value = 300; base = Decimal; span = (sp 20 23) }))) } ∷ []) }) ∷ Struct (record { entry = false; tag = (nm "_S" 41 43); head = (record { params = (param.Mutable (target.Number (record { number = (number One LittleEndian); span = (sp 52 57) })) (nm "p" 59 60) ∷ []); condition = None }); fields = (record { type_tree = (record { span = (sp 64 65); kind = type.Named (codes "E") [] }); name = (nm "e" 66 67); extent = None; refinement = None; action = (Some (record { kind = Act; span = (sp 68 73); statements = (Store (sp 74 81) (nm "p" 75 76) (Value (tree.Name (sp 79 80) (nm "e" 79 80))) ∷ []) })) } ∷ []); name = (nm "S" 86 87) }) ∷ []), Some (Narrowing, 79)) ∷
+    ((Enum (record { base = (record { number = (number Two LittleEndian); span = (sp 0 6) }); name = (nm "E" 12 13); items = (record { name = (nm "A" 16 17); value = (Some (constant.Number (record { value = 300; base = Decimal; span = (sp 20 23) }))) } ∷ []) }) ∷ Struct (record { entry = false; tag = (nm "_S" 41 43); head = (record { params = (param.Mutable (target.Number (record { number = (number One LittleEndian); span = (sp 52 57) })) (nm "p" 59 60) ∷ []); condition = None }); fields = (record { type_tree = (record { span = (sp 64 65); kind = type.Named (codes "E") [] }); name = (nm "e" 66 67); extent = None; refinement = None; action = (Some (Done Act (sp 68 73) (Store (sp 74 81) (nm "p" 75 76) (Value (tree.Name (sp 79 80) (nm "e" 79 80))) ∷ []))) } ∷ []); name = (nm "S" 86 87) }) ∷ []), Some (Narrowing, 79)) ∷
     []

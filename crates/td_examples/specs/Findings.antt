@@ -26,7 +26,7 @@ AreFound found rows = map (λ r. found r.0) rows ≡ map (λ r. r.1) rows
 
 -- ---- the safety rule: the first operator that isn't safe, and its place
 
--- no tree has a copy, which could lack room
+-- what lacks room isn't an operator
 abbrev operator_at : Option Unsafe → Option (Binary × ℕ)
 operator_at None = None
 operator_at (Some (Operator span op)) = Some (op, span.from)
@@ -37,6 +37,19 @@ SafetyRow = List Def × Option (Binary × ℕ)
 
 abbrev pub SafetyHolds : List SafetyRow → Type 0
 SafetyHolds rows = AreFound (λ ds. operator_at (module_unsafe (module_of (tree_of ds)))) rows
+
+-- ---- the safety rule: the place of the first copy that may lack room, where no operator before it isn't safe
+
+abbrev room_at : Option Unsafe → Option ℕ
+room_at None = None
+room_at (Some (Operator span op)) = None
+room_at (Some (Room span)) = Some span.from
+
+abbrev pub RoomRow : Type 0
+RoomRow = List Def × Option ℕ
+
+abbrev pub RoomsHold : List RoomRow → Type 0
+RoomsHold rows = AreFound (λ ds. room_at (module_unsafe (module_of (tree_of ds)))) rows
 
 -- ---- kinds: the first refusal
 

@@ -12,6 +12,7 @@ pub mod WorkedModules
 pub mod Worked
 pub mod Makers
 pub mod Findings
+pub mod Copies
 pub mod Messages
 pub mod Readings
 pub mod Safety

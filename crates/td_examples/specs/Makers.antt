@@ -16,6 +16,7 @@ use Rattle.td_ast.specs.Trees as tree
 use Rattle.td_ast.specs.Statements.{Statement}
 use Rattle.td_ast.specs.declared.actions.ActionKind.{ActionKind}
 use Rattle.td_ast.specs.declared.actions.ActionTree.{ActionTree}
+use Rattle.td_ast.specs.declared.actions.ActionTree.TheVariants.{Done, Copied}
 use Rattle.td_ast.specs.declared.parameters.ParamTree.{ParamTree}
 use Rattle.td_ast.specs.declared.fields.TypeKind.{TypeKind}
 use Rattle.td_ast.specs.declared.fields.TypeKind.TheVariants as type
@@ -71,7 +72,11 @@ abbrev pub big : Width → ℕ → ℕ → TypeTree
 big width from to = type_at (type.Number (number width BigEndian)) from to
 
 abbrev pub action : ActionKind → ℕ → ℕ → List Statement → ActionTree
-action kind from to statements = record { kind = kind; span = sp from to; statements = statements }
+action kind from to statements = Done kind (sp from to) statements
+
+-- `{:copy NAME`, with its place
+abbrev pub copy : ℕ → ℕ → Name → ActionTree
+copy from to name = Copied (sp from to) name
 
 -- type, name, extent, refinement, action
 abbrev pub whole_field : TypeTree → Name → Option ExtentTree → Option Tree → Option ActionTree → FieldTree

@@ -5,10 +5,12 @@ use Rattle.td_core.specs.declared.outcome.Reason.{Reason}
 use Rattle.td_core.specs.declared.outcome.Reason.TheVariants.{NotEnough, Constraint, Impossible, ListSize, Padding, Action}
 use Rattle.td_core.specs.declared.outcome.Spot.TheVariants.{Field, Switch}
 use Rattle.td_core.specs.declared.outcome.TraceFrame.{TraceFrame}
+use Rattle.td_core.specs.declared.outcome.Verdict.TheVariants.{Accept, Reject}
 use Rattle.td_core.specs.Outcome.{Behavior, Rejected}
 use Rattle.td_rules.specs.Modules.{module_of}
+use Rattle.td_meaning.specs.Copies.{outcome}
 use Rattle.td_meaning.specs.Rows.{id, behavior_of, accepts, frame_of}
-use Rattle.td_examples.specs.WorkedTrees.{refined_tree, counted_tree, two_words_tree, last_word_tree, gap_tree, long_tree, units_tree, undivided_tree, casetype_tree, terminated_tree, checked_tree, one_cell_tree, bit_fields_tree, enum_values_tree, padding_tree, single_tree}
+use Rattle.td_examples.specs.WorkedTrees.{refined_tree, counted_tree, two_words_tree, last_word_tree, gap_tree, long_tree, units_tree, undivided_tree, casetype_tree, terminated_tree, checked_tree, one_cell_tree, bit_fields_tree, enum_values_tree, padding_tree, single_tree, copied_tree}
 use Rattle.td_examples.specs.WorkedModules as module_for
 
 abbrev fails : Reason → ℕ → List TraceFrame → List ℕ → List ℕ → Behavior
@@ -52,3 +54,8 @@ pub record AreWorked : Type 0 where
   pub single : module_of single_tree ≡ module_for.single
   pub single_means_1 : behavior_of module_for.single [] (2 ∷ 0 ∷ 0 ∷ 0 ∷ []) ≡ fails ListSize 0 (frame_of 4 (Field (id 3)) ListSize 0 ∷ []) [] (0 ∷ [])
   pub single_means_2 : behavior_of module_for.single [] (3 ∷ 0 ∷ 0 ∷ 0 ∷ []) ≡ accepts 4 [] (0 ∷ [])
+  pub copied : module_of copied_tree ≡ module_for.copied
+  pub copied_means_1 : behavior_of module_for.copied (0 ∷ 0 ∷ 0 ∷ []) (3 ∷ 170 ∷ 187 ∷ 204 ∷ 9 ∷ []) ≡ accepts 5 (9 ∷ 1 ∷ 3 ∷ []) (0 ∷ 1 ∷ 2 ∷ 3 ∷ 4 ∷ [])
+  pub copied_means_2 : outcome module_for.copied (record { number = 0 }) [] (0 ∷ []) (3 ∷ 170 ∷ 187 ∷ 204 ∷ 9 ∷ []) ≡ record { verdict = Accept 5; trace = []; cells = 9 ∷ []; copies = (170 ∷ 187 ∷ 204 ∷ []) ∷ [] }
+  pub copied_means_3 : outcome module_for.copied (record { number = 0 }) [] (0 ∷ []) (3 ∷ 170 ∷ 187 ∷ 204 ∷ []) ≡ record { verdict = Reject NotEnough 4; trace = frame_of 7 (Field (id 6)) NotEnough 4 ∷ []; cells = 0 ∷ []; copies = (170 ∷ 187 ∷ 204 ∷ []) ∷ [] }
+  pub copied_means_4 : outcome module_for.copied (record { number = 0 }) [] (0 ∷ []) (3 ∷ 170 ∷ 187 ∷ []) ≡ record { verdict = Reject NotEnough 1; trace = frame_of 3 (Field (id 2)) NotEnough 1 ∷ frame_of 7 (Field (id 2)) NotEnough 0 ∷ []; cells = 0 ∷ []; copies = [] ∷ [] }

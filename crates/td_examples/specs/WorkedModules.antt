@@ -14,6 +14,7 @@ use Rattle.td_core.specs.declared.module.Extent.{Extent}
 use Rattle.td_core.specs.declared.module.Extent.TheVariants.{Once, Filling, OnceFilling, UpToZero}
 use Rattle.td_core.specs.declared.module.CellKind.TheVariants.{Number as NumberCell}
 use Rattle.td_core.specs.declared.module.Cell.{Cell}
+use Rattle.td_core.specs.declared.module.Buffer.{Buffer}
 use Rattle.td_core.specs.declared.module.Param.{Param}
 use Rattle.td_core.specs.declared.module.Part.{Part}
 use Rattle.td_core.specs.declared.module.Field.{Field}
@@ -38,6 +39,9 @@ param_of n w = record { name = id n; width = w }
 
 abbrev cell_of : ℕ → Width → Cell
 cell_of n w = record { name = id n; field = None; kind = NumberCell w }
+
+abbrev buffer_of : ℕ → ℕ → Buffer
+buffer_of n room = record { name = id n; room = room }
 
 abbrev definition_from : ℕ → List Param → List Cell → Body → TypeDef
 definition_from n params cells body = record { name = id n; params = params; cells = cells; buffers = []; guard = None; body = body }
@@ -109,3 +113,7 @@ padding = module_from 1 (codes "n" ∷ codes "z" ∷ codes "O" ∷ []) [] (defin
 -- typedef struct _I { UINT8 k; UINT8 d[k]; } I; entrypoint typedef struct _J { I i[:byte-size-single-element-array 4]; } J;
 abbrev pub single : Module
 single = module_from 2 (codes "k" ∷ codes "d" ∷ codes "I" ∷ codes "i" ∷ codes "J" ∷ []) [] (definition_from 2 [] [] (Struct (field_at (little width.One) Once (part_of 0 None None None ∷ []) (sp 26 27) ∷ field_at (little width.One) (Filling (name 0 Eight 255) (Some 1)) (part_of 1 None None None ∷ []) (sp 35 36) ∷ [])) ∷ definition_from 4 [] [] (Struct (field_at (Named 0 [] []) (OnceFilling (number 4 Eight) None) (part_of 3 None None None ∷ []) (sp 79 80) ∷ [])) ∷ []) (1 ∷ [])
+
+-- typedef struct _D(mutable UINT8 *b[8]) { UINT8 n { n <= 4 }; UINT8 d[n] {:copy b}; } D; entrypoint typedef struct _C(mutable UINT32 *p, mutable UINT8 *c[8]) { D(c) d; UINT8 e {:act *p = e;}; } C;
+abbrev pub copied : Module
+copied = module_from 2 (codes "b" ∷ codes "n" ∷ codes "d" ∷ codes "D" ∷ codes "p" ∷ codes "c" ∷ codes "e" ∷ codes "C" ∷ []) [] (record { name = id 3; params = []; cells = []; buffers = buffer_of 0 8 ∷ []; guard = None; body = Struct (field_at (little width.One) Once (part_of 1 None (Some (compare LessEqual (name 0 Eight 255) (number 4 Eight))) None ∷ []) (sp 47 48) ∷ record { element = little width.One; extent = Filling (name 0 Eight 255) (Some 1); copy = Some (record { buffer = 0; cell = 0; room = 8; span = sp 72 78 }); parts = part_of 2 None None None ∷ []; place = (sp 67 68) } ∷ []) } ∷ record { name = id 7; params = []; cells = cell_of 4 width.Four ∷ []; buffers = buffer_of 5 8 ∷ []; guard = None; body = Struct (field_at (Named 0 [] (1 ∷ 2 ∷ [])) Once (part_of 2 None None None ∷ []) (sp 164 165) ∷ field_at (little width.One) Once (part_of 6 None None (Some (set 0 (name 1 Eight 255) done)) ∷ []) (sp 173 174) ∷ []) } ∷ []) (1 ∷ [])

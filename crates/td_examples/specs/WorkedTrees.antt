@@ -7,6 +7,7 @@ use Rattle.td_ast.specs.declared.expressions.BinaryOperator.TheVariants as opera
 use Rattle.td_ast.specs.Trees as tree
 use Rattle.td_ast.specs.declared.actions.Assigned.TheVariants.{Value}
 use Rattle.td_ast.specs.declared.actions.ActionKind.TheVariants.{Act, Check}
+use Rattle.td_ast.specs.declared.actions.ActionTree.TheVariants.{Done}
 use Rattle.td_ast.specs.Statements.{Store, Return}
 use Rattle.td_ast.specs.declared.names.ConstTree.TheVariants as constant
 use Rattle.td_ast.specs.declared.names.PlainTree.TheVariants as plain
@@ -17,6 +18,7 @@ use Rattle.td_ast.specs.declared.fields.ExtentTree.TheVariants as extent
 use Rattle.td_ast.specs.declared.definitions.Def.TheVariants.{Enum, Struct, Casetype}
 use Rattle.td_ast.specs.declared.definitions.ModuleTree.{ModuleTree}
 use Rattle.td_examples.specs.Rows.{sp, nm, number}
+use Rattle.td_examples.specs.Makers.{literal, number_at, written, named, binary, type_at, little, action, copy, whole_field, field, tested, struct, entry_struct}
 
 -- entrypoint typedef struct _P { UINT16 x; UINT16BE y { y >= 3 }; } P;
 abbrev pub refined_tree : ModuleTree
@@ -24,11 +26,11 @@ refined_tree = record { definitions = (Struct (record { entry = true; tag = (nm 
 
 -- entrypoint typedef struct _Q(mutable UINT32 *end) { UINT8 n; UINT8 pad[7]; UINT8 body[n] {:act *end = field_pos;}; } Q;
 abbrev pub counted_tree : ModuleTree
-counted_tree = record { definitions = (Struct (record { entry = true; tag = (nm "_Q" 26 28); head = (record { params = (param.Mutable (target.Number (record { number = (number Four LittleEndian); span = (sp 37 43) })) (nm "end" 45 48) ∷ []); condition = None }); fields = (record { type_tree = (record { span = (sp 52 57); kind = type.Number (number One LittleEndian) }); name = (nm "n" 58 59); extent = None; refinement = None; action = None } ∷ record { type_tree = (record { span = (sp 61 66); kind = type.Number (number One LittleEndian) }); name = (nm "pad" 67 70); extent = (Some (extent.Bytes (tree.Number (sp 71 72) 7 Decimal))); refinement = None; action = None } ∷ record { type_tree = (record { span = (sp 75 80); kind = type.Number (number One LittleEndian) }); name = (nm "body" 81 85); extent = (Some (extent.Bytes (tree.Name (sp 86 87) (nm "n" 86 87)))); refinement = None; action = (Some (record { kind = Act; span = (sp 89 94); statements = (Store (sp 95 112) (nm "end" 96 99) (Value (tree.FieldPos (sp 102 111) (sp 102 111))) ∷ []) })) } ∷ []); name = (nm "Q" 117 118) }) ∷ []) }
+counted_tree = record { definitions = (Struct (record { entry = true; tag = (nm "_Q" 26 28); head = (record { params = (param.Mutable (target.Number (record { number = (number Four LittleEndian); span = (sp 37 43) })) (nm "end" 45 48) ∷ []); condition = None }); fields = (record { type_tree = (record { span = (sp 52 57); kind = type.Number (number One LittleEndian) }); name = (nm "n" 58 59); extent = None; refinement = None; action = None } ∷ record { type_tree = (record { span = (sp 61 66); kind = type.Number (number One LittleEndian) }); name = (nm "pad" 67 70); extent = (Some (extent.Bytes (tree.Number (sp 71 72) 7 Decimal))); refinement = None; action = None } ∷ record { type_tree = (record { span = (sp 75 80); kind = type.Number (number One LittleEndian) }); name = (nm "body" 81 85); extent = (Some (extent.Bytes (tree.Name (sp 86 87) (nm "n" 86 87)))); refinement = None; action = (Some (Done Act (sp 89 94) (Store (sp 95 112) (nm "end" 96 99) (Value (tree.FieldPos (sp 102 111) (sp 102 111))) ∷ []))) } ∷ []); name = (nm "Q" 117 118) }) ∷ []) }
 
 -- entrypoint typedef struct _S(mutable UINT32 *got) { UINT8 a[6]; UINT32 v { v == 0x44332211 } {:act *got = v;}; } S;
 abbrev pub two_words_tree : ModuleTree
-two_words_tree = record { definitions = (Struct (record { entry = true; tag = (nm "_S" 26 28); head = (record { params = (param.Mutable (target.Number (record { number = (number Four LittleEndian); span = (sp 37 43) })) (nm "got" 45 48) ∷ []); condition = None }); fields = (record { type_tree = (record { span = (sp 52 57); kind = type.Number (number One LittleEndian) }); name = (nm "a" 58 59); extent = (Some (extent.Bytes (tree.Number (sp 60 61) 6 Decimal))); refinement = None; action = None } ∷ record { type_tree = (record { span = (sp 64 70); kind = type.Number (number Four LittleEndian) }); name = (nm "v" 71 72); extent = None; refinement = (Some (tree.Binary (sp 75 90) operator.Equal (sp 77 79) (tree.Name (sp 75 76) (nm "v" 75 76)) (tree.Number (sp 80 90) 1144201745 Hexadecimal))); action = (Some (record { kind = Act; span = (sp 93 98); statements = (Store (sp 99 108) (nm "got" 100 103) (Value (tree.Name (sp 106 107) (nm "v" 106 107))) ∷ []) })) } ∷ []); name = (nm "S" 113 114) }) ∷ []) }
+two_words_tree = record { definitions = (Struct (record { entry = true; tag = (nm "_S" 26 28); head = (record { params = (param.Mutable (target.Number (record { number = (number Four LittleEndian); span = (sp 37 43) })) (nm "got" 45 48) ∷ []); condition = None }); fields = (record { type_tree = (record { span = (sp 52 57); kind = type.Number (number One LittleEndian) }); name = (nm "a" 58 59); extent = (Some (extent.Bytes (tree.Number (sp 60 61) 6 Decimal))); refinement = None; action = None } ∷ record { type_tree = (record { span = (sp 64 70); kind = type.Number (number Four LittleEndian) }); name = (nm "v" 71 72); extent = None; refinement = (Some (tree.Binary (sp 75 90) operator.Equal (sp 77 79) (tree.Name (sp 75 76) (nm "v" 75 76)) (tree.Number (sp 80 90) 1144201745 Hexadecimal))); action = (Some (Done Act (sp 93 98) (Store (sp 99 108) (nm "got" 100 103) (Value (tree.Name (sp 106 107) (nm "v" 106 107))) ∷ []))) } ∷ []); name = (nm "S" 113 114) }) ∷ []) }
 
 -- entrypoint typedef struct _W { UINT64 a; UINT64 b; UINT64 c { c > 0 }; } W;
 abbrev pub last_word_tree : ModuleTree
@@ -36,7 +38,7 @@ last_word_tree = record { definitions = (Struct (record { entry = true; tag = (n
 
 -- entrypoint typedef struct _V(mutable UINT8 *got) { UINT8 x { x <= 10 } {:act *got = x;}; UINT8 gap[7]; UINT8 z { z == 0 }; } V;
 abbrev pub gap_tree : ModuleTree
-gap_tree = record { definitions = (Struct (record { entry = true; tag = (nm "_V" 26 28); head = (record { params = (param.Mutable (target.Number (record { number = (number One LittleEndian); span = (sp 37 42) })) (nm "got" 44 47) ∷ []); condition = None }); fields = (record { type_tree = (record { span = (sp 51 56); kind = type.Number (number One LittleEndian) }); name = (nm "x" 57 58); extent = None; refinement = (Some (tree.Binary (sp 61 68) operator.LessEqual (sp 63 65) (tree.Name (sp 61 62) (nm "x" 61 62)) (tree.Number (sp 66 68) 10 Decimal))); action = (Some (record { kind = Act; span = (sp 71 76); statements = (Store (sp 77 86) (nm "got" 78 81) (Value (tree.Name (sp 84 85) (nm "x" 84 85))) ∷ []) })) } ∷ record { type_tree = (record { span = (sp 89 94); kind = type.Number (number One LittleEndian) }); name = (nm "gap" 95 98); extent = (Some (extent.Bytes (tree.Number (sp 99 100) 7 Decimal))); refinement = None; action = None } ∷ record { type_tree = (record { span = (sp 103 108); kind = type.Number (number One LittleEndian) }); name = (nm "z" 109 110); extent = None; refinement = (Some (tree.Binary (sp 113 119) operator.Equal (sp 115 117) (tree.Name (sp 113 114) (nm "z" 113 114)) (tree.Number (sp 118 119) 0 Decimal))); action = None } ∷ []); name = (nm "V" 125 126) }) ∷ []) }
+gap_tree = record { definitions = (Struct (record { entry = true; tag = (nm "_V" 26 28); head = (record { params = (param.Mutable (target.Number (record { number = (number One LittleEndian); span = (sp 37 42) })) (nm "got" 44 47) ∷ []); condition = None }); fields = (record { type_tree = (record { span = (sp 51 56); kind = type.Number (number One LittleEndian) }); name = (nm "x" 57 58); extent = None; refinement = (Some (tree.Binary (sp 61 68) operator.LessEqual (sp 63 65) (tree.Name (sp 61 62) (nm "x" 61 62)) (tree.Number (sp 66 68) 10 Decimal))); action = (Some (Done Act (sp 71 76) (Store (sp 77 86) (nm "got" 78 81) (Value (tree.Name (sp 84 85) (nm "x" 84 85))) ∷ []))) } ∷ record { type_tree = (record { span = (sp 89 94); kind = type.Number (number One LittleEndian) }); name = (nm "gap" 95 98); extent = (Some (extent.Bytes (tree.Number (sp 99 100) 7 Decimal))); refinement = None; action = None } ∷ record { type_tree = (record { span = (sp 103 108); kind = type.Number (number One LittleEndian) }); name = (nm "z" 109 110); extent = None; refinement = (Some (tree.Binary (sp 113 119) operator.Equal (sp 115 117) (tree.Name (sp 113 114) (nm "z" 113 114)) (tree.Number (sp 118 119) 0 Decimal))); action = None } ∷ []); name = (nm "V" 125 126) }) ∷ []) }
 
 -- entrypoint typedef struct _L { UINT32 n; UINT8 d[:byte-size n]; } L;
 abbrev pub long_tree : ModuleTree
@@ -60,15 +62,15 @@ terminated_tree = record { definitions = (Struct (record { entry = true; tag = (
 
 -- entrypoint typedef struct _K(mutable UINT8 *p) { UINT8 a {:act *p = 9;}; UINT8 b {:check return b == 1;}; } K;
 abbrev pub checked_tree : ModuleTree
-checked_tree = record { definitions = (Struct (record { entry = true; tag = (nm "_K" 26 28); head = (record { params = (param.Mutable (target.Number (record { number = (number One LittleEndian); span = (sp 37 42) })) (nm "p" 44 45) ∷ []); condition = None }); fields = (record { type_tree = (record { span = (sp 49 54); kind = type.Number (number One LittleEndian) }); name = (nm "a" 55 56); extent = None; refinement = None; action = (Some (record { kind = Act; span = (sp 57 62); statements = (Store (sp 63 70) (nm "p" 64 65) (Value (tree.Number (sp 68 69) 9 Decimal)) ∷ []) })) } ∷ record { type_tree = (record { span = (sp 73 78); kind = type.Number (number One LittleEndian) }); name = (nm "b" 79 80); extent = None; refinement = None; action = (Some (record { kind = Check; span = (sp 81 88); statements = (Return (sp 89 103) (tree.Binary (sp 96 102) operator.Equal (sp 98 100) (tree.Name (sp 96 97) (nm "b" 96 97)) (tree.Number (sp 101 102) 1 Decimal)) ∷ []) })) } ∷ []); name = (nm "K" 108 109) }) ∷ []) }
+checked_tree = record { definitions = (Struct (record { entry = true; tag = (nm "_K" 26 28); head = (record { params = (param.Mutable (target.Number (record { number = (number One LittleEndian); span = (sp 37 42) })) (nm "p" 44 45) ∷ []); condition = None }); fields = (record { type_tree = (record { span = (sp 49 54); kind = type.Number (number One LittleEndian) }); name = (nm "a" 55 56); extent = None; refinement = None; action = (Some (Done Act (sp 57 62) (Store (sp 63 70) (nm "p" 64 65) (Value (tree.Number (sp 68 69) 9 Decimal)) ∷ []))) } ∷ record { type_tree = (record { span = (sp 73 78); kind = type.Number (number One LittleEndian) }); name = (nm "b" 79 80); extent = None; refinement = None; action = (Some (Done Check (sp 81 88) (Return (sp 89 103) (tree.Binary (sp 96 102) operator.Equal (sp 98 100) (tree.Name (sp 96 97) (nm "b" 96 97)) (tree.Number (sp 101 102) 1 Decimal)) ∷ []))) } ∷ []); name = (nm "K" 108 109) }) ∷ []) }
 
 -- typedef struct _D(mutable UINT8 *q, mutable UINT8 *r) { UINT8 a {:act *q = 1; *r = 2;}; } D; entrypoint typedef struct _E(mutable UINT8 *p) { D(p, p) d; } E;
 abbrev pub one_cell_tree : ModuleTree
-one_cell_tree = record { definitions = (Struct (record { entry = false; tag = (nm "_D" 15 17); head = (record { params = (param.Mutable (target.Number (record { number = (number One LittleEndian); span = (sp 26 31) })) (nm "q" 33 34) ∷ param.Mutable (target.Number (record { number = (number One LittleEndian); span = (sp 44 49) })) (nm "r" 51 52) ∷ []); condition = None }); fields = (record { type_tree = (record { span = (sp 56 61); kind = type.Number (number One LittleEndian) }); name = (nm "a" 62 63); extent = None; refinement = None; action = (Some (record { kind = Act; span = (sp 64 69); statements = (Store (sp 70 77) (nm "q" 71 72) (Value (tree.Number (sp 75 76) 1 Decimal)) ∷ Store (sp 78 85) (nm "r" 79 80) (Value (tree.Number (sp 83 84) 2 Decimal)) ∷ []) })) } ∷ []); name = (nm "D" 90 91) }) ∷ Struct (record { entry = true; tag = (nm "_E" 119 121); head = (record { params = (param.Mutable (target.Number (record { number = (number One LittleEndian); span = (sp 130 135) })) (nm "p" 137 138) ∷ []); condition = None }); fields = (record { type_tree = (record { span = (sp 142 143); kind = type.Named (codes "D") ((tree.Name (sp 144 145) (nm "p" 144 145)) ∷ (tree.Name (sp 147 148) (nm "p" 147 148)) ∷ []) }); name = (nm "d" 150 151); extent = None; refinement = None; action = None } ∷ []); name = (nm "E" 155 156) }) ∷ []) }
+one_cell_tree = record { definitions = (Struct (record { entry = false; tag = (nm "_D" 15 17); head = (record { params = (param.Mutable (target.Number (record { number = (number One LittleEndian); span = (sp 26 31) })) (nm "q" 33 34) ∷ param.Mutable (target.Number (record { number = (number One LittleEndian); span = (sp 44 49) })) (nm "r" 51 52) ∷ []); condition = None }); fields = (record { type_tree = (record { span = (sp 56 61); kind = type.Number (number One LittleEndian) }); name = (nm "a" 62 63); extent = None; refinement = None; action = (Some (Done Act (sp 64 69) (Store (sp 70 77) (nm "q" 71 72) (Value (tree.Number (sp 75 76) 1 Decimal)) ∷ Store (sp 78 85) (nm "r" 79 80) (Value (tree.Number (sp 83 84) 2 Decimal)) ∷ []))) } ∷ []); name = (nm "D" 90 91) }) ∷ Struct (record { entry = true; tag = (nm "_E" 119 121); head = (record { params = (param.Mutable (target.Number (record { number = (number One LittleEndian); span = (sp 130 135) })) (nm "p" 137 138) ∷ []); condition = None }); fields = (record { type_tree = (record { span = (sp 142 143); kind = type.Named (codes "D") ((tree.Name (sp 144 145) (nm "p" 144 145)) ∷ (tree.Name (sp 147 148) (nm "p" 147 148)) ∷ []) }); name = (nm "d" 150 151); extent = None; refinement = None; action = None } ∷ []); name = (nm "E" 155 156) }) ∷ []) }
 
 -- entrypoint typedef struct _B(mutable UINT8 *p, mutable UINT8 *q) { UINT8 a : 4 {:act *p = a;}; UINT8 b : 4; UINT8BE c : 4 {:act *q = c;}; UINT8BE d : 4; } B;
 abbrev pub bit_fields_tree : ModuleTree
-bit_fields_tree = record { definitions = (Struct (record { entry = true; tag = (nm "_B" 26 28); head = (record { params = (param.Mutable (target.Number (record { number = (number One LittleEndian); span = (sp 37 42) })) (nm "p" 44 45) ∷ param.Mutable (target.Number (record { number = (number One LittleEndian); span = (sp 55 60) })) (nm "q" 62 63) ∷ []); condition = None }); fields = (record { type_tree = (record { span = (sp 67 72); kind = type.Number (number One LittleEndian) }); name = (nm "a" 73 74); extent = (Some (extent.Bits (record { value = 4; base = Decimal; span = (sp 77 78) }))); refinement = None; action = (Some (record { kind = Act; span = (sp 79 84); statements = (Store (sp 85 92) (nm "p" 86 87) (Value (tree.Name (sp 90 91) (nm "a" 90 91))) ∷ []) })) } ∷ record { type_tree = (record { span = (sp 95 100); kind = type.Number (number One LittleEndian) }); name = (nm "b" 101 102); extent = (Some (extent.Bits (record { value = 4; base = Decimal; span = (sp 105 106) }))); refinement = None; action = None } ∷ record { type_tree = (record { span = (sp 108 115); kind = type.Number (number One BigEndian) }); name = (nm "c" 116 117); extent = (Some (extent.Bits (record { value = 4; base = Decimal; span = (sp 120 121) }))); refinement = None; action = (Some (record { kind = Act; span = (sp 122 127); statements = (Store (sp 128 135) (nm "q" 129 130) (Value (tree.Name (sp 133 134) (nm "c" 133 134))) ∷ []) })) } ∷ record { type_tree = (record { span = (sp 138 145); kind = type.Number (number One BigEndian) }); name = (nm "d" 146 147); extent = (Some (extent.Bits (record { value = 4; base = Decimal; span = (sp 150 151) }))); refinement = None; action = None } ∷ []); name = (nm "B" 155 156) }) ∷ []) }
+bit_fields_tree = record { definitions = (Struct (record { entry = true; tag = (nm "_B" 26 28); head = (record { params = (param.Mutable (target.Number (record { number = (number One LittleEndian); span = (sp 37 42) })) (nm "p" 44 45) ∷ param.Mutable (target.Number (record { number = (number One LittleEndian); span = (sp 55 60) })) (nm "q" 62 63) ∷ []); condition = None }); fields = (record { type_tree = (record { span = (sp 67 72); kind = type.Number (number One LittleEndian) }); name = (nm "a" 73 74); extent = (Some (extent.Bits (record { value = 4; base = Decimal; span = (sp 77 78) }))); refinement = None; action = (Some (Done Act (sp 79 84) (Store (sp 85 92) (nm "p" 86 87) (Value (tree.Name (sp 90 91) (nm "a" 90 91))) ∷ []))) } ∷ record { type_tree = (record { span = (sp 95 100); kind = type.Number (number One LittleEndian) }); name = (nm "b" 101 102); extent = (Some (extent.Bits (record { value = 4; base = Decimal; span = (sp 105 106) }))); refinement = None; action = None } ∷ record { type_tree = (record { span = (sp 108 115); kind = type.Number (number One BigEndian) }); name = (nm "c" 116 117); extent = (Some (extent.Bits (record { value = 4; base = Decimal; span = (sp 120 121) }))); refinement = None; action = (Some (Done Act (sp 122 127) (Store (sp 128 135) (nm "q" 129 130) (Value (tree.Name (sp 133 134) (nm "c" 133 134))) ∷ []))) } ∷ record { type_tree = (record { span = (sp 138 145); kind = type.Number (number One BigEndian) }); name = (nm "d" 146 147); extent = (Some (extent.Bits (record { value = 4; base = Decimal; span = (sp 150 151) }))); refinement = None; action = None } ∷ []); name = (nm "B" 155 156) }) ∷ []) }
 
 -- UINT8 enum E { A = 1, B, C = 42 } entrypoint typedef struct _F { E e; E f; } F;
 abbrev pub enum_values_tree : ModuleTree
@@ -81,3 +83,7 @@ padding_tree = record { definitions = (Struct (record { entry = true; tag = (nm 
 -- typedef struct _I { UINT8 k; UINT8 d[k]; } I; entrypoint typedef struct _J { I i[:byte-size-single-element-array 4]; } J;
 abbrev pub single_tree : ModuleTree
 single_tree = record { definitions = (Struct (record { entry = false; tag = (nm "_I" 15 17); head = (record { params = []; condition = None }); fields = (record { type_tree = (record { span = (sp 20 25); kind = type.Number (number One LittleEndian) }); name = (nm "k" 26 27); extent = None; refinement = None; action = None } ∷ record { type_tree = (record { span = (sp 29 34); kind = type.Number (number One LittleEndian) }); name = (nm "d" 35 36); extent = (Some (extent.Bytes (tree.Name (sp 37 38) (nm "k" 37 38)))); refinement = None; action = None } ∷ []); name = (nm "I" 43 44) }) ∷ Struct (record { entry = true; tag = (nm "_J" 72 74); head = (record { params = []; condition = None }); fields = (record { type_tree = (record { span = (sp 77 78); kind = type.Named (codes "I") [] }); name = (nm "i" 79 80); extent = (Some (extent.SingleElement (tree.Number (sp 113 114) 4 Decimal))); refinement = None; action = None } ∷ []); name = (nm "J" 119 120) }) ∷ []) }
+
+-- typedef struct _D(mutable UINT8 *b[8]) { UINT8 n { n <= 4 }; UINT8 d[n] {:copy b}; } D; entrypoint typedef struct _C(mutable UINT32 *p, mutable UINT8 *c[8]) { D(c) d; UINT8 e {:act *p = e;}; } C;
+abbrev pub copied_tree : ModuleTree
+copied_tree = record { definitions = struct (nm "_D" 15 17) (param.Bytes (nm "b" 33 34) (constant.Number (literal 8 Decimal 35 36)) ∷ []) (tested (little One 41 46) (nm "n" 47 48) (binary operator.LessEqual 53 55 (named "n" 51 52) (written 4 56 57)) ∷ whole_field (little One 61 66) (nm "d" 67 68) (Some (extent.Bytes (named "n" 69 70))) None (Some (copy 72 78 (nm "b" 79 80))) ∷ []) (nm "D" 85 86) ∷ entry_struct (nm "_C" 114 116) (param.Mutable (target.Number (number_at Four LittleEndian 125 131)) (nm "p" 133 134) ∷ param.Bytes (nm "c" 151 152) (constant.Number (literal 8 Decimal 153 154)) ∷ []) (field (type_at (type.Named (codes "D") (named "c" 161 162 ∷ [])) 159 160) (nm "d" 164 165) ∷ whole_field (little One 167 172) (nm "e" 173 174) None None (Some (action Act 175 180 (Store (sp 181 188) (nm "p" 182 183) (Value (named "e" 186 187)) ∷ []))) ∷ []) (nm "C" 193 194) ∷ [] }

@@ -7,13 +7,14 @@ ghost use Rattle.td_examples.specs.Rows.{AreRight};
 ghost use Rattle.td_examples.specs.Enums.{enums};
 ghost use Rattle.td_examples.specs.Actions.{actions};
 ghost use Rattle.td_examples.specs.Casetypes.{casetypes};
+ghost use Rattle.td_examples.specs.Copies.{copies, rooms};
 ghost use Rattle.td_examples.specs.Sizes.{sizes};
 ghost use Rattle.td_examples.specs.Parameters.{parameters};
 ghost use Rattle.td_examples.specs.Names.{names};
 ghost use Rattle.td_examples.specs.Expressions.{expressions};
 ghost use Rattle.td_examples.specs.Formats.{formats};
 ghost use Rattle.td_examples.specs.Worked.{AreWorked};
-ghost use Rattle.td_examples.specs.Findings.{SafetyHolds, KindsHold, LimitsHold, SizesHold};
+ghost use Rattle.td_examples.specs.Findings.{SafetyHolds, RoomsHold, KindsHold, LimitsHold, SizesHold};
 ghost use Rattle.td_examples.specs.Messages.{MessagesHold};
 ghost use Rattle.td_examples.specs.Readings.{readings};
 ghost use Rattle.td_examples.specs.Safety.{safety};
@@ -30,6 +31,11 @@ pub fn enums_are_right()
 /// Rows on actions.
 pub fn actions_are_right()
     ensures { AreRight actions }
+{}
+
+/// Rows on copy buffers and copied fields.
+pub fn copies_are_right()
+    ensures { AreRight copies }
 {}
 
 /// Rows on casetypes.
@@ -75,6 +81,11 @@ pub fn readings_are_right()
 /// Rows on the safety rule: the first operator that isn't safe.
 pub fn safety_holds()
     ensures { SafetyHolds safety }
+{}
+
+/// Rows on copies: the first that may lack room.
+pub fn rooms_hold()
+    ensures { RoomsHold rooms }
 {}
 
 /// Rows on kinds: the first refusal.
