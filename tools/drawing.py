@@ -91,7 +91,7 @@ def with_bytes(job, first):
 
 
 def drawn(report, job):
-    """The rows of the message's words, and the cells."""
+    """The rows of the message's words, and the cells and copies."""
     lines = report.splitlines()
     drawing = Drawing(with_bytes(job, lines[0]))
     loads = [line.split()[1:] for line in lines if line.startswith("load ")]
@@ -112,4 +112,4 @@ def drawn(report, job):
             rows.append(drawing.row(end, order.get(end)))
             rows += [drawing.indent() + note for note in notes.get(end, [])]
         word = end + 1
-    return "\n".join(rows + others + [line for line in lines if line.startswith("out ")])
+    return "\n".join(rows + others + [line for line in lines if line.startswith(("out ", "copy "))])

@@ -89,7 +89,8 @@ def note(row, told):
         raw = int.from_bytes(told.bytes[start:after], "big" if element.base.endswith("BE") else "little")
         return "= %s  %s" % (" ".join(number_of(part, raw) for part in row.field.parts), told.state(is_read, start, after))
     shown = told.bytes[start : min(after, start + MOST_BYTES)].hex(" ") + (" .." if after - start > MOST_BYTES else "")
-    return "= %s  %s" % (shown, told.state(form == "zeroterm" or element.kind in ("enum", "all_zeros"), start, after))
+    is_read = form == "zeroterm" or element.kind in ("enum", "all_zeros") or row.field.copy is not None
+    return "= %s  %s" % (shown, told.state(is_read, start, after))
 
 
 def number_of(part, raw):
@@ -115,24 +116,22 @@ def rows_of(known, job):
     number, arguments, cells, layout, words, stores, written = job
     memory = runs.Memory(layout, words, stores)
     shown = Fields(known.types, memory)
-    frames, accepted, before = [], None, list(cells)
+    frames, accepted, after = [], None, runs.opened(known.types[number], cells)
     try:
-        accepted = shown.definition(number, arguments, cells, list(range(len(cells))), 0, layout.length)
+        accepted = shown.definition(number, arguments, after, list(range(len(after))), 0, layout.length)
         verdict = "accept %d" % accepted
     except runs.Rejected as failed:
         verdict = "reject %s %d" % (failed.reason, failed.position)
         frames = ["frame %s.%s %d" % frame for frame in failed.frames]
-    lines = [verdict] + frames
-    for (name, field, _), value in zip(known.types[number].cells, cells):
-        lines.append("out %s%s %d" % (name, "" if field is None else "." + field, value))
+    lines = "".join(line + "\n" for line in [verdict, *frames]) + runs.told(known.types[number], after)
     told = Told(layout, words, memory.loaded)
     for row in shown.rows:
         row.note = note(row, told)
     failed = [row for row in shown.rows if row.end is None]
     if failed:
         failed[-1].note = ("%s  <-- it failed here" % failed[-1].note).strip()
-    value = value_job(known, (number, arguments, before), accepted, told)
-    return shown.rows, answers.written_line(written) + "".join(line + "\n" for line in lines) + memory.lines(), value
+    value = value_job(known, (number, arguments, cells), accepted, told)
+    return shown.rows, answers.written_line(written) + lines + memory.lines(), value
 
 
 def left_of(row):

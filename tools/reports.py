@@ -8,6 +8,7 @@ NAME = r"[A-Za-z_][A-Za-z0-9_]*"
 # A type of a module of several parts has the part's name before its own.
 SITE = re.compile(r"(%s(?:\.%s)?)\.(%s)" % (NAME, NAME, NAME))
 CELL = re.compile(r"%s(\.%s)?" % (NAME, NAME))
+BUFFER = re.compile(NAME)
 VALUE = re.compile(r"[0-9a-f]{16}")
 BYTES = re.compile(r"([0-9a-f]{2})+")
 MOST_STRETCHES = 64
@@ -55,14 +56,17 @@ class Lines:
         raise NoReport(self.at, words)
 
 
+def digits_of(lines, words):
+    """The digits of bytes at a line's end; where there is no byte, nothing stands there."""
+    if words and not BYTES.fullmatch(words[0]):
+        lines.wrong("`%s` isn't lower-case hexadecimal digits, two for each byte" % words[0])
+    return "".join(words)
+
+
 def bytes_of(lines):
     """The bytes that were written of a value; nothing where the message is of none."""
     words = lines.words("bytes", 0, 1)
-    if words is None:
-        return {}
-    if words and not BYTES.fullmatch(words[0]):
-        lines.wrong("`%s` isn't lower-case hexadecimal digits, two for each byte" % words[0])
-    return {"bytes": "".join(words)}
+    return {} if words is None else {"bytes": digits_of(lines, words)}
 
 
 def verdict_of(lines):
@@ -94,6 +98,16 @@ def cells_of(lines):
             lines.wrong("`%s` is no name of a cell" % words[0])
         found.append({"name": words[0], "value": lines.number(words[1])})
     return found
+
+
+def copies_of(lines):
+    """What each copy buffer holds; nothing where the entry point has none."""
+    found = []
+    while words := lines.words("copy", 1, 2):
+        if not BUFFER.fullmatch(words[0]):
+            lines.wrong("`%s` is no name of a copy buffer" % words[0])
+        found.append({"name": words[0], "bytes": digits_of(lines, words[1:])})
+    return {"copies": found} if found else {}
 
 
 def load_of(lines, words):
@@ -128,7 +142,7 @@ def run_of(lines, written={}):
         raise NoReport(lines.at + 1, "a rejection has frames, and nothing else has")
     if frames:
         run["frames"] = frames
-    return {**run, "out": cells_of(lines), "loads": loads_of(lines)}
+    return {**run, "out": cells_of(lines), **copies_of(lines), "loads": loads_of(lines)}
 
 
 def version_of(lines, before):

@@ -4,7 +4,7 @@ An instruction is a tuple of its name and its operands, in the order of the page
 numbers (crates/td_code_try/src/numbers.rt).
 """
 
-from codes import NO_FIELD, Tables, image_of
+from codes import NO_FIELD, Tables, image_of, turned
 from program import answers
 
 NOT_ENOUGH, IMPOSSIBLE, LIST_SIZE, ACTION, CONSTRAINT, PADDING = range(6)
@@ -12,15 +12,16 @@ MOST = 1 << 64
 
 
 class Routine:
-    """A stretch of instructions, with its counts of parameters, cells and registers."""
+    """A stretch of instructions, with its counts of parameters, cells and registers, and the room of each copy buffer."""
 
-    def __init__(self, instructions, params=0, cells=0, registers=0):
-        self.instructions, self.params, self.cells, self.registers = instructions, params, cells, registers
+    def __init__(self, instructions, params=0, cells=0, registers=0, rooms=()):
+        self.instructions, self.params, self.cells, self.registers, self.rooms = instructions, params, cells, registers, list(rooms)
 
 
 class Code:
     """Routines whose targets are places in their own routine, sets, cell maps, and entry points by routine. Sites begin with a
-    type and a field; each routine may name each of them, as in images of version 1."""
+    type and a field; each routine may name each of them, as in images of version 1: where there are buffers, the image has the
+    sites of the turned code."""
 
     def __init__(self, routines, sets=(), maps=(), entries=(0,), names=("t", "f"), sites=((0, 1),)):
         self.routines, self.sets, self.maps, self.names, self.sites = routines, sets, maps, names, sites
@@ -33,18 +34,18 @@ class Code:
             at += len(routine.instructions)
 
     def image(self):
-        """Its image, in version 1, which is turned when it is read. Each routine has the first name; parameters and cells of
-        entry points have it too, and 64 bits."""
+        """Its image: in version 1, which is turned when it is read, and turned before where it has buffers. Each routine has the
+        first name; parameters, cells and buffers of entry points have it too, and 64 bits."""
         tables = Tables()
         tables.names = [name.encode() for name in self.names]
         tables.sites, tables.maps, tables.sets = self.sites, self.maps, self.sets
         for routine, begin in zip(self.routines, self.begins):
-            tables.routines.append((0, routine.params, routine.cells, routine.registers, len(routine.instructions)))
+            tables.routines.append((0, routine.params, routine.cells, routine.registers, len(routine.instructions), *routine.rooms))
             tables.instructions += [placed(instruction, begin) for instruction in routine.instructions]
         for number in self.entries:
             routine = self.routines[number]
-            tables.entries.append((number, [(0, 64)] * routine.params, [(0, NO_FIELD, 64)] * routine.cells))
-        return image_of(tables, version=1)
+            tables.entries.append((number, [(0, 64)] * routine.params, [(0, NO_FIELD, 64)] * routine.cells, *([0] * len(routine.rooms))))
+        return image_of(turned(tables)) if any(routine.rooms for routine in self.routines) else image_of(tables, version=1)
 
 
 TARGETS = {"Jump": 1, "JumpIf": 2, "JumpUnless": 2, "While": 1, "Again": 1}
@@ -76,25 +77,32 @@ class Run:
     def __init__(self, code, message):
         self.code, self.message, self.touched, self.steps = code, message, [], 0
 
+    def open(self, number, cells):
+        """Before a routine is entered from outside: its cells, and empty buffers."""
+        self.cells, self.copies = list(cells), [b""] * len(self.code.routines[number].rooms)
+
+    def entered(self, number, args, length):
+        """Runs a routine from outside: the position at which it accepts."""
+        return self.routine(number, list(args), list(range(len(self.cells))), list(range(len(self.copies))), 0, length)
+
     def outcome(self, entry, args, cells):
         """The answer line of a run without its loads."""
         number = self.code.entries[entry]
-        self.cells = list(cells)
+        self.open(number, cells)
         try:
-            pos = self.routine(number, list(args), list(range(len(cells))), 0, len(self.message))
-            head = f"accept {pos}"
+            head = f"accept {self.entered(number, args, len(self.message))}"
             frames = []
         except Failed as failed:
             head = f"reject {failed.reason} {failed.pos}"
             frames = failed.frames
-        return head + "".join(f" f {ty} {field} {reason} {start}" for ty, field, reason, start in frames) + "".join(
-            f" c {cell}" for cell in self.cells
-        )
+        words = [f"f {ty} {field} {reason} {start}" for ty, field, reason, start in frames]
+        words += [f"c {cell}" for cell in self.cells] + [f"b {copy.hex() or '-'}" for copy in self.copies]
+        return " ".join([head, *words])
 
-    def routine(self, number, args, places, pos, end):
+    def routine(self, number, args, places, buffers, pos, end):
         """Runs a routine from a position: the position at which it returns."""
         routine = self.code.routines[number]
-        state = State(args + [0] * (routine.registers - len(args)), places, pos, end)
+        state = State(args + [0] * (routine.registers - len(args)), places, buffers, routine.rooms, pos, end)
         at = 0
         while True:
             instruction = routine.instructions[at]
@@ -155,8 +163,10 @@ class Run:
         return at + 1 if s.regs[test] else target
 
     def Call(self, s, at, first, number, cell_map, site):
-        args = s.regs[first : first + self.code.routines[number].params]
-        s.pos = self.routine(number, args, [s.places[k] for k in self.code.maps[cell_map]], s.pos, s.end)
+        callee, numbers = self.code.routines[number], self.code.maps[cell_map]
+        args = s.regs[first : first + callee.params]
+        places = [s.places[k] for k in numbers[: callee.cells]]
+        s.pos = self.routine(number, args, places, [s.buffers[k] for k in numbers[callee.cells :]], s.pos, s.end)
         return at + 1
 
     def Fetch(self, s, at, into, order, width, site):
@@ -235,12 +245,22 @@ class Run:
         s.start = s.pos
         return at + 1
 
+    def Copy(self, s, at, size, buffer, site):
+        s.need(s.regs[size])
+        put = min(s.regs[size], s.rooms[buffer])
+        self.steps += put
+        self.copies[s.buffers[buffer]] = self.look(s.pos, put)
+        s.pos += s.regs[size]
+        return at + 1
+
 
 class State:
-    """A running routine: its registers, the places of its cells, its start, position, end and the end outside."""
+    """A running routine: its registers, the places of its cells and buffers, the room of each buffer, its start, position, end and
+    the end outside."""
 
-    def __init__(self, regs, places, pos, end):
-        self.regs, self.places, self.start, self.pos, self.end, self.outer = regs, places, pos, pos, end, end
+    def __init__(self, regs, places, buffers, rooms, pos, end):
+        self.regs, self.places, self.buffers, self.rooms = regs, places, buffers, rooms
+        self.start, self.pos, self.end, self.outer = pos, pos, end, end
 
     def need(self, count):
         if count > self.end - self.pos:
@@ -259,7 +279,7 @@ def summed_weight(code, number):
     for name, *operands in code.routines[number].instructions:
         if name == "Again":
             depth -= 1
-        own = {"Zeros": 2, "Zeroterm": 2, "While": 3, "Again": 3}.get(name, 1)
+        own = {"Zeros": 2, "Zeroterm": 2, "Copy": 2, "While": 3, "Again": 3}.get(name, 1)
         own += weight(code, operands[1]) if name == "Call" else 0
         total += own * 2 if depth and name not in ("While", "Again") else own
         if name == "While":
@@ -270,9 +290,9 @@ def summed_weight(code, number):
 def code_of_image(tables):
     """The code of an image's tables (as td-image reads them): here a target counts from its own routine's first instruction."""
     routines, begin = [], 0
-    for _, params, cells, registers, length in tables.routines:
+    for _, params, cells, registers, length, *rooms in tables.routines:
         own = [placed(instruction, -begin) for instruction in tables.instructions[begin : begin + length]]
-        routines.append(Routine(own, params, cells, registers))
+        routines.append(Routine(own, params, cells, registers, rooms))
         begin += length
     names = [name.decode() for name in tables.names]
     return Code(routines, tables.sets, tables.maps, [entry[0] for entry in tables.entries], names, tables.sites)

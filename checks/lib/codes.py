@@ -28,8 +28,8 @@ NUMBERS = {kind: number for number, (kind, _) in enumerate(IMAGES.KINDS)}
 
 class Tables:
     """The tables of code, each a list: `names` of bytes; `sites` (type, field, routine); `maps`, `sets` of numbers; `routines`
-    (name, parameters, cells, registers, length); `entries` (routine, parameters (name, bits), cells (name, field, bits));
-    `instructions` (kind, operands in the listing's order)."""
+    (name, parameters, cells, registers, length, and the room of each copy buffer); `entries` (routine, parameters (name, bits),
+    cells (name, field, bits), and the name of each buffer); `instructions` (kind, operands in the listing's order)."""
 
     def __init__(self):
         self.names, self.sites, self.maps, self.sets = [b"A"], [(0, 0, 0)], [], []
@@ -48,21 +48,23 @@ def instruction_bytes(instruction):
     return bytes([NUMBERS[kind]]) + tail
 
 
-def image_of(code, version=2):
-    """The image of tables, which need not be within the format's limits. In version 1 the routines of sites are left out."""
+def image_of(code, version=3):
+    """The image of tables, which need not be within the format's limits. In version 1 the routines of sites are left out; before
+    version 3 there are no buffers."""
     tables = (code.names, code.sites, code.maps, code.sets, code.routines, code.entries, code.instructions)
     image = [b"TD3I" + version.to_bytes(2, "little") + bytes(2), u32(*map(len, tables))]
     image += [u32(len(name)) + name for name in code.names]
     image += [u32(*(site[:2] if version == 1 else site)) for site in code.sites]
     image += [u32(len(cells), *cells) for cells in code.maps]
     image += [u32(len(numbers)) + b"".join(number.to_bytes(8, "little") for number in numbers) for numbers in code.sets]
-    image += [u32(*routine) for routine in code.routines]
-    for routine, params, cells in code.entries:
-        image += [u32(routine)] + [u32(*param) for param in params] + [u32(*cell) for cell in cells]
+    for routine in code.routines:
+        image += [u32(*routine[:5])] + ([u32(len(routine[5:]), *routine[5:])] if version == 3 else [])
+    for routine, params, cells, *buffers in code.entries:
+        image += [u32(routine)] + [u32(*param) for param in params] + [u32(*cell) for cell in cells] + [u32(*buffers)]
     return b"".join(image + [instruction_bytes(instruction) for instruction in code.instructions])
 
 
-def large_image(names, instructions, version=2):
+def large_image(names, instructions, version=3):
     """The image of code with so many names and sites, and so many instructions (a number that four divides) in one routine."""
     code = Tables()
     code.names = [b"name%05d" % k for k in range(names)]
@@ -80,8 +82,8 @@ def turned(code):
     found = Tables()
     found.names, found.maps, found.sets, found.routines, found.entries = code.names, code.maps, code.sets, code.routines, code.entries
     found.sites, at = [], 0
-    for number, (*_, length) in enumerate(code.routines):
-        own = {}
+    for number, routine in enumerate(code.routines):
+        own, length = {}, routine[4]
         for kind, *operands in code.instructions[at : at + length]:
             if "site" in OPERANDS[kind].split():
                 place = OPERANDS[kind].split().index("site")
@@ -96,22 +98,22 @@ def turned(code):
 
 
 def entry_of_words(words):
-    """An entry point of words: its routine, then `param NAME BITS` and `cell NAME FIELD BITS` in turn, `-` for no field."""
-    routine, params, cells = int(words[0]), [], []
+    """An entry point of words: its routine, then `param NAME BITS`, `cell NAME FIELD BITS` and `buffer NAME` in turn, `-` for no
+    field."""
+    rows = {"param": [], "cell": [], "buffer": []}
     rest = words[1:]
     while rest:
-        kind, size = rest[0], {"param": 3, "cell": 4}[rest[0]]
-        row = tuple(NO_FIELD if word == "-" else int(word) for word in rest[1:size])
-        (params if kind == "param" else cells).append(row)
+        kind, size = rest[0], {"param": 3, "cell": 4, "buffer": 2}[rest[0]]
+        rows[kind].append(tuple(NO_FIELD if word == "-" else int(word) for word in rest[1:size]))
         rest = rest[size:]
-    return routine, params, cells
+    return int(words[0]), rows["param"], rows["cell"], *(name for (name,) in rows["buffer"])
 
 
 def code_of_lines(lines):
     """The code of lines of text: rows of its tables (`name TEXT`, `site TYPE FIELD ROUTINE`, `map CELLS..`, `set NUMBERS..`,
-    `routine PARAMETERS CELLS REGISTERS` with its name's number behind them where it isn't 0, `entry ROUTINE` with `param NAME BITS`
-    and `cell NAME FIELD BITS`), and instructions as the listing has them, those of a routine behind its row. `8x` before an
-    instruction stands for eight of them. Where no row of its table is there, code has the name `A`, one empty cell map, one routine
+    `routine PARAMETERS CELLS REGISTERS` with its name's number behind them, and the room of each buffer, where they aren't 0 and
+    none; `entry ROUTINE` with `param NAME BITS`, `cell NAME FIELD BITS` and `buffer NAME`), and instructions as the listing has
+    them, those of a routine behind its row. `8x` before an instruction stands for eight of them. Where no row of its table is there, code has the name `A`, one empty cell map, one routine
     without parameters and cells, of one register, and a site of `A` for each routine, with the routine's number."""
     code = Tables()
     rows = {"name": [], "site": [], "map": []}
@@ -129,8 +131,8 @@ def code_of_lines(lines):
         elif word == "entry":
             code.entries.append(entry_of_words(rest))
         elif word == "routine":
-            params, cells, registers, *name = [int(number) for number in rest]
-            code.routines.append([name[0] if name else 0, params, cells, registers, 0])
+            params, cells, registers, *more = [int(number) for number in rest]
+            code.routines.append([more[0] if more else 0, params, cells, registers, 0, *more[1:]])
         else:
             if not code.routines:
                 code.routines.append([0, 0, 0, 1, 0])
@@ -170,9 +172,9 @@ class CodeMaker:
     def straight(self):
         """An instruction that goes on."""
         kind = self.pick(
-            "Const Member Op Bits Pos Fetch Fetch SkipK Skip Rest Zeros Zeroterm Divides Get Set Mark Call Call".split()
+            "Const Member Op Bits Pos Fetch Fetch SkipK Skip Rest Zeros Zeroterm Divides Get Set Mark Copy Call Call".split()
         )
-        if kind in ("Get", "Set") and not self.cells or kind == "Member" and not self.code.sets:
+        if kind in ("Get", "Set") and not self.cells or kind == "Member" and not self.code.sets or kind == "Copy" and not self.rooms:
             kind = "Pos"
         if kind == "Call" and not self.number:
             kind = "Fetch"
@@ -192,6 +194,7 @@ class CodeMaker:
             "Get": lambda: (self.reg(), self.near(self.cells)),
             "Set": lambda: (self.reg(), self.near(self.cells)),
             "Mark": lambda: (),
+            "Copy": lambda: (self.reg(), self.near(len(self.rooms)), self.site()),
             "Call": self.call,
         }
         return (kind, *make[kind]())
@@ -211,9 +214,19 @@ class CodeMaker:
         known = self.code.routines[callee] if callee < len(self.code.routines) else [0, 0, 0, 0, 0]
         room = max(self.registers - known[1], 0)
         first = self.random.randrange(room + 1) if not self.chance(0.02) else room + 1
-        wanted = [k for k, cells in enumerate(self.code.maps) if len(cells) == known[2] and all(c < self.cells for c in cells)]
-        cells = self.pick(wanted) if wanted and not self.chance(0.02) else self.near(len(self.code.maps))
-        return first, callee, cells, self.site()
+        return first, callee, self.map_to(known[2], known[5:]), self.site()
+
+    def map_to(self, cells, rooms):
+        """Mostly a cell map that leads from so many cells, and buffers of these rooms, to the routine's own; a new one for buffers."""
+        if self.chance(0.02):
+            return self.near(len(self.code.maps))
+        given = [self.pick([k for k, own in enumerate(self.rooms) if own == room or self.chance(0.01)] or [0]) for room in rooms]
+        wanted = [k for k, row in enumerate(self.code.maps) if len(row) == cells + len(rooms) and row[cells:] == given]
+        wanted = [k for k in wanted if all(cell < self.cells for cell in self.code.maps[k][:cells])]
+        if not wanted and rooms and (self.cells or not cells):
+            self.code.maps.append([self.random.randrange(self.cells) for _ in range(cells)] + given)
+            wanted = [len(self.code.maps) - 1]
+        return self.pick(wanted) if wanted else self.near(len(self.code.maps))
 
     def block(self, size, in_loop, in_window, takes):
         """Instructions one behind the other, some of which jump over others, with targets counted from the block's begin."""
@@ -248,6 +261,7 @@ class CodeMaker:
     def routine(self):
         self.number = len(self.code.routines)
         self.cells = self.random.randrange(3)
+        self.rooms = [self.pick([1, 2, 8]) for _ in range(self.random.randrange(3))] if self.copies else []
         params = self.random.randrange(3)
         self.registers = params + self.random.randrange(1, 4)
         self.first_site, self.sites = len(self.code.sites), self.random.randrange(1, 3)
@@ -256,7 +270,7 @@ class CodeMaker:
         block.append(self.pick([("Return",)] * 4 + [("Fail", 4, self.site())]))
         start = len(self.code.instructions)
         self.code.instructions += [self.placed(start + k, instruction) for k, instruction in enumerate(block)]
-        self.code.routines.append([0, params, self.cells, self.registers, len(block)])
+        self.code.routines.append([0, params, self.cells, self.registers, len(block), *self.rooms])
 
     @staticmethod
     def placed(at, instruction):
@@ -284,9 +298,9 @@ class CodeMaker:
             ]
         )  # fmt: skip
 
-    def made(self, faults):
-        """Code with so many instructions spoiled."""
-        self.code = Tables()
+    def made(self, faults, copies=False):
+        """Code with so many instructions spoiled; with copy buffers too, where they are asked for."""
+        self.code, self.copies = Tables(), copies
         self.code.names = [b"A", b"f"]
         self.code.sites = []
         self.code.sets = [[1, 5], []][: self.random.randrange(3)]
@@ -294,7 +308,7 @@ class CodeMaker:
         for _ in range(self.random.randrange(1, 4)):
             self.routine()
         last = self.code.routines[-1]
-        self.code.entries = [(len(self.code.routines) - 1, [(1, 32)] * last[1], [(0, 1, 16)] * last[2])]
+        self.code.entries = [(len(self.code.routines) - 1, [(1, 32)] * last[1], [(0, 1, 16)] * last[2], *([1] * len(last[5:])))]
         for _ in range(faults):
             k = self.random.randrange(len(self.code.instructions))
             self.code.instructions[k] = self.spoiled(self.code.instructions[k])

@@ -122,8 +122,9 @@ class Validator:
         return [(loaded[k][0], loaded[k][1]) for k in range(self.library.test_loads())]
 
     def run(self, entry, arguments, cells, memory, length, overwrites=False, stores=()):
-        """How a run ends: verdict, position, frames, cells and loads."""
-        routine, params, own_cells = self.code.entries[entry]
+        """How a run ends: verdict, position, frames, cells, copies and loads."""
+        routine, params, own_cells = self.code.entries[entry][:3]
+        rooms = self.code.routines[routine][5:]
         padded = memory + bytes(-len(memory) % 8)
         words = (ctypes.c_uint64 * max(1, len(padded) // 8)).from_buffer_copy(padded or bytes(8))
         records = {}
@@ -134,8 +135,11 @@ class Validator:
         for members in records.values():
             kind = type("Record", (ctypes.Structure,), {"_fields_": [("n%d" % number, NUMBERS[bits]) for number, bits in members]})
             structs.append(kind(*[cells[number] for number, _ in members]))
+        # What an earlier run left in a buffer is no part of the next one's copy.
+        copies = [copy_of(room)(room, (0xAA,) * room) for room in rooms]
         outcome = Outcome(reason=-1)
-        given = [NUMBERS[bits](value) for (_, bits), value in zip(params, arguments)] + [ctypes.byref(struct) for struct in structs]
+        given = [NUMBERS[bits](value) for (_, bits), value in zip(params, arguments)]
+        given += [ctypes.byref(struct) for struct in structs + copies]
         # In the names of C a `_` stands in the place of the dot that the types of parts have.
         entry_name = self.code.name(self.code.routines[routine][0]).replace(".", "_")
         call = getattr(self.library, "%s_validate_%s" % (self.name, entry_name))
@@ -150,26 +154,35 @@ class Validator:
             outcome.position,
             [(frame.type.decode(), frame.field.decode(), frame.start) for frame in frames],
             [left["n%d" % number] for number in range(len(own_cells))],
+            [bytes(copy.bytes[: copy.count]) for copy in copies],
             self.loads(),
         )
+
+
+def copy_of(room):
+    """The struct of a copy buffer with so much room."""
+    return type("Copy", (ctypes.Structure,), {"_fields_": [("count", ctypes.c_uint32), ("bytes", ctypes.c_uint8 * room)]})
 
 
 class Ended:
     """How a run ended."""
 
-    def __init__(self, reason, position, frames, cells, loads):
-        self.reason, self.position, self.frames, self.cells, self.loads = reason, position, frames, cells, loads
+    def __init__(self, reason, position, frames, cells, copies, loads):
+        self.reason, self.position, self.frames = reason, position, frames
+        self.cells, self.copies, self.loads = cells, copies, loads
 
     def without_loads(self):
-        return self.reason, self.position, self.frames, self.cells
+        return self.reason, self.position, self.frames, self.cells, self.copies
 
     def report(self, code, entry):
         """The report that `td run` writes of such a run."""
         verdict = self.reason if self.reason == "accept" else "reject " + self.reason
         lines = ["%s %d" % (verdict, self.position)]
         lines += ["frame %s.%s %d" % frame for frame in self.frames]
-        for (name, field, _), value in zip(code.entries[entry][2], self.cells):
+        _, _, own_cells, *buffers = code.entries[entry]
+        for (name, field, _), value in zip(own_cells, self.cells):
             lines.append("out %s%s %d" % (code.name(name), "" if field == NO_FIELD else "." + code.name(field), value))
+        lines += [("copy %s %s" % (code.name(name), copy.hex())).rstrip() for name, copy in zip(buffers, self.copies)]
         return lines + ["load %d %016x" % load for load in self.loads]
 
     def line(self, code):
@@ -179,4 +192,5 @@ class Ended:
         for ty, field, start in self.frames:
             spot = field if field in ("where", "switch") else code.names.index(field.encode())
             words.append("f %d %s %d %d" % (code.names.index(ty.encode()), spot, REASONS.index(self.reason) - 1, start))
-        return " ".join(words + ["c %d" % cell for cell in self.cells] + ["l %d %d" % load for load in self.loads])
+        words += ["c %d" % cell for cell in self.cells] + ["b %s" % (copy.hex() or "-") for copy in self.copies]
+        return " ".join(words + ["l %d %d" % load for load in self.loads])

@@ -19,9 +19,10 @@ OTHER_VALUES = [None, 1, [], [1], {}, "a", 1.5, -1, 2**64, True, [[0, 0]], [[0, 
 class Maker(RingMaker):
     def __init__(self, seed):
         self.random = random.Random(seed)
-        # Values are drawn apart, so that modules stay as they are without them; and so is whether a text has parts.
+        # Values are drawn apart, so that modules stay as they are without them; so is whether a text has parts, and what it copies.
         self.drawn = random.Random("values of %d" % seed)
         self.parted = random.Random("parts of %d" % seed)
+        self.copied = random.Random("copies of %d" % seed)
 
     def chance(self, share):
         return self.random.random() < share
@@ -127,6 +128,8 @@ class Maker(RingMaker):
         arguments = []
         for kind in parameters:
             own = [cell for cell, fields in self.cells if bool(fields) == (kind == "row")]
+            if kind not in ("value", "cell", "row"):
+                own = [name for name, room in self.buffers if room == kind or self.copied.random() < 0.05]
             argument = self.value(1) if kind == "value" else [self.pick(own)] if own else ["zz"]
             arguments += [","] * bool(arguments) + argument
         return [name, "(", *arguments, ")"]
@@ -163,7 +166,17 @@ class Maker(RingMaker):
             self.values.append(name)
         refinement = ["{", *self.test(), "}"] if self.chance(0.4) and (readable or self.chance(0.01)) else []
         action = self.action() if self.chance(0.2) else []
-        return head + [name] + tail + refinement + action + [";"]
+        return head + [name] + tail + refinement + self.with_copy(head, tail, action) + [";"]
+
+    def with_copy(self, head, tail, action):
+        """What a field does, or a copy in its place: mostly of bytes, and mostly into a copy buffer."""
+        is_bytes = head == ["UINT8"] and tail[:1] in (["["], ["[:byte-size"])
+        if not self.buffers or self.copied.random() >= (0.8 if is_bytes else 0.01):
+            return action
+        if is_bytes and self.copied.random() < 0.7:
+            tail[1:-1] = [self.copied.choice("0012348")] if not self.values or self.copied.random() < 0.5 else [self.copied.choice(self.values), "&", "3"]
+        names = [name for name, _ in self.buffers] * 20 + ["zz", *self.values[:1], *[cell for cell, _ in self.cells[:1]]]
+        return ["{:copy", self.copied.choice(names), "}"]
 
     def fields(self):
         before, count, self.unit = list(self.values), self.pick([1, 1, 2, 2, 3, 4, 5]), None
@@ -188,6 +201,14 @@ class Maker(RingMaker):
                 tokens += [",", "mutable", record, "*", own]
                 self.cells.append((own, self.records[record]))
                 kinds.append("row")
+        self.buffers = []
+        while self.copied.random() < 0.25:
+            name, room = "c%d" % len(self.buffers), self.copied.choice(["1", "3", "4", "8", "8", "8"] * 4 + ["0", "255", "0x10000", "65537"])
+            self.buffers.append((name, room))
+            at = self.copied.randrange(len(kinds) + 1)
+            starts = [place for place, token in enumerate(tokens) if token == ","] + [len(tokens)]
+            tokens[starts[at] : starts[at]] = [",", "mutable", "UINT8", "*", name, "[", room, "]"]
+            kinds.insert(at, room)
         self.own_kinds = kinds
         tokens = ["(", *tokens[1:], ")"] if tokens else []
         return tokens + (["where", "(", *self.test(), ")"] if self.values and self.chance(0.3) else [])
@@ -245,6 +266,7 @@ class Maker(RingMaker):
     def begin(self):
         self.count, self.types, self.numbers, self.constants, self.records = 0, [], set(), [], {}
         self.parameters, self.entries, self.values, self.cells, self.start, self.unit = {}, [], [], [], False, None
+        self.buffers = []
 
     def definitions(self):
         tokens = []

@@ -3,7 +3,7 @@
 import re
 
 from ..places import NoPlace, line_and_column
-from . import habits, images, jobs, names, safety, sizes, sorts, tokens
+from . import copies, habits, images, jobs, names, safety, sizes, sorts, tokens
 from .reading import Module
 
 MODULE_ERROR = re.compile(r"error ([A-IK-Y][0-9]) ([0-9]+):([0-9]+) .*")
@@ -24,6 +24,10 @@ BY_CODE = {
     "X": sizes.help_of,
     "A": safety.help_of,
 }
+
+
+# These codes may be told of a copy buffer or of a copied field.
+COPYING = ("A2", "N4", "Y2", "Y4")
 
 
 class Unknown(Exception):
@@ -63,7 +67,7 @@ def help_of(text, line, job=None):
     module = refused(text, int(number), int(column), code)
     if module is None:
         return ["No more is said: " + otherwise(text)]
-    return BY_CODE[code[0]](module) or ["No more is known of this place than that line says."]
+    return (code in COPYING and copies.help_of(module)) or BY_CODE[code[0]](module) or ["No more is known of this place than that line says."]
 
 
 def otherwise(text):

@@ -5,7 +5,7 @@ import json
 import re
 
 from reference.errors import ModuleError
-from reference.jobs import HEXADECIMAL
+from reference.jobs import HEXADECIMAL, arguments_in
 from reference.modules import module_of
 
 from ..places import escaped, place_of
@@ -82,7 +82,7 @@ class Job:
 
 
 def values_wanted(made):
-    return ["%s (%d bits)" % (parameter.name, parameter.bits) for parameter in made.parameters if not parameter.mutable]
+    return ["%s (%d bits)" % (parameter.name, parameter.bits) for parameter in arguments_in(made)]
 
 
 def cells_wanted(made):

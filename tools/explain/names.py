@@ -357,8 +357,9 @@ def wrong_application(module, found, field, scope):
     lines = ["`%s` %s, and %s given." % (name, takes, were(len(field.arguments)))]
     for parameter, argument in zip(tree.parameters, field.arguments):
         if parameter.mutable and watch_cells(module, parameter, argument, scope) is None:
-            lines.append("For `%s` the argument is the plain name of a `mutable` parameter of the same type." % parameter_text(parameter))
-            cells = [own for own, meant in scope.names.items() if meant.kind in ("cell", "row") and same_cell(module, meant, parameter)]
+            same = "type" if parameter.room is None else "room"
+            lines.append("For `%s` the argument is the plain name of a `mutable` parameter of the same %s." % (parameter_text(parameter), same))
+            cells = cells_here(module, parameter, scope)
             lines.append("Such names here: %s." % quoted(cells) if cells else "No such name is in scope: add the parameter to this definition, too.")
     given = [argument_for(module, field, place, parameter, scope) for place, parameter in enumerate(tree.parameters)]
     return lines + ["mend: write `%s%s %s;`." % (name, "(%s)" % ", ".join(given) if count else "", field.name[1])]
@@ -368,7 +369,7 @@ def argument_for(module, field, place, parameter, scope):
     """What may stand as an argument: what stands there, where it may, or else a name."""
     argument = field.arguments[place] if place < len(field.arguments) else None
     if parameter.mutable:
-        cells = [own for own, meant in scope.names.items() if meant.kind in ("cell", "row") and same_cell(module, meant, parameter)]
+        cells = cells_here(module, parameter, scope)
         is_good = argument is not None and watch_cells(module, parameter, argument, scope) is not None
         return argument.value if is_good else (cells or [parameter.name[1]])[0]
     return spelled(argument, module.text) if argument is not None else parameter.name[1]
@@ -379,6 +380,17 @@ def place_of_type(module, found):
     return made.at
 
 
+def cells_here(module, parameter, scope):
+    """The names in scope that may stand for a parameter that isn't a value."""
+    return [own for own, meant in scope.names.items() if is_same(module, meant, parameter)]
+
+
+def is_same(module, meant, parameter):
+    if parameter.room is not None:
+        return meant.kind == "buffer" and meant.room == constant_number(module, parameter.room)
+    return meant.kind in ("cell", "row") and same_cell(module, meant, parameter)
+
+
 def same_cell(module, meant, parameter):
     found = module.watch.known.find(type("Empty", (), {"names": {}}), parameter.type[1]) if parameter.type[0] == "NAME" else None
     wanted = parameter.type[1] if found is None else getattr(found, "base", None) or found.definition
@@ -387,7 +399,7 @@ def same_cell(module, meant, parameter):
 
 def watch_cells(module, parameter, argument, scope):
     meant = scope.names.get(argument.value) if argument.kind == "NAME" else None
-    return meant if meant is not None and meant.kind in ("cell", "row") and same_cell(module, meant, parameter) else None
+    return meant if meant is not None and is_same(module, meant, parameter) else None
 
 
 def wrong_cell(module):

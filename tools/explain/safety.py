@@ -201,6 +201,8 @@ def refined_before(module, whole, tree, condition):
         yield "test it in the `where`: `%s && ..`." % condition, [module.replaced(whole.own.guard, new)]
     elif whole.own.guard is None and whole.own.parameters:
         index = module.index_at(whole.own.parameters[-1].name[2]) + 1
+        while module.token(index)[0] != ")":
+            index += 1
         end = module.end_of(index)
         yield "test it in a `where`, before the `{`: `where (%s)`. It fails as `constraint`." % condition, [(end, end, " where (%s)" % condition)]
 

@@ -12,7 +12,7 @@ TIGHTER_THAN_COMPARISON = LEVEL_OF["=="] + 1
 STANDS_FOR = {
     "constant": "a constant", "member": "a member of an enum", "number": "another name of a number type", "enum": "an enum", "type": "a type",
     "record": "an output record", "cell": "a `mutable` parameter", "row": "a `mutable` parameter of an output record", "value": "a number",
-    "none": "a field without a value",
+    "none": "a field without a value", "buffer": "a copy buffer",
 }  # fmt: skip
 MASKS = {16: "0xffff", 32: "0xffffffff", 64: "0xffffffffffffffff"}
 

@@ -80,6 +80,8 @@ def names_in(tree):
 
 def parameter_text(parameter):
     """A parameter as the text has it."""
+    if parameter.room is not None:
+        return "mutable %s *%s[%s]" % (parameter.type[1], parameter.name[1], parameter.room[1])
     if parameter.mutable:
         return "mutable %s *%s" % (parameter.type[1], parameter.name[1])
     return "%s %s" % (parameter.type[1], parameter.name[1])

@@ -32,7 +32,7 @@ class Entry:
 
     def __init__(self, code, number, prefix, functions, titles):
         self.code = code
-        self.routine, params, cells = code.entries[number]
+        self.routine, params, cells, *buffers = code.entries[number]
         self.type = code.name(code.routines[self.routine][0])
         self.function = unique("%s_validate_%s" % (prefix, undotted(self.type)), functions)
         self.taken = set()
@@ -40,6 +40,7 @@ class Entry:
         self.numbers, self.records, self.parameters, self.places = [], {}, [], []
         for name, field, bits in cells:
             self.add_cell(code.name(name), field, bits, prefix, titles)
+        self.copies = [self.copy_of(code.name(name), room, prefix, titles) for name, room in zip(buffers, code.routines[self.routine][5:])]
 
     def add_cell(self, name, field, bits, prefix, titles):
         if field == NO_FIELD:
@@ -54,6 +55,13 @@ class Entry:
             self.parameters.append("struct %s *%s" % (title, self.records[name].name))
         self.places.append((self.records[name].add(self.code.name(field), bits), bits))
 
+    def copy_of(self, name, room, prefix, titles):
+        """A copy buffer: its name and its struct, with room for so many bytes."""
+        title = unique("%s_%s_%s" % (prefix, undotted(self.type), name), titles)
+        own = unique(escaped(name), self.taken)
+        self.parameters.append("struct %s *%s" % (title, own))
+        return own, ["struct %s {" % title, "    uint32_t count; /* so many of the bytes are the copy */", "    uint8_t bytes[%d];" % room, "};"]
+
     def head(self):
         own = ["%s %s" % (WIDTHS[bits], name) for name, bits in self.params]
         words = ["const uint64_t *words", "uint32_t length"] + own + self.parameters + ["struct td_outcome *outcome"]
@@ -61,7 +69,8 @@ class Entry:
 
     def declaration(self):
         """The structs and the function, as lines of a header."""
-        lines = [line for record in self.records.values() for line in record.struct() + [""]]
+        structs = [record.struct() for record in self.records.values()] + [struct for _, struct in self.copies]
+        lines = [line for struct in structs for line in struct + [""]]
         places = "".join("; *%s becomes a place in the message" % name for name in self.numbers)
         lines.append("/* Validates a message as %s%s. */" % (self.type, places))
         return lines + ["TD_LOOK_AT_ANSWER %s;" % self.head(), ""]
@@ -72,7 +81,9 @@ class Entry:
         cells = ["&td_cells[%d]" % k for k in range(len(self.places))]
         if self.places:
             lines.append("    uint64_t td_cells[%d] = {%s};" % (len(cells), ", ".join(place for place, _ in self.places)))
-        own = ", ".join(["&td_run", "length"] + [name for name, _ in self.params] + cells)
+        lines += ["    %s->count = 0;" % name for name, _ in self.copies]
+        copies = [text % name for name, _ in self.copies for text in ("%s->bytes", "&%s->count")]
+        own = ", ".join(["&td_run", "length"] + [name for name, _ in self.params] + cells + copies)
         lines += ["    bool td_accepted = %s(%s);" % (function_name(self.code, self.routine), own), ""]
         lines += ["    %s = (%s)td_cells[%d];" % (place, WIDTHS[bits], k) for k, (place, bits) in enumerate(self.places)]
         lines += ["    if (td_accepted) {", "        outcome->reason = TD_ACCEPTED;"]
@@ -83,7 +94,7 @@ class Entry:
 def entries_of(code, prefix):
     """The entry points that can be asked for: the first of each name."""
     functions, titles, names, found = set(), set(), set(), []
-    for number, (routine, _, _) in enumerate(code.entries):
+    for number, (routine, *_) in enumerate(code.entries):
         name = code.routines[routine][0]
         if name not in names:
             names.add(name)

@@ -140,21 +140,32 @@ static inline uint64_t td_big(struct td_run *run, uint64_t place, unsigned width
 }
 
 """
+COPIES = """\
+/* Copies so many bytes from a place on: each word is still loaded once. */
+static void td_copy(struct td_run *run, uint64_t place, uint64_t count, uint8_t *bytes, uint32_t *held)
+{
+    for (uint64_t k = 0; k < count; k++)
+        bytes[k] = (uint8_t)td_little(run, place + k, 1);
+    *held = (uint32_t)count;
+}
+
+"""
 
 
 def helpers_of(kinds):
     """What the routines call, so that no compiler finds a function that nobody calls."""
-    fails = kinds & set("Fetch SkipK Skip Zeros Zeroterm NarrowK Narrow Divides Widen Fail".split())
+    fails = kinds & set("Fetch SkipK Skip Zeros Zeroterm NarrowK Narrow Divides Widen Fail Copy".split())
     text = FRAMES if fails or "Call" in kinds else ""
     text += FAILURES if fails else ""
     text += LOADS if kinds & {"little", "big"} else ""
-    return text + (BIG if "big" in kinds else "")
+    text += BIG if "big" in kinds else ""
+    return text + (COPIES if "Copy" in kinds else "")
 
 
 def uses_of(routines):
     """The kinds of instructions, and in which orders numbers are read."""
     kinds = {kind for routine in routines for kind in routine.kinds}
-    kinds |= {"little"} if kinds & {"Zeros", "Zeroterm"} else set()
+    kinds |= {"little"} if kinds & {"Zeros", "Zeroterm", "Copy"} else set()
     for routine in routines:
         kinds |= {"big" if operands[1] else "little" for _, kind, *operands in routine.instructions if kind == "Fetch"}
     return kinds

@@ -16,9 +16,9 @@ TARGETS = {"Jump": 0, "JumpIf": 1, "JumpUnless": 1}
 MARK = "start = position;"
 # So many cases of a switch, or variables, stand in a line.
 MOST_OF_A_LINE = 8
-# Names that the written lines have for themselves: registers, cells, and the four places. What stands in quotes is a name of the module.
+# Names that the written lines have for themselves: registers, cells, buffers and how much they hold, and the four places. What stands in quotes is a name of the module.
 QUOTED = re.compile(r'"[^"]*"')
-NAMED = re.compile(r"\b(?:[rc][0-9]+|start|end|outer)\b")
+NAMED = re.compile(r"\b(?:[rcbn][0-9]+|start|end|outer)\b")
 READ = re.compile(r"\b(?:r[0-9]+|start|end|outer)\b(?! = )")
 
 
@@ -35,7 +35,7 @@ class Routine:
 
     def __init__(self, code, index, begin):
         self.code, self.index = code, index
-        _, self.params, self.cells, _, length = code.routines[index]
+        _, self.params, self.cells, _, length, *self.rooms = code.routines[index]
         self.instructions = [(place, *code.instructions[place]) for place in range(begin, begin + length)]
         self.kinds = {kind for _, kind, *_ in self.instructions}
         self.targets = {operands[TARGETS[kind]] for _, kind, *operands in self.instructions if kind in TARGETS}
@@ -114,7 +114,10 @@ class Routine:
         self.put("    goto l%d;" % target)
 
     def write_Call(self, first, callee, cells, site):
-        own = ["r%d" % (first + k) for k in range(self.code.routines[callee][1])] + ["c%d" % cell for cell in self.code.maps[cells]]
+        _, params, count, *_ = self.code.routines[callee]
+        numbers = self.code.maps[cells]
+        own = ["r%d" % (first + k) for k in range(params)] + ["c%d" % cell for cell in numbers[:count]]
+        own += [name % buffer for buffer in numbers[count:] for name in ("b%d", "n%d")]
         self.put("run->position = position;")
         self.put("if (!%s(%s))" % (function_name(self.code, callee), ", ".join(["run", "end"] + own)))
         self.put("    return td_frame(run, %s, start);" % self.site(site))
@@ -159,6 +162,12 @@ class Routine:
         self.depth -= 1
         self.put("}")
 
+    def write_Copy(self, size, buffer, site):
+        self.put_room_test("r%d" % size, site)
+        room = self.rooms[buffer]
+        self.put("td_copy(run, position, r%d < %d ? r%d : %d, b%d, n%d);" % (size, room, size, room, buffer, buffer))
+        self.put_taken("r%d" % size)
+
     def write_NarrowK(self, size, site):
         self.put_room_test(number(size), site)
         self.put_window(number(size))
@@ -200,6 +209,7 @@ class Routine:
 
     def head(self):
         names = ["uint64_t r%d" % k for k in range(self.params)] + ["uint64_t *c%d" % k for k in range(self.cells)]
+        names += [name % k for k in range(len(self.rooms)) for name in ("uint8_t *b%d", "uint32_t *n%d")]
         return "static bool %s(%s)" % (function_name(self.code, self.index), ", ".join(["struct td_run *run", "uint64_t end"] + names))
 
     def body(self):
@@ -224,7 +234,8 @@ class Routine:
             self.put("uint64_t %s;" % ", ".join("r%d = 0" % k for k in own[at : at + MOST_OF_A_LINE]))
         registers = ["r%d" % k for k in range(self.params)] + ["r%d" % k for k in own]
         unread = [name for name in registers + ["end"] if name not in read]
-        for name in unread + ["c%d" % k for k in range(self.cells) if "c%d" % k not in named]:
+        places = ["c%d" % k for k in range(self.cells)] + [name % k for k in range(len(self.rooms)) for name in ("b%d", "n%d")]
+        for name in unread + [name for name in places if name not in named]:
             self.put("(void)%s;" % name)
 
     def text(self):

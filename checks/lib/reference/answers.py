@@ -8,7 +8,7 @@ from .errors import JobError, ModuleError
 from .hosts import Wrong, host_job_of
 from .jobs import job_of
 from .modules import module_of
-from .runs import Memory, run
+from .runs import Memory, outcome_of
 from .takes import judge
 
 INPUT_LIMIT = 4_194_304
@@ -22,10 +22,8 @@ def written_line(written):
 def report_of(known, job):
     number, arguments, cells, layout, words, stores, written = job
     memory = Memory(layout, words, stores)
-    lines = written_line(written) + run(known.types, number, arguments, cells, memory)
-    for (name, field, _), value in zip(known.types[number].cells, cells):
-        lines += "out %s%s %d\n" % (name, "" if field is None else "." + field, value)
-    return lines + memory.lines()
+    lines = outcome_of(known.types, number, arguments, cells, memory)[0]
+    return written_line(written) + lines + memory.lines()
 
 
 def parts_of(text):

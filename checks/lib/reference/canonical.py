@@ -87,13 +87,17 @@ class Writer:
             words += " { %s }" % self.expression(field.refinement)
         if field.action is not None:
             words += " %s%s}" % (field.action.word, "".join(" " + self.statement(tree) for tree in field.action.body))
+        if field.copy is not None:
+            words += " {:copy %s}" % field.copy.name[1]
         return words + ";"
 
     def fields(self, fields, blanks):
         return "".join("%s%s\n" % (blanks, self.field(field)) for field in fields)
 
     def parameter(self, tree):
-        return "mutable %s *%s" % (tree.type[1], tree.name[1]) if tree.mutable else "%s %s" % (tree.type[1], tree.name[1])
+        if not tree.mutable:
+            return "%s %s" % (tree.type[1], tree.name[1])
+        return "mutable %s *%s" % (tree.type[1], tree.name[1]) + ("" if tree.room is None else "[%s]" % self.constant(tree.room))
 
     def head(self, tree, words):
         entry = "entrypoint " if tree.entry else ""

@@ -3,16 +3,17 @@ at for each instruction by itself."""
 
 KINDS = (
     "Const Member Op Bits Pos Jump JumpIf JumpUnless Call Return Fetch SkipK Skip Rest Zeros Zeroterm NarrowK Narrow Divides"
-    " While Again Widen Fail Get Set Mark"
+    " While Again Widen Fail Get Set Mark Copy"
 ).split()
 # What each kind writes or reads by number: registers, a site, a target, as places among its operands.
 REGISTERS = {
     "Const": [0], "Member": [0, 1], "Op": [0, 2, 3], "Bits": [0, 1], "Pos": [0], "JumpIf": [0], "JumpUnless": [0], "Fetch": [0],
     "Skip": [0], "Zeroterm": [0], "Narrow": [0], "Divides": [0], "Get": [0], "Set": [0],
+    "Copy": [0],
 }  # fmt: skip
 SITES = {
     "Call": 3, "Fetch": 3, "SkipK": 1, "Skip": 1, "Zeros": 0, "Zeroterm": 2, "NarrowK": 1, "Narrow": 1, "Divides": 2,
-    "Widen": 0, "Fail": 1,
+    "Widen": 0, "Fail": 1, "Copy": 2,
 }  # fmt: skip
 OPENS = ("NarrowK", "Narrow")
 MOST_DEPTH = 32
@@ -24,7 +25,7 @@ class Routine:
 
     def __init__(self, code, number, start):
         self.code, self.number, self.start = code, number, start
-        self.params, self.cells, self.registers, length = code.routines[number][1:]
+        self.params, self.cells, self.registers, length, *self.rooms = code.routines[number][1:]
         self.end = start + length
         self.depth = self.weight = 0
         self.may_take_none = False
@@ -160,17 +161,26 @@ def keeps_tables(routine, place):
     if kind == "Call":
         if operands[2] >= len(code.maps):
             return False
-        cells = code.maps[operands[2]]
-        callee_cells = code.routines[operands[1]][2] if operands[1] < len(code.routines) else 0
-        return len(cells) == callee_cells and all(cell < routine.cells for cell in cells)
+        callee = code.routines[operands[1]] if operands[1] < len(code.routines) else [0] * 5
+        return leads_to_own(routine, code.maps[operands[2]], callee[2], callee[5:])
+    if kind == "Copy":
+        return operands[1] < len(routine.rooms)
     return True
+
+
+def leads_to_own(routine, numbers, cells, rooms):
+    """Whether a cell map leads from so many cells, and buffers of these rooms, to the routine's own."""
+    if len(numbers) != cells + len(rooms):
+        return False
+    buffers = all(number < len(routine.rooms) and routine.rooms[number] == room for number, room in zip(numbers[cells:], rooms))
+    return buffers and all(cell < routine.cells for cell in numbers[:cells])
 
 
 def weight_of(routine, place, lower):
     kind, *operands = routine.at(place)
     if kind in ("While", "Again"):
         return 3
-    own = 2 if kind in ("Zeros", "Zeroterm") else 1
+    own = 2 if kind in ("Zeros", "Zeroterm", "Copy") else 1
     if kind == "Call" and operands[1] < routine.number:
         own += lower[operands[1]].weight
     return 2 * own if routine.in_loop(place) else own

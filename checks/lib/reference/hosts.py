@@ -6,6 +6,7 @@ from .errors import JobError, ModuleError
 from .jobs import (
     MESSAGE_LIMIT,
     STORES_LIMIT,
+    arguments_in,
     arguments_of,
     bytes_of,
     check_names,
@@ -20,13 +21,14 @@ from .jobs import (
 from .layouts import STRETCHES_LIMIT, Layout, at_word
 from .modules import module_of
 from .rings import rings_of
-from .runs import Memory, run
+from .runs import Memory, outcome_of
 
 FIELDS = {"entry", "args", "buffer", "workers", "guests", "rings", "swaps"}
 WORKERS_LIMIT = 16
 GUESTS_LIMIT = 16
 POSTS_LIMIT = 4_096
 WORDS_LIMIT = 1_048_576
+COPIES_LIMIT = 16_777_216
 SWAPS_LIMIT = 16
 
 # A module that a message may be validated by: the types of its text, and the number of the entry point's among them.
@@ -117,8 +119,9 @@ def script_of(guest, path, words):
 
 
 def taken_and_filled(made):
-    """What all versions of an entry point have in common: name and bits of each argument; name, field and bits of each cell."""
-    return [(parameter.name, parameter.bits) for parameter in made.parameters if not parameter.mutable], list(made.cells)
+    """What all versions of an entry point have in common: name and bits of each argument; name, field and bits of each cell; name and
+    room of each copy buffer."""
+    return [(parameter.name, parameter.bits) for parameter in arguments_in(made)], list(made.cells), list(made.buffers)
 
 
 def swap_of(text, made):
@@ -164,6 +167,8 @@ def host_job_of(text, known):
     require(len(posts) <= POSTS_LIMIT, "J8", "posts")
     require(len(steps) - len(posts) <= STORES_LIMIT, "J8", "stores")
     require(sum(len(layout.words) for _, layout in posts) + sum(ring.words() for ring in rings) <= WORDS_LIMIT, "J8", "words")
+    rooms = sum(room for _, room in known.types[entry].buffers)
+    require((len(posts) + sum(ring.takes for ring in rings)) * rooms <= COPIES_LIMIT, "J8", "copies")
     return HostJob(versions, arguments, words, workers, scripts, rings)
 
 
@@ -230,11 +235,8 @@ def workers_needed(numbers):
 
 def lines_and_cells(version, arguments, memory):
     """The lines of the run's report of a message in this memory, from cells of zeros, and the cells after it."""
-    own_cells = version.types[version.entry].cells
-    cells = [0] * len(own_cells)
-    lines = run(version.types, version.entry, arguments, cells, memory)
-    for (name, field, _), value in zip(own_cells, cells):
-        lines += "out %s%s %d\n" % (name, "" if field is None else "." + field, value)
+    zeros = [0] * len(version.types[version.entry].cells)
+    lines, cells = outcome_of(version.types, version.entry, arguments, zeros, memory)
     return lines + memory.lines(), cells
 
 

@@ -89,8 +89,13 @@ def entry_of(job, known):
     return entries[0]
 
 
+def arguments_in(made):
+    """The parameters that take values."""
+    return [parameter for parameter in made.parameters if not parameter.mutable and parameter.room is None]
+
+
 def arguments_of(job, made):
-    limits = [2**parameter.bits for parameter in made.parameters if not parameter.mutable]
+    limits = [2**parameter.bits for parameter in arguments_in(made)]
     return numbers_of(job, "args", limits, not limits)
 
 

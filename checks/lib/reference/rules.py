@@ -8,12 +8,13 @@ from .scopes import Breaches, Known, Scope, bits_of, local, meaning
 from .sizes import body_kind, constant_size, field_kind
 from .tokens import NUMBER_TYPES
 
+ROOM_LIMIT = 65_536
 ARRAYS = {"[": "bytes", "[:byte-size": "bytes", "[:byte-size-single-element-array": "single", "[:zeroterm-byte-size-at-most": "zeroterm"}
 
 
 class Elaborator:
     def __init__(self):
-        self.known, self.breaches, self.entry_names = Known(), Breaches(), []
+        self.known, self.breaches, self.cell_count = Known(), Breaches(), 0
 
     def typing(self, scope):
         return Typing(self.known, scope, self.breaches, lambda number: constant_size(self.known.types[number].kind))
@@ -51,12 +52,17 @@ class Elaborator:
 
     def applied(self, scope, found, field, noted):
         parameters = self.known.types[found.number].parameters
-        arguments, cells, wrong = [], [], len(parameters) != len(field.arguments)
+        arguments, cells, buffers, wrong = [], [], [], len(parameters) != len(field.arguments)
         for parameter, tree in zip(parameters, field.arguments):
             if parameter.mutable:
                 own = self.cells_named(scope, parameter, tree)
                 wrong = wrong or own is None
                 cells += own or []
+                continue
+            if parameter.room is not None:
+                own = self.buffer_named(scope, parameter, tree)
+                wrong = wrong or own is None
+                buffers += [own]
                 continue
             typing = self.typing(scope)
             sort, core = typing.walk(tree)
@@ -64,7 +70,13 @@ class Elaborator:
             noted.note_if((type_alone(sort) or 0) > parameter.bits, "Y2", tree.first)
             arguments.append(core)
         noted.note_if(wrong, "N4", field.type[2])
-        return arguments, cells
+        return arguments, cells + buffers
+
+    def buffer_named(self, scope, parameter, tree):
+        """The place behind the cells of the copy buffer that an argument names, of the parameter's room; None where it names none."""
+        found = scope.names.get(tree.value) if tree.kind == "NAME" else None
+        is_same = found is not None and found.kind == "buffer" and found.room == parameter.room
+        return self.cell_count + found.buffer if is_same else None
 
     def cells_named(self, scope, parameter, tree):
         found = scope.names.get(tree.value) if tree.kind == "NAME" else None
@@ -129,8 +141,21 @@ class Elaborator:
             named = actions.vars
         self.names += [name] + named
         self.vars += named
+        copy = None if field.copy is None else self.copy(scope, field, element)
         part = Record(name=name, width=width, low=None, refinement=refinement, action=action)
-        return Record(element=element, extent=extent, parts=[part], at=at)
+        return Record(element=element, extent=extent, copy=copy, parts=[part], at=at)
+
+    def copy(self, scope, field, element):
+        """Where a field's bytes go: the place of the buffer behind the cells, its room, and the place of the copy in the text."""
+        is_bytes = field.array is not None and ARRAYS[field.array] == "bytes"
+        is_octets = element is not None and element.kind == "number" and element.base == "UINT8"
+        self.breaches.note_if(not (is_bytes and is_octets), "Y4", field.copy.at)
+        _, name, at = field.copy.name
+        found = self.known.find(scope, name)
+        if found is None or found.kind != "buffer":
+            self.breaches.note("N1" if found is None else "N4", at)
+            return None
+        return Record(cell=self.cell_count + found.buffer, room=found.room, at=field.copy.at)
 
     def this_size(self, scope, trees):
         """The size of a struct's leading fields of constant size, before the first whose size holds `sizeof(this)`."""
@@ -149,7 +174,7 @@ class Elaborator:
                 break
             width = tree.width[1] if tree.width is not None else None
             part = Record(name=tree.name[1], width=width, low=None, refinement=None, action=None)
-            fields.append(Record(element=element, extent=extent, parts=[part], at=0))
+            fields.append(Record(element=element, extent=extent, copy=None, parts=[part], at=0))
             if readable:
                 bits = bits_of(element.base)
                 scope.add_value(tree.name[1], bits, 2 ** min(width or bits, bits) - 1)
@@ -168,29 +193,36 @@ class Elaborator:
 
     # ---- Parameters.
 
-    def parameter(self, scope, tree, cells, taken):
+    def parameter(self, scope, tree, cells, buffers, taken):
         name = tree.name[1]
         kind, spelled, at = tree.type
         found = self.known.find(scope, spelled) if kind == "NAME" else None
         self.breaches.note_if(kind == "NAME" and found is None, "N1", at)
         made = None
-        if tree.mutable:
+        if tree.room is not None:
+            room = self.constant(scope, tree.room)
+            self.breaches.note_if(room is not None and not 1 <= room <= ROOM_LIMIT, "Y2", tree.room[2])
+            room = room or 0
+            made = Record(mutable=False, room=room)
+            scope.names[name] = local("buffer", buffer=len(buffers), room=room)
+            buffers.append((name, room))
+        elif tree.mutable:
             if kind == "INT" or (found and found.kind == "number"):
                 base = spelled if kind == "INT" else found.base
-                made = Record(mutable=True, type=base)
+                made = Record(mutable=True, room=None, type=base)
                 scope.names[name] = local("cell", cell=len(cells), bits=bits_of(base), type=base)
                 cells.append((name, None, bits_of(base)))
             elif kind == "PUINT8":
-                made = Record(mutable=True, type="PUINT8")
+                made = Record(mutable=True, room=None, type="PUINT8")
                 scope.names[name] = local("cell", cell=len(cells), bits=0, type="PUINT8")
                 cells.append((name, None, 0))
             elif found and found.kind == "record":
-                made = Record(mutable=True, type=found.definition)
+                made = Record(mutable=True, room=None, type=found.definition)
                 scope.names[name] = local("row", cell=len(cells), slots=found.slots, type=found.definition)
                 cells += [(name, slot, bits) for slot, bits in found.slots]
         elif kind == "INT" or (found and found.kind in ("number", "enum")):
             bits = bits_of(spelled if kind == "INT" else found.base)
-            made = Record(mutable=False, bits=bits, name=name)
+            made = Record(mutable=False, room=None, bits=bits, name=name)
             scope.add_value(name, bits, 2**bits - 1)
         if made is None:
             self.breaches.note_if(found is not None, "Y1", at)
@@ -271,10 +303,11 @@ class Elaborator:
         return switch, cases, default
 
     def type_definition(self, tree):
-        scope, cells, taken = Scope(), [], set()
+        scope, cells, buffers, taken = Scope(), [], [], set()
         self.names, self.vars = [], []
-        parameters = [self.parameter(scope, parameter, cells, taken) for parameter in tree.parameters]
+        parameters = [self.parameter(scope, parameter, cells, buffers, taken) for parameter in tree.parameters]
         parameters = [parameter for parameter in parameters if parameter is not None]
+        self.cell_count = len(cells)
         if tree.kind == "struct":
             scope.this = self.this_size(scope, tree.fields)
         guard = None
@@ -282,7 +315,8 @@ class Elaborator:
             typing = self.typing(scope)
             sort, guard = typing.walk(tree.guard)
             typing.wanted(tree.guard, sort, True)
-        made = Record(name=self.known.full(tree.name[1]), at=tree.name[2], parameters=parameters, cells=cells, guard=guard)
+        name, at = self.known.full(tree.name[1]), tree.name[2]
+        made = Record(name=name, at=at, parameters=parameters, cells=cells, buffers=buffers, guard=guard)
         made.switch, made.cases, made.default, made.fields = None, [], None, None
         every = set(taken)
         if tree.kind == "struct":

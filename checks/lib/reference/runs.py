@@ -119,9 +119,14 @@ class Run:
             position = start + width
         else:
             position = self.array(field, values, cells, places, start, end)
+        if field.copy is not None:
+            cells[places[field.copy.cell]] = self.content(start, position)
         for part in field.parts:
             self.part(part, number, values, cells, places, start)
         return position
+
+    def content(self, start, end):
+        return bytes(map(self.memory.byte, range(start, end)))
 
     def part(self, part, number, values, cells, places, start):
         value = number
@@ -231,7 +236,8 @@ def later_levels(fields):
 
 
 def run(types, number, values, cells, memory):
-    """The verdict's line and the frames' lines; `cells` are left as actions wrote them."""
+    """The verdict's line and the frames' lines; `cells`, with the content of each copy buffer behind them, are left as fields and
+    actions wrote them."""
     try:
         position = Run(types, memory).definition(number, values, cells, list(range(len(cells))), 0, memory.layout.length)
     except Rejected as failed:
@@ -239,3 +245,25 @@ def run(types, number, values, cells, memory):
         frames = "".join("frame %s.%s %d\n" % frame for frame in failed.frames)
         return "reject %s %d\n%s" % (failed.reason, position, frames)
     return "accept %d\n" % position
+
+
+def opened(made, cells):
+    """The cells as a run begins, with an empty content for each copy buffer behind them."""
+    return [*cells, *[b""] * len(made.buffers)]
+
+
+def told(made, after):
+    """The lines of the cells and of the copies after a run."""
+    lines = ""
+    for (name, field, _), value in zip(made.cells, after):
+        lines += "out %s%s %d\n" % (name, "" if field is None else "." + field, value)
+    for (name, _), content in zip(made.buffers, after[len(made.cells) :]):
+        lines += " ".join(["copy", name] + [content.hex()] * (content != b"")) + "\n"
+    return lines
+
+
+def outcome_of(types, number, values, cells, memory):
+    """The lines of a run's verdict, frames, cells and copies, and the cells after it; those given stay as they are."""
+    after = opened(types[number], cells)
+    lines = run(types, number, values, after, memory)
+    return lines + told(types[number], after), after[: len(cells)]

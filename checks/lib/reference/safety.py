@@ -1,4 +1,4 @@
-"""The safety rule: facts, ranges, and the first operator that isn't safe.
+"""The safety rule: facts, ranges, and the first operator that isn't safe, or copy that may find no room.
 
 A fact is a comparison that is known true: (relation, left, right), its sides core expressions.
 """
@@ -126,11 +126,11 @@ def is_safe(core, facts):
 
 
 def unsafe(core, facts):
-    """The operators of an expression that aren't safe: (place, operator)."""
+    """The operators of an expression that aren't safe: (place, words of the rule)."""
     if core is None:
         return
     if core.kind in ("+", "-", "*", "/", "%", "<<", ">>") and not is_safe(core, facts):
-        yield core.at, core.kind
+        yield core.at, "unsafe " + core.kind
     more = [facts] * len(core.parts)
     if core.kind in ("&&", "||"):
         more[1] = facts + facts_of(core.parts[0], core.kind == "&&")
@@ -152,11 +152,18 @@ def block_unsafe(statements, facts):
             yield from block_unsafe(statement[3], facts + facts_of(statement[1], False))
 
 
+def has_room(field, facts):
+    """Whether a copied field's greatest size fits its buffer."""
+    return range_of(field.extent[1], facts)[1] <= field.copy.room
+
+
 def fields_unsafe(fields, facts):
     for field in fields:
         for core in getattr(field.element, "arguments", []):
             yield from unsafe(core, facts)
         yield from unsafe(field.extent[1], facts)
+        if field.copy is not None and not has_room(field, facts):
+            yield field.copy.at, "room"
         for part in field.parts:
             if part.refinement is not None:
                 yield from unsafe(part.refinement, facts)
@@ -182,5 +189,5 @@ def module_unsafe(types):
 
 
 def check_safety(types):
-    for at, operator in module_unsafe(types):
-        raise ModuleError("A1", at, "unsafe " + operator)
+    for at, words in module_unsafe(types):
+        raise ModuleError("A2" if words == "room" else "A1", at, words)

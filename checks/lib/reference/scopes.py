@@ -43,7 +43,7 @@ def meaning(kind, definition, **parts):
 
 
 # What a parameter, a field or a `var` stands for: `kind` is value (a number at a level of the scope), none (a field that
-# is no number), cell (an out-parameter that is one cell) or row (an output record's cells).
+# is no number), cell (an out-parameter that is one cell), row (an output record's cells) or buffer (a copy buffer of a room).
 def local(kind, **parts):
     return Record(kind=kind, **parts)
 

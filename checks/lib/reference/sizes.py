@@ -198,7 +198,7 @@ class Sizing:
             weight += 32 * len(tree.slots)
         elif tree.kind in ("struct", "casetype"):
             for parameter in tree.parameters:
-                depth = max(depth, self.constant_depth(parameter.type, hidden, seen))
+                depth = max([depth] + [self.constant_depth(token, hidden, seen) for token in (parameter.type, parameter.room)])
                 hidden.add(parameter.name[1])
             depth = max(depth, self.depth_of(tree.guard, hidden, seen))
             weight += 8 * (len(tree.parameters) + expression_nodes(tree.guard))

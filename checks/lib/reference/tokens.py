@@ -13,8 +13,9 @@ NUMBER_TYPES = {"UINT%d%s" % (8 * width, order): (width, order == "BE") for widt
 PUNCTUATION = "&& || == != <= >= << >> -> + - * / % & | ^ ~ ! < > = ? : ; , . ( ) { } [ ]".split()
 # These stand only where no letter, digit, `_` or `-` follows.
 ACTION_WORDS = ("{:act", "{:check", "{:on-success")
+COPY_WORD = "{:copy"
 ARRAY_WORDS = ("[:byte-size", "[:byte-size-single-element-array", "[:zeroterm-byte-size-at-most")
-MARKED_WORDS = ("#define",) + ACTION_WORDS + ARRAY_WORDS
+MARKED_WORDS = ("#define", COPY_WORD) + ACTION_WORDS + ARRAY_WORDS
 NUMBER = re.compile(rb"0[xX][0-9a-fA-F]+|[0-9]+")
 WORD = re.compile(rb"[A-Za-z_][A-Za-z0-9_]*")
 

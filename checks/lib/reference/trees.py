@@ -3,7 +3,7 @@
 from types import SimpleNamespace as Tree
 
 from .errors import ModuleError
-from .tokens import ACTION_WORDS, ARRAY_WORDS
+from .tokens import ACTION_WORDS, ARRAY_WORDS, COPY_WORD
 
 OPERATOR_LIMIT = 256
 BRACE_LIMIT = 16
@@ -176,7 +176,7 @@ class Parser:
         base = self.take_named("INT", "unit", "all_bytes", "all_zeros", "NAME")
         tree = Tree(type=base, arguments=self.arguments() if base[0] == "NAME" else [])
         tree.name = self.take("NAME")
-        tree.array, tree.size, tree.width, tree.refinement, tree.action = None, None, None, None, None
+        tree.array, tree.size, tree.width, tree.refinement, tree.action, tree.copy = None, None, None, None, None, None
         if self.next_is("[", *ARRAY_WORDS):
             tree.array = self.take("[", *ARRAY_WORDS)[0]
             tree.size = self.whole()
@@ -189,6 +189,9 @@ class Parser:
         if self.next_is(*ACTION_WORDS):
             word = self.take(*ACTION_WORDS)
             tree.action = Tree(word=word[0], at=word[2], body=self.statements())
+            self.take("}")
+        elif self.next_is(COPY_WORD):
+            tree.copy = Tree(at=self.take(COPY_WORD)[2], name=self.take("NAME"))
             self.take("}")
         self.take(";")
         return tree
@@ -214,8 +217,16 @@ class Parser:
         if self.take_if("mutable"):
             cell = self.take_named("INT", "PUINT8", "NAME")
             self.take("*")
-            return Tree(mutable=True, type=cell, name=self.take("NAME"))
-        return Tree(mutable=False, type=self.take_named("INT", "NAME"), name=self.take("NAME"))
+            return Tree(mutable=True, type=cell, name=self.take("NAME"), room=self.room() if cell[1] == "UINT8" else None)
+        return Tree(mutable=False, type=self.take_named("INT", "NAME"), name=self.take("NAME"), room=None)
+
+    def room(self):
+        """The constant that makes a parameter a copy buffer, where one stands there."""
+        if not self.take_if("["):
+            return None
+        room = self.constant()
+        self.take("]")
+        return room
 
     def constant(self):
         return self.take_named("NUM", "NAME")

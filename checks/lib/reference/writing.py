@@ -3,7 +3,7 @@
 A value is a number, a list, `bytes`, or None for the empty one. A path is a tuple of places from 0.
 """
 
-from .runs import Rejected, Run
+from .runs import Rejected, Run, opened
 from .scopes import bits_of
 from .tokens import NUMBER_TYPES
 from .values import value_of
@@ -174,7 +174,7 @@ class Writer(Run):
 
 
 def written(types, number, arguments, cells, value):
-    """The bytes that are written of a value; Refused where it is refused. The cells stay as they were."""
-    writer, left = Writer(types), list(cells)
+    """The bytes that are written of a value; Refused where it is refused. The cells stay as they were, and nothing is copied."""
+    writer, left = Writer(types), opened(types[number], cells)
     writer.write(number, arguments, left, list(range(len(left))), value, ())
     return bytes(writer.written)

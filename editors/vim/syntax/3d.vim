@@ -28,7 +28,7 @@ syntax keyword threedFunction sizeof is_range_okay
 syntax match threedNumber "\<\d\+\>"
 syntax match threedNumber "\<0[xX]\x\+\>"
 syntax match threedDefine "#define[0-9A-Za-z_-]\@!"
-syntax match threedAction "{\zs:\%(act\|check\|on-success\)[0-9A-Za-z_-]\@!"
+syntax match threedAction "{\zs:\%(act\|check\|on-success\|copy\)[0-9A-Za-z_-]\@!"
 syntax match threedArray "\[\zs:\%(byte-size\|byte-size-single-element-array\|zeroterm-byte-size-at-most\)[0-9A-Za-z_-]\@!"
 
 syntax keyword threedTodo TODO FIXME XXX contained
