@@ -6,17 +6,17 @@ ghost use Rattle.td_ir.specs.Tables.{routine_of};
 ghost use Rattle.td_ir.specs.Run.{run_routine};
 ghost use Rattle.td_stream.specs.StreamInvariant.{IsStream, Later, length_of, position, end_of};
 ghost use Rattle.td_stream.specs.Copies.{rooms_of};
-ghost use Rattle.td_step.specs.Stepping.{Ran, Hold};
+ghost use Rattle.td_step.specs.Stepping.{Ran, IsLent, Hold};
 ghost use Rattle.td_vm.specs.Exits.{frames_of, exit_by, call_way, NotTurned, WhenReturned};
 ghost use Rattle.td_vm.specs.Machine.{HasEntryRoom, IsKept, AreRoomy};
 
-use crate::level::{Level, Spare, Stretch};
+use crate::level::{Spare, Stretch};
 use crate::machine::{place_count, run_block, set_registers};
 use std::sync::ledger::Ledger;
-use td_step::activation::{Activation, Env, Left, TraceRoom};
+use td_step::activation::{Activation, Env, Left, Level, TraceRoom};
+use td_step::slate::Slate;
 use td_step::steps::{Counter, Steps};
 use td_step::tables::routine_at;
-use td_stream::copies::Buffer;
 use td_stream::stream::Stream;
 use td_stream::words::Words;
 
@@ -35,16 +35,15 @@ pub fn run_entry<W: Words, L: Ledger, C: Counter>(
     n: usize,
     args: &[u64],
     spare: &mut Spare<'_, '_>,
-    cells: &mut [u64],
-    copies: &mut [Buffer],
+    slate: &mut Slate<'_, '_>,
     stream: &mut Stream<W>,
     trace: &mut TraceRoom,
     steps: &mut Steps<L, C>,
 ) -> Left
     requires room { HasEntryRoom env.now n spare.old.places.now spare.old.registers.now trace.old }
-    requires cells { length cells.old ≡ (routine_of env.now.parts.now n).cells + 2 * length copies.old }
-    requires buffers { length copies.old ≡ length (routine_of env.now.parts.now n).buffers }
-    requires rooms { AreRoomy (routine_of env.now.parts.now n).buffers (rooms_of copies.old) }
+    requires cells { length slate.old.cells.now ≡ (routine_of env.now.parts.now n).cells + 2 * length slate.old.copies.now }
+    requires buffers { length slate.old.copies.now ≡ length (routine_of env.now.parts.now n).buffers }
+    requires rooms { AreRoomy (routine_of env.now.parts.now n).buffers (rooms_of slate.old.copies.now) }
     requires empty { trace.old.count ≡ 0 }
     requires args { length args.now ≡ (routine_of env.now.parts.now n).params }
     requires whole { IsStream W.loads W.size stream.old }
@@ -58,11 +57,12 @@ pub fn run_entry<W: Words, L: Ledger, C: Counter>(
     ensures frames { trace.new.count ≤ length trace.new.frames.items }
     ensures no_turn { NotTurned result }
     ensures none { WhenReturned result (trace.new.count ≡ 0) }
-    ensures rooms { rooms_of copies.new ≡ rooms_of copies.old }
-    ensures held { Hold W.loads stream.old stream.new (routine_of env.now.parts.now n).cells cells.old cells.new copies.old copies.new }
+    ensures lent { IsLent slate.old slate.new }
+    ensures rooms { rooms_of slate.new.copies.now ≡ rooms_of slate.old.copies.now }
+    ensures held { Hold W.loads stream.old stream.new (routine_of env.now.parts.now n).cells slate.old.cells.now slate.new.cells.now slate.old.copies.now slate.new.copies.now }
     ensures same { Ran W.loads stream.old stream.new steps.old steps.new (λ b touched taken. length b ≡ length_of stream.old →
-        run_routine env.now.parts.now n args.now cells.old b
-        ≡ exit_by (call_way result (position stream.new) cells.new (frames_of trace.new)) touched taken) }
+        run_routine env.now.parts.now n args.now slate.old.cells.now b
+        ≡ exit_by (call_way result (position stream.new) slate.new.cells.now (frames_of trace.new)) touched taken) }
 {
     let routine = routine_at(env.parts, n);
     let from = env.begins[n];
@@ -92,8 +92,7 @@ pub fn run_entry<W: Words, L: Ledger, C: Counter>(
         Stretch { first: from, to },
         &mut free,
         mine,
-        cells,
-        copies,
+        slate,
         &mut act,
         stream,
         trace,

@@ -1,17 +1,5 @@
 //! What the machine hands on with a stretch of code.
 
-use td_step::activation::Env;
-
-/// A routine that runs: the code, its number, how many cells the entry point has (behind them are those of its buffers), and the
-/// places of the routine's cells among these.
-#[derive(Clone, Copy)]
-pub struct Level<'c, 'p> {
-    pub env: Env<'c>,
-    pub n: usize,
-    pub first: usize,
-    pub places: &'p [usize],
-}
-
 /// From an instruction on, up to another.
 #[derive(Clone, Copy)]
 pub struct Stretch {

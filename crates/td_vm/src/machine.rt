@@ -15,23 +15,23 @@ ghost use Rattle.td_verify.specs.Verify.{IsIn};
 ghost use Rattle.td_verify.specs.Safe.{looped};
 ghost use Rattle.td_stream.specs.StreamInvariant.{IsStream, Later, position, end_of};
 ghost use Rattle.td_stream.specs.Copies.{rooms_of};
-ghost use Rattle.td_step.specs.Stepping.{state_of, Ran, InWindow, Hold};
+ghost use Rattle.td_step.specs.Stepping.{state_of, Ran, InWindow, IsLent, Hold};
 ghost use Rattle.td_vm.specs.Exits.{frames_of, exit_by, way_of, call_way, loop_exit, WhenTurned, WhenReturned, NotTurned, NotReturned, Traced};
 ghost use Rattle.td_vm.specs.Machine.{AreLaws, HasRoom, IsStretch, IsCallee, IsKept, IdleTurn, IdleReturn};
 ghost use Rattle.td_vm.specs.Need.{room_below, level as levels};
 
-use crate::level::{Callee, Level, Spare, Stretch};
+use crate::level::{Callee, Spare, Stretch};
 use std::sync::ledger::Ledger;
 use td_core::outcome::Reason;
 use td_ir::laws::{
     run_calls, run_fails, run_goes, run_loops, run_returns, run_turns as run_turned,
 };
 use td_ir::tables::{Parts, Routine};
-use td_step::activation::{Activation, Left, Step, TraceRoom};
+use td_step::activation::{Activation, Left, Level, Step, TraceRoom};
+use td_step::slate::Slate;
 use td_step::step::step;
 use td_step::steps::{Counter, Steps};
 use td_step::tables::{frame_at, instruction_at, map_at, routine_at};
-use td_stream::copies::Buffer;
 use td_stream::stream::Stream;
 use td_stream::words::Words;
 
@@ -136,14 +136,13 @@ pub fn run_block<W: Words, L: Ledger, C: Counter>(
     stretch: Stretch,
     spare: &mut Spare<'_, '_>,
     regs: &mut [u64],
-    cells: &mut [u64],
-    copies: &mut [Buffer],
+    slate: &mut Slate<'_, '_>,
     act: &mut Activation,
     stream: &mut Stream<W>,
     trace: &mut TraceRoom,
     steps: &mut Steps<L, C>,
 ) -> Left
-    requires room { HasRoom level.now.env level.now.n level.now.first level.now.places.now spare.old.places.now regs.old spare.old.registers.now cells.old (rooms_of copies.old) trace.old }
+    requires room { HasRoom level.now.env level.now.n level.now.first level.now.places.now spare.old.places.now regs.old spare.old.registers.now slate.old.cells.now (rooms_of slate.old.copies.now) trace.old }
     requires stretch { IsStretch level.now.env.parts.now level.now.n stretch.first stretch.to }
     requires whole { IsStream W.loads W.size stream.old }
     requires window { InWindow act.old stream.old }
@@ -160,31 +159,19 @@ pub fn run_block<W: Words, L: Ledger, C: Counter>(
     ensures idle_turn { WhenTurned result (position stream.old ≡ position stream.new → IdleTurn level.now.env.parts.now level.now.n stretch.first) }
     ensures idle_return { WhenReturned result (position stream.old ≡ position stream.new → IdleReturn level.now.env.parts.now level.now.n stretch.first) }
     ensures end { WhenTurned result (end_of stream.new ≡ end_of stream.old) }
-    ensures rooms { rooms_of copies.new ≡ rooms_of copies.old }
-    ensures held { Hold W.loads stream.old stream.new level.now.first cells.old cells.new copies.old copies.new }
+    ensures lent { IsLent slate.old slate.new }
+    ensures rooms { rooms_of slate.new.copies.now ≡ rooms_of slate.old.copies.now }
+    ensures held { Hold W.loads stream.old stream.new level.now.first slate.old.cells.now slate.new.cells.now slate.old.copies.now slate.new.copies.now }
     ensures same { Ran W.loads stream.old stream.new steps.old steps.new (λ b touched taken.
-        block level.now.env.parts.now b level.now.n level.now.places.now stretch.first (state_of regs.old cells.old act.old stream.old)
-        ≡ exit_by (way_of result (state_of regs.new cells.new act.new stream.new) (frames_of trace.new)) touched taken) }
+        block level.now.env.parts.now b level.now.n level.now.places.now stretch.first (state_of regs.old slate.old.cells.now act.old stream.old)
+        ≡ exit_by (way_of result (state_of regs.new slate.new.cells.now act.new stream.new) (frames_of trace.new)) touched taken) }
 {
     laws();
     let mut pc = stretch.first;
     'steps: while pc < stretch.to {
         steps.tick();
         let instruction = instruction_at(level.env.parts, pc);
-        match step(
-            level.env.parts,
-            level.n,
-            instruction,
-            pc,
-            level.first,
-            level.places,
-            regs,
-            cells,
-            copies,
-            act,
-            stream,
-            steps,
-        ) {
+        match step(level, instruction, pc, regs, slate, act, stream, steps) {
             Step::Goes(target) => pc = target,
             Step::Fails { reason, site, pos } => {
                 push_frame(trace, level.env.parts, site, act.start, reason);
@@ -209,8 +196,7 @@ pub fn run_block<W: Words, L: Ledger, C: Counter>(
                     },
                     spare,
                     regs,
-                    cells,
-                    copies,
+                    slate,
                     stream,
                     trace,
                     steps,
@@ -233,8 +219,7 @@ pub fn run_block<W: Words, L: Ledger, C: Counter>(
                     },
                     spare,
                     regs,
-                    cells,
-                    copies,
+                    slate,
                     act,
                     stream,
                     trace,
@@ -259,14 +244,13 @@ fn run_turns<W: Words, L: Ledger, C: Counter>(
     stretch: Stretch,
     spare: &mut Spare<'_, '_>,
     regs: &mut [u64],
-    cells: &mut [u64],
-    copies: &mut [Buffer],
+    slate: &mut Slate<'_, '_>,
     act: &mut Activation,
     stream: &mut Stream<W>,
     trace: &mut TraceRoom,
     steps: &mut Steps<L, C>,
 ) -> Left
-    requires room { HasRoom level.now.env level.now.n level.now.first level.now.places.now spare.old.places.now regs.old spare.old.registers.now cells.old (rooms_of copies.old) trace.old }
+    requires room { HasRoom level.now.env level.now.n level.now.first level.now.places.now spare.old.places.now regs.old spare.old.registers.now slate.old.cells.now (rooms_of slate.old.copies.now) trace.old }
     requires place { IsIn level.now.env.parts.now level.now.n stretch.first }
     requires loops { shape_at (shapes_of level.now.env.parts.now) stretch.first ≡ While stretch.to }
     requires whole { IsStream W.loads W.size stream.old }
@@ -281,11 +265,12 @@ fn run_turns<W: Words, L: Ledger, C: Counter>(
     ensures trace_memory { vec_capacity trace.new.frames ≡ vec_capacity trace.old.frames }
     ensures no_return { NotReturned result }
     ensures end { WhenTurned result (end_of stream.new ≡ end_of stream.old) }
-    ensures rooms { rooms_of copies.new ≡ rooms_of copies.old }
-    ensures held { Hold W.loads stream.old stream.new level.now.first cells.old cells.new copies.old copies.new }
+    ensures lent { IsLent slate.old slate.new }
+    ensures rooms { rooms_of slate.new.copies.now ≡ rooms_of slate.old.copies.now }
+    ensures held { Hold W.loads stream.old stream.new level.now.first slate.old.cells.now slate.new.cells.now slate.old.copies.now slate.new.copies.now }
     ensures same { Ran W.loads stream.old stream.new steps.old steps.new (λ b touched taken. (behind : State → Exit) →
-        turns (suc (end_of stream.old - position stream.old)) (block level.now.env.parts.now b level.now.n level.now.places.now (stretch.first + 1)) behind (state_of regs.old cells.old act.old stream.old)
-        ≡ loop_exit result behind (state_of regs.new cells.new act.new stream.new) (frames_of trace.new) touched taken) }
+        turns (suc (end_of stream.old - position stream.old)) (block level.now.env.parts.now b level.now.n level.now.places.now (stretch.first + 1)) behind (state_of regs.old slate.old.cells.now act.old stream.old)
+        ≡ loop_exit result behind (state_of regs.new slate.new.cells.now act.new stream.new) (frames_of trace.new) touched taken) }
 {
     'turns: while stream.need(1) {
         match run_block(
@@ -296,8 +281,7 @@ fn run_turns<W: Words, L: Ledger, C: Counter>(
             },
             spare,
             regs,
-            cells,
-            copies,
+            slate,
             act,
             stream,
             trace,
@@ -318,13 +302,12 @@ fn call<W: Words, L: Ledger, C: Counter>(
     callee: Callee,
     spare: &mut Spare<'_, '_>,
     regs: &[u64],
-    cells: &mut [u64],
-    copies: &mut [Buffer],
+    slate: &mut Slate<'_, '_>,
     stream: &mut Stream<W>,
     trace: &mut TraceRoom,
     steps: &mut Steps<L, C>,
 ) -> Left
-    requires room { HasRoom level.now.env level.now.n level.now.first level.now.places.now spare.old.places.now regs.now spare.old.registers.now cells.old (rooms_of copies.old) trace.old }
+    requires room { HasRoom level.now.env level.now.n level.now.first level.now.places.now spare.old.places.now regs.now spare.old.registers.now slate.old.cells.now (rooms_of slate.old.copies.now) trace.old }
     requires callee { IsCallee level.now.env.parts.now level.now.n callee.at callee.routine callee.first callee.map }
     requires whole { IsStream W.loads W.size stream.old }
     ensures later { Later W.loads W.reaches stream.old stream.new }
@@ -336,13 +319,14 @@ fn call<W: Words, L: Ledger, C: Counter>(
     ensures trace_memory { vec_capacity trace.new.frames ≡ vec_capacity trace.old.frames }
     ensures no_turn { NotTurned result }
     ensures idle { WhenReturned result (position stream.old ≡ position stream.new → MayBeEmpty (shapes_of level.now.env.parts.now) (lengths_of level.now.env.parts.now) (suc callee.routine) callee.routine) }
-    ensures rooms { rooms_of copies.new ≡ rooms_of copies.old }
-    ensures held { Hold W.loads stream.old stream.new level.now.first cells.old cells.new copies.old copies.new }
+    ensures lent { IsLent slate.old slate.new }
+    ensures rooms { rooms_of slate.new.copies.now ≡ rooms_of slate.old.copies.now }
+    ensures held { Hold W.loads stream.old stream.new level.now.first slate.old.cells.now slate.new.cells.now slate.old.copies.now slate.new.copies.now }
     ensures same { (start outer : ℕ) → Ran W.loads stream.old stream.new steps.old steps.new (λ b touched taken.
         block level.now.env.parts.now b callee.routine (places_by level.now.places.now (cells_by level.now.env.parts.now level.now.n callee.routine callee.map)) (first_of level.now.env.parts.now callee.routine)
         (entered (routine_of level.now.env.parts.now callee.routine) (registers_from regs.now callee.first (routine_of level.now.env.parts.now callee.routine).params)
-        (record { regs = regs.now; cells = cells.old; start = start; pos = position stream.old; end = end_of stream.old; outer = outer }))
-        ≡ exit_by (call_way result (position stream.new) cells.new (frames_of trace.new)) touched taken) }
+        (record { regs = regs.now; cells = slate.old.cells.now; start = start; pos = position stream.old; end = end_of stream.old; outer = outer }))
+        ≡ exit_by (call_way result (position stream.new) slate.new.cells.now (frames_of trace.new)) touched taken) }
 {
     let routine = routine_at(level.env.parts, callee.routine);
     let from = level.env.begins[callee.routine];
@@ -379,8 +363,7 @@ fn call<W: Words, L: Ledger, C: Counter>(
         Stretch { first: from, to },
         &mut free,
         mine,
-        cells,
-        copies,
+        slate,
         &mut act,
         stream,
         trace,

@@ -24,6 +24,7 @@ use td_core::outcome::{Outcome, Reason, Spot, TraceFrame, Verdict};
 use td_ir::tables::Parts;
 use td_num::items::Items;
 use td_step::activation::{Env, TraceRoom};
+use td_step::slate::Slate;
 use td_step::steps::{Counter, Steps};
 use td_step::tables::entry_at;
 use td_stream::copies::{Buffer, Copies};
@@ -252,14 +253,16 @@ pub fn validate<W: Words, L: Ledger, C: Counter>(
     let places = frame.places.as_mut_slice();
     let registers = frame.registers.as_mut_slice();
     let mut spare = Spare { places, registers };
+    let cells = frame.cells.as_mut_slice();
+    let copies = frame.copies.buffers.as_mut_slice();
+    let mut slate = Slate { cells, copies };
     run_front(
         &env,
         point.routine as usize,
         args,
         layout,
         &mut spare,
-        frame.cells.as_mut_slice(),
-        frame.copies.buffers.as_mut_slice(),
+        &mut slate,
         &mut frame.trace,
         words,
         steps,

@@ -3,15 +3,19 @@
 //! value that isn't written has no such bytes, and is refused at its first fault in the order of the fields.
 #![tactic(auto)]
 
+mod arrays;
 mod bodies;
 mod bytes;
 mod copies;
+mod elements;
+mod fields;
 mod halt;
 mod leaves;
 mod numbers;
 mod parts;
 mod types;
 mod units;
+mod walk;
 mod write;
 
 pub use write::write_value;

@@ -10,20 +10,19 @@ ghost use Rattle.td_write.specs.Writes.{GoesOn, Halts};
 use crate::bytes::{has_room, push_number};
 use crate::halt::Halt;
 use crate::numbers::{fits, made_unit, number_of};
+use crate::walk::Left;
 use td_core::module::{Field, Part};
 use td_core::outcome::Verdict;
 use td_meaning::checking::part_verdict;
 use td_num::number::{NumberType, byte_count};
 use td_values::error::WriteRule;
-use td_values::value::Value;
 
 /// A bit field of a unit (or a number) that began at `start`: its value, which comes into scope, its refinement and its
 /// action.
 pub fn one_part(
     number_type: NumberType,
     part: &Part,
-    values: &[Value],
-    index: usize,
+    left: &Left<'_>,
     env: &mut Vec<u64>,
     places: &[usize],
     path: &mut Vec<usize>,
@@ -32,13 +31,15 @@ pub fn one_part(
 ) -> Result<u64, Halt>
     requires { start ≤ MOST_WRITTEN }
     ensures ok { IfOk result (λ n. (parts : List Part) (go : List ℕ → List ℕ → ℕ → List ℕ → List Datum → Written)
-        → parts_written in_machine number_type (part.now ∷ parts) env.old.items places.now path.old.items index start cells.old (drop index values.now) go
-        ≡ parts_written in_machine number_type parts env.new.items places.now path.old.items (index + 1) start cells.new (drop (index + 1) values.now) (λ ns. go (n ∷ ns))) }
+        → parts_written in_machine number_type (part.now ∷ parts) env.old.items places.now path.old.items left.now.index start cells.old (drop left.now.index left.now.values.now) go
+        ≡ parts_written in_machine number_type parts env.new.items places.now path.old.items (left.now.index + 1) start cells.new (drop (left.now.index + 1) left.now.values.now) (λ ns. go (n ∷ ns))) }
     ensures scope { IfOk result (λ n. env.new.items ≡ env.old.items ++ n ∷ []) }
-    ensures back { IfOk result (λ n. (path.new.items ≡ path.old.items) × (index + 1 ≤ length values.now)) }
+    ensures back { IfOk result (λ n. (path.new.items ≡ path.old.items) × (left.now.index + 1 ≤ length left.now.values.now)) }
     ensures err { IfErr result (λ h. (parts : List Part) (go : List ℕ → List ℕ → ℕ → List ℕ → List Datum → Written)
-        → Halts h path.new.items (parts_written in_machine number_type (part.now ∷ parts) env.old.items places.now path.old.items index start cells.old (drop index values.now) go)) }
+        → Halts h path.new.items (parts_written in_machine number_type (part.now ∷ parts) env.old.items places.now path.old.items left.now.index start cells.old (drop left.now.index left.now.values.now) go)) }
 {
+    let values = left.values;
+    let index = left.index;
     if index >= values.len() {
         return Err(Halt::Broken(WriteRule::Shape));
     }
@@ -69,8 +70,7 @@ pub fn one_part(
 pub fn one_unit(
     number_type: NumberType,
     field: &Field,
-    values: &[Value],
-    index: usize,
+    left: &Left<'_>,
     env: &mut Vec<u64>,
     places: &[usize],
     path: &mut Vec<usize>,
@@ -79,22 +79,24 @@ pub fn one_unit(
 ) -> Result<usize, Halt>
     requires { length out.old.items ≤ MOST_WRITTEN }
     ensures ok { IfOk result (λ next. (later : Later)
-        → GoesOn (parts_written in_machine number_type field.now.parts env.old.items places.now path.old.items index (length out.old.items) cells.old (drop index values.now) (unit_then number_type field.now.parts path.old.items (length out.old.items) later))
-        (later env.new.items next (length out.new.items) cells.new (drop next values.now)) out.old.items out.new.items) }
+        → GoesOn (parts_written in_machine number_type field.now.parts env.old.items places.now path.old.items left.now.index (length out.old.items) cells.old (drop left.now.index left.now.values.now) (unit_then number_type field.now.parts path.old.items (length out.old.items) later))
+        (later env.new.items next (length out.new.items) cells.new (drop next left.now.values.now)) out.old.items out.new.items) }
     ensures room { IfOk result (λ next. (length out.new.items ≤ MOST_WRITTEN) × (path.new.items ≡ path.old.items)) }
     ensures err { IfErr result (λ h. (later : Later) → Halts h path.new.items
-        (parts_written in_machine number_type field.now.parts env.old.items places.now path.old.items index (length out.old.items) cells.old (drop index values.now) (unit_then number_type field.now.parts path.old.items (length out.old.items) later))) }
+        (parts_written in_machine number_type field.now.parts env.old.items places.now path.old.items left.now.index (length out.old.items) cells.old (drop left.now.index left.now.values.now) (unit_then number_type field.now.parts path.old.items (length out.old.items) later))) }
 {
     let start = out.len();
     let first = env.len();
     let parts = field.parts.as_slice();
-    let mut next = index;
+    let mut next = left.index;
     for part in parts {
         match one_part(
             number_type,
             part,
-            values,
-            next,
+            &Left {
+                values: left.values,
+                index: next,
+            },
             env,
             places,
             path,

@@ -10,6 +10,7 @@ ghost use Rattle.td_write.specs.Answers.{IsWritable, IsAppended, IsRefusal, IsCa
 use crate::copies::accepted_with;
 use crate::halt::Halt;
 use crate::types::named;
+use crate::walk::Walk;
 use std::alloc::Global;
 use td_core::module::{Entry, Module};
 use td_core::outcome::{Outcome, Reason};
@@ -75,14 +76,17 @@ pub fn write_value(
     let Some(place) = m.entries.as_slice().get(entry.number as usize) else {
         return Err(broken(WriteRule::Broken(Reason::Impossible), path));
     };
-    match named(
+    let walk = Walk {
         alloc,
         m,
-        m.definitions.len(),
+        bound: m.definitions.len(),
+        places: places.as_slice(),
+    };
+    match named(
+        &walk,
         *place,
         value,
         args,
-        places.as_slice(),
         &mut path,
         left.as_mut_slice(),
         &mut written,

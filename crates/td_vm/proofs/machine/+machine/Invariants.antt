@@ -8,7 +8,7 @@ use Rattle.td_verify.specs.Verify.{IsIn}
 use Rattle.td_verify.specs.Safe.{looped}
 use Rattle.td_stream.specs.StreamInvariant.{IsStream, Later, position, end_of}
 use Rattle.td_stream.specs.Copies.{rooms_of}
-use Rattle.td_step.specs.Stepping.{state_of, Ran, InWindow, Hold}
+use Rattle.td_step.specs.Stepping.{state_of, Ran, InWindow, IsLent, Hold}
 use Rattle.td_vm.specs.Machine.{Idle, HasRoom, IsKept}
 use Rattle.td_vm.proofs.machine.+machine.Given as goal
 
@@ -23,9 +23,10 @@ decreases-run_turns g l = 2 * (first_of l.level.now.env.parts.now l.level.now.n 
 
 abbrev pub invariant-run_block-steps : goal.invariant-run_block-steps
 invariant-run_block-steps g l = record {
-  room : HasRoom l.level.env l.level.n l.level.first l.level.places.now l.spare.places.now l.regs l.spare.registers.now l.cells (rooms_of l.copies) l.trace;
-  rooms : rooms_of l.copies ≡ rooms_of l.fn.copies;
-  held : Hold g.W.Words.loads l.fn.stream l.stream l.level.first l.fn.cells l.cells l.fn.copies l.copies;
+  room : HasRoom l.level.env l.level.n l.level.first l.level.places.now l.spare.places.now l.regs l.spare.registers.now l.slate.cells.now (rooms_of l.slate.copies.now) l.trace;
+  lent : IsLent l.fn.slate l.slate;
+  rooms : rooms_of l.slate.copies.now ≡ rooms_of l.fn.slate.copies.now;
+  held : Hold g.W.Words.loads l.fn.stream l.stream l.level.first l.fn.slate.cells.now l.slate.cells.now l.fn.slate.copies.now l.slate.copies.now;
   kept : IsKept l.fn.spare l.spare;
   place : IsIn l.level.env.parts.now l.level.n l.pc;
   on : l.stretch.first ≤ l.pc;
@@ -41,7 +42,7 @@ invariant-run_block-steps g l = record {
   end : looped l.level.env.parts.now l.stretch.first ≡ true → end_of l.stream ≡ end_of l.fn.stream;
   narrow : position l.fn.stream + window_bytes (opened (shapes_of l.level.env.parts.now) l.pc) ≤ end_of l.stream;
   idle : position l.fn.stream ≡ position l.stream → Idle l.level.env.parts.now l.level.n l.stretch.first l.pc;
-  same : Ran g.W.Words.loads l.fn.stream l.stream l.fn.steps l.steps (λ b touched taken. block l.level.env.parts.now b l.level.n l.level.places.now l.stretch.first (state_of l.fn.regs l.fn.cells l.fn.act l.fn.stream) ≡ after touched taken (block l.level.env.parts.now b l.level.n l.level.places.now l.pc (state_of l.regs l.cells l.act l.stream)));
+  same : Ran g.W.Words.loads l.fn.stream l.stream l.fn.steps l.steps (λ b touched taken. block l.level.env.parts.now b l.level.n l.level.places.now l.stretch.first (state_of l.fn.regs l.fn.slate.cells.now l.fn.act l.fn.stream) ≡ after touched taken (block l.level.env.parts.now b l.level.n l.level.places.now l.pc (state_of l.regs l.slate.cells.now l.act l.stream)));
 }
 
 abbrev pub decreases-run_block-steps : goal.decreases-run_block-steps
@@ -49,9 +50,10 @@ decreases-run_block-steps g l = l.stretch.to - l.pc
 
 abbrev pub invariant-run_turns-turns : goal.invariant-run_turns-turns
 invariant-run_turns-turns g l = record {
-  room : HasRoom l.level.env l.level.n l.level.first l.level.places.now l.spare.places.now l.regs l.spare.registers.now l.cells (rooms_of l.copies) l.trace;
-  rooms : rooms_of l.copies ≡ rooms_of l.fn.copies;
-  held : Hold g.W.Words.loads l.fn.stream l.stream l.level.first l.fn.cells l.cells l.fn.copies l.copies;
+  room : HasRoom l.level.env l.level.n l.level.first l.level.places.now l.spare.places.now l.regs l.spare.registers.now l.slate.cells.now (rooms_of l.slate.copies.now) l.trace;
+  lent : IsLent l.fn.slate l.slate;
+  rooms : rooms_of l.slate.copies.now ≡ rooms_of l.fn.slate.copies.now;
+  held : Hold g.W.Words.loads l.fn.stream l.stream l.level.first l.fn.slate.cells.now l.slate.cells.now l.fn.slate.copies.now l.slate.copies.now;
   kept : IsKept l.fn.spare l.spare;
   later : Later g.W.Words.loads g.W.Words.reaches l.fn.stream l.stream;
   whole : IsStream g.W.Words.loads g.W.Words.size l.stream;
@@ -60,7 +62,7 @@ invariant-run_turns-turns g l = record {
   frames : length l.trace.frames.items ≡ length l.fn.trace.frames.items;
   memory : vec_capacity l.trace.frames ≡ vec_capacity l.fn.trace.frames;
   end : end_of l.stream ≡ end_of l.fn.stream;
-  same : (k : ℕ) × (end_of l.stream - position l.stream < k) × (Ran g.W.Words.loads l.fn.stream l.stream l.fn.steps l.steps (λ b touched taken. (behind : State → Exit) → turns (suc (end_of l.fn.stream - position l.fn.stream)) (block l.level.env.parts.now b l.level.n l.level.places.now (l.stretch.first + 1)) behind (state_of l.fn.regs l.fn.cells l.fn.act l.fn.stream) ≡ after touched taken (turns k (block l.level.env.parts.now b l.level.n l.level.places.now (l.stretch.first + 1)) behind (state_of l.regs l.cells l.act l.stream))));
+  same : (k : ℕ) × (end_of l.stream - position l.stream < k) × (Ran g.W.Words.loads l.fn.stream l.stream l.fn.steps l.steps (λ b touched taken. (behind : State → Exit) → turns (suc (end_of l.fn.stream - position l.fn.stream)) (block l.level.env.parts.now b l.level.n l.level.places.now (l.stretch.first + 1)) behind (state_of l.fn.regs l.fn.slate.cells.now l.fn.act l.fn.stream) ≡ after touched taken (turns k (block l.level.env.parts.now b l.level.n l.level.places.now (l.stretch.first + 1)) behind (state_of l.regs l.slate.cells.now l.act l.stream))));
 }
 
 abbrev pub decreases-run_turns-turns : goal.decreases-run_turns-turns

@@ -28,9 +28,9 @@ loop-part-preserved c =
       rest = λ (go : List ℕ → List ℕ → ℕ → List ℕ → List Datum → Written).
           let done : List ℕ = drop c.len-first.result l.env.items in
           l.invariant.rest go
-          ∙ (λ k. parts_written in_machine a.number_type (split k) l.env.items a.places.now (sym l.invariant.back k) l.next c.len-start.result l.cells (drop l.next a.values.now) (λ ns. go (done ++ ns)))
+          ∙ (λ k. parts_written in_machine a.number_type (split k) l.env.items a.places.now (sym l.invariant.back k) l.next c.len-start.result l.cells (drop l.next a.left.now.values.now) (λ ns. go (done ++ ns)))
           ∙ c.in-Ok.ensures.ok (drop (l.part-index + 1) parts) (λ ns. go (done ++ ns))
-          ∙ (λ k. parts_written in_machine a.number_type (drop (l.part-index + 1) parts) c.one_part.new.env.items a.places.now (l.invariant.back k) (l.next + 1) c.len-start.result c.one_part.new.cells (drop (l.next + 1) a.values.now) (λ ns. go ((sym (append_assoc done (n ∷ []) ns) ∙ ap (λ x. x ++ ns) (sym more.0)) k)));
+          ∙ (λ k. parts_written in_machine a.number_type (drop (l.part-index + 1) parts) c.one_part.new.env.items a.places.now (l.invariant.back k) (l.next + 1) c.len-start.result c.one_part.new.cells (drop (l.next + 1) a.left.now.values.now) (λ ns. go ((sym (append_assoc done (n ∷ []) ns) ∙ ap (λ x. x ++ ns) (sym more.0)) k)));
     }
 
 pub returns-in_default-clause-err : goal.returns-in_default-clause-err
@@ -43,11 +43,11 @@ returns-in_default-clause-err c = λ later.
     let own : a.field.now.parts ≡ parts = sym c.as_slice-parts.ensures in
     let from : length a.out.now.items ≡ c.len-start.result = sym (c.len-start.ensures ∙ a.out.now.ok.0) in
     let go = unit_then a.number_type parts a.path.now.items c.len-start.result later in
-    let ended = (λ k. parts_written in_machine a.number_type (own k) a.env.now.items a.places.now a.path.now.items a.index (from k) a.cells.now (drop a.index a.values.now) (unit_then a.number_type (own k) a.path.now.items (from k) later))
+    let ended = (λ k. parts_written in_machine a.number_type (own k) a.env.now.items a.places.now a.path.now.items a.left.now.index (from k) a.cells.now (drop a.left.now.index a.left.now.values.now) (unit_then a.number_type (own k) a.path.now.items (from k) later))
     ∙ l.invariant.rest go
-    ∙ parts_none in_machine a.number_type (drop l.part-index parts) l.env.items a.places.now a.path.now.items l.next c.len-start.result l.cells (drop l.next a.values.now) (λ ns. go (done ++ ns)) none
-    ∙ ap (λ ns. go ns l.env.items l.next l.cells (drop l.next a.values.now)) (append-nil done) in
-    let put = after_writing (number_bytes a.number_type (unit_number parts done)) (later l.env.items l.next (c.len-start.result + bytes_in a.number_type.width) l.cells (drop l.next a.values.now)) in
+    ∙ parts_none in_machine a.number_type (drop l.part-index parts) l.env.items a.places.now a.path.now.items l.next c.len-start.result l.cells (drop l.next a.left.now.values.now) (λ ns. go (done ++ ns)) none
+    ∙ ap (λ ns. go ns l.env.items l.next l.cells (drop l.next a.left.now.values.now)) (append-nil done) in
+    let put = after_writing (number_bytes a.number_type (unit_number parts done)) (later l.env.items l.next (c.len-start.result + bytes_in a.number_type.width) l.cells (drop l.next a.left.now.values.now)) in
     let m : makes_unit a.number_type parts done ≡ false = ap (makes_unit a.number_type parts) (sym (all_left c.len-first.result c.as_slice.result.now l.env.items c.as_slice.ensures.value)) ∙ c.in_default.ensures in
     ended ∙ ap (λ b. wanted b Range a.path.now.items (wanted (has_room c.len-start.result (bytes_in a.number_type.width)) Long a.path.now.items put)) m ∙ ap (Refused Range) (sym l.invariant.back)
 
@@ -61,11 +61,11 @@ returns-then-not-has_room-clause-err c = λ later.
     let own : a.field.now.parts ≡ parts = sym c.as_slice-parts.ensures in
     let from : length a.out.now.items ≡ c.len-start.result = sym (c.len-start.ensures ∙ a.out.now.ok.0) in
     let go = unit_then a.number_type parts a.path.now.items c.len-start.result later in
-    let ended = (λ k. parts_written in_machine a.number_type (own k) a.env.now.items a.places.now a.path.now.items a.index (from k) a.cells.now (drop a.index a.values.now) (unit_then a.number_type (own k) a.path.now.items (from k) later))
+    let ended = (λ k. parts_written in_machine a.number_type (own k) a.env.now.items a.places.now a.path.now.items a.left.now.index (from k) a.cells.now (drop a.left.now.index a.left.now.values.now) (unit_then a.number_type (own k) a.path.now.items (from k) later))
     ∙ l.invariant.rest go
-    ∙ parts_none in_machine a.number_type (drop l.part-index parts) l.env.items a.places.now a.path.now.items l.next c.len-start.result l.cells (drop l.next a.values.now) (λ ns. go (done ++ ns)) none
-    ∙ ap (λ ns. go ns l.env.items l.next l.cells (drop l.next a.values.now)) (append-nil done) in
-    let put = after_writing (number_bytes a.number_type (unit_number parts done)) (later l.env.items l.next (c.len-start.result + bytes_in a.number_type.width) l.cells (drop l.next a.values.now)) in
+    ∙ parts_none in_machine a.number_type (drop l.part-index parts) l.env.items a.places.now a.path.now.items l.next c.len-start.result l.cells (drop l.next a.left.now.values.now) (λ ns. go (done ++ ns)) none
+    ∙ ap (λ ns. go ns l.env.items l.next l.cells (drop l.next a.left.now.values.now)) (append-nil done) in
+    let put = after_writing (number_bytes a.number_type (unit_number parts done)) (later l.env.items l.next (c.len-start.result + bytes_in a.number_type.width) l.cells (drop l.next a.left.now.values.now)) in
     let m : makes_unit a.number_type parts done ≡ true = ap (makes_unit a.number_type parts) (sym (all_left c.len-first.result c.as_slice.result.now l.env.items c.as_slice.ensures.value)) ∙ c.in-Some.ensures.0 in
     let r : has_room c.len-start.result (bytes_in a.number_type.width) ≡ false = ap (λ k. has_room c.len-start.result k) (sym c.byte_count.ensures) ∙ sym c.has_room.ensures ∙ search rules in
     ended ∙ (λ k. wanted (m k) Range a.path.now.items (wanted (r k) Long a.path.now.items put)) ∙ ap (Refused Long) (sym l.invariant.back)
@@ -80,11 +80,11 @@ returns-clause-ok c = λ later.
     let own : a.field.now.parts ≡ parts = sym c.as_slice-parts.ensures in
     let from : length a.out.now.items ≡ c.len-start.result = sym (c.len-start.ensures ∙ a.out.now.ok.0) in
     let go = unit_then a.number_type parts a.path.now.items c.len-start.result later in
-    let ended = (λ k. parts_written in_machine a.number_type (own k) a.env.now.items a.places.now a.path.now.items a.index (from k) a.cells.now (drop a.index a.values.now) (unit_then a.number_type (own k) a.path.now.items (from k) later))
+    let ended = (λ k. parts_written in_machine a.number_type (own k) a.env.now.items a.places.now a.path.now.items a.left.now.index (from k) a.cells.now (drop a.left.now.index a.left.now.values.now) (unit_then a.number_type (own k) a.path.now.items (from k) later))
     ∙ l.invariant.rest go
-    ∙ parts_none in_machine a.number_type (drop l.part-index parts) l.env.items a.places.now a.path.now.items l.next c.len-start.result l.cells (drop l.next a.values.now) (λ ns. go (done ++ ns)) none
-    ∙ ap (λ ns. go ns l.env.items l.next l.cells (drop l.next a.values.now)) (append-nil done) in
-    let put = after_writing (number_bytes a.number_type (unit_number parts done)) (later l.env.items l.next (c.len-start.result + bytes_in a.number_type.width) l.cells (drop l.next a.values.now)) in
+    ∙ parts_none in_machine a.number_type (drop l.part-index parts) l.env.items a.places.now a.path.now.items l.next c.len-start.result l.cells (drop l.next a.left.now.values.now) (λ ns. go (done ++ ns)) none
+    ∙ ap (λ ns. go ns l.env.items l.next l.cells (drop l.next a.left.now.values.now)) (append-nil done) in
+    let put = after_writing (number_bytes a.number_type (unit_number parts done)) (later l.env.items l.next (c.len-start.result + bytes_in a.number_type.width) l.cells (drop l.next a.left.now.values.now)) in
     let m : makes_unit a.number_type parts done ≡ true = ap (makes_unit a.number_type parts) (sym (all_left c.len-first.result c.as_slice.result.now l.env.items c.as_slice.ensures.value)) ∙ c.in-Some.ensures.0 in
     let r : has_room c.len-start.result (bytes_in a.number_type.width) ≡ true = ap (λ k. has_room c.len-start.result k) (sym c.byte_count.ensures) ∙ sym c.has_room.ensures ∙ search rules in
     let n : ℕ = unit_number parts done in
@@ -94,6 +94,6 @@ returns-clause-ok c = λ later.
     let size : c.len-start.result + bytes_in a.number_type.width ≡ length c.push_number.new.out.items = omega (arith, from, number_length a.number_type n, ap length grown, length-append a.out.now.items bytes) in
     record {
       total = ap (after_writing a.out.now.items) (ended ∙ (λ k. wanted (m k) Range a.path.now.items (wanted (r k) Long a.path.now.items put)))
-          ∙ twice_after a.out.now.items bytes (later l.env.items l.next (c.len-start.result + bytes_in a.number_type.width) l.cells (drop l.next a.values.now))
-          ∙ (λ k. after_writing (grown k) (later l.env.items l.next (size k) l.cells (drop l.next a.values.now)));
+          ∙ twice_after a.out.now.items bytes (later l.env.items l.next (c.len-start.result + bytes_in a.number_type.width) l.cells (drop l.next a.left.now.values.now))
+          ∙ (λ k. after_writing (grown k) (later l.env.items l.next (size k) l.cells (drop l.next a.left.now.values.now)));
     }

@@ -1,0 +1,135 @@
+//! Arrays of elements.
+
+ghost use Rattle.std.specs.Prelude.{◌≤◌, length, IfOk, IfErr};
+ghost use Rattle.td_values.specs.Writing.{element_written, items_written, contents_written, shape_written, in_machine};
+ghost use Rattle.td_values.specs.declared.limits.TheConstants.{MOST_WRITTEN};
+ghost use Rattle.td_write.specs.Writes.{below, Wrote, Halts};
+
+use crate::elements::{element_bytes, one_element};
+use crate::halt::Halt;
+use crate::leaves::{is_listed, write_bytes, write_zero_ended};
+use crate::numbers::is_byte;
+use crate::walk::Walk;
+use td_core::module::{Element, Extent};
+use td_core::outcome::Reason;
+use td_meaning::arrays::{divides, equals};
+use td_meaning::expressions::value_of;
+use td_values::error::WriteRule;
+use td_values::value::{Value, ValueKind};
+
+/// An element, or an array of them.
+#[cycle(types)]
+pub fn shape(
+    walk: &Walk<'_, '_>,
+    element: &Element,
+    extent: &Extent,
+    value: &Value,
+    env: &[u64],
+    path: &mut Vec<usize>,
+    cells: &mut [u64],
+    out: &mut Vec<u8>,
+) -> Result<(), Halt>
+    requires { length out.old.items ≤ MOST_WRITTEN }
+    ensures ok { IfOk result (λ _. Wrote
+        (shape_written in_machine walk.now.m.now.listed (below walk.now.m.now walk.now.bound) element.now extent.now env.now walk.now.places.now path.old.items (length out.old.items) cells.old value.now)
+        out.old.items out.new.items path.old.items path.new.items cells.new) }
+    ensures err { IfErr result (λ h. Halts h path.new.items
+        (shape_written in_machine walk.now.m.now.listed (below walk.now.m.now walk.now.bound) element.now extent.now env.now walk.now.places.now path.old.items (length out.old.items) cells.old value.now)) }
+{
+    let start = out.len();
+    match extent {
+        Extent::Once => one_element(walk, element, value, env, path, cells, out),
+        Extent::Filling { size, step } => {
+            let size = value_of(size, env);
+            match contents(walk, element, value, env, path, cells, out) {
+                Ok(_) => {}
+                Err(halt) => return Err(halt),
+            }
+            let count = out.len() - start;
+            if !divides(*step, size) || count as u64 != size {
+                return Err(Halt::Broken(WriteRule::Size));
+            }
+            Ok(())
+        }
+        Extent::OnceFilling { size, step } => {
+            let size = value_of(size, env);
+            match element_bytes(walk, element, value, env, path, cells, out) {
+                Ok(_) => {}
+                Err(halt) => return Err(halt),
+            }
+            let count = out.len() - start;
+            if !equals(*step, size) || count as u64 != size {
+                return Err(Halt::Broken(WriteRule::Size));
+            }
+            if !is_listed(walk.m.listed.as_slice(), element, value) {
+                return Err(Halt::Broken(WriteRule::Broken(Reason::Constraint)));
+            }
+            Ok(())
+        }
+        Extent::UpToZero { size } => {
+            write_zero_ended(element, value_of(size, env), value, path, out)
+        }
+    }
+}
+
+/// What stands in a byte-sized array.
+#[cycle(types)]
+fn contents(
+    walk: &Walk<'_, '_>,
+    element: &Element,
+    value: &Value,
+    env: &[u64],
+    path: &mut Vec<usize>,
+    cells: &mut [u64],
+    out: &mut Vec<u8>,
+) -> Result<(), Halt>
+    requires { length out.old.items ≤ MOST_WRITTEN }
+    ensures ok { IfOk result (λ _. Wrote
+        (contents_written in_machine walk.now.m.now.listed (below walk.now.m.now walk.now.bound) element.now env.now walk.now.places.now path.old.items (length out.old.items) cells.old value.now)
+        out.old.items out.new.items path.old.items path.new.items cells.new) }
+    ensures err { IfErr result (λ h. Halts h path.new.items
+        (contents_written in_machine walk.now.m.now.listed (below walk.now.m.now walk.now.bound) element.now env.now walk.now.places.now path.old.items (length out.old.items) cells.old value.now)) }
+{
+    if is_byte(element) {
+        return write_bytes(value, out);
+    }
+    match &value.kind {
+        ValueKind::List(values) => items(walk, element, values.as_slice(), env, path, cells, out),
+        ValueKind::Number(_) => Err(Halt::Broken(WriteRule::Shape)),
+        ValueKind::Bytes(_) => Err(Halt::Broken(WriteRule::Shape)),
+        ValueKind::Empty => Err(Halt::Broken(WriteRule::Shape)),
+    }
+}
+
+/// Elements one after the other.
+#[cycle(types)]
+fn items(
+    walk: &Walk<'_, '_>,
+    element: &Element,
+    values: &[Value],
+    env: &[u64],
+    path: &mut Vec<usize>,
+    cells: &mut [u64],
+    out: &mut Vec<u8>,
+) -> Result<(), Halt>
+    requires { length out.old.items ≤ MOST_WRITTEN }
+    ensures ok { IfOk result (λ _. Wrote
+        (items_written (element_written in_machine walk.now.m.now.listed (below walk.now.m.now walk.now.bound) element.now env.now walk.now.places.now) path.old.items 0 (length out.old.items) cells.old values.now)
+        out.old.items out.new.items path.old.items path.new.items cells.new) }
+    ensures err { IfErr result (λ h. Halts h path.new.items
+        (items_written (element_written in_machine walk.now.m.now.listed (below walk.now.m.now walk.now.bound) element.now env.now walk.now.places.now) path.old.items 0 (length out.old.items) cells.old values.now)) }
+{
+    for (index, value) in values.iter().enumerate() {
+        path.push(index)?;
+        let start = out.len();
+        match one_element(walk, element, value, env, path, cells, out) {
+            Ok(_) => {}
+            Err(halt) => return Err(halt),
+        }
+        if out.len() == start {
+            return Err(Halt::Broken(WriteRule::Size));
+        }
+        path.pop();
+    }
+    Ok(())
+}

@@ -1,0 +1,95 @@
+//! Elements of fields and arrays.
+
+ghost use Rattle.std.specs.Prelude.{◌≤◌, length, IfOk, IfErr};
+ghost use Rattle.td_values.specs.Writing.{element_bytes, element_written, in_machine};
+ghost use Rattle.td_values.specs.declared.limits.TheConstants.{MOST_WRITTEN};
+ghost use Rattle.td_write.specs.Writes.{below, Wrote, Halts};
+
+use crate::halt::Halt;
+use crate::leaves::{is_listed, write_bytes, write_number, write_unit, write_zeros};
+use crate::types::named;
+use crate::walk::Walk;
+use td_core::module::Element;
+use td_core::outcome::Reason;
+use td_meaning::expressions::values_of;
+use td_meaning::parameters::cells_of;
+use td_values::error::WriteRule;
+use td_values::value::Value;
+
+/// An element.
+#[cycle(types)]
+pub fn one_element(
+    walk: &Walk<'_, '_>,
+    element: &Element,
+    value: &Value,
+    env: &[u64],
+    path: &mut Vec<usize>,
+    cells: &mut [u64],
+    out: &mut Vec<u8>,
+) -> Result<(), Halt>
+    requires { length out.old.items ≤ MOST_WRITTEN }
+    ensures ok { IfOk result (λ _. Wrote
+        (element_written in_machine walk.now.m.now.listed (below walk.now.m.now walk.now.bound) element.now env.now walk.now.places.now path.old.items (length out.old.items) cells.old value.now)
+        out.old.items out.new.items path.old.items path.new.items cells.new) }
+    ensures err { IfErr result (λ h. Halts h path.new.items
+        (element_written in_machine walk.now.m.now.listed (below walk.now.m.now walk.now.bound) element.now env.now walk.now.places.now path.old.items (length out.old.items) cells.old value.now)) }
+{
+    match element_bytes(walk, element, value, env, path, cells, out) {
+        Ok(_) => {}
+        Err(halt) => return Err(halt),
+    }
+    if !is_listed(walk.m.listed.as_slice(), element, value) {
+        return Err(Halt::Broken(WriteRule::Broken(Reason::Constraint)));
+    }
+    Ok(())
+}
+
+/// An element's bytes, whatever its enum says.
+#[cycle(types)]
+pub fn element_bytes(
+    walk: &Walk<'_, '_>,
+    element: &Element,
+    value: &Value,
+    env: &[u64],
+    path: &mut Vec<usize>,
+    cells: &mut [u64],
+    out: &mut Vec<u8>,
+) -> Result<(), Halt>
+    requires { length out.old.items ≤ MOST_WRITTEN }
+    ensures ok { IfOk result (λ _. Wrote
+        (element_bytes in_machine (below walk.now.m.now walk.now.bound) element.now env.now walk.now.places.now path.old.items (length out.old.items) cells.old value.now)
+        out.old.items out.new.items path.old.items path.new.items cells.new) }
+    ensures err { IfErr result (λ h. Halts h path.new.items
+        (element_bytes in_machine (below walk.now.m.now walk.now.bound) element.now env.now walk.now.places.now path.old.items (length out.old.items) cells.old value.now)) }
+{
+    match element {
+        Element::Number(number_type) => write_number(*number_type, value, out),
+        Element::Listed { base, values: _ } => write_number(*base, value, out),
+        Element::Named {
+            definition,
+            args,
+            cells: own,
+        } => {
+            let args = values_of(walk.alloc, args.as_slice(), env)?;
+            let own = cells_of(walk.alloc, own.as_slice(), walk.places)?;
+            let within = Walk {
+                alloc: walk.alloc,
+                m: walk.m,
+                bound: walk.bound,
+                places: own.as_slice(),
+            };
+            named(
+                &within,
+                *definition,
+                value,
+                args.as_slice(),
+                path,
+                cells,
+                out,
+            )
+        }
+        Element::Unit => write_unit(value),
+        Element::Rest => write_bytes(value, out),
+        Element::Zeros => write_zeros(value, out),
+    }
+}

@@ -1,0 +1,154 @@
+//! Fields, and what stands in them.
+
+ghost use Rattle.std.specs.Prelude.{◌≡◌, ◌≤◌, length, drop, IfOk, IfErr};
+ghost use Rattle.td_values.specs.Bytes.{unit_type};
+ghost use Rattle.td_values.specs.Writing.{Later, shape_written, copied, field_written, fields_written, in_machine};
+ghost use Rattle.td_values.specs.declared.limits.TheConstants.{MOST_WRITTEN};
+ghost use Rattle.td_write.specs.Writes.{below, Wrote, GoesOn, Halts};
+
+use crate::arrays::shape;
+use crate::copies::note_copy;
+use crate::halt::Halt;
+use crate::numbers::{number_in, unit_type};
+use crate::parts::test_parts;
+use crate::units::one_unit;
+use crate::walk::{Left, Walk};
+use td_core::module::{Field, NameId};
+use td_values::error::WriteRule;
+use td_values::value::Value;
+
+/// Fields one after the other.
+#[cycle(types)]
+pub fn counted(
+    walk: &Walk<'_, '_>,
+    ty: NameId,
+    fields: &[Field],
+    values: &[Value],
+    args: &[u64],
+    path: &mut Vec<usize>,
+    cells: &mut [u64],
+    out: &mut Vec<u8>,
+) -> Result<(), Halt>
+    requires { length out.old.items ≤ MOST_WRITTEN }
+    ensures ok { IfOk result (λ _. Wrote
+        (fields_written in_machine walk.now.m.now.listed (below walk.now.m.now walk.now.bound) ty fields.now args.now walk.now.places.now path.old.items 0 (length out.old.items) cells.old values.now)
+        out.old.items out.new.items path.old.items path.new.items cells.new) }
+    ensures err { IfErr result (λ h. Halts h path.new.items
+        (fields_written in_machine walk.now.m.now.listed (below walk.now.m.now walk.now.bound) ty fields.now args.now walk.now.places.now path.old.items 0 (length out.old.items) cells.old values.now)) }
+{
+    let mut env = Vec::from_slice(walk.alloc, args)?;
+    let mut index = 0;
+    for field in fields {
+        match one_field(
+            walk,
+            ty,
+            field,
+            &Left { values, index },
+            &mut env,
+            path,
+            cells,
+            out,
+        ) {
+            Ok(next) => index = next,
+            Err(halt) => return Err(halt),
+        }
+    }
+    if index < values.len() {
+        return Err(Halt::Broken(WriteRule::Shape));
+    }
+    Ok(())
+}
+
+/// A field: gives the number of the value after its own.
+#[cycle(types)]
+fn one_field(
+    walk: &Walk<'_, '_>,
+    ty: NameId,
+    field: &Field,
+    left: &Left<'_>,
+    env: &mut Vec<u64>,
+    path: &mut Vec<usize>,
+    cells: &mut [u64],
+    out: &mut Vec<u8>,
+) -> Result<usize, Halt>
+    requires { length out.old.items ≤ MOST_WRITTEN }
+    // what is left of the struct decides the whole of it
+    ensures ok { IfOk result (λ next. (later : Later)
+        → GoesOn (field_written in_machine walk.now.m.now.listed (below walk.now.m.now walk.now.bound) ty (unit_type field.now.element field.now.extent) field.now env.old.items walk.now.places.now path.old.items left.now.index (length out.old.items) cells.old (drop left.now.index left.now.values.now) later)
+        (later env.new.items next (length out.new.items) cells.new (drop next left.now.values.now)) out.old.items out.new.items) }
+    ensures room { IfOk result (λ next. (length out.new.items ≤ MOST_WRITTEN) × (path.new.items ≡ path.old.items)) }
+    ensures err { IfErr result (λ h. (later : Later) → Halts h path.new.items
+        (field_written in_machine walk.now.m.now.listed (below walk.now.m.now walk.now.bound) ty (unit_type field.now.element field.now.extent) field.now env.old.items walk.now.places.now path.old.items left.now.index (length out.old.items) cells.old (drop left.now.index left.now.values.now) later)) }
+{
+    match unit_type(&field.element, &field.extent) {
+        Some(number_type) => one_unit(number_type, field, left, env, walk.places, path, cells, out),
+        None => {
+            let values = left.values;
+            let index = left.index;
+            if index >= values.len() {
+                return Err(Halt::Broken(WriteRule::Shape));
+            }
+            let value = &values[index];
+            let start = out.len() as u32;
+            path.push(index)?;
+            match content(walk, field, value, env.as_slice(), path, cells, out) {
+                Ok(_) => {}
+                Err(halt) => return Err(halt),
+            }
+            let number = number_in(&field.element, &field.extent, value);
+            let pos = out.len() as u32;
+            match test_parts(
+                walk,
+                ty,
+                field.parts.as_slice(),
+                number,
+                env,
+                cells,
+                start,
+                pos,
+            ) {
+                Ok(_) => {}
+                Err(halt) => return Err(halt),
+            }
+            path.pop();
+            Ok(index + 1)
+        }
+    }
+}
+
+/// What stands in a field that isn't a unit; where it is copied, its place and its number of bytes are noted.
+#[cycle(types)]
+fn content(
+    walk: &Walk<'_, '_>,
+    field: &Field,
+    value: &Value,
+    env: &[u64],
+    path: &mut Vec<usize>,
+    cells: &mut [u64],
+    out: &mut Vec<u8>,
+) -> Result<(), Halt>
+    requires { length out.old.items ≤ MOST_WRITTEN }
+    ensures ok { IfOk result (λ _. Wrote
+        (copied field.now.copy walk.now.places.now (length out.old.items) (shape_written in_machine walk.now.m.now.listed (below walk.now.m.now walk.now.bound) field.now.element field.now.extent env.now walk.now.places.now path.old.items (length out.old.items) cells.old value.now))
+        out.old.items out.new.items path.old.items path.new.items cells.new) }
+    ensures err { IfErr result (λ h. Halts h path.new.items
+        (copied field.now.copy walk.now.places.now (length out.old.items) (shape_written in_machine walk.now.m.now.listed (below walk.now.m.now walk.now.bound) field.now.element field.now.extent env.now walk.now.places.now path.old.items (length out.old.items) cells.old value.now))) }
+{
+    let start = out.len();
+    match shape(
+        walk,
+        &field.element,
+        &field.extent,
+        value,
+        env,
+        path,
+        cells,
+        out,
+    ) {
+        Ok(_) => {}
+        Err(halt) => return Err(halt),
+    }
+    let count = out.len() - start;
+    note_copy(&field.copy, walk.places, start, count, cells);
+    Ok(())
+}

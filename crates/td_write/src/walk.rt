@@ -1,0 +1,22 @@
+//! What a walk goes by, and how far it came.
+
+use std::alloc::Global;
+use td_core::module::Module;
+use td_values::value::Value;
+
+/// What stays the same while a definition's value is written: the allocator, the module, the bound below which the
+/// definitions lie that may be named, and for each cell of the definition its place among all cells.
+#[derive(Clone, Copy)]
+pub struct Walk<'m, 'p> {
+    pub alloc: Global,
+    pub m: &'m Module,
+    pub bound: usize,
+    pub places: &'p [usize],
+}
+
+/// A definition's values, of which those from `index` on are left.
+#[derive(Clone, Copy)]
+pub struct Left<'v> {
+    pub values: &'v [Value],
+    pub index: usize,
+}
