@@ -1,30 +1,41 @@
 -- Bytes that are copied one after the other.
-use Rattle.std.proofs.Common.{◌≡◌, ℕ, zero, suc, ◌+◌, List, [], ◌∷◌, ◌++◌, map, length, refl, sym, ap, ◌∙◌, subst, arith, slice_index}
+use Rattle.std.proofs.Common.{◌≡◌, ℕ, zero, suc, ◌+◌, ◌<◌, List, ◌∷◌, ◌++◌, map, refl, sym, ap, ◌∙◌, subst, arith, slice_index}
 use Rattle.std.proofs.lemmas.List.{map-append}
-use Rattle.td_num.specs.Numbers.{places_from}
+use Rattle.td_num.specs.Numbers.{byte_of, places_from}
 use Rattle.td_stream.specs.declared.load.Load.{Load}
 use Rattle.td_stream.specs.declared.stream.Stream.{Stream}
-use Rattle.td_stream.specs.StreamInvariant.{Later, Looked}
+use Rattle.td_stream.specs.Digits.{HasDigits}
+use Rattle.td_stream.specs.StreamInvariant.{Later}
 use Rattle.td_stream.specs.Loads.{Carries}
-use Rattle.td_stream.proofs.Places.{look_more}
+use Rattle.td_stream.proofs.Places.{places_join}
 
--- one place more
-pub places_next : (p n : ℕ) → places_from p (n + 1) ≡ places_from p n ++ (p + n) ∷ []
-places_next p zero = let e : p ≡ p + 0 = omega arith in ap (λ q. q ∷ []) e
-places_next p (suc n) =
-    let e : p + 1 + n ≡ p + suc n = omega arith in
-    let m : suc n + 1 ≡ suc (n + 1) = omega arith in
-    ap (places_from p) m ∙ ap (λ xs. p ∷ xs) (places_next (p + 1) n ∙ ap (λ q. places_from (p + 1) n ++ q ∷ []) e)
+-- bytes in a row, and the bytes behind them
+pub bytes_more : (b : List ℕ) (p n m q : ℕ) (held more : List ℕ) → held ≡ map (slice_index b) (places_from p n) → q ≡ p + n → more ≡ held ++ map (slice_index b) (places_from q m) → more ≡ map (slice_index b) (places_from p (n + m))
+bytes_more b p n m q held more h e is =
+    is
+    ∙ ap (λ xs. xs ++ map (slice_index b) (places_from q m)) h
+    ∙ ap (λ x. map (slice_index b) (places_from p n) ++ map (slice_index b) (places_from x m)) e
+    ∙ sym (map-append (slice_index b) (places_from p n) (places_from (p + n) m))
+    ∙ ap (map (slice_index b)) (places_join p n m)
 
-pub bytes_next : (b : List ℕ) (p n q v : ℕ) (held : List ℕ) → held ≡ map (slice_index b) (places_from p n) → q ≡ p + n → v ≡ slice_index b q → held ++ v ∷ [] ≡ map (slice_index b) (places_from p (n + 1))
-bytes_next b p n q v held h e is =
-    ap (λ xs. xs ++ v ∷ []) h
-    ∙ ap (λ x. map (slice_index b) (places_from p n) ++ x ∷ []) (is ∙ ap (slice_index b) e)
-    ∙ sym (ap (map (slice_index b)) (places_next p n) ∙ map-append (slice_index b) (places_from p n) ((p + n) ∷ []))
+-- the digits of a number are the bytes that it was read from
+pub digits_copied : (b : List ℕ) (p n number : ℕ) → HasDigits b p n number → map (byte_of number) (places_from 0 n) ≡ map (slice_index b) (places_from p n)
+digits_copied b p n number h = go 0 p n from_zero
+  where
+    from_zero : (j : ℕ) → j < n → byte_of number (0 + j) ≡ slice_index b (p + j)
+    from_zero j lt = let e : 0 + j ≡ j = omega arith in ap (byte_of number) e ∙ h j lt
 
-pub look_next : {W : Type 0} {loads : W → List Load} (r s t : Stream W) (p n q : ℕ) → Looked loads r s (places_from p n) → Looked loads s t (q ∷ []) → q ≡ p + n → Looked loads r t (places_from p (n + 1))
-look_next {W} {loads} r s t p n q h k e =
-    subst (λ xs. Looked loads r t xs) (ap (λ x. places_from p n ++ x ∷ []) e ∙ sym (places_next p n)) (look_more r s t (places_from p n) (q ∷ []) h k)
+    go : (i q n : ℕ) → ((j : ℕ) → j < n → byte_of number (i + j) ≡ slice_index b (q + j)) → map (byte_of number) (places_from i n) ≡ map (slice_index b) (places_from q n)
+    go i q zero each = refl
+    go i q (suc n) each =
+        let a : i + 0 ≡ i = omega arith in
+        let c : q + 0 ≡ q = omega arith in
+        let first : byte_of number i ≡ slice_index b q = ap (byte_of number) (sym a) ∙ each 0 (omega arith) ∙ ap (slice_index b) c in
+        let later : (j : ℕ) → j < n → byte_of number (i + 1 + j) ≡ slice_index b (q + 1 + j) = λ j lt.
+        let d : i + 1 + j ≡ i + suc j = omega arith in
+        let e : q + suc j ≡ q + 1 + j = omega arith in
+        ap (byte_of number) d ∙ each (suc j) (omega (arith, lt)) ∙ ap (slice_index b) e in
+        λ k. first k ∷ go (i + 1) (q + 1) n later k
 
 pub later_then : {W : Type 0} {loads : W → List Load} {reaches : W → W → Type 0} → ((u v w : W) → reaches u v → reaches v w → reaches u w) → (r s t : Stream W) → Later loads reaches r s → Later loads reaches s t → Later loads reaches r t
 later_then {W} {loads} {reaches} trans r s t h k = record {

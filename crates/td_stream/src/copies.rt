@@ -1,6 +1,7 @@
 //! Buffers to which bytes of a message are copied.
 
-ghost use Rattle.std.specs.Prelude.{◌≡◌, ◌<◌, [], ◌∷◌, ◌++◌, length, map, IfOk, IsOk, OnErr};
+ghost use Rattle.std.specs.Prelude.{◌≡◌, ◌+◌, ◌<◌, ◌≤◌, [], ◌∷◌, ◌++◌, length, map, IfOk, IsOk, OnErr};
+ghost use Rattle.td_num.specs.Numbers.{byte_of, places_from};
 ghost use Rattle.td_stream.specs.Copies.{empty_with, rooms_of};
 
 use std::alloc::{AllocError, Global};
@@ -11,15 +12,18 @@ use td_num::items::Items;
 #[derive(Drop)]
 pub struct Buffer {
     bytes: Vec<u8>,
+    room: usize,
 }
 
 impl Model for Buffer {
-    ghost use Rattle.std.specs.Prelude.{vec_capacity};
+    ghost use Rattle.std.specs.Prelude.{◌≤◌, vec_capacity};
     ghost use Rattle.td_stream.specs.Copies.{BufferView};
 
     ghost Value = { BufferView };
 
-    ghost view = { λ a. record { held = a.bytes.items; room = vec_capacity a.bytes } };
+    ghost view = { λ a. record { held = a.bytes.items; room = a.room } };
+
+    ghost invariant = { λ a. a.room ≤ vec_capacity a.bytes };
 }
 
 impl Buffer {
@@ -28,8 +32,10 @@ impl Buffer {
         ensures ok { IfOk result (λ buffer. buffer ≡ empty_with room) }
         ensures memory { room ≡ 0 → IsOk result }
     {
+        let room = room as usize;
         Ok(Buffer {
-            bytes: Vec::with_capacity(alloc, room as usize)?,
+            bytes: Vec::with_capacity(alloc, room)?,
+            room,
         })
     }
 
@@ -44,7 +50,7 @@ impl Buffer {
     pub fn room(&self) -> usize
         ensures { result ≡ self.now.room }
     {
-        self.bytes.capacity()
+        self.room
     }
 
     /// No bytes any more. The room stays.
@@ -69,6 +75,17 @@ impl Buffer {
         ensures room { self.new.room ≡ self.old.room }
     {
         self.bytes.push_reserved(byte);
+    }
+
+    // The eight bytes of a word more at the end, that of least weight first, where there is room. Takes no memory.
+    pub(crate) fn push_word(&mut self, word: u64)
+        requires { length self.old.held + 8 ≤ self.old.room }
+        ensures held { self.new.held ≡ self.old.held ++ map (byte_of word) (places_from 0 8) }
+        ensures room { self.new.room ≡ self.old.room }
+    {
+        let Ok(()) = self.bytes.extend_from_slice(&word.to_le_bytes()) else {
+            unreachable!()
+        };
     }
 }
 

@@ -226,6 +226,18 @@ impl Layout {
         ensures stretch { result.0 ≡ (pair_at self.now number).0 }
         ensures word { result.1 ≡ (pair_at self.now number).1 }
     {
+        match &self.parts {
+            Parts::One(part) => (0, part.word + number),
+            Parts::Many(_) => self.word_among(hint, number),
+        }
+    }
+
+    // The same, stretch by stretch.
+    fn word_among(&self, hint: u32, number: u32) -> (u32, u32)
+        requires { number < count_in self.now }
+        ensures stretch { result.0 ≡ (pair_at self.now number).0 }
+        ensures word { result.1 ≡ (pair_at self.now number).1 }
+    {
         let mut k = self.nearest(hint as usize, number);
         let mut part = self.part(k);
         'stretches: while part.after <= number {
@@ -264,12 +276,8 @@ impl Layout {
         ensures small { result.skew < 16 }
         ensures ends { (pos + result.skew) % 8 + (result.until - pos) ≤ 8 }
     {
-        let mut at = from;
-        let mut part = self.part(at);
-        'stretches: while part.end <= pos {
-            at += 1;
-            part = self.part(at);
-        }
+        let at = self.reached(from, pos);
+        let part = self.part(at);
         let reach = part.shift as u64 + (pos - part.start) as u64;
         let left = part.end - pos;
         let more = 8 - (reach % 8) as u32;
@@ -279,5 +287,36 @@ impl Layout {
             until: pos + left.min(more),
             skew: part.shift + 8 - part.start % 8,
         }
+    }
+
+    // The stretch of the byte at this place of the message, which is this one or comes after it.
+    fn reached(&self, from: usize, pos: u32) -> usize
+        requires begun { start_of self.now from ≤ pos }
+        requires within { pos < length_in self.now }
+        ensures inside { result < length self.now }
+        ensures begun { start_of self.now result ≤ pos }
+        ensures ends { pos < start_of self.now (result + 1) }
+    {
+        match &self.parts {
+            Parts::One(_) => 0,
+            Parts::Many(_) => self.reached_among(from, pos),
+        }
+    }
+
+    // The same, stretch by stretch.
+    fn reached_among(&self, from: usize, pos: u32) -> usize
+        requires begun { start_of self.now from ≤ pos }
+        requires within { pos < length_in self.now }
+        ensures inside { result < length self.now }
+        ensures begun { start_of self.now result ≤ pos }
+        ensures ends { pos < start_of self.now (result + 1) }
+    {
+        let mut at = from;
+        let mut part = self.part(at);
+        'stretches: while part.end <= pos {
+            at += 1;
+            part = self.part(at);
+        }
+        at
     }
 }

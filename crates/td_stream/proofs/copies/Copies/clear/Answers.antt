@@ -1,6 +1,6 @@
-use Rattle.std.proofs.Common.{◌≡◌, ℕ, suc, ◌+◌, ◌<◌, List, refl, sym, ap, ◌∙◌, subst, arith, slice_index_or, slice_set, length}
+use Rattle.std.proofs.Common.{◌≡◌, suc, ◌+◌, ◌<◌, ap, ◌∙◌, arith, slice_index_or, slice_set, length}
 use Rattle.td_stream.specs.Copies.{BufferView}
-use Rattle.td_stream.proofs.Clearing.{cleared, cleared_next, cleared_all}
+use Rattle.td_stream.proofs.Clearing.{cleared, cleared_next}
 use Rattle.td_stream.proofs.copies.Copies.clear.Goals as goal
 
 pub loop-k-preserved : goal.loop-k-preserved

@@ -1,6 +1,6 @@
 use Rattle.std.proofs.Common.{length, ◌-◌, ◌<◌, ◌≤◌}
 use Rattle.td_stream.specs.Parts.{IsPart, first_of}
-use Rattle.td_stream.proofs.layout.Layout.word_from.Given as goal
+use Rattle.td_stream.proofs.layout.Layout.word_among.Given as goal
 
 abbrev pub invariant-stretches : goal.invariant-stretches
 invariant-stretches l = record {

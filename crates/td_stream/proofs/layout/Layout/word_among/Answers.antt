@@ -1,7 +1,7 @@
 use Rattle.std.proofs.Common.{ℕ, ◌+◌, ◌-◌, ◌<◌, ◌≤◌, length, arith, sym, ap}
 use Rattle.td_stream.specs.Parts.{first_of}
 use Rattle.td_stream.proofs.Layouts.{some_word, part_pair, words_last}
-use Rattle.td_stream.proofs.layout.Layout.word_from.Goals as goal
+use Rattle.td_stream.proofs.layout.Layout.word_among.Goals as goal
 
 pub stretches-init : goal.stretches-init
 stretches-init c = record { part = c.part-part.ensures; inside = c.nearest-k.ensures.inside; begun = c.nearest-k.ensures.begun }
