@@ -20,6 +20,14 @@ use td_verify::verify::Verified;
 use td_vm::laws::fitting_cells_have_room;
 use td_vm::validate::Frame;
 
+/// Memory to which others store by a plan: its words, the stores, and how the message lies in the words, where it isn't at their front.
+#[derive(Clone, Copy)]
+pub struct Memory<'a> {
+    pub words: &'a [u64],
+    pub stores: &'a [PlannedStore],
+    pub layout: Option<&'a Layout>,
+}
+
 /// The verdict of a run, and the loads that it made.
 #[derive(Drop)]
 pub struct Ran {
@@ -55,44 +63,34 @@ fn words_of(layout: Option<&Layout>, all: u32) -> u32
 }
 
 // Memory with a layout or without one.
-fn opened<'a>(
-    alloc: Global,
-    words: &'a [u64],
-    stores: &[PlannedStore],
-    layout: Option<&'a Layout>,
-) -> Result<Planned<'a>, AllocError>
-    requires few { size_of words.now < 2 ^ 32 }
-    requires over { IsOver (size_of words.now) (option_map (λ l. l.now) layout) }
-    ensures opening { IfOk result (λ p. p.opening ≡ words.now) }
-    ensures stores { IfOk result (λ p. p.stores ≡ stores.now) }
-    ensures layout { IfOk result (λ p. p.layout ≡ option_map (λ l. l.now) layout.entry) }
+fn opened<'a>(alloc: Global, memory: &Memory<'a>) -> Result<Planned<'a>, AllocError>
+    requires few { size_of memory.now.words.now < 2 ^ 32 }
+    requires over { IsOver (size_of memory.now.words.now) (option_map (λ l. l.now) memory.now.layout) }
+    ensures opening { IfOk result (λ p. p.opening ≡ memory.now.words.now) }
+    ensures stores { IfOk result (λ p. p.stores ≡ memory.now.stores.now) }
+    ensures layout { IfOk result (λ p. p.layout ≡ option_map (λ l. l.now) memory.now.layout) }
     ensures loads { IfOk result (λ p. p.loads ≡ []) }
-    ensures memory { words.now ≡ [] → stores.now ≡ [] → option_map (λ l. l.now) layout.entry ≡ None → IsOk result }
+    ensures memory { memory.now.words.now ≡ [] → memory.now.stores.now ≡ [] → option_map (λ l. l.now) memory.now.layout ≡ None → IsOk result }
 {
-    match layout {
-        None => Planned::open(alloc, words, stores),
-        Some(layout) => Planned::open_over(alloc, words, stores, layout),
+    match memory.layout {
+        None => Planned::open(alloc, memory.words, memory.stores),
+        Some(layout) => Planned::open_over(alloc, memory.words, memory.stores, layout),
     }
 }
 
 /// Takes all memory that a run takes, and loads no word. The words are lent, not copied. `AllocError`: there was no memory;
 /// never where there are neither words nor stores and no layout.
-pub fn prepare<'a>(
-    alloc: Global,
-    words: &'a [u64],
-    stores: &[PlannedStore],
-    layout: Option<&'a Layout>,
-) -> Result<Prepared<'a>, AllocError>
-    requires few { size_of words.now < 2 ^ 32 }
-    requires over { IsOver (size_of words.now) (option_map (λ l. l.now) layout) }
-    ensures opening { IfOk result (λ p. p.words.opening ≡ words.now) }
-    ensures stores { IfOk result (λ p. p.words.stores ≡ stores.now) }
-    ensures layout { IfOk result (λ p. p.words.layout ≡ option_map (λ l. l.now) layout.entry) }
-    ensures memory { words.now ≡ [] → stores.now ≡ [] → option_map (λ l. l.now) layout.entry ≡ None → IsOk result }
+pub fn prepare<'a>(alloc: Global, memory: &Memory<'a>) -> Result<Prepared<'a>, AllocError>
+    requires few { size_of memory.now.words.now < 2 ^ 32 }
+    requires over { IsOver (size_of memory.now.words.now) (option_map (λ l. l.now) memory.now.layout) }
+    ensures opening { IfOk result (λ p. p.words.opening ≡ memory.now.words.now) }
+    ensures stores { IfOk result (λ p. p.words.stores ≡ memory.now.stores.now) }
+    ensures layout { IfOk result (λ p. p.words.layout ≡ option_map (λ l. l.now) memory.now.layout) }
+    ensures memory { memory.now.words.now ≡ [] → memory.now.stores.now ≡ [] → option_map (λ l. l.now) memory.now.layout ≡ None → IsOk result }
 {
-    let count = words_of(layout, words.len() as u32);
+    let count = words_of(memory.layout, memory.words.len() as u32);
     let loads = Loads::with_room(alloc, count)?;
-    let words = opened(alloc, words, stores, layout)?;
+    let words = opened(alloc, memory)?;
     Ok(Prepared { words, loads })
 }
 
@@ -184,7 +182,7 @@ pub fn run_counted<L: Ledger>(
 }
 
 /// Runs code once, in a frame that was armed for it, from an entry point that these arguments and cells fit, on a message of
-/// `length` bytes, by a layout or at the front of the words, while others store to the words by a plan. The frame is left with the
+/// `length` bytes, by the memory's layout or at the front of its words, while others store to them by its plan. The frame is left with the
 /// trace, the cells and the copies. `AllocError`: there was no memory; never where there are neither words nor stores and no layout. That comes of
 /// `prepare`, which loads no word; `run_prepared`, which follows, takes none, so want of memory never hides an outcome.
 pub fn run_in_frame(
@@ -195,23 +193,22 @@ pub fn run_in_frame(
     args: &[u64],
     cells: &[u64],
     length: u32,
-    layout: Option<&Layout>,
-    words: &[u64],
-    stores: &[PlannedStore],
+    memory: &Memory<'_>,
 ) -> Result<Ran, AllocError>
     requires armed { IsArmed code.now frame.old }
     requires fits { Fits code.now entry args.now cells.now }
-    requires many { size_of words.now < 2 ^ 32 }
-    requires room { count_in (laid length (option_map (λ l. l.now) layout)) ≤ counted (option_map (λ l. l.now) layout) (size_of words.now) }
-    requires over { IsOver (size_of words.now) (option_map (λ l. l.now) layout) }
+    requires many { size_of memory.now.words.now < 2 ^ 32 }
+    requires room { count_in (laid length (option_map (λ l. l.now) memory.now.layout)) ≤ counted (option_map (λ l. l.now) memory.now.layout) (size_of memory.now.words.now) }
+    requires over { IsOver (size_of memory.now.words.now) (option_map (λ l. l.now) memory.now.layout) }
     ensures run { IfOk result (λ ran. IsRunBy code.now
-        (record { entry = entry; args = args.now; cells = cells.now; length = length; layout = option_map (λ l. l.now) layout.entry; words = words.now; stores = stores.now })
+        (record { entry = entry; args = args.now; cells = cells.now; length = length; layout = option_map (λ l. l.now) memory.now.layout; words = memory.now.words.now; stores = memory.now.stores.now })
         (outcome_in frame.new (buffers_of code.now entry) ran.verdict) ran.loads.list) }
     ensures armed { IsArmed code.now frame.new }
     ensures untouched { IsErr result → frame.new ≡ frame.old }
-    ensures memory { words.now ≡ [] → stores.now ≡ [] → option_map (λ l. l.now) layout.entry ≡ None → IsOk result }
+    ensures memory { memory.now.words.now ≡ [] → memory.now.stores.now ≡ [] → option_map (λ l. l.now) memory.now.layout ≡ None → IsOk result }
 {
-    let prepared = prepare(alloc, words, stores, layout)?;
+    let layout = memory.layout;
+    let prepared = prepare(alloc, memory)?;
     Ok(run_laid(code, frame, entry, args, cells, length, layout, prepared))
 }
 
@@ -223,22 +220,18 @@ pub fn run_planned(
     args: &[u64],
     cells: &[u64],
     length: u32,
-    layout: Option<&Layout>,
-    words: &[u64],
-    stores: &[PlannedStore],
+    memory: &Memory<'_>,
 ) -> Result<Run, AllocError>
     requires fits { Fits code.now entry args.now cells.now }
-    requires many { size_of words.now < 2 ^ 32 }
-    requires room { count_in (laid length (option_map (λ l. l.now) layout)) ≤ counted (option_map (λ l. l.now) layout) (size_of words.now) }
-    requires over { IsOver (size_of words.now) (option_map (λ l. l.now) layout) }
+    requires many { size_of memory.now.words.now < 2 ^ 32 }
+    requires room { count_in (laid length (option_map (λ l. l.now) memory.now.layout)) ≤ counted (option_map (λ l. l.now) memory.now.layout) (size_of memory.now.words.now) }
+    requires over { IsOver (size_of memory.now.words.now) (option_map (λ l. l.now) memory.now.layout) }
     ensures { IfOk result (λ run. IsRunBy code.now
-        (record { entry = entry; args = args.now; cells = cells.now; length = length; layout = option_map (λ l. l.now) layout.entry; words = words.now; stores = stores.now })
+        (record { entry = entry; args = args.now; cells = cells.now; length = length; layout = option_map (λ l. l.now) memory.now.layout; words = memory.now.words.now; stores = memory.now.stores.now })
         run.outcome run.loads.list) }
 {
     let mut frame = Frame::arm(alloc, code)?;
-    let ran = run_in_frame(
-        alloc, code, &mut frame, entry, args, cells, length, layout, words, stores,
-    )?;
+    let ran = run_in_frame(alloc, code, &mut frame, entry, args, cells, length, memory)?;
     Ok(Run {
         outcome: frame.into_outcome(code, entry, ran.verdict),
         loads: ran.loads,

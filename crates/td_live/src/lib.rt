@@ -6,8 +6,10 @@
 pub mod gate;
 pub mod live;
 pub mod made;
+pub mod message;
 pub mod slot;
 
 pub use gate::{Gate, OpenGate};
 pub use live::LiveWords;
+pub use message::LiveMessage;
 pub use slot::validate_slot;

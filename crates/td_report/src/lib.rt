@@ -6,6 +6,7 @@ pub mod copies;
 pub mod error_line;
 pub mod hexadecimal;
 pub mod laws;
+pub mod outcome;
 pub mod paged;
 pub mod path_line;
 pub mod pieces;
@@ -15,5 +16,6 @@ mod written;
 
 pub use copies::CopyBuffer;
 pub use error_line::front_line;
+pub use outcome::OutcomeParts;
 pub use report::{report_of_parts, run_report};
 pub use summary::module_summary;

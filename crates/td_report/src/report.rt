@@ -10,6 +10,7 @@ ghost use Rattle.td_report.specs.Report.{report, reason_word, spot_word, verdict
 
 use crate::copies::{CopyBuffer, buffers_of, write_copies};
 use crate::hexadecimal::digits_of;
+use crate::outcome::OutcomeParts;
 use crate::paged::hand_on;
 use crate::pieces::write_pieces;
 use crate::written::write_written;
@@ -252,31 +253,28 @@ fn write_loads<O: Sink>(
     write_all(out, page.written())
 }
 
-/// Writes the report of a run by its parts: the bytes that were written, where the message is made of a value, how it ended,
-/// the frames of its failure by the names of the module, the cells of the entry point, what its copy buffers hold, and the loads.
+/// Writes the report of a run by the parts of its outcome: the bytes that were written, where the message is made of a value, how it
+/// ended, the frames of its failure by the names of the module, the cells of the entry point, what its copy buffers hold, and the loads.
 /// Takes no memory.
 ///
 /// `WriteFault`: a write failed. What went out is a prefix of the report.
 pub fn report_of_parts<O: Sink, B: CopyBuffer>(
-    verdict: Verdict,
-    trace: &[TraceFrame],
-    cells: &[u64],
-    copies: &[B],
-    loads: &[Load],
-    layout: Option<&Layout>,
+    outcome: &OutcomeParts<'_, B>,
     m: &Module,
     entry: Entry,
+    loads: &[Load],
+    layout: Option<&Layout>,
     written: Option<&[u8]>,
     out: &mut O,
 ) -> Result<(), WriteFault>
     requires { All (λ l. IsNumberOf (option_map (λ l. l.now) layout) l.word) loads.now }
-    ensures { Writes (O.state out.old) (O.state out.new) (report (record { verdict = verdict; trace = trace.now; cells = cells.now; copies = map B.held copies.now }) m.now entry loads.now (option_map (λ l. l.now) layout.entry) (option_map (λ w. w.now) written.entry)) result }
+    ensures { Writes (O.state out.old) (O.state out.new) (report (record { verdict = outcome.now.verdict; trace = outcome.now.trace.now; cells = outcome.now.cells.now; copies = map B.held outcome.now.copies.now }) m.now entry loads.now (option_map (λ l. l.now) layout.entry) (option_map (λ w. w.now) written.entry)) result }
 {
     write_written(out, written)?;
-    write_verdict(out, verdict)?;
-    write_trace(out, m, verdict, trace)?;
-    write_cells(out, m, cells_of(m, entry), cells)?;
-    write_copies(out, m, buffers_of(m, entry), copies)?;
+    write_verdict(out, outcome.verdict)?;
+    write_trace(out, m, outcome.verdict, outcome.trace)?;
+    write_cells(out, m, cells_of(m, entry), outcome.cells)?;
+    write_copies(out, m, buffers_of(m, entry), outcome.copies)?;
     write_loads(out, loads, layout)
 }
 
@@ -293,18 +291,13 @@ fn report_by_line<O: Sink>(
     requires { All (λ l. IsNumberOf (option_map (λ l. l.now) layout) l.word) loads.now.list }
     ensures { Writes (O.state out.old) (O.state out.new) (report outcome.now m.now entry loads.now.list (option_map (λ l. l.now) layout.entry) (option_map (λ w. w.now) written.entry)) result }
 {
-    report_of_parts(
-        outcome.verdict,
-        outcome.trace.as_slice(),
-        outcome.cells.as_slice(),
-        outcome.copies.as_slice(),
-        loads.as_slice(),
-        layout,
-        m,
-        entry,
-        written,
-        out,
-    )
+    let parts = OutcomeParts {
+        verdict: outcome.verdict,
+        trace: outcome.trace.as_slice(),
+        cells: outcome.cells.as_slice(),
+        copies: outcome.copies.as_slice(),
+    };
+    report_of_parts(&parts, m, entry, loads.as_slice(), layout, written, out)
 }
 
 /// Writes the report of a run: the bytes that were written, where the message is made of a value, how it ended, the frames of

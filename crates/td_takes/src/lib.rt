@@ -7,5 +7,5 @@ mod rings;
 mod take;
 mod validate;
 
-pub use rings::{run_ring, take_once};
+pub use rings::{RingAt, run_ring, take_once};
 pub use take::{Room, Take};

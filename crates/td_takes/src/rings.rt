@@ -19,6 +19,13 @@ use td_vm::validate::Frame;
 use td_words::seats::ReadSeat;
 use td_words::shared::Shared;
 
+/// A ring of a job, and its number in the job, from 1.
+#[derive(Clone, Copy)]
+pub struct RingAt<'a> {
+    pub job: &'a RingJob,
+    pub number: u32,
+}
+
 /// The reply of the last descriptor's validation, where one waited.
 fn desc_reply(descr: &Descr, number: u32, room: Reply) -> Option<Reply>
     requires room { IsDescRoom (frames_of descr.now.code) room }
@@ -90,14 +97,13 @@ fn message_of(
     }
 }
 
-/// One take from ring `k`: looks at it once, and validates the message of the descriptor where that is accepted, at the place and size
-/// that were loaded. It takes no memory and waits for nobody.
+/// One take from a ring of the job: looks at it once, and validates the message of the descriptor where that is accepted, at the place and
+/// size that were loaded. It takes no memory and waits for nobody.
 pub fn take_once(
     code: &Verified,
     job: &HostJob,
     shared: &Shared,
-    ring: &RingJob,
-    k: u32,
+    ring: &RingAt<'_>,
     number: u32,
     descr: &mut Descr,
     seat: &mut ReadSeat,
@@ -105,27 +111,27 @@ pub fn take_once(
     room: Room,
 ) -> Take
     requires own { seat.old.table ≡ shared.now.table }
-    requires entries { descr.old.entries ≡ ring.now.entries }
-    requires most { descr.old.most ≡ ring.now.most }
-    requires few { ring.now.entries ≤ most_entries }
-    requires inside { ring.now.base + ring_words ring.now.entries ≤ shared.now.count }
+    requires entries { descr.old.entries ≡ ring.now.job.now.entries }
+    requires most { descr.old.most ≡ ring.now.job.now.most }
+    requires few { ring.now.job.now.entries ≤ most_entries }
+    requires inside { ring.now.job.now.base + ring_words ring.now.job.now.entries ≤ shared.now.count }
     requires bytes { descr.old.room ≤ 8 * shared.now.count }
     requires code { IsMessageCode code.now job.now }
     requires armed { IsArmed code.now frame.old }
-    requires rooms { IsRoom job.now (frames_of code.now) (frames_of descr.old.code) ring.now.most room }
+    requires rooms { IsRoom job.now (frames_of code.now) (frames_of descr.old.code) ring.now.job.now.most room }
     ensures table { seat.new.table ≡ seat.old.table }
     ensures armed { IsArmed code.now frame.new }
-    ensures ring { result.ring ≡ k }
+    ensures ring { result.ring ≡ ring.now.number }
     ensures number { result.number ≡ number }
     ensures descr { descr.new ≡ record descr.old { taken = taken_after descr.old.taken result.next; frame = descr.new.frame; last = descr.new.last } }
-    ensures take { (m : Module) → Describes m descr.old.code descr.old.room ring.now.most → IsTake job.now m descr.old.room ring.now descr.old.taken result }
-    ensures read { HasDone seat.old seat.new (take_steps ring.now descr.old.taken result) }
+    ensures take { (m : Module) → Describes m descr.old.code descr.old.room ring.now.job.now.most → IsTake job.now m descr.old.room ring.now.job.now descr.old.taken result }
+    ensures read { HasDone seat.old seat.new (take_steps ring.now.job.now descr.old.taken result) }
 {
     let Room {
         descr: desc_room,
         message: message_room,
     } = room;
-    let next = look_ring(shared, seat, ring, number, descr);
+    let next = look_ring(shared, seat, ring.job, number, descr);
     let desc = desc_reply(descr, number, desc_room);
     let message = message_of(
         code,
@@ -135,11 +141,11 @@ pub fn take_once(
         frame,
         next,
         number,
-        ring.most,
+        ring.job.most,
         message_room,
     );
     Take {
-        ring: k,
+        ring: ring.number,
         number,
         head: descr.last().head,
         next,
@@ -148,13 +154,12 @@ pub fn take_once(
     }
 }
 
-/// Makes all takes from ring `k`, each with the next of the rooms. It takes no memory and waits for nobody.
+/// Makes all takes from a ring of the job, each with the next of the rooms. It takes no memory and waits for nobody.
 pub fn run_ring(
     code: &Verified,
     job: &HostJob,
     shared: &Shared,
-    ring: &RingJob,
-    k: u32,
+    ring: &RingAt<'_>,
     descr: &mut Descr,
     seat: &mut ReadSeat,
     frame: &mut Frame,
@@ -162,25 +167,25 @@ pub fn run_ring(
     takes: &mut Vec<Take>,
 )
     requires own { seat.old.table ≡ shared.now.table }
-    requires entries { descr.old.entries ≡ ring.now.entries }
-    requires most { descr.old.most ≡ ring.now.most }
-    requires few { ring.now.entries ≤ most_entries }
-    requires inside { ring.now.base + ring_words ring.now.entries ≤ shared.now.count }
+    requires entries { descr.old.entries ≡ ring.now.job.now.entries }
+    requires most { descr.old.most ≡ ring.now.job.now.most }
+    requires few { ring.now.job.now.entries ≤ most_entries }
+    requires inside { ring.now.job.now.base + ring_words ring.now.job.now.entries ≤ shared.now.count }
     requires bytes { descr.old.room ≤ 8 * shared.now.count }
     requires none { descr.old.taken ≡ 0 }
     requires code { IsMessageCode code.now job.now }
     requires armed { IsArmed code.now frame.old }
-    requires rooms { AreRooms job.now (frames_of code.now) (frames_of descr.old.code) ring.now.most rooms.old.items }
-    requires as_many { length rooms.old.items ≡ ring.now.takes }
+    requires rooms { AreRooms job.now (frames_of code.now) (frames_of descr.old.code) ring.now.job.now.most rooms.old.items }
+    requires as_many { length rooms.old.items ≡ ring.now.job.now.takes }
     requires empty { takes.old.items ≡ [] }
-    requires space { ring.now.takes ≤ vec_capacity takes.old }
-    ensures { RanRing job.now descr.old.code descr.old.room ring.now k seat.old seat.new takes.new.items }
+    requires space { ring.now.job.now.takes ≤ vec_capacity takes.old }
+    ensures { RanRing job.now descr.old.code descr.old.room ring.now.job.now ring.now.number seat.old seat.new takes.new.items }
 {
-    for i in 0..ring.takes {
+    for i in 0..ring.job.takes {
         let Some(room) = rooms.pop_front() else {
             unreachable!()
         };
-        let take = take_once(code, job, shared, ring, k, i + 1, descr, seat, frame, room);
+        let take = take_once(code, job, shared, ring, i + 1, descr, seat, frame, room);
         takes.push_reserved(take);
     }
 }

@@ -15,6 +15,7 @@ use td_core::outcome::{TraceFrame, Verdict};
 use td_descr::{Descr, Next};
 use td_live::gate::{OpenGate, PostName};
 use td_live::live::LiveWords;
+use td_live::message::LiveMessage;
 use td_live::slot::validate_slot;
 use td_posts::copies::keep_copies;
 use td_posts::{HostJob, Reply, RingJob};
@@ -114,12 +115,16 @@ pub fn validate_message(
     let layout = Layout::one(place, size);
     message_is_short(&layout);
     frame.set_cells(cells.as_slice());
-    let name = PostName { guest: 0, number };
+    let message = LiveMessage {
+        shared,
+        layout: &layout,
+        name: PostName { guest: 0, number },
+    };
     let args = job.args.as_slice();
     let entries = job.entries.as_slice();
     let mut gate = OpenGate;
     let verdict = validate_slot(
-        code, entries[0], args, shared, seat, &layout, name, frame, &mut loads, &mut gate,
+        code, entries[0], args, &message, seat, frame, &mut loads, &mut gate,
     );
     keep_copies(frame.copies(), copies.buffers.as_mut_slice());
     reply_of(

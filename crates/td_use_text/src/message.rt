@@ -16,6 +16,7 @@ use td_core::outcome::Verdict;
 use td_io::{Sink, WriteFault};
 use td_job::words::fill_words;
 use td_lowered::laws::arguments_fit;
+use td_report::outcome::OutcomeParts;
 use td_report::report::report_of_parts;
 use td_sched::laws::loads_are_planned;
 use td_sched::planned::Planned;
@@ -148,15 +149,18 @@ pub fn report_message<O: Sink>(
 {
     arguments_fit();
     let ran = validated(alloc, compiled, entry, cells, message, frame)?;
+    let outcome = OutcomeParts {
+        verdict: ran.verdict,
+        trace: frame.trace(),
+        cells: frame.cells(),
+        copies: copies_of(&compiled.code, entry, frame),
+    };
     report_of_parts(
-        ran.verdict,
-        frame.trace(),
-        frame.cells(),
-        copies_of(&compiled.code, entry, frame),
-        ran.loads.as_slice(),
-        None,
+        &outcome,
         &compiled.module,
         entry,
+        ran.loads.as_slice(),
+        None,
         None,
         out,
     )?;
