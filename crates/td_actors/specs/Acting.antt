@@ -12,7 +12,7 @@ use Rattle.td_ring.specs.declared.post.Post.{Post}
 use Rattle.td_ring.specs.Ring.{PassState, pass_state, ring_view}
 use Rattle.td_ring.specs.Tickets.{DrawerState, drawer_state, ticket_view}
 use Rattle.td_stream.specs.Layouts.{count_in}
-use Rattle.td_stream.specs.Copies.{empty_with}
+use Rattle.td_stream.specs.Copies.{empty_with, rooms_of}
 use Rattle.td_posts.specs.declared.job.Step.{Step}
 use Rattle.td_posts.specs.declared.job.Step.TheVariants as step
 use Rattle.td_posts.specs.declared.mail.Mail.{Mail}
@@ -37,8 +37,19 @@ pub record AreArmed (cs : List Parts) (frames : List FrameView) : Type 0 where
   pub as_many : length frames ≡ length cs
   pub each : (n : ℕ) (c : Parts) (d : FrameView) → slice_get cs n ≡ Some c → IsArmed c (slice_index_or frames n d)
 
--- the post is one of the job's, by its first of that name, and its room is empty and large enough, with memory for just so many frames
--- and with the job's copy buffers, which hold nothing
+-- the reply's lists have memory for just so many frames, cells and copy buffers, and these buffers have these rooms, whatever they hold
+pub record HasMemory (frames cells : ℕ) (rooms : List ℕ) (r : Reply) : Type 0 where
+  pub trace_room : vec_capacity r.trace ≡ frames
+  pub cell_room : vec_capacity r.cells ≡ cells
+  pub buffer_room : vec_capacity r.copies.buffers ≡ length rooms
+  pub copy_rooms : rooms_of r.copies.buffers.items ≡ rooms
+
+-- the reply has the memory of a room for a post of this job, by these codes
+abbrev pub IsInRoom : List Parts → HostJob → Reply → Type 0
+IsInRoom cs job r = HasMemory (most_frames cs) job.cells job.rooms r
+
+-- the post is one of the job's, by its first of that name, and its room is empty and large enough, with memory for just so many frames,
+-- the job's cells and its copy buffers, which hold nothing
 pub record Fits (frames : ℕ) (job : HostJob) (p : Post) : Type 0 where
   pub mail : Mail
   pub is : mail_named p.name (all_mails 1 job.guests) ≡ Some mail
@@ -49,7 +60,7 @@ pub record Fits (frames : ℕ) (job : HostJob) (p : Post) : Type 0 where
   pub room : count_in (layout_of mail) ≤ p.room.loads.room
   pub cells : p.room.cells.items ≡ zeros job.cells
   pub untold : p.room.trace.items ≡ []
-  pub trace_room : vec_capacity p.room.trace ≡ frames
+  pub memory : HasMemory frames job.cells job.rooms p.room
   pub copies : p.room.copies.buffers.items ≡ map empty_with job.rooms
 
 abbrev pub post_of : Mail → Reply → Post

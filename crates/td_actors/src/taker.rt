@@ -6,7 +6,7 @@ ghost use Rattle.td_actors.specs.Actors.{IsTakerReady};
 
 use crate::actor::{Desk, Taker};
 use td_ring::naming::Naming;
-use td_takes::run_ring;
+use td_takes::{RingAt, run_ring};
 
 /// Makes all takes of a ring, each with the next of the rooms. Messages are validated under version 0, whatever is published. It
 /// takes no memory and waits for nobody.
@@ -25,12 +25,15 @@ pub fn run_taker<J: Naming>(desk: &Desk<J>, taker: &mut Taker)
         takes,
     } = taker;
     let versions = desk.codes.versions();
+    let at = RingAt {
+        job: &*ring,
+        number: *number,
+    };
     run_ring(
         &versions[0].code,
         &desk.job,
         &desk.shared,
-        &*ring,
-        *number,
+        &at,
         descr,
         seat,
         frame,

@@ -6,14 +6,13 @@ ghost use Rattle.std.specs.List.{All};
 ghost use Rattle.td_ring.specs.declared.post.Post.{Post};
 ghost use Rattle.td_ring.specs.Ring.{pass_with, did_take};
 ghost use Rattle.td_posts.specs.Posts.{all_mails, layout_of, reply_name};
-ghost use Rattle.td_stream.specs.Copies.{rooms_of};
 ghost use Rattle.td_stream.specs.Layouts.{AreWithin};
 ghost use Rattle.td_live.specs.Live.{HasLoaded};
 ghost use Rattle.td_vm.specs.Frames.{IsArmed};
 ghost use Rattle.td_swap.specs.Seats.{IsOwn, then_loaded};
 ghost use Rattle.td_takes.specs.Codes.{IsCodeAt};
 ghost use Rattle.td_actors.specs.Replies.{IsJobCode, layout_in};
-ghost use Rattle.td_actors.specs.Acting.{AreArmed, Fits, most_frames, Answered, RanWorker};
+ghost use Rattle.td_actors.specs.Acting.{AreArmed, Fits, HasMemory, IsInRoom, most_frames, Answered, RanWorker};
 
 use crate::actor::{Desk, Worker};
 use std::sync::Wait;
@@ -21,6 +20,7 @@ use std::thread;
 use td_core::module::Entry;
 use td_core::outcome::TraceFrame;
 use td_live::gate::Gate;
+use td_live::message::LiveMessage;
 use td_live::slot::validate_slot;
 use td_posts::copies::keep_copies;
 use td_posts::job::HostJob;
@@ -121,8 +121,7 @@ fn answer<G: Gate>(
     ensures version { result.version ≡ version.now.number }
     ensures answered { Answered job.now result }
     ensures read { HasLoaded (layout_in mails.now result) seat.old seat.new result.loads.list }
-    ensures memory { (vec_capacity result.trace ≡ vec_capacity post.room.trace) × (vec_capacity result.cells ≡ vec_capacity post.room.cells) }
-    ensures rooms { rooms_of result.copies.buffers.items ≡ rooms_of post.room.copies.buffers.items }
+    ensures memory { (frames : ℕ) → HasMemory frames job.now.cells job.now.rooms post.room → HasMemory frames job.now.cells job.now.rooms result }
 {
     each_mail_is_named();
     fitting_cells_have_room();
@@ -149,15 +148,18 @@ fn answer<G: Gate>(
     let laid = list_or(&layout, &single);
     message_is_short(laid);
     frame.set_cells(cells.as_slice());
+    let message = LiveMessage {
+        shared,
+        layout: laid,
+        name,
+    };
     let args = job.args.as_slice();
     let verdict = validate_slot(
         &version.code,
         entry,
         args,
-        shared,
+        &message,
         seat,
-        laid,
-        name,
         frame,
         &mut loads,
         gate,
@@ -202,8 +204,7 @@ fn answer_now<G: Gate>(
     ensures name { reply_name result ≡ post.name }
     ensures answered { Answered job.now result }
     ensures read { HasLoaded (layout_in mails.now result) seat.old seat.new result.loads.list }
-    ensures memory { (vec_capacity result.trace ≡ vec_capacity post.room.trace) × (vec_capacity result.cells ≡ vec_capacity post.room.cells) }
-    ensures rooms { rooms_of result.copies.buffers.items ≡ rooms_of post.room.copies.buffers.items }
+    ensures memory { (frames : ℕ) → HasMemory frames job.now.cells job.now.rooms post.room → HasMemory frames job.now.cells job.now.rooms result }
 {
     let version = codes.current(swap);
     let number = version.number as usize;
@@ -223,7 +224,7 @@ fn answer_now<G: Gate>(
 
 /// Draws tickets, and for each that is below the count of posts takes a post and answers it; the first that isn't ends it, and
 /// so does a reply to as many posts as there are. It takes no memory: there is a frame for each version, and room for a reply to
-/// each post.
+/// each post, of which no list is let grow.
 pub fn run_worker<J: Naming, R: Wait, G: Gate>(rt: &R, desk: &Desk<J>, worker: &mut Worker<G>)
     requires own { (worker.old.seat.table ≡ desk.now.shared.table) × (worker.old.pass.queue ≡ desk.now.ring.queue) × (worker.old.drawer.table ≡ desk.now.tickets) × IsOwn desk.now.codes worker.old.swap }
     requires mails { desk.now.mails.items ≡ all_mails 1 desk.now.job.guests }
@@ -233,7 +234,8 @@ pub fn run_worker<J: Naming, R: Wait, G: Gate>(rt: &R, desk: &Desk<J>, worker: &
     requires armed { AreArmed desk.now.codes.codes worker.old.frames.items }
     requires empty { worker.old.replies.items ≡ [] }
     requires room { length desk.now.mails.items ≤ vec_capacity worker.old.replies }
-    ensures { RanWorker desk.now.job (length desk.now.mails.items) worker.old.seat worker.new.seat worker.old.pass worker.new.pass worker.old.drawer worker.new.drawer worker.old.swap worker.new.swap worker.new.replies.items }
+    ensures ran { RanWorker desk.now.job (length desk.now.mails.items) worker.old.seat worker.new.seat worker.old.pass worker.new.pass worker.old.drawer worker.new.drawer worker.old.swap worker.new.swap worker.new.replies.items }
+    ensures memory { All (IsInRoom desk.now.codes.codes desk.now.job) worker.new.replies.items }
 {
     let Worker {
         seat,

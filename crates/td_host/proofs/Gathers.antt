@@ -21,7 +21,8 @@ use Rattle.td_swap.specs.Views.{AreVersions}
 use Rattle.td_swap.specs.Seats.{SwapState, IsOwn, swap_state}
 use Rattle.td_actors.specs.declared.actor.Actor.{Actor}
 use Rattle.td_actors.specs.declared.actor.Actor.TheVariants as kind
-use Rattle.td_host.specs.Gathered.{view_of, IsAt, put_one, take_one, draw_one, swap_one, replies_of, takes_of, seats_all, puts_all, takes_all, draws_all, swaps_all, all_replies, takes_of_all}
+use Rattle.td_actors.specs.Actors.{replies_of}
+use Rattle.td_host.specs.Gathered.{view_of, IsAt, put_one, take_one, draw_one, swap_one, takes_of, seats_all, puts_all, takes_all, draws_all, swaps_all, all_replies, takes_of_all}
 use Rattle.td_actors.proofs.Plays.{append_nil}
 
 put_keeps : (h : Option (Head Post)) (p : Option (Part Post)) → HasHead h → HasHead (part_ended h p)

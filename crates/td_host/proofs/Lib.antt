@@ -4,6 +4,7 @@ pub mod Takings
 pub mod Unique
 pub mod Fetching
 pub mod Wholes
+pub mod Memory
 pub mod Gathers
 pub mod Orders
 pub mod Serves

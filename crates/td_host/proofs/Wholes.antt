@@ -35,8 +35,8 @@ use Rattle.td_actors.specs.declared.actor.Actor.{Actor}
 use Rattle.td_actors.specs.Replies.{label, mail_label}
 use Rattle.td_host.specs.Served.{ArePosted, joined, AnswerTakes, Served}
 use Rattle.td_actors.specs.Acting.{Answered}
-use Rattle.td_actors.specs.Actors.{Service}
-use Rattle.td_host.specs.Gathered.{view_of, seats_all, puts_all, takes_all, draws_all, swaps_all, all_replies, replies_of, takes_of, takes_of_all, IsDescribedBy, Armed}
+use Rattle.td_actors.specs.Actors.{Service, replies_of}
+use Rattle.td_host.specs.Gathered.{view_of, seats_all, puts_all, takes_all, draws_all, swaps_all, all_replies, takes_of, takes_of_all, IsDescribedBy, Armed}
 use Rattle.td_host.proofs.Shares.{all_taken, drawn_all, drawn_below}
 use Rattle.td_host.proofs.Ends.{put_of, take_of, draw_of, swaps_of, put_parts, take_parts, draw_parts, swap_lists, swaps_are, seats_are, puts_are, takes_are, draws_are, DidAll, did_both, GuestsDone, guests_done, WorkersDone, workers_done, cons_opt}
 use Rattle.td_host.proofs.Takings.{TakersDone, takers_done}

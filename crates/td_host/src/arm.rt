@@ -15,6 +15,7 @@ ghost use Rattle.td_actors.specs.Actors.{service_at};
 ghost use Rattle.td_host.specs.Gathered.{IsBounded, host_at, posts_at, takes_at, draws_at, WorkersSeated, GuestsSeated, AreReadersOf, IsReaderBy, IsDescribedBy};
 
 use crate::gather::{Heads, VersionSeats};
+use crate::lists::{buffers_of, zeros_of};
 use crate::rings::{seat_takers, takes_for};
 use crate::script::copied_script;
 use crate::serve::Crew;
@@ -93,7 +94,7 @@ pub(crate) fn mails_of_all(alloc: Global, guests: &[Items<Step>]) -> Result<Vec<
 }
 
 /// Room for the reply of a validation with so many cells and with copy buffers of these rooms, of a message of so many words without a
-/// list of stretches, whose failure has so many frames at most.
+/// list of stretches, whose failure has so many frames at most, and memory for no more.
 pub(crate) fn room_for(
     alloc: Global,
     cells: u32,
@@ -109,6 +110,8 @@ pub(crate) fn room_for(
     ensures cells { IfOk result (λ r. r.cells.items ≡ zeros cells) }
     ensures untold { IfOk result (λ r. r.trace.items ≡ []) }
     ensures trace_room { IfOk result (λ r. vec_capacity r.trace ≡ frames) }
+    ensures cell_room { IfOk result (λ r. vec_capacity r.cells ≡ cells) }
+    ensures buffer_room { IfOk result (λ r. vec_capacity r.copies.buffers ≡ length rooms.now) }
     ensures copies { IfOk result (λ r. r.copies.buffers.items ≡ map empty_with rooms.now) }
 {
     Ok(Reply {
@@ -118,8 +121,10 @@ pub(crate) fn room_for(
         layout: None,
         verdict: Verdict::Accept { pos: 0 },
         trace: Vec::with_capacity(alloc, frames)?,
-        cells: vec![in alloc; 0; cells as usize]?,
-        copies: Copies::with_rooms(alloc, rooms)?,
+        cells: zeros_of(alloc, cells)?,
+        copies: Copies {
+            buffers: buffers_of(alloc, rooms)?,
+        },
         loads: Loads::with_room(alloc, words)?,
     })
 }
@@ -139,6 +144,8 @@ fn scatter_room(
     ensures cells { IfOk result (λ r. r.cells.items ≡ zeros job.now.cells) }
     ensures untold { IfOk result (λ r. r.trace.items ≡ []) }
     ensures trace_room { IfOk result (λ r. vec_capacity r.trace ≡ frames) }
+    ensures cell_room { IfOk result (λ r. vec_capacity r.cells ≡ job.now.cells) }
+    ensures buffer_room { IfOk result (λ r. vec_capacity r.copies.buffers ≡ length job.now.rooms) }
     ensures copies { IfOk result (λ r. r.copies.buffers.items ≡ map empty_with job.now.rooms) }
 {
     let rooms = job.rooms.as_slice();

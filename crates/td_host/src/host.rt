@@ -4,7 +4,7 @@ ghost use Rattle.std.specs.Prelude.{◌≡◌, ◌+◌, ◌*◌, [], length, IfO
 ghost use Rattle.std.specs.List.{All};
 ghost use Rattle.td_core.specs.declared.module.Module.{Module};
 ghost use Rattle.td_ring.specs.declared.post.Post.{Post};
-ghost use Rattle.td_actors.specs.Acting.{Fits, most_frames};
+ghost use Rattle.td_actors.specs.Acting.{Fits, IsInRoom, most_frames};
 ghost use Rattle.td_posts.specs.Servable.{IsServable};
 ghost use Rattle.td_actors.specs.Replies.{IsJobCode};
 ghost use Rattle.td_host.specs.Gathered.{AreReadersOf, IsReaderBy};
@@ -95,11 +95,12 @@ impl<J: Naming + Send + Sync, G: Gate + Send + Drop> Host<J, G> {
 
     /// Serves the job's posts, and meanwhile makes the takes of its rings, and publishes its versions one after the other: each worker,
     /// each guest's script, each ring's taker and the publisher run in a thread of their own where one can be made, and else in turn. To
-    /// be called once. It takes no memory: `arm` took all room.
+    /// be called once. It takes no memory: `arm` took all room, and the lists of a reply have that of its post's room still.
     pub fn serve<R: Threads + Wait + Sync>(&mut self, rt: &R)
         requires { IsArmed J.names self.old }
         ensures desk { self.new.desk ≡ self.old.desk }
         ensures served { (m : Module) → HasDescribed m self.old → IsServed m self.new }
+        ensures memory { All (IsInRoom self.new.desk.codes.codes self.new.desk.job) (replies_in self.new.finished) }
     {
         let Some(crew) = self.crew.take() else {
             unreachable!()

@@ -12,6 +12,7 @@ pub mod desk;
 pub mod gather;
 pub mod host;
 pub mod laws;
+mod lists;
 pub mod order;
 mod rings;
 mod script;

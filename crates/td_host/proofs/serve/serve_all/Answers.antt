@@ -11,11 +11,14 @@ use Rattle.td_posts.specs.Posts.{reply_name}
 use Rattle.td_swap.specs.Views.{publisher_view, new_view, AreVersions}
 use Rattle.td_swap.specs.Seats.{PublishState, SwapState, publish_state}
 use Rattle.td_actors.specs.Replies.{IsJobCode, JobCode}
+use Rattle.td_actors.specs.declared.actor.Actor.TheVariants as kind
+use Rattle.td_actors.specs.Acting.{IsInRoom}
 use Rattle.td_actors.specs.Actors.{service_at}
 use Rattle.td_host.specs.Gathered.{IsAt, seats_all, puts_all, takes_all, draws_all, swaps_all, all_replies, takes_of_all, IsDescribedBy}
 use Rattle.td_host.proofs.Serves.{lent, ready, all_ready, at_all, parted, one_end, same_publisher}
 use Rattle.td_host.specs.Hosts.{takes_in}
 use Rattle.td_host.proofs.Wholes.{ahead, halves, found_few, made_few, taken, same_names, served_versions, no_versions}
+use Rattle.td_host.proofs.Memory.{put}
 use Rattle.td_host.proofs.serve.serve_all.Goals as goal
 
 pub run_all-requires-clause-ready : goal.run_all-requires-clause-ready
@@ -37,7 +40,7 @@ take_publisher-publisher-requires g c =
     let olds = r.actors in
     let all = c.run_all.new.actors in
     let w = lent crew.actors.len all crew.actors.items (c.run_all.auto.actors ∙ c.as_mut_slice.ensures.len) in
-    let x = parted d.job d.mails.items olds c.as_mut_slice.result.now all r.publisher (c.as_mut_slice.ensures.value ∙ r.are) c.run_all.auto.actors c.run_all.ensures in
+    let x = parted d.job d.mails.items olds c.as_mut_slice.result.now all r.publisher (c.as_mut_slice.ensures.value ∙ r.are) c.run_all.auto.actors c.run_all.ensures.did in
     (x.news, x.publisher, w ∙ x.are)
 
 pub gather_all-requires-clause-at : goal.gather_all-requires-clause-at
@@ -50,7 +53,7 @@ gather_all-requires-clause-at g c =
     let olds = r.actors in
     let all = c.run_all.new.actors in
     let w = lent crew.actors.len all crew.actors.items (c.run_all.auto.actors ∙ c.as_mut_slice.ensures.len) in
-    let x = parted d.job d.mails.items olds c.as_mut_slice.result.now all r.publisher (c.as_mut_slice.ensures.value ∙ r.are) c.run_all.auto.actors c.run_all.ensures in
+    let x = parted d.job d.mails.items olds c.as_mut_slice.result.now all r.publisher (c.as_mut_slice.ensures.value ∙ r.are) c.run_all.auto.actors c.run_all.ensures.did in
     let end = one_end x.news c.take_publisher-publisher.new.actors.items _ _ (sym (w ∙ x.are) ∙ c.take_publisher-publisher.ensures) in
     subst (All (IsAt d.shared d.ring d.tickets d.codes)) end.0
     (at_all names d.shared d.ring (service_at d) d.job d.mails.items k.seat k.posts k.takes k.drawer olds x.news r.armed x.did)
@@ -71,7 +74,7 @@ gather_all-requires-clause-room g c =
     let olds = r.actors in
     let all = c.run_all.new.actors in
     let w = lent crew.actors.len all crew.actors.items (c.run_all.auto.actors ∙ c.as_mut_slice.ensures.len) in
-    let x = parted d.job d.mails.items olds c.as_mut_slice.result.now all r.publisher (c.as_mut_slice.ensures.value ∙ r.are) c.run_all.auto.actors c.run_all.ensures in
+    let x = parted d.job d.mails.items olds c.as_mut_slice.result.now all r.publisher (c.as_mut_slice.ensures.value ∙ r.are) c.run_all.auto.actors c.run_all.ensures.did in
     let news = x.news in
     let end = one_end x.news c.take_publisher-publisher.new.actors.items _ _ (sym (w ∙ x.are) ∙ c.take_publisher-publisher.ensures) in
     let v = sym end.0 in
@@ -93,7 +96,7 @@ gather_all-requires-clause-take_room g c =
     let olds = r.actors in
     let all = c.run_all.new.actors in
     let w = lent crew.actors.len all crew.actors.items (c.run_all.auto.actors ∙ c.as_mut_slice.ensures.len) in
-    let x = parted d.job d.mails.items olds c.as_mut_slice.result.now all r.publisher (c.as_mut_slice.ensures.value ∙ r.are) c.run_all.auto.actors c.run_all.ensures in
+    let x = parted d.job d.mails.items olds c.as_mut_slice.result.now all r.publisher (c.as_mut_slice.ensures.value ∙ r.are) c.run_all.auto.actors c.run_all.ensures.did in
     let news = x.news in
     let end = one_end x.news c.take_publisher-publisher.new.actors.items _ _ (sym (w ∙ x.are) ∙ c.take_publisher-publisher.ensures) in
     let v = sym end.0 in
@@ -115,7 +118,7 @@ put_in_order-requires-clause-each g c = λ f.
     let olds = r.actors in
     let all = c.run_all.new.actors in
     let w = lent crew.actors.len all crew.actors.items (c.run_all.auto.actors ∙ c.as_mut_slice.ensures.len) in
-    let x = parted d.job d.mails.items olds c.as_mut_slice.result.now all r.publisher (c.as_mut_slice.ensures.value ∙ r.are) c.run_all.auto.actors c.run_all.ensures in
+    let x = parted d.job d.mails.items olds c.as_mut_slice.result.now all r.publisher (c.as_mut_slice.ensures.value ∙ r.are) c.run_all.auto.actors c.run_all.ensures.did in
     let news = x.news in
     let end = one_end x.news c.take_publisher-publisher.new.actors.items _ _ (sym (w ∙ x.are) ∙ c.take_publisher-publisher.ensures) in
     let v = sym end.0 in
@@ -143,7 +146,7 @@ returns-clause-served g c m described =
     let olds = r.actors in
     let all = c.run_all.new.actors in
     let w = lent crew.actors.len all crew.actors.items (c.run_all.auto.actors ∙ c.as_mut_slice.ensures.len) in
-    let x = parted d.job d.mails.items olds c.as_mut_slice.result.now all r.publisher (c.as_mut_slice.ensures.value ∙ r.are) c.run_all.auto.actors c.run_all.ensures in
+    let x = parted d.job d.mails.items olds c.as_mut_slice.result.now all r.publisher (c.as_mut_slice.ensures.value ∙ r.are) c.run_all.auto.actors c.run_all.ensures.did in
     let news = x.news in
     let end = one_end x.news c.take_publisher-publisher.new.actors.items _ _ (sym (w ∙ x.are) ∙ c.take_publisher-publisher.ensures) in
     let v = sym end.0 in
@@ -187,9 +190,20 @@ returns-clause-versions_own g c =
     let olds = r.actors in
     let all = c.run_all.new.actors in
     let w = lent crew.actors.len all crew.actors.items (c.run_all.auto.actors ∙ c.as_mut_slice.ensures.len) in
-    let x = parted d.job d.mails.items olds c.as_mut_slice.result.now all r.publisher (c.as_mut_slice.ensures.value ∙ r.are) c.run_all.auto.actors c.run_all.ensures in
+    let x = parted d.job d.mails.items olds c.as_mut_slice.result.now all r.publisher (c.as_mut_slice.ensures.value ∙ r.are) c.run_all.auto.actors c.run_all.ensures.did in
     let end = one_end x.news c.take_publisher-publisher.new.actors.items _ _ (sym (w ∙ x.are) ∙ c.take_publisher-publisher.ensures) in
     let publisher = sym (same_publisher x.publisher c.take_publisher-publisher.result end.1) ∙ (x.ran ∙ ap (λ (s : PublishState). publish_state s.table (publisher_view s.view.count (s.view.count - 1))) r.is_publisher) in (
       ap (λ (s : SwapState). s.table) c.gather_all.ensures.swap ∙ ap (λ (s : SwapState). s.table) r.is_swap,
       ap (λ (s : PublishState). s.table) publisher,
     )
+
+pub returns-clause-memory : goal.returns-clause-memory
+returns-clause-memory g c =
+    let d = c.args.desk.now in
+    let crew = c.args.crew in
+    let all = c.run_all.new.actors in
+    let news = c.take_publisher-publisher.new.actors.items in
+    let w = lent crew.actors.len all crew.actors.items (c.run_all.auto.actors ∙ c.as_mut_slice.ensures.len) in
+    let found : c.gather_all.new.found.items ≡ all_replies news = c.gather_all.ensures.found ∙ ap (λ (l : List Reply). l ++ all_replies news) c.requires.crew.none_found in
+    subst (All (IsInRoom d.codes.codes d.job)) (sym c.of.ensures)
+    (put (IsInRoom d.codes.codes d.job) all news (kind.Publisher c.take_publisher-publisher.result) (length c.as_mut_slice.result.now) c.gather_all.new.found.items c.put_in_order.new.replies.items c.run_all.auto.actors c.run_all.ensures.memory (sym w ∙ c.take_publisher-publisher.ensures) found c.put_in_order.ensures.order)

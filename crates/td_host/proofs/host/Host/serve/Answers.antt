@@ -9,3 +9,6 @@ returns-clause-served g c m described =
     let e = c.serve_all-finished.ensures in
     let is : c.args.self.now.crew ≡ Some c.in-Some.crew = search rules in
     (e.own.0, e.own.1, e.versions_own.0, e.versions_own.1, e.served m (there (λ k. All (IsDescribedBy m) k.actors.items) c.args.self.now.crew c.in-Some.crew is described))
+
+pub returns-clause-memory : goal.returns-clause-memory
+returns-clause-memory g c = c.serve_all-finished.ensures.memory
