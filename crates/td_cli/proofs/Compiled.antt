@@ -1,15 +1,13 @@
 -- A job that is run by its module's code.
-use Rattle.std.proofs.Common.{◌≡◌, ℕ, ◌<◌, ◌≤◌, List, length, ◌∙◌, subst, sym, Option, []}
+use Rattle.std.proofs.Common.{◌≡◌, ℕ, ◌<◌, List, length, ◌∙◌, subst, sym, Option}
 use Rattle.td_core.specs.declared.module.Module.{Module}
 use Rattle.td_core.specs.declared.module.Entry.{Entry}
 use Rattle.td_core.specs.declared.outcome.Outcome.{Outcome}
 use Rattle.td_core.specs.Entries.{entry_definition}
-use Rattle.td_core.specs.Formed.{AllFit}
 use Rattle.td_stream.specs.declared.load.Load.{Load}
 use Rattle.td_sched.specs.declared.store.PlannedStore.{PlannedStore}
 use Rattle.td_job.specs.declared.run_job.RunJob.{RunJob}
 use Rattle.td_stream.specs.declared.stretch.Stretch.{Stretch}
-use Rattle.td_stream.specs.Layouts.{count_in, counted, laid, IsOver}
 use Rattle.td_job.specs.Jobs.{HasRoom, HasValues}
 use Rattle.td_input.specs.Inputs.{IsSoundJob}
 use Rattle.td_ir.specs.declared.tables.Parts.{Parts}
@@ -26,13 +24,13 @@ use Rattle.td_gen.specs.Message.{format_of, IsMessage}
 use Rattle.td_cli.specs.Benching.{HasRun}
 use Rattle.td_cli.proofs.Benches.{message_run}
 use Rattle.td_cli.specs.Run.{IsRunOf}
-use Rattle.td_input.proofs.Sounds.{same_args, same_cells}
+use Rattle.td_job.proofs.Writing.{fits_params, fits_cells}
 
 -- a job's values fit its entry point's code
 pub job_fits : ArgumentsFit → (c : Parts) (m : Module) (job : RunJob) → IsCodeOf c m → job.entry.number < length m.entries → HasValues m job → Fits c job.entry job.args job.cells
 job_fits law c m job of inside values =
     let o = entry_definition m job.entry.number in
-    law c m job.entry job.args job.cells of inside (subst (λ b. AllFit b job.args) (same_args o) values.args) (subst (λ b. AllFit b job.cells) (same_cells o) values.cells)
+    law c m job.entry job.args job.cells of inside (fits_params o job.args values.args) (fits_cells o job.cells values.cells)
 
 abbrev pub input_of : RunJob → Input
 input_of job = record { entry = job.entry; args = job.args; cells = job.cells; length = job.length; layout = job.layout; words = job.words; stores = job.stores }

@@ -1,13 +1,11 @@
 pub mod Inputs
 pub mod Calls
+pub mod Answered
+pub mod Texts
 pub mod Runs
 pub mod Hosts
-pub mod Checks
 pub mod OneRun
 pub mod Benches
-pub mod Tidies
-pub mod Codes
-pub mod Packs
 pub mod Answering
 pub mod Reports
 pub mod Always

@@ -4,6 +4,7 @@ pub mod Totals
 pub mod Bench
 pub mod Benching
 pub mod Answers
+pub mod Texts
 pub mod Errors
 pub mod Lines
 pub mod Ends

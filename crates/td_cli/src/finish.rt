@@ -1,7 +1,7 @@
 //! How a call ends once all is decided: text goes to a sink, and the status follows. Nothing here takes memory, so nothing
 //! that was decided can be told as want of it.
 
-ghost use Rattle.std.specs.Prelude.{◌≡◌, [], IfOk, MatchResult, option_map};
+ghost use Rattle.std.specs.Prelude.{◌≡◌, option_map};
 ghost use Rattle.std.specs.List.{All};
 ghost use Rattle.td_stream.specs.Layouts.{IsNumberOf};
 ghost use Rattle.td_report.specs.Report.{report};
@@ -11,7 +11,7 @@ ghost use Rattle.td_serving.specs.Serving.{CanBeShown};
 ghost use Rattle.td_report.specs.Summary.{summary};
 ghost use Rattle.td_cli.specs.Totals.{totals_text};
 ghost use Rattle.td_cli.specs.Ends.{passage};
-ghost use Rattle.td_cli.specs.Endings.{EndsWith, EndsWithLine, EndsWithOutput};
+ghost use Rattle.td_cli.specs.Endings.{EndsWith};
 ghost use Rattle.td_cli.specs.Errors.{unanswered_line, unanswered_status, unread_line, unread_status};
 ghost use Rattle.td_cli.specs.Lines.{memory_line, refusal_line};
 
@@ -23,8 +23,6 @@ use td_core::module::{Entry, Module};
 use td_host_report::report::host_report;
 use td_input::refusal::{InputError, Refusal};
 use td_io::{ReadError, Sink, write_all};
-use td_num::items::Items;
-use td_num::text::Text;
 use td_report::report::run_report;
 use td_report::summary::module_summary;
 use td_serving::serving::ServedInput;
@@ -67,8 +65,8 @@ pub(crate) fn finish_unread<E: Sink>(error: ReadError, err: &mut E) -> Status
     }
 }
 
-// Ends a call whose input has no answer.
-fn finish_unanswered<E: Sink>(input: &[u8], error: &InputError, err: &mut E) -> Status
+/// Ends a call whose input has no answer: writes the line that says why.
+pub(crate) fn finish_unanswered<E: Sink>(input: &[u8], error: &InputError, err: &mut E) -> Status
     ensures { EndsWith (unanswered_status error.now) (unanswered_line input.now error.now) (passage E.state err.old err.new) result }
 {
     match error {
@@ -77,10 +75,12 @@ fn finish_unanswered<E: Sink>(input: &[u8], error: &InputError, err: &mut E) -> 
     }
 }
 
-// Ends a call with the report of a run.
-fn finish_report<O: Sink>(run: &FinishedRun, out: &mut O) -> Status
+/// Ends a call with the report of a run.
+pub(crate) fn finish_report<O: Sink>(run: &FinishedRun, out: &mut O) -> Status
     requires { All (λ l. IsNumberOf run.now.input.job.layout l.word) run.now.loads.list }
-    ensures { EndsWith Status.Done (report run.now.outcome run.now.input.module run.now.input.job.entry run.now.loads.list run.now.input.job.layout run.now.input.job.written) (passage O.state out.old out.new) result }
+    ensures { EndsWith Status.Done
+        (report run.now.outcome run.now.input.module run.now.input.job.entry run.now.loads.list run.now.input.job.layout run.now.input.job.written)
+        (passage O.state out.old out.new) result }
 {
     match run_report(
         &run.outcome,
@@ -96,24 +96,6 @@ fn finish_report<O: Sink>(run: &FinishedRun, out: &mut O) -> Status
     }
 }
 
-/// Ends a call of `run`: writes the report of the run, or the line that says why the input has none.
-pub(crate) fn finish_run<O: Sink, E: Sink>(
-    input: &[u8],
-    run: &Result<FinishedRun, InputError>,
-    out: &mut O,
-    err: &mut E,
-) -> Status
-    requires { IfOk run.now (λ run. All (λ l. IsNumberOf run.input.job.layout l.word) run.loads.list) }
-    ensures { MatchResult run.now
-        (λ run. EndsWithOutput (report run.outcome run.input.module run.input.job.entry run.loads.list run.input.job.layout run.input.job.written) (passage O.state out.old out.new) (passage E.state err.old err.new) result)
-        (λ error. EndsWithLine (unanswered_status error) (unanswered_line input.now error) (passage O.state out.old out.new) (passage E.state err.old err.new) result) }
-{
-    match run {
-        Ok(run) => finish_report(run, out),
-        Err(error) => finish_unanswered(input, error, err),
-    }
-}
-
 // The module of descriptors, with its entry point.
 fn at_desc(ring: Option<&Module>) -> Option<(&Module, Entry)>
     ensures { option_map (λ r. (r.0.now, r.1)) result ≡ at_desc (option_map (λ m. m.now) ring.entry) }
@@ -124,10 +106,12 @@ fn at_desc(ring: Option<&Module>) -> Option<(&Module, Entry)>
     }
 }
 
-// Ends a call with the report of a host.
-fn finish_served<O: Sink>(served: &ServedInput, out: &mut O) -> Status
+/// Ends a call with the report of a host: of the replies and takes.
+pub(crate) fn finish_served<O: Sink>(served: &ServedInput, out: &mut O) -> Status
     requires { CanBeShown served.now.formats served.now.entries served.now.replies served.now.takes }
-    ensures { EndsWith Status.Done (host_report served.now.formats served.now.entries served.now.replies (at_desc served.now.ring) served.now.takes) (passage O.state out.old out.new) result }
+    ensures { EndsWith Status.Done
+        (host_report served.now.formats served.now.entries served.now.replies (at_desc served.now.ring) served.now.takes)
+        (passage O.state out.old out.new) result }
 {
     match host_report(
         served.formats.as_slice(),
@@ -142,26 +126,8 @@ fn finish_served<O: Sink>(served: &ServedInput, out: &mut O) -> Status
     }
 }
 
-/// Ends a call of `host`: writes the report of the replies and takes, or the line that says why the input has none.
-pub(crate) fn finish_host<O: Sink, E: Sink>(
-    input: &[u8],
-    served: &Result<ServedInput, InputError>,
-    out: &mut O,
-    err: &mut E,
-) -> Status
-    requires { IfOk served.now (λ s. CanBeShown s.formats s.entries s.replies s.takes) }
-    ensures { MatchResult served.now
-        (λ s. EndsWithOutput (host_report s.formats s.entries s.replies (at_desc s.ring) s.takes) (passage O.state out.old out.new) (passage E.state err.old err.new) result)
-        (λ error. EndsWithLine (unanswered_status error) (unanswered_line input.now error) (passage O.state out.old out.new) (passage E.state err.old err.new) result) }
-{
-    match served {
-        Ok(served) => finish_served(served, out),
-        Err(error) => finish_unanswered(input, error, err),
-    }
-}
-
-// Ends a call with what a module has.
-fn finish_summary<O: Sink>(m: &Module, out: &mut O) -> Status
+/// Ends a call with what a module has.
+pub(crate) fn finish_summary<O: Sink>(m: &Module, out: &mut O) -> Status
     ensures { EndsWith Status.Done (summary m.now) (passage O.state out.old out.new) result }
 {
     match module_summary(m, out) {
@@ -170,116 +136,22 @@ fn finish_summary<O: Sink>(m: &Module, out: &mut O) -> Status
     }
 }
 
-/// Ends a call of `check`: writes what the module has, or the line that says why there is none.
-pub(crate) fn finish_check<O: Sink, E: Sink>(
-    input: &[u8],
-    checked: &Result<Module, InputError>,
-    out: &mut O,
-    err: &mut E,
-) -> Status
-    ensures { MatchResult checked.now
-        (λ m. EndsWithOutput (summary m) (passage O.state out.old out.new) (passage E.state err.old err.new) result)
-        (λ error. EndsWithLine (unanswered_status error) (unanswered_line input.now error) (passage O.state out.old out.new) (passage E.state err.old err.new) result) }
-{
-    match checked {
-        Ok(m) => finish_summary(m, out),
-        Err(error) => finish_unanswered(input, error, err),
-    }
-}
-
-// Ends a call with a text.
-fn finish_text<O: Sink>(text: &Text, out: &mut O) -> Status
-    ensures { EndsWith Status.Done text.now (passage O.state out.old out.new) result }
-{
-    match write_all(out, text.as_slice()) {
-        Ok(()) => Status::Done,
-        Err(_) => Status::WriteFault,
-    }
-}
-
-/// Ends a call of `tidy`: writes the canonical text, or the line that says why there is none.
-pub(crate) fn finish_tidy<O: Sink, E: Sink>(
-    input: &[u8],
-    text: &Result<Text, InputError>,
-    out: &mut O,
-    err: &mut E,
-) -> Status
-    ensures { MatchResult text.now
-        (λ text. EndsWithOutput text (passage O.state out.old out.new) (passage E.state err.old err.new) result)
-        (λ error. EndsWithLine (unanswered_status error) (unanswered_line input.now error) (passage O.state out.old out.new) (passage E.state err.old err.new) result) }
-{
-    match text {
-        Ok(text) => finish_text(text, out),
-        Err(error) => finish_unanswered(input, error, err),
-    }
-}
-
-/// Ends a call of `code`: writes the listing, or the line that says why there is none.
-pub(crate) fn finish_code<O: Sink, E: Sink>(
-    input: &[u8],
-    text: &Result<Text, InputError>,
-    out: &mut O,
-    err: &mut E,
-) -> Status
-    ensures { MatchResult text.now
-        (λ text. EndsWithOutput text (passage O.state out.old out.new) (passage E.state err.old err.new) result)
-        (λ error. EndsWithLine (unanswered_status error) (unanswered_line input.now error) (passage O.state out.old out.new) (passage E.state err.old err.new) result) }
-{
-    match text {
-        Ok(text) => finish_text(text, out),
-        Err(error) => finish_unanswered(input, error, err),
-    }
-}
-
-// Ends a call with bytes.
-fn finish_bytes<O: Sink>(bytes: &Items<u8>, out: &mut O) -> Status
+/// Ends a call with bytes: those of a text or of an image.
+pub(crate) fn finish_bytes<O: Sink>(bytes: &[u8], out: &mut O) -> Status
     ensures { EndsWith Status.Done bytes.now (passage O.state out.old out.new) result }
 {
-    match write_all(out, bytes.as_slice()) {
+    match write_all(out, bytes) {
         Ok(()) => Status::Done,
         Err(_) => Status::WriteFault,
     }
 }
 
-/// Ends a call of `pack`: writes the image, or the line that says why there is none.
-pub(crate) fn finish_pack<O: Sink, E: Sink>(
-    input: &[u8],
-    image: &Result<Items<u8>, InputError>,
-    out: &mut O,
-    err: &mut E,
-) -> Status
-    ensures { MatchResult image.now
-        (λ image. EndsWithOutput image (passage O.state out.old out.new) (passage E.state err.old err.new) result)
-        (λ error. EndsWithLine (unanswered_status error) (unanswered_line input.now error) (passage O.state out.old out.new) (passage E.state err.old err.new) result) }
-{
-    match image {
-        Ok(image) => finish_bytes(image, out),
-        Err(error) => finish_unanswered(input, error, err),
-    }
-}
-
-// Ends a call with the totals over some runs.
-fn finish_totals<O: Sink>(totals: Totals, out: &mut O) -> Status
+/// Ends a call with the totals over some runs.
+pub(crate) fn finish_totals<O: Sink>(totals: Totals, out: &mut O) -> Status
     ensures { EndsWith Status.Done (totals_text totals) (passage O.state out.old out.new) result }
 {
     match write_totals(totals, out) {
         Ok(()) => Status::Done,
         Err(_) => Status::WriteFault,
-    }
-}
-
-/// Ends a call of `bench`, which has no input: writes the totals, or the line that says why there are none.
-pub(crate) fn finish_bench<O: Sink, E: Sink>(
-    totals: &Result<Totals, InputError>,
-    out: &mut O,
-    err: &mut E,
-) -> Status
-    ensures { MatchResult totals.now
-        (λ totals. EndsWithOutput (totals_text totals) (passage O.state out.old out.new) (passage E.state err.old err.new) result)
-        (λ error. EndsWithLine (unanswered_status error) (unanswered_line [] error) (passage O.state out.old out.new) (passage E.state err.old err.new) result) }
-{
-    match totals {
-        Ok(totals) => finish_totals(*totals, out),
-        Err(error) => finish_unanswered(&[], error, err),
     }
 }

@@ -1,14 +1,12 @@
-//! The command `host`: the posts of the job's guests are served, and its rings are looked at, while the guests go on storing to the
-//! buffer.
+//! The command `host`: the posts of the job's guests are served, and its rings are looked at, while the guests go on storing
+//! to the buffer.
 
-ghost use Rattle.std.specs.Prelude.{◌≡◌, ◌≢◌, ◌≤◌, ◌*◌, length};
-ghost use Rattle.td_input.specs.declared.refusal.Refusal.{Refusal};
+ghost use Rattle.std.specs.Prelude.{◌≡◌, ◌≤◌, ◌*◌, length};
 ghost use Rattle.td_command.specs.declared.command.Command.TheVariants as commands;
-ghost use Rattle.td_cli.specs.Answers.{Admits, Refuses};
 ghost use Rattle.td_cli.specs.Ends.{passage};
-ghost use Rattle.td_cli.specs.Endings.{InputEnds};
+ghost use Rattle.td_cli.specs.Endings.{AnswersInput};
 
-use crate::finish::finish_host;
+use crate::finish::{finish_served, finish_unanswered};
 use crate::status::Status;
 use crate::tool::INPUT_LIMIT;
 use std::alloc::AllocGlobal;
@@ -19,8 +17,8 @@ use td_live::gate::Gate;
 use td_serving::gates::GATES_OF_EACH;
 use td_serving::serving::serve_input;
 
-/// Answers the input of `host`: with the report of its job's replies and takes, or the line that refuses it. There may be no memory
-/// only where the input has a marker. It may wait.
+/// Answers the input of `host`: with the report of its job's replies and takes, or the line that refuses it. There may be no
+/// memory only where the input has a marker. It may wait.
 pub(crate) fn answer_host<
     R: AllocGlobal + Threads + Wait + Sync,
     O: Sink,
@@ -29,10 +27,11 @@ pub(crate) fn answer_host<
 >(rt: &R, input: &[u8], out: &mut O, err: &mut E, gates: Vec<G>) -> Status
     requires short { length input.now ≤ INPUT_LIMIT }
     requires gates { length gates.items ≡ 2 * GATES_OF_EACH }
-    ensures ends { InputEnds commands.Host input.now (passage O.state out.old out.new) (passage E.state err.old err.new) result }
-    ensures good { Admits commands.Host input.now → result ≢ Status.Refused }
-    ensures bad { (refusal : Refusal) → Refuses commands.Host input.now refusal → result ≢ Status.Done }
+    ensures { AnswersInput commands.Host input.now
+        (passage O.state out.old out.new) (passage E.state err.old err.new) result }
 {
-    let served = serve_input(rt, input, gates);
-    finish_host(input, &served, out, err)
+    match serve_input(rt, input, gates) {
+        Ok(served) => finish_served(&served, out),
+        Err(error) => finish_unanswered(input, &error, err),
+    }
 }

@@ -54,8 +54,8 @@ pub fn admitted_or_refused()
     jobs::named_job_or_fault();
 }
 
-/// Two runs of one module whose reports are equal have equal verdicts, traces and cells, and loads of which a report says the same,
-/// which are equal where their jobs have one layout, or none: what is said of a run can be read off its report.
+/// Two runs of one module whose reports are equal have equal verdicts, traces and cells, and loads of which a report says
+/// the same, which are equal where their jobs have one layout, or none: what is said of a run can be read off its report.
 pub fn reports_determine_runs()
     ensures { ReportsDetermineRuns }
 {

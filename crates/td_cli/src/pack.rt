@@ -1,16 +1,13 @@
 //! The command `pack`: the image of the code of a module text that is accepted.
 
-ghost use Rattle.std.specs.Prelude.{◌≡◌, ◌≢◌, ◌<◌, ◌≤◌, ◌-◌, ◌^◌, length, IfOk, IfErr, IsErr};
-ghost use Rattle.td_core.specs.declared.module.Module.{Module};
-ghost use Rattle.td_front.specs.ModuleText.{IsModuleText};
-ghost use Rattle.td_input.specs.declared.refusal.Refusal.{Refusal};
-ghost use Rattle.td_input.specs.Causes.{HasCause};
+ghost use Rattle.std.specs.Prelude.{◌<◌, ◌≤◌, ◌-◌, ◌^◌, length};
 ghost use Rattle.td_command.specs.declared.command.Command.TheVariants as commands;
-ghost use Rattle.td_cli.specs.Answers.{Admits, IsImageOf, Refuses, RefusesCheck};
+ghost use Rattle.td_cli.specs.Answers.{IsImageOf};
 ghost use Rattle.td_cli.specs.Ends.{passage};
-ghost use Rattle.td_cli.specs.Endings.{InputEnds};
+ghost use Rattle.td_cli.specs.Endings.{AnswersInput};
+ghost use Rattle.td_cli.specs.Texts.{AnswersText};
 
-use crate::finish::finish_pack;
+use crate::finish::{finish_bytes, finish_unanswered};
 use crate::status::Status;
 use crate::tool::INPUT_LIMIT;
 use std::alloc::Global;
@@ -23,10 +20,7 @@ use td_num::items::Items;
 // The image of the code of the module for which an input stands.
 fn pack_input(alloc: Global, input: &[u8]) -> Result<Items<u8>, InputError>
     requires { length input.now < 2 ^ 32 - 1 }
-    ensures pack { IfOk result (IsImageOf input.now) }
-    ensures cause { IfErr result (HasCause (RefusesCheck input.now)) }
-    ensures complete { (m : Module) → IsModuleText input.now m → IfErr result (λ e. e ≡ InputError.NoMemory) }
-    ensures refused { (refusal : Refusal) → RefusesCheck input.now refusal → IsErr result }
+    ensures { AnswersText (IsImageOf input.now) input.now result }
 {
     match check_module(alloc, input) {
         Err(error) => Err(of_module(error)),
@@ -45,10 +39,11 @@ pub(crate) fn answer_pack<O: Sink, E: Sink>(
     err: &mut E,
 ) -> Status
     requires { length input.now ≤ INPUT_LIMIT }
-    ensures ends { InputEnds commands.Pack input.now (passage O.state out.old out.new) (passage E.state err.old err.new) result }
-    ensures good { Admits commands.Pack input.now → result ≢ Status.Refused }
-    ensures bad { (refusal : Refusal) → Refuses commands.Pack input.now refusal → result ≢ Status.Done }
+    ensures { AnswersInput commands.Pack input.now
+        (passage O.state out.old out.new) (passage E.state err.old err.new) result }
 {
-    let image = pack_input(alloc, input);
-    finish_pack(input, &image, out, err)
+    match pack_input(alloc, input) {
+        Ok(image) => finish_bytes(image.as_slice(), out),
+        Err(error) => finish_unanswered(input, &error, err),
+    }
 }

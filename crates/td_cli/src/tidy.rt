@@ -1,16 +1,13 @@
 //! The command `tidy`: the canonical text of a module text that is accepted.
 
-ghost use Rattle.std.specs.Prelude.{◌≡◌, ◌≢◌, ◌<◌, ◌≤◌, ◌-◌, ◌^◌, length, IfOk, IfErr, IsErr};
-ghost use Rattle.td_core.specs.declared.module.Module.{Module};
-ghost use Rattle.td_front.specs.ModuleText.{IsModuleText};
-ghost use Rattle.td_input.specs.declared.refusal.Refusal.{Refusal};
+ghost use Rattle.std.specs.Prelude.{◌<◌, ◌≤◌, ◌-◌, ◌^◌, length};
 ghost use Rattle.td_command.specs.declared.command.Command.TheVariants as commands;
-ghost use Rattle.td_cli.specs.Answers.{Admits, IsTidy, Refuses, RefusesCheck};
+ghost use Rattle.td_cli.specs.Answers.{IsTidy};
 ghost use Rattle.td_cli.specs.Ends.{passage};
-ghost use Rattle.td_cli.specs.Endings.{InputEnds};
-ghost use Rattle.td_input.specs.Causes.{HasCause};
+ghost use Rattle.td_cli.specs.Endings.{AnswersInput};
+ghost use Rattle.td_cli.specs.Texts.{AnswersText};
 
-use crate::finish::finish_tidy;
+use crate::finish::{finish_bytes, finish_unanswered};
 use crate::status::Status;
 use crate::tool::INPUT_LIMIT;
 use std::alloc::{AllocError, Global};
@@ -23,10 +20,7 @@ use td_print::print;
 // The canonical text of the module for which an input stands.
 fn tidy_input(alloc: Global, input: &[u8]) -> Result<Text, InputError>
     requires { length input.now < 2 ^ 32 - 1 }
-    ensures tidy { IfOk result (IsTidy input.now) }
-    ensures cause { IfErr result (HasCause (RefusesCheck input.now)) }
-    ensures complete { (m : Module) → IsModuleText input.now m → IfErr result (λ e. e ≡ InputError.NoMemory) }
-    ensures refused { (refusal : Refusal) → RefusesCheck input.now refusal → IsErr result }
+    ensures { AnswersText (IsTidy input.now) input.now result }
 {
     match check_input(alloc, input) {
         Err(error) => Err(of_module(error)),
@@ -45,10 +39,11 @@ pub(crate) fn answer_tidy<O: Sink, E: Sink>(
     err: &mut E,
 ) -> Status
     requires { length input.now ≤ INPUT_LIMIT }
-    ensures ends { InputEnds commands.Tidy input.now (passage O.state out.old out.new) (passage E.state err.old err.new) result }
-    ensures good { Admits commands.Tidy input.now → result ≢ Status.Refused }
-    ensures bad { (refusal : Refusal) → Refuses commands.Tidy input.now refusal → result ≢ Status.Done }
+    ensures { AnswersInput commands.Tidy input.now
+        (passage O.state out.old out.new) (passage E.state err.old err.new) result }
 {
-    let text = tidy_input(alloc, input);
-    finish_tidy(input, &text, out, err)
+    match tidy_input(alloc, input) {
+        Ok(text) => finish_bytes(text.as_slice(), out),
+        Err(error) => finish_unanswered(input, &error, err),
+    }
 }

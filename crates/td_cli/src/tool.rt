@@ -6,7 +6,7 @@ ghost use Rattle.td_cli.specs.Answers.{Admits, Refuses};
 ghost use Rattle.td_command.specs.Command.{IsInRange, Means};
 ghost use Rattle.td_cli.specs.Ends.{CallEnds, EndsAs, IsHandedOn, Reads, StopsReading, passage};
 ghost use Rattle.td_cli.specs.Laws.{IsAlone};
-ghost use Rattle.td_cli.specs.Endings.{InputEnds};
+ghost use Rattle.td_cli.specs.Endings.{AnswersInput};
 
 use crate::bench::answer_bench;
 use crate::check::answer_check;
@@ -41,9 +41,8 @@ fn answer_input<O: Sink, E: Sink>(
     requires reads { Reads command }
     requires alone { IsAlone command }
     requires short { length input.now ≤ INPUT_LIMIT }
-    ensures ends { InputEnds command input.now (passage O.state out.old out.new) (passage E.state err.old err.new) result }
-    ensures good { Admits command input.now → result ≢ Status.Refused }
-    ensures bad { (refusal : Refusal) → Refuses command input.now refusal → result ≢ Status.Done }
+    ensures { AnswersInput command input.now
+        (passage O.state out.old out.new) (passage E.state err.old err.new) result }
 {
     match command {
         Command::Check => answer_check(alloc, input, out, err),
@@ -128,19 +127,19 @@ fn answer_command<S: Source, O: Sink, E: Sink>(
 }
 
 /// Runs the tool on a command line, of which the first word is the program's name, and waits for nobody: it has no bound
-/// `Wait`, so that it returns is proved. None: the words mean `host`, which waits and is answered by [`run_hosted`], and nothing was
-/// read or written. For such words there is another answer only where there was no memory.
+/// `Wait`, so that it returns is proved. None: the words mean `host`, which waits and is answered by [`run_hosted`], and
+/// nothing was read or written. For such words there is another answer only where there was no memory.
 ///
-/// At `Done` of `check` the input stands for a module, of which the counts
-/// were written. At `Done` of `tidy` it stands for one too, and the canonical text of its tree was written. At `Done` of `code` and
-/// `pack` it stands for one too, and the listing, or the image, of code was written that does what the module means. At `Done` of
-/// `run` the input was answered by the report of a run in which each word of the message was loaded at most once, and whose
-/// outcome is the meaning's on every list of bytes that carries
-/// the loads. At `Done` of `bench` the counts and sums over one such run of each message were written.
+/// At `Done` of `check` the input stands for a module, of which the counts were written. At `Done` of `tidy` it stands for
+/// one too, and the canonical text of its tree was written. At `Done` of `code` and `pack` it stands for one too, and the
+/// listing, or the image, of code was written that does what the module means. At `Done` of `run` the input was answered by
+/// the report of a run in which each word of the message was loaded at most once, and whose outcome is the meaning's on
+/// every list of bytes that carries the loads. At `Done` of `bench` the counts and sums over one such run of each message
+/// were written.
 ///
 /// The words are looked at first; then the source is read to its end, or until one byte past the limit was read; then the
-/// input is answered. For `bench` nothing is read. A source that has more is taken from by at most 4,096 bytes past the limit, and never read again.
-/// Where the words mean no command, the source isn't read at all.
+/// input is answered. For `bench` nothing is read. A source that has more is taken from by at most 4,096 bytes past the
+/// limit, and never read again. Where the words mean no command, the source isn't read at all.
 ///
 /// See [`Status`] for what is written at each end. A fault is answered as what it was, by the counts of the three streams:
 /// where a read failed, by `ReadFault`, or by `WriteFault` where writing that line failed too; where a write of `out` or of

@@ -1,16 +1,15 @@
 -- There is a message of each number.
-use Rattle.std.proofs.Common.{◌≡◌, ℕ, zero, suc, ◌+◌, ◌-◌, ◌/◌, ◌%◌, ◌^◌, ◌<◌, ◌≤◌, List, [], ◌∷◌, ◌++◌, length, slice_index, inl, inr, refl, arith, lit<}
+use Rattle.std.proofs.Common.{ℕ, zero, suc, ◌+◌, ◌-◌, ◌/◌, ◌%◌, ◌^◌, ◌<◌, List, [], ◌∷◌, ◌++◌, length, refl, arith, lit<}
 use Rattle.std.specs.Prelude.{replicate}
 use Rattle.std.specs.Int.{w16, w32, byte_at, bytes_low_first, bytes_high_first, to_le_bytes, to_be_bytes}
 use Rattle.std.specs.List.{All}
-use Rattle.std.proofs.lemmas.Bool.{cases_lt}
 use Rattle.std.proofs.lemmas.List.Elements.{All-nil, All-cons, All-append, All-push, All-replicate}
-use Rattle.std.proofs.Math.ListN.{get_or-eq_default}
+use Rattle.td_num.proofs.Digits.{are_bytes}
 use Rattle.td_formats.specs.declared.format.Format.{Format}
 use Rattle.td_formats.specs.declared.format.Format.TheVariants.{Ethernet, Ipv4, Tcp, Rndis}
 use Rattle.td_formats.specs.Format.{entry_of}
 use Rattle.td_job.specs.declared.named.NamedJob.{NamedJob}
-use Rattle.td_job.proofs.Bytes.{AreBytes, filled}
+use Rattle.td_job.proofs.Bytes.{filled}
 use Rattle.td_gen.specs.Message.{format_of, payload_of, filler, fillers, fillers_before, fillers_behind, number_pair, header_of, header_length, formed_bytes, message_bytes, args_of, cell_count, IsMessage}
 
 abbrev Small : ℕ → Type 0
@@ -69,12 +68,6 @@ formed_small f n p =
     let first = fillers n 0 (fillers_before f) in
     let last = fillers n (fillers_before f + header_length f) (fillers_behind f + p) in
     pair (first ++ header_of f p) last (pair first (header_of f p) (fillers_small n 0 (fillers_before f)) (header_small f p)) (fillers_small n (fillers_before f + header_length f) (fillers_behind f + p))
-
-are_bytes : (bytes : List ℕ) → All Small bytes → AreBytes bytes
-are_bytes bytes all i = elim (cases_lt i (length bytes)) [ inl inside ↦ all i 0 inside | inr past ↦ beyond past ]
-  where
-    beyond : length bytes ≤ i → slice_index bytes i < 256
-    beyond h = let none : slice_index bytes i ≡ 0 = get_or-eq_default bytes 0 h in omega arith
 
 pub some_message : (n : ℕ) → (job : NamedJob) × IsMessage n job
 some_message n =

@@ -6,6 +6,7 @@ ghost use Rattle.td_host_report.specs.Report.{run_by, HasMessageWords};
 use td_core::module::{Entry, Module};
 use td_io::{Sink, WriteFault};
 use td_posts::reply::Reply;
+use td_report::outcome::OutcomeParts;
 use td_report::report::report_of_parts;
 
 /// Writes the report of the run that a reply tells of, by the names of this module and the cells and copy buffers of this entry point,
@@ -19,15 +20,18 @@ pub(crate) fn write_run<O: Sink>(
     requires { HasMessageWords reply.now }
     ensures { Writes (O.state out.old) (O.state out.new) (run_by format.now entry reply.now) result }
 {
+    let outcome = OutcomeParts {
+        verdict: reply.verdict,
+        trace: reply.trace.as_slice(),
+        cells: &reply.cells,
+        copies: &reply.copies.buffers,
+    };
     report_of_parts(
-        reply.verdict,
-        reply.trace.as_slice(),
-        &reply.cells,
-        &reply.copies.buffers,
-        reply.loads.as_slice(),
-        reply.layout.as_ref(),
+        &outcome,
         format,
         entry,
+        reply.loads.as_slice(),
+        reply.layout.as_ref(),
         None,
         out,
     )

@@ -1,5 +1,5 @@
 -- In a module that was checked, each expression that a run of a good job evaluates lies in its type's range. Cited by other crates.
-use Rattle.std.proofs.Common.{◌≡◌, ℕ, ◌<◌, ◌^◌, List, [], ◌∷◌, length, Option, Some, None, inl, inr, subst, sym, refl, arith}
+use Rattle.std.proofs.Common.{◌≡◌, ℕ, ◌<◌, ◌^◌, List, length, Option, Some, inl, inr, subst, sym, arith}
 use Rattle.std.specs.Prelude.{slice_get}
 use Rattle.std.specs.List.{All}
 use Rattle.std.proofs.lemmas.List.Elements.{All-weaker}
@@ -9,13 +9,14 @@ use Rattle.td_core.specs.declared.module.Module.{Module}
 use Rattle.td_core.specs.declared.module.TypeDef.{TypeDef}
 use Rattle.td_core.specs.declared.module.Entry.{Entry}
 use Rattle.td_core.specs.Entries.{entry_definition}
-use Rattle.td_core.specs.Formed.{Bound, AllFit, params_at, cells_at}
+use Rattle.td_core.specs.Formed.{AllFit}
 use Rattle.td_arith.specs.Laws.{EvaluatedIsSound}
 use Rattle.td_front.specs.Checked.{IsChecked}
 use Rattle.td_front.specs.Laws.{ModulesAreChecked}
 use Rattle.td_job.specs.declared.run_job.RunJob.{RunJob}
 use Rattle.td_job.specs.Jobs.{HasValues}
 use Rattle.td_job.specs.Values.{args_bounds, cells_bounds}
+use Rattle.td_job.proofs.Writing.{fits_params, fits_cells}
 use Rattle.td_meaning.specs.Copies.{IsSoundOn}
 use Rattle.td_posts.specs.declared.job.HostJob.{HostJob}
 use Rattle.td_posts.specs.Posts.{zeros}
@@ -25,28 +26,18 @@ use Rattle.td_input.specs.Inputs.{IsSoundJob, IsSoundHost, FitsEntry, FitsVersio
 use Rattle.td_num.proofs.Lists.{got, each_at}
 use Rattle.td_core.proofs.Found.{entry_found as entry_of}
 
-pub same_args : (o : Option TypeDef) → args_bounds o ≡ params_at o
-same_args None = refl
-same_args (Some d) = refl
-
-pub same_cells : (o : Option TypeDef) → cells_bounds o ≡ cells_at o
-same_cells None = refl
-same_cells (Some d) = refl
-
 -- values that fit are sound, whatever the message's bytes are
 sound_values : (m : Module) (entry : Entry) (args cells : List ℕ) → EvaluatedIsSound → IsChecked m → entry.number < length m.entries
     → AllFit (args_bounds (entry_definition m entry.number)) args → AllFit (cells_bounds (entry_definition m entry.number)) cells
     → (b : List ℕ) → AreBytes b → length b < 2 ^ 32 → IsSoundOn m entry args cells b
-sound_values m entry args cells law checked inside fits_args fits_cells b bytes short =
+sound_values m entry args cells law checked inside own_args own_cells b bytes short =
     let place = got m.entries entry.number inside in
     let there : place.0 < length m.definitions = each_at (λ p. p < length m.definitions) m.entries entry.number place.0 checked.whole.entries place.1 in
     let d = got m.definitions place.0 there in
     let same : entry_definition m entry.number ≡ Some d.0 = entry_of m entry.number place.0 d.0 place.1 d.1 in
     let P : Option TypeDef → Type 0 = λ o. AllFit (args_bounds o) args in
     let Q : Option TypeDef → Type 0 = λ o. AllFit (cells_bounds o) cells in
-    let R : List Bound → Type 0 = λ b. AllFit b args in
-    let S : List Bound → Type 0 = λ b. AllFit b cells in
-    law m entry place.0 d.0 args cells b checked.formed checked.copying checked.safe place.1 d.1 (subst R (same_args (Some d.0)) (subst P same fits_args)) (subst S (same_cells (Some d.0)) (subst Q same fits_cells)) bytes short
+    law m entry place.0 d.0 args cells b checked.formed checked.copying checked.safe place.1 d.1 (fits_params (Some d.0) args (subst P same own_args)) (fits_cells (Some d.0) cells (subst Q same own_cells)) bytes short
 
 pub sound_job : (m : Module) (job : RunJob) → EvaluatedIsSound → IsChecked m → job.entry.number < length m.entries → HasValues m job → job.length < 2 ^ 32 → IsSoundJob m job
 sound_job m job law checked inside values short = λ b bytes same.
@@ -61,7 +52,7 @@ all_checked m checked law formats stand = All-weaker (IsOrStands m) IsChecked (�
     one_checked f (inr stands) = law stands.0 f stands.1
 
 -- what is said of all modules is said of a version's
-at_version : (formats : List Module) (n : ℕ) (f : Module) → All IsChecked formats → slice_get formats n ≡ Some f → IsChecked f
+pub at_version : (formats : List Module) (n : ℕ) (f : Module) → All IsChecked formats → slice_get formats n ≡ Some f → IsChecked f
 at_version formats n f all is = subst IsChecked (get_or_from_slice_get formats n f f is) (all n f (slice_get_within formats n f is))
 
 pub sound_host : (m : Module) (job : HostJob) → EvaluatedIsSound → All IsChecked job.formats → HasHostValues m job → IsSoundHost job
@@ -79,6 +70,6 @@ fits_versions m job all = λ n f entry version.
     record {
       entry_is = values.entry;
       rooms = values.rooms;
-      args = subst (λ (b : List Bound). AllFit b job.args) (same_args o) values.args;
-      cells = subst (λ (b : List Bound). AllFit b (zeros job.cells)) (same_cells o) cells;
+      args = fits_params o job.args values.args;
+      cells = fits_cells o (zeros job.cells) cells;
     }

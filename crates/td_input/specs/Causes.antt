@@ -25,6 +25,10 @@ abbrev pub of_job : JobError → InputError
 of_job jobs.NoMemory = NoMemory
 of_job error = Refused (BadJob error)
 
+-- the input has a marker, and before it a token: for no other is memory taken for the module
+abbrev pub HasTextToken : List ℕ → Type 0
+HasTextToken input = (n : ℕ) × IsFirstMarker input n × HasToken (text_part input n)
+
 -- the input has a marker, and before it a token, or after its line a byte: for no other is memory taken
 abbrev pub HasParts : List ℕ → Type 0
 HasParts input = (n : ℕ) × IsFirstMarker input n × (HasToken (text_part input n) ⊎ (0 < length (job_part input n)))

@@ -24,13 +24,18 @@ pub record IsInputOf {J : Type 0} (Is : List ℕ → Module → J → Type 0) (i
   pub text : IsModuleText (text_part input place) m
   pub good : Is (job_part input place) m job
 
--- why an input that isn't too long is refused, as jobs of this kind are refused
+-- why an input that isn't too long is refused before its job is looked at: it has no marker, or the text before that is no module
+abbrev pub RefusesText : List ℕ → Refusal → Type 0
+RefusesText input TooLong = ⊥
+RefusesText input NoJob = (n : ℕ) → IsMarker input n → ⊥
+RefusesText input (BadModule e) = (n : ℕ) × IsFirstMarker input n × RefusedBy (text_part input n) e
+RefusesText input (BadJob e) = ⊥
+RefusesText input NoRing = ⊥
+
+-- why it is refused, as jobs of this kind are refused
 abbrev pub RefusesInput : (List ℕ → Module → JobError → Type 0) → List ℕ → Refusal → Type 0
-RefusesInput Bad input TooLong = ⊥
-RefusesInput Bad input NoJob = (n : ℕ) → IsMarker input n → ⊥
-RefusesInput Bad input (BadModule e) = (n : ℕ) × IsFirstMarker input n × RefusedBy (text_part input n) e
 RefusesInput Bad input (BadJob e) = (n : ℕ) × (m : Module) × IsFirstMarker input n × IsModuleText (text_part input n) m × Bad (job_part input n) m e
-RefusesInput Bad input NoRing = ⊥
+RefusesInput Bad input refusal = RefusesText input refusal
 
 -- ---- run jobs
 

@@ -11,12 +11,12 @@ ghost use Rattle.td_input.specs.Marker.{IsMarker};
 ghost use Rattle.td_front.specs.Checked.{IsChecked};
 ghost use Rattle.td_input.specs.Inputs.{IsHostInput, RefusesHost, IsSoundHost, FitsVersions};
 
-use crate::refusal::{InputError, Refusal, of_job, of_module};
-use crate::split::{find_marker, job_part, module_part};
+use crate::refusal::{InputError, Refusal, of_job};
+use crate::split::job_part;
+use crate::text::parse_module;
 use std::alloc::Global;
 use td_arith::laws::evaluated_is_sound;
 use td_core::module::Module;
-use td_front::check_module;
 use td_front::laws::modules_are_checked;
 use td_host_job::host_job::read_host_job;
 use td_posts::job::HostJob;
@@ -51,15 +51,12 @@ pub fn parse_host_input(alloc: Global, input: &[u8]) -> Result<HostInput, InputE
 {
     evaluated_is_sound();
     modules_are_checked();
-    let Some(place) = find_marker(input) else {
-        return Err(InputError::Refused(Refusal::NoJob));
-    };
-    let module = match check_module(alloc, module_part(input, place)) {
-        Ok(module) => module,
-        Err(error) => return Err(of_module(error)),
-    };
-    match read_host_job(alloc, job_part(input, place), &module) {
-        Ok(job) => Ok(HostInput { module, job }),
+    let part = parse_module(alloc, input)?;
+    match read_host_job(alloc, job_part(input, part.place), &part.module) {
+        Ok(job) => Ok(HostInput {
+            module: part.module,
+            job,
+        }),
         Err(error) => Err(of_job(error)),
     }
 }

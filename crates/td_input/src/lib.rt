@@ -7,3 +7,4 @@ pub mod host;
 pub mod refusal;
 pub mod run;
 pub mod split;
+mod text;

@@ -9,12 +9,12 @@ ghost use Rattle.td_input.specs.Causes.{HasCause, HasParts};
 ghost use Rattle.td_input.specs.Marker.{IsMarker};
 ghost use Rattle.td_input.specs.Inputs.{IsRunInput, RefusesRun, IsSoundJob};
 
-use crate::refusal::{InputError, Refusal, of_job, of_module};
-use crate::split::{find_marker, job_part, module_part};
+use crate::refusal::{InputError, Refusal, of_job};
+use crate::split::job_part;
+use crate::text::parse_module;
 use std::alloc::Global;
 use td_arith::laws::evaluated_is_sound;
 use td_core::module::Module;
-use td_front::check_module;
 use td_job::run_job::{RunJob, read_run_job};
 
 /// The module and the job of an input.
@@ -42,15 +42,12 @@ pub fn parse_run_input(alloc: Global, input: &[u8]) -> Result<RunInput, InputErr
     ensures memory { result ≡ Err InputError.NoMemory → HasParts input.now }
 {
     evaluated_is_sound();
-    let Some(place) = find_marker(input) else {
-        return Err(InputError::Refused(Refusal::NoJob));
-    };
-    let module = match check_module(alloc, module_part(input, place)) {
-        Ok(module) => module,
-        Err(error) => return Err(of_module(error)),
-    };
-    match read_run_job(alloc, job_part(input, place), &module) {
-        Ok(job) => Ok(RunInput { module, job }),
+    let part = parse_module(alloc, input)?;
+    match read_run_job(alloc, job_part(input, part.place), &part.module) {
+        Ok(job) => Ok(RunInput {
+            module: part.module,
+            job,
+        }),
         Err(error) => Err(of_job(error)),
     }
 }

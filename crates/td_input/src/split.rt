@@ -1,17 +1,9 @@
 //! An input: a module text, a line that is exactly `%%`, and a job.
 
-ghost use Rattle.std.specs.Prelude.{◌≡◌, ◌<◌, ◌≤◌, ◌+◌, ℕ, IsTrue, ◌↔◌, MatchOption, length, slice_index};
+ghost use Rattle.std.specs.Prelude.{◌≡◌, ◌<◌, ◌≤◌, ◌+◌, ℕ, IsTrue, ◌↔◌, MatchOption, length};
 ghost use Rattle.td_input.specs.Marker.{BeginsLine, EndsLine, IsMarker, IsFirstMarker, text_part, job_part};
 
-// The byte at n, or 0 where there is none.
-fn byte_or_zero(input: &[u8], n: usize) -> u8
-    ensures { result ≡ slice_index input.now n }
-{
-    match input.get(n) {
-        Some(byte) => *byte,
-        None => 0,
-    }
-}
+use td_num::bytes::byte_or_zero;
 
 fn begins_line(input: &[u8], n: usize) -> bool
     ensures { IsTrue result ↔ BeginsLine input.now n }

@@ -3,12 +3,10 @@ use Rattle.std.proofs.Common.{◌≡◌, ℕ, zero, suc, ◌+◌, ◌*◌, ◌/�
 use Rattle.std.proofs.Math.Nat.{div-div-eq-div-mul}
 use Rattle.std.proofs.Math.Pow.{pow_mono}
 use Rattle.std.proofs.lemmas.Grind.{same_number_lists}
+use Rattle.td_num.specs.Lists.{AreBytes}
 use Rattle.td_num.specs.Numbers.{byte_of, byte_at, rising_at}
 use Rattle.td_job.specs.Words.{IsFilled}
 use Rattle.td_num.proofs.Digits.{power_of_bytes as power}
-
-abbrev pub AreBytes : List ℕ → Type 0
-AreBytes bytes = (i : ℕ) → slice_index bytes i < 256
 
 further : (word k : ℕ) → word / 2 ^ (8 * suc k) ≡ word / 256 / 2 ^ (8 * k)
 further word k = rw power (sym (div-div-eq-div-mul word 256 (2 ^ (8 * k))))

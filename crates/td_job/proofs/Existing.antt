@@ -6,7 +6,7 @@ use Rattle.std.proofs.lemmas.Slice.Eq.{bytes_eq-Decides}
 use Rattle.std.specs.Prelude.{bytes_eq, slice_get, IsUtf8}
 use Rattle.std.specs.Str.{is_utf8}
 use Rattle.std.specs.List.{All}
-use Rattle.std.proofs.lemmas.List.Elements.{All-nil, All-head, All-tail, All-from_get_or}
+use Rattle.std.proofs.lemmas.List.Elements.{All-nil, All-from_get_or}
 use Rattle.serde_json.specs.Data.{Data, null, boolean, number, string, array, object, Items, no_items, item}
 use Rattle.serde_json.specs.Find.{as_u64}
 use Rattle.serde_json.specs.Read.{read as read_text}
@@ -14,6 +14,8 @@ use Rattle.hex.specs.Hex.{decode_of, decode_pairs}
 use Rattle.hex.specs.declared.error.FromHexError.{FromHexError}
 use Rattle.hex.specs.declared.error.FromHexError.TheVariants.{OddLength}
 use Rattle.hex.proofs.HexLemmas.{decode_pairs-ok}
+use Rattle.td_num.specs.Lists.{AreBytes}
+use Rattle.td_num.proofs.Digits.{are_bytes}
 use Rattle.td_core.specs.declared.module.Module.{Module}
 use Rattle.td_core.specs.declared.module.Entry.{Entry}
 use Rattle.td_core.specs.declared.module.TypeDef.{TypeDef}
@@ -32,7 +34,7 @@ use Rattle.td_job.specs.Fields.{Reads, field_of, text_of, bytes_or_none}
 use Rattle.td_job.specs.Values.{given_args, given_cells}
 use Rattle.td_job.specs.Written.{number_datum, datum_of, datums_of}
 use Rattle.td_job.specs.Jobs.{given, given_by, given_stores, spelled_bytes, spelled_or_none, EntryFault, IsEntry, FirstFaultBy, FirstFaultOf, later_faults, length_faults, IsJob, IsRunJob, RefusedJobBy, RefusedJobOf, RefusedJob}
-use Rattle.td_job.proofs.Bytes.{AreBytes, filled}
+use Rattle.td_job.proofs.Bytes.{filled}
 use Rattle.td_job.proofs.Numbers.{both_empty}
 use Rattle.td_job.proofs.Unique.{Later, LaterBy, by_definition}
 
@@ -72,11 +74,6 @@ mutual
   data_hold : (values : Items) → HoldBytes (data_of (datums_of values))
   data_hold no_items = tt
   data_hold (item value values) = (datum_holds value, data_hold values)
-
-are_bytes : (bytes : List ℕ) → All (λ b. b < 256) bytes → AreBytes bytes
-are_bytes [] h i = lit< tt
-are_bytes (b ∷ bytes) h zero = All-head (λ b. b < 256) b bytes h
-are_bytes (b ∷ bytes) h (suc i) = are_bytes bytes (All-tail (λ b. b < 256) b bytes h) i
 
 -- and those that spell one
 pub written_bytes : (m : Module) (entry : Entry) (args : List ℕ) (value : Data) (o : Option (List ℕ)) → spelling m entry args (datum_of value) ≡ o → All (λ b. b < 256) (spelled_or_none o)

@@ -4,13 +4,14 @@ ghost use Rattle.std.specs.Prelude.{◌≡◌};
 ghost use Rattle.td_stream.specs.Layouts.{AreWithin};
 
 use std::alloc::Global;
+use td_coding::code_of;
 use td_core::module::{Entry, Module};
 use td_core::outcome::Outcome;
 use td_front::check_module;
 use td_ir::entries::fits;
 use td_live::gate::{Gate, PostName};
+use td_live::message::LiveMessage;
 use td_live::slot::validate_slot;
-use td_lower::lower::lower;
 use td_stream::layout::Layout;
 use td_stream::loads::Loads;
 use td_verify::verify::Verified;
@@ -37,7 +38,7 @@ pub(crate) fn compile(alloc: Global, text: &[u8]) -> Option<Compiled> {
     let Ok(checked) = check_module(alloc, text) else {
         return None;
     };
-    let Ok(code) = lower(alloc, &checked) else {
+    let Ok(code) = code_of(alloc, &checked) else {
         return None;
     };
     Some(Compiled { checked, code })
@@ -76,14 +77,17 @@ pub(crate) fn validated<G: Gate>(
         return None;
     };
     frame.set_cells(cells);
+    let message = LiveMessage {
+        shared,
+        layout,
+        name,
+    };
     let verdict = validate_slot(
         code,
         ENTRY,
         &[],
-        shared,
+        &message,
         seat,
-        layout,
-        name,
         &mut frame,
         &mut loads,
         gate,

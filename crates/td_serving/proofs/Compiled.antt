@@ -2,7 +2,6 @@
 use Rattle.std.proofs.Common.{◌≡◌, ℕ, zero, suc, List, [], ◌∷◌, ◌++◌, length, Some, refl, sym, ap, ◌∙◌, subst}
 use Rattle.std.specs.Prelude.{slice_get}
 use Rattle.std.specs.List.{All}
-use Rattle.std.proofs.lemmas.Option.{slice_get_within, get_or_from_slice_get}
 use Rattle.td_front.specs.Checked.{IsChecked}
 use Rattle.td_core.specs.Entries.{entry_definition}
 use Rattle.td_meaning.specs.Copies.{outcome}
@@ -14,6 +13,7 @@ use Rattle.td_posts.specs.Posts.{zeros, HaveRoom}
 use Rattle.td_ir.specs.declared.tables.Parts.{Parts}
 use Rattle.td_lowered.specs.CodeRun.{IsCodeOf, ArgumentsFit}
 use Rattle.td_input.specs.Inputs.{IsSoundHost, FitsVersions}
+use Rattle.td_input.proofs.Sounds.{at_version}
 use Rattle.td_actors.specs.Replies.{IsJobCode}
 use Rattle.td_serving.specs.Serving.{AreCodesOf}
 
@@ -40,9 +40,6 @@ code_at (x ∷ cs) (y ∷ ms) h zero c m hc hm =
     subst (λ (k : Parts). IsCodeOf k m) one (subst (λ (f : Module). IsCodeOf x f) other h.0)
 code_at (x ∷ cs) (y ∷ ms) h (suc n) c m hc hm = code_at cs ms h.1 n c m hc hm
 
-checked_at : (ms : List Module) (n : ℕ) (m : Module) → All IsChecked ms → slice_get ms n ≡ Some m → IsChecked m
-checked_at ms n m h e = subst IsChecked (get_or_from_slice_get ms n m m e) (h n m (slice_get_within ms n m e))
-
 pub serves : ArgumentsFit → CopiesHaveRoom → (cs : List Parts) (job : HostJob) → length job.entries ≡ length job.formats → FitsVersions job → IsSoundHost job → All IsChecked job.formats → AreCodesOf cs job.formats → IsJobCode cs job
 unfolding IsJobCode
 serves law room cs job same fits sound checked codes = record {
@@ -57,7 +54,7 @@ serves law room cs job same fits sound checked codes = record {
         sound = sound n m entry version;
         roomy = λ b bytes size.
             let held : HaveRoom (rooms_in (entry_definition m entry.number)) (outcome m entry job.args (zeros job.cells) b).copies =
-            room m entry job.args (zeros job.cells) b (checked_at job.formats n m checked version.0) fit.entry_is fit.args fit.cells bytes size in
+            room m entry job.args (zeros job.cells) b (at_version job.formats n m checked version.0) fit.entry_is fit.args fit.cells bytes size in
             subst (λ rooms. HaveRoom rooms (outcome m entry job.args (zeros job.cells) b).copies) (sym fit.rooms) held;
       };
 }

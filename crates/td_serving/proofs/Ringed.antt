@@ -33,7 +33,7 @@ first_entry : (entries : List ℕ) → is_first entries ≡ true → 0 < length 
 first_entry [] h = absurd (false≢true h)
 first_entry (e ∷ es) h = omega arith
 
-entry_there : (m : Module) → has_ring_shape m ≡ true → 0 < length m.entries
+pub entry_there : (m : Module) → has_ring_shape m ≡ true → 0 < length m.entries
 entry_there m shape = first_entry m.entries (both_true (is_first m.entries) (is_only m.definitions) shape).0
 
 -- what is known below of modules of that shape
@@ -125,10 +125,6 @@ ring_of_some (r ∷ rings) m some is = (is, refl)
 pub no_ring : (rings : List RingJob) → 0 < length rings → ((m : Module) → IsRingModule m → ⊥) → NoRingModule rings
 no_ring [] some none = absurd (omega (arith, some))
 no_ring (r ∷ rings) some none = none
-
-pub nothing_listed : {A : Type 0} (xs : List A) → length xs ≡ 0 → xs ≡ []
-nothing_listed [] e = refl
-nothing_listed (x ∷ xs) e = absurd (omega (arith, e))
 
 pub some_listed : {A : Type 0} (xs : List A) → (length xs ≡ 0 → ⊥) → 0 < length xs
 some_listed [] n = absurd (n refl)

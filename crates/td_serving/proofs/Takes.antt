@@ -1,6 +1,6 @@
 -- Each take of a served job can be read back from its report.
-use Rattle.std.proofs.Common.{◌≡◌, inl, inr, ℕ, ◌+◌, ◌*◌, ◌<◌, ◌≤◌, ◌^◌, List, [], ◌∷◌, ◌++◌, length, Option, Some, None, Bool, true, false, slice_index, refl, sym, ap, ◌∙◌, subst, arith, ◌%◌}
-use Rattle.std.specs.Prelude.{◌&&◌, IfSome}
+use Rattle.std.proofs.Common.{◌≡◌, inl, inr, ℕ, ◌+◌, ◌*◌, ◌<◌, ◌≤◌, ◌^◌, List, [], ◌∷◌, ◌++◌, length, Option, Some, None, true, slice_index, refl, sym, ap, ◌∙◌, subst, arith, ◌%◌}
+use Rattle.std.specs.Prelude.{IfSome}
 use Rattle.std.specs.List.{All}
 use Rattle.std.proofs.lemmas.List.Elements.{All-nil, All-cons, All-head, All-tail, All-append, All-weaker}
 use Rattle.std.proofs.lemmas.List.{take_all}
@@ -39,14 +39,16 @@ use Rattle.td_descr.specs.declared.next.Standing.{Standing}
 use Rattle.td_descr.specs.declared.next.Standing.TheVariants.{Nothing, Lost, Waiting}
 use Rattle.td_descr.specs.Words.{load_of, raised}
 use Rattle.td_descr.specs.Ring.{standing, desc_entry, desc_args, desc_cells, desc_bytes, answer, AreWithin}
-use Rattle.td_descr.specs.Shape.{is_first, is_only, has_ring_shape, ShapeAcceptsWithin, ShapeFits, ShapeHasNoBuffers}
+use Rattle.td_descr.specs.Shape.{has_ring_shape, ShapeAcceptsWithin, ShapeFits, ShapeHasNoBuffers}
 use Rattle.td_takes.specs.declared.take.Take.{Take}
 use Rattle.td_takes.specs.Takes.{ring_layout, message_layout, ring_steps, message_steps, take_steps, all_steps, loads_of, taken_after, IsDescriptor, IsMessage, HasMessage, IsAnswer, IsTake, AreTakes}
 use Rattle.td_takes.specs.TakesServed.{AreTaken, all_takes, TakesServed}
 use Rattle.td_host.specs.Served.{In}
 use Rattle.td_host_report.specs.Report.{HasMessageWords, HasTakenWords}
 use Rattle.td_host_report.specs.Laws.{IsReportableDescr, IsReportableMessage, IsReportableAnswer, IsReportableTake}
-use Rattle.td_serving.proofs.Reported.{Below, SmallPair, at_version}
+use Rattle.td_input.proofs.Sounds.{at_version}
+use Rattle.td_serving.proofs.Reported.{Below, SmallPair}
+use Rattle.td_serving.proofs.Ringed.{entry_there}
 
 -- ---- what was loaded
 
@@ -73,17 +75,6 @@ raised_small base [] h = All-nil SmallLoad
 raised_small base (l ∷ ls) h = All-cons SmallLoad l ls (All-head SmallLoad _ (raised base ls) h) (raised_small base ls (All-tail SmallLoad _ (raised base ls) h))
 
 -- ---- what is accepted as a descriptor
-
-first_there : (entries : List ℕ) → is_first entries ≡ true → 0 < length entries
-first_there [] e = absurd (cc)
-first_there (n ∷ entries) e = omega arith
-
-both_true : (a b : Bool) → a && b ≡ true → a ≡ true
-both_true true b e = refl
-both_true false b e = absurd (cc)
-
-entry_there : (m : Module) → has_ring_shape m ≡ true → 0 < length m.entries
-entry_there m shape = first_there m.entries (both_true (is_first m.entries) (is_only m.definitions) shape)
 
 three : (cells : List ℕ) → length cells ≡ 3 → cells ≡ slice_index cells 0 ∷ slice_index cells 1 ∷ slice_index cells 2 ∷ []
 three [] e = absurd (omega (arith, e))

@@ -7,6 +7,7 @@ use Rattle.td_core.specs.Formed.{AllFit}
 use Rattle.td_core.specs.Entries.{entry_definition}
 use Rattle.td_job.specs.declared.error.Key.TheVariants as key
 use Rattle.td_job.specs.Values.{cells_bounds}
+use Rattle.td_job.proofs.Writing.{fits_params, fits_cells}
 use Rattle.td_job.specs.Jobs.{spelled_word}
 use Rattle.td_posts.specs.declared.job.Step.{Step}
 use Rattle.td_posts.specs.declared.job.Step.TheVariants.{Store, Post, Scatter}
@@ -21,7 +22,6 @@ use Rattle.td_told.specs.Laws.{AreSized, StoresSmall, HostJobsAreSized, Outcomes
 use Rattle.td_told.proofs.Jobs.{word_small}
 use Rattle.td_told.proofs.Posts.{posts_sized}
 use Rattle.td_told.proofs.Reading.{read_small}
-use Rattle.td_told.proofs.Runs.{fitting_args, fitting_cells}
 use Rattle.td_told.proofs.Told.{index_small}
 
 -- ---- stores
@@ -92,4 +92,4 @@ replies_are_told told m j message n f entry version checked s bytes short =
     let bounds = cells_bounds own in
     let values = s.kept.values.each n f entry version in
     let cells : AllFit bounds (zeros j.cells) = subst (λ n. AllFit bounds (zeros n)) (sym values.cells) (zeros_fit bounds) in
-    told f entry j.args (zeros j.cells) message checked values.entry (fitting_args own j.args values.args) (fitting_cells own (zeros j.cells) cells) bytes short
+    told f entry j.args (zeros j.cells) message checked values.entry (fits_params own j.args values.args) (fits_cells own (zeros j.cells) cells) bytes short

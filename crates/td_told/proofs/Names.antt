@@ -5,6 +5,7 @@ use Rattle.std.specs.List.{All, Contains}
 use Rattle.std.proofs.lemmas.Bool.{leb-true, eqb-true}
 use Rattle.std.proofs.lemmas.List.Elements.{All-nil, All-cons}
 use Rattle.td_num.specs.Lists.{Each}
+use Rattle.td_num.proofs.Truths.{both_true}
 use Rattle.td_ast.specs.declared.token.TokenKind.TheVariants as kinds
 use Rattle.td_core.specs.declared.module.NameId.{NameId}
 use Rattle.td_core.specs.declared.module.Part.{Part}
@@ -28,29 +29,22 @@ use Rattle.td_report.specs.Laws.{IsWordByte, IsWord, AreTwoWords, type_names, Is
 
 -- ---- words
 
-second : (a b : Bool) → a && b ≡ true → b ≡ true
-second true b h = h
-second false b h = cc
-
-first : (a b : Bool) → a && b ≡ true → a ≡ true
-first true b h = refl
-first false b h = cc
-
 word_byte : (b : ℕ) → is_word_byte b ≡ true → IsWordByte b
 word_byte b h = by (nat_le 97 b && nat_le b 122) refl (nat_le 65 b && nat_le b 90) refl (b == 95) refl (nat_le 48 b && nat_le b 57) refl h
   where
     by : (x : Bool) → nat_le 97 b && nat_le b 122 ≡ x → (y : Bool) → nat_le 65 b && nat_le b 90 ≡ y → (z : Bool) → (b == 95) ≡ z → (w : Bool) → nat_le 48 b && nat_le b 57 ≡ w
         → (x || y || z) || w ≡ true → IsWordByte b
-    by true p y q z r w s h = inr (inr (inr (leb-true 97 b (first (nat_le 97 b) (nat_le b 122) p), leb-true b 122 (second (nat_le 97 b) (nat_le b 122) p))))
-    by false p true q z r w s h = inr (inl (leb-true 65 b (first (nat_le 65 b) (nat_le b 90) q), leb-true b 90 (second (nat_le 65 b) (nat_le b 90) q)))
+    by true p y q z r w s h = let both = both_true (nat_le 97 b) (nat_le b 122) p in inr (inr (inr (leb-true 97 b both.0, leb-true b 122 both.1)))
+    by false p true q z r w s h = let both = both_true (nat_le 65 b) (nat_le b 90) q in inr (inl (leb-true 65 b both.0, leb-true b 90 both.1))
     by false p false q true r w s h = inr (inr (inl (eqb-true b 95 r)))
-    by false p false q false r true s h = inl (leb-true 48 b (first (nat_le 48 b) (nat_le b 57) s), leb-true b 57 (second (nat_le 48 b) (nat_le b 57) s))
+    by false p false q false r true s h = let both = both_true (nat_le 48 b) (nat_le b 57) s in inl (leb-true 48 b both.0, leb-true b 57 both.1)
     by false p false q false r false s h = absurd cc
 
 word_of : (bytes : List ℕ) → every is_word_byte bytes ≡ true → All IsWordByte bytes
 word_of [] h = All-nil IsWordByte
 word_of (b ∷ bytes) h =
-    All-cons IsWordByte b bytes (word_byte b (first (is_word_byte b) (every is_word_byte bytes) h)) (word_of bytes (second (is_word_byte b) (every is_word_byte bytes) h))
+    let both = both_true (is_word_byte b) (every is_word_byte bytes) h in
+    All-cons IsWordByte b bytes (word_byte b both.0) (word_of bytes both.1)
 
 two_words_of : (bytes : List ℕ) → IsDotted bytes → AreTwoWords bytes
 two_words_of bytes (part, own, first, second, is) = (part, own, word_of part first.1, word_of own second.1, is)

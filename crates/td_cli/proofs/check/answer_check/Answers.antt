@@ -1,15 +1,19 @@
-use Rattle.td_cli.proofs.Checks.{check_ends, check_good, check_bad}
+use Rattle.std.proofs.Common.{refl}
+use Rattle.td_front.specs.ModuleText.{IsModuleText}
+use Rattle.td_report.specs.Summary.{summary}
+use Rattle.td_command.specs.declared.command.Command.TheVariants.{Check}
 use Rattle.td_cli.specs.Ends.{passage}
+use Rattle.td_cli.proofs.Texts.{of_check, text_answers, text_unanswered}
 use Rattle.td_cli.proofs.check.answer_check.Goals as goal
 
-pub returns-clause-ends : goal.returns-clause-ends
-returns-clause-ends g c =
-    check_ends c.args.input.now c.check_input-checked.result (passage g.O.Sink.state c.args.out.now c.finish_check.new.out) (passage g.E.Sink.state c.args.err.now c.finish_check.new.err) c.finish_check.result c.requires c.check_input-checked.ensures.stands c.check_input-checked.ensures.cause c.finish_check.ensures
+pub returns-in-Ok : goal.returns-in-Ok
+returns-in-Ok g c =
+    let input = c.args.input.now in
+    let m = c.in-Ok.m in
+    text_answers Check of_check (IsModuleText input) input (summary m) m (passage g.O.Sink.state c.args.out.now c.finish_summary.new.out) (passage g.E.Sink.state c.args.err.now c.args.err.now) c.finish_summary.result c.requires c.in-Ok.ensures
+    (c.requires, (m, c.in-Ok.ensures.stands, refl)) c.finish_summary.ensures refl
 
-pub returns-clause-good : goal.returns-clause-good
-returns-clause-good g c =
-    check_good c.args.input.now c.check_input-checked.result (passage g.O.Sink.state c.args.out.now c.finish_check.new.out) (passage g.E.Sink.state c.args.err.now c.finish_check.new.err) c.finish_check.result c.check_input-checked.ensures.complete c.finish_check.ensures
-
-pub returns-clause-bad : goal.returns-clause-bad
-returns-clause-bad g c =
-    check_bad c.args.input.now c.check_input-checked.result (passage g.O.Sink.state c.args.out.now c.finish_check.new.out) (passage g.E.Sink.state c.args.err.now c.finish_check.new.err) c.finish_check.result c.requires c.check_input-checked.ensures.refused c.finish_check.ensures
+pub returns-in-Err : goal.returns-in-Err
+returns-in-Err g c =
+    let input = c.args.input.now in
+    text_unanswered Check of_check (IsModuleText input) input c.in-Err.error (passage g.O.Sink.state c.args.out.now c.args.out.now) (passage g.E.Sink.state c.args.err.now c.finish_unanswered.new.err) c.finish_unanswered.result c.requires c.in-Err.ensures c.finish_unanswered.ensures refl

@@ -1,15 +1,10 @@
-use Rattle.std.proofs.Common.{sym, subst, ap, ◌∙◌}
-use Rattle.td_front.specs.declared.error.FrontError.TheVariants as front
-use Rattle.td_cli.specs.Answers.{RefusesCheck}
-use Rattle.td_input.specs.Causes.{HasCause, of_module}
-use Rattle.td_cli.proofs.Inputs.{check_cause, checked_not_refused}
+use Rattle.td_front.specs.ModuleText.{IsModuleText}
+use Rattle.td_cli.proofs.Inputs.{text_made, text_refused}
 use Rattle.td_cli.proofs.check.check_input.Goals as goal
 
-pub returns-in-Err-clause-cause : goal.returns-in-Err-clause-cause
-returns-in-Err-clause-cause c = subst (HasCause (RefusesCheck c.args.input.now)) (sym c.of_module.ensures) (check_cause c.args.input.now c.in-Err.error c.in-Err.ensures.refused)
+pub returns-in-Ok : goal.returns-in-Ok
+returns-in-Ok c = text_made (IsModuleText c.args.input.now) c.args.input.now c.in-Ok.«module» c.in-Ok.ensures.stands c.in-Ok.ensures.exact
 
-pub returns-in-Err-clause-complete : goal.returns-in-Err-clause-complete
-returns-in-Err-clause-complete c = λ m h. c.of_module.ensures ∙ ap of_module (c.in-Err.ensures.complete m h)
-
-pub returns-in-Ok-clause-refused : goal.returns-in-Ok-clause-refused
-returns-in-Ok-clause-refused c = λ refusal h. absurd (checked_not_refused c.args.input.now c.in-Ok.ensures.exact refusal h)
+pub returns-in-Err : goal.returns-in-Err
+returns-in-Err c =
+    text_refused (IsModuleText c.args.input.now) c.args.input.now c.in-Err.error c.of_module.result c.of_module.ensures c.in-Err.ensures.refused c.in-Err.ensures.complete

@@ -1,15 +1,17 @@
-use Rattle.td_cli.proofs.Codes.{code_ends, code_good, code_bad}
+use Rattle.std.proofs.Common.{refl, sym, subst}
+use Rattle.td_command.specs.declared.command.Command.TheVariants.{Code}
+use Rattle.td_cli.specs.Answers.{IsListingOf}
 use Rattle.td_cli.specs.Ends.{passage}
+use Rattle.td_cli.proofs.Texts.{of_code, text_answers, text_unanswered}
 use Rattle.td_cli.proofs.code.answer_code.Goals as goal
 
-pub returns-clause-ends : goal.returns-clause-ends
-returns-clause-ends g c =
-    code_ends c.args.input.now c.code_input-text.result (passage g.O.Sink.state c.args.out.now c.finish_code.new.out) (passage g.E.Sink.state c.args.err.now c.finish_code.new.err) c.finish_code.result c.requires c.code_input-text.ensures.code c.code_input-text.ensures.cause c.finish_code.ensures
+pub returns-in-Ok : goal.returns-in-Ok
+returns-in-Ok g c =
+    let input = c.args.input.now in
+    text_answers Code of_code (IsListingOf input) input c.as_slice.result.now c.in-Ok.text (passage g.O.Sink.state c.args.out.now c.finish_bytes.new.out) (passage g.E.Sink.state c.args.err.now c.args.err.now) c.finish_bytes.result c.requires c.in-Ok.ensures
+    (c.requires, subst (IsListingOf input) (sym c.as_slice.ensures) c.in-Ok.ensures.stands) c.finish_bytes.ensures refl
 
-pub returns-clause-good : goal.returns-clause-good
-returns-clause-good g c =
-    code_good c.args.input.now c.code_input-text.result (passage g.O.Sink.state c.args.out.now c.finish_code.new.out) (passage g.E.Sink.state c.args.err.now c.finish_code.new.err) c.finish_code.result c.code_input-text.ensures.complete c.finish_code.ensures
-
-pub returns-clause-bad : goal.returns-clause-bad
-returns-clause-bad g c =
-    code_bad c.args.input.now c.code_input-text.result (passage g.O.Sink.state c.args.out.now c.finish_code.new.out) (passage g.E.Sink.state c.args.err.now c.finish_code.new.err) c.finish_code.result c.requires c.code_input-text.ensures.refused c.finish_code.ensures
+pub returns-in-Err : goal.returns-in-Err
+returns-in-Err g c =
+    let input = c.args.input.now in
+    text_unanswered Code of_code (IsListingOf input) input c.in-Err.error (passage g.O.Sink.state c.args.out.now c.args.out.now) (passage g.E.Sink.state c.args.err.now c.finish_unanswered.new.err) c.finish_unanswered.result c.requires c.in-Err.ensures c.finish_unanswered.ensures refl

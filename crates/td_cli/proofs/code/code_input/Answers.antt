@@ -1,17 +1,16 @@
-use Rattle.std.proofs.Common.{sym, subst, ap, ◌∙◌}
-use Rattle.td_cli.specs.Answers.{RefusesCheck}
-use Rattle.td_input.specs.Causes.{HasCause, of_module}
-use Rattle.td_cli.proofs.Inputs.{check_cause, checked_not_refused}
+use Rattle.td_cli.specs.Answers.{IsListingOf}
+use Rattle.td_cli.proofs.Inputs.{text_made, text_refused, text_unmade}
 use Rattle.td_cli.proofs.code.code_input.Goals as goal
 
-pub returns-in-Ok-code_listing-clause-code : goal.returns-in-Ok-code_listing-clause-code
-returns-in-Ok-code_listing-clause-code c = (c.in-Ok.«module», c.in-Ok.ensures.stands, c.in-Ok-code_listing.ensures)
+pub returns-in-Ok-code_listing : goal.returns-in-Ok-code_listing
+returns-in-Ok-code_listing c =
+    let input = c.args.input.now in
+    let is : IsListingOf input c.in-Ok-code_listing.text = (c.in-Ok.«module», c.in-Ok.ensures.stands, c.in-Ok-code_listing.ensures) in
+    text_made (IsListingOf input) input c.in-Ok-code_listing.text is c.in-Ok.ensures.exact
 
-pub returns-in-Ok-code_listing-clause-refused : goal.returns-in-Ok-code_listing-clause-refused
-returns-in-Ok-code_listing-clause-refused c = λ refusal h. absurd (checked_not_refused c.args.input.now c.in-Ok.ensures.exact refusal h)
+pub returns : goal.returns
+returns c = text_unmade (IsListingOf c.args.input.now) c.args.input.now
 
-pub returns-in-Err-clause-cause : goal.returns-in-Err-clause-cause
-returns-in-Err-clause-cause c = subst (HasCause (RefusesCheck c.args.input.now)) (sym c.of_module.ensures) (check_cause c.args.input.now c.in-Err.error c.in-Err.ensures.refused)
-
-pub returns-in-Err-clause-complete : goal.returns-in-Err-clause-complete
-returns-in-Err-clause-complete c = λ m h. c.of_module.ensures ∙ ap of_module (c.in-Err.ensures.complete m h)
+pub returns-in-Err : goal.returns-in-Err
+returns-in-Err c =
+    text_refused (IsListingOf c.args.input.now) c.args.input.now c.in-Err.error c.of_module.result c.of_module.ensures c.in-Err.ensures.refused c.in-Err.ensures.complete

@@ -1,15 +1,14 @@
-use Rattle.td_cli.proofs.Hosts.{host_ends, host_good, host_bad}
+use Rattle.std.proofs.Common.{refl}
+use Rattle.std.proofs.lemmas.Bool.{false≢true}
 use Rattle.td_cli.specs.Ends.{passage}
+use Rattle.td_cli.proofs.Hosts.{host_answers, host_unanswered}
 use Rattle.td_cli.proofs.host.answer_host.Goals as goal
 
-pub returns-clause-ends : goal.returns-clause-ends
-returns-clause-ends g c =
-    host_ends c.args.input.now c.serve_input-served.result (passage g.O.Sink.state c.args.out.now c.finish_host.new.out) (passage g.E.Sink.state c.args.err.now c.finish_host.new.err) c.finish_host.result c.requires.short c.serve_input-served.ensures.served c.serve_input-served.ensures.cause c.serve_input-served.ensures.no_job c.finish_host.ensures
+pub returns-in-Ok : goal.returns-in-Ok
+returns-in-Ok g c =
+    host_answers c.args.input.now c.in-Ok.served (passage g.O.Sink.state c.args.out.now c.finish_served.new.out) (passage g.E.Sink.state c.args.err.now c.args.err.now) c.finish_served.result c.requires.short c.in-Ok.ensures.served
+    (λ refusal h. false≢true (c.in-Ok.ensures.refused refusal h)) c.finish_served.ensures refl
 
-pub returns-clause-good : goal.returns-clause-good
-returns-clause-good g c =
-    host_good c.args.input.now c.serve_input-served.result (passage g.O.Sink.state c.args.out.now c.finish_host.new.out) (passage g.E.Sink.state c.args.err.now c.finish_host.new.err) c.finish_host.result c.serve_input-served.ensures.complete c.finish_host.ensures
-
-pub returns-clause-bad : goal.returns-clause-bad
-returns-clause-bad g c =
-    host_bad c.args.input.now c.serve_input-served.result (passage g.O.Sink.state c.args.out.now c.finish_host.new.out) (passage g.E.Sink.state c.args.err.now c.finish_host.new.err) c.finish_host.result c.requires.short c.serve_input-served.ensures.refused c.finish_host.ensures
+pub returns-in-Err : goal.returns-in-Err
+returns-in-Err g c =
+    host_unanswered c.args.input.now c.in-Err.error (passage g.O.Sink.state c.args.out.now c.args.out.now) (passage g.E.Sink.state c.args.err.now c.finish_unanswered.new.err) c.finish_unanswered.result c.requires.short c.in-Err.ensures.cause c.in-Err.ensures.complete c.in-Err.ensures.no_job c.finish_unanswered.ensures refl

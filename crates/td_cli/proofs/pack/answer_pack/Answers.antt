@@ -1,15 +1,17 @@
-use Rattle.td_cli.proofs.Packs.{pack_ends, pack_good, pack_bad}
+use Rattle.std.proofs.Common.{refl, sym, subst}
+use Rattle.td_command.specs.declared.command.Command.TheVariants.{Pack}
+use Rattle.td_cli.specs.Answers.{IsImageOf}
 use Rattle.td_cli.specs.Ends.{passage}
+use Rattle.td_cli.proofs.Texts.{of_pack, text_answers, text_unanswered}
 use Rattle.td_cli.proofs.pack.answer_pack.Goals as goal
 
-pub returns-clause-ends : goal.returns-clause-ends
-returns-clause-ends g c =
-    pack_ends c.args.input.now c.pack_input-image.result (passage g.O.Sink.state c.args.out.now c.finish_pack.new.out) (passage g.E.Sink.state c.args.err.now c.finish_pack.new.err) c.finish_pack.result c.requires c.pack_input-image.ensures.pack c.pack_input-image.ensures.cause c.finish_pack.ensures
+pub returns-in-Ok : goal.returns-in-Ok
+returns-in-Ok g c =
+    let input = c.args.input.now in
+    text_answers Pack of_pack (IsImageOf input) input c.as_slice.result.now c.in-Ok.image (passage g.O.Sink.state c.args.out.now c.finish_bytes.new.out) (passage g.E.Sink.state c.args.err.now c.args.err.now) c.finish_bytes.result c.requires c.in-Ok.ensures
+    (c.requires, subst (IsImageOf input) (sym c.as_slice.ensures) c.in-Ok.ensures.stands) c.finish_bytes.ensures refl
 
-pub returns-clause-good : goal.returns-clause-good
-returns-clause-good g c =
-    pack_good c.args.input.now c.pack_input-image.result (passage g.O.Sink.state c.args.out.now c.finish_pack.new.out) (passage g.E.Sink.state c.args.err.now c.finish_pack.new.err) c.finish_pack.result c.pack_input-image.ensures.complete c.finish_pack.ensures
-
-pub returns-clause-bad : goal.returns-clause-bad
-returns-clause-bad g c =
-    pack_bad c.args.input.now c.pack_input-image.result (passage g.O.Sink.state c.args.out.now c.finish_pack.new.out) (passage g.E.Sink.state c.args.err.now c.finish_pack.new.err) c.finish_pack.result c.requires c.pack_input-image.ensures.refused c.finish_pack.ensures
+pub returns-in-Err : goal.returns-in-Err
+returns-in-Err g c =
+    let input = c.args.input.now in
+    text_unanswered Pack of_pack (IsImageOf input) input c.in-Err.error (passage g.O.Sink.state c.args.out.now c.args.out.now) (passage g.E.Sink.state c.args.err.now c.finish_unanswered.new.err) c.finish_unanswered.result c.requires c.in-Err.ensures c.finish_unanswered.ensures refl

@@ -1,18 +1,18 @@
-use Rattle.td_cli.proofs.Runs.{all_numbered, run_ends, run_good, run_bad}
+use Rattle.std.proofs.Common.{refl}
+use Rattle.std.proofs.lemmas.Bool.{false≢true}
+use Rattle.td_told.proofs.Words.{numbered}
 use Rattle.td_cli.specs.Ends.{passage}
+use Rattle.td_cli.proofs.Runs.{run_answers, run_unanswered}
 use Rattle.td_cli.proofs.run.answer_counted.Goals as goal
 
-pub returns-clause-ends : goal.returns-clause-ends
-returns-clause-ends g c =
-    run_ends c.args.input.now c.run_input-run.result (passage g.O.Sink.state c.args.out.now c.finish_run.new.out) (passage g.E.Sink.state c.args.err.now c.finish_run.new.err) c.finish_run.result c.requires.limit c.run_input-run.ensures.input c.run_input-run.ensures.run c.run_input-run.ensures.cause c.run_input-run.ensures.no_job c.finish_run.ensures
+pub finish_report-requires : goal.finish_report-requires
+finish_report-requires g c = numbered c.in-Ok.finished.input.job.length c.in-Ok.finished.input.job.layout c.in-Ok.finished.loads.list c.in-Ok.ensures.run.inside
 
-pub returns-clause-good : goal.returns-clause-good
-returns-clause-good g c =
-    run_good c.args.input.now c.run_input-run.result (passage g.O.Sink.state c.args.out.now c.finish_run.new.out) (passage g.E.Sink.state c.args.err.now c.finish_run.new.err) c.finish_run.result c.run_input-run.ensures.complete c.finish_run.ensures
+pub returns-in-Ok : goal.returns-in-Ok
+returns-in-Ok g c =
+    run_answers c.args.input.now c.in-Ok.finished (passage g.O.Sink.state c.args.out.now c.finish_report.new.out) (passage g.E.Sink.state c.args.err.now c.args.err.now) c.finish_report.result c.requires.limit c.in-Ok.ensures.input c.in-Ok.ensures.run
+    (λ refusal h. false≢true (c.in-Ok.ensures.refused refusal h)) c.finish_report.ensures refl
 
-pub returns-clause-bad : goal.returns-clause-bad
-returns-clause-bad g c =
-    run_bad c.args.input.now c.run_input-run.result (passage g.O.Sink.state c.args.out.now c.finish_run.new.out) (passage g.E.Sink.state c.args.err.now c.finish_run.new.err) c.finish_run.result c.requires.limit c.run_input-run.ensures.refused c.finish_run.ensures
-
-pub finish_run-requires : goal.finish_run-requires
-finish_run-requires g c = all_numbered c.run_input-run.result c.run_input-run.ensures.run
+pub returns : goal.returns
+returns g c =
+    run_unanswered c.args.input.now c.in-Err.error (passage g.O.Sink.state c.args.out.now c.args.out.now) (passage g.E.Sink.state c.args.err.now c.finish_unanswered.new.err) c.finish_unanswered.result c.requires.limit c.in-Err.ensures.cause c.in-Err.ensures.complete c.in-Err.ensures.no_job c.finish_unanswered.ensures refl

@@ -1,15 +1,17 @@
-use Rattle.td_cli.proofs.Tidies.{tidy_ends, tidy_good, tidy_bad}
+use Rattle.std.proofs.Common.{refl, sym, subst}
+use Rattle.td_command.specs.declared.command.Command.TheVariants.{Tidy}
+use Rattle.td_cli.specs.Answers.{IsTidy}
 use Rattle.td_cli.specs.Ends.{passage}
+use Rattle.td_cli.proofs.Texts.{of_tidy, text_answers, text_unanswered}
 use Rattle.td_cli.proofs.tidy.answer_tidy.Goals as goal
 
-pub returns-clause-ends : goal.returns-clause-ends
-returns-clause-ends g c =
-    tidy_ends c.args.input.now c.tidy_input-text.result (passage g.O.Sink.state c.args.out.now c.finish_tidy.new.out) (passage g.E.Sink.state c.args.err.now c.finish_tidy.new.err) c.finish_tidy.result c.requires c.tidy_input-text.ensures.tidy c.tidy_input-text.ensures.cause c.finish_tidy.ensures
+pub returns-in-Ok : goal.returns-in-Ok
+returns-in-Ok g c =
+    let input = c.args.input.now in
+    text_answers Tidy of_tidy (IsTidy input) input c.as_slice.result.now c.in-Ok.text (passage g.O.Sink.state c.args.out.now c.finish_bytes.new.out) (passage g.E.Sink.state c.args.err.now c.args.err.now) c.finish_bytes.result c.requires c.in-Ok.ensures
+    (c.requires, subst (IsTidy input) (sym c.as_slice.ensures) c.in-Ok.ensures.stands) c.finish_bytes.ensures refl
 
-pub returns-clause-good : goal.returns-clause-good
-returns-clause-good g c =
-    tidy_good c.args.input.now c.tidy_input-text.result (passage g.O.Sink.state c.args.out.now c.finish_tidy.new.out) (passage g.E.Sink.state c.args.err.now c.finish_tidy.new.err) c.finish_tidy.result c.tidy_input-text.ensures.complete c.finish_tidy.ensures
-
-pub returns-clause-bad : goal.returns-clause-bad
-returns-clause-bad g c =
-    tidy_bad c.args.input.now c.tidy_input-text.result (passage g.O.Sink.state c.args.out.now c.finish_tidy.new.out) (passage g.E.Sink.state c.args.err.now c.finish_tidy.new.err) c.finish_tidy.result c.requires c.tidy_input-text.ensures.refused c.finish_tidy.ensures
+pub returns-in-Err : goal.returns-in-Err
+returns-in-Err g c =
+    let input = c.args.input.now in
+    text_unanswered Tidy of_tidy (IsTidy input) input c.in-Err.error (passage g.O.Sink.state c.args.out.now c.args.out.now) (passage g.E.Sink.state c.args.err.now c.finish_unanswered.new.err) c.finish_unanswered.result c.requires c.in-Err.ensures c.finish_unanswered.ensures refl
