@@ -65,8 +65,9 @@ typedef struct {
   uint32_t unused;
   uint64_t frame_count;            /* out, likewise */
   uint64_t load_count;             /* out, likewise: how many loads were made, each of another word of the message */
-  uint64_t step_count;             /* out, likewise: how many steps of code were run: one for each instruction, and for each byte or element
-                                      that one looks at for zeros (docs/language/code.md); 2^64 - 1 where they are more */
+  uint64_t step_count;             /* out, likewise: how many steps of code were run: one for each instruction, for each byte or element
+                                      that one looks at for zeros, and for each byte that is copied (docs/language/code.md);
+                                      2^64 - 1 where they are more */
   uint64_t args[16];               /* in */
   uint64_t cells[64];              /* in and out: as the validation left them, where it rejected, too. What was copied td_copy tells */
 } td_call;

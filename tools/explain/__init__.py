@@ -27,7 +27,7 @@ BY_CODE = {
 
 
 # These codes may be told of a copy buffer or of a copied field.
-COPYING = ("A2", "N4", "Y2", "Y4")
+COPYING = ("A2", "N1", "N4", "Y2", "Y4")
 
 
 class Unknown(Exception):

@@ -1,4 +1,4 @@
-"""Help on copies: A2, and Y2, Y4 and N4 of a copy buffer or of a copied field."""
+"""Help on copies: A2, and N1, N4, Y2 and Y4 of a copy buffer or of a copied field."""
 
 from types import SimpleNamespace as Tree
 
@@ -96,7 +96,10 @@ def no_buffer(module, own, field):
     what = "the parameter `%s`" % parameter_text(parameter) if parameter is not None else "no parameter"
     buffers = [one.name[1] for one in buffers_of(own)]
     lines = ["`%s` is %s, and bytes are copied to a copy buffer, `mutable UINT8 *name[room]`." % (word, what)]
-    return lines + (["mend: name one that is here: %s." % quoted(buffers)] if buffers else ["mend: add the parameter `mutable UINT8 *bytes[room]`, and name that."])
+    if buffers:
+        return lines + ["mend: name one that is here: %s." % quoted(buffers)]
+    is_free = sum(token[1] == word for token in module.tokens) == 1
+    return lines + ["mend: add the parameter `mutable UINT8 *%s[room]`, and name that." % (word if is_free else "bytes")]
 
 
 def used_otherwise(word, parameter):
@@ -115,7 +118,7 @@ def help_of(module):
         return wrong_room(module, parameter)
     if module.error.code == "Y4" and field is not None:
         return not_copied(field)
-    if module.error.code == "N4" and field is not None:
+    if module.error.code in ("N1", "N4") and field is not None:
         return no_buffer(module, own, field)
     word = module.token(module.index_at(at))[1]
     named = next((one for one in buffers_of(own) if one.name[1] == word), None)

@@ -4,7 +4,7 @@ token that may stand there, and for no other, so the list is exact (checks/expla
 import os
 import re
 
-from reference.tokens import ACTION_WORDS, ARRAY_WORDS, KEYWORDS, PUNCTUATION
+from reference.tokens import ACTION_WORDS, ARRAY_WORDS, COPY_WORD, KEYWORDS, PUNCTUATION
 from reference.trees import LEVELS, Parser
 
 from .. import TOP
@@ -86,7 +86,7 @@ def may_stand(parser):
     """The kinds of token that may stand where the parser was refused, in the order of the page on tokens; `end` is the text's end."""
     kinds = set(parser.asked)
     signs = [sign for sign in PUNCTUATION if sign not in OPERATORS]
-    order = list(CLASSES) + signs + sorted(KEYWORDS) + ["module", "#define"] + list(ARRAY_WORDS) + list(ACTION_WORDS) + OPERATORS
+    order = list(CLASSES) + signs + sorted(KEYWORDS) + ["module", "#define"] + list(ARRAY_WORDS) + list(ACTION_WORDS) + [COPY_WORD] + OPERATORS
     found = [kind for kind in order if kind in kinds]
     # A definition may begin where a module may end.
     return found + ["end"] if [name for name, _ in parser.open] == ["definition"] and parser.open[0][1] == parser.place else found

@@ -3,10 +3,10 @@
 from types import SimpleNamespace as Advice
 
 from reference.errors import ModuleError
-from reference.tokens import KEYWORDS
+from reference.tokens import ACTION_WORDS, COPY_WORD, KEYWORDS
 from reference.trees import BRACE_LIMIT, OPERATOR_LIMIT
 
-from . import in_definitions, in_expressions, in_fields
+from . import in_copies, in_definitions, in_expressions, in_fields
 from .grammar import CONSTRUCTS, AskingParser, in_words, innermost, may_stand, open_at, production_of
 from .spelling import many
 
@@ -49,7 +49,7 @@ class Here:
 
     def matching(self, offset):
         """The offset of what closes the bracket or brace at an offset; None where nothing does."""
-        opening = {"(": ")", "{": "}", "[": "]", "{:act": "}", "{:check": "}", "{:on-success": "}"}
+        opening = {"(": ")", "{": "}", "[": "]", **{word: "}" for word in ACTION_WORDS}, COPY_WORD: "}"}
         depth, at = 0, offset
         while self.kind_at(at) != "end":
             kind = self.kind_at(at)
@@ -164,7 +164,7 @@ GENERAL = [pointer_type, keyword_as_name, missing_semicolon, sign_too_many, sign
 
 def advice_of(here):
     """The first rule that fits, and whose edits, where it has some, mend the text."""
-    for rule in in_definitions.RULES + in_fields.RULES + in_expressions.RULES + GENERAL:
+    for rule in in_copies.RULES + in_definitions.RULES + in_fields.RULES + in_expressions.RULES + GENERAL:
         found = rule(here)
         if found is not None and (not found.edits or here.module.mends(*found.edits)):
             return found.said

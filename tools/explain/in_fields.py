@@ -108,7 +108,7 @@ def pointer(here):
 def action_word(here):
     """`{ :act` and `{:actx`."""
     if here.kind == ":" and here.kind_at(-1) == "{":
-        return advise("An action begins by `{:act`, `{:check` or `{:on-success`, in one word, and a blank stands behind it.")
+        return advise("An action begins by `{:act`, `{:check`, `{:on-success` or `{:copy`, in one word, and a blank stands behind it.")
     return None
 
 

@@ -23,6 +23,12 @@ def at_path(job, path):
     return True, value
 
 
+def list_in(value, name):
+    """The list that an object has in this field; an empty one where it has none."""
+    found = value.get(name) if isinstance(value, dict) else None
+    return found if isinstance(found, list) else []
+
+
 def shown(value):
     """A value of a job, shortened."""
     text = json.dumps(value)

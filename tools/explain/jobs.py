@@ -5,14 +5,16 @@ import json
 import re
 
 from reference.errors import ModuleError
-from reference.jobs import HEXADECIMAL, arguments_in
+from reference.jobs import HEXADECIMAL, is_whole, parts_in
 from reference.modules import module_of
 
 from ..places import escaped, place_of
+from .entry_points import cells_wanted, values_wanted
+from .job_limits import past_a_limit
 from .job_paths import at_path, form_of, shown
-from .rings import RING, RING_FIELDS, past_a_limit_of_a_ring, past_ring
+from .rings import RING, RING_FIELDS, past_ring
+from .swaps import no_swap
 
-MESSAGE = 1_048_576
 RUN_FIELDS = ("entry", "args", "cells", "bytes", "length", "stretches", "value", "stores")
 GIVEN_FIELDS = ("bytes", "length", "stretches")
 HOST_FIELDS = ("entry", "args", "buffer", "workers", "guests", "rings", "swaps")
@@ -57,6 +59,19 @@ def known_of(text):
     return None
 
 
+def is_list(value):
+    return isinstance(value, list)
+
+
+def is_text(value):
+    return isinstance(value, str)
+
+
+# The form in which the second reading takes each field that jobs of one command have alone.
+HOST_ALONE = {"buffer": is_text, "workers": is_whole, "guests": is_list, "rings": is_list, "swaps": is_list}
+RUN_ALONE = {"cells": is_list, "bytes": is_text, "length": is_whole, "stretches": is_list, "stores": is_list, "value": lambda value: all(map(may_be_part, parts_in(value)))}
+
+
 class Job:
     """A job as far as it can be read, and the types of its entry point."""
 
@@ -78,15 +93,7 @@ class Job:
         return [self.known.types[number] for number in self.known.entries] if self.known is not None else []
 
     def is_host(self):
-        return isinstance(self.value, dict) and bool({"guests", "buffer", "workers", "rings", "swaps"} & set(self.value))
-
-
-def values_wanted(made):
-    return ["%s (%d bits)" % (parameter.name, parameter.bits) for parameter in arguments_in(made)]
-
-
-def cells_wanted(made):
-    return ["%s%s (%s)" % (name, "" if field is None else "." + field, "%d bits" % bits if bits else "a pointer, below 2^32") for name, field, bits in made.cells]
+        return isinstance(self.value, dict) and bool(set(HOST_ALONE) & set(self.value))
 
 
 def wanted_line(made, which):
@@ -126,6 +133,18 @@ def fields_of(path):
     return tuple(dict.fromkeys(RUN_FIELDS + HOST_FIELDS)), path
 
 
+def field_of_the_other(job, path):
+    """Of a field that has its form, and is refused as only jobs of the other command have it."""
+    if not isinstance(job.value, dict) or path not in job.value:
+        return []
+    for alone, command, other, fields in ((HOST_ALONE, "host", "run", RUN_FIELDS), (RUN_ALONE, "run", "host", HOST_FIELDS)):
+        if path in alone and alone[path](job.value[path]):
+            names = ", ".join("`%s`" % field for field in fields)
+            return ["`%s` is a field of jobs for `td %s` alone: those for `td %s` have %s." % (path, command, other, names),
+                    "mend: take `%s` out, or give a job with it to `td %s`." % (path, command)]  # fmt: skip
+    return []
+
+
 def field_wrong(job, path):
     form = form_of(path)
     if form not in FORMS:
@@ -137,6 +156,9 @@ def field_wrong(job, path):
         return lines + ["mend: write `%s`." % near[0] if near else "mend: take the field out."]
     if form in GIVEN_FIELDS and isinstance(job.value, dict) and "value" in job.value and form in job.value:
         return ["`%s` stands beside `value`, which stands in its place." % path, "mend: take `%s` out, or `value`." % path]
+    other = field_of_the_other(job, path)
+    if other:
+        return other
     wanted, example = FORMS[form]
     lines = ["`%s` is %s: %s." % (path, wanted, "as `%s`" % example)]
     if job.text is not None and job.fault is None:
@@ -202,18 +224,15 @@ def text_at(job, path):
 
 def no_bytes(job):
     lines = ["A text in `value` is an even number of hexadecimal digits, two for each byte; white space and `0x` are none."]
-    texts = [part for part in parts_of(job.value.get("value")) if isinstance(part, str)] if isinstance(job.value, dict) else []
+    texts = [part for part in parts_in(job.value.get("value")) if isinstance(part, str)] if isinstance(job.value, dict) else []
     wrong = next((text for text in texts if len(text) % 2 or any(char not in HEXADECIMAL for char in text)), None)
     if wrong is not None:
         lines.append("There stands `%s`." % shown(wrong))
     return lines + ["mend: write each byte as two digits, and a number without quotes."]
 
 
-def parts_of(value):
-    """A value and all that stands in it, in order."""
-    yield value
-    for part in value if isinstance(value, list) else ():
-        yield from parts_of(part)
+def may_be_part(part):
+    return part is None or is_whole(part) or isinstance(part, (str, list))
 
 
 def no_digits(job, path):
@@ -308,32 +327,6 @@ def too_long(job, path):
     return lines + ["mend: post fewer bytes, from a lower word, or make the buffer longer: base and length are `[\"post\", word, bytes]`."]
 
 
-def past_a_limit(job, path):
-    if path.startswith("rings["):
-        return past_a_limit_of_a_ring(job, path)
-    limits = {
-        "length": ("A message has at most 1,048,576 bytes.", "validate the messages of a buffer one by one."),
-        "stretches": ("A message has at most 64 stretches, empty ones too.", "take the empty ones out, and join those that lie behind each other."),
-        "value": ("What is written of a value has at most 1,048,576 bytes.", "write the message in parts, each validated alone."),
-        "stores": ("A job has at most 65,536 stores, a host job as many of all its guests.", "give several jobs."),
-        "workers": ("A host job has 1 to 16 workers.", 'write `"workers":2`.'),
-        "guests": ("A host job has 1 to 16 guests.", 'write at least one: `"guests":[{"script":[["post",0,4]]}]`.'),
-        "rings": ("A job has at most 16 rings.", "give several jobs."),
-        "swaps": ("A job has at most 16 swaps, so 17 versions with its own module.", "leave some out."),
-        "posts": ("All guests post at most 4,096 messages.", "give several jobs."),
-        "words": ("All messages that are posted have at most 1,048,576 words, each counted as often as it is posted.", "give several jobs."),
-    }
-    said, mend = limits.get(path, ("A message that is posted has at most 1,048,576 bytes, and 64 stretches.", "post it in parts, each validated alone."))
-    lines = [said]
-    if isinstance(job.value, dict):
-        there, value = at_path(job.value, path)
-        if there and path != "value":
-            lines.append("The job has %s." % (len(value) if isinstance(value, list) and path in ("stretches", "stores", "guests", "rings", "swaps") else shown(value)))
-        if path == "words" and job.value.get("rings"):
-            lines.append("Each take of a ring counts for `most` / 8, rounded down, and 2.")
-    return lines + ["mend: " + mend]
-
-
 # What each code of a value says, and how it is mended.
 WRITTEN = {
     "E1": ("has another shape than its type: another form, or another count of values; a list up to a zero ends at its only one",
@@ -353,41 +346,6 @@ def not_written(job, place):
     if there:
         lines.append("There stands `%s`." % shown(value))
     return lines + ["mend: " + mend]
-
-
-def first_other(old, new):
-    """The first place at which two lists differ, and what stands there: a text, `nothing` past an end."""
-    at = next((at for at, (one, other) in enumerate(zip(old, new)) if one != other), min(len(old), len(new)))
-    return [items[at] if at < len(items) else "nothing" for items in (old, new)]
-
-
-def not_the_same(made, other):
-    """Which argument or cell of a swap's entry point isn't that of the job's module."""
-    for what, list_of in (("argument", values_wanted), ("cell", cells_wanted)):
-        wanted, found = list_of(made), list_of(other)
-        if wanted != found:
-            return "Its `%s` has another %s: the job's module has %s, this text %s." % (made.name, what, *first_other(wanted, found))
-    return "It can take the place of the job's module, by a second reading."
-
-
-def no_swap(job, path):
-    lines = ["The text of `%s` can't take the place of the job's module." % path]
-    there, text = at_path(job.value, path) if isinstance(job.value, dict) else (False, None)
-    mend = "mend: give a module that `td check` accepts, with an entry point of the same name, arguments and cells; what lies between may differ."
-    if not there or not isinstance(text, str) or job.entry is None:
-        return lines + [mend]
-    try:
-        data = text.encode()
-        known = module_of(data)[1]
-    except UnicodeEncodeError:
-        return lines + [mend]
-    except ModuleError as error:
-        return lines + ["`td check` refuses it: error %s %s %s." % (error.code, place_of(data, error.at), error.words), "mend: put it right there; td-why tells more of the text alone."]
-    entries = [known.types[number] for number in known.entries]
-    other = next((made for made in entries if made.name == job.entry.name), None)
-    if other is None:
-        return lines + ["Its entry points: %s; the job's is `%s`." % (", ".join("`%s`" % made.name for made in entries) or "none", job.entry.name), mend]
-    return lines + [not_the_same(job.entry, other), mend]
 
 
 def input_as_a_whole(code, text):
@@ -414,7 +372,7 @@ PATHS = {
     "J5": r"bytes|buffer|value|stores\[\d{1,5}\]|" + STEP_PATH,
     "J6": r"stores\[\d{1,5}\]|" + STEP_PATH,
     "J7": r"length|stretches(\[\d{1,5}\])?|rings\[\d{1,2}\]|" + STEP_PATH,
-    "J8": r"length|stretches|value|stores|workers|guests|rings(\[\d{1,2}\])?|swaps|posts|words|" + STEP_PATH,
+    "J8": r"length|stretches|value|stores|workers|guests|rings(\[\d{1,2}\])?|swaps|posts|words|copies|" + STEP_PATH,
     "J9": r"swaps\[\d{1,2}\]",
     "J10": r"value(\[\d{1,7}\])* E[1-4]",
 }
