@@ -21,16 +21,20 @@ sys.exit(crate.compile(["--jobs", "1"], "out/lib" + crate.name + ".a"))
 """
 
 
-def build(name, limit):
+# Seconds for one crate: its proof is part of the call, and a slow machine that does other work beside may want ten minutes for it.
+LIMIT = 1800
+
+
+def build(name):
     """Builds out/libNAME.a in the crate's folder, and answers its path; else the program ends with what was said."""
     folder = os.path.join(TOP, "crates", name)
     os.makedirs(os.path.join(folder, "out"), exist_ok=True)
     try:
-        page = subprocess.run(["rt", "doc"], stdout=subprocess.PIPE, check=True, timeout=limit).stdout.decode().strip()
+        page = subprocess.run(["rt", "doc"], stdout=subprocess.PIPE, check=True, timeout=LIMIT).stdout.decode().strip()
     except (OSError, subprocess.SubprocessError) as error:
         sys.exit("static library: rt isn't there: %s" % error)
     words = [sys.executable, "-c", COMPILE, os.path.dirname(page), TOP, name]
-    run = subprocess.run(words, stdout=subprocess.PIPE, stderr=subprocess.STDOUT, check=False, timeout=limit)
+    run = subprocess.run(words, stdout=subprocess.PIPE, stderr=subprocess.STDOUT, check=False, timeout=LIMIT)
     library = os.path.join(folder, "out", "lib%s.a" % name)
     if run.returncode or not os.path.isfile(library):
         sys.exit("static library: %s isn't built: %s" % (name, run.stdout.decode(errors="replace")[-500:]))

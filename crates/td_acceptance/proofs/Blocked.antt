@@ -8,8 +8,8 @@ use Rattle.td_verify.specs.Brackets.{opened}
 use Rattle.td_verify.specs.Ways.{MayBeEmpty}
 use Rattle.td_verify.specs.Rules.{KeepsTarget, KeepsNesting}
 use Rattle.td_verify.specs.Verify.{weights}
-use Rattle.td_blocks.specs.Block.{Block, Stands, size}
-use Rattle.td_acceptance.specs.Nesting.{Level, Outside, Nests, Ends, IsFit, Fits, weight}
+use Rattle.td_blocks.specs.Block.{Block, Stands, size, Ends}
+use Rattle.td_acceptance.specs.Nesting.{Level, Outside, Nests, IsFit, Fits, weight}
 
 -- an instruction keeps all rules but that on weight
 pub record IsFine (c : Parts) (Empty : ℕ → Type 0) (depth : ℕ → ℕ) (n end p : ℕ) : Type 0 where

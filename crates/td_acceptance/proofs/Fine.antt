@@ -16,8 +16,9 @@ use Rattle.td_verify.specs.Brackets.{shape_at, opened, innermost}
 use Rattle.td_verify.specs.Ways.{IsIdle, IdleWay}
 use Rattle.td_verify.specs.Rules.{IsAgain, LeadsWell, MayBeLast, StandsWell, IsOutside, TurnsBusy}
 use Rattle.td_verify.specs.Brackets.{in_window, in_loop}
-use Rattle.td_blocks.specs.Block.{Block, Done, Then, Stop, Leave, Guard, Scope, Window, Loop, size, guard, Stands}
-use Rattle.td_acceptance.specs.Nesting.{Level, Outside, InWindow, InLoop, IsPlain, IsStop, IsOpen, Takes, BeginsBusy, Nests, Ends, IsFit, Fits}
+use Rattle.td_blocks.specs.Block.{Block, Done, Then, Stop, Leave, Guard, Scope, Window, Loop, size, guard, Stands, Ends}
+use Rattle.td_blocks.proofs.Ending.{ends_some}
+use Rattle.td_acceptance.specs.Nesting.{Level, Outside, InWindow, InLoop, IsPlain, IsStop, IsOpen, Takes, BeginsBusy, Nests, IsFit, Fits}
 use Rattle.td_acceptance.proofs.Levels.{IsLevel}
 use Rattle.td_acceptance.proofs.Blocked.{IsFine, IsFollowed, IsExit}
 use Rattle.td_acceptance.proofs.Through.{through, shape_is, opened_after, opened_plain, opened_stop, opened_guard, opened_window, outside_is, in_window_level, in_loop_level}
@@ -170,16 +171,6 @@ busy_body c E (Window j site body rest) p x h st w = h
 busy_body c E (Loop body rest) p x h st w = h
 
 -- what follows
-pub ends_some : (b : Block) → Ends b → 1 ≤ size b
-ends_some Done h = absurd h
-ends_some (Then j b) h = omega arith
-ends_some (Stop j) h = omega arith
-ends_some Leave h = absurd h
-ends_some (Guard g r one rest) h = omega arith
-ends_some (Scope body rest) h = let k = ends_some rest h in omega (arith, k)
-ends_some (Window j site body rest) h = omega arith
-ends_some (Loop body rest) h = omega arith
-
 follow_lt : (end m : ℕ) (l : Level) (b : Block) → IsFollowed end (m + size b) l b → m < end
 follow_lt end m l b (inl h) = omega arith
 follow_lt end m l b (inr h) = let k = ends_some b h.1 in let e = h.0 in omega (arith, k, e)

@@ -1,5 +1,5 @@
 -- What the tables have for a checked module's fields.
-use Rattle.std.proofs.Common.{◌≡◌, ℕ, zero, suc, ◌+◌, ◌*◌, ◌<◌, ◌≤◌, max, List, [], ◌∷◌, ◌++◌, Bool, true, false, ◌&&◌, nat_eq, nat_lt, length, slice_get, Option, Some, None, refl, sym, ap, subst, ◌∙◌, arith}
+use Rattle.std.proofs.Common.{◌≡◌, ℕ, zero, suc, ◌+◌, ◌*◌, ◌<◌, ◌≤◌, max, List, [], ◌∷◌, ◌++◌, true, false, ◌&&◌, nat_eq, nat_lt, length, slice_get, Option, Some, None, refl, sym, ap, subst, ◌∙◌, arith}
 use Rattle.std.proofs.lemmas.List.{length-map}
 use Rattle.std.proofs.lemmas.Option.{slice_get_within}
 use Rattle.std.proofs.lemmas.Bool.Decides.{nat_tests}
@@ -30,6 +30,7 @@ use Rattle.td_kinds.specs.declared.error.KindFault.{KindFault}
 use Rattle.td_kinds.specs.declared.error.KindFault.TheVariants.{ZeroElement}
 use Rattle.td_kinds.specs.Kinds.{element_kind}
 use Rattle.td_kinds.specs.KindRules.{is_filled, fault_if, is_empty, field_faults, fields_faults, cases_faults, default_faults, body_faults}
+use Rattle.td_kinds.proofs.Faultless.{no_fault}
 use Rattle.td_ir.specs.declared.tables.Parts.{Parts}
 use Rattle.td_ir.specs.Tables.{routine_of}
 use Rattle.td_blocks.specs.Lowered.{parts_in}
@@ -37,8 +38,8 @@ use Rattle.td_blocks.specs.Tabled.{Mapped, FieldsSited, DefaultSited, CasesSited
 use Rattle.td_blocks.specs.Tops.{deed_cells, option_cells, parts_cells}
 use Rattle.td_acceptance.proofs.Fit.{BitsFit, ElementFits, ArrayFits, CopyFits, FieldsFit, DefaultFits, CasesFit, BodyFits}
 use Rattle.td_blocks.specs.Laid.{rooms}
-use Rattle.td_acceptance.proofs.Maps.{own_length, is_map}
-use Rattle.td_core.proofs.Found.{cells_mapped}
+use Rattle.td_acceptance.proofs.Maps.{is_map}
+use Rattle.td_core.proofs.Found.{cells_mapped, own_count}
 
 -- cells that actions name
 deed_low : (n : ℕ) (d : Deed) → NamesCells n d → deed_cells d ≤ n
@@ -118,10 +119,6 @@ pub none_then : (a b : List KindFault) → a ++ b ≡ [] → b ≡ []
 none_then [] b h = h
 none_then (x ∷ a) b h = absurd (cc)
 
-not_so : (b : Bool) (f : KindFault) → fault_if b f ≡ [] → b ≡ false
-not_so true f h = absurd (cc)
-not_so false f h = refl
-
 more_than_none : (k : ℕ) → (true && nat_eq k 0) ≡ false → nat_lt 0 k ≡ true
 more_than_none zero h = absurd (cc)
 more_than_none (suc k) h = grind (arith, nat_tests)
@@ -140,7 +137,7 @@ module _ (c : Parts) (depth : ℕ → ℕ) (n : ℕ) (ds : List TypeDef) (d : Ty
       let formed : AreCellsFormed (own_bounds d) (own_bounds e) own = subst (λ o. AreCellsFormed (own_bounds d) (own_at o) own) x.1.0 h.1.1 in
       let given : AreOwnGiven d (Some e) own = subst (λ o. AreOwnGiven d o own) x.1.0 g in (
         (let y = deeper j h.0 in omega (arith, y, k)),
-        λ there. is_map c n j site d e own cells buffers x.1.1.0 x.1.1.1 s (cells_mapped (own_bounds d) (own_bounds e) own formed ∙ own_length e) given there,
+        λ there. is_map c n j site d e own cells buffers x.1.1.0 x.1.1.1 s (cells_mapped (own_bounds d) (own_bounds e) own formed ∙ own_count e) given there,
       )
   element_fits site scope UnitElement h g l s k = tt
   element_fits site scope Rest h g l s k = tt
@@ -151,7 +148,7 @@ module _ (c : Parts) (depth : ℕ → ℕ) (n : ℕ) (ds : List TypeDef) (d : Ty
   copy_fits f (Some w) h = let x = buffer_low d f w h in let y = ap length buffers ∙ length-map d.buffers (λ b. b.room) in omega (arith, x, y)
 
   array_fits : (element : Element) (extent : Extent) (f : KindFault) → fault_if (is_filled extent && nat_eq (element_kind kinds element).least 0) f ≡ [] → ArrayFits c depth (λ j. nat_lt 0 (kinds j).least) n element extent
-  array_fits (NamedElement j args own) (Filling size step) f h = more_than_none (kinds j).least (not_so (true && nat_eq (kinds j).least 0) f h)
+  array_fits (NamedElement j args own) (Filling size step) f h = more_than_none (kinds j).least (no_fault (true && nat_eq (kinds j).least 0) f h)
   array_fits (NamedElement j args own) Once f h = tt
   array_fits (NamedElement j args own) (OnceFilling size step) f h = tt
   array_fits (NamedElement j args own) (UpToZero size) f h = tt

@@ -12,11 +12,12 @@ use Rattle.td_ir.proofs.Begins.{begin_next, length_there}
 use Rattle.td_acceptance.specs.Nesting.{Outside}
 use Rattle.td_blocks.specs.Block.{size}
 use Rattle.td_blocks.specs.Constructs.{Body, body}
+use Rattle.td_blocks.proofs.Ending.{ends_body}
 use Rattle.td_acceptance.specs.Laws.{AreBlocks, IsLowered, NotBusy}
 use Rattle.td_acceptance.proofs.Through.{through}
 use Rattle.td_acceptance.proofs.Weighing.{weighs, w_at, pushed_depth}
 use Rattle.td_acceptance.proofs.Empties.{laid_sound}
-use Rattle.td_acceptance.proofs.Stepping.{nests_body, ends_body, fits_body, busy_body, weight_body}
+use Rattle.td_acceptance.proofs.Stepping.{nests_body, fits_body, busy_body, weight_body}
 
 opens : (c : Parts) (bodies : ℕ → Body) (depth W least : ℕ → ℕ) (busy : ℕ → Bool) → IsLowered c bodies depth W least busy → (n : ℕ) → n ≤ length c.routines → opened (shapes_of c) (begin (lengths_of c) n) ≡ Some []
 opens c bodies depth W least busy b zero h = refl

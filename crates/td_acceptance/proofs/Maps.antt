@@ -1,20 +1,16 @@
 -- A cell map that gives a callee's cells back leads to cells and buffers of the caller. Cited by other crates.
-use Rattle.std.proofs.Common.{◌≡◌, ℕ, zero, suc, ◌+◌, ◌-◌, ◌*◌, ◌<◌, ◌≤◌, min, List, [], ◌∷◌, ◌++◌, length, take, drop, slice_index, slice_get, Some, refl, sym, ap, subst, ◌∙◌, arith, length-append}
+use Rattle.std.proofs.Common.{◌≡◌, ℕ, zero, suc, ◌+◌, ◌-◌, ◌*◌, ◌<◌, ◌≤◌, min, List, [], ◌∷◌, ◌++◌, length, take, drop, slice_index, slice_get, Some, sym, ap, subst, ◌∙◌, arith, length-append}
 use Rattle.std.proofs.lemmas.List.{length-take, length-drop, length-map, take_at, drop_at}
 use Rattle.std.proofs.lemmas.Option.{slice_get_within}
 use Rattle.td_num.specs.Lists.{Each}
 use Rattle.td_core.specs.declared.module.Buffer.{Buffer}
 use Rattle.td_core.specs.declared.module.TypeDef.{TypeDef}
-use Rattle.td_core.specs.Formed.{cell_bound, cell_bounds, buffer_bounds, own_bounds}
 use Rattle.td_core.specs.Copies.{AreBuffersGiven, AreOwnGiven}
 use Rattle.td_ir.specs.declared.tables.Parts.{Parts}
 use Rattle.td_ir.specs.Tables.{routine_of, map_of, buffer_cells, own_cells, cells_by}
+use Rattle.td_ir.proofs.Buffers.{buffer_count}
 use Rattle.td_blocks.specs.Laid.{rooms}
 use Rattle.td_verify.specs.Operands.{AreBelow, IsBufferOf, AreGiven, IsCellMap}
-
-cells_of_buffers : (C : ℕ) (bs : List ℕ) → length (buffer_cells C bs) ≡ 2 * length bs
-cells_of_buffers C [] = refl
-cells_of_buffers C (b ∷ bs) = let h = cells_of_buffers C bs in omega (arith, h)
 
 pub room_there : (bs : List Buffer) (n : ℕ) (b : Buffer) → slice_get bs n ≡ Some b → slice_index (rooms bs) n ≡ b.room
 room_there [] n b h = absurd (cc)
@@ -38,25 +34,13 @@ all_below n [] h j l = absurd (omega (arith, l))
 all_below n (k ∷ ks) h zero l = h.0
 all_below n (k ∷ ks) h (suc j) l = all_below n ks h.1 j (omega (arith, l))
 
-buffers_length : (bs : List Buffer) → length (buffer_bounds bs) ≡ 2 * length bs
-buffers_length [] = refl
-buffers_length (b ∷ bs) = let h = buffers_length bs in omega (arith, h)
-
--- a definition's cells and those of its buffers
-pub own_length : (e : TypeDef) → length (own_bounds e) ≡ length e.cells + 2 * length e.buffers
-own_length e =
-    let a = length-append (cell_bounds e.cells) (buffer_bounds e.buffers) in
-    let k = length-map e.cells (λ x. cell_bound x.kind) in
-    let b = buffers_length e.buffers in
-    omega (arith, a, k, b)
-
 -- how long a map is, by how many cells it stands for
 map_length : (C K B : ℕ) (m : List ℕ) → length (own_cells C K m) ≡ K + 2 * B → length m ≡ K + B
 map_length C K B m h =
     let a = length-append (take K m) (buffer_cells C (drop K m)) in
     let t = length-take K m in
     let d = length-drop K m in
-    let b = cells_of_buffers C (drop K m) in
+    let b = buffer_count C (drop K m) in
     omega (arith, h, a, t, d, b)
 
 pub is_map : (c : Parts) (n j site : ℕ) (d e : TypeDef) (own : List ℕ)

@@ -20,6 +20,7 @@ use Rattle.td_core.specs.declared.module.Case.{Case}
 use Rattle.td_core.specs.declared.module.Body.{Body as BodyDef}
 use Rattle.td_core.specs.declared.module.Body.TheVariants.{Struct as StructDef, Casetype as CasetypeDef}
 use Rattle.td_core.specs.declared.module.TypeDef.{TypeDef}
+use Rattle.td_core.proofs.Nodes.{some_parts}
 use Rattle.td_expr.specs.Same.{constant_of}
 use Rattle.td_meaning.specs.Naming.{is_needed}
 use Rattle.td_meaning.specs.Meaning.{divides, equals}
@@ -203,10 +204,6 @@ module _ (W E : ℕ → ℕ) (n : ℕ) (params : ℕ → ℕ) (less : (j : ℕ) 
   content_light L slot site m inner needed element (Filling size step) (Some w) k h s i = let x = copied_light site (constant_of size) w size k in omega (arith, x, s, i)
   content_light L slot site m inner needed element (OnceFilling size step) (Some w) k h s i = shape_light L slot site m inner needed element (OnceFilling size step) k h s i
   content_light L slot site m inner needed element (UpToZero size) (Some w) k h s i = shape_light L slot site m inner needed element (UpToZero size) k h s i
-
-  some_parts : (ps : List Part) → HasParts ps → 1 ≤ length ps
-  some_parts [] h = absurd h
-  some_parts (p ∷ ps) h = omega arith
 
   fields_light : (D site L : ℕ) (fs : List Field) → FieldsPlaced n params R D L t fs → Each (λ f. HasParts f.parts) fs → weight_of W (fields_steps t site L fs) ≤ 1 + module_weight E fs
   fields_light D site L [] h w = omega arith

@@ -1,8 +1,7 @@
 -- The verifier accepts the code of a module. Cited by other crates.
-use Rattle.std.proofs.Common.{◌≡◌, ℕ, zero, suc, ◌+◌, ◌-◌, ◌<◌, ◌≤◌, max, List, [], ◌∷◌, Bool, true, nat_lt, length, map, slice_get, Option, Some, None, refl, sym, ap, subst, ◌∙◌, arith}
+use Rattle.std.proofs.Common.{◌≡◌, ℕ, zero, suc, ◌+◌, ◌-◌, ◌<◌, ◌≤◌, max, List, [], ◌∷◌, Bool, true, nat_lt, length, slice_get, Option, Some, None, sym, ap, subst, ◌∙◌, arith}
 use Rattle.std.proofs.lemmas.Bool.Decides.{nat_tests}
 use Rattle.td_num.specs.Lists.{Each}
-use Rattle.td_core.specs.declared.kind.Kind.{Kind}
 use Rattle.td_core.specs.declared.module.Field.{Field}
 use Rattle.td_core.specs.declared.module.Case.{Case}
 use Rattle.td_core.specs.declared.module.Body.{Body as BodyDef}
@@ -13,8 +12,8 @@ use Rattle.td_core.specs.Formed.{param_bounds}
 use Rattle.td_core.specs.Copies.{IsDefinitionCopying}
 use Rattle.td_core.specs.WellFormed.{OfSome, EachField, HasParts, IsFieldWhole}
 use Rattle.td_core.specs.Weights.{definition_depth, body_depth, depth_of, definition_weight, weight_of, below_by, either_number}
-use Rattle.td_kinds.specs.Kinds.{kinds_below, definition_kind, body_kind, pick_kind}
-use Rattle.td_kinds.specs.KindRules.{body_faults, definitions_faults, kinds_of}
+use Rattle.td_kinds.specs.Kinds.{kinds_below, definition_kind, body_kind}
+use Rattle.td_kinds.specs.KindRules.{kinds_of}
 use Rattle.td_ir.specs.declared.tables.Parts.{Parts}
 use Rattle.td_ir.specs.Tables.{routine_of, first_of, end_of}
 use Rattle.td_verify.specs.Safe.{before}
@@ -33,11 +32,12 @@ use Rattle.td_acceptance.specs.Modules.{IsSupplied, IsAdmissible}
 use Rattle.td_acceptance.proofs.Goods.{good_definition}
 use Rattle.td_acceptance.proofs.Measured.{definition_light}
 use Rattle.td_acceptance.proofs.Least.{definition_more}
-use Rattle.td_acceptance.proofs.Fitting.{body_fits, has_parts, none_first, none_then}
+use Rattle.td_acceptance.proofs.Fitting.{body_fits, has_parts}
 use Rattle.td_acceptance.proofs.Lowered.{lowered_sound, routine_light}
 use Rattle.td_num.proofs.Equals.{equal_itself as alike, unequal_below as unlike}
 use Rattle.td_num.proofs.Lists.{got, each_at}
-use Rattle.td_kinds.proofs.Listing.{below_last as at_kinds}
+use Rattle.td_kinds.proofs.Listing.{below_last as at_kinds, below_more}
+use Rattle.td_kinds.proofs.Faultless.{faults_at}
 
 fields_have : (count : ℕ) (fs : List Field) → Each (IsFieldWhole count) fs → Each (λ f. HasParts f.parts) fs
 fields_have count [] h = tt
@@ -54,15 +54,6 @@ default_has count (Some fs) h = fields_have count fs h
 body_has : (count : ℕ) (b : BodyDef) → EachField (IsFieldWhole count) b → EachField (λ f. HasParts f.parts) b
 body_has count (StructDef fs) h = fields_have count fs h
 body_has count (CasetypeDef e cases o) h = (cases_have count cases h.0, default_has count o h.1)
-
-no_faults : (kinds : ℕ → Kind) (ds : List TypeDef) (n : ℕ) (d : TypeDef) → definitions_faults kinds ds ≡ [] → slice_get ds n ≡ Some d → body_faults kinds d.body ≡ []
-no_faults kinds [] n d e h = absurd (cc)
-no_faults kinds (x ∷ xs) zero d e h = (let same : x ≡ d = cc in subst (λ y. body_faults kinds y.body ≡ []) same (none_first (body_faults kinds x.body) (definitions_faults kinds xs) e))
-no_faults kinds (x ∷ xs) (suc n) d e h = no_faults kinds xs n d (none_then (body_faults kinds x.body) (definitions_faults kinds xs) e) h
-
-pub mapped : {A B : Type 0} (f : A → B) (xs : List A) → length (map f xs) ≡ length xs
-mapped f [] = refl
-mapped f (x ∷ xs) = ap suc (mapped f xs)
 
 -- what is told of a definition by those below it
 lower_by : (of : (ℕ → ℕ) → Option TypeDef → ℕ) (ds : List TypeDef) (n k j : ℕ) → j < n → below_by of ds (n + k) j ≡ below_by of ds n j
@@ -87,23 +78,15 @@ same_by of ds n j h l =
     let e : length ds ≡ n + (length ds - n) = omega arith in
     ap (λ x. below_by of ds x j) e ∙ lower_by of ds n (length ds - n) j l
 
-lower_kinds : (ds : List TypeDef) (n k j : ℕ) → j < n → kinds_below ds (n + k) j ≡ kinds_below ds n j
-unfolding kinds_below
-lower_kinds ds n zero j h = (let e : n + 0 ≡ n = omega arith in ap (λ x. kinds_below ds x j) e)
-lower_kinds ds n (suc k) j h =
-    let e : n + suc k ≡ suc (n + k) = omega arith in
-    ap (λ x. kinds_below ds x j) e
-    ∙ (ap (λ b. pick_kind b (definition_kind (kinds_below ds (n + k)) (slice_get ds (n + k))) (kinds_below ds (n + k) j)) (unlike j (n + k) (omega arith)) ∙ lower_kinds ds n k j h)
-
 whole_kinds : (ds : List TypeDef) (n : ℕ) → n < length ds → kinds_below ds (length ds) n ≡ definition_kind (kinds_below ds n) (slice_get ds n)
 whole_kinds ds n h =
     let e : length ds ≡ suc n + (length ds - suc n) = omega arith in
-    ap (λ x. kinds_below ds x n) e ∙ (lower_kinds ds (suc n) (length ds - suc n) n (omega arith) ∙ at_kinds ds n)
+    ap (λ x. kinds_below ds x n) e ∙ (below_more ds (suc n) (length ds - suc n) n (omega arith) ∙ at_kinds ds n)
 
 same_kinds : (ds : List TypeDef) (n j : ℕ) → n ≤ length ds → j < n → kinds_below ds (length ds) j ≡ kinds_below ds n j
 same_kinds ds n j h l =
     let e : length ds ≡ n + (length ds - n) = omega arith in
-    ap (λ x. kinds_below ds x j) e ∙ lower_kinds ds n (length ds - n) j l
+    ap (λ x. kinds_below ds x j) e ∙ below_more ds n (length ds - n) j l
 
 -- sites of earlier definitions stand before
 pub sites_up : (ds : List TypeDef) (n k : ℕ) → first_site ds n ≤ first_site ds (n + k)
@@ -169,7 +152,7 @@ module _ (c : Parts) (units : ℕ → ℕ) (m : Module) (a : IsAdmissible m) (l 
       body_fits c depth n m.definitions d (length m.listed) (below_by definition_depth m.definitions n) (kinds_of m)
       (l.cells n d e) (l.buffers n d e) (λ j k. theirs n j (omega (arith, h)) k) q.sets (λ j k. deeper n j (omega (arith, h)) k)
       d.name (first_site m.definitions n + 1) (first_site m.definitions n + 2) (param_bounds d.params) d.body
-      (a.formed n d e).1 (each_at (λ x. EachField (IsFieldWhole (length m.listed)) x.body) m.definitions n d a.fields e) (each_at (IsDefinitionCopying m.definitions) m.definitions n d a.copying e).fields (sited_at n d h e).1 (no_faults (kinds_of m) m.definitions n d a.kinds e) (omega (arith, deep))
+      (a.formed n d e).1 (each_at (λ x. EachField (IsFieldWhole (length m.listed)) x.body) m.definitions n d a.fields e) (each_at (IsDefinitionCopying m.definitions) m.definitions n d a.copying e).fields (sited_at n d h e).1 (faults_at (kinds_of m) m.definitions n d a.kinds e) (omega (arith, deep))
 
   have_at : (n : ℕ) (d : TypeDef) → slice_get m.definitions n ≡ Some d → EachField (λ f. HasParts f.parts) d.body
   have_at n d e = body_has (length m.listed) d.body (each_at (λ x. EachField (IsFieldWhole (length m.listed)) x.body) m.definitions n d a.fields e)

@@ -4,7 +4,7 @@ use Rattle.td_ir.specs.declared.tables.Parts.{Parts}
 use Rattle.td_ir.specs.declared.instructions.Instr.TheVariants as i
 use Rattle.td_ir.specs.Tables.{routine_of}
 use Rattle.td_blocks.specs.Block.{Block, Done, Then, Stop, Leave, Guard, Scope}
-use Rattle.td_acceptance.specs.Nesting.{Level, Nests, Ends, IsFit, Fits, IsCalm, Busy, weight}
+use Rattle.td_acceptance.specs.Nesting.{Level, Nests, IsFit, Fits, IsCalm, Busy, weight}
 use Rattle.td_blocks.specs.Constructs.{Expr, Lit, Slot, Binary, Not, Complement, ShiftLeft, Both, Either, Choice, Range, value, values, tested, Action, Finish, Assign, Read, If, Return, Abort, acts}
 use Rattle.td_acceptance.specs.Weights.{nodes, all_nodes, act_nodes}
 use Rattle.td_blocks.specs.Placed.{Reaches}
@@ -21,18 +21,6 @@ nests_value E l v t (Both a b) k h = nests_value E l v t a _ (nests_value E l v 
 nests_value E l v t (Either a b) k h = nests_value E l v t a _ (nests_value E l v t b Done tt, h)
 nests_value E l v t (Choice c a b) k h = nests_value E l v t c _ ((nests_value E l true t a Leave refl, nests_value E l true t b Done tt), h)
 nests_value E l v t (Range size offset access) k h = nests_value E l v t size _ (nests_value E l v (t + 1) offset _ (nests_value E l v (t + 2) access _ (tt, (tt, (tt, (tt, h))))))
-
-pub ends_value : (t : ℕ) (e : Expr) (k : Block) → Ends k → Ends (value t e k)
-ends_value t (Lit n) k h = h
-ends_value t (Slot place) k h = h
-ends_value t (Binary op a b) k h = ends_value t a _ (ends_value (t + 1) b _ h)
-ends_value t (Not a) k h = ends_value t a _ h
-ends_value t (Complement mask a) k h = ends_value t a _ h
-ends_value t (ShiftLeft mask a b) k h = ends_value t a _ (ends_value (t + 1) b _ h)
-ends_value t (Both a b) k h = ends_value t a _ h
-ends_value t (Either a b) k h = ends_value t a _ h
-ends_value t (Choice c a b) k h = ends_value t c _ h
-ends_value t (Range size offset access) k h = ends_value t size _ (ends_value (t + 1) offset _ (ends_value (t + 2) access _ h))
 
 pub calm_value : (t : ℕ) (e : Expr) (k : Block) → IsCalm k → IsCalm (value t e k)
 calm_value t (Lit n) k h = h
@@ -126,10 +114,6 @@ weight_value ws t (Range size offset access) k =
 pub nests_values : (E : ℕ → Type 0) (l : Level) (v : Bool) (t : ℕ) (es : List Expr) (k : Block) → Nests E l v k → Nests E l v (values t es k)
 nests_values E l v t [] k h = h
 nests_values E l v t (e ∷ es) k h = nests_value E l v t e _ (nests_values E l v (t + 1) es k h)
-
-pub ends_values : (t : ℕ) (es : List Expr) (k : Block) → Ends k → Ends (values t es k)
-ends_values t [] k h = h
-ends_values t (e ∷ es) k h = ends_value t e _ (ends_values (t + 1) es k h)
 
 pub busy_values : (E : ℕ → Type 0) (t : ℕ) (es : List Expr) (k : Block) → Busy E k → Busy E (values t es k)
 busy_values E t [] k h = h

@@ -7,8 +7,8 @@ use Rattle.td_verify.specs.Verify.{IsSound, weights}
 use Rattle.td_blocks.specs.Constructs.{Body, body}
 use Rattle.td_acceptance.specs.Weights.{body_weight, body_least}
 use Rattle.td_acceptance.specs.Good.{GoodBody}
-use Rattle.td_blocks.specs.Block.{Block, Stands, size}
-use Rattle.td_acceptance.specs.Nesting.{Outside, Nests, Busy, Ends, Fits, weight}
+use Rattle.td_blocks.specs.Block.{Block, Stands, size, Ends}
+use Rattle.td_acceptance.specs.Nesting.{Outside, Nests, Busy, Fits, weight}
 
 -- a routine n that is called from routine m may take no byte, where a table says which take one
 abbrev pub NotBusy : (ℕ → Bool) → ℕ → ℕ → Type 0

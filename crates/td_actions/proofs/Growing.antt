@@ -10,17 +10,8 @@ use Rattle.td_rules.specs.declared.known.Known.{Known}
 use Rattle.td_rules.specs.declared.known.Scope.{Scope}
 use Rattle.td_rules.specs.Known.{with_local}
 use Rattle.td_rules.specs.Actions.{stored_cell, with_read, scope_after}
-use Rattle.td_actions.specs.Scopes.{cut_back}
+use Rattle.td_actions.specs.Scopes.{cut_back, Grows}
 use Rattle.td_actions.specs.Pieces.{block_scope}
-
--- t has the names of s first, and all else but levels as s
-pub record Grows (s t : Scope) : Type 0 where
-  pub more : List (List ℕ × Local)
-  pub locals : t.locals ≡ s.locals ++ more
-  pub cells : t.cells ≡ s.cells
-  pub buffers : t.buffers ≡ s.buffers
-  pub start : t.start ≡ s.start
-  pub this : t.this ≡ s.this
 
 pub same : (s : Scope) → Grows s s
 same s = record { more = []; locals = sym (append-nil s.locals); cells = refl; buffers = refl; start = refl; this = refl }

@@ -5,6 +5,7 @@ use Rattle.std.proofs.lemmas.Option.{none-some, same_Some, slice_get_within, sli
 use Rattle.std.proofs.lemmas.List.{length-map, get_or-set_same, get_or-set_other, length-set}
 use mathlib.Core.Logic.{dite}
 use native.Mathlib.Decide.{ℕ_discrete}
+use Rattle.td_num.proofs.Lists.{got}
 use Rattle.td_core.specs.declared.module.Module.{Module}
 use Rattle.td_core.specs.declared.module.Entry.{Entry}
 use Rattle.td_ir.specs.declared.tables.Parts.{Parts}
@@ -25,18 +26,13 @@ few_frames [] n c e = absurd (none-some c e)
 few_frames (x ∷ cs) zero c e = let same : most_need level x ≡ most_need level c = ap (most_need level) (same_Some x c e) in omega (arith, same)
 few_frames (x ∷ cs) (suc n) c e = let r = few_frames cs n c e in omega (arith, r)
 
-some_at : {A : Type 0} (xs : List A) (k : ℕ) → k < length xs → (x : A) × (slice_get xs k ≡ Some x)
-some_at [] k lt = absurd (omega arith)
-some_at (x ∷ xs) zero lt = (x, refl)
-some_at (x ∷ xs) (suc k) lt = some_at xs k (omega arith)
-
 -- the code of a number has a version, which it can do
 pub code_at : (cs : List Parts) (job : HostJob) (n : ℕ) (c : Parts) (entry : Entry) → IsJobCode cs job → slice_get cs n ≡ Some c → slice_get job.entries n ≡ Some entry → IsCodeAt c job n entry
 unfolding IsJobCode
 code_at cs job n c entry does is begins =
     let d : JobCode cs job = does in
     let inside : n < length job.formats = (let a = slice_get_within cs n c is in let b = d.as_many in omega (arith, a, b)) in
-    let m = some_at job.formats n inside in
+    let m = got job.formats n inside in
     record { format = m.0; version = (m.1, begins); can = d.each n c m.0 entry is (m.1, begins) }
 
 -- the code of version 0 does the validations of the messages that rings name
@@ -45,7 +41,7 @@ unfolding IsJobCode IsMessageCode
 message_code cs job c does is =
     let d : JobCode cs job = does in
     let inside : 0 < length job.entries = (let a = slice_get_within cs 0 c is in let b = d.as_many_entries in omega (arith, a, b)) in
-    let e = some_at job.entries 0 inside in
+    let e = got job.entries 0 inside in
     (e.0, code_at cs job 0 c e.0 does is e.1)
 
 -- the code of a version is that of its number

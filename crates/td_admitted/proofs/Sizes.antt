@@ -1,5 +1,5 @@
 -- Core fields are no deeper and no heavier than the fields of the tree, where earlier definitions aren't.
-use Rattle.std.proofs.Common.{◌≡◌, ℕ, ◌+◌, ◌*◌, ◌≤◌, Bool, true, false, cond, max, ◌&&◌, List, [], ◌∷◌, ◌++◌, length, map, Option, Some, None, refl, arith, length-append, slice_get}
+use Rattle.std.proofs.Common.{◌≡◌, ℕ, ◌+◌, ◌*◌, ◌≤◌, Bool, true, false, cond, max, List, [], ◌∷◌, ◌++◌, length, map, Option, Some, None, refl, arith, length-append, slice_get}
 use Rattle.td_num.specs.declared.number.NumberType.{NumberType}
 use Rattle.td_ast.specs.Trees.{Tree}
 use Rattle.td_ast.specs.declared.fields.TypeKind.{TypeKind}

@@ -1,7 +1,6 @@
 -- The names of the types of a module of a text: all words, or all two words joined by a dot.
 use Rattle.std.proofs.Common.{◌≡◌, ◌⊎◌, inl, inr, ℕ, zero, suc, ◌+◌, ◌<◌, Bool, true, false, not, cond, List, [], ◌∷◌, ◌++◌, length, map, flat_map, Option, Some, None, refl, sym, ap, subst, arith}
 use Rattle.std.specs.Prelude.{slice_get}
-use Rattle.std.specs.List.{prefix_len}
 use Rattle.std.specs.Str.{bytes_eq}
 use Rattle.std.proofs.lemmas.Slice.Eq.{bytes_eq-Decides}
 use Rattle.td_num.specs.Lists.{Each}
@@ -22,7 +21,7 @@ use Rattle.td_core.specs.WellFormed.{IsDefinitionNamed}
 use Rattle.td_lexer.specs.Splits.{IsName, IsDotted}
 use Rattle.td_rules.specs.declared.known.Known.{Known}
 use Rattle.td_rules.specs.Known.{nothing_known}
-use Rattle.td_rules.specs.Enums.{next_value, item_value, with_item, items_after, with_enum_name, after_enum}
+use Rattle.td_rules.specs.Enums.{next_value, item_value, with_item, items_after, with_enum_name}
 use Rattle.td_rules.specs.Definitions.{struct_core, casetype_core, after, known_after}
 use Rattle.td_rules.specs.Modules.{StandsFor, names_of, module_of}
 use Rattle.td_rules.specs.Written.{definition_written, definitions_written}
@@ -30,11 +29,13 @@ use Rattle.td_rules.specs.Laws.{ModulesAreNamed}
 use Rattle.td_flat.specs.declared.own.Own.{Own}
 use Rattle.td_flat.specs.Definitions.{flat_definition, own_of}
 use Rattle.td_order.specs.Order.{order}
-use Rattle.td_flat.specs.Order.{graph_of}
+use Rattle.td_flat.specs.Names.{spelled}
+use Rattle.td_flat.specs.Order.{names_of as parts_names, graph_of}
 use Rattle.td_flat.specs.Flat.{flat, flat_or_none, flat_at}
 use Rattle.td_grammar.specs.Laws.{EitherForm}
-use Rattle.td_linked.specs.Laws.{OfPart, OfInput}
-use Rattle.td_admitted.specs.Laws.{TypesAreAlike}
+use Rattle.td_linked.specs.Laws.{OfPart, OfInput, IsNumbered, NumberedAreDotted}
+use Rattle.td_linked.proofs.Words.{place_within}
+use Rattle.td_admitted.specs.Laws.{told_bytes, TypesAreAlike}
 use Rattle.td_admitted.proofs.Words.{written_words}
 
 -- ---- what stands at the number of a name
@@ -121,37 +122,63 @@ plain_heads : (ds : List Def) → Each IsName (definitions_written ds) → Each 
 plain_heads [] h = tt
 plain_heads (d ∷ ds) h = (plain_head d (front IsName (definition_written d) (definitions_written ds) h), plain_heads ds (back IsName (definition_written d) (definitions_written ds) h))
 
-module _ (own : Own) (word : IsName own.name) where
-  dotted_head : (d : Def) → Each IsName (definition_written d) → OfHead IsDotted (flat_definition own d)
-  dotted_head (Define d) h = tt
-  dotted_head (Enum d) h = tt
-  dotted_head (Alias d) h = tt
-  dotted_head (Struct d) h = (own.name, d.name.text, word, h.0, refl)
-  dotted_head (Casetype d) h = (own.name, d.name.text, word, h.0, refl)
-  dotted_head (Output d) h = tt
+-- ---- those of parts
 
-  dotted_heads : (ds : List Def) → Each IsName (definitions_written ds) → Each (OfHead IsDotted) (map (flat_definition own) ds)
-  dotted_heads [] h = tt
-  dotted_heads (d ∷ ds) h =
-      (dotted_head d (front IsName (definition_written d) (definitions_written ds) h), dotted_heads ds (back IsName (definition_written d) (definitions_written ds) h))
+module _ (count : ℕ) (own : Own) (below : own.number < count) where
+  numbered_head : (d : Def) → Each IsName (definition_written d) → OfHead (IsNumbered IsName count) (flat_definition own d)
+  numbered_head (Define d) h = tt
+  numbered_head (Enum d) h = tt
+  numbered_head (Alias d) h = tt
+  numbered_head (Struct d) h = (own.number, d.name.text, below, h.0, refl)
+  numbered_head (Casetype d) h = (own.number, d.name.text, below, h.0, refl)
+  numbered_head (Output d) h = tt
 
-dotted_at : (parts : List PartTree) → Each (OfPart IsName) parts → (i : ℕ) → Each (OfHead IsDotted) (flat_at parts i)
-dotted_at parts h i = by (slice_get parts i) refl
-  where
-    by : (o : Option PartTree) → slice_get parts i ≡ o → Each (OfHead IsDotted) (flat_or_none o)
-    by None e = tt
-    by (Some p) e = let own = each_at (OfPart IsName) parts i p h e in dotted_heads (own_of p) own.0 p.definitions own.1
+  numbered_heads : (ds : List Def) → Each IsName (definitions_written ds) → Each (OfHead (IsNumbered IsName count)) (map (flat_definition own) ds)
+  numbered_heads [] h = tt
+  numbered_heads (d ∷ ds) h =
+      (numbered_head d (front IsName (definition_written d) (definitions_written ds) h), numbered_heads ds (back IsName (definition_written d) (definitions_written ds) h))
 
-dotted_all : (parts : List PartTree) → Each (OfPart IsName) parts → (numbers : List ℕ) → Each (OfHead IsDotted) (flat_map (flat_at parts) numbers)
-dotted_all parts h [] = tt
-dotted_all parts h (i ∷ is) = each_append (OfHead IsDotted) (flat_at parts i) (flat_map (flat_at parts) is) (dotted_at parts h i) (dotted_all parts h is)
+module _ (parts : List PartTree) (h : Each (OfPart IsName) parts) where
+  abbrev IsOwn : List ℕ → Type 0
+  IsOwn x = IsNumbered IsName (length parts) x
 
-abbrev AreAlike : Module → Type 0
-AreAlike m = Each (λ d. IsName (name_bytes m d.name)) m.definitions ⊎ Each (λ d. IsDotted (name_bytes m d.name)) m.definitions
+  numbered_at : (i : ℕ) → Each (OfHead IsOwn) (flat_at parts i)
+  numbered_at i = by (slice_get parts i) refl
+    where
+      by : (o : Option PartTree) → slice_get parts i ≡ o → Each (OfHead IsOwn) (flat_or_none (parts_names parts) i o)
+      by None e = tt
+      by (Some p) e =
+          let own = each_at (OfPart IsName) parts i p h e in
+          numbered_heads (length parts) (own_of (parts_names parts) i p) (place_within parts i p e) p.definitions own.1
 
-alike : ModulesAreNamed → (input : InputTree) (m : Module) → OfInput IsName input → StandsFor (flat input) m → AreAlike m
-alike named (Parsed tree) m h stands = inl (of_module IsName named tree m stands (plain_heads tree.definitions h))
-alike named (Parts parts) m h stands = inr (of_module IsDotted named (flat (Parts parts)) m stands (dotted_all parts h (order (graph_of parts))))
+  numbered_all : (numbers : List ℕ) → Each (OfHead IsOwn) (flat_map (flat_at parts) numbers)
+  numbered_all [] = tt
+  numbered_all (i ∷ is) = each_append (OfHead IsOwn) (flat_at parts i) (flat_map (flat_at parts) is) (numbered_at i) (numbered_all is)
 
-pub types_are_alike : ModulesAreNamed → EitherForm → TypesAreAlike
-types_are_alike named form text tokens input m split spelled stands = alike named input m (written_words form text tokens input split spelled) stands
+  not_empty : IsOwn [] → ⊥
+  not_empty (k, own, lt, word, is) = cc
+
+  -- as they are told
+  module _ (dotted : NumberedAreDotted) where
+    dotted_at : (names : List (List ℕ)) (i : ℕ) → IsOwn (bytes_or_none (slice_get names i)) → IsDotted (bytes_or_none (slice_get (map (spelled (parts_names parts)) names) i))
+    dotted_at [] i own = absurd (not_empty own)
+    dotted_at (x ∷ names) zero own = dotted parts x h own
+    dotted_at (x ∷ names) (suc i) own = dotted_at names i own
+
+    dotted_all : (names : List (List ℕ)) (ts : List TypeDef) → Each (λ d. IsOwn (bytes_or_none (slice_get names d.name.number))) ts
+        → Each (λ d. IsDotted (bytes_or_none (slice_get (map (spelled (parts_names parts)) names) d.name.number))) ts
+    dotted_all names [] own = tt
+    dotted_all names (t ∷ ts) own = (dotted_at names t.name.number own.0, dotted_all names ts own.1)
+
+-- ---- the law
+
+abbrev AreAlike : InputTree → Module → Type 0
+AreAlike input m = Each (λ d. IsName (told_bytes input m d.name)) m.definitions ⊎ Each (λ d. IsDotted (told_bytes input m d.name)) m.definitions
+
+alike : ModulesAreNamed → NumberedAreDotted → (input : InputTree) (m : Module) → OfInput IsName input → StandsFor (flat input) m → AreAlike input m
+alike named dotted (Parsed tree) m h stands = inl (of_module IsName named tree m stands (plain_heads tree.definitions h))
+alike named dotted (Parts parts) m h stands =
+    inr (dotted_all parts h dotted m.names m.definitions (of_module (IsNumbered IsName (length parts)) named (flat (Parts parts)) m stands (numbered_all parts h (order (graph_of parts)))))
+
+pub types_are_alike : ModulesAreNamed → EitherForm → NumberedAreDotted → TypesAreAlike
+types_are_alike named form dotted text tokens input m split spells stands = alike named dotted input m (written_words form text tokens input split spells) stands

@@ -1,5 +1,5 @@
 -- What holds of each module that an admitted tree stands for.
-use Rattle.std.specs.Prelude.{◌≡◌, ◌⊎◌, ◌≤◌, ℕ, List, None}
+use Rattle.std.specs.Prelude.{◌≡◌, ◌⊎◌, ◌≤◌, ℕ, List, Some, None, slice_get}
 use Rattle.td_num.specs.Lists.{Each}
 use Rattle.td_ast.specs.declared.token.Token.{Token}
 use Rattle.td_ast.specs.declared.definitions.ModuleTree.{ModuleTree}
@@ -9,20 +9,21 @@ use Rattle.td_lexer.specs.Splits.{Splits, IsName, IsDotted, IsLongName}
 use Rattle.td_grammar.specs.Parts.{input_text}
 use Rattle.td_limits.specs.Counts.{counts_passed}
 use Rattle.td_limits.specs.Sizes.{sizes_passed}
+use Rattle.td_core.specs.declared.module.NameId.{NameId}
 use Rattle.td_core.specs.declared.module.Module.{Module}
 use Rattle.td_core.specs.declared.limits.TheConstants.{MOST_NODES, MOST_DEPTH, MOST_WEIGHT}
-use Rattle.td_core.specs.Entries.{name_bytes}
+use Rattle.td_core.specs.Entries.{bytes_or_none}
 use Rattle.td_core.specs.Weights.{depth_of, definitions_nodes, weight_of}
 use Rattle.td_core.specs.WellFormed.{EachField, IsWithin}
 use Rattle.td_sizes.specs.Sizes.{IsFieldStepped}
 use Rattle.td_rules.specs.Modules.{StandsFor}
-use Rattle.td_flat.specs.Flat.{flat}
+use Rattle.td_flat.specs.Flat.{flat, spelled_names, IsLinked}
 
--- each name of a module of a text is a word, and no keyword, or two such words joined by a dot
+-- each name of a module of a text, as it is told, is a word, and no keyword, or two such words joined by a dot
 abbrev pub NamesAreWords : Type 0
 NamesAreWords =
     (text : List ℕ) (tokens : List Token) (input : InputTree) (m : Module) →
-    Splits text tokens → input_text.Spells input tokens → StandsFor (flat input) m → Each IsLongName m.names
+    Splits text tokens → input_text.Spells input tokens → StandsFor (flat input) m → Each IsLongName (spelled_names input m.names)
 
 -- without parts, each is a word
 abbrev pub PlainNamesAreWords : Type 0
@@ -30,12 +31,23 @@ PlainNamesAreWords =
     (text : List ℕ) (tokens : List Token) (t : ModuleTree) (m : Module) →
     Splits text tokens → input_text.Spells (Parsed t) tokens → StandsFor t m → Each IsName m.names
 
+-- the bytes of a name of a module of a text, as it is told; none where the module has no such name
+abbrev pub told_bytes : InputTree → Module → NameId → List ℕ
+told_bytes input m name = bytes_or_none (slice_get (spelled_names input m.names) name.number)
+
 -- the names of a module's types are all words, as those of a text without parts, or all two words joined by a dot
 abbrev pub TypesAreAlike : Type 0
 TypesAreAlike =
     (text : List ℕ) (tokens : List Token) (input : InputTree) (m : Module) →
     Splits text tokens → input_text.Spells input tokens → StandsFor (flat input) m →
-    Each (λ d. IsName (name_bytes m d.name)) m.definitions ⊎ Each (λ d. IsDotted (name_bytes m d.name)) m.definitions
+    Each (λ d. IsName (told_bytes input m d.name)) m.definitions ⊎ Each (λ d. IsDotted (told_bytes input m d.name)) m.definitions
+
+-- no two names of a module of a text are told with the same bytes
+abbrev pub ToldNamesAreApart : Type 0
+ToldNamesAreApart =
+    (text : List ℕ) (tokens : List Token) (input : InputTree) (m : Module) →
+    Splits text tokens → input_text.Spells input tokens → IsLinked input → StandsFor (flat input) m →
+    (i j : ℕ) (name : List ℕ) → slice_get (spelled_names input m.names) i ≡ Some name → slice_get (spelled_names input m.names) j ≡ Some name → i ≡ j
 
 -- no limit by count or by size is passed
 pub record HasLimits (t : ModuleTree) : Type 0 where

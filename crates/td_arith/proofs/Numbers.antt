@@ -1,9 +1,9 @@
 -- Cited by other crates.
 -- The numbers that fields bring into scope.
-use Rattle.std.proofs.Common.{◌≡◌, ℕ, zero, suc, ◌+◌, ◌-◌, ◌*◌, ◌/◌, ◌^◌, ◌<◌, ◌≤◌, List, slice_index, sym, ap, ◌∙◌, arith, lit<, Option, Some, None}
+use Rattle.std.proofs.Common.{◌≡◌, ℕ, zero, suc, ◌+◌, ◌-◌, ◌*◌, ◌/◌, ◌^◌, ◌<◌, ◌≤◌, List, slice_index, sym, ap, ◌∙◌, arith, Option, Some, None}
 use Rattle.std.proofs.Math.Nat.{mul-le-mul_right, mul_assoc, mul_comm, div-le_self, mod-le}
 use Rattle.std.proofs.lemmas.Nat.{pow_pos, mod_below}
-use Rattle.td_num.specs.Numbers.{bytes_in, rising_at, falling_on, ordered_at, number_at}
+use Rattle.td_num.specs.Numbers.{bytes_in, falling_on, ordered_at, number_at}
 use Rattle.td_num.specs.declared.number.Width.{Width}
 use Rattle.td_num.specs.declared.number.ByteOrder.{ByteOrder}
 use Rattle.td_num.specs.declared.number.ByteOrder.TheVariants.{LittleEndian, BigEndian}
@@ -17,15 +17,8 @@ use Rattle.td_core.specs.declared.module.Bits.{Bits}
 use Rattle.td_core.specs.Types.{limit}
 use Rattle.td_core.specs.Formed.{scalar_of, bits_bound, part_bound}
 use Rattle.td_meaning.specs.Meaning.{bits_of, field_number}
-use Rattle.td_num.proofs.Digits.{power_of_bytes as power}
+use Rattle.td_num.proofs.Digits.{power_of_bytes as power, rising_small}
 use Rattle.td_expr.proofs.Widths.{limit_of_bytes as limit_is}
-
-rising_small : (bytes : List ℕ) → AreBytes bytes → (p w : ℕ) → rising_at bytes p w < 2 ^ (8 * w)
-rising_small bytes small p zero = lit< tt
-rising_small bytes small p (suc w) =
-    let rest = rising_small bytes small (p + 1) w in
-    let low = small p in
-    rw power (omega arith)
 
 scaled : (n t : ℕ) → 256 * (n + 1) * t ≡ (n + 1) * (256 * t)
 scaled n t = ap (λ x. x * t) (mul_comm 256 (n + 1)) ∙ mul_assoc (n + 1) 256 t

@@ -3,8 +3,8 @@
 use Rattle.std.specs.Prelude.{int_lt, pos}
 use Rattle.td_expr.specs.declared.safety.Unsafe.TheVariants.{Room}
 use Rattle.td_expr.specs.Range.{range_of}
-use Rattle.std.proofs.Common.{◌≡◌, ℕ, zero, suc, ◌+◌, ◌-◌, ◌/◌, ◌^◌, ◌<◌, ◌≤◌, Bool, true, false, cond, min, List, [], ◌∷◌, length, map, refl, sym, ap, subst, arith, Option, Some, None, slice_get, slice_index, nat_eq}
-use Rattle.std.proofs.lemmas.Option.{none-some, same_Some}
+use Rattle.std.proofs.Common.{◌≡◌, ℕ, zero, suc, ◌+◌, ◌-◌, ◌/◌, ◌^◌, ◌<◌, ◌≤◌, Bool, true, false, cond, min, List, [], ◌∷◌, map, refl, sym, subst, arith, Option, Some, None, slice_get, slice_index, nat_eq}
+use Rattle.std.proofs.lemmas.Option.{none-some}
 use Rattle.std.proofs.Math.Nat.{div-mul-le_self, mul-le-mul_right}
 use Rattle.td_num.specs.Numbers.{bytes_in, number_at, places_from}
 use Rattle.td_num.specs.declared.number.NumberType.{NumberType}
@@ -26,12 +26,13 @@ use Rattle.td_expr.proofs.Admitting.{neither}
 use Rattle.td_meaning.specs.Doing.{natural_of}
 use Rattle.td_arith.specs.SafeModule.{list_unsafe, element_unsafe, extent_unsafe, room_unsafe, copy_unsafe}
 use Rattle.td_core.specs.Formed.{Bound, AllFit, AreArgsFormed, AreCellsFormed, params_at, own_at, IsElementFormed, IsExtentFormed}
-use Rattle.td_meaning.specs.Meaning.{Sense, values, values_of, taken, demanded, is_nonzero, byte_type, zeros_end, first_where, one_more, numbers_at, element_meaning, elements, divides, equals, zero_end, up_to_zero, element_up_to_zero, shape_meaning, with_copy, content_meaning}
+use Rattle.td_meaning.specs.Meaning.{Sense, values, values_of, taken, demanded, is_nonzero, byte_type, zeros_end, first_where, numbers_at, element_meaning, elements, divides, equals, zero_end, up_to_zero, element_up_to_zero, shape_meaning, with_copy, content_meaning}
 use Rattle.td_meaning.specs.Throughout.{Through, OnEnding, OnAll, OnElement, OnElements, OnShape, OnContent}
 use Rattle.td_arith.proofs.Fitting.{Stand, stand_at}
 use Rattle.td_arith.proofs.Copies.{CopyStands, within_room, spare_sound, copy_fits}
 use Rattle.td_arith.proofs.States.{State, sound, number_fits}
 use Rattle.td_meaning.proofs.Ending.{Between, on_then, on_map, on_demanded, on_taken}
+use Rattle.td_meaning.proofs.Filling.{found_below, count_of}
 
 -- what is known of a definition, on each message
 abbrev pub IsGood : List ℕ → List Bound → List Bound → Sense → Through → Type 0
@@ -109,23 +110,6 @@ module _ (sets : List (List ℕ)) (senses : ℕ → Sense) (throughs : ℕ → T
             (λ e. on_then (each p cells).ending (each p cells).reads (elements each turns start end) (Between all p end) (Between all p end) one.1 (λ q rest h. (more q rest h).1)),
       )
 
-  -- the place of the first zero
-  found_below : (test : ℕ → Bool) (xs : List ℕ) (k : ℕ) → first_where test xs ≡ Some k → k < length xs
-  found_below test [] k e = absurd (none-some k e)
-  found_below test (x ∷ xs) k e = by (found_below test xs) (test x) (first_where test xs) refl e
-    where
-      by : ((j : ℕ) → first_where test xs ≡ Some j → j < length xs) → (b : Bool) (o : Option ℕ) → first_where test xs ≡ o → cond b (Some 0) (one_more o) ≡ Some k → k < length (x ∷ xs)
-      by later true o h e = let z : 0 ≡ k = same_Some 0 k e in omega (arith, z)
-      by later false None h e = absurd (none-some k e)
-      by later false (Some j) h e =
-          let z : suc j ≡ k = same_Some (suc j) k e in
-          let rest = later j h in
-          omega (arith, z, rest)
-
-  count_of : (type : NumberType) (p m : ℕ) → length (numbers_at type message p m) ≡ m
-  count_of type p zero = refl
-  count_of type p (suc m) = ap suc (count_of type (p + bytes_in type.width) m)
-
   zero_between : (first : Option ℕ) (w bound end p : ℕ) (cells : List ℕ) → ((k : ℕ) → first ≡ Some k → k < min bound ((end - p) / w)) → p ≤ end → AllFit all cells
       → OnEnding (zero_end first w bound ((end - p) / w) p cells).ending (Between all p end)
   zero_between None w bound end p cells h le f = tt
@@ -140,7 +124,7 @@ module _ (sets : List (List ℕ)) (senses : ℕ → Sense) (throughs : ℕ → T
       let w = bytes_in type.width in
       let m = min (size / w) ((end - p) / w) in
       zero_between (first_where (λ x. nat_eq x 0) (numbers_at type message p m)) w (size / w) end p cells
-      (λ k e. subst (λ c. k < c) (count_of type p m) (found_below (λ x. nat_eq x 0) (numbers_at type message p m) k e)) le f
+      (λ k e. subst (λ c. k < c) (count_of type message p m) (found_below (λ x. nat_eq x 0) (numbers_at type message p m) k e)) le f
 
   element_up_to_zero_between : (element : Element) (size end p : ℕ) (cells : List ℕ) → p ≤ end → AllFit all cells → OnEnding (element_up_to_zero element size message end p cells).ending (Between all p end)
   element_up_to_zero_between (Number type) size end p cells le f = up_to_zero_between type size end p cells le f

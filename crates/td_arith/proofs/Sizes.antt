@@ -1,73 +1,41 @@
 -- Where a type accepts, it takes as many bytes as its kind says.
-use Rattle.std.proofs.Common.{◌≡◌, ℕ, zero, suc, ◌+◌, ◌-◌, ◌*◌, ◌/◌, ◌^◌, ◌<◌, ◌≤◌, Bool, true, false, cond, min, max, List, [], ◌∷◌, ◌++◌, length, map, refl, sym, ap, ◌∙◌, subst, arith, Option, Some, None, slice_get, slice_index, nat_eq, nat_le}
+use Rattle.std.proofs.Common.{◌≡◌, ℕ, zero, suc, ◌+◌, ◌-◌, ◌*◌, ◌/◌, ◌^◌, ◌<◌, ◌≤◌, Bool, true, false, cond, min, max, List, [], ◌∷◌, length, map, refl, sym, ap, ◌∙◌, subst, arith, Option, Some, None, slice_get, slice_index, nat_eq, nat_le}
 use Rattle.std.proofs.lemmas.Bool.{eqb-true, leb-true}
 use Rattle.std.proofs.lemmas.Option.{none-some, same_Some}
 use Rattle.std.proofs.Math.Nat.{div-mul-le_self, mul-le-mul_right}
 use Rattle.td_num.specs.Numbers.{bytes_in, number_at, places_from}
 use Rattle.td_num.specs.Lists.{is_among}
-use Rattle.td_core.specs.Term.{Term, Deed}
+use Rattle.td_core.specs.Term.{Term}
 use Rattle.td_core.specs.declared.module.NameId.{NameId}
 use Rattle.td_core.specs.declared.module.Element.{Element}
 use Rattle.td_core.specs.declared.module.Element.TheVariants.{Number, Listed, Named, Unit as UnitElement, Rest, Zeros}
 use Rattle.td_core.specs.declared.module.Extent.{Extent}
 use Rattle.td_core.specs.declared.module.Extent.TheVariants.{Once, Filling, OnceFilling, UpToZero}
 use Rattle.td_core.specs.declared.module.CopyOut.{CopyOut}
-use Rattle.td_core.specs.declared.module.Part.{Part}
 use Rattle.td_core.specs.declared.module.Field.{Field}
 use Rattle.td_core.specs.declared.module.Case.{Case}
 use Rattle.td_core.specs.declared.module.Body.{Body}
 use Rattle.td_core.specs.declared.module.Body.TheVariants.{Struct, Casetype}
 use Rattle.td_core.specs.declared.module.TypeDef.{TypeDef}
-use Rattle.td_core.specs.declared.outcome.Reason.TheVariants.{NotEnough, Constraint, ListSize, Action as ActionFails}
-use Rattle.td_core.specs.Outcome.{Behavior, Ending, Accepted, Rejected, accepted, and_then, within, after_reading}
+use Rattle.td_core.specs.declared.outcome.Reason.TheVariants.{NotEnough, Constraint, ListSize}
+use Rattle.td_core.specs.Outcome.{Behavior, accepted, and_then, within, after_reading}
 use Rattle.td_expr.specs.Value.{natural}
 use Rattle.td_expr.specs.Same.{constant_of}
 use Rattle.td_expr.proofs.Folding.{constant_is}
 use Rattle.td_core.specs.declared.kind.Kind.{Kind}
 use Rattle.td_kinds.specs.Kinds.{up_to, exactly, at_least, on_both, joined, element_kind, sized_kind, field_kind, fields_kind, default_kind, spanned_with, cases_kind, body_kind, definition_kind, kinds_below, pick_kind}
-use Rattle.td_meaning.specs.Doing.{Effect, On, Returned, Aborted, doing, natural_of, is_true}
+use Rattle.td_meaning.specs.Doing.{natural_of}
 use Rattle.td_meaning.specs.Naming.{is_needed}
-use Rattle.td_meaning.specs.Meaning.{Sense, values, values_of, taken, demanded, is_nonzero, byte_type, zeros_end, first_where, numbers_at, element_meaning, elements, divides, equals, zero_end, element_up_to_zero, shape_meaning, with_copy, content_meaning, refined, ended, acted, checked, parts_meaning, bits_of, field_number, number_places, extended, field_place, where_place, first_name, fields_meaning, case_for, chosen_meaning, body_meaning, definition_meaning, below, pick}
+use Rattle.td_meaning.specs.Meaning.{Sense, values, values_of, taken, demanded, is_nonzero, byte_type, zeros_end, first_where, numbers_at, element_meaning, elements, divides, equals, zero_end, element_up_to_zero, shape_meaning, with_copy, content_meaning, refined, parts_meaning, field_number, number_places, extended, field_place, where_place, first_name, fields_meaning, case_for, chosen_meaning, body_meaning, definition_meaning, below, pick}
 use Rattle.td_meaning.specs.Throughout.{OnEnding}
 use Rattle.td_kinds.specs.KindRules.{kinds_of}
 use Rattle.td_arith.specs.Sizes.{UpTo, Sized, SizesHold, ElementsMoveOn}
 use Rattle.td_meaning.proofs.Ending.{on_then, on_map, on_within, on_demanded}
-use Rattle.td_meaning.proofs.Filling.{found_below, count_of, on_accepted}
+use Rattle.td_meaning.proofs.Filling.{found_below, count_of, on_accepted, anywhere}
+use Rattle.td_meaning.proofs.Staying.{Stays, refined_stays, parts_stay}
 
 abbrev IsSized : Kind → Sense → Type 0
 IsSized k sense = (args places cells message : List ℕ) (p end : ℕ) → p ≤ end → OnEnding (sense args places cells message p end).ending (Sized k p end)
-
--- The place stays
-
-abbrev Stays : ℕ → ℕ → List ℕ → Type 0
-Stays q r cells = r ≡ q
-
-refined_stays : (r : Option Term) (env : List ℕ) (start q : ℕ) (cells : List ℕ) → OnEnding (refined r env start q cells).ending (Stays q)
-refined_stays None env start q cells = refl
-refined_stays (Some e) env start q cells = on_demanded Constraint (is_true e env) start q cells (Stays q) (λ t. refl)
-
-ended_stays : (o : Effect) (start q : ℕ) → OnEnding (ended o start q).ending (Stays q)
-ended_stays (On cells) start q = refl
-ended_stays (Returned value cells) start q = on_demanded ActionFails value start q cells (Stays q) (λ t. refl)
-ended_stays (Aborted cells) start q = tt
-
-acted_stays : (a : Option Deed) (env places : List ℕ) (start q : ℕ) (cells : List ℕ) → OnEnding (acted a env places start q cells).ending (Stays q)
-acted_stays None env places start q cells = refl
-acted_stays (Some d) env places start q cells = ended_stays (doing d (env ++ start ∷ []) places cells) start q
-
-checked_stays : (p : Part) (env places : List ℕ) (start q : ℕ) (cells : List ℕ) → OnEnding (checked p env places start q cells).ending (Stays q)
-checked_stays p env places start q cells =
-    on_then (refined p.refinement env start q cells).ending (refined p.refinement env start q cells).reads (acted p.action env places start) (Stays q) (Stays q) (refined_stays p.refinement env start q cells)
-    (λ r more e. on_map (acted p.action env places start r more).ending (Stays r) (Stays q) (acted_stays p.action env places start r more) (λ t last g. g ∙ e))
-
-parts_stay : (ty : NameId) (start n : ℕ) (ps : List Part) (env places : List ℕ) (q : ℕ) (cells : List ℕ) → OnEnding (parts_meaning ty start n ps env places q cells).ending (Stays q)
-unfolding parts_meaning
-parts_stay ty start n [] env places q cells = refl
-parts_stay ty start n (p ∷ ps) env places q cells =
-    let values = env ++ bits_of p.bits n ∷ [] in
-    on_then (within (field_place ty p.name start) (checked p values places start q cells)).ending (checked p values places start q cells).reads (parts_meaning ty start n ps values places) (Stays q) (Stays q)
-    (on_within (field_place ty p.name start) (checked p values places start q cells).ending (Stays q) (checked_stays p values places start q cells))
-    (λ r more e. on_map (parts_meaning ty start n ps values places r more).ending (Stays r) (Stays q) (parts_stay ty start n ps values places r more) (λ t last g. g ∙ e))
 
 -- Elements
 
@@ -90,11 +58,7 @@ fills each start end (suc turns) p cells = by (nat_eq p end) refl (λ q more. fi
     by : (b : Bool) → nat_eq p end ≡ b → ((q : ℕ) (more : List ℕ) → OnEnding (elements each turns start end q more).ending (Stays end))
         → OnEnding (cond b (accepted p cells) (and_then (each p cells) (elements each turns start end))).ending (Stays end)
     by true e later = eqb-true p end e
-    by false e later = on_then (each p cells).ending (each p cells).reads (elements each turns start end) (λ q more. Unit {0}) (Stays end) (all (each p cells).ending) (λ q more u. later q more)
-      where
-        all : (o : Ending) → OnEnding o (λ q more. Unit {0})
-        all (Accepted q more) = tt
-        all (Rejected r position trace more) = tt
+    by false e later = on_then (each p cells).ending (each p cells).reads (elements each turns start end) (λ q more. Unit {0}) (Stays end) (anywhere (each p cells).ending) (λ q more u. later q more)
 
 -- n bytes, where n is the size's value
 sized_bytes : (size : Term) (env : List ℕ) (p end q : ℕ) (cells : List ℕ) → q ≡ p + natural_of size env → q ≤ end → Sized (sized_kind (constant_of size)) p end q cells
@@ -169,13 +133,9 @@ module _ (sets : List (List ℕ)) (kinds : ℕ → Kind) (senses : ℕ → Sense
       (λ q more. and_then (demanded ListSize ok p p more) (λ begin more. and_then (each q begin more) (λ r more. demanded ListSize (nat_eq r q) p r more))) There (Sized (sized_kind (constant_of size)) p end) (taken_sized m p end p cells)
       (λ q more h. on_then (demanded ListSize ok p p more).ending (demanded ListSize ok p p more).reads (λ begin more. and_then (each q begin more) (λ r more. demanded ListSize (nat_eq r q) p r more)) (λ r last. Unit {0}) (Sized (sized_kind (constant_of size)) p end)
       (on_demanded ListSize ok p p more (λ r last. Unit {0}) (λ t. tt))
-      (λ r last u. on_then (each q r last).ending (each q r last).reads (λ t final. demanded ListSize (nat_eq t q) p t final) (λ t final. Unit {0}) (Sized (sized_kind (constant_of size)) p end) (any (each q r last).ending)
+      (λ r last u. on_then (each q r last).ending (each q r last).reads (λ t final. demanded ListSize (nat_eq t q) p t final) (λ t final. Unit {0}) (Sized (sized_kind (constant_of size)) p end) (anywhere (each q r last).ending)
       (λ t final w. on_demanded ListSize (nat_eq t q) p t final (Sized (sized_kind (constant_of size)) p end)
       (λ e. let f = eqb-true t q e in sized_bytes size env p end t final (f ∙ h.0) (omega (arith, f, h.1))))))
-    where
-      any : (o : Ending) → OnEnding o (λ t final. Unit {0})
-      any (Accepted q more) = tt
-      any (Rejected r position trace more) = tt
   shape_sized element (UpToZero size) env places message end p cells le = up_to_zero_sized element (natural_of size env) message end p cells le
 
   content_sized : (element : Element) (extent : Extent) (copy : Option CopyOut) (env places message : List ℕ) (end p : ℕ) (cells : List ℕ) → p ≤ end

@@ -29,6 +29,17 @@ size (Scope body rest) = size body + size rest
 size (Window j site body rest) = 1 + (size body + (1 + size rest))
 size (Loop body rest) = 1 + (size body + (1 + size rest))
 
+-- it never goes on behind its end
+abbrev pub Ends : Block → Type 0
+Ends Done = ⊥
+Ends (Then j b) = Ends b
+Ends (Stop j) = Unit {0}
+Ends Leave = ⊥
+Ends (Guard g r one rest) = Ends rest
+Ends (Scope body rest) = Ends rest
+Ends (Window j site body rest) = Ends rest
+Ends (Loop body rest) = Ends rest
+
 -- passes to t where a register isn't 0 (true) or is 0 (false)
 abbrev pub guard : Bool → ℕ → ℕ → Instr
 guard true r t = i.JumpIf r t

@@ -19,14 +19,15 @@ pub enum Refusal {
 /// A verdict, or why there is none.
 pub type Answer = Result<Verdict, Refusal>;
 
+/// `TD_DONE` of td.h.
 pub(crate) const DONE: i32 = 0;
-
+/// `TD_CLOSED` of td.h.
 pub(crate) const CLOSED: i32 = 3;
-
+/// `TD_NO_MEMORY` of td.h.
 pub(crate) const NO_MEMORY: i32 = 4;
-
+/// `TD_MISSING` of td.h.
 pub(crate) const MISSING: i32 = 5;
-
+/// `TD_TOO_MUCH` of td.h.
 pub(crate) const TOO_MUCH: i32 = 8;
 
 /// A type that encloses a failure, and what failed in it.
@@ -45,6 +46,7 @@ pub struct TdFrame {
     pub reason: u32,
 }
 
+/// The number of `td_reason` in td.h that stands for a reason.
 pub(crate) fn reason_of(reason: Reason) -> u32
     ensures { result ≡ reason_number reason }
 {

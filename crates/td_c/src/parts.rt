@@ -71,8 +71,8 @@ fn are_within(stretches: &[Stretch], count: usize) -> bool
     true
 }
 
-/// The layout of these stretches, and whether it is within so many words. The number of an answer: there are more than 64 of them, or they have
-/// 2^32 bytes and more; or there was no memory for the layout.
+/// The layout of these stretches, and whether it is within so many words. The number of an answer: there are more than 64 of
+/// them, or they have 2^32 bytes and more; or there was no memory for the layout.
 pub(crate) fn layout_of(
     alloc: Global,
     parts: &[TdStretch],

@@ -27,8 +27,8 @@ pub struct TdBuffer {
     pub room: u32,
 }
 
-/// A parameter or a cell: the number of its name; for a field of an output record 1 and the number of the field's name; how many bytes its number has, and 1 where it
-/// is a place in the message.
+/// A parameter or a cell: the number of its name; for a field of an output record 1 and the number of the field's name; how
+/// many bytes its number has, and 1 where it is a place in the message.
 #[repr(C)]
 #[derive(Clone, Copy)]
 pub struct TdPart {
@@ -399,12 +399,11 @@ fn name_of(slot: &Slot, number: u32, bytes: &mut [u8], size: &mut u64) -> i32
     let Some(session) = &slot.session else {
         return CLOSED;
     };
-    let Some(text) = session.name(NameId { number }) else {
+    let Some(name) = session.name(NameId { number }) else {
         return MISSING;
     };
-    let count = text.len().min(bytes.len());
-    bytes[..count].copy_from_slice(&text[..count]);
-    *size = text.len() as u64;
+    name.write_front(bytes);
+    *size = name.len() as u64;
     DONE
 }
 

@@ -6,8 +6,9 @@ ghost use Rattle.td_c_pack.specs.Told.{IsTold};
 
 use td_front::{FrontError, line_of};
 
+/// `TD_PACK_NO_MEMORY` of td_pack.h.
 pub(crate) const NO_MEMORY: i32 = 4;
-
+/// `TD_PACK_REFUSED` of td_pack.h.
 pub(crate) const REFUSED: i32 = 22;
 
 /// What C is told of a module text: the size of its image, or where it is refused, and why.

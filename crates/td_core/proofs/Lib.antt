@@ -1,2 +1,5 @@
 pub mod Nodes
 pub mod Found
+pub mod Copies
+pub mod Ends
+pub mod Fronts

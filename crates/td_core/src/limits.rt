@@ -1,6 +1,7 @@
-//! What a module and its text hold at most: the one home of these ten numbers (own rule). Each but the room of a
-//! copy buffer is refused by td_limits, as X1 at the name of the definition in which it is passed: the first six by count, before
-//! names and types are looked at, the last three by size. The verifier refuses code past two of them; the format of images has numbers of its own.
+//! What a module and its text hold at most: the one home of these ten numbers (own rule). Each but the room of a copy buffer is
+//! refused by td_limits, as X1 at the name of the definition in which it is passed: the first six by count, before names and
+//! types are looked at, the last three by size. The verifier refuses code past two of them; the format of images has numbers of
+//! its own.
 
 /// Definitions of a text: X1 `limit definitions`.
 pub const MOST_DEFINITIONS: u64 = 4_000;

@@ -1,7 +1,6 @@
 -- The list of all numbers, as a validation begins and ends.
 use Rattle.std.proofs.Common.{◌≡◌, ℕ, ◌+◌, ◌*◌, List, [], ◌++◌, length, length-append, take, drop, Some, sym, ap, ◌∙◌, subst, arith}
 use Rattle.std.specs.Prelude.{slice_get}
-use Rattle.std.proofs.Math.Seq.{take-append_seam}
 use Rattle.std.proofs.lemmas.List.{length-replicate}
 use Rattle.td_num.specs.Numbers.{places_from}
 use Rattle.td_core.specs.Entries.{entry_definition}
@@ -40,10 +39,6 @@ behavior_held {W} {loads} s t words layout whole meant v p n trace all cells b c
     let copied = held h' in
     subst (λ (o : Outcome). IsBehaviorOf layout n b (loads words) meant o) (λ i. record { verdict = v; trace = trace; cells = last i; copies = copied i })
     (behavior_lent s t words layout whole meant v p n trace all b none at w long h step same)
-
--- what a vector holds after a slice of all of it was lent
-pub lent : {A : Type 0} (n : ℕ) (xs ys : List A) → length xs ≡ n → take n (xs ++ drop (length xs) ys) ≡ xs
-lent {A} n xs ys e = subst (λ k. take k (xs ++ drop (length xs) ys) ≡ xs) e (take-append_seam xs (drop (length xs) ys))
 
 pub long_is : (cells all : List ℕ) (k n : ℕ) (vs : List BufferView) → all ≡ cells ++ zeros (2 * k) → k ≡ length vs → n ≡ length all → n ≡ length cells + 2 * length vs
 long_is cells all k n vs e many long =

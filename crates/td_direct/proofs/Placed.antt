@@ -1,11 +1,12 @@
 -- Where cells and buffers lie, from definition to definition.
-use Rattle.std.proofs.Common.{append_assoc, ◌≡◌, ℕ, zero, suc, ◌+◌, ◌*◌, ◌<◌, ◌≤◌, Bool, true, false, cond, Option, Some, None, List, [], ◌∷◌, ◌++◌, length, length-append, map, take, drop, replicate, get_or, refl, sym, ap, ◌∙◌, subst, arith}
+use Rattle.std.proofs.Common.{append_assoc, ◌≡◌, ℕ, zero, suc, ◌+◌, ◌*◌, ◌<◌, ◌≤◌, Bool, true, false, cond, Option, Some, None, List, [], ◌∷◌, ◌++◌, length, length-append, map, drop, replicate, get_or, refl, sym, ap, ◌∙◌, subst, arith}
 use Rattle.std.specs.Prelude.{slice_get, slice_index, nat_eq}
 use Rattle.std.proofs.lemmas.List.{get_or-drop, length-map, length-drop, replicate-append-replicate}
 use Rattle.std.proofs.Math.Seq.{drop-append_seam}
 use Rattle.std.proofs.lemmas.Option.{slice_get_within, none-some}
 use Rattle.td_num.specs.Lists.{Each}
 use Rattle.td_num.specs.Numbers.{places_from}
+use Rattle.td_num.proofs.Lists.{each_taken}
 use Rattle.td_core.specs.Copies.{IsBufferCell, IsCopyWhole, AreBuffersGiven, AreOwnGiven, IsElementGiven, NamesCells, IsFieldCopying, IsDefinitionCopying, IsCopying}
 use Rattle.td_core.specs.Formed.{Bound, cell_bound, cell_bounds, buffer_bounds, own_bounds, own_at, param_bounds, parts_scope, AreCellsFormed, IsElementFormed, AreFieldsFormed, AreCasesFormed, IsDefaultFormed, IsBodyFormed, IsDefinitionFormed, IsModuleFormed}
 use Rattle.td_core.specs.Held.{IsBufferAt, AreHeld}
@@ -91,12 +92,6 @@ body_each P (Casetype switch cases default) args fs h e = case_each P (value_of 
 each_more : {A : Type 0} (P Q R : A → Type 0) (xs : List A) → ((x : A) → P x → Q x → R x) → Each P xs → Each Q xs → Each R xs
 each_more P Q R [] k h g = tt
 each_more P Q R (x ∷ xs) k h g = (k x h.0 g.0, each_more P Q R xs k h.1 g.1)
-
-each_taken : (P : ℕ → Type 0) (n : ℕ) (xs : List ℕ) (k : ℕ) → Each P (take n xs) → k < n → k < length xs → P (slice_index xs k)
-each_taken P zero xs k h l m = absurd (omega (arith, l))
-each_taken P (suc n) [] k h l m = absurd (omega (arith, m))
-each_taken P (suc n) (x ∷ xs) zero h l m = h.0
-each_taken P (suc n) (x ∷ xs) (suc k) h l m = each_taken P n xs k h.1 (omega (arith, l)) (omega (arith, m))
 
 mapped_at : (places own : List ℕ) (k : ℕ) → k < length own → slice_index (map (slice_index places) own) k ≡ slice_index places (slice_index own k)
 mapped_at places [] k h = absurd (omega (arith, h))

@@ -1,6 +1,7 @@
 -- Endings one after the other, and the cells after an action.
-use Rattle.std.proofs.Common.{◌≡◌, ℕ, zero, suc, ◌+◌, ◌^◌, ◌<◌, ◌≤◌, Bool, true, false, List, [], ◌∷◌, ◌++◌, length, refl, ap, ◌∙◌, arith, nat_le, slice_index, slice_set}
+use Rattle.std.proofs.Common.{◌≡◌, ℕ, zero, suc, ◌+◌, ◌^◌, ◌<◌, ◌≤◌, Bool, true, false, List, [], ◌∷◌, ◌++◌, refl, ◌∙◌, arith, nat_le, slice_index, slice_set}
 use Rattle.std.proofs.lemmas.Bool.{leb-true}
+use Rattle.std.proofs.lemmas.List.{length-set}
 use Rattle.td_num.specs.Lists.{Each}
 use Rattle.td_core.specs.Term.{Term, Deed, done, set, keep, fork, answer, give_up}
 use Rattle.td_core.specs.Types.{type_of}
@@ -63,11 +64,6 @@ set_small [] i v lt h = tt
 set_small (c ∷ cs) zero v lt h = (lt, h.1)
 set_small (c ∷ cs) (suc i) v lt h = (h.0, set_small cs i v lt h.1)
 
-pub set_count : (cells : List ℕ) (i v : ℕ) → length (slice_set cells i v) ≡ length cells
-set_count [] i v = refl
-set_count (c ∷ cs) zero v = refl
-set_count (c ∷ cs) (suc i) v = ap suc (set_count cs i v)
-
 pub number_small : (e : Term) (env : List ℕ) → Sound e env → natural_of e env < 2 ^ 64
 number_small e env s = let lt = below_limit (type_of e) (value_of e env) (in_type e env s) in omega (arith, lt, limit_small (type_of e))
 
@@ -90,7 +86,7 @@ deed_cells count done env places cells h small = small
 deed_cells count (set cell e then) env places cells h small =
     let i = slice_index places cell in
     let v = natural_of e env in
-    deed_cells count then env places (slice_set cells i v) h.1 (set_count cells i v ∙ small.0, set_small cells i v (number_small e env h.0) small.1)
+    deed_cells count then env places (slice_set cells i v) h.1 (length-set cells i v ∙ small.0, set_small cells i v (number_small e env h.0) small.1)
 deed_cells count (keep cell then) env places cells h small = deed_cells count then (env ++ slice_index cells (slice_index places cell) ∷ []) places cells h small
 deed_cells count (fork e one other then) env places cells h small =
     let way = either_way (is_true e env) (doing one env places cells) (doing other env places cells) in

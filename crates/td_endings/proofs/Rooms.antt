@@ -1,96 +1,26 @@
 -- What copy buffers hold at the end fits their rooms.
-use Rattle.std.proofs.Common.{◌≡◌, ℕ, zero, suc, ◌+◌, ◌*◌, ◌^◌, ◌<◌, ◌≤◌, List, [], ◌∷◌, ◌++◌, length, map, take, drop, replicate, length-append, refl, sym, ap, ◌∙◌, subst, arith, Option, Some, None}
+use Rattle.std.proofs.Common.{◌≡◌, ℕ, zero, suc, ◌+◌, ◌*◌, ◌<◌, ◌≤◌, List, [], ◌∷◌, ◌++◌, length, map, take, drop, replicate, length-append, refl, sym, ap, ◌∙◌, subst, arith, Some}
 use Rattle.std.specs.Prelude.{slice_get, slice_index}
-use Rattle.std.proofs.lemmas.List.{get_or-drop, length-map, length-drop, length-replicate}
+use Rattle.std.proofs.lemmas.List.{get_or-drop, length-map, length-drop, length-replicate, get_or-append-add}
 use Rattle.td_num.specs.Numbers.{places_from}
-use Rattle.td_num.specs.Lists.{Each}
-use Rattle.td_num.proofs.Lists.{each_at, each_append}
-use Rattle.td_core.specs.declared.module.Element.{Element}
-use Rattle.td_core.specs.declared.module.Element.TheVariants.{Number, Listed, Named, Unit as UnitElement, Rest, Zeros}
+use Rattle.td_num.proofs.Lists.{index_places, index_zeros}
 use Rattle.td_core.specs.declared.module.Buffer.{Buffer}
-use Rattle.td_core.specs.declared.module.Field.{Field}
-use Rattle.td_core.specs.declared.module.Case.{Case}
-use Rattle.td_core.specs.declared.module.Body.{Body}
-use Rattle.td_core.specs.declared.module.Body.TheVariants.{Struct, Casetype}
-use Rattle.td_core.specs.declared.module.TypeDef.{TypeDef}
 use Rattle.td_core.specs.declared.module.Module.{Module}
 use Rattle.td_core.specs.declared.module.Entry.{Entry}
 use Rattle.td_core.specs.Outcome.{Behavior, Ending, Accepted, Rejected, bytes_at, copies_by, outcome_of}
 use Rattle.td_core.specs.Entries.{entry_definition}
-use Rattle.td_core.specs.Formed.{Bound, cell_bound, param_bounds, cell_bounds, buffer_bounds, own_bounds, own_at, parts_scope, AreCellsFormed, IsElementFormed, AreFieldsFormed, AreCasesFormed, IsDefaultFormed, IsBodyFormed, IsModuleFormed}
-use Rattle.td_core.specs.WellFormed.{OfSome, EachField}
-use Rattle.td_core.proofs.Found.{entry_found, cells_mapped}
-use Rattle.td_core.specs.Copies.{IsFieldCopying, IsDefinitionCopying, IsCopying}
+use Rattle.td_core.proofs.Found.{entry_found}
 use Rattle.td_meaning.specs.Meaning.{entry_place, meaning}
 use Rattle.td_meaning.specs.Machine.{below}
 use Rattle.td_meaning.specs.Copies.{buffers_at, opened, outcome, IsSoundOn, cells_of, IsOpened}
 use Rattle.td_meaning.proofs.MachineMeaning.{meaning_is}
 use Rattle.td_meaning.proofs.MachineMeaning as machine
-use Rattle.td_meaning.proofs.CopiesKept.{count_in, IsMapWhole, IsFieldKept}
+use Rattle.td_meaning.proofs.CopiesKept.{count_in}
+use Rattle.td_meaning.proofs.CopiesWhole.{all_whole, opened_small}
 use Rattle.td_endings.specs.Endings.{AreCells, IsEndingWithin, EndingsAreWithin, FitRooms, CopiesAreWithin}
 use Rattle.td_endings.proofs.RoomsKept.{Roomy, Kept, Stands, StandsAt, below_kept}
 
 -- Modules
-
-buffers_count : (bs : List Buffer) → length (buffer_bounds bs) ≡ 2 * length bs
-buffers_count [] = refl
-buffers_count (b ∷ bs) = let h = buffers_count bs in omega (arith, h)
-
-own_count : (d : TypeDef) → length (own_bounds d) ≡ length d.cells + 2 * length d.buffers
-own_count d =
-    length-append (cell_bounds d.cells) (buffer_bounds d.buffers)
-    ∙ (λ i. length-map d.cells (λ c. cell_bound c.kind) i + buffers_count d.buffers i)
-
-module _ (ds : List TypeDef) (n : ℕ) (d : TypeDef) where
-  map_whole : (scope : List Bound) (element : Element) → IsElementFormed ds n (own_bounds d) scope element → IsMapWhole ds element
-  map_whole scope (Number type) h = tt
-  map_whole scope (Listed base k) h = tt
-  map_whole scope (Named j args own) h = by (slice_get ds j) h.1.1
-    where
-      by : (o : Option TypeDef) → AreCellsFormed (own_bounds d) (own_at o) own → OfSome (λ e. length own ≡ length e.cells + 2 * length e.buffers) o
-      by None g = tt
-      by (Some e) g = cells_mapped (own_bounds d) (own_bounds e) own g ∙ own_count e
-  map_whole scope UnitElement h = tt
-  map_whole scope Rest h = tt
-  map_whole scope Zeros h = tt
-
-  fields_whole : (scope : List Bound) (fs : List Field) → AreFieldsFormed ds n (own_bounds d) scope fs → Each (IsFieldCopying ds d) fs → Each (IsFieldKept ds d) fs
-  fields_whole scope [] h c = tt
-  fields_whole scope (f ∷ fs) h c = (record { copying = c.0; map_whole = map_whole scope f.element h.0 }, fields_whole (parts_scope f.element f.extent scope f.parts) fs h.1.1.1 c.1)
-
-  cases_whole : (scope : List Bound) (cs : List Case) → AreCasesFormed ds n (own_bounds d) scope cs → Each (λ c. Each (IsFieldCopying ds d) c.fields) cs → Each (λ c. Each (IsFieldKept ds d) c.fields) cs
-  cases_whole scope [] h c = tt
-  cases_whole scope (x ∷ xs) h c = (fields_whole scope x.fields h.0 c.0, cases_whole scope xs h.1 c.1)
-
-  default_whole : (scope : List Bound) (o : Option (List Field)) → IsDefaultFormed ds n (own_bounds d) scope o → OfSome (Each (IsFieldCopying ds d)) o → OfSome (Each (IsFieldKept ds d)) o
-  default_whole scope None h c = tt
-  default_whole scope (Some fs) h c = fields_whole scope fs h c
-
-  body_whole : (scope : List Bound) (b : Body) → IsBodyFormed ds n (own_bounds d) scope b → EachField (IsFieldCopying ds d) b → EachField (IsFieldKept ds d) b
-  body_whole scope (Struct fs) h c = fields_whole scope fs h c
-  body_whole scope (Casetype switch cases default) h c = (cases_whole scope cases h.1.0 c.0, default_whole scope default h.1.1 c.1)
-
-all_whole : (m : Module) → IsModuleFormed m → IsCopying m → (n : ℕ) → OfSome (λ d. EachField (IsFieldKept m.definitions d) d.body) (slice_get m.definitions n)
-all_whole m formed copying n = by (slice_get m.definitions n) refl
-  where
-    by : (o : Option TypeDef) → slice_get m.definitions n ≡ o → OfSome (λ d. EachField (IsFieldKept m.definitions d) d.body) o
-    by None e = tt
-    by (Some d) e =
-        body_whole m.definitions n d (param_bounds d.params) d.body (formed n d e).1 (each_at (IsDefinitionCopying m.definitions) m.definitions n d copying e).fields
-
-index_places : (n c from : ℕ) → c < n → slice_index (places_from from n) c ≡ from + c
-index_places zero c from lt = absurd (omega (arith, lt))
-index_places (suc n) zero from lt = omega arith
-index_places (suc n) (suc c) from lt = index_places n c (from + 1) (omega (arith, lt)) ∙ omega arith
-
-index_zeros : (n i : ℕ) → slice_index (replicate n 0) i ≡ 0
-index_zeros zero i = refl
-index_zeros (suc n) zero = refl
-index_zeros (suc n) (suc i) = index_zeros n i
-
-index_behind : (xs ys : List ℕ) (i : ℕ) → slice_index (xs ++ ys) (length xs + i) ≡ slice_index ys i
-index_behind [] ys i = ap (slice_index ys) (let e : 0 + i ≡ i = omega arith in e)
-index_behind (x ∷ xs) ys i = ap (slice_index (x ∷ xs ++ ys)) (let e : suc (length xs) + i ≡ suc (length xs + i) = omega arith in e) ∙ index_behind xs ys i
 
 room_at : (bs : List Buffer) (k : ℕ) (b : Buffer) → slice_get bs k ≡ Some b → slice_index (map (λ (x : Buffer). x.room) bs) k ≡ b.room
 room_at [] k b e = absurd (cc)
@@ -139,7 +69,7 @@ module _ (m : Module) (entry : Entry) (args cells message : List ℕ) (o : IsOpe
       let zeros = replicate (2 * buffers_at (entry_definition m entry.number)) 0 in
       let none : count_in (length cells) k (opened m entry cells) ≡ 0 =
       ap (slice_index (cells ++ zeros)) (let e : length cells + 2 * k + 1 ≡ length cells + (2 * k + 1) = omega arith in e)
-      ∙ index_behind cells zeros (2 * k + 1) ∙ index_zeros (2 * buffers_at (entry_definition m entry.number)) (2 * k + 1) in
+      ∙ get_or-append-add cells zeros (2 * k + 1) 0 ∙ index_zeros (2 * buffers_at (entry_definition m entry.number)) (2 * k + 1) in
       omega (arith, none)
 
   computed_kept : Kept (length cells) rooms (machine.meaning m entry args (opened m entry cells) message)
@@ -181,13 +111,6 @@ copies_at n message (Rejected reason q trace cells) = refl
 cells_count : (end count : ℕ) (o : Ending) → IsEndingWithin end count o → length (cells_of o) ≡ count
 cells_count end count (Accepted q cells) h = h.1.0
 cells_count end count (Rejected reason q trace cells) h = h.1.1.0
-
-opened_small : (m : Module) (entry : Entry) (cells : List ℕ) → Each (λ v. v < 2 ^ 64) cells → Each (λ v. v < 2 ^ 64) (opened m entry cells)
-opened_small m entry cells h = each_append (λ v. v < 2 ^ 64) cells (replicate (2 * buffers_at (entry_definition m entry.number)) 0) h (zeros_small (2 * buffers_at (entry_definition m entry.number)))
-  where
-    zeros_small : (n : ℕ) → Each (λ v. v < 2 ^ 64) (replicate n 0)
-    zeros_small zero = tt
-    zeros_small (suc n) = (omega arith, zeros_small n)
 
 pub copies_are_within : EndingsAreWithin → CopiesAreWithin
 copies_are_within within m entry args cells message o sound short small =

@@ -1,11 +1,12 @@
 -- What a copy buffer holds never passes its room: by the meaning as arithmetic in 64 bits gives it, which copies no more than the room.
-use Rattle.std.proofs.Common.{◌≡◌, ◌⊎◌, inl, inr, ℕ, zero, suc, ◌+◌, ◌*◌, ◌<◌, ◌≤◌, min, Bool, true, false, cond, List, [], ◌∷◌, ◌++◌, length, map, take, drop, refl, sym, ap, ◌∙◌, subst, arith, Option, Some, None, nat_eq, nat_le}
+use Rattle.std.proofs.Common.{◌≡◌, ◌⊎◌, inl, inr, ℕ, zero, suc, ◌+◌, ◌*◌, ◌<◌, ◌≤◌, min, Bool, true, false, cond, List, [], ◌∷◌, ◌++◌, length, map, drop, refl, sym, ap, ◌∙◌, subst, arith, Option, Some, None, nat_eq, nat_le}
 use Rattle.std.specs.Prelude.{slice_get, slice_index, slice_set}
 use Rattle.std.proofs.lemmas.Bool.{cases_order, eqb-true}
-use Rattle.std.proofs.lemmas.List.{get_or-set_other, get_or-set_same, get_or-drop, get_or-map, length-set}
+use Rattle.std.proofs.lemmas.List.{get_or-set_other, get_or-set_same, get_or-drop, length-set}
 use Rattle.std.proofs.Math.ListN.{get_or-eq_default}
 use Rattle.td_num.specs.Numbers.{bytes_in, number_at, places_from}
 use Rattle.td_num.specs.Lists.{Each, is_among}
+use Rattle.td_num.proofs.Lists.{each_taken}
 use Rattle.td_core.specs.Term.{Term, Deed, done, set, keep, fork, answer, give_up}
 use Rattle.td_core.specs.declared.module.NameId.{NameId}
 use Rattle.td_core.specs.declared.module.Element.{Element}
@@ -16,21 +17,20 @@ use Rattle.td_core.specs.declared.module.CopyOut.{CopyOut}
 use Rattle.td_core.specs.declared.module.Buffer.{Buffer}
 use Rattle.td_core.specs.declared.module.Part.{Part}
 use Rattle.td_core.specs.declared.module.Field.{Field}
-use Rattle.td_core.specs.declared.module.Case.{Case}
 use Rattle.td_core.specs.declared.module.Body.{Body}
 use Rattle.td_core.specs.declared.module.Body.TheVariants.{Struct, Casetype}
 use Rattle.td_core.specs.declared.module.TypeDef.{TypeDef}
 use Rattle.td_core.specs.declared.outcome.Reason.{Reason}
 use Rattle.td_core.specs.declared.outcome.Reason.TheVariants.{Constraint, Impossible, ListSize, NotEnough}
-use Rattle.td_core.specs.Outcome.{Behavior, FramePlace, Ending, Accepted, Rejected, accepted, rejected, and_then, onward, ending_within, within, after_reading}
+use Rattle.td_core.specs.Outcome.{Behavior, FramePlace, Ending, Accepted, Rejected, accepted, rejected, and_then, onward, within, after_reading}
 use Rattle.td_core.specs.WellFormed.{OfSome, EachField}
 use Rattle.td_core.specs.Copies.{IsCopyWhole, AreBuffersGiven, AreOwnGiven, IsElementGiven, NamesCells}
 use Rattle.td_meaning.specs.Doing.{Effect, On, Returned, Aborted, after, either_way}
 use Rattle.td_meaning.specs.Naming.{is_needed}
-use Rattle.td_meaning.specs.Meaning.{Sense, values_of, taken, demanded, zeros_end, zeros_meaning, elements, divides, equals, zero_end, element_up_to_zero, with_copy, ended, bits_of, field_number, number_places, extended, field_place, where_place, switch_place, first_name, case_for, pick}
+use Rattle.td_meaning.specs.Meaning.{Sense, values_of, taken, demanded, zeros_end, zeros_meaning, elements, divides, equals, element_up_to_zero, with_copy, ended, bits_of, field_number, number_places, extended, field_place, where_place, switch_place, first_name, pick}
 use Rattle.td_meaning.specs.Machine.{value_of, is_truth, is_met, values, doing, acted, checked, with_part, parts_meaning, listed_meaning, element_meaning, shape_meaning, copied_meaning, content_meaning, fields_meaning, body_fields, chosen_meaning, definition_meaning, below}
 use Rattle.td_meaning.specs.Copies.{cells_of}
-use Rattle.td_meaning.proofs.CopiesKept.{IsMapWhole, IsFieldKept, count_in}
+use Rattle.td_meaning.proofs.CopiesKept.{IsMapWhole, IsFieldKept, count_in, same_cells, demanded_cells, index_map, zero_kept, case_kept}
 
 module _ (first : ℕ) (rooms : List ℕ) where
   -- each buffer, its two cells behind the first ones, holds no more than it has room for
@@ -55,16 +55,8 @@ module _ (first : ℕ) (rooms : List ℕ) where
       by (Accepted q cells) c = record { roomy = (next q cells c).roomy }
       by (Rejected reason q trace cells) c = record { roomy = c }
 
-  same_cells : (site : FramePlace) (o : Ending) → cells_of (ending_within site o) ≡ cells_of o
-  same_cells site (Accepted q cells) = refl
-  same_cells site (Rejected reason q trace cells) = refl
-
   kept_within : (site : FramePlace) (t : Behavior) → Kept t → Kept (within site t)
   kept_within site t h = record { roomy = subst Roomy (sym (same_cells site t.ending)) h.roomy }
-
-  demanded_cells : (reason : Reason) (v : Bool) (start q : ℕ) (cells : List ℕ) → cells_of (demanded reason v start q cells).ending ≡ cells
-  demanded_cells reason true start q cells = refl
-  demanded_cells reason false start q cells = refl
 
   kept_demanded : (reason : Reason) (v : Bool) (start q : ℕ) (cells : List ℕ) → Roomy cells → Kept (demanded reason v start q cells)
   kept_demanded reason v start q cells h = kept_same cells (demanded reason v start q cells) (demanded_cells reason v start q cells) h
@@ -179,12 +171,6 @@ module _ (first : ℕ) (rooms : List ℕ) where
 
   -- ---- arguments
 
-  front_at : (P : ℕ → Type 0) (n : ℕ) (xs : List ℕ) (c : ℕ) → Each P (take n xs) → c < n → c < length xs → P (slice_index xs c)
-  front_at P zero xs c h lt inside = absurd (omega (arith, lt))
-  front_at P (suc n) [] c h lt inside = absurd (omega (arith, inside))
-  front_at P (suc n) (x ∷ xs) zero h lt inside = h.0
-  front_at P (suc n) (x ∷ xs) (suc c) h lt inside = front_at P n xs c h.1 (omega (arith, lt)) (omega (arith, inside))
-
   -- a buffer of the type that is named is given one of the caller's, of the same room
   record Given (cells : ℕ) (bs : List Buffer) (ks : List ℕ) (n : ℕ) (e : Buffer) : Type 0 where
     number : ℕ
@@ -221,9 +207,6 @@ module _ (first : ℕ) (rooms : List ℕ) where
         count = ap (slice_index (k ∷ l ∷ ks)) next ∙ g.count;
       }
 
-  index_map : (f : ℕ → ℕ) (xs : List ℕ) (c : ℕ) → c < length xs → slice_index (map f xs) c ≡ f (slice_index xs c)
-  index_map f xs c lt = get_or-map f xs c 0 0 lt
-
   there_within : (bs : List Buffer) (n : ℕ) (b : Buffer) → slice_get bs n ≡ Some b → n < length bs
   there_within [] n b e = absurd (cc)
   there_within (x ∷ bs) zero b e = omega arith
@@ -235,7 +218,7 @@ module _ (first : ℕ) (rooms : List ℕ) where
   given_stand d e places own s h long = record {
     own = λ c lt.
         subst (λ x. x < first) (sym (index_map (slice_index places) own c (omega (arith, lt, long))))
-        (s.own (slice_index own c) (front_at (λ k. k < length d.cells) (length e.cells) own c h.0 lt (omega (arith, lt, long))));
+        (s.own (slice_index own c) (each_taken (λ k. k < length d.cells) (length e.cells) own c h.0 lt (omega (arith, lt, long))));
     pairs = λ n b there.
         let lt = there_within e.buffers n b there in
         let g = pair_given (length d.cells) d.buffers e.buffers (drop (length e.cells) own) n b h.1 there in
@@ -259,10 +242,6 @@ module _ (first : ℕ) (rooms : List ℕ) where
   zeros_kept : (o : Option ℕ) (end p : ℕ) (cells : List ℕ) → cells_of (zeros_end o end p cells).ending ≡ cells
   zeros_kept None end p cells = refl
   zeros_kept (Some k) end p cells = refl
-
-  zero_kept : (o : Option ℕ) (w bound room p : ℕ) (cells : List ℕ) → cells_of (zero_end o w bound room p cells).ending ≡ cells
-  zero_kept None w bound room p cells = refl
-  zero_kept (Some k) w bound room p cells = refl
 
   up_to_zero_kept : (element : Element) (size : ℕ) (message : List ℕ) (end p : ℕ) (cells : List ℕ) → Roomy cells → Kept (element_up_to_zero element size message end p cells)
   up_to_zero_kept (Number type) size message end p cells r = kept_same cells _ (zero_kept _ _ _ _ p cells) r
@@ -362,17 +341,9 @@ module _ (first : ℕ) (rooms : List ℕ) where
       chosen_kept ty None env end p cells h r = kept_within (switch_place ty p) (rejected Impossible p cells) (kept_same cells (rejected Impossible p cells) refl r)
       chosen_kept ty (Some fs) env end p cells h r = fields_kept ty fs env end p cells h r
 
-      case_kept : (n : ℕ) (cs : List Case) (default : Option (List Field)) → Each (λ c. Each (IsFieldKept ds d) c.fields) cs → OfSome (Each (IsFieldKept ds d)) default → OfSome (Each (IsFieldKept ds d)) (case_for n cs default)
-      case_kept n [] default h g = g
-      case_kept n (c ∷ cs) default h g = by (nat_eq c.value n) (case_kept n cs default h.1 g)
-        where
-          by : (b : Bool) → OfSome (Each (IsFieldKept ds d)) (case_for n cs default) → OfSome (Each (IsFieldKept ds d)) (cond b (Some c.fields) (case_for n cs default))
-          by true later = h.0
-          by false later = later
-
       body_whole : (body : Body) (env : List ℕ) → EachField (IsFieldKept ds d) body → OfSome (Each (IsFieldKept ds d)) (body_fields body env)
       body_whole (Struct fs) env h = h
-      body_whole (Casetype switch cases default) env h = case_kept (value_of switch env) cases default h.0 h.1
+      body_whole (Casetype switch cases default) env h = case_kept ds d (value_of switch env) cases default h.0 h.1
 
       whole_kept : (env : List ℕ) (end p : ℕ) (cells : List ℕ) → EachField (IsFieldKept ds d) d.body → Roomy cells → Kept (definition_meaning sets senses (Some d) env places cells message p end)
       whole_kept env end p cells h r =

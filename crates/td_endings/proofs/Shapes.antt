@@ -1,6 +1,7 @@
 -- How what stands in a field ends.
 use Rattle.std.proofs.Common.{◌≡◌, ℕ, zero, suc, ◌+◌, ◌-◌, ◌/◌, ◌^◌, ◌∙◌, ◌<◌, ◌≤◌, min, Bool, true, false, cond, List, [], ◌∷◌, length, map, refl, ap, subst, arith, Option, Some, None, nat_eq, nat_le, slice_index, slice_set, mul-le-mul_right, div-mul-le_self}
 use Rattle.std.proofs.lemmas.Option.{none-some, same_Some}
+use Rattle.std.proofs.lemmas.List.{length-set}
 use Rattle.td_num.specs.Numbers.{bytes_in, number_at, places_from}
 use Rattle.td_num.specs.Lists.{is_among}
 use Rattle.td_core.specs.declared.module.Element.{Element}
@@ -9,14 +10,14 @@ use Rattle.td_core.specs.declared.module.Extent.{Extent}
 use Rattle.td_core.specs.declared.module.Extent.TheVariants.{Once, Filling, OnceFilling, UpToZero}
 use Rattle.td_core.specs.declared.module.CopyOut.{CopyOut}
 use Rattle.td_core.specs.declared.outcome.Reason.TheVariants.{Constraint, ListSize}
-use Rattle.td_core.specs.Outcome.{Behavior, Ending, accepted, after_reading, and_then}
+use Rattle.td_core.specs.Outcome.{Behavior, accepted, after_reading, and_then}
 use Rattle.td_expr.specs.Sound.{Sound}
 use Rattle.td_meaning.specs.Doing.{natural_of}
 use Rattle.td_meaning.specs.Meaning.{Sense, numbers_at, first_where, demanded, taken, values_of, byte_type, is_nonzero, zeros_end, values, element_meaning, elements, divides, equals, zero_end, element_up_to_zero, shape_meaning, with_copy, content_meaning}
 use Rattle.td_meaning.specs.Throughout.{Through, OnEnding, OnElement, OnElements, OnShape, OnContent}
 use Rattle.td_endings.specs.Endings.{AreCells, IsEndingWithin}
-use Rattle.td_endings.proofs.Cells.{within_more, within_then, within_demanded, within_taken, demanded_at, on_both, set_small, set_count, number_small}
-use Rattle.td_meaning.proofs.Filling.{found_below, count_of}
+use Rattle.td_endings.proofs.Cells.{within_more, within_then, within_demanded, within_taken, demanded_at, on_both, set_small, number_small}
+use Rattle.td_meaning.proofs.Filling.{found_below, count_of, anywhere}
 
 -- a definition ends so, where what it evaluates lies in its range
 abbrev pub IsGood : ℕ → List ℕ → Sense → Through → Type 0
@@ -116,10 +117,6 @@ module _ (count : ℕ) (sets : List (List ℕ)) (senses : ℕ → Sense) (throug
       (within_then q count test.ending test.reads rest (OnElement Sound throughs element env places message q) (within_demanded q count ListSize ok p p more enough (λ t. enough) few) on.1
       (λ x last there few on. within_then q count (each q x last).ending (each q x last).reads (λ r more. demanded ListSize (nat_eq r q) p r more) (λ r more. Unit {0})
       (element_within element p q x last enough there short few on) (anywhere (each q x last).ending) (λ r final here few on. within_demanded q count ListSize (nat_eq r q) p r final enough (λ t. here) few))))
-    where
-      anywhere : (o : Ending) → OnEnding o (λ r more. Unit {0})
-      anywhere (Rattle.td_core.specs.Outcome.Accepted q cells) = tt
-      anywhere (Rattle.td_core.specs.Outcome.Rejected reason q trace cells) = tt
   shape_within element (UpToZero size) end p cells le low small h = up_to_zero_within element (natural_of size env) end p cells le small
 
   copy_cells : (c : CopyOut) (p n : ℕ) (cells : List ℕ) → p < 2 ^ 64 → n < 2 ^ 64 → AreCells count cells → AreCells count (with_copy c places p n cells)
@@ -127,7 +124,7 @@ module _ (count : ℕ) (sets : List (List ℕ)) (senses : ℕ → Sense) (throug
       let i = slice_index places c.cell in
       let j = slice_index places (c.cell + 1) in
       let once = slice_set cells i p in
-      (set_count once j n ∙ set_count cells i p ∙ small.0, set_small once j n few (set_small cells i p low small.1))
+      (length-set once j n ∙ length-set cells i p ∙ small.0, set_small once j n few (set_small cells i p low small.1))
 
   pub content_within : (element : Element) (extent : Extent) (copy : Option CopyOut) (end p : ℕ) (cells : List ℕ) → p ≤ end → end < 2 ^ 64 → AreCells count cells
       → OnContent Sound sets senses throughs element extent copy env places message end p cells → IsEndingWithin end count (content_meaning sets senses element extent copy env places message end p cells).ending

@@ -2,7 +2,7 @@
 use Rattle.std.proofs.Common.{◌≡◌, ℕ, Bool, true, false, cond, refl, sym, ap, subst, ◌∙◌, List, ℤ, pos, negsuc, Option, Some, None}
 use Rattle.std.specs.Prelude.{◌&&◌, nat_eq, nat_lt}
 use Rattle.std.specs.Prelude.{slice_index}
-use Rattle.std.proofs.lemmas.Option.{none-some}
+use Rattle.std.proofs.lemmas.Option.{none-some, same_Some}
 use Rattle.std.proofs.lemmas.Bool.{eqb-true, and_parts, false≢true}
 use Rattle.td_num.proofs.Equals.{three_same, two_same}
 use Rattle.td_ast.specs.declared.token.Span.{Span}
@@ -17,16 +17,8 @@ use Rattle.td_core.specs.Types.{limit, wider, computed_type, type_of}
 use Rattle.td_expr.specs.Value.{value_of, complemented, negated, computed, compared, both_of, either_of, choice_of, range_okay_of}
 use Rattle.td_expr.specs.Same.{fitting, of_one, of_two, of_three, constant_of, type_eq, binary_eq, relation_eq, settled, alike, same}
 
-some_value : Option ℕ → ℕ
-some_value None = 0
-some_value (Some n) = n
-
-some_is : (m n : ℕ) → Some m ≡ Some n → m ≡ n
-unfolding some_value
-some_is m n h = ap some_value h
-
 picked_is : (b : Bool) (m n : ℕ) → cond b (Some m) None ≡ Some n → m ≡ n
-picked_is true m n h = some_is m n h
+picked_is true m n h = same_Some m n h
 picked_is false m n h = absurd (none-some n h)
 
 fitting_is : (w : Scalar) (v : ℤ) (n : ℕ) → fitting w v ≡ Some n → v ≡ pos n
@@ -48,7 +40,7 @@ three_is w f (Some x) p q a b c n g h i k = ap (λ v. f v b c) (g x refl) ∙ tw
 three_is w f None p q a b c n g h i k = absurd (none-some n k)
 
 pub constant_is : (t : Term) (n : ℕ) (env : List ℕ) → constant_of t ≡ Some n → value_of t env ≡ pos n
-constant_is (number m w) n env h = ap pos (some_is m n h)
+constant_is (number m w) n env h = ap pos (same_Some m n h)
 constant_is (name i w most) n env h = absurd (none-some n h)
 constant_is (complement a) n env h = one_is (type_of a) (complemented (type_of a)) (constant_of a) (value_of a env) n (λ x. constant_is a x env) h
 constant_is (negation a) n env h = one_is Truth negated (constant_of a) (value_of a env) n (λ x. constant_is a x env) h

@@ -1,33 +1,13 @@
 -- The scope after fields begins with the scope before them.
-use Rattle.std.proofs.Common.{◌≡◌, ℕ, List, [], ◌∷◌, ◌++◌, length, take, Option, Some, None, refl, sym, ap, ◌∙◌, append_assoc}
-use Rattle.std.proofs.lemmas.List.{append-nil}
+use Rattle.std.proofs.Common.{◌≡◌, ℕ, List, [], ◌∷◌, length, take, Option, Some, None, ap, ◌∙◌}
 use Rattle.td_ast.specs.declared.fields.FieldTree.{FieldTree}
-use Rattle.td_names.specs.Names.{declared}
 use Rattle.td_rules.specs.declared.fields.Readable.{Readable}
-use Rattle.td_rules.specs.declared.known.Local.{Local}
 use Rattle.td_rules.specs.declared.known.Known.{Known}
 use Rattle.td_rules.specs.declared.known.Scope.{Scope}
 use Rattle.td_rules.specs.Fields.{readable_of, with_readable, with_field}
-use Rattle.td_fields.specs.Scopes.{fields_scope, Grows}
-use Rattle.td_actions.proofs.Growing.{declared_more, take_all}
-
-pub same : (s : Scope) → Grows s s
-same s = record { more = []; locals = sym (append-nil s.locals); cells = refl; buffers = refl; start = refl; this = refl }
-
-pub further : (s t u : Scope) → Grows s t → Grows t u → Grows s u
-further s t u h k = record {
-  more = h.more ++ k.more;
-  locals = k.locals ∙ ap (λ l. l ++ k.more) h.locals ∙ append_assoc s.locals h.more k.more;
-  cells = k.cells ∙ h.cells;
-  buffers = k.buffers ∙ h.buffers;
-  start = k.start ∙ h.start;
-  this = k.this ∙ h.this;
-}
-
-grows_value : (s : Scope) (x : List ℕ) (l : Local) (levels : ℕ) → Grows s (record { locals = declared s.locals x l; levels = levels; cells = s.cells; buffers = s.buffers; start = s.start; this = s.this })
-grows_value s x l levels =
-    let d = declared_more s.locals x l in
-    record { more = d.0; locals = d.1; cells = refl; buffers = refl; start = refl; this = refl }
+use Rattle.td_actions.specs.Scopes.{Grows}
+use Rattle.td_fields.specs.Scopes.{fields_scope}
+use Rattle.td_actions.proofs.Growing.{same, further, grows_value, take_all}
 
 grows_readable : (s : Scope) (x : List ℕ) (v : Option Readable) → Grows s (with_readable s x v)
 grows_readable s x None = grows_value s x _ _

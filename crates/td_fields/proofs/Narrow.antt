@@ -9,10 +9,10 @@ use Rattle.td_rules.specs.declared.known.Scope.{Scope}
 use Rattle.td_rules.specs.BitFields.{bit_field}
 use Rattle.td_rules.specs.Extents.{bit_width}
 use Rattle.td_rules.specs.Types.{element_of}
-use Rattle.td_rules.proofs.FieldsWhole as whole
+use Rattle.td_rules.proofs.FieldsFound as found
 use Rattle.td_fields.specs.Narrow.{IsWithin}
 
-within : (o : Option (NumberType × ℕ)) → whole.IsNarrow o → IsWithin o
+within : (o : Option (NumberType × ℕ)) → found.IsNarrow o → IsWithin o
 within None h = tt
 within (Some (t, w)) h = h.1
 
@@ -20,4 +20,4 @@ pub element_narrow : (k : Known) (s : Scope) (t : TypeTree) (x : Option ExtentTr
 element_narrow k s t x e w he hw =
     subst (λ v. IsWithin (bit_field e v)) (sym hw)
     (subst (λ y. IsWithin (bit_field y (bit_width k s t x))) (sym he)
-    (within (bit_field (element_of k s t) (bit_width k s t x)) (whole.extent_narrow k s t x)))
+    (within (bit_field (element_of k s t) (bit_width k s t x)) (found.extent_narrow k s t x)))

@@ -13,9 +13,9 @@ ghost use Rattle.td_rules.specs.Fields.{readable_of, with_field, field_name_brea
 ghost use Rattle.td_fields.specs.Narrow.{IsNarrow};
 ghost use Rattle.td_fields.specs.Scopes.{fields_scope};
 
+use crate::arrays::{bit_width, extent};
 use crate::bit_fields::Gathering;
 use crate::copies::{are_bytes, copy};
-use crate::extents::{bit_width, extent};
 use crate::flat::{add_field, check_name, check_refined, refinement_of};
 use std::alloc::{AllocError, Global};
 use td_actions::actions::action;

@@ -5,7 +5,7 @@ ghost use Rattle.td_ast.specs.Extents.{is_array};
 ghost use Rattle.td_rules.specs.Breach.{first_of};
 ghost use Rattle.td_rules.specs.Fields.{found_base, base_of, readable_bits, readable_of, with_readable, with_field, field_name_breaches, refined_breaches, refinement_core};
 
-use crate::extents::bit_width;
+use crate::arrays::bit_width;
 use std::alloc::{AllocError, Global};
 use td_actions::scopes::{add_level, add_local, add_value, scalar_of};
 use td_ast::fields::{ExtentTree, FieldTree, TypeKind};

@@ -7,10 +7,10 @@ ghost use Rattle.td_rules.specs.Leading.{holds_this, array_size, kind_size, name
 ghost use Rattle.td_kinds.specs.declared.sizes.TheConstants.{SIZE_CAP};
 ghost use Rattle.td_kinds.specs.Kinds.{up_to};
 ghost use Rattle.td_typing.specs.Memory.{HasOperator};
-ghost use Rattle.td_fields.specs.Scopes.{Grows};
+ghost use Rattle.td_actions.specs.Scopes.{Grows};
 
+use crate::arrays::bit_width;
 use crate::bit_fields::fits_room;
-use crate::extents::bit_width;
 use crate::flat::add_field;
 use std::alloc::{AllocError, Global};
 use td_actions::scopes::cut_back;

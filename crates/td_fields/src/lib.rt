@@ -3,9 +3,9 @@
 //! definitions, and keeps the first breach beside them.
 #![tactic(auto)]
 
+mod arrays;
 mod bit_fields;
 mod copies;
-mod extents;
 pub mod fields;
 mod flat;
 pub mod leading;

@@ -1,7 +1,6 @@
 -- Each input is linked, or a part has the name of an earlier one, or parts use each other in a cycle: whether a part reaches
 -- another is found out by looking at each part that is reached, once.
 use Rattle.std.proofs.Common.{◌≡◌, ℕ, zero, suc, ◌+◌, ◌<◌, ◌≤◌, ◌⊎◌, inl, inr, Bool, true, false, cond, List, [], ◌∷◌, ◌++◌, length, set, replicate, Option, Some, None, nat_eq, nat_lt, refl, sym, ap, subst, ◌∙◌, arith}
-use Rattle.std.specs.Prelude.{slice_get}
 use Rattle.std.proofs.lemmas.Bool.Decides.{nat_tests}
 use Rattle.td_num.specs.Lists.{is_among}
 use Rattle.td_num.proofs.Lists.{got}
@@ -11,13 +10,13 @@ use Rattle.td_ast.specs.declared.parts.PartTree.{PartTree}
 use Rattle.td_ast.specs.declared.parts.InputTree.{InputTree}
 use Rattle.td_ast.specs.declared.parts.InputTree.TheVariants.{Module, Parts}
 use Rattle.td_names.specs.Names.{is_seen, number_of}
+use Rattle.td_names.proofs.Naming.{number_below}
 use Rattle.td_order.specs.Order.{used_by, IsWithin, Reaches}
 use Rattle.td_flat.specs.Order.{names_of, graph_of, IsCyclicIn, NoneCyclicIn, NoneCyclic, NoCycle, IsFirstCyclic, uses_at, first_twice}
-use Rattle.td_flat.specs.Flat.{IsTwice, IsCycle, IsLinked}
-use Rattle.td_order.specs.Flags.{AreFlags, AreBelow, flagged, add_new}
+use Rattle.td_order.specs.Flags.{AreFlags, AreBelow, add_new}
 use Rattle.td_flat.specs.Laws.{HasAnswer}
-use Rattle.td_flat.proofs.Linking.{as_many, number_below, is_within}
-use Rattle.td_order.proofs.Reached.{no_flags, counted_within, flags_more, longer, used_are_below, IsUpTo, up_to_more, up_to_none, whole_reached}
+use Rattle.td_flat.proofs.Linking.{as_many, is_within}
+use Rattle.td_order.proofs.Reached.{no_flags, counted_within, flags_more, used_are_below, IsUpTo, up_to_more, up_to_none, whole_reached}
 
 -- ---- flags beside what is reached, which bound it
 

@@ -1,18 +1,18 @@
 -- What the lists of names, uses and numbers say of the parts. Cited by other crates.
-use Rattle.std.proofs.Common.{◌≡◌, ℕ, zero, suc, ◌+◌, ◌<◌, Bool, true, false, cond, not, ◌||◌, List, [], ◌∷◌, ◌++◌, length, take, drop, map, Option, Some, None, nat_eq, refl, sym, ap, subst, ◌∙◌, arith}
+use Rattle.std.proofs.Common.{◌≡◌, ℕ, zero, suc, ◌<◌, Bool, true, false, cond, ◌||◌, List, [], ◌∷◌, ◌++◌, length, take, drop, map, Option, Some, None, nat_eq, refl, sym, ap, subst, ◌∙◌, arith}
 use Rattle.std.specs.Prelude.{slice_get}
-use Rattle.std.specs.List.{list_any, prefix_len, position_or_len}
-use Rattle.std.specs.Str.{bytes_eq}
 use Rattle.std.proofs.lemmas.Bool.Decides.{nat_tests}
+use Rattle.std.proofs.lemmas.List.{length-map}
 use Rattle.td_num.specs.Lists.{is_among}
 use Rattle.td_ast.specs.declared.token.Span.{Span}
 use Rattle.td_ast.specs.declared.names.Name.{Name}
 use Rattle.td_ast.specs.declared.parts.PartTree.{PartTree}
 use Rattle.td_names.specs.Names.{is_seen, number_of}
+use Rattle.td_names.proofs.Naming.{number_below}
 use Rattle.td_flat.specs.Uses.{part_uses}
 use Rattle.td_order.specs.Order.{used_by, IsWithin}
-use Rattle.td_flat.specs.Order.{names_of, numbers_of, graph_of, NoneCyclicIn, NoneCyclic, NoCycle, IsFirstCyclic, uses_at}
-use Rattle.td_flat.specs.Firsts.{IsFirstPlace, IsPlace, listed_at}
+use Rattle.td_flat.specs.Order.{names_of, numbers_of, graph_of, NoneCyclicIn, NoCycle, IsFirstCyclic, uses_at}
+use Rattle.td_flat.specs.Firsts.{IsFirstPlace, listed_at}
 
 graph_by : (names : List (List ℕ)) (parts : List PartTree) → map (numbers_of names) (map part_uses parts) ≡ map (λ p. numbers_of names (part_uses p)) parts
 graph_by names [] = refl
@@ -56,20 +56,8 @@ moved n m g h a b o p e f k l place =
 
 -- ---- numbers
 
-length_map : {A B : Type 0} (f : A → B) (xs : List A) → length (map f xs) ≡ length xs
-length_map f [] = refl
-length_map f (x ∷ xs) = ap suc (length_map f xs)
-
 pub as_many : (parts : List PartTree) → length (graph_of parts) ≡ length (names_of parts)
-as_many parts = length_map (λ p. numbers_of (names_of parts) (part_uses p)) parts ∙ sym (length_map (λ p. p.name.text) parts)
-
-pub number_below : (names : List (List ℕ)) (x : List ℕ) → is_seen names x ≡ true → number_of names x < length names
-number_below [] x e = absurd cc
-number_below (n ∷ names) x e = by_test (bytes_eq x n) (number_below names x) e
-  where
-    by_test : (b : Bool) → (is_seen names x ≡ true → number_of names x < length names) → (b || is_seen names x) ≡ true → cond (not b) (1 + prefix_len (λ y. not (bytes_eq x y)) names) 0 < length (n ∷ names)
-    by_test true ih e = omega arith
-    by_test false ih e = let lt = ih e in omega (arith, lt)
+as_many parts = length-map parts (λ p. numbers_of (names_of parts) (part_uses p)) ∙ sym (length-map parts (λ p. p.name.text))
 
 numbers_below : (names : List (List ℕ)) (us : List Name) (j : ℕ) → is_among (numbers_of names us) j ≡ true → j < length names
 numbers_below names [] j e = absurd cc

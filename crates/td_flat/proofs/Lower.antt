@@ -1,7 +1,6 @@
 -- Lower uses are in no cycle.
-use Rattle.std.proofs.Common.{◌≡◌, ℕ, ◌<◌, ◌≤◌, ◌+◌, Option, Some, None, List, length, take, refl, subst, arith}
+use Rattle.std.proofs.Common.{◌≡◌, ℕ, ◌<◌, ◌≤◌, ◌+◌, Some, List, length, take, refl, subst, arith}
 use Rattle.std.specs.Prelude.{slice_get}
-use Rattle.td_num.specs.Lists.{Each}
 use Rattle.td_num.proofs.Lists.{each_map}
 use Rattle.td_ast.specs.declared.names.Name.{Name}
 use Rattle.td_names.specs.Names.{number_of}

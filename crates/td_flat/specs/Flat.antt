@@ -1,6 +1,6 @@
 -- An input as one tree (own rule): that of a module is itself, that of parts has their definitions, part by part in the
 -- order of parts, each with the names of the whole.
-use Rattle.std.specs.Prelude.{◌≡◌, ℕ, List, [], flat_map, Option, Some, None, slice_get}
+use Rattle.std.specs.Prelude.{◌≡◌, ℕ, List, [], map, flat_map, Option, Some, None, slice_get}
 use Rattle.td_ast.specs.declared.token.Span.{Span}
 use Rattle.td_ast.specs.declared.definitions.Def.{Def}
 use Rattle.td_ast.specs.declared.definitions.ModuleTree.{ModuleTree}
@@ -9,16 +9,21 @@ use Rattle.td_ast.specs.declared.parts.InputTree.{InputTree}
 use Rattle.td_ast.specs.declared.parts.InputTree.TheVariants.{Module, Parts}
 use Rattle.td_flat.specs.declared.error.FlatError.{FlatError}
 use Rattle.td_flat.specs.declared.error.FlatError.TheVariants.{Twice, Cycle, NoMemory}
+use Rattle.td_flat.specs.Names.{spelled}
 use Rattle.td_flat.specs.Definitions.{flat_part}
 use Rattle.td_order.specs.Order.{order}
-use Rattle.td_flat.specs.Order.{graph_of, first_twice, IsFirstCyclic, NoCycle}
+use Rattle.td_flat.specs.Order.{names_of, graph_of, first_twice, IsFirstCyclic, NoCycle}
 
-abbrev pub flat_or_none : Option PartTree → List Def
-flat_or_none None = []
-flat_or_none (Some p) = flat_part p
+abbrev pub flat_or_none : List (List ℕ) → ℕ → Option PartTree → List Def
+flat_or_none names i None = []
+flat_or_none names i (Some p) = flat_part names i p
+
+-- the definitions of the part with the number i, where parts have these names
+abbrev pub flat_in : List (List ℕ) → List PartTree → ℕ → List Def
+flat_in names parts i = flat_or_none names i (slice_get parts i)
 
 abbrev pub flat_at : List PartTree → ℕ → List Def
-flat_at parts i = flat_or_none (slice_get parts i)
+flat_at parts i = flat_in (names_of parts) parts i
 
 abbrev pub flat_parts : List PartTree → ModuleTree
 flat_parts parts = record { definitions = flat_map (flat_at parts) (order (graph_of parts)) }
@@ -31,6 +36,11 @@ flat (Parts parts) = flat_parts parts
 abbrev pub written : InputTree → ModuleTree
 written (Module tree) = tree
 written (Parts parts) = record { definitions = flat_map (λ p. p.definitions) parts }
+
+-- names of the one tree, as they are told
+abbrev pub spelled_names : InputTree → List (List ℕ) → List (List ℕ)
+spelled_names (Module tree) names = names
+spelled_names (Parts parts) names = map (spelled (names_of parts)) names
 
 -- a part has the name of an earlier one, first at this place
 abbrev pub IsTwice : InputTree → Span → Type 0

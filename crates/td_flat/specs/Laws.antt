@@ -15,7 +15,7 @@ OneModule = (tree : ModuleTree) → (flat (Module tree) ≡ tree) × (written (M
 
 -- of one part without uses there is that part
 abbrev pub OnePart : Type 0
-OnePart = (p : PartTree) → part_uses p ≡ [] → flat (Parts (p ∷ [])) ≡ record { definitions = flat_part p }
+OnePart = (p : PartTree) → part_uses p ≡ [] → flat (Parts (p ∷ [])) ≡ record { definitions = flat_part (p.name.text ∷ []) 0 p }
 
 -- an input is linked, or one of the two breaches comes
 abbrev pub HasAnswer : InputTree → Type 0

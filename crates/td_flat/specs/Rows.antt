@@ -17,6 +17,7 @@ use Rattle.td_ast.specs.declared.parts.PartTree.{PartTree}
 use Rattle.td_ast.specs.Trees as trees
 use Rattle.td_order.specs.Order.{order}
 use Rattle.td_flat.specs.Order.{graph_of, IsCyclic}
+use Rattle.td_flat.specs.Names.{of_part, spelled}
 use Rattle.td_flat.specs.Uses.{part_uses}
 use Rattle.td_flat.specs.Flat.{flat_parts}
 
@@ -55,15 +56,20 @@ part_b = record { name = named (codes "B") 0 0; definitions = struct_of false (c
 abbrev back : PartTree
 back = record { name = named (codes "B") 0 0; definitions = struct_of false (codes "_N") (field_of (types.Named (codes "A.T") []) (at 60 63) (named (codes "t") 64 65) ∷ []) (codes "N") ∷ [] }
 
--- B comes first, and its field x stays x
+-- B comes first, and its field x stays x; A has the number 0, and B the number 1
 abbrev pub FlatRow : Type 0
 FlatRow =
     flat_parts (part_a true ∷ part_b ∷ [])
     ≡ record {
       definitions =
-          struct_of false (codes "_N") (tested (codes "x") ∷ []) (codes "B.N")
-          ∷ struct_of true (codes "_T") (field_of (types.Named (codes "B.N") []) (at 29 32) (named (codes "n") 33 34) ∷ []) (codes "A.T") ∷ [];
+          struct_of false (codes "_N") (tested (codes "x") ∷ []) (of_part 1 (codes "N"))
+          ∷ struct_of true (codes "_T") (field_of (types.Named (of_part 1 (codes "N")) []) (at 29 32) (named (codes "n") 33 34) ∷ []) (of_part 0 (codes "T")) ∷ [];
     }
+
+-- as they are told; a local's name is told as it stands
+abbrev pub SpelledRow : Type 0
+SpelledRow =
+    (map (spelled (codes "A" ∷ codes "B" ∷ [])) (of_part 0 (codes "T") ∷ of_part 1 (codes "N") ∷ codes "x" ∷ [])) ≡ codes "A.T" ∷ codes "B.N" ∷ codes "x" ∷ []
 
 -- no part is ready, and the first use, at byte 29, is in a cycle: B uses A
 abbrev pub CycleRow : Type 0

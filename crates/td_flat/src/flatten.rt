@@ -2,15 +2,17 @@
 
 ghost use Rattle.std.specs.Prelude.{◌≡◌, ◌<◌, ◌^◌, ◌++◌, None, Some, IfOk, IfErr, OnOk, MatchOption, flat_map, length, slice_get};
 ghost use Rattle.td_ast.specs.declared.parts.InputTree.TheVariants as InputTree;
-ghost use Rattle.td_flat.specs.Flat.{flat, flat_at, IsLinked, IsFault};
+ghost use Rattle.td_flat.specs.Flat.{flat, flat_in, IsLinked, IsFault};
 
 use crate::cycle::first_cyclic;
 use crate::error::FlatError;
 use crate::graph::{all_uses, graph_of, names_of};
+use crate::own::Own;
 use crate::parts::add_part;
 use std::alloc::{AllocError, Global};
 use td_ast::definitions::{Def, ModuleTree};
 use td_ast::parts::{InputTree, PartTree};
+use td_names::names::Names;
 use td_num::items::Items;
 use td_order::order::order;
 
@@ -20,31 +22,43 @@ fn part_at(parts: &[PartTree], number: u32) -> Option<&PartTree>
     parts.get(number as usize)
 }
 
-#[tactic(auto, using(crate::proofs::Among::found_at))]
+#[tactic(auto, using(crate::proofs::Among::found_in))]
 fn add_at(
     alloc: Global,
     whole: &mut Items<Def>,
+    own: &mut Own,
     parts: &[PartTree],
     number: u32,
 ) -> Result<(), AllocError>
-    ensures { OnOk result (whole.new ≡ whole.old ++ flat_at parts.now number) }
+    ensures whole { OnOk result (whole.new ≡ whole.old ++ flat_in own.old.parts parts.now number) }
+    ensures parts { OnOk result (own.new.parts ≡ own.old.parts) }
 {
     match part_at(parts, number) {
         None => Ok(()),
         Some(part) => {
-            add_part(alloc, whole, part)?;
+            add_part(alloc, whole, own, number, part)?;
             Ok(())
         }
     }
 }
 
-// The definitions of parts, in this order.
-fn definitions(alloc: Global, parts: &[PartTree], numbers: &[u32]) -> Result<Items<Def>, AllocError>
-    ensures { IfOk result (λ whole. whole ≡ flat_map (flat_at parts.now) numbers.now) }
+// The definitions of parts of these names, in this order.
+fn definitions(
+    alloc: Global,
+    names: Names,
+    parts: &[PartTree],
+    numbers: &[u32],
+) -> Result<Items<Def>, AllocError>
+    ensures { IfOk result (λ whole. whole ≡ flat_map (flat_in names parts.now) numbers.now) }
 {
+    let mut own = Own {
+        number: 0,
+        parts: names,
+        literals: Names::new(alloc),
+    };
     let mut whole = Items::new(alloc);
     for number in numbers {
-        add_at(alloc, &mut whole, parts, *number)?;
+        add_at(alloc, &mut whole, &mut own, parts, *number)?;
     }
     Ok(whole)
 }
@@ -62,7 +76,7 @@ pub fn flat_parts(alloc: Global, parts: &[PartTree]) -> Result<ModuleTree, FlatE
         return Err(FlatError::Cycle { span });
     }
     let numbers = order(alloc, graph.as_slice())?;
-    let definitions = definitions(alloc, parts, numbers.as_slice())?;
+    let definitions = definitions(alloc, names, parts, numbers.as_slice())?;
     Ok(ModuleTree { definitions })
 }
 

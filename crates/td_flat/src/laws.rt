@@ -1,11 +1,12 @@
 //! Laws of flat inputs. They do nothing when they are called.
 
 ghost use Rattle.td_flat.specs.Laws.{OneModule, OnePart, EachAnswered};
-ghost use Rattle.td_flat.specs.Rows.{FlatRow, CycleRow};
+ghost use Rattle.td_flat.specs.Rows.{FlatRow, SpelledRow, CycleRow};
 
 /// The worked rows.
 pub fn rows()
     ensures flat { FlatRow }
+    ensures spelled { SpelledRow }
     ensures cycle { CycleRow }
 {}
 

@@ -1,6 +1,8 @@
 //! Names as they stand in the whole text.
 
-ghost use Rattle.std.specs.Prelude.{◌≡◌, ◌≤◌, None, Some, IfOk, MatchOption, length};
+ghost use Rattle.std.specs.Prelude.{◌≡◌, ◌≤◌, [], ◌∷◌, None, Some, IfOk, MatchOption, length, take};
+ghost use Rattle.td_num.specs.Numbers.{byte_of};
+ghost use Rattle.td_names.specs.Names.{number_of};
 ghost use Rattle.td_flat.specs.Names as names;
 ghost use Rattle.td_flat.specs.Expressions as specs;
 ghost use Rattle.td_flat.specs.Definitions as definitions;
@@ -9,6 +11,7 @@ use crate::own::Own;
 use std::alloc::{AllocError, Global};
 use td_ast::names::Name;
 use td_names::names::Names;
+use td_num::bytes::byte_of;
 use td_num::text::Text;
 
 fn is_plain(b: u8) -> bool
@@ -42,14 +45,48 @@ pub(crate) fn is_qualified(name: &[u8]) -> bool
     name.contains(&b'.')
 }
 
-/// The name that a part's definition has in the whole text.
-pub(crate) fn of_part(alloc: Global, part: &[u8], name: &[u8]) -> Result<Text, AllocError>
-    ensures { IfOk result (λ text. text ≡ names.of_part part.now name.now) }
+/// The bytes of a name after its first dot.
+fn after_dot(name: &[u8]) -> &[u8]
+    ensures { result.now ≡ names.after_dot name.now }
 {
-    let mut bytes = Vec::from_slice(alloc, part)?;
-    bytes.push(b'.')?;
+    let before = before_dot(name);
+    if before < name.len() {
+        &name[before + 1..]
+    } else {
+        &[]
+    }
+}
+
+// A dot, and a part's number in four bytes.
+fn part_mark(part: u32) -> [u8; 5]
+    ensures { result ≡ 46 ∷ byte_of part 0 ∷ byte_of part 1 ∷ byte_of part 2 ∷ byte_of part 3 ∷ [] }
+{
+    let k = part as u64;
+    [
+        b'.',
+        byte_of(k, 0),
+        byte_of(k, 1),
+        byte_of(k, 2),
+        byte_of(k, 3),
+    ]
+}
+
+/// The name that a definition of the part with this number has in the one tree.
+fn of_part(alloc: Global, part: u32, name: &[u8]) -> Result<Text, AllocError>
+    ensures { IfOk result (λ text. text ≡ names.of_part part name.now) }
+{
+    let mark = part_mark(part);
+    let mut bytes = Vec::from_slice(alloc, &mark)?;
     bytes.extend_from_slice(name)?;
     Ok(Text::of(bytes))
+}
+
+// The name of a part's definition that a qualified name names.
+fn of_other(alloc: Global, parts: &Names, name: &[u8]) -> Result<Text, AllocError>
+    ensures { IfOk result (λ text. text ≡ names.of_part (number_of parts.now (take (names.before_dot name.now) name.now)) (names.after_dot name.now)) }
+{
+    let part = parts.number(&name[..before_dot(name)]);
+    of_part(alloc, part, after_dot(name))
 }
 
 /// What a name is, where something is named.
@@ -62,15 +99,15 @@ pub(crate) fn meant(
     ensures { IfOk result (λ text. text ≡ names.meant own.now scope.now name.now) }
 {
     if is_qualified(name) {
-        return Text::copy_of(alloc, name);
+        return of_other(alloc, &own.parts, name);
     }
     if own.literals.contains(name) {
-        return of_part(alloc, own.name.as_slice(), name);
+        return of_part(alloc, own.number, name);
     }
     if scope.contains(name) {
         return Text::copy_of(alloc, name);
     }
-    of_part(alloc, own.name.as_slice(), name)
+    of_part(alloc, own.number, name)
 }
 
 /// What a local's name is, where it is given.
@@ -78,7 +115,7 @@ pub(crate) fn given(alloc: Global, own: &Own, name: &[u8]) -> Result<Text, Alloc
     ensures { IfOk result (λ text. text ≡ names.given own.now name.now) }
 {
     if own.literals.contains(name) {
-        return of_part(alloc, own.name.as_slice(), name);
+        return of_part(alloc, own.number, name);
     }
     Text::copy_of(alloc, name)
 }
@@ -112,7 +149,7 @@ pub(crate) fn given_name(alloc: Global, own: &Own, name: &Name) -> Result<Name, 
 pub(crate) fn defined_name(alloc: Global, own: &Own, name: &Name) -> Result<Name, AllocError>
     ensures { IfOk result (λ n. n ≡ definitions.defined_name own.now name.now) }
 {
-    let text = of_part(alloc, own.name.as_slice(), name.text.as_slice())?;
+    let text = of_part(alloc, own.number, name.text.as_slice())?;
     Ok(Name {
         text,
         span: name.span,

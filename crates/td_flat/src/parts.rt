@@ -1,6 +1,6 @@
 //! Parts as they stand in the whole text.
 
-ghost use Rattle.std.specs.Prelude.{◌≡◌, ◌++◌, IfOk, OnOk};
+ghost use Rattle.std.specs.Prelude.{◌≡◌, ◌++◌, [], map, IfOk, OnOk};
 ghost use Rattle.td_flat.specs.Definitions as specs;
 
 use crate::definitions::flat_definition;
@@ -10,7 +10,6 @@ use td_ast::definitions::{Def, ItemTree};
 use td_ast::parts::PartTree;
 use td_names::names::Names;
 use td_num::items::Items;
-use td_num::text::Text;
 
 fn see_items(alloc: Global, names: &mut Names, items: &[ItemTree]) -> Result<(), AllocError>
     ensures { OnOk result (names.new ≡ specs.with_items names.old items.now) }
@@ -40,27 +39,43 @@ fn see_all_literals(alloc: Global, names: &mut Names, definitions: &[Def]) -> Re
     Ok(())
 }
 
-/// What is to be known of a part. `AllocError`: out of memory.
-fn own_of(alloc: Global, part: &PartTree) -> Result<Own, AllocError>
-    ensures { IfOk result (λ own. own ≡ specs.own_of part.now) }
+// The names of the constants and members of a part.
+fn literals_of(alloc: Global, part: &PartTree) -> Result<Names, AllocError>
+    ensures { IfOk result (λ names. names ≡ specs.all_literals [] part.now.definitions) }
 {
-    let name = Text::copy_of(alloc, part.name.text.as_slice())?;
     let mut literals = Names::new(alloc);
     see_all_literals(alloc, &mut literals, part.definitions.as_slice())?;
-    Ok(Own { name, literals })
+    Ok(literals)
 }
 
-/// Adds the definitions of a part, as they stand in the whole text. `AllocError`: out of memory.
+// Adds definitions of a part, as they stand in the whole text.
+fn add_definitions(
+    alloc: Global,
+    whole: &mut Items<Def>,
+    own: &Own,
+    definitions: &[Def],
+) -> Result<(), AllocError>
+    ensures { OnOk result (whole.new ≡ whole.old ++ map (specs.flat_definition own.now) definitions.now) }
+{
+    for definition in definitions {
+        whole.push(flat_definition(alloc, own, definition)?)?;
+    }
+    Ok(())
+}
+
+/// Adds the definitions of the part with this number, as they stand in the whole text, where `own` has the names of all parts,
+/// and then is of this part. `AllocError`: out of memory.
 pub(crate) fn add_part(
     alloc: Global,
     whole: &mut Items<Def>,
+    own: &mut Own,
+    number: u32,
     part: &PartTree,
 ) -> Result<(), AllocError>
-    ensures { OnOk result (whole.new ≡ whole.old ++ specs.flat_part part.now) }
+    ensures whole { OnOk result (whole.new ≡ whole.old ++ specs.flat_part own.old.parts number part.now) }
+    ensures parts { OnOk result (own.new.parts ≡ own.old.parts) }
 {
-    let own = own_of(alloc, part)?;
-    for definition in part.definitions.as_slice() {
-        whole.push(flat_definition(alloc, &own, definition)?)?;
-    }
-    Ok(())
+    own.number = number;
+    own.literals = literals_of(alloc, part)?;
+    add_definitions(alloc, whole, own, part.definitions.as_slice())
 }

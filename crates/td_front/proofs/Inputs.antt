@@ -1,21 +1,19 @@
 -- What an input is answered: it is admitted or has one refusal, and where it is linked that of its one tree.
-use Rattle.std.proofs.Common.{◌≡◌, Option, Some, None, Result, Ok, Err, ◌⊎◌, inl, inr, refl, sym, ap, ◌∙◌}
+use Rattle.std.proofs.Common.{◌≡◌, Option, Some, None, Ok, Err, ◌⊎◌, inl, inr, refl, ap, ◌∙◌}
 use Rattle.td_ast.specs.declared.token.Span.{Span}
 use Rattle.td_ast.specs.declared.definitions.ModuleTree.{ModuleTree}
 use Rattle.td_ast.specs.declared.parts.InputTree.{InputTree}
 use Rattle.td_ast.specs.declared.parts.InputTree.TheVariants.{Module as Parsed}
 use Rattle.td_limits.specs.declared.limits.Excess.{Excess}
 use Rattle.td_limits.specs.Counts.{counts_passed}
-use Rattle.td_rules.specs.declared.breach.Rule.{Rule}
-use Rattle.td_rules.specs.declared.breach.Rule.TheVariants.{Unknown, Twice, NotReadable, WrongArgs, Mismatch, Narrowing, NotConstant, BadAction}
-use Rattle.td_rules.specs.Modules.{module_of}
-use Rattle.td_flat.specs.Flat.{flat, written, IsTwice, IsCycle, IsLinked}
+use Rattle.td_rules.specs.declared.breach.Rule.TheVariants.{Twice}
+use Rattle.td_flat.specs.Flat.{flat, written, spelled_names, IsTwice, IsCycle, IsLinked}
 use Rattle.td_flat.specs.Laws.{HasAnswer, EachAnswered}
 use Rattle.td_linked.specs.Laws.{OneAnswerEach}
 use Rattle.td_front.specs.declared.error.FrontError.{FrontError}
 use Rattle.td_front.specs.declared.error.FrontError.TheVariants.{BadByte, OpenComment, BigNumber, Unexpected, Deep, Limit, Broken, Cycle, ZeroElement, RestNotLast, Unsafe, Room, NoMemory}
 use Rattle.td_front.specs.Passes.{RefusesTree}
-use Rattle.td_front.specs.Inputs.{HasInputCounts, IsAdmittedInput, RefusedByCounts, RefusedByParts, RefusesInput}
+use Rattle.td_front.specs.Inputs.{HasInputCounts, IsAdmittedInput, RefusedByCounts, RefusedByParts, RefusesInput, with_names, input_module}
 use Rattle.td_front.proofs.Trees.{Firsts, Judgement, judged, admitted_judged, refused_judged, Decided, decided}
 
 -- what the crates below say of breaches and of parts
@@ -26,8 +24,13 @@ pub record Parting : Type 0 where
 
 -- ---- the answer
 
+-- what the one tree is answered, with names as they are told
+abbrev told : InputTree → Judgement → Judgement
+told input (Ok m) = Ok (with_names (spelled_names input m.names) m)
+told input (Err e) = Err e
+
 abbrev linked : Parting → (input : InputTree) → HasAnswer input → Judgement
-linked below input (inl h) = judged below.firsts (flat input)
+linked below input (inl h) = told input (judged below.firsts (flat input))
 linked below input (inr (inl (at, h))) = Err (Broken Twice at)
 linked below input (inr (inr (at, h))) = Err (Cycle at)
 
@@ -40,7 +43,7 @@ judged_input below input = counted below input (counts_passed (written input))
 
 -- ---- how far it comes
 
-if_linked : (below : Parting) (input : InputTree) → IsLinked input → (a : HasAnswer input) → linked below input a ≡ judged below.firsts (flat input)
+if_linked : (below : Parting) (input : InputTree) → IsLinked input → (a : HasAnswer input) → linked below input a ≡ told input (judged below.firsts (flat input))
 if_linked below input h (inl k) = refl
 if_linked below input h (inr (inl (at, k))) = absurd ((below.once input).not_twice at h k)
 if_linked below input h (inr (inr (at, k))) = absurd ((below.once input).not_cycle at h k)
@@ -58,8 +61,8 @@ if_cycle below input at h (inr (inr (other, k))) = ap (λ (x : Span). let r : Ju
 to_linked : (below : Parting) (input : InputTree) → HasInputCounts input → judged_input below input ≡ linked below input (below.answered input)
 to_linked below input h = ap (counted below input) h
 
-pub admitted_input : (below : Parting) (input : InputTree) → IsAdmittedInput input → judged_input below input ≡ Ok (module_of (flat input))
-admitted_input below input h = to_linked below input h.0 ∙ if_linked below input h.1 (below.answered input) ∙ admitted_judged below.firsts (flat input) h.2
+pub admitted_input : (below : Parting) (input : InputTree) → IsAdmittedInput input → judged_input below input ≡ Ok (input_module input)
+admitted_input below input h = to_linked below input h.0 ∙ if_linked below input h.1 (below.answered input) ∙ ap (told input) (admitted_judged below.firsts (flat input) h.2)
 
 by_counts : (below : Parting) (input : InputTree) (e : FrontError) → RefusedByCounts input e → judged_input below input ≡ Err e
 by_counts below input (Limit limit span) h = ap (counted below input) h
@@ -73,7 +76,7 @@ by_parts below input _ has h = absurd h
 pub refused_input : (below : Parting) (input : InputTree) (e : FrontError) → RefusesInput input e → judged_input below input ≡ Err e
 refused_input below input e (inl h) = by_counts below input e h
 refused_input below input e (inr (has, inl h)) = by_parts below input e has h
-refused_input below input e (inr (has, inr (linked, h))) = to_linked below input has ∙ if_linked below input linked (below.answered input) ∙ refused_judged below.firsts (flat input) e h
+refused_input below input e (inr (has, inr (linked, h))) = to_linked below input has ∙ if_linked below input linked (below.answered input) ∙ ap (told input) (refused_judged below.firsts (flat input) e h)
 
 -- ---- one of both
 

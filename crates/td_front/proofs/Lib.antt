@@ -5,3 +5,4 @@ pub mod Counts
 pub mod Answering
 pub mod Memory
 pub mod Passing
+pub mod Checked

@@ -10,10 +10,9 @@ use Rattle.td_lexer.specs.declared.error.LexError.{LexError}
 use Rattle.td_lexer.specs.declared.error.LexError.TheVariants.{BadByte as BadByteAt, OpenComment as OpenCommentAt, BigNumber as BigNumberAt, NoMemory as NoTokens}
 use Rattle.td_lexer.specs.Splits.{Splits, HasToken}
 use Rattle.td_grammar.specs.Definitions.{module_text}
-use Rattle.td_grammar.specs.Parts.{module_word, part, input_text}
-use Rattle.td_grammar.specs.Grammar.{Grammar, ◌then◌, all_of}
+use Rattle.td_grammar.specs.Parts.{part, input_text}
+use Rattle.td_grammar.specs.Grammar.{Grammar, all_of}
 use Rattle.td_grammar.specs.Sequences.{some_of}
-use Rattle.td_grammar.specs.Tokens.{name}
 use Rattle.td_grammar.specs.Laws.{OneTree, EitherForm}
 use Rattle.td_parser.specs.declared.error.ParseError.{ParseError}
 use Rattle.td_parser.specs.declared.error.ParseError.TheVariants.{Unexpected as UnexpectedToken, Deep as DeepToken, NoMemory as NoTree}
@@ -32,7 +31,7 @@ use Rattle.td_front.specs.declared.error.FrontError.{FrontError}
 use Rattle.td_front.specs.declared.error.FrontError.TheVariants.{NoMemory}
 use Rattle.td_front.specs.Errors.{of_lexing, of_parsing, of_flattening, of_elaboration, of_kinds, of_arith}
 use Rattle.td_front.specs.Passes.{RefusesTree}
-use Rattle.td_front.specs.Inputs.{RefusedByCounts, RefusedByParts, RefusesInput, IsFilled}
+use Rattle.td_front.specs.Inputs.{RefusedByCounts, IsFilled}
 use Rattle.td_front.specs.ModuleText.{SpellsTree}
 
 -- ---- errors

@@ -2,7 +2,6 @@
 use Rattle.std.proofs.Common.{◌≡◌, ℕ, ◌-◌, ◌^◌, ◌<◌, List, length, Result, Ok, Err, OnOk, IfOk, IfErr, ◌⊎◌, inl, inr, ◌↔◌, refl, sym, subst, arith}
 use Rattle.td_ast.specs.declared.token.Token.{Token}
 use Rattle.td_ast.specs.declared.definitions.ModuleTree.{ModuleTree}
-use Rattle.td_ast.specs.declared.parts.PartTree.{PartTree}
 use Rattle.td_ast.specs.declared.parts.InputTree.{InputTree}
 use Rattle.td_ast.specs.declared.parts.InputTree.TheVariants.{Module as Parsed, Parts}
 use Rattle.td_core.specs.declared.module.Module.{Module}
@@ -10,7 +9,6 @@ use Rattle.td_lexer.specs.declared.error.LexError.{LexError}
 use Rattle.td_lexer.specs.Scanner.{tokens_of}
 use Rattle.td_lexer.specs.Splits.{Splits}
 use Rattle.td_grammar.specs.Laws.{EitherForm}
-use Rattle.td_rules.specs.Modules.{module_of}
 use Rattle.td_flat.specs.declared.error.FlatError.{FlatError}
 use Rattle.td_flat.specs.declared.error.FlatError.TheVariants.{Twice as TwiceAt, Cycle as CycleAt, NoMemory as NotFlat}
 use Rattle.td_flat.specs.Flat.{flat, IsFault, IsLinked}
@@ -18,7 +16,7 @@ use Rattle.td_front.specs.declared.error.FrontError.{FrontError}
 use Rattle.td_front.specs.declared.error.FrontError.TheVariants.{NoMemory}
 use Rattle.td_front.specs.Errors.{of_flattening}
 use Rattle.td_front.specs.Passes.{RefusesTree}
-use Rattle.td_front.specs.Inputs.{HasInputCounts, HasFewParts, IsAdmittedInput, RefusedByParts, RefusesInput}
+use Rattle.td_front.specs.Inputs.{HasInputCounts, HasFewParts, IsAdmittedInput, RefusedByParts, RefusesInput, input_module}
 use Rattle.td_front.specs.ModuleText.{SpellsTree, IsTextOf, RefusedBy}
 use Rattle.td_front.proofs.Counts.{few_tokens}
 use Rattle.td_front.proofs.Memory.{few_parts}
@@ -51,7 +49,7 @@ few_inputs form law text (Parts parts) short h =
     let within = few_tokens text 0 0 h.tokens ((law text h.tokens).1 h.split) in
     omega (arith, few, within, short)
 
-pub stands_from : (text : List ℕ) (input : InputTree) → SpellsTree text input → (r : Result Module FrontError) → OnOk r (IsAdmittedInput input) → IfOk r (λ m. m ≡ module_of (flat input)) → IfOk r (λ m. IsTextOf text input m)
+pub stands_from : (text : List ℕ) (input : InputTree) → SpellsTree text input → (r : Result Module FrontError) → OnOk r (IsAdmittedInput input) → IfOk r (λ m. m ≡ input_module input) → IfOk r (λ m. IsTextOf text input m)
 stands_from text input spells (Ok m) admitted is = (record { input = input; spells = spells; admitted = admitted; module_is = is }, refl)
 stands_from text input spells (Err e) admitted is = tt
 

@@ -19,7 +19,7 @@ use Rattle.td_front.specs.declared.error.FrontError.{FrontError}
 use Rattle.td_front.specs.declared.error.FrontError.TheVariants.{BadByte, OpenComment, BigNumber, Unexpected, Deep, Limit, Broken, Cycle, ZeroElement, RestNotLast, Unsafe, Room, NoMemory}
 use Rattle.td_front.specs.Errors.{of_lexing}
 use Rattle.td_front.specs.Passes.{IsAdmitted, RefusesTree}
-use Rattle.td_front.specs.Inputs.{HasInputCounts, IsAdmittedInput, RefusesInput}
+use Rattle.td_front.specs.Inputs.{HasInputCounts, RefusesInput, input_module}
 use Rattle.td_front.specs.ModuleText.{SpellsTree, IsModuleText, beginning_of, RefusedTree, RefusedBy}
 use Rattle.td_front.specs.Laws.{IsAnsweredAs}
 use Rattle.td_front.proofs.Trees.{Judgement, Decided, decided}
@@ -144,7 +144,7 @@ abbrev pub OneOfBoth : List ℕ → Type 0
 OneOfBoth text = ((m : Module) × IsModuleText text m) ⊎ ((e : FrontError) × RefusedBy text e)
 
 input_decided : (text : List ℕ) (input : InputTree) → SpellsTree text input → DecidedInput input → OneOfBoth text
-input_decided text input spells (inl admitted) = inl (module_of (flat input), record { input = input; spells = spells; admitted = admitted; module_is = refl })
+input_decided text input spells (inl admitted) = inl (input_module input, record { input = input; spells = spells; admitted = admitted; module_is = refl })
 input_decided text input spells (inr (e, h)) = inr (e, of_input text input spells e h)
 
 tokens_decided : Below → (text : List ℕ) (tokens : List Token) → Splits text tokens → Answer input_text tokens → OneOfBoth text
@@ -168,29 +168,29 @@ always_one below text = by (tokens_of text) refl
 
 -- ---- as the one tree
 
--- a text that stands for what its tree does, and is refused as it is
-answered_as : Below → (text : List ℕ) (tree : ModuleTree) → (IsAdmitted tree → IsModuleText text (module_of tree)) → ((e : FrontError) → RefusesTree tree e → RefusedBy text e) → IsAnsweredAs text tree
-answered_as below text tree admitted refused = by (decided below.parting.firsts tree)
+-- a text that stands for this module where its tree is admitted, and is refused as it is
+answered_as : Below → (text : List ℕ) (tree : ModuleTree) (stood : Module) → (IsAdmitted tree → IsModuleText text stood) → ((e : FrontError) → RefusesTree tree e → RefusedBy text e) → IsAnsweredAs text tree stood
+answered_as below text tree stood admitted refused = by (decided below.parting.firsts tree)
   where
-    by : Decided tree → IsAnsweredAs text tree
+    by : Decided tree → IsAnsweredAs text tree stood
     by (inl a) = record {
       stands = λ m. (
-        (λ h. (a, one_module below text m (module_of tree) h (admitted a))),
+        (λ h. (a, one_module below text m stood h (admitted a))),
         (λ h. subst (IsModuleText text) (sym h.1) (admitted h.0)),
       );
-      refused = λ e. ((λ h. absurd (never_both below text (module_of tree) e (admitted a) h)), refused e);
+      refused = λ e. ((λ h. absurd (never_both below text stood e (admitted a) h)), refused e);
     }
     by (inr (f, r)) = record {
       stands = λ m. ((λ h. absurd (never_both below text m f h (refused f r))), (λ h. subst (IsModuleText text) (sym h.1) (admitted h.0)));
       refused = λ e. ((λ h. subst (RefusesTree tree) (one_refusal below text f e (refused f r) h) r), refused e);
     }
 
-pub parts_flat : Below → (text : List ℕ) (input : InputTree) → SpellsTree text input → HasInputCounts input → IsLinked input → IsAnsweredAs text (flat input)
+pub parts_flat : Below → (text : List ℕ) (input : InputTree) → SpellsTree text input → HasInputCounts input → IsLinked input → IsAnsweredAs text (flat input) (input_module input)
 parts_flat below text input spells has linked =
-    answered_as below text (flat input) (λ a. record { input = input; spells = spells; admitted = (has, linked, a); module_is = refl })
+    answered_as below text (flat input) (input_module input) (λ a. record { input = input; spells = spells; admitted = (has, linked, a); module_is = refl })
     (λ e h. of_input text input spells e (inr (has, inr (linked, h))))
 
-pub modules_alone : Below → (text : List ℕ) (tree : ModuleTree) → SpellsTree text (Parsed tree) → IsAnsweredAs text tree
+pub modules_alone : Below → (text : List ℕ) (tree : ModuleTree) → SpellsTree text (Parsed tree) → IsAnsweredAs text tree (module_of tree)
 modules_alone below text tree spells =
-    answered_as below text tree (λ a. record { input = Parsed tree; spells = spells; admitted = (a.0.0.0.0, tt, a); module_is = refl })
+    answered_as below text tree (module_of tree) (λ a. record { input = Parsed tree; spells = spells; admitted = (a.0.0.0.0, tt, a); module_is = refl })
     (λ e h. of_input text (Parsed tree) spells e (alone_refused tree e h))

@@ -1,14 +1,15 @@
 -- Inputs: the counts are taken in the order of the text, then the breaches of parts, then the passes over the one tree
 -- that the input is (own rules). Of a module without a name this is what the passes over its tree say.
-use Rattle.std.specs.Prelude.{◌≡◌, ◌⊎◌, ◌<◌, ◌^◌, length, Some, None}
+use Rattle.std.specs.Prelude.{◌≡◌, ◌⊎◌, ◌<◌, ◌^◌, ℕ, List, length, Some, None}
 use Rattle.td_ast.specs.declared.parts.InputTree.{InputTree}
-use Rattle.td_ast.specs.declared.parts.InputTree.TheVariants.{Module, Parts}
+use Rattle.td_ast.specs.declared.parts.InputTree.TheVariants.{Module as Parsed, Parts}
+use Rattle.td_core.specs.declared.module.Module.{Module}
 use Rattle.td_limits.specs.Counts.{counts_passed}
-use Rattle.td_rules.specs.declared.breach.Rule.{Rule}
-use Rattle.td_rules.specs.declared.breach.Rule.TheVariants.{Unknown, Twice, NotReadable, WrongArgs, Mismatch, Narrowing, NotConstant, BadAction}
-use Rattle.td_flat.specs.Flat.{flat, written, IsTwice, IsCycle, IsLinked}
+use Rattle.td_rules.specs.declared.breach.Rule.TheVariants.{Twice}
+use Rattle.td_rules.specs.Modules.{module_of}
+use Rattle.td_flat.specs.Flat.{flat, written, spelled_names, IsTwice, IsCycle, IsLinked}
 use Rattle.td_front.specs.declared.error.FrontError.{FrontError}
-use Rattle.td_front.specs.declared.error.FrontError.TheVariants.{BadByte, OpenComment, BigNumber, Unexpected, Deep, Limit, Broken, Cycle, ZeroElement, RestNotLast, Unsafe, Room, NoMemory}
+use Rattle.td_front.specs.declared.error.FrontError.TheVariants.{Limit, Broken, Cycle}
 use Rattle.td_front.specs.Passes.{IsAdmitted, RefusesTree}
 
 -- no limit by count is passed, in the order of the text
@@ -17,6 +18,14 @@ HasInputCounts input = counts_passed (written input) ≡ None
 
 abbrev pub IsAdmittedInput : InputTree → Type 0
 IsAdmittedInput input = HasInputCounts input × IsLinked input × IsAdmitted (flat input)
+
+-- a module with other names
+abbrev pub with_names : List (List ℕ) → Module → Module
+with_names names m = record { written = m.written; names = names; listed = m.listed; definitions = m.definitions; entries = m.entries }
+
+-- the module of an input: that of its one tree, with its names as they are told
+abbrev pub input_module : InputTree → Module
+input_module input = with_names (spelled_names input (module_of (flat input)).names) (module_of (flat input))
 
 -- X1 by count
 abbrev pub RefusedByCounts : InputTree → FrontError → Type 0
@@ -37,10 +46,10 @@ RefusesInput input e =
 
 -- there is a part or a definition, for which memory may be wanted
 abbrev pub IsFilled : InputTree → Type 0
-IsFilled (Module tree) = 0 < length tree.definitions
+IsFilled (Parsed tree) = 0 < length tree.definitions
 IsFilled (Parts parts) = Unit {0}
 
 -- as many parts as a number of 32 bits can tell
 abbrev pub HasFewParts : InputTree → Type 0
-HasFewParts (Module tree) = Unit {0}
+HasFewParts (Parsed tree) = Unit {0}
 HasFewParts (Parts parts) = length parts < 2 ^ 32

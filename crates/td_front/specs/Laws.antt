@@ -9,7 +9,7 @@ use Rattle.td_flat.specs.Flat.{flat, IsLinked}
 use Rattle.td_front.specs.declared.error.FrontError.{FrontError}
 use Rattle.td_front.specs.Checked.{IsChecked}
 use Rattle.td_front.specs.Passes.{IsAdmitted, RefusesTree}
-use Rattle.td_front.specs.Inputs.{HasInputCounts}
+use Rattle.td_front.specs.Inputs.{HasInputCounts, input_module}
 use Rattle.td_front.specs.ModuleText.{IsModuleText, RefusedBy, SpellsTree}
 
 -- a text stands for at most one module
@@ -32,15 +32,17 @@ AlwaysOne = (text : List ℕ) → ((m : Module) × IsModuleText text m) ⊎ ((e 
 abbrev pub ModulesAreChecked : Type 0
 ModulesAreChecked = (text : List ℕ) (m : Module) → IsModuleText text m → IsChecked m
 
--- A text is answered as its tree is: it stands for the module of an admitted tree, with the tree's refusals, and no others.
-pub record IsAnsweredAs (text : List ℕ) (tree : ModuleTree) : Type 0 where
-  pub stands : (m : Module) → IsModuleText text m ↔ (IsAdmitted tree × (m ≡ module_of tree))
+-- A text is answered as this tree is: it stands for this module, where the tree is admitted, with the tree's refusals, and no others.
+pub record IsAnsweredAs (text : List ℕ) (tree : ModuleTree) (stood : Module) : Type 0 where
+  pub stands : (m : Module) → IsModuleText text m ↔ (IsAdmitted tree × (m ≡ stood))
   pub refused : (e : FrontError) → RefusedBy text e ↔ RefusesTree tree e
 
--- Where no count is passed and parts are linked, the text is answered as the one tree that the parts are, at the same places.
+-- Where no count is passed and parts are linked, the text is answered as the one tree that the parts are, at the same places; its
+-- module has its names as they are told.
 abbrev pub PartsAreAnsweredFlat : Type 0
-PartsAreAnsweredFlat = (text : List ℕ) (input : InputTree) → SpellsTree text input → HasInputCounts input → IsLinked input → IsAnsweredAs text (flat input)
+PartsAreAnsweredFlat =
+    (text : List ℕ) (input : InputTree) → SpellsTree text input → HasInputCounts input → IsLinked input → IsAnsweredAs text (flat input) (input_module input)
 
 -- a text without parts is answered as its tree
 abbrev pub ModulesAreAnsweredAlone : Type 0
-ModulesAreAnsweredAlone = (text : List ℕ) (tree : ModuleTree) → SpellsTree text (Parsed tree) → IsAnsweredAs text tree
+ModulesAreAnsweredAlone = (text : List ℕ) (tree : ModuleTree) → SpellsTree text (Parsed tree) → IsAnsweredAs text tree (module_of tree)

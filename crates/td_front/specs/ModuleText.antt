@@ -8,11 +8,9 @@ use Rattle.td_lexer.specs.Splits.{Splits, IsRefused}
 use Rattle.td_grammar.specs.Spelling.{IsFirstRefused}
 use Rattle.td_grammar.specs.Limits.{IsFirstDeep, IsWithinLimits}
 use Rattle.td_grammar.specs.Parts.{input_text}
-use Rattle.td_rules.specs.Modules.{module_of}
-use Rattle.td_flat.specs.Flat.{flat}
 use Rattle.td_front.specs.declared.error.FrontError.{FrontError}
 use Rattle.td_front.specs.declared.error.FrontError.TheVariants.{BadByte, OpenComment, BigNumber, Unexpected, Deep, Limit, Broken, Cycle, ZeroElement, RestNotLast, Unsafe, Room, NoMemory}
-use Rattle.td_front.specs.Inputs.{IsAdmittedInput, RefusesInput}
+use Rattle.td_front.specs.Inputs.{IsAdmittedInput, RefusesInput, input_module}
 
 -- the text splits into tokens that spell this module or these parts, and none of them passes a limit
 pub record SpellsTree (text : List ℕ) (input : InputTree) : Type 0 where
@@ -21,12 +19,13 @@ pub record SpellsTree (text : List ℕ) (input : InputTree) : Type 0 where
   pub spelled : input_text.Spells input tokens
   pub within : IsWithinLimits input_text.Passes tokens
 
--- these bytes are a module text that stands for this module: that of the one tree which its parts are, where it has parts
+-- these bytes are a module text that stands for this module: that of the one tree which its parts are, where it has parts, each
+-- of their definitions with its part's name, a dot and its own for a name
 pub record IsModuleText (text : List ℕ) (m : Module) : Type 0 where
   pub input : InputTree
   pub spells : SpellsTree text input
   pub admitted : IsAdmittedInput input
-  pub module_is : m ≡ module_of (flat input)
+  pub module_is : m ≡ input_module input
 
 -- and this is what it spells
 abbrev pub IsTextOf : List ℕ → InputTree → Module → Type 0

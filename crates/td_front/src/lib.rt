@@ -6,8 +6,8 @@ mod check;
 mod error;
 pub mod laws;
 mod line;
-mod long_names;
 mod passes;
+mod spelled;
 
 pub use check::{CheckedInput, check_input, check_module};
 pub use error::FrontError;

@@ -2,15 +2,15 @@
 
 ghost use Rattle.std.specs.Prelude.{◌≡◌, ◌⊎◌, ◌<◌, ◌^◌, None, Err, length, OnOk, IfOk, IfErr};
 ghost use Rattle.td_ast.specs.declared.parts.InputTree.TheVariants as InputTree;
-ghost use Rattle.td_flat.specs.Flat.{flat, written, IsLinked};
+ghost use Rattle.td_flat.specs.Flat.{flat, written, spelled_names, IsLinked};
 ghost use Rattle.td_limits.specs.Counts.{counts_passed};
 ghost use Rattle.td_front.specs.Passes.{HasCounts, HasModule, HasKinds, HasSafety, IsAdmitted, RefusesTree};
-ghost use Rattle.td_front.specs.Inputs.{HasInputCounts, HasFewParts, IsAdmittedInput, IsFilled, RefusedByCounts, RefusedByParts, RefusesInput};
+ghost use Rattle.td_front.specs.Inputs.{HasInputCounts, HasFewParts, IsAdmittedInput, IsFilled, RefusedByCounts, RefusedByParts, RefusesInput, with_names, input_module};
 ghost use Rattle.td_front.specs.declared.error.FrontError.{FrontError};
 ghost use Rattle.td_rules.specs.Modules.{module_of};
 
 use crate::error::FrontError;
-use crate::long_names::are_names_too_long;
+use crate::spelled::spelled_module;
 use std::alloc::Global;
 use td_arith::modules::arith;
 use td_ast::definitions::ModuleTree;
@@ -43,16 +43,13 @@ fn check_counts(input: &InputTree) -> Result<(), FrontError>
     }
 }
 
-/// The one tree of parts: N2 of parts, N5. `NoMemory`: out of memory for it, or its names were too long to begin with it.
+/// The one tree of parts: N2 of parts, N5. `NoMemory`: out of memory for it.
 fn flat(alloc: Global, parts: &[PartTree]) -> Result<ModuleTree, FrontError>
     requires { length parts.now < 2 ^ 32 }
     ensures linked { OnOk result (IsLinked (InputTree.Parts parts.now)) }
     ensures tree { IfOk result (λ tree. tree ≡ flat (InputTree.Parts parts.now)) }
     ensures err { IfErr result (λ e. (e ≡ FrontError.NoMemory) ⊎ RefusedByParts (InputTree.Parts parts.now) e) }
 {
-    if are_names_too_long(parts) {
-        return Err(FrontError::NoMemory);
-    }
     match flat_parts(alloc, parts) {
         Ok(tree) => Ok(tree),
         Err(error) => Err(FrontError::from(error)),
@@ -131,24 +128,36 @@ fn tree_module(alloc: Global, tree: &ModuleTree) -> Result<Module, FrontError>
     Ok(found)
 }
 
+// The module of parts, from that of their one tree.
+fn told(alloc: Global, parts: &[PartTree], found: Module) -> Result<Module, FrontError>
+    ensures value { IfOk result (λ m. m ≡ with_names (spelled_names (InputTree.Parts parts.now) found.names) found) }
+    ensures err { IfErr result (λ e. e ≡ FrontError.NoMemory) }
+{
+    match spelled_module(alloc, parts, found) {
+        Ok(told) => Ok(told),
+        Err(_) => Err(FrontError::NoMemory),
+    }
+}
+
 /// The module of parts that pass no limit by count. `NoMemory`: out of memory.
 fn parts_module(alloc: Global, parts: &[PartTree]) -> Result<Module, FrontError>
     requires few { length parts.now < 2 ^ 32 }
     requires counts { HasInputCounts (InputTree.Parts parts.now) }
     ensures admitted { OnOk result (IsAdmittedInput (InputTree.Parts parts.now)) }
-    ensures value { IfOk result (λ m. m ≡ module_of (flat (InputTree.Parts parts.now))) }
+    ensures value { IfOk result (λ m. m ≡ input_module (InputTree.Parts parts.now)) }
     ensures err { IfErr result (λ e. (e ≡ FrontError.NoMemory) ⊎ RefusesInput (InputTree.Parts parts.now) e) }
 {
     counts_stay();
     let tree = flat(alloc, parts)?;
-    tree_module(alloc, &tree)
+    let found = tree_module(alloc, &tree)?;
+    told(alloc, parts, found)
 }
 
 /// The module of an input that is admitted, or its refusal. `NoMemory`: there is a part or a definition, and out of memory.
 pub(crate) fn input_module(alloc: Global, input: &InputTree) -> Result<Module, FrontError>
     requires { HasFewParts input.now }
     ensures admitted { OnOk result (IsAdmittedInput input.now) }
-    ensures value { IfOk result (λ m. m ≡ module_of (flat input.now)) }
+    ensures value { IfOk result (λ m. m ≡ input_module input.now) }
     ensures err { IfErr result (λ e. (e ≡ FrontError.NoMemory) ⊎ RefusesInput input.now e) }
     ensures memory { result ≡ Err FrontError.NoMemory → IsFilled input.now }
 {

@@ -1,4 +1,4 @@
--- The first token of a spelling is of the kinds that begin one, and only where a spelling may be empty has it no token.
+-- The first token of a spelling is of the kinds that begin one, and only where a spelling may be empty has it no token. Cited by other crates.
 use Rattle.std.proofs.Common.{◌≡◌, Bool, true, false, cond, List, [], ◌∷◌, ◌++◌, Option, Some, None, refl, sym, subst, inl, inr}
 use Rattle.td_ast.specs.declared.token.Token.{Token}
 use Rattle.td_ast.specs.Kinds.{number_of_kind}

@@ -5,7 +5,7 @@ use Rattle.std.proofs.lemmas.Option.{slice_get_within, slice_get-map, slice_get-
 use mathlib.Core.Logic.{dite}
 use native.Mathlib.Decide.{ℕ_discrete}
 use Rattle.std.specs.List.{All}
-use Rattle.std.proofs.lemmas.List.{drop_more, drop_all}
+use Rattle.std.proofs.lemmas.List.{drop_more, drop_all, append-nil}
 use Rattle.std.proofs.lemmas.List.Elements.{All-contains, Contains-append_left, Contains-append_right, Contains-get_or}
 use Rattle.td_words.specs.Views.{new_seat, one_more}
 use Rattle.td_words.specs.Seats.{BufferState, HostState, with_view, seat_state}
@@ -36,7 +36,6 @@ use Rattle.td_actors.specs.Actors.{Service, IsTakerReady}
 use Rattle.td_actors.specs.Acting.{most_frames, AreArmed, RoomsFor, StoresInside, post_of}
 use Rattle.td_actors.proofs.Posting.{Posting, mail_by, mails_post}
 use Rattle.td_host.specs.Gathered.{FreshWorker, FreshWorkers, FreshGuest, FreshGuests, FreshTaker, FreshTakers, WorkersSeated, GuestsSeated, TakersSeated, Armed, host_at, posts_at, takes_at, draws_at}
-use Rattle.td_actors.proofs.Plays.{append_nil}
 
 -- ---- posts of a script that is gone through
 pub record Listing (guest : ℕ) (whole : List Step) (before mails : List Mail) (rest : List Step) (number made : ℕ) : Type 0 where
@@ -64,7 +63,7 @@ module _ (guest : ℕ) (whole : List Step) (before : List Mail) where
 
     pub lists_all : rest ≡ [] → mails ≡ before ++ mails_of guest whole
     unfolding mails_from
-    lists_all e = sym (append_nil mails) ∙ (ap (λ x. mails ++ mails_from guest (number + 1) made x) (sym e) ∙ p.is)
+    lists_all e = sym (append-nil mails) ∙ (ap (λ x. mails ++ mails_from guest (number + 1) made x) (sym e) ∙ p.is)
 
 -- ---- all posts
 pub all_none : (ss : List (List Step)) → [] ++ all_mails 1 (drop 0 ss) ≡ all_mails 1 ss
@@ -78,7 +77,7 @@ all_more ss i d mails mails' lt e f =
 
 pub all_over : (ss : List (List Step)) (i : ℕ) (mails : List Mail) → length ss ≤ i → mails ++ all_mails (i + 1) (drop i ss) ≡ all_mails 1 ss → mails ≡ all_mails 1 ss
 unfolding all_mails
-all_over ss i mails le e = sym (append_nil mails) ∙ (ap (λ x. mails ++ all_mails (i + 1) x) (sym (drop_all i ss le)) ∙ e)
+all_over ss i mails le e = sym (append-nil mails) ∙ (ap (λ x. mails ++ all_mails (i + 1) x) (sym (drop_all i ss le)) ∙ e)
 
 -- what holds of all posts holds of those of each guest
 pub of_guest : (P : Mail → Type 0) (g : ℕ) (ss : List (List Step)) (k : ℕ) (d : List Step) → k < length ss → All P (all_mails g ss) → All P (mails_of (g + k) (slice_index_or ss k d))
@@ -132,7 +131,7 @@ module _ (names : Post → Type 0) (P : Mail → Type 0) (guest : ℕ) (whole : 
 
     pub rooms_all : rest ≡ [] → RoomsFor names (mails_of guest whole) rooms
     unfolding mails_from RoomsFor
-    rooms_all e = subst (RoomsFor names (mails_of guest whole)) (append_nil rooms) (p.more [] (subst (λ x. RoomsFor names (mails_from guest (number + 1) p.made x) []) (sym e) tt))
+    rooms_all e = subst (RoomsFor names (mails_of guest whole)) (append-nil rooms) (p.more [] (subst (λ x. RoomsFor names (mails_from guest (number + 1) p.made x) []) (sym e) tt))
 
 -- ---- workers and guests
 module _ {G : Type 0} where
@@ -190,7 +189,7 @@ module _ {G : Type 0} where
     pub no_guest : (seat : HostState) (posts : PassState) (actors : List (Actor G)) → actors ≡ workers → seat ≡ host_at shared.table job.words (length workers) → posts ≡ posts_at ring.queue 1 → Seating 0 seat posts actors
     no_guest seat posts actors e a b = record {
       guests = [];
-      are = e ∙ sym (append_nil workers);
+      are = e ∙ sym (append-nil workers);
       as_many = refl;
       seat_bound = 0;
       pass_bound = 0;
@@ -244,7 +243,7 @@ module _ {G : Type 0} where
     all_guests n seat posts actors p e = record {
       guests = p.guests;
       are = p.are;
-      fresh = subst (FreshGuests names shared ring job.words 1 0 0 job.guests) (append_nil p.guests) (p.more [] (subst (λ l. FreshGuests {G = G} names shared ring job.words (n + 1) p.seat_bound p.pass_bound l []) (sym (drop_all n job.guests (let z = e in omega arith))) tt));
+      fresh = subst (FreshGuests names shared ring job.words 1 0 0 job.guests) (append-nil p.guests) (p.more [] (subst (λ l. FreshGuests {G = G} names shared ring job.words (n + 1) p.seat_bound p.pass_bound l []) (sym (drop_all n job.guests (let z = e in omega arith))) tt));
       is_seat = p.is_seat ∙ ap (λ k. host_at shared.table job.words (length workers + k)) (sym p.as_many);
       is_posts = p.is_posts ∙ ap (λ k. posts_at ring.queue (1 + k)) (sym p.as_many);
     }
@@ -261,7 +260,7 @@ module _ {G : Type 0} where
     pub no_taker : (seat : HostState) (actors : List (Actor G)) → actors ≡ before → seat ≡ host_at shared.table job.words (length before) → Ringing 0 seat actors
     no_taker seat actors e a = record {
       takers = [];
-      are = e ∙ sym (append_nil before);
+      are = e ∙ sym (append-nil before);
       as_many = refl;
       more = λ tail f. f;
       is_seat = a ∙ ap (host_at shared.table job.words) (let z : length before ≡ length before + 0 = omega arith in z);
@@ -300,7 +299,7 @@ module _ {G : Type 0} where
     all_takers n seat actors p e e' = record {
       takers = p.takers;
       are = p.are;
-      fresh = subst (FreshTakers shared service job.words 1 job.rings whole) (append_nil p.takers)
+      fresh = subst (FreshTakers shared service job.words 1 job.rings whole) (append-nil p.takers)
           (p.more [] (subst (λ (l : List RingJob × List ReaderView). FreshTakers {G = G} shared service job.words (n + 1) l.0 l.1 []) (λ i. (sym (drop_all n job.rings e) i, sym (drop_all n whole e') i)) tt));
       is_seat = p.is_seat ∙ ap (λ k. host_at shared.table job.words (length before + k)) (sym p.as_many);
     }

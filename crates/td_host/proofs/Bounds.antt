@@ -1,7 +1,8 @@
 -- What arming rests on, of a job that can be served.
-use Rattle.std.proofs.Common.{◌≡◌, ℕ, ◌+◌, ◌<◌, ◌≤◌, ◌^◌, List, [], ◌∷◌, ◌++◌, length, refl, arith, length-append}
+use Rattle.std.proofs.Common.{◌≡◌, ℕ, ◌+◌, ◌<◌, ◌≤◌, ◌^◌, List, [], ◌∷◌, length, refl, arith, length-append}
 use Rattle.std.specs.List.{All}
 use Rattle.std.proofs.lemmas.List.Elements.{All-nil, All-cons, All-head, All-tail}
+use Rattle.td_num.proofs.Lists.{all_left, all_right}
 use Rattle.td_posts.specs.declared.job.Step.{Step}
 use Rattle.td_posts.specs.declared.job.Step.TheVariants as step
 use Rattle.td_posts.specs.declared.job.HostJob.{HostJob}
@@ -26,15 +27,6 @@ short p q g (s ∷ ss) small a b =
     let f = length-append (stores_of s) (all_stores ss) in
     let k = steps_are g 1 0 s in
     All-cons (λ (s : List Step). length s < 2 ^ 32) s ss (omega arith) (short p q (g + 1) ss small (omega arith) (omega arith))
-
-module _ {A : Type 0} (P : A → Type 0) where
-  all_left : (xs ys : List A) → All P (xs ++ ys) → All P xs
-  all_left [] ys a = All-nil P
-  all_left (x ∷ xs) ys a = All-cons P x xs (All-head P x (xs ++ ys) a) (all_left xs ys (All-tail P x (xs ++ ys) a))
-
-  all_right : (xs ys : List A) → All P (xs ++ ys) → All P ys
-  all_right [] ys a = a
-  all_right (x ∷ xs) ys a = all_right xs ys (All-tail P x (xs ++ ys) a)
 
 module _ (count : ℕ) where
   abbrev Below : ℕ × ℕ → Type 0

@@ -16,6 +16,7 @@ use Rattle.td_core.proofs.expressions.Binary.TheSendSync as binary
 use Rattle.td_core.proofs.expressions.Relation.TheSendSync as relation
 use Rattle.td_core.proofs.expressions.CoreExpr.TheLaws.TheKnot as expressions
 use Rattle.td_core.proofs.actions.Action.TheLaws.TheKnot as actions
+use Rattle.td_core.proofs.full_name.FullName.TheSendSync as full_name
 use Rattle.td_core.proofs.module.NameId.TheSendSync as name_id
 use Rattle.td_core.proofs.module.Bits.TheSendSync as bits
 use Rattle.td_core.proofs.module.Param.TheSendSync as param
@@ -43,7 +44,7 @@ use Rattle.td_ring.proofs.tickets.Tickets.TheSendSync as tickets
 use Rattle.td_swap.proofs.codes.Codes.TheSendSync as codes
 use Rattle.td_actors.specs.contracts.actor.Desk as desk
 
-pub ruleset leaves = (known.crosses, known.sync, step.the_sync, step.the_field_sync, post_name.the_sync, post_name.the_field_sync, ring_job.the_sync, ring_job.the_field_sync, span.the_field_sync, span.the_sync, number_type.the_field_sync, number_type.the_sync, items.the_sync, text.the_sync, scalar.the_field_sync, scalar.the_sync, binary.the_field_sync, binary.the_sync, relation.the_field_sync, relation.the_sync, name_id.the_field_sync, name_id.the_sync, bits.the_field_sync, bits.the_sync, param.the_field_sync, param.the_sync, cell.the_field_sync, cell.the_sync, entry.the_field_sync, entry.the_sync)
+pub ruleset leaves = (known.crosses, known.sync, step.the_sync, step.the_field_sync, post_name.the_sync, post_name.the_field_sync, ring_job.the_sync, ring_job.the_field_sync, span.the_field_sync, span.the_sync, number_type.the_field_sync, number_type.the_sync, items.the_sync, text.the_sync, scalar.the_field_sync, scalar.the_sync, binary.the_field_sync, binary.the_sync, relation.the_field_sync, relation.the_sync, full_name.the_sync, name_id.the_field_sync, name_id.the_sync, bits.the_field_sync, bits.the_sync, param.the_field_sync, param.the_sync, cell.the_field_sync, cell.the_sync, entry.the_field_sync, entry.the_sync)
 
 pub expr_sync : IsSync expr.the_row
 expr_sync = search (sendable, leaves, expressions.crosses) depth 12

@@ -4,7 +4,7 @@ use Rattle.std.specs.Prelude.{slice_index_or}
 use Rattle.std.specs.List.{All, Contains, sum_by}
 use Rattle.std.proofs.Math.Nat.{suc-mul}
 use Rattle.std.proofs.lemmas.Bool.{lt-ltb, le-ltb}
-use Rattle.std.proofs.lemmas.List.{map-append}
+use Rattle.std.proofs.lemmas.List.{map-append, append-nil}
 use Rattle.std.proofs.lemmas.List.Elements.{All-nil, All-cons, All-head, All-tail, All-append, Contains-append_left, Contains-append_right, Contains-get_or}
 use Rattle.std.proofs.lemmas.List.Sums.{sum_by-append, sum_by-cons}
 use Rattle.td_words.specs.declared.view.SeatView.{SeatView}
@@ -36,7 +36,6 @@ use Rattle.td_actors.specs.Acting.{acts_of, guest_seat, read_seat, post_pass, ta
 use Rattle.td_actors.specs.Actors.{Service, Did}
 use Rattle.td_host.specs.Gathered.{view_of, put_one, take_one, draw_one, swap_one, seats_all, puts_all, takes_all, draws_all, swaps_all, all_replies, takes_of_all, FreshWorkers, FreshGuests}
 use Rattle.td_host.proofs.Shares.{one_below}
-use Rattle.td_actors.proofs.Plays.{append_nil}
 
 stores_acts : (script : List Step) → stores (acts_of script) ≡ stores_of script
 unfolding acts_of stores_of
@@ -128,7 +127,7 @@ module _ {G : Type 0} where
   -- ---- what is gathered
   pub seats_are : (h : HostView) (ds : List (Actor G)) → seats_all h ds ≡ host_view h.opened h.made (h.ended ++ map view_of ds)
   unfolding seats_all
-  seats_are h [] = ap (host_view h.opened h.made) (sym (append_nil h.ended))
+  seats_are h [] = ap (host_view h.opened h.made) (sym (append-nil h.ended))
   seats_are h (a ∷ ds) = seats_are (with_ended h (view_of a)) ds ∙ ap (host_view h.opened h.made) (append_assoc h.ended (view_of a ∷ []) (map view_of ds))
 
   put_one_is : (h : Head Post) (p t : Option (Part Post)) (th : Option (Head Post)) (a : Actor G) → put_one (ring_view (Some h) p th t) a ≡ ring_view (part_ended (Some h) (put_of a)) p th t
@@ -151,20 +150,20 @@ module _ {G : Type 0} where
 
   swap_one_is : (v : SwapView) (a : Actor G) → swap_one v a ≡ swap_view v.count v.loads (v.ended ++ swaps_of a)
   swap_one_is v (kind.Worker w) = refl
-  swap_one_is v (kind.Guest g) = ap (swap_view v.count v.loads) (sym (append_nil v.ended))
-  swap_one_is v (kind.Ring r) = ap (swap_view v.count v.loads) (sym (append_nil v.ended))
-  swap_one_is v (kind.Publisher q) = ap (swap_view v.count v.loads) (sym (append_nil v.ended))
+  swap_one_is v (kind.Guest g) = ap (swap_view v.count v.loads) (sym (append-nil v.ended))
+  swap_one_is v (kind.Ring r) = ap (swap_view v.count v.loads) (sym (append-nil v.ended))
+  swap_one_is v (kind.Publisher q) = ap (swap_view v.count v.loads) (sym (append-nil v.ended))
 
   pub swaps_are : (v : SwapView) (ds : List (Actor G)) → swaps_all v ds ≡ swap_view v.count v.loads (v.ended ++ swap_lists ds)
   unfolding swaps_all swap_lists
-  swaps_are v [] = ap (swap_view v.count v.loads) (sym (append_nil v.ended))
+  swaps_are v [] = ap (swap_view v.count v.loads) (sym (append-nil v.ended))
   swaps_are v (a ∷ ds) =
       ap (λ x. swaps_all x ds) (swap_one_is v a) ∙ (swaps_are (swap_view v.count v.loads (v.ended ++ swaps_of a)) ds ∙ ap (swap_view v.count v.loads) (append_assoc v.ended (swaps_of a) (swap_lists ds)))
 
   pub puts_are : (made : ℕ) (ended : List (Part Post)) (p t : Option (Part Post)) (th : Option (Head Post)) (ds : List (Actor G))
       → puts_all (ring_view (Some (head_of made ended)) p th t) ds ≡ ring_view (Some (head_of made (ended ++ put_parts ds))) p th t
   unfolding puts_all put_parts cons_opt
-  puts_are made ended p t th [] = ap (λ e. ring_view (Some (head_of made e)) p th t) (sym (append_nil ended))
+  puts_are made ended p t th [] = ap (λ e. ring_view (Some (head_of made e)) p th t) (sym (append-nil ended))
   puts_are made ended p t th (a ∷ ds) = ap (λ v. puts_all v ds) (put_one_is (head_of made ended) p t th a) ∙ here (λ e. puts_are made e p t th ds) (put_of a)
     where
       here : ((e : List (Part Post)) → puts_all (ring_view (Some (head_of made e)) p th t) ds ≡ ring_view (Some (head_of made (e ++ put_parts ds))) p th t) → (o : Option (Part Post)) → puts_all (ring_view (part_ended (Some (head_of made ended)) o) p th t) ds ≡ ring_view (Some (head_of made (ended ++ cons_opt o (put_parts ds)))) p th t
@@ -174,7 +173,7 @@ module _ {G : Type 0} where
   pub takes_are : (made : ℕ) (ended : List (Part Post)) (p t : Option (Part Post)) (ph : Option (Head Post)) (ds : List (Actor G))
       → takes_all (ring_view ph p (Some (head_of made ended)) t) ds ≡ ring_view ph p (Some (head_of made (ended ++ take_parts ds))) t
   unfolding takes_all take_parts cons_opt
-  takes_are made ended p t ph [] = ap (λ e. ring_view ph p (Some (head_of made e)) t) (sym (append_nil ended))
+  takes_are made ended p t ph [] = ap (λ e. ring_view ph p (Some (head_of made e)) t) (sym (append-nil ended))
   takes_are made ended p t ph (a ∷ ds) = ap (λ v. takes_all v ds) (take_one_is (head_of made ended) p t ph a) ∙ here (λ e. takes_are made e p t ph ds) (take_of a)
     where
       here : ((e : List (Part Post)) → takes_all (ring_view ph p (Some (head_of made e)) t) ds ≡ ring_view ph p (Some (head_of made (e ++ take_parts ds))) t) → (o : Option (Part Post)) → takes_all (ring_view ph p (part_ended (Some (head_of made ended)) o) t) ds ≡ ring_view ph p (Some (head_of made (ended ++ cons_opt o (take_parts ds)))) t
@@ -184,7 +183,7 @@ module _ {G : Type 0} where
   pub draws_are : (made : ℕ) (ended : List (Part ℕ)) (d : Option (Part ℕ)) (ds : List (Actor G))
       → draws_all (ticket_view (Some (head_of made ended)) d) ds ≡ ticket_view (Some (head_of made (ended ++ draw_parts ds))) d
   unfolding draws_all draw_parts cons_opt
-  draws_are made ended d [] = ap (λ e. ticket_view (Some (head_of made e)) d) (sym (append_nil ended))
+  draws_are made ended d [] = ap (λ e. ticket_view (Some (head_of made e)) d) (sym (append-nil ended))
   draws_are made ended d (a ∷ ds) = ap (λ v. draws_all v ds) (draw_one_is (head_of made ended) d a) ∙ here (λ e. draws_are made e d ds) (draw_of a)
     where
       here : ((e : List (Part ℕ)) → draws_all (ticket_view (Some (head_of made e)) d) ds ≡ ticket_view (Some (head_of made (e ++ draw_parts ds))) d) → (o : Option (Part ℕ)) → draws_all (ticket_view (part_ended (Some (head_of made ended)) o) d) ds ≡ ticket_view (Some (head_of made (ended ++ cons_opt o (draw_parts ds)))) d

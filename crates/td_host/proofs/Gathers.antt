@@ -2,6 +2,7 @@
 use Rattle.std.proofs.Common.{◌≡◌, ℕ, ◌+◌, ◌≤◌, List, [], ◌∷◌, ◌++◌, length, Option, Some, None, refl, sym, ap, ◌∙◌, subst, arith, append_assoc, length-append}
 use Rattle.std.specs.List.{All}
 use Rattle.std.proofs.lemmas.List.Elements.{All-head, All-tail}
+use Rattle.std.proofs.lemmas.List.{append-nil}
 use Rattle.td_words.specs.Views.{with_ended}
 use Rattle.td_words.specs.Seats.{BufferState, HostState, with_view}
 use Rattle.td_roll.specs.declared.parts.Part.{Part}
@@ -23,7 +24,6 @@ use Rattle.td_actors.specs.declared.actor.Actor.{Actor}
 use Rattle.td_actors.specs.declared.actor.Actor.TheVariants as kind
 use Rattle.td_actors.specs.Actors.{replies_of}
 use Rattle.td_host.specs.Gathered.{view_of, IsAt, put_one, take_one, draw_one, swap_one, takes_of, seats_all, puts_all, takes_all, draws_all, swaps_all, all_replies, takes_of_all}
-use Rattle.td_actors.proofs.Plays.{append_nil}
 
 put_keeps : (h : Option (Head Post)) (p : Option (Part Post)) → HasHead h → HasHead (part_ended h p)
 put_keeps None p e = e
@@ -88,7 +88,7 @@ module _ {G : Type 0} where
 
   pub made_all : (whole : List (Actor G)) (made0 : List Take) (rest : List (Actor G)) (made : List Take) → MadeSoFar whole made0 rest made → length rest ≡ 0 → made ≡ made0 ++ takes_of_all whole
   unfolding takes_of_all
-  made_all whole made0 rest made so e = sym (append_nil made) ∙ (ap (λ xs. made ++ takes_of_all xs) (sym (no_actor rest e)) ∙ so)
+  made_all whole made0 rest made so e = sym (append-nil made) ∙ (ap (λ xs. made ++ takes_of_all xs) (sym (no_actor rest e)) ∙ so)
 
   put_head : (v : RingView) (a : Actor G) → HasHead v.put_head → HasHead (put_one v a).put_head
   put_head v (kind.Worker w) e = e
@@ -177,6 +177,6 @@ module _ {G : Type 0} where
             (λ i. record { queue = q.posts_own i; view = q.puts i }),
             (λ i. record { queue = q.takes_own i; view = q.takings i }),
             (λ i. record { table = q.drawer_own i; view = q.draws i }),
-            sym (append_nil found) ∙ q.replies,
+            sym (append-nil found) ∙ q.replies,
             (λ i. record { table = q.swap_same i; view = q.numbers i }),
           )

@@ -5,11 +5,11 @@ use Rattle.std.specs.List.{All}
 use Rattle.std.specs.List.Sorted.{IsPermutation}
 use Rattle.std.proofs.lemmas.List.Elements.{All-nil, All-head, All-tail, All-append}
 use Rattle.std.proofs.lemmas.List.Sorted.{All-permutation}
+use Rattle.td_num.proofs.Lists.{all_left}
 use Rattle.td_posts.specs.declared.reply.Reply.{Reply}
 use Rattle.td_actors.specs.declared.actor.Actor.{Actor}
 use Rattle.td_actors.specs.Actors.{replies_of}
 use Rattle.td_host.specs.Gathered.{all_replies}
-use Rattle.td_host.proofs.Wholes.{ahead}
 
 module _ {G : Type 0} (P : Reply → Type 0) where
   -- what holds of each reply of each actor holds of all of them
@@ -27,5 +27,5 @@ module _ {G : Type 0} (P : Reply → Type 0) where
   put all news last n found replies count each are is order =
       let Of : Actor G → Type 0 = λ b. All P (replies_of b) in
       let every : All Of all = λ i d lt. each i d (subst (λ k. i < k) count lt) in
-      let those : All Of news = ahead Of news (last ∷ []) (subst (All Of) are every) in
+      let those : All Of news = all_left Of news (last ∷ []) (subst (All Of) are every) in
       All-permutation P found replies order (subst (All P) (sym is) (of_all news those))

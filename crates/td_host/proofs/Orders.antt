@@ -4,7 +4,7 @@ use Rattle.std.specs.Prelude.{slice_index_or}
 use Rattle.std.specs.List as holes
 use Rattle.std.specs.List.{All, sum_by}
 use Rattle.std.specs.List.Sorted.{IsPermutation}
-use Rattle.std.proofs.lemmas.List.{map-append, length-map, length-take-le, take_more, drop_more, drop_all, take_all}
+use Rattle.std.proofs.lemmas.List.{map-append, length-map, length-take-le, take_more, drop_more, drop_all, take_all, append-nil}
 use Rattle.std.proofs.lemmas.List.Elements.{All-head, All-tail}
 use Rattle.std.proofs.lemmas.List.Sums.{sum_by-cons}
 use Rattle.std.proofs.lemmas.List.Sorted.{IsPermutation-map, IsPermutation-swap_remove, IsPermutation-pop_more, sum_by-IsPermutation}
@@ -12,7 +12,6 @@ use Rattle.td_posts.specs.declared.name.PostName.{PostName}
 use Rattle.td_posts.specs.declared.mail.Mail.{Mail}
 use Rattle.td_posts.specs.declared.reply.Reply.{Reply}
 use Rattle.td_posts.specs.Posts.{same_name, reply_name}
-use Rattle.td_actors.proofs.Plays.{append_nil}
 use Rattle.td_posts.proofs.Unique.{own_name}
 
 abbrev r_name : Reply → PostName
@@ -90,5 +89,5 @@ pub ends : (mails : List Mail) (found : List Reply) (i : ℕ) (replies left : Li
 ends mails found i replies left o over =
     let none : left ≡ [] = no_more left (o.same (λ n. 1) ∙ ap (λ l. sum_by (λ (n : PostName). 1) (map m_name l)) (drop_all i mails over)) in (
       o.named ∙ ap (map m_name) (take_all i mails over),
-      subst (IsPermutation found) (ap (λ l. replies ++ l) none ∙ append_nil replies) o.order,
+      subst (IsPermutation found) (ap (λ l. replies ++ l) none ∙ append-nil replies) o.order,
     )

@@ -1,5 +1,5 @@
 -- What serving asks of its parts, from how the host is armed.
-use Rattle.std.proofs.Common.{◌≡◌, ℕ, zero, suc, ◌+◌, ◌<◌, ◌^◌, List, [], ◌∷◌, ◌++◌, length, take, drop, refl, sym, ap, ◌∙◌, subst, arith, length-append}
+use Rattle.std.proofs.Common.{◌≡◌, ℕ, ◌+◌, ◌<◌, ◌^◌, List, [], ◌∷◌, ◌++◌, length, refl, sym, ap, ◌∙◌, subst, arith, length-append}
 use Rattle.std.specs.Prelude.{slice_index_or}
 use Rattle.std.specs.List.{All}
 use Rattle.std.proofs.lemmas.List.Elements.{All-nil, All-cons, All-append, All-push}
@@ -24,17 +24,6 @@ use Rattle.td_descr.specs.Ring.{ReaderView}
 use Rattle.td_takes.specs.Takes.{RanRing}
 use Rattle.td_host.specs.Gathered.{IsAt, FreshWorkers, FreshGuests, FreshTakers, Armed}
 use Rattle.td_host.proofs.Ends.{DidAll, did_all, did_both}
-
-take_part : {A : Type 0} (xs ys : List A) (n : ℕ) → length xs ≡ n → take n (xs ++ ys) ≡ xs
-take_part [] [] zero e = refl
-take_part [] (y ∷ ys) zero e = refl
-take_part [] ys (suc n) e = absurd (omega arith)
-take_part (x ∷ xs) ys zero e = absurd (omega arith)
-take_part (x ∷ xs) ys (suc n) e = ap (λ l. x ∷ l) (take_part xs ys n (omega arith))
-
--- what a vector has whose slice was lent
-pub lent : {A : Type 0} (n : ℕ) (xs ys : List A) → length xs ≡ n → take n (xs ++ drop (length xs) ys) ≡ xs
-lent n xs ys e = take_part xs (drop (length xs) ys) n e
 
 module _ {G : Type 0} (names : Post → Type 0) (shared : BufferState) (ring : RingState) (service : Service) where
   workers_ready : (opened : List ℕ) (ds : List (Actor G)) → FreshWorkers shared ring service opened ds → All (IsReady names shared ring service) ds

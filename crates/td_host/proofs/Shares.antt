@@ -1,5 +1,5 @@
 -- What all passes and seats together took and drew.
-use Rattle.std.proofs.Common.{◌≡◌, ℕ, zero, suc, ◌+◌, ◌%◌, ◌^◌, ◌<◌, ◌≤◌, cond, ltb, List, [], ◌∷◌, ◌++◌, length, Some, refl, ap, ◌∙◌, subst, arith, length-append}
+use Rattle.std.proofs.Common.{◌≡◌, ℕ, zero, suc, ◌+◌, ◌%◌, ◌^◌, ◌<◌, ◌≤◌, cond, ltb, List, [], ◌++◌, length, Some, ap, ◌∙◌, subst, arith, length-append}
 use mathlib.Core.Logic.{dite}
 use native.Mathlib.Decide.{dec_lt}
 use Rattle.std.specs.List.{All, Contains, sum_by}
@@ -8,6 +8,7 @@ use Rattle.std.proofs.lemmas.Bool.{lt-ltb}
 use Rattle.std.proofs.lemmas.List.Elements.{All-nil, All-push, All-weaker, All-contains}
 use Rattle.std.proofs.lemmas.List.Sorted.{IsPermutation-sym, IsPermutation-trans, length_permutation, sum_by-IsPermutation, Contains-permutation}
 use Rattle.std.proofs.lemmas.List.Sums.{sum_by_push}
+use Rattle.std.proofs.lemmas.List.{append-nil, nil_from_length}
 use Rattle.td_roll.specs.declared.parts.Part.{Part}
 use Rattle.td_roll.specs.declared.parts.Head.{Head}
 use Rattle.td_roll.specs.Roll.{Entry, all_entries, owned}
@@ -19,17 +20,12 @@ use Rattle.td_ring.specs.Laws.{AllGathered}
 use Rattle.td_ring.proofs.Shares.{all_owned}
 use Rattle.td_ring.specs.declared.view.TicketView.{TicketView}
 use Rattle.td_ring.specs.Tickets.{counted, Told as Drawn}
-use Rattle.td_actors.proofs.Plays.{append_nil}
 
 -- ---- the ring
 -- where the head's own part added nothing, the others' are all
 others_own : {A : Type 0} (log : List (Entry A)) (h : Head A) (p : Part A) → AreInLog log h p → p.own ≡ [] → AllGathered h → IsPermutation (all_entries log) (owned h.ended)
 unfolding owned
 others_own log h p t none whole = subst (λ l. IsPermutation (all_entries log) (l ++ owned h.ended)) none (all_owned log h p t whole)
-
-no_items : {A : Type 0} (items : List A) → length items ≡ 0 → items ≡ []
-no_items [] e = refl
-no_items (x ∷ items) e = absurd (omega arith)
 
 -- where as many were taken as were posted, what was taken is what was posted
 pub all_taken : (v : RingView) (items : List Post) (posts takes : Head Post) (p t : Part Post) → Settled v items
@@ -42,8 +38,8 @@ all_taken v items posts takes p t s a b c d none none' whole whole' many =
     let l = length_permutation (all_entries s.posted) (owned posts.ended) x in
     let m = length_permutation (all_entries s.taken) (owned takes.ended) y in
     let k : length (all_entries s.posted) ≡ length (all_entries s.taken) + length items = ap length s.queue ∙ length-append (all_entries s.taken) items in
-    let z : items ≡ [] = no_items items (omega arith) in
-    let same : all_entries s.posted ≡ all_entries s.taken = s.queue ∙ (ap (λ i. all_entries s.taken ++ i) z ∙ append_nil (all_entries s.taken)) in
+    let z : items ≡ [] = nil_from_length items (omega arith) in
+    let same : all_entries s.posted ≡ all_entries s.taken = s.queue ∙ (ap (λ i. all_entries s.taken ++ i) z ∙ append-nil (all_entries s.taken)) in
     IsPermutation-trans (owned takes.ended) (all_entries s.taken) (owned posts.ended)
     (IsPermutation-sym (all_entries s.taken) (owned takes.ended) y)
     (subst (λ q. IsPermutation q (owned posts.ended)) same x)

@@ -1,11 +1,11 @@
 -- All posts are served, from what each actor did and what the ring, the tickets and the buffer tell.
 use Rattle.std.proofs.Common.{◌≡◌, ℕ, suc, ◌+◌, ◌*◌, ◌<◌, ◌≤◌, ◌^◌, ◌-◌, List, [], ◌∷◌, ◌++◌, map, length, Option, Some, None, refl, sym, ap, ◌∙◌, subst, ⊎_elim, arith, append_assoc, length-append}
-use Rattle.std.specs.Prelude.{slice_index_or}
 use Rattle.std.specs.List.{All, Contains, sum_by}
 use Rattle.std.specs.List.Sorted.{IsPermutation}
-use Rattle.std.proofs.lemmas.List.{map-append, length-map}
-use Rattle.std.proofs.lemmas.List.Elements.{All-nil, All-contains, Contains-append_left, Contains-append_right, Contains-get_or}
+use Rattle.std.proofs.lemmas.List.{map-append, length-map, append-nil}
+use Rattle.std.proofs.lemmas.List.Elements.{All-nil}
 use Rattle.std.proofs.lemmas.List.Sorted.{IsPermutation-map, All-permutation, sum_by-IsPermutation}
+use Rattle.td_num.proofs.Lists.{all_right}
 use Rattle.td_posts.specs.declared.name.PostName.{PostName}
 use Rattle.td_words.specs.declared.view.HostView.{HostView}
 use Rattle.td_words.specs.Views.{host_view}
@@ -43,7 +43,6 @@ use Rattle.td_host.proofs.Takings.{TakersDone, takers_done}
 use Rattle.td_host.specs.Hosts.{takes_in}
 use Rattle.td_host.proofs.Unique.{replies_to}
 use Rattle.td_host.proofs.Fetching.{fetches}
-use Rattle.td_actors.proofs.Plays.{append_nil}
 
 -- what the guests posted is what the scripts have
 labels_all : (g m : ℕ) (ss : List (List Step)) (ps : List (Part Post)) → ArePosted g m ss ps → map label (owned ps) ≡ map mail_label (all_mails g ss)
@@ -78,14 +77,6 @@ joined-map : {A B : Type 0} (f : A → B) (xss : List (List A)) → joined (map 
 unfolding joined
 joined-map f [] = refl
 joined-map f (xs ∷ xss) = ap (λ l. map f xs ++ l) (joined-map f xss) ∙ sym (map-append f xs (joined xss))
-
--- what holds of all holds of those ahead, and of those behind
-module _ {A : Type 0} (P : A → Type 0) where
-  pub ahead : (xs ys : List A) → All P (xs ++ ys) → All P xs
-  ahead xs ys a k d lt = All-contains P (xs ++ ys) (slice_index_or xs k d) a (Contains-append_left xs ys (slice_index_or xs k d) (Contains-get_or xs k d lt))
-
-  behind : (xs ys : List A) → All P (xs ++ ys) → All P ys
-  behind xs ys a k d lt = All-contains P (xs ++ ys) (slice_index_or ys k d) a (Contains-append_right xs ys (slice_index_or ys k d) (Contains-get_or ys k d lt))
 
 module _ {G : Type 0} where
   puts-append : (xs ys : List (Actor G)) → put_parts (xs ++ ys) ≡ put_parts xs ++ put_parts ys
@@ -165,7 +156,7 @@ module _ {G : Type 0} where
           stored_by = guests_done job mails names shared ring job.words 1 0 0 job.guests a.guests rs a.fresh_guests e.3;
           before = a.takers;
           taken_by = takers_done job mails shared service 1 job.rings a.readers a.takers ts a.fresh_takers e.4;
-          described = λ m all. behind (IsDescribedBy m) a.guests a.takers (behind (IsDescribedBy m) a.workers (a.guests ++ a.takers) (subst (All (IsDescribedBy m)) a.are all));
+          described = λ m all. all_right (IsDescribedBy m) a.guests a.takers (all_right (IsDescribedBy m) a.workers (a.guests ++ a.takers) (subst (All (IsDescribedBy m)) a.are all));
           as_many = w ∙ a.as_many;
           some_worker = omega arith;
           host = ap (λ (k : HostState). k.view) a.host ∙ (λ i. host_view job.words (sym w i + (sym g i + sym t i)) []);
@@ -178,11 +169,11 @@ module _ {G : Type 0} where
       -- of the three lists only one has any
       of_middle : {A : Type 0} (of : List (Actor G) → List A) → ((xs ys : List (Actor G)) → of (xs ++ ys) ≡ of xs ++ of ys) → of h.workers ≡ [] → of h.takers ≡ [] → of news ≡ of h.guests
       of_middle of split none none' =
-          ap of h.are ∙ (split h.workers (h.guests ++ h.takers) ∙ ((λ i. none i ++ split h.guests h.takers i) ∙ (ap (λ l. of h.guests ++ l) none' ∙ append_nil (of h.guests))))
+          ap of h.are ∙ (split h.workers (h.guests ++ h.takers) ∙ ((λ i. none i ++ split h.guests h.takers i) ∙ (ap (λ l. of h.guests ++ l) none' ∙ append-nil (of h.guests))))
 
       of_first : {A : Type 0} (of : List (Actor G) → List A) → ((xs ys : List (Actor G)) → of (xs ++ ys) ≡ of xs ++ of ys) → of h.guests ≡ [] → of h.takers ≡ [] → of news ≡ of h.workers
       of_first of split none none' =
-          ap of h.are ∙ (split h.workers (h.guests ++ h.takers) ∙ (ap (λ l. of h.workers ++ l) (split h.guests h.takers ∙ (λ i. none i ++ none' i)) ∙ append_nil (of h.workers)))
+          ap of h.are ∙ (split h.workers (h.guests ++ h.takers) ∙ (ap (λ l. of h.workers ++ l) (split h.guests h.takers ∙ (λ i. none i ++ none' i)) ∙ append-nil (of h.workers)))
 
       of_last : {A : Type 0} (of : List (Actor G) → List A) → ((xs ys : List (Actor G)) → of (xs ++ ys) ≡ of xs ++ of ys) → of h.workers ≡ [] → of h.guests ≡ [] → of news ≡ of h.takers
       of_last of split none none' =

@@ -45,10 +45,10 @@ fn serve_under<J: Naming + Send + Sync, R: Threads + Wait + Sync, G: Gate + Send
     Ok(host.into_served(alloc))
 }
 
-/// Serves the posts of a job that is done by these codes, one for each of its versions, in their order, and makes the takes of its rings
-/// by these readers, one for each ring, in their order, with a gate for each worker and then one for each guest. It gives the job back
-/// with the replies, by guest and number, each in the memory of its room, and the takes, by ring and number. `AllocError`: there was no memory for the room; then no
-/// thread was started and no word loaded.
+/// Serves the posts of a job that is done by these codes, one for each of its versions, in their order, and makes the takes of
+/// its rings by these readers, one for each ring, in their order, with a gate for each worker and then one for each guest. It
+/// gives the job back with the replies, by guest and number, each in the memory of its room, and the takes, by ring and number.
+/// `AllocError`: there was no memory for the room; then no thread was started and no word loaded.
 pub fn serve_job<R: Threads + Wait + Sync, G: Gate + Send + Drop>(
     rt: &R,
     alloc: Global,

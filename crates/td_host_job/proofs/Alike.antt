@@ -1,6 +1,6 @@
 -- Two lists of parameters, cells or copy buffers are the same, or they aren't.
-use Rattle.std.proofs.Common.{◌≡◌, ℕ, List, [], ◌∷◌, Bool, true, false, Option, Some, None, ◌⊎◌, inl, inr, refl, ap, arith}
-use Rattle.std.proofs.lemmas.Bool.{cases_order}
+use Rattle.std.proofs.Common.{◌≡◌, ℕ, List, [], ◌∷◌, Bool, true, false, Option, Some, None, ◌⊎◌, inl, inr, refl, ap}
+use Rattle.std.proofs.lemmas.Bool.{cases_eq}
 use Rattle.std.proofs.lemmas.Slice.Eq.{bytes_eq-Decides}
 use Rattle.std.specs.Prelude.{bytes_eq}
 use Rattle.td_num.specs.declared.number.Width.{Width}
@@ -18,12 +18,6 @@ name_decided a b = by_test (bytes_eq a b) refl
     by_test : (test : Bool) → bytes_eq a b ≡ test → Decided (a ≡ b)
     by_test true e = inl ((bytes_eq-Decides a b).0 e)
     by_test false e = inr (λ same. let yes = (bytes_eq-Decides a b).1 same in cc)
-
-number_decided : (a b : ℕ) → Decided (a ≡ b)
-number_decided a b = elim (cases_order a b) [
-  | inl same ↦ inl same
-  | inr other ↦ inr (λ e. elim other [ inl less ↦ omega (arith, less, e) | inr more ↦ omega (arith, more, e) ])
-]
 
 field_decided : (a b : Option (List ℕ)) → Decided (a ≡ b)
 field_decided None None = inl refl
@@ -80,7 +74,7 @@ pub room_decided : (a b : NamedRoom) → Decided (a ≡ b)
 room_decided a b =
     elim (name_decided a.name b.name) [
       | inr other ↦ inr (λ e. other (ap (λ (n : NamedRoom). n.name) e))
-      | inl name ↦ elim (number_decided a.room b.room) [
+      | inl name ↦ elim (cases_eq a.room b.room) [
         | inr other ↦ inr (λ e. other (ap (λ (n : NamedRoom). n.room) e))
         | inl room ↦ inl (λ i. record { name = name i; room = room i })
       ]

@@ -14,7 +14,7 @@ use crate::copies::buffers_in;
 use crate::guests::listed;
 use serde_json::Value;
 use std::alloc::{AllocError, Global};
-use td_core::entries::name_bytes;
+use td_core::entries::is_same_name;
 use td_core::module::{Buffer, Cell, Entry, Module, NameId, Param, TypeDef};
 use td_front::{FrontError, check_module};
 use td_job::checks::entry_of;
@@ -60,13 +60,6 @@ fn cells_in(definition: Option<&TypeDef>) -> &[Cell]
         None => &[],
         Some(definition) => definition.cells.as_slice(),
     }
-}
-
-/// Whether two names have the same bytes.
-fn is_same_name(m: &Module, one: NameId, f: &Module, other: NameId) -> bool
-    ensures { IsTrue result ↔ (name_bytes m.now one ≡ name_bytes f.now other) }
-{
-    name_bytes(m, one) == name_bytes(f, other)
 }
 
 /// Whether both are names of the same bytes, or both are none.

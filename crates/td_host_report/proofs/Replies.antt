@@ -7,6 +7,7 @@ use Rattle.std.proofs.lemmas.Fmt.{decimal_injective}
 use Rattle.std.proofs.lemmas.Grind.{flat_map-append}
 use Rattle.std.proofs.lemmas.List.Elements.{All-head, All-tail, All-cons, All-nil}
 use Rattle.std.specs.List.{All}
+use Rattle.std.proofs.lemmas.List.{append-nil}
 use Rattle.td_core.specs.declared.module.Module.{Module}
 use Rattle.td_core.specs.declared.module.Entry.{Entry}
 use Rattle.td_report.specs.Report.{line}
@@ -38,16 +39,12 @@ version_words v = codes "version " ++ decimal v
 abbrev version_lines : ℕ → ℕ → List (List ℕ)
 version_lines versions v = cond (nat_lt 1 versions) (version_words v ∷ []) []
 
-append_nil : {A : Type 0} (xs : List A) → xs ++ [] ≡ xs
-append_nil [] = refl
-append_nil (x ∷ xs) = ap (λ l. x ∷ l) (append_nil xs)
-
 version_by_lines : (versions v : ℕ) → version_line versions v ≡ flat_map line (version_lines versions v)
 unfolding version_line
 version_by_lines versions v = by (nat_lt 1 versions)
   where
     by : (b : Bool) → cond b (line (version_words v)) [] ≡ flat_map line (cond b (version_words v ∷ []) [])
-    by true = sym (append_nil (line (version_words v)))
+    by true = sym (append-nil (line (version_words v)))
     by false = refl
 
 version_others : (c versions v : ℕ) → 115 ≢ c → All (Others c) (version_lines versions v)

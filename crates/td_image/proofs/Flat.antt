@@ -35,6 +35,10 @@ pub site_same : (n r : ℕ) (x : Site) → (format.site Third n r).bytes x ≡ r
 unfolding format.site
 site_same n r x = refl
 
+pub name_flat : (x : List ℕ) → rows.name x ≡ to_le_bytes w32 (length x) ++ x
+unfolding format.name
+name_flat x = refl
+
 pub name_same : (s : List (List ℕ)) (x : List ℕ) → (format.name Third s).bytes x ≡ rows.name x
 unfolding format.name
 name_same s x = refl

@@ -21,6 +21,7 @@ pub(crate) fn wrong(cause: Cause, bytes: &[u8]) -> ReadError
     })
 }
 
+/// A number of one byte.
 pub(crate) fn u8_at(bytes: &[u8]) -> Result<(u8, &[u8]), ReadError>
     ensures read { Reads (λ x. (x.0, x.1.now)) result ((number w8).read bytes.now) }
     ensures decided { IsDecided result }
@@ -33,6 +34,7 @@ pub(crate) fn u8_at(bytes: &[u8]) -> Result<(u8, &[u8]), ReadError>
     Ok((number, rest))
 }
 
+/// A number of two bytes, the least first.
 pub(crate) fn u16_at(bytes: &[u8]) -> Result<(u16, &[u8]), ReadError>
     ensures read { Reads (λ x. (x.0, x.1.now)) result ((number w16).read bytes.now) }
     ensures decided { IsDecided result }
@@ -45,6 +47,7 @@ pub(crate) fn u16_at(bytes: &[u8]) -> Result<(u16, &[u8]), ReadError>
     Ok((number, rest))
 }
 
+/// A number of four bytes, the least first.
 pub(crate) fn u32_at(bytes: &[u8]) -> Result<(u32, &[u8]), ReadError>
     ensures read { Reads (λ x. (x.0, x.1.now)) result ((number w32).read bytes.now) }
     ensures decided { IsDecided result }
@@ -57,6 +60,7 @@ pub(crate) fn u32_at(bytes: &[u8]) -> Result<(u32, &[u8]), ReadError>
     Ok((number, rest))
 }
 
+/// A number of eight bytes, the least first.
 pub(crate) fn u64_at(bytes: &[u8]) -> Result<(u64, &[u8]), ReadError>
     ensures read { Reads (λ x. (x.0, x.1.now)) result ((number w64).read bytes.now) }
     ensures decided { IsDecided result }
@@ -95,6 +99,7 @@ pub(crate) fn up_to(bytes: &[u8], most: usize) -> Result<(u32, &[u8]), ReadError
     }
 }
 
+/// A number of four bytes that is at most another of 16 bits.
 pub(crate) fn u16_up_to(bytes: &[u8], most: u16) -> Result<(u16, &[u8]), ReadError>
     ensures read { Reads (λ x. (x.0, x.1.now)) result ((format.up_to most).read bytes.now) }
     ensures decided { IsDecided result }
@@ -107,6 +112,7 @@ pub(crate) fn u16_up_to(bytes: &[u8], most: u16) -> Result<(u16, &[u8]), ReadErr
     }
 }
 
+/// A number of four bytes that is between two others of 16 bits, or is one of them.
 pub(crate) fn u16_between(bytes: &[u8], least: u16, most: u16) -> Result<(u16, &[u8]), ReadError>
     ensures read { Reads (λ x. (x.0, x.1.now)) result ((format.between least most).read bytes.now) }
     ensures decided { IsDecided result }

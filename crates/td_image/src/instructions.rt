@@ -110,6 +110,7 @@ fn instruction_at(version: ImageVersion, bytes: &[u8]) -> Result<(Instr, &[u8]),
     Ok((instruction, rest))
 }
 
+/// So many instructions.
 pub(crate) fn instructions_of(
     alloc: Global,
     version: ImageVersion,

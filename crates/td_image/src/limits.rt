@@ -6,9 +6,9 @@
 pub const MAGIC: u32 = 1_228_096_596;
 /// The version that is written.
 pub const VERSION: u16 = 3;
-/// The versions before it, which are read too.
+/// The version before it, which is read too.
 pub const SECOND_VERSION: u16 = 2;
-
+/// The first version, which is read too.
 pub const FIRST_VERSION: u16 = 1;
 /// Rows at most of each table but that of instructions.
 pub const MOST_ROWS: usize = 1_048_576;

@@ -18,18 +18,21 @@ pub struct Fields {
     pub k: u64,
 }
 
+/// Whether the kind of this number has the operand `x`.
 pub(crate) fn has_x(n: u8) -> bool
     ensures { result ≡ instructions.has_x n }
 {
     n == 2 || n == 3 || n == 10 || n == 22
 }
 
+/// Whether the kind of this number has the operand `a`.
 pub(crate) fn has_a(n: u8) -> bool
     ensures { result ≡ instructions.has_a n }
 {
     n == 0 || n == 1 || n == 2 || n == 3 || n == 4 || n == 8 || n == 10 || n == 23
 }
 
+/// Whether the kind of this number has the operand `b`.
 pub(crate) fn has_b(n: u8) -> bool
     ensures { result ≡ instructions.has_b n }
 {
@@ -46,18 +49,21 @@ pub(crate) fn has_b(n: u8) -> bool
         || n == 26
 }
 
+/// Whether the kind of this number has the operand `c`.
 pub(crate) fn has_c(n: u8) -> bool
     ensures { result ≡ instructions.has_c n }
 {
     n == 2 || n == 3 || n == 10 || n == 15 || n == 23 || n == 24 || n == 26
 }
 
+/// Whether the kind of this number has the operand `t`.
 pub(crate) fn has_t(n: u8) -> bool
     ensures { result ≡ instructions.has_t n }
 {
     n == 1 || n == 5 || n == 6 || n == 7 || n == 8 || n == 19 || n == 20
 }
 
+/// Whether the kind of this number has the operand `site`.
 pub(crate) fn has_site(n: u8) -> bool
     ensures { result ≡ instructions.has_site n }
 {
@@ -75,6 +81,7 @@ pub(crate) fn has_site(n: u8) -> bool
         || n == 26
 }
 
+/// Whether the kind of this number has the operand `k`.
 pub(crate) fn has_k(n: u8) -> bool
     ensures { result ≡ instructions.has_k n }
 {

@@ -79,6 +79,7 @@ fn routine_of(
     Ok((routine, rest))
 }
 
+/// So many routines, each of which begins where the one before it ends.
 pub(crate) fn routines_of(
     alloc: Global,
     version: ImageVersion,
@@ -283,6 +284,7 @@ fn entry_of<'a>(
     Ok((entry, rest))
 }
 
+/// So many entry points.
 pub(crate) fn entries_of<'a>(
     alloc: Global,
     count: u32,

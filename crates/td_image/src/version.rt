@@ -27,6 +27,7 @@ pub struct Spelled {
     pub parts: Parts,
 }
 
+/// The version of this number; the newest of a number that no version has.
 pub(crate) fn version_of(number: u16) -> ImageVersion
     ensures { result ≡ versions.version_of number }
 {
@@ -39,6 +40,7 @@ pub(crate) fn version_of(number: u16) -> ImageVersion
     }
 }
 
+/// Rows at most of each table but that of instructions.
 pub(crate) fn most_rows(version: ImageVersion) -> usize
     ensures { result ≡ versions.most_rows version }
 {
@@ -49,6 +51,7 @@ pub(crate) fn most_rows(version: ImageVersion) -> usize
     }
 }
 
+/// Numbers at most in one set.
 pub(crate) fn most_numbers(version: ImageVersion) -> usize
     ensures { result ≡ versions.most_numbers version }
 {
@@ -92,6 +95,7 @@ pub(crate) fn has_dots(version: ImageVersion) -> bool
     }
 }
 
+/// Instructions at most.
 pub(crate) fn most_instructions(version: ImageVersion) -> u32
     ensures { result ≡ versions.most_instructions version }
 {

@@ -12,10 +12,6 @@ either_decided P Q (inl p) q = inl (inl p)
 either_decided P Q (inr p) (inl q) = inl (inr q)
 either_decided P Q (inr p) (inr q) = inr (λ h. elim h [ inl x ↦ p x | inr x ↦ q x ])
 
-same_decided : (a b : ℕ) → Decided (a ≡ b)
-unfolding Decided
-same_decided a b = cases_eq a b
-
 less_decided : (a b : ℕ) → Decided (a < b)
 unfolding Decided
 less_decided a b = elim (cases_lt a b) [ inl h ↦ inl h | inr h ↦ inr (λ g. omega (arith, h, g)) ]
@@ -23,8 +19,8 @@ less_decided a b = elim (cases_lt a b) [ inl h ↦ inl h | inr h ↦ inr (λ g. 
 marker_decided : (input : List ℕ) (n : ℕ) → Decided (IsMarker input n)
 unfolding Decided
 marker_decided input n =
-    by (less_decided n (length input)) (same_decided (slice_index input n) 37) (same_decided (slice_index input (n + 1)) 37)
-    (either_decided (n ≡ 0) (slice_index input (n - 1) ≡ 10) (same_decided n 0) (same_decided (slice_index input (n - 1)) 10)) (either_decided (n + 2 ≡ length input) (slice_index input (n + 2) ≡ 10) (same_decided (n + 2) (length input)) (same_decided (slice_index input (n + 2)) 10))
+    by (less_decided n (length input)) (cases_eq (slice_index input n) 37) (cases_eq (slice_index input (n + 1)) 37)
+    (either_decided (n ≡ 0) (slice_index input (n - 1) ≡ 10) (cases_eq n 0) (cases_eq (slice_index input (n - 1)) 10)) (either_decided (n + 2 ≡ length input) (slice_index input (n + 2) ≡ 10) (cases_eq (n + 2) (length input)) (cases_eq (slice_index input (n + 2)) 10))
   where
     by : Decided (n < length input) → Decided (slice_index input n ≡ 37) → Decided (slice_index input (n + 1) ≡ 37) → Decided (BeginsLine input n) → Decided (EndsLine input (n + 2)) → Decided (IsMarker input n)
     by (inr bad) b c d e = inr (λ h. bad h.within)

@@ -32,10 +32,10 @@ range_first {X} xs a to x h l =
     ∙ ap (λ m. x ∷ take (to - (a + 1)) (drop m xs)) n
 
 -- where a jump from pc leads
-abbrev jump : Parts → List ℕ → ℕ → List ℕ → ℕ → ℕ → State → Exit
+abbrev pub jump : Parts → List ℕ → ℕ → List ℕ → ℕ → ℕ → State → Exit
 jump c message n places pc t s = goes pc (exits c n message places (calls_of c message n places) (pc + 1) (slice_range c.instructions (pc + 1) (end_of c n))) t s
 
-jump_to : (c : Parts) (message : List ℕ) (n : ℕ) (places : List ℕ) (pc t : ℕ) (s : State) → pc < t → t < end_of c n → jump c message n places pc t s ≡ block c message n places t s
+pub jump_to : (c : Parts) (message : List ℕ) (n : ℕ) (places : List ℕ) (pc t : ℕ) (s : State) → pc < t → t < end_of c n → jump c message n places pc t s ≡ block c message n places t s
 jump_to c message n places pc t s h l =
     let to = end_of c n in
     let js = c.instructions in

@@ -1,4 +1,5 @@
 pub mod Begins
 pub mod Blocks
+pub mod Buffers
 mod Listed
 pub mod Rising

@@ -3,8 +3,8 @@
 ghost use Rattle.std.specs.Prelude.{◌≡◌, IfOk, IfErr};
 ghost use Rattle.td_ir.specs.WellFormed.{IsCode, IsRefused};
 
+use crate::fitting::fit_together;
 use crate::tables::Parts;
-use crate::tests_of_tables::fit_together;
 use std::marker::Model;
 use thiserror::Error;
 

@@ -5,8 +5,8 @@ ghost use Rattle.td_num.specs.Numbers.{bytes_in};
 ghost use Rattle.td_ir.specs.Entries.{IsEntryNamed, IsFirstNamed, AreArguments, AreValues, Fits, cell_bits};
 
 use crate::code::Code;
+use crate::fitting::{cell_at, entry_at, param_at, routine_at};
 use crate::tables::Parts;
-use crate::tests_of_tables::{cell_at, entry_at, param_at, routine_at};
 use td_core::module::{Cell, CellKind, Entry, Param};
 use td_num::number::{Width, byte_count};
 
@@ -23,7 +23,7 @@ fn is_entry_named(code: &Code, name: &[u8], number: u32) -> bool
     }
     let routine = routine_at(parts, entry.routine as usize);
     match parts.names.as_slice().get(routine.name.number as usize) {
-        Some(text) => text.is(name),
+        Some(found) => found.is(name),
         None => false,
     }
 }

@@ -5,11 +5,11 @@
 
 pub mod code;
 pub mod entries;
+mod fitting;
 pub mod instructions;
 pub mod laws;
 pub mod listing;
 pub mod tables;
-mod tests_of_tables;
 
 pub use code::{BadTable, Code};
 pub use entries::{entry_in, fits};

@@ -1,25 +1,18 @@
 -- The bytes of the number that bytes spell. Cited by other crates.
-use Rattle.std.proofs.Common.{◌≡◌, ℕ, zero, suc, ◌+◌, ◌*◌, ◌/◌, ◌%◌, ◌^◌, ◌<◌, ◌≤◌, List, length, slice_index, [], ◌∷◌, refl, sym, ap, ◌∙◌, arith, add-zero, lit<}
+use Rattle.std.proofs.Common.{◌≡◌, ℕ, zero, suc, ◌+◌, ◌*◌, ◌/◌, ◌%◌, ◌^◌, ◌<◌, ◌≤◌, List, length, slice_index, [], ◌∷◌, refl, sym, ap, ◌∙◌, arith, add-zero}
 use Rattle.std.proofs.Math.Nat.{div-div-eq-div-mul}
 use Rattle.std.proofs.Math.Pow.{pow_mono}
 use Rattle.std.proofs.lemmas.Grind.{same_number_lists}
 use Rattle.td_num.specs.Lists.{AreBytes}
 use Rattle.td_num.specs.Numbers.{byte_of, byte_at, rising_at}
 use Rattle.td_job.specs.Words.{IsFilled}
-use Rattle.td_num.proofs.Digits.{power_of_bytes as power}
+use Rattle.td_num.proofs.Digits.{power_of_bytes as power, rising_small}
 
 further : (word k : ℕ) → word / 2 ^ (8 * suc k) ≡ word / 256 / 2 ^ (8 * k)
 further word k = rw power (sym (div-div-eq-div-mul word 256 (2 ^ (8 * k))))
 
 joined : (rest low : ℕ) → low < 256 → (256 * rest + low) / 256 ≡ rest
 joined rest low small = omega arith
-
-pub rising_small : (bytes : List ℕ) → AreBytes bytes → (p w : ℕ) → rising_at bytes p w < 2 ^ (8 * w)
-rising_small bytes small p zero = lit< tt
-rising_small bytes small p (suc w) =
-    let rest = rising_small bytes small (p + 1) w in
-    let low = small p in
-    rw power (omega arith)
 
 pub byte-rising : (bytes : List ℕ) → AreBytes bytes → (p w k : ℕ) → k < w → byte_of (rising_at bytes p w) k ≡ slice_index bytes (p + k)
 byte-rising bytes small p zero k within = absurd (omega arith)

@@ -94,9 +94,9 @@ pub fn prepare<'a>(alloc: Global, memory: &Memory<'a>) -> Result<Prepared<'a>, A
     Ok(Prepared { words, loads })
 }
 
-/// Runs code once over words that were prepared, in a frame that was armed for the code, from an entry point that these arguments
-/// and cells fit, on a message that lies so in the words. The frame is left with the trace, the cells and the copies. It has no allocator and no
-/// error: from the first load on nothing can stand in place of the verdict.
+/// Runs code once over words that were prepared, in a frame that was armed for the code, from an entry point that these
+/// arguments and cells fit, on a message that lies so in the words. The frame is left with the trace, the cells and the copies.
+/// It has no allocator and no error: from the first load on nothing can stand in place of the verdict.
 pub fn run_prepared(
     code: &Verified,
     frame: &mut Frame,
@@ -182,9 +182,10 @@ pub fn run_counted<L: Ledger>(
 }
 
 /// Runs code once, in a frame that was armed for it, from an entry point that these arguments and cells fit, on a message of
-/// `length` bytes, by the memory's layout or at the front of its words, while others store to them by its plan. The frame is left with the
-/// trace, the cells and the copies. `AllocError`: there was no memory; never where there are neither words nor stores and no layout. That comes of
-/// `prepare`, which loads no word; `run_prepared`, which follows, takes none, so want of memory never hides an outcome.
+/// `length` bytes, by the memory's layout or at the front of its words, while others store to them by its plan. The frame is
+/// left with the trace, the cells and the copies. `AllocError`: there was no memory; never where there are neither words nor
+/// stores and no layout. That comes of `prepare`, which loads no word; `run_prepared`, which follows, takes none, so want of
+/// memory never hides an outcome.
 pub fn run_in_frame(
     alloc: Global,
     code: &Verified,

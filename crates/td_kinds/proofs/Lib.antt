@@ -1,4 +1,5 @@
 pub mod Faults
+pub mod Faultless
 pub mod Joining
 pub mod Listing
 pub mod Answering

@@ -20,6 +20,14 @@ below_as_before ds n j less = by (nat_eq j n) refl
     by true e = let same : j ≡ n = eqb-true j n e in absurd (omega (arith, same, less))
     by false e = refl
 
+-- and by more definitions too
+pub below_more : (ds : List TypeDef) (n k j : ℕ) → j < n → kinds_below ds (n + k) j ≡ kinds_below ds n j
+below_more ds n zero j lt = let e : n + 0 ≡ n = omega arith in ap (λ m. kinds_below ds m j) e
+below_more ds n (suc k) j lt =
+    let e : n + suc k ≡ suc (n + k) = omega arith in
+    let less : j < n + k = omega (arith, lt) in
+    ap (λ m. kinds_below ds m j) e ∙ below_as_before ds (n + k) j less ∙ below_more ds n k j lt
+
 pub below_last : (ds : List TypeDef) (n : ℕ) → kinds_below ds (suc n) n ≡ definition_kind (kinds_below ds n) (slice_get ds n)
 unfolding kinds_below
 below_last ds n = by (nat_eq n n) refl

@@ -1,14 +1,48 @@
-//! Fields one after the other.
+//! Fields, and fields one after the other.
 
 ghost use Rattle.std.specs.Prelude.{◌≡◌};
-ghost use Rattle.td_kinds.specs.Kinds.{kind_at, fields_kind};
-ghost use Rattle.td_kinds.specs.KindRules.{fields_faults, first_fault};
+ghost use Rattle.td_kinds.specs.Kinds.{kind_at, field_kind, fields_kind};
+ghost use Rattle.td_kinds.specs.KindRules.{field_faults, fields_faults, first_fault};
 
-use crate::arrays::{field_fault, field_kind};
+use crate::elements::element_kind;
 use crate::error::KindFault;
-use crate::sizes::{exactly, joined};
+use crate::sizes::{at_least, exactly, joined, sized};
 use td_core::kind::Kind;
-use td_core::module::Field;
+use td_core::module::{Element, Extent, Field};
+use td_expr::constant::constant_of;
+
+/// The kind of a field.
+pub fn field_kind(kinds: &[Kind], element: &Element, extent: &Extent) -> Kind
+    ensures { result ≡ field_kind (kind_at kinds.now) element.now extent.now }
+{
+    match extent {
+        Extent::Once => element_kind(kinds, element),
+        Extent::Filling { size, .. } | Extent::OnceFilling { size, .. } => sized(constant_of(size)),
+        Extent::UpToZero { .. } => at_least(element_kind(kinds, element).least),
+    }
+}
+
+/// What is refused of a field, which may be the last of its struct, case or `default`. K1 is named before K2.
+pub fn field_fault(kinds: &[Kind], field: &Field, last: bool) -> Option<KindFault>
+    ensures { result ≡ first_fault (field_faults (kind_at kinds.now) field.now last) }
+{
+    let span = field.place;
+    let element = element_kind(kinds, &field.element);
+    let filled = match field.extent {
+        Extent::Filling { .. } => true,
+        _ => false,
+    };
+    if filled && element.least == 0 {
+        return Some(KindFault::ZeroElement { span });
+    }
+    if filled && element.rest {
+        return Some(KindFault::RestNotLast { span });
+    }
+    if !last && field_kind(kinds, &field.element, &field.extent).rest {
+        return Some(KindFault::RestNotLast { span });
+    }
+    None
+}
 
 /// The kind of fields one after the other, from the last one back.
 pub fn fields_kind(kinds: &[Kind], fields: &[Field]) -> Kind

@@ -3,8 +3,8 @@
 //! end stands last; else the first fault in the order of the text is named.
 #![tactic(auto)]
 
-pub mod arrays;
 pub mod casetypes;
+pub mod elements;
 pub mod error;
 pub mod fields;
 pub mod modules;

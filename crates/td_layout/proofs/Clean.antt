@@ -11,6 +11,7 @@ use Rattle.td_grammar.proofs.Sets.{disjoint, covered}
 use Rattle.td_grammar.proofs.Tools.{Stops, member_left, member_right, apart_at, stops_left, stops_right}
 use Rattle.td_grammar.proofs.Exact.{IsApart}
 use Rattle.td_grammar.proofs.Seen.{stops_less}
+use Rattle.td_grammar.proofs.Led.{last_stops}
 
 -- read as the value, where what comes after doesn't go on with it
 abbrev pub Clean : {A : Type 0} → Grammar A → A → List Token → Type 0
@@ -28,15 +29,11 @@ module _ {A B : Type 0} (g : Grammar A) (h : Grammar B) (apart : IsApart g h) wh
   seam [] rest b stops = stops_right h.reader.goes_on g.reader.goes_on rest (subst (λ c. Stops (cond c (h.reader.goes_on ++ g.reader.goes_on) h.reader.goes_on) rest) b stops)
   seam (t ∷ v) rest b stops = apart_at h.reader.begins g.reader.goes_on (number_of_kind t.kind) apart b
 
-  last_by : (c : Bool) (rest : List Token) → Stops (cond c (h.reader.goes_on ++ g.reader.goes_on) h.reader.goes_on) rest → Stops h.reader.goes_on rest
-  last_by true rest s = stops_left h.reader.goes_on g.reader.goes_on rest s
-  last_by false rest s = s
-
   pub both_clean : (a : A) (b : B) (u v : List Token) → Clean g a u → Clean h b v → Begun h v → Clean (g then h) (a, b) (u ++ v)
   both_clean a b u v p q begun rest stops =
       let regrouped : (u ++ v) ++ rest ≡ u ++ (v ++ rest) = append_assoc u v rest in
       let first : g.reader.read ((u ++ v) ++ rest) ≡ Got a (v ++ rest) = rw regrouped (p (v ++ rest) (seam v rest begun stops)) in
-      let second : h.reader.read (v ++ rest) ≡ Got b rest = q rest (last_by h.reader.may_be_empty rest stops) in
+      let second : h.reader.read (v ++ rest) ≡ Got b rest = q rest (last_stops g h rest stops) in
       rw (first, second) refl
 
   begins_by : (c : Bool) (n : ℕ) → member g.reader.begins n ≡ true → member (cond c (g.reader.begins ++ h.reader.begins) g.reader.begins) n ≡ true

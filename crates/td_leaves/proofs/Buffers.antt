@@ -1,25 +1,15 @@
 -- What buffers hold, after a copy.
-use Rattle.std.proofs.Common.{◌≡◌, ℕ, zero, suc, ◌+◌, ◌*◌, ◌-◌, ◌<◌, ◌≤◌, min, List, [], ◌∷◌, length, map, drop, refl, sym, ap, ◌∙◌, subst, arith, slice_index, slice_index_or, slice_set}
+use Rattle.std.proofs.Common.{◌≡◌, ℕ, ◌+◌, ◌*◌, ◌-◌, ◌<◌, ◌≤◌, min, List, length, map, drop, sym, ap, ◌∙◌, subst, arith, slice_set}
 use Rattle.std.proofs.lemmas.List.{drop-set-add, map-set, length-drop}
 use Rattle.td_num.specs.Numbers.{places_from}
 use Rattle.td_core.specs.declared.module.CopyOut.{CopyOut}
-use Rattle.td_core.specs.declared.outcome.Reason.TheVariants.{NotEnough}
 use Rattle.td_core.specs.Held.{AreHeld}
-use Rattle.td_core.specs.Outcome.{Behavior, accepted, rejected, after_reading, and_then, bytes_at, copies_by}
+use Rattle.td_core.specs.Outcome.{Behavior, accepted, after_reading, and_then, bytes_at, copies_by}
+use Rattle.td_core.proofs.Copies.{copies_set}
 use Rattle.td_meaning.specs.Meaning.{with_copy}
 use Rattle.td_meaning.specs.Machine.{copied_meaning}
-use Rattle.td_meaning.proofs.Filling.{taken_long, taken_short}
-use Rattle.td_stream.specs.Copies.{BufferView, held_by, rooms_of}
-
-copies_set : (b xs : List ℕ) (k p n : ℕ) → 2 * k + 1 < length xs → copies_by b (slice_set (slice_set xs (2 * k) p) (2 * k + 1) n) ≡ slice_set (copies_by b xs) k (bytes_at b (places_from p n))
-copies_set b [] k p n h = absurd (omega (arith, h))
-copies_set b (x ∷ []) k p n h = absurd (omega (arith, h))
-copies_set b (x ∷ y ∷ xs) zero p n h = refl
-copies_set b (x ∷ y ∷ xs) (suc k) p n h =
-    let e : 2 * suc k ≡ suc (suc (2 * k)) = omega arith in
-    let f : 2 * suc k + 1 ≡ suc (suc (2 * k + 1)) = omega arith in
-    (λ i. copies_by b (slice_set (slice_set (x ∷ y ∷ xs) (e i) p) (f i) n))
-    ∙ ap (λ cs. bytes_at b (places_from x y) ∷ cs) (copies_set b xs k p n (omega (arith, h)))
+use Rattle.td_meaning.proofs.Filling.{taken_long}
+use Rattle.td_stream.specs.Copies.{BufferView, held_by}
 
 -- place and next are those of the buffer's cells
 pub held_put : (b cells : List ℕ) (first number place next p n : ℕ) (copies : List BufferView) (buffer : BufferView) → place ≡ first + 2 * number → next ≡ place + 1 → length cells ≡ first + 2 * length copies → number < length copies
@@ -34,13 +24,5 @@ held_put b cells first number place next p n copies buffer at after size there h
     ∙ ap (slice_set (held_by copies) number) (sym held)
     ∙ sym (map-set (λ (v : BufferView). v.held) copies number buffer)
 
-pub room_at : (copies : List BufferView) (n : ℕ) (d : BufferView) → n < length copies → slice_index (rooms_of copies) n ≡ (slice_index_or copies n d).room
-room_at [] n d h = absurd (omega (arith, h))
-room_at (b ∷ bs) zero d h = refl
-room_at (b ∷ bs) (suc n) d h = room_at bs n d (omega (arith, h))
-
 pub copied_long : (c : CopyOut) (places : List ℕ) (n end p : ℕ) (cells : List ℕ) → p + n ≤ end → copied_meaning c places n end p cells ≡ after_reading (places_from p (min n c.room)) (accepted (p + n) (with_copy c places p (min n c.room) cells))
 copied_long c places n end p cells h = ap (λ t. and_then t (λ q cells. after_reading (places_from p (min n c.room)) (accepted q (with_copy c places p (min n c.room) cells)))) (taken_long n p end p cells h)
-
-pub copied_short : (c : CopyOut) (places : List ℕ) (n end p : ℕ) (cells : List ℕ) → end < p + n → copied_meaning c places n end p cells ≡ rejected NotEnough p cells
-copied_short c places n end p cells h = ap (λ t. and_then t (λ q cells. after_reading (places_from p (min n c.room)) (accepted q (with_copy c places p (min n c.room) cells)))) (taken_short n p end p cells h)

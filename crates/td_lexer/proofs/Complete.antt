@@ -1,7 +1,7 @@
 -- What the language's words say of a front, its lexeme is. Cited by other crates.
 use Rattle.std.proofs.Common.{◌≡◌, ℕ, suc, ◌+◌, ◌≤◌, ◌<◌, ◌^◌, Bool, true, false, cond, eqb, ltb, List, [], ◌∷◌, ◌++◌, length, take, drop, Option, Some, None, refl, sym, ap, subst, ◌∙◌, arith, inl, inr}
-use Rattle.std.specs.Prelude.{◌&&◌, ◌||◌, ◌⊎◌, not, codes}
-use Rattle.std.proofs.lemmas.Bool.{eqb-true, lt-ltb, le-ltb, ltb-true, cond-true, cond-false, cases_lt}
+use Rattle.std.specs.Prelude.{◌&&◌, ◌⊎◌, not, codes}
+use Rattle.std.proofs.lemmas.Bool.{eqb-true, lt-ltb, le-ltb, ltb-true, cond-true, cond-false, cases_lt, or_parts}
 use Rattle.std.proofs.lemmas.List.{take-append-drop, length-take-le, length-append, take_at, drop_at}
 use Rattle.td_ast.specs.declared.token.Base.{Base}
 use Rattle.td_ast.specs.declared.token.Base.TheVariants.{Decimal, Hexadecimal}
@@ -115,11 +115,7 @@ single_leads (a ∷ []) rest kind e slash shape =
   where
     open_bytes : (bs : List ℕ) → first_is is_comment_byte bs ≡ false → (first_is (λ b. eqb b 47) bs ≡ false) × (first_is (λ b. eqb b 42) bs ≡ false)
     open_bytes [] e = (refl, refl)
-    open_bytes (b ∷ bs) e = by_tests (eqb b 47) (eqb b 42) e
-      where
-        by_tests : (p q : Bool) → (p || q) ≡ false → (p ≡ false) × (q ≡ false)
-        by_tests true q e = absurd cc
-        by_tests false q e = (refl, e)
+    open_bytes (b ∷ bs) e = or_parts (eqb b 47) (eqb b 42) e
 
     no_comment : (c : Bool) → eqb a 47 ≡ c → ((c && first_is (λ b. eqb b 47) rest) ≡ false) × ((c && first_is (λ b. eqb b 42) rest) ≡ false)
     no_comment true is_slash = open_bytes rest (slash (ap (λ (b : ℕ). b ∷ []) (eqb-true a 47 is_slash)))

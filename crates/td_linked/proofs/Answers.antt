@@ -1,13 +1,13 @@
 -- The answers of an input exclude each other, and each has one place.
-use Rattle.std.proofs.Common.{◌≡◌, ℕ, ◌<◌, Bool, true, false, List, [], ◌∷◌, ◌++◌, Some, None, nat_eq, nat_lt, sym, ap, subst, ◌∙◌, arith}
+use Rattle.std.proofs.Common.{◌≡◌, ℕ, Bool, true, false, List, [], ◌∷◌, ◌++◌, Some, None, nat_lt, sym, ap, subst, ◌∙◌, arith}
 use Rattle.std.proofs.lemmas.Bool.Decides.{nat_tests}
 use Rattle.td_num.specs.Lists.{Each}
 use Rattle.td_ast.specs.declared.token.Span.{Span}
 use Rattle.td_ast.specs.declared.names.Name.{Name}
 use Rattle.td_ast.specs.declared.parts.PartTree.{PartTree}
 use Rattle.td_ast.specs.declared.parts.InputTree.TheVariants.{Module, Parts}
-use Rattle.td_flat.specs.Order.{IsCyclic, IsFirstCyclic, NoneCyclic, NoCycle, uses_at, first_twice}
-use Rattle.td_linked.specs.Laws.{HasOneAnswer, OneAnswerEach}
+use Rattle.td_flat.specs.Order.{IsCyclic, IsFirstCyclic, NoneCyclic, uses_at, first_twice}
+use Rattle.td_linked.specs.Laws.{OneAnswerEach}
 
 module _ (P : Name → Type 0) where
   -- none of these, so not this one

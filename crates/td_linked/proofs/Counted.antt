@@ -1,5 +1,5 @@
 -- What passes no limit by count as it is written passes none flat.
-use Rattle.std.proofs.Common.{◌≡◌, ℕ, zero, suc, ◌+◌, ◌≤◌, Bool, true, false, cond, nat_lt, List, [], ◌∷◌, ◌++◌, Option, Some, None, map, flat_map, length, get_or, refl, sym, ap, ap₂, subst, ◌∙◌, arith}
+use Rattle.std.proofs.Common.{◌≡◌, ℕ, zero, suc, ◌+◌, ◌≤◌, Bool, cond, List, [], ◌∷◌, ◌++◌, None, map, flat_map, length, get_or, refl, ap, ap₂, ◌∙◌, arith}
 use Rattle.std.specs.Prelude.{slice_get}
 use Rattle.std.proofs.lemmas.Bool.{le-ltb}
 use Rattle.td_num.specs.Lists.{Each}
@@ -9,10 +9,10 @@ use Rattle.td_ast.specs.declared.definitions.Def.{Def}
 use Rattle.td_ast.specs.declared.parts.PartTree.{PartTree}
 use Rattle.td_ast.specs.declared.parts.InputTree.TheVariants.{Module, Parts}
 use Rattle.td_flat.specs.declared.own.Own.{Own}
-use Rattle.td_flat.specs.Definitions.{flat_definition, own_of, flat_part}
+use Rattle.td_flat.specs.Definitions.{flat_definition, own_of}
 use Rattle.td_order.specs.Order.{order}
-use Rattle.td_flat.specs.Order.{graph_of}
-use Rattle.td_flat.specs.Flat.{flat_at, flat_or_none, flat_parts, written}
+use Rattle.td_flat.specs.Order.{names_of, graph_of}
+use Rattle.td_flat.specs.Flat.{flat_at, flat_or_none}
 use Rattle.td_limits.specs.declared.limits.Limit.{Limit}
 use Rattle.td_limits.specs.declared.limits.Limit.TheVariants as limit
 use Rattle.td_limits.specs.declared.limits.Excess.{Excess}
@@ -127,10 +127,15 @@ all_same : (m : Def → ℕ) (own : Own) → ((d : Def) → m (flat_definition o
 all_same m own same [] = refl
 all_same m own same (d ∷ ds) = ap₂ (λ (a b : ℕ). a + b) (same d) (all_same m own same ds)
 
+-- of the part at a place, under any number
+all_of_part : (m : Def → ℕ) → ((own : Own) (d : Def) → m (flat_definition own d) ≡ m d) → (names : List (List ℕ)) (n : ℕ) (parts : List PartTree) (i : ℕ)
+    → all_of m (flat_or_none names n (slice_get parts i)) ≡ get_or (weights m parts) i 0
+all_of_part m same names n [] i = refl
+all_of_part m same names n (p ∷ ps) zero = all_same m (own_of names n p) (same (own_of names n p)) p.definitions
+all_of_part m same names n (p ∷ ps) (suc i) = all_of_part m same names n ps i
+
 all_at : (m : Def → ℕ) → ((own : Own) (d : Def) → m (flat_definition own d) ≡ m d) → (parts : List PartTree) (i : ℕ) → all_of m (flat_at parts i) ≡ get_or (weights m parts) i 0
-all_at m same [] i = refl
-all_at m same (p ∷ ps) zero = all_same m (own_of p) (same (own_of p)) p.definitions
-all_at m same (p ∷ ps) (suc i) = all_at m same ps i
+all_at m same parts i = all_of_part m same (names_of parts) i parts i
 
 all_picked : (m : Def → ℕ) → ((own : Own) (d : Def) → m (flat_definition own d) ≡ m d) → (parts : List PartTree) (is : List ℕ) → all_of m (flat_map (flat_at parts) is) ≡ picked (weights m parts) is
 all_picked m same parts [] = refl
@@ -157,10 +162,13 @@ small_part : (own : Own) (ds : List Def) → Each IsSmall ds → Each IsSmall (m
 small_part own [] h = tt
 small_part own (d ∷ ds) h = (small_alike (flat_definition own d) d (flat_alike own d) h.0, small_part own ds h.1)
 
+small_of_part : (names : List (List ℕ)) (n : ℕ) (parts : List PartTree) (i : ℕ) → Each IsSmall (all_written parts) → Each IsSmall (flat_or_none names n (slice_get parts i))
+small_of_part names n [] i h = tt
+small_of_part names n (p ∷ ps) zero h = small_part (own_of names n p) p.definitions (each_left IsSmall p.definitions (all_written ps) h)
+small_of_part names n (p ∷ ps) (suc i) h = small_of_part names n ps i (each_right IsSmall p.definitions (all_written ps) h)
+
 small_at : (parts : List PartTree) (i : ℕ) → Each IsSmall (all_written parts) → Each IsSmall (flat_at parts i)
-small_at [] i h = tt
-small_at (p ∷ ps) zero h = small_part (own_of p) p.definitions (each_left IsSmall p.definitions (all_written ps) h)
-small_at (p ∷ ps) (suc i) h = small_at ps i (each_right IsSmall p.definitions (all_written ps) h)
+small_at parts i h = small_of_part (names_of parts) i parts i h
 
 small_all : (parts : List PartTree) (is : List ℕ) → Each IsSmall (all_written parts) → Each IsSmall (flat_map (flat_at parts) is)
 small_all parts [] h = tt

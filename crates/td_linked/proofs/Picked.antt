@@ -1,7 +1,8 @@
 -- No part is taken twice, so what is taken sums up to no more than there is.
-use Rattle.std.proofs.Common.{◌≡◌, ℕ, zero, suc, ◌+◌, ◌<◌, ◌≤◌, Bool, true, false, cond, not, ◌&&◌, ◌||◌, List, [], ◌∷◌, ◌++◌, Option, Some, None, length, get_or, set, nat_eq, refl, sym, ap, ap₂, subst, ◌∙◌, arith}
+use Rattle.std.proofs.Common.{◌≡◌, ℕ, zero, suc, ◌+◌, ◌≤◌, Bool, true, false, cond, not, ◌&&◌, ◌||◌, List, [], ◌∷◌, ◌++◌, Option, Some, None, length, get_or, set, nat_eq, refl, ap₂, subst, arith}
 use Rattle.std.specs.List.{list_all, find}
 use Rattle.std.proofs.lemmas.Bool.Decides.{nat_tests}
+use Rattle.std.proofs.lemmas.Bool.{or_parts}
 use Rattle.td_num.specs.Lists.{is_among}
 use Rattle.td_num.specs.Numbers.{places_from}
 use Rattle.td_order.specs.Order.{used_by, is_ready, next, turned, taken_after, order}
@@ -25,14 +26,10 @@ among_push (x ∷ xs) n j h e = by (nat_eq j x) (among_push xs n j) h
     by true ih k = absurd cc
     by false ih k = ih k e
 
-either_false : (a b : Bool) → (a || b) ≡ false → (a ≡ false) × (b ≡ false)
-either_false true b h = absurd cc
-either_false false b h = (refl, h)
-
 pub distinct_push : (xs : List ℕ) (n : ℕ) → AreDistinct xs → is_among xs n ≡ false → AreDistinct (xs ++ n ∷ [])
 distinct_push [] n d h = (refl, tt)
 distinct_push (x ∷ xs) n d h =
-    let both = either_false (nat_eq n x) (is_among xs n) h in
+    let both = or_parts (nat_eq n x) (is_among xs n) h in
     (among_push xs n x d.0 both.0, distinct_push xs n d.1 both.1)
 
 found_holds : (p : ℕ → Bool) (xs : List ℕ) (i : ℕ) → find p xs ≡ Some i → p i ≡ true
@@ -93,7 +90,7 @@ elsewhere (w ∷ ws) (suc i) (suc j) e = elsewhere ws i j (grind (arith, nat_tes
 picked_same : (ws : List ℕ) (i : ℕ) (is : List ℕ) → is_among is i ≡ false → picked (set ws i 0) is ≡ picked ws is
 picked_same ws i [] h = refl
 picked_same ws i (j ∷ is) h =
-    let both = either_false (nat_eq i j) (is_among is i) h in
+    let both = or_parts (nat_eq i j) (is_among is i) h in
     ap₂ (λ (n m : ℕ). n + m) (elsewhere ws i j both.0) (picked_same ws i is both.1)
 
 pub picked_within : (ws is : List ℕ) → AreDistinct is → picked ws is ≤ total ws

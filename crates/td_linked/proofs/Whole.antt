@@ -2,27 +2,22 @@
 use Rattle.std.proofs.Common.{◌≡◌, ◌⊎◌, inl, inr, ℕ, zero, suc, ◌+◌, ◌<◌, ◌≤◌, Bool, true, false, cond, not, ◌&&◌, ◌||◌, List, [], ◌∷◌, ◌++◌, Option, Some, None, length, get_or, map, replicate, nat_eq, refl, sym, ap, subst, ◌∙◌, arith}
 use Rattle.std.specs.List.{list_all, find}
 use Rattle.std.proofs.lemmas.Bool.Decides.{nat_tests}
+use Rattle.std.proofs.lemmas.List.{length_push}
 use Rattle.td_num.specs.Lists.{is_among}
 use Rattle.td_num.specs.Numbers.{places_from}
+use Rattle.td_num.proofs.Equals.{equal_itself}
+use Rattle.td_num.proofs.Truths.{or_left, or_right}
 use Rattle.td_ast.specs.declared.names.Name.{Name}
 use Rattle.td_ast.specs.declared.parts.PartTree.{PartTree}
 use Rattle.td_names.specs.Names.{is_seen, number_of}
 use Rattle.td_flat.specs.Uses.{part_uses}
-use Rattle.td_order.specs.Order.{used_by, IsWithin, is_ready, next, turned, taken_after, order, ReachesBy, Reaches}
-use Rattle.td_flat.specs.Order.{names_of, numbers_of, graph_of, NoneCyclicIn, NoCycle, uses_at}
+use Rattle.td_order.specs.Order.{used_by, IsWithin, is_ready, next, turned, taken_after, order, Reaches}
+use Rattle.td_order.proofs.Ready.{found_below}
+use Rattle.td_order.proofs.Reached.{reaches_more}
+use Rattle.td_flat.specs.Order.{names_of, numbers_of, graph_of, NoneCyclicIn, uses_at}
 use Rattle.td_flat.proofs.Linking.{is_within}
 use Rattle.td_linked.specs.Laws.{NoPartIsLost}
 use Rattle.td_linked.proofs.Picked.{AreDistinct, total, picked, picked_within, distinct_push, order_distinct}
-
-itself : (n : ℕ) → nat_eq n n ≡ true
-itself n = grind (arith, nat_tests)
-
-or_left : (a b : Bool) → a ≡ true → (a || b) ≡ true
-or_left a b e = rw e refl
-
-or_right : (a b : Bool) → b ≡ true → (a || b) ≡ true
-or_right true b e = refl
-or_right false b e = e
 
 -- one of a longer list is one of the list, or the last
 of_push : (xs : List ℕ) (n k : ℕ) → is_among (xs ++ n ∷ []) k ≡ true → (is_among xs k ≡ true) ⊎ (k ≡ n)
@@ -42,12 +37,8 @@ of_push (x ∷ xs) n k h = by (nat_eq k x) (of_push xs n k) h
     by false ih g = more (ih g) false
 
 pushed : (xs : List ℕ) (n : ℕ) → is_among (xs ++ n ∷ []) n ≡ true
-pushed [] n = or_left (nat_eq n n) false (itself n)
+pushed [] n = or_left (nat_eq n n) false (equal_itself n)
 pushed (x ∷ xs) n = or_right (nat_eq n x) (is_among (xs ++ n ∷ []) n) (pushed xs n)
-
-length_push : (xs : List ℕ) (n : ℕ) → length (xs ++ n ∷ []) ≡ length xs + 1
-length_push [] n = refl
-length_push (x ∷ xs) n = let ih = length_push xs n in omega (arith, ih)
 
 -- ---- distinct numbers below n are no more than n
 
@@ -69,7 +60,7 @@ AreBelow n xs = (k : ℕ) → is_among xs k ≡ true → k < n
 ones_picked : (n : ℕ) (xs : List ℕ) → AreBelow n xs → picked (ones n) xs ≡ length xs
 ones_picked n [] h = refl
 ones_picked n (x ∷ xs) h =
-    let one = one_at n x (h x (or_left (nat_eq x x) (is_among xs x) (itself x))) in
+    let one = one_at n x (h x (or_left (nat_eq x x) (is_among xs x) (equal_itself x))) in
     let ih = ones_picked n xs (λ k i. h k (or_right (nat_eq k x) (is_among xs k) i)) in
     omega (arith, one, ih)
 
@@ -93,14 +84,6 @@ all_there n xs d h e i lt = by (is_among xs i) refl
         within j (inr s) = rw s lt
 
 -- ---- what is taken
-
-found_below : (p : ℕ → Bool) (from m i : ℕ) → find p (places_from from m) ≡ Some i → i < from + m
-found_below p from zero i e = absurd cc
-found_below p from (suc m) i e = by (p from) (found_below p (from + 1) m i) e
-  where
-    by : (b : Bool) → (find p (places_from (from + 1) m) ≡ Some i → i < from + 1 + m) → cond b (Some from) (find p (places_from (from + 1) m)) ≡ Some i → i < from + suc m
-    by true h e = let same : from ≡ i = cc in omega (arith, same)
-    by false h e = let lt = h e in omega (arith, lt)
 
 none_found : (p : ℕ → Bool) (from m k : ℕ) → find p (places_from from m) ≡ None → from ≤ k → k < from + m → p k ≡ false
 none_found p from zero k e le lt = absurd (omega arith)
@@ -152,15 +135,11 @@ some_not p (x ∷ xs) h = by (p x) refl (some_not p xs) h
   where
     by : (b : Bool) → p x ≡ b → (list_all p xs ≡ false → (j : ℕ) × (is_among xs j ≡ true) × (p j ≡ false)) → (b && list_all p xs) ≡ false → (j : ℕ) × (is_among (x ∷ xs) j ≡ true) × (p j ≡ false)
     by true e ih g = let found = ih g in (found.0, or_right (nat_eq found.0 x) (is_among xs found.0) found.1, found.2)
-    by false e ih g = (x, or_left (nat_eq x x) (is_among xs x) (itself x), e)
+    by false e ih g = (x, or_left (nat_eq x x) (is_among xs x) (equal_itself x), e)
 
 not_taken : (taken : List ℕ) (used : List ℕ) (b : Bool) → b ≡ false → (not b && list_all (is_among taken) used) ≡ false → list_all (is_among taken) used ≡ false
 not_taken taken used true e h = absurd cc
 not_taken taken used false e h = h
-
-reaches_more : (graph : List (List ℕ)) (n a b c : ℕ) → ReachesBy graph n a b → is_among (used_by graph b) c ≡ true → ReachesBy graph (suc n) a c
-reaches_more graph zero a b c e u = (c, rw e u, refl)
-reaches_more graph (suc n) a b c (d, first, rest) u = (d, first, reaches_more graph n d b c rest u)
 
 module _ (graph : List (List ℕ)) (taken : List ℕ) (within : IsWithin graph) (acyclic : (i j : ℕ) → is_among (used_by graph i) j ≡ true → Reaches graph j i → ⊥)
     (stuck : (k : ℕ) → k < length graph → is_among taken k ≡ false → (j : ℕ) × (is_among (used_by graph k) j ≡ true) × (is_among taken j ≡ false)) where
@@ -208,7 +187,7 @@ module _ (graph : List (List ℕ)) (taken : List ℕ) (within : IsWithin graph) 
       start o = record {
         distinct = (refl, tt);
         below = λ k h. under k (of_push [] i k h);
-        there = or_left (nat_eq i i) false (itself i);
+        there = or_left (nat_eq i i) false (equal_itself i);
         out = o;
         reach = λ w h. on w (of_push [] i w h);
       }

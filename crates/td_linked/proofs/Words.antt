@@ -1,8 +1,8 @@
--- The names written in a flat tree are those of the parts, or joined with a part's. Cited by other crates.
-use Rattle.std.proofs.Common.{◌≡◌, ℕ, Bool, true, false, cond, List, [], ◌∷◌, ◌++◌, Option, Some, None, map, flat_map, refl, inl, inr}
+-- The names written in a flat tree are those of the parts, or with a part's number. Cited by other crates.
+use Rattle.std.proofs.Common.{◌≡◌, ℕ, zero, suc, ◌<◌, Bool, true, false, cond, List, [], ◌∷◌, ◌++◌, length, Option, Some, None, map, flat_map, refl, inl, inr, arith}
 use Rattle.std.specs.Prelude.{slice_get}
 use Rattle.td_num.specs.Lists.{Each}
-use Rattle.td_num.proofs.Lists.{each_at, each_append, each_map}
+use Rattle.td_num.proofs.Lists.{each_at, each_append}
 use Rattle.td_ast.specs.declared.fields.FieldTree.{FieldTree}
 use Rattle.td_ast.specs.declared.parameters.ParamTree.{ParamTree}
 use Rattle.td_ast.specs.declared.parameters.ParamTree.TheVariants as param
@@ -11,17 +11,16 @@ use Rattle.td_ast.specs.declared.definitions.SlotTree.{SlotTree}
 use Rattle.td_ast.specs.declared.definitions.Def.{Def}
 use Rattle.td_ast.specs.declared.definitions.Def.TheVariants.{Define, Enum, Alias, Struct, Casetype, Output}
 use Rattle.td_ast.specs.declared.parts.PartTree.{PartTree}
-use Rattle.td_ast.specs.declared.parts.InputTree.{InputTree}
 use Rattle.td_ast.specs.declared.parts.InputTree.TheVariants.{Module, Parts}
 use Rattle.td_lexer.specs.Splits.{IsName}
 use Rattle.td_names.specs.Names.{is_seen}
 use Rattle.td_flat.specs.declared.own.Own.{Own}
 use Rattle.td_flat.specs.Names.{of_part, given}
 use Rattle.td_flat.specs.Definitions.{flat_params, with_param, flat_fields, with_field, flat_case, flat_default, flat_slot, flat_definition, flat_part, own_of, head_scope}
-use Rattle.td_flat.specs.Order.{graph_of, order}
+use Rattle.td_flat.specs.Order.{names_of, graph_of, order}
 use Rattle.td_flat.specs.Flat.{flat_at, flat_or_none, flat}
 use Rattle.td_rules.specs.Written.{params_written, fields_written, cases_written, default_written, slots_written, definition_written, definitions_written, names_written}
-use Rattle.td_linked.specs.Laws.{OfPart, OfInput, IsLong, NamesStayWords}
+use Rattle.td_linked.specs.Laws.{OfPart, IsFlat, NamesStayWords}
 
 pub each_left : {A : Type 0} (P : A → Type 0) (xs ys : List A) → Each P (xs ++ ys) → Each P xs
 each_left P [] ys h = tt
@@ -37,12 +36,12 @@ written_append Q (d ∷ ds) es h k =
     each_append Q (definition_written d) (definitions_written (ds ++ es)) (each_left Q (definition_written d) (definitions_written ds) h)
     (written_append Q ds es (each_right Q (definition_written d) (definitions_written ds) h) k)
 
--- What holds of each name of a part as it stands, and with the part's name before it, holds of each name of the part's flat definitions.
-module _ (P Q : List ℕ → Type 0) (own : Own) (stays : (x : List ℕ) → P x → Q x) (joins : (x : List ℕ) → P x → Q (of_part own.name x)) where
+-- What holds of each name of a part as it stands, and with the part's number before it, holds of each name of the part's flat definitions.
+module _ (P Q : List ℕ → Type 0) (own : Own) (stays : (x : List ℕ) → P x → Q x) (joins : (x : List ℕ) → P x → Q (of_part own.number x)) where
   given_is : (x : List ℕ) → P x → Q (given own x)
   given_is x h = by (is_seen own.literals x)
     where
-      by : (b : Bool) → Q (cond b (of_part own.name x) x)
+      by : (b : Bool) → Q (cond b (of_part own.number x) x)
       by true = joins x h
       by false = stays x h
 
@@ -102,26 +101,31 @@ module _ (P Q : List ℕ → Type 0) (own : Own) (stays : (x : List ℕ) → P x
       (definitions_are ds (each_right P (definition_written d) (definitions_written ds) h))
 
 -- What holds of the names of each part's flat definitions holds of those of parts in any order.
-module _ (R : PartTree → Type 0) (Q : List ℕ → Type 0) (of_one : (p : PartTree) → R p → Each Q (definitions_written (flat_part p))) where
-  part_is : (parts : List PartTree) (i : ℕ) → Each R parts → Each Q (definitions_written (flat_at parts i))
-  part_is parts i h = by (slice_get parts i) refl
+module _ (parts : List PartTree) (R : PartTree → Type 0) (Q : List ℕ → Type 0) (of_one : (i : ℕ) (p : PartTree) → slice_get parts i ≡ Some p → R p → Each Q (definitions_written (flat_part (names_of parts) i p))) where
+  part_is : (i : ℕ) → Each R parts → Each Q (definitions_written (flat_at parts i))
+  part_is i h = by (slice_get parts i) refl
     where
-      by : (o : Option PartTree) → slice_get parts i ≡ o → Each Q (definitions_written (flat_or_none o))
+      by : (o : Option PartTree) → slice_get parts i ≡ o → Each Q (definitions_written (flat_or_none (names_of parts) i o))
       by None e = tt
-      by (Some p) e = of_one p (each_at R parts i p h e)
+      by (Some p) e = of_one i p e (each_at R parts i p h e)
 
-  pub parts_are : (parts : List PartTree) (numbers : List ℕ) → Each R parts → Each Q (definitions_written (flat_map (flat_at parts) numbers))
-  parts_are parts [] h = tt
-  parts_are parts (i ∷ is) h = written_append Q (flat_at parts i) (flat_map (flat_at parts) is) (part_is parts i h) (parts_are parts is h)
+  pub parts_are : (numbers : List ℕ) → Each R parts → Each Q (definitions_written (flat_map (flat_at parts) numbers))
+  parts_are [] h = tt
+  parts_are (i ∷ is) h = written_append Q (flat_at parts i) (flat_map (flat_at parts) is) (part_is i h) (parts_are is h)
 
-module _ (P : List ℕ → Type 0) where
-  part_long : (p : PartTree) → OfPart P p → Each (IsLong P) (definitions_written (flat_part p))
-  part_long p (word, h) =
-      definitions_are P (IsLong P) (own_of p) (λ x q. inl q) (λ x q. inr (p.name.text, x, word, q, refl)) p.definitions h
+pub place_within : (parts : List PartTree) (i : ℕ) (p : PartTree) → slice_get parts i ≡ Some p → i < length parts
+place_within [] i p e = absurd cc
+place_within (q ∷ qs) zero p e = omega arith
+place_within (q ∷ qs) (suc i) p e = let ih = place_within qs i p e in omega (arith, ih)
 
-  pub names_long : (input : InputTree) → OfInput P input → Each (IsLong P) (names_written (flat input))
-  names_long (Module tree) h = each_map P (IsLong P) (names_written tree) (λ x p. inl p) h
-  names_long (Parts parts) h = parts_are (OfPart P) (IsLong P) part_long parts (order (graph_of parts)) h
+module _ (P : List ℕ → Type 0) (parts : List PartTree) where
+  part_flat : (i : ℕ) (p : PartTree) → slice_get parts i ≡ Some p → OfPart P p → Each (IsFlat P (Parts parts)) (definitions_written (flat_part (names_of parts) i p))
+  part_flat i p there (word, h) =
+      definitions_are P (IsFlat P (Parts parts)) (own_of (names_of parts) i p) (λ x q. inl q) (λ x q. inr (i, x, place_within parts i p there, q, refl)) p.definitions h
+
+  pub names_flat : Each (OfPart P) parts → Each (IsFlat P (Parts parts)) (names_written (flat (Parts parts)))
+  names_flat h = parts_are parts (OfPart P) (IsFlat P (Parts parts)) part_flat (order (graph_of parts)) h
 
 pub names_stay_words : NamesStayWords
-names_stay_words input h = names_long IsName input h
+names_stay_words (Module tree) h = h
+names_stay_words (Parts parts) h = names_flat IsName parts h

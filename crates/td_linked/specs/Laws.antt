@@ -1,15 +1,15 @@
 -- What holds of flat inputs.
-use Rattle.std.specs.Prelude.{◌≡◌, ◌⊎◌, ◌<◌, ℕ, true, List, length, None}
+use Rattle.std.specs.Prelude.{◌≡◌, ◌⊎◌, ◌<◌, ℕ, true, List, [], length, None}
 use Rattle.td_num.specs.Lists.{Each, is_among}
 use Rattle.td_ast.specs.declared.token.Span.{Span}
 use Rattle.td_ast.specs.declared.parts.PartTree.{PartTree}
 use Rattle.td_ast.specs.declared.parts.InputTree.{InputTree}
 use Rattle.td_ast.specs.declared.parts.InputTree.TheVariants.{Module, Parts}
-use Rattle.td_flat.specs.Names.{of_part}
+use Rattle.td_flat.specs.Names.{of_part, spelled}
 use Rattle.td_order.specs.Order.{order}
-use Rattle.td_flat.specs.Order.{graph_of, NoCycle}
+use Rattle.td_flat.specs.Order.{names_of, graph_of, first_twice, NoCycle}
 use Rattle.td_flat.specs.Flat.{flat, written, IsTwice, IsCycle, IsLinked}
-use Rattle.td_lexer.specs.Splits.{IsName}
+use Rattle.td_lexer.specs.Splits.{IsName, IsDotted}
 use Rattle.td_limits.specs.Counts.{counts_passed}
 use Rattle.td_rules.specs.Written.{names_written, definitions_written}
 
@@ -40,14 +40,32 @@ abbrev pub OfInput : (List ℕ → Type 0) → InputTree → Type 0
 OfInput P (Module tree) = Each P (names_written tree)
 OfInput P (Parts parts) = Each (OfPart P) parts
 
--- two names joined by a dot, the first a part's
-abbrev pub IsJoined : (List ℕ → Type 0) → List ℕ → Type 0
-IsJoined P x = (part own : List ℕ) × P part × P own × (x ≡ of_part part own)
+-- the name that a definition of one of so many parts has in the one tree, where it holds of its name there
+abbrev pub IsNumbered : (List ℕ → Type 0) → ℕ → List ℕ → Type 0
+IsNumbered P count x = (k : ℕ) × (own : List ℕ) × (k < count) × P own × (x ≡ of_part k own)
 
--- a name, or two joined by a dot
-abbrev pub IsLong : (List ℕ → Type 0) → List ℕ → Type 0
-IsLong P x = P x ⊎ IsJoined P x
+-- a name of the one tree: one of which it holds, or such a one of a part
+abbrev pub IsFlat : (List ℕ → Type 0) → InputTree → List ℕ → Type 0
+IsFlat P (Module tree) x = P x
+IsFlat P (Parts parts) x = P x ⊎ IsNumbered P (length parts) x
 
--- where the names of parts and those written in an input are words, each name written flat is a word, or two joined by a dot
+-- where the names of parts and those written in an input are words, each name written flat is a word, or has a part's number and a word
 abbrev pub NamesStayWords : Type 0
-NamesStayWords = (input : InputTree) → OfInput IsName input → Each (IsLong IsName) (names_written (flat input))
+NamesStayWords = (input : InputTree) → OfInput IsName input → Each (IsFlat IsName input) (names_written (flat input))
+
+-- Such names as they are told, where the names of parts are words
+
+-- a word is told as it stands
+abbrev pub WordsAreToldSo : Type 0
+WordsAreToldSo = (names : List (List ℕ)) (x : List ℕ) → IsName x → spelled names x ≡ x
+
+-- a name with a part's number is told as two words joined by a dot
+abbrev pub NumberedAreDotted : Type 0
+NumberedAreDotted =
+    (parts : List PartTree) (x : List ℕ) → Each (OfPart IsName) parts → IsNumbered IsName (length parts) x → IsDotted (spelled (names_of parts) x)
+
+-- where no part has the name of an earlier one, no two names are told alike
+abbrev pub NamesStayApart : Type 0
+NamesStayApart =
+    (parts : List PartTree) (x y : List ℕ) → first_twice [] parts ≡ None → Each (OfPart IsName) parts → IsFlat IsName (Parts parts) x → IsFlat IsName (Parts parts) y →
+    spelled (names_of parts) x ≡ spelled (names_of parts) y → x ≡ y

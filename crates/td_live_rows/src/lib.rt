@@ -1,5 +1,6 @@
-//! Tests of what no built program shows: a buffer that threads share, validation in it, a ring of posts and tickets, codes that are
-//! published one after the other, step by step and under real threads, with ample memory. Each test ends by itself, whatever the schedule. Nothing stands on this crate.
+//! Tests of what no built program shows: a buffer that threads share, validation in it, a ring of posts and tickets, codes that
+//! are published one after the other, step by step and under real threads, with ample memory. Each test ends by itself,
+//! whatever the schedule. Nothing stands on this crate.
 #![tactic(auto)]
 
 #[cfg(test)]

@@ -11,13 +11,14 @@ use td_ring::post::Post;
 use td_stream::copies::Copies;
 use td_stream::loads::Loads;
 
-// Every post will do.
+/// Every post will do.
 pub struct Any;
 
 impl Naming for Any {
     ghost names = { λ _. Unit {0} };
 }
 
+/// A post of a guest, by its number, that was not made yet, with an empty reply as its room.
 pub fn post(alloc: Global, guest: u32, number: u32) -> Result<Post, AllocError>
     ensures { IfOk result (λ p. p.made ≡ 0) }
 {

@@ -3,6 +3,7 @@
 
 use std::alloc::{AllocError, Global};
 use std::test::Fail;
+use td_core::full_name::FullName;
 use td_ir::code::Code;
 use td_ir::tables::Parts;
 use td_num::items::Items;
@@ -14,7 +15,7 @@ use td_verify::verify::{Verified, verify};
 /// The parts of a code that has a letter as its one name, and nothing else.
 fn parts_named(alloc: Global, letter: u8) -> Result<Parts, AllocError> {
     let mut names = Items::new(alloc);
-    names.push(Text::copy_of(alloc, &[letter])?)?;
+    names.push(FullName::alone(Text::copy_of(alloc, &[letter])?))?;
     Ok(Parts {
         names,
         sites: Items::new(alloc),
@@ -49,7 +50,7 @@ pub(crate) fn codes_named(alloc: Global, count: u8) -> Option<Vec<Verified>> {
 pub(crate) fn told_by(version: &Version) -> (u32, u8) {
     let names = version.code.code().parts().names.as_slice();
     let said = match names.first() {
-        Some(name) => match name.as_slice().first() {
+        Some(name) => match name.pieces().own.first() {
             Some(letter) => letter.wrapping_sub(b'A'),
             None => 255,
         },

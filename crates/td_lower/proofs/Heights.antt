@@ -1,5 +1,6 @@
 -- A definition needs no more registers than twice its nodes and a few. Cited by other crates.
 use Rattle.std.proofs.Common.{◌≡◌, ℕ, zero, suc, ◌+◌, ◌≤◌, List, [], ◌∷◌, ◌++◌, length, slice_get, Option, Some, None, arith, length-append}
+use Rattle.std.proofs.lemmas.List.{length-map}
 use Rattle.td_core.specs.declared.expressions.Relation.{Relation}
 use Rattle.td_core.specs.declared.expressions.Relation.TheVariants.{Equal, NotEqual, Less, LessEqual, Greater, GreaterEqual}
 use Rattle.td_core.specs.Term.{Term, number, name, complement, negation, compute, compare, both, either, choice, range_okay, measure, Deed, done, set, keep, fork, answer, give_up}
@@ -23,7 +24,6 @@ use Rattle.td_blocks.specs.Lowered.{compared_of, mask_of, expr_of, terms_of}
 use Rattle.td_blocks.specs.Tops.{deed_levels, action_levels, parts_levels, fields_levels, default_levels, cases_levels, body_levels, definition_levels, top, terms_top, test_top, deed_top, action_top, parts_top, sized_top, shape_top, content_top, fields_top, default_top, cases_top, body_top, definition_top}
 use Rattle.td_core.proofs.Nodes.{some_node as some_measure, each_node as count_low}
 use Rattle.td_blocks.proofs.Heights.{computed_top}
-use Rattle.td_acceptance.proofs.Modules.{mapped}
 
 -- how many values are kept, each at a level of its own, and how many fields' values beside them
 
@@ -324,7 +324,7 @@ pub registers_low : (ds : List TypeDef) (n : ℕ) (d : TypeDef) → IsDefinition
 registers_low ds n d h =
     let t = definition_levels d in
     let scope = param_bounds d.params in
-    let count : length scope ≡ length d.params = mapped (λ (p : Param). whole (scalar_of p.width)) d.params in
+    let count : length scope ≡ length d.params = length-map d.params (λ (p : Param). whole (scalar_of p.width)) in
     let low = body_low (length d.params) d.body in
     let up = body_level (length d.params) d.body in
     let x = test_low scope (suc t) d.guard h.0 (omega (arith, count, up)) in

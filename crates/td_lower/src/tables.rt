@@ -4,21 +4,22 @@ ghost use Rattle.std.specs.Prelude.{◌≡◌, ◌+◌, ◌<◌, ◌++◌, lengt
 ghost use Rattle.td_lower.specs.Tables.{names_of, where_name, switch_name, site_for, parts_sites, fields_sites, default_sites, cases_sites, body_sites, definition_sites, definitions_sites, buffer_names, entry_for, entries_for};
 
 use std::alloc::{AllocError, Global};
+use td_core::full_name::FullName;
 use td_core::module::{Body, Buffer, Case, Field, Module, NameId, Part, TypeDef};
 use td_ir::tables::{EntryPoint, Site};
 use td_num::items::Items;
 use td_num::text::Text;
 
 /// The names of the module, and those that stand for `where` and the switch value. `AllocError`: there was no memory for it.
-pub fn names_of(alloc: Global, m: &Module) -> Result<Items<Text>, AllocError>
+pub fn names_of(alloc: Global, m: &Module) -> Result<Items<FullName>, AllocError>
     ensures { IfOk result (λ names. names ≡ names_of m.now) }
 {
     let mut names = Items::new(alloc);
-    for text in m.names.as_slice() {
-        names.push(Text::copy_of(alloc, text.as_slice())?)?;
+    for name in m.names.as_slice() {
+        names.push(name.copy(alloc)?)?;
     }
-    names.push(Text::copy_of(alloc, b"where")?)?;
-    names.push(Text::copy_of(alloc, b"switch")?)?;
+    names.push(FullName::alone(Text::copy_of(alloc, b"where")?))?;
+    names.push(FullName::alone(Text::copy_of(alloc, b"switch")?))?;
     Ok(names)
 }
 

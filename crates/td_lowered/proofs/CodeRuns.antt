@@ -112,9 +112,6 @@ module _ (T : Parts) (units : ℕ → ℕ) (m : Module) (message : List ℕ) (co
   outside d less args cells small count on =
       all_at d less (places_from 0 (length cells)) args (run.started cells message) small count on
     where
-      itself : (n : ℕ) → nat_eq n n ≡ true
-      itself n = grind arith
-
       all_at : (d : ℕ) → d < length ds → (places args : List ℕ) (u : State) → u.end < 2 ^ 32 → length args ≡ params_of ds d → through_below Sound m.listed ds (length ds) d args places u.cells message u.pos u.end
           → passage (run.block T message d places (first_of T d) (run.entered (routine_of T d) args u)) ≡ passage_of (below m.listed ds (length ds) d args places u.cells message u.pos u.end)
       all_at d less places args u small count on =

@@ -2,10 +2,11 @@
 use Rattle.std.proofs.Common.{ℕ, ◌+◌, Bool, true, false, List, [], ◌∷◌, refl}
 use Rattle.td_core.specs.declared.module.TypeDef.{TypeDef}
 use Rattle.std.specs.Prelude.{Option, Some, None}
-use Rattle.td_blocks.specs.Block.{Block, Done, Leave}
+use Rattle.td_blocks.specs.Block.{Block, Done, Leave, Ends}
 use Rattle.td_blocks.specs.Constructs.{Expr, Lit, Slot, Binary, Not, Complement, ShiftLeft, Both, Either, Choice, Range, value, values, tested, acts, Action, Finish, Assign, Read, If, Return, Abort, Steps, End, Start, Place, Skipped, Number, Listed, Part, Test, Act, Named, AllBytes, AllZeros, ZeroEnd, Copied, Never, Arguments, BySize, ByConstant, Inner, Nothing, Evenly, Exactly, Uneven, All, Zeroes, OneCall, OneListed, EachCall, EachListed, CopyAll, inner, steps, Cases, Case, Default, NoDefault, cases, Body, Struct, Casetype, Where, body}
 use Rattle.td_blocks.specs.Lowered.{definition_body, definition_block}
-use Rattle.td_lowered.proofs.Laid.{Forms, Ends}
+use Rattle.td_blocks.proofs.Ending.{ends_body}
+use Rattle.td_lowered.proofs.Laid.{Forms}
 
 forms_value : (v : Bool) (t : ℕ) (e : Expr) (k : Block) → Forms v k → Forms v (value t e k)
 forms_value v t (Lit n) k h = (tt, h)
@@ -76,52 +77,6 @@ forms_body : (x : Body) → Forms false (body x)
 forms_body (Struct fields) = forms_steps fields
 forms_body (Casetype t e all) = forms_value false t e _ (forms_cases t all)
 forms_body (Where t site e x) = forms_tested false t e 4 site (body x) (forms_body x)
-
-ends_value : (t : ℕ) (e : Expr) (k : Block) → Ends k → Ends (value t e k)
-ends_value t (Lit n) k h = h
-ends_value t (Slot place) k h = h
-ends_value t (Binary op a b) k h = ends_value t a _ (ends_value (t + 1) b _ h)
-ends_value t (Not a) k h = ends_value t a _ h
-ends_value t (Complement mask a) k h = ends_value t a _ h
-ends_value t (ShiftLeft mask a b) k h = ends_value t a _ (ends_value (t + 1) b _ h)
-ends_value t (Both a b) k h = ends_value t a _ h
-ends_value t (Either a b) k h = ends_value t a _ h
-ends_value t (Choice c a b) k h = ends_value t c _ h
-ends_value t (Range size offset access) k h = ends_value t size _ (ends_value (t + 1) offset _ (ends_value (t + 2) access _ h))
-
-ends_values : (t : ℕ) (es : List Expr) (k : Block) → Ends k → Ends (values t es k)
-ends_values t [] k h = h
-ends_values t (e ∷ es) k h = ends_value t e _ (ends_values (t + 1) es k h)
-
-ends_steps : (x : Steps) → Ends (steps x)
-ends_steps End = tt
-ends_steps (Start k) = ends_steps k
-ends_steps (Place slot k) = ends_steps k
-ends_steps (Skipped width site k) = ends_steps k
-ends_steps (Number slot order width site k) = ends_steps k
-ends_steps (Listed slot order width set site t k) = ends_steps k
-ends_steps (Part slot unit low width k) = ends_steps k
-ends_steps (Test t site e k) = ends_value t e _ (ends_steps k)
-ends_steps (Act t site a k) = ends_steps k
-ends_steps (Named t routine cells site args k) = ends_values t args _ (ends_steps k)
-ends_steps (AllBytes k) = ends_steps k
-ends_steps (AllZeros site k) = ends_steps k
-ends_steps (ZeroEnd t width site e k) = ends_value t e _ (ends_steps k)
-ends_steps (Copied t buffer site e k) = ends_value t e _ (ends_steps k)
-ends_steps (Never site) = tt
-ends_steps (Arguments t args k) = ends_values t args _ (ends_steps k)
-ends_steps (BySize t site e x k) = ends_value t e _ (ends_steps k)
-ends_steps (ByConstant size site x k) = ends_steps k
-
-ends_cases : (t : ℕ) (x : Cases) → Ends (cases t x)
-ends_cases t (Case k fields more) = ends_cases t more
-ends_cases t (Default fields) = ends_steps fields
-ends_cases t (NoDefault site) = tt
-
-ends_body : (x : Body) → Ends (body x)
-ends_body (Struct fields) = ends_steps fields
-ends_body (Casetype t e all) = ends_value t e _ (ends_cases t all)
-ends_body (Where t site e x) = ends_value t e _ (ends_body x)
 
 pub block_forms : (first t : ℕ) (o : Option TypeDef) → Forms false (definition_block first t o)
 block_forms first t None = tt

@@ -9,9 +9,11 @@ use Rattle.td_ir.specs.Tables.{instruction_of, end_of}
 use Rattle.td_ir.specs.State.{State, reg, left, Way, Returned, Turned, Failed, Stuck, Exit}
 use Rattle.td_ir.specs.Flow.{Goes, Fails, Effect, effect, where_so, zeros_flow, zeroterm_flow}
 use Rattle.td_ir.specs.Run as run
-use Rattle.td_blocks.specs.Block.{Block, Done, Then, Stop, Leave, Guard, Scope, Window, Loop, size, guard, Stands}
+use Rattle.td_ir.proofs.Blocks.{jump, jump_to}
+use Rattle.td_blocks.specs.Block.{Block, Done, Then, Stop, Leave, Guard, Scope, Window, Loop, size, guard, Stands, Ends}
+use Rattle.td_blocks.proofs.Ending.{ends_some}
 use Rattle.td_lowered.proofs.BlockRun.{Passage, passage, plainly, touching, onwards, back, backward, turned, again, turns, Calling, nowhere, passes, guarded, ran}
-use Rattle.td_lowered.proofs.Unfolding.{jump, jump_to, opened}
+use Rattle.td_lowered.proofs.Unfolding.{opened}
 
 -- it leads to the next instruction alone
 abbrev pub IsOnward : Instr → Type 0
@@ -36,27 +38,6 @@ Forms leaves (Guard g r one rest) = Forms leaves one × Forms leaves rest
 Forms leaves (Scope body rest) = Forms true body × Forms leaves rest
 Forms leaves (Window j site body rest) = IsOnward j × (Forms false body × Forms leaves rest)
 Forms leaves (Loop body rest) = Forms false body × Forms leaves rest
-
--- it never goes on behind its end
-abbrev pub Ends : Block → Type 0
-Ends Done = ⊥
-Ends (Then j b) = Ends b
-Ends (Stop j) = Unit {0}
-Ends Leave = ⊥
-Ends (Guard g r one rest) = Ends rest
-Ends (Scope body rest) = Ends rest
-Ends (Window j site body rest) = Ends rest
-Ends (Loop body rest) = Ends rest
-
-ends_some : (b : Block) → Ends b → 1 ≤ size b
-ends_some Done h = absurd h
-ends_some (Then j b) h = omega arith
-ends_some (Stop j) h = omega arith
-ends_some Leave h = absurd h
-ends_some (Guard g r one rest) h = omega arith
-ends_some (Scope body rest) h = let k = ends_some rest h in omega (arith, k)
-ends_some (Window j site body rest) h = omega arith
-ends_some (Loop body rest) h = omega arith
 
 module _ (T : Parts) (message places : List ℕ) (n : ℕ) (room : end_of T n ≤ length T.instructions) where
   abbrev from : ℕ → State → Passage

@@ -6,6 +6,9 @@ pub mod Acts
 pub mod Parts
 pub mod Looking
 pub mod Shapes
+pub mod Windows
+pub mod Filled
+pub mod Single
 pub mod Arrays
 pub mod Fields
 pub mod Definitions

@@ -1,5 +1,5 @@
 -- What a copy buffer holds after a definition was read by it, or the buffer is as it was. Cited by other crates.
-use Rattle.std.proofs.Common.{◌≡◌, ◌⊎◌, inl, inr, ℕ, zero, suc, ◌+◌, ◌*◌, ◌<◌, ◌≤◌, Bool, true, false, cond, List, [], ◌∷◌, ◌++◌, length, map, take, drop, refl, sym, ap, ◌∙◌, subst, arith, Option, Some, None, nat_eq, nat_le}
+use Rattle.std.proofs.Common.{◌≡◌, ◌⊎◌, inl, inr, ℕ, zero, suc, ◌+◌, ◌*◌, ◌<◌, ◌≤◌, Bool, true, false, cond, List, [], ◌∷◌, ◌++◌, length, map, drop, refl, sym, ap, ◌∙◌, subst, arith, Option, Some, None, nat_eq, nat_le}
 use Rattle.std.specs.Prelude.{slice_get, slice_index, slice_set}
 use Rattle.std.proofs.lemmas.Bool.{cases_order, eqb-true}
 use Rattle.std.proofs.lemmas.List.{get_or-set_other, get_or-set_same, get_or-drop, get_or-map, length-set}
@@ -7,7 +7,7 @@ use Rattle.std.proofs.lemmas.Option.{slice_get_within}
 use Rattle.std.proofs.Math.ListN.{get_or-eq_default}
 use Rattle.td_num.specs.Numbers.{bytes_in, number_at, places_from}
 use Rattle.td_num.specs.Lists.{Each, is_among}
-use Rattle.td_num.proofs.Lists.{each_map}
+use Rattle.td_num.proofs.Lists.{each_map, each_taken}
 use Rattle.td_core.specs.Term.{Term, Deed, done, set, keep, fork, answer, give_up}
 use Rattle.td_core.specs.declared.module.NameId.{NameId}
 use Rattle.td_core.specs.declared.module.Element.{Element}
@@ -32,7 +32,7 @@ use Rattle.td_meaning.specs.Naming.{is_needed}
 use Rattle.td_meaning.specs.Meaning.{Sense, values, values_of, taken, demanded, zeros_end, zeros_meaning, element_meaning, elements, divides, equals, zero_end, element_up_to_zero, shape_meaning, with_copy, content_meaning, refined, ended, acted, checked, parts_meaning, bits_of, field_number, number_places, extended, field_place, where_place, switch_place, first_name, fields_meaning, case_for, chosen_meaning, body_meaning, definition_meaning, below, pick}
 use Rattle.td_meaning.specs.Copies.{cells_of}
 use Rattle.td_meaning.specs.Forward.{IsAt}
-use Rattle.td_meaning.proofs.Forward.{at_left, at_right}
+use Rattle.td_meaning.proofs.Places.{at_left, at_right}
 
 -- the two cells of buffer k, behind the first cells
 abbrev pub place_in : ℕ → ℕ → List ℕ → ℕ
@@ -86,14 +86,14 @@ kept_then first old t go h next = by t.ending h.covered
     by (Accepted q cells) c = record { covered = covered_then first t.reads (go q cells).reads old cells (cells_of (go q cells).ending) c (next q cells).covered }
     by (Rejected reason q trace cells) c = record { covered = c }
 
-same_cells : (site : FramePlace) (o : Ending) → cells_of (ending_within site o) ≡ cells_of o
+pub same_cells : (site : FramePlace) (o : Ending) → cells_of (ending_within site o) ≡ cells_of o
 same_cells site (Accepted q cells) = refl
 same_cells site (Rejected reason q trace cells) = refl
 
 kept_within : (first : ℕ) (old : List ℕ) (site : FramePlace) (t : Behavior) → Kept first old t → Kept first old (within site t)
 kept_within first old site t h = record { covered = subst (λ xs. Covered first t.reads old xs) (sym (same_cells site t.ending)) h.covered }
 
-demanded_cells : (reason : Reason) (v : Bool) (start q : ℕ) (cells : List ℕ) → cells_of (demanded reason v start q cells).ending ≡ cells
+pub demanded_cells : (reason : Reason) (v : Bool) (start q : ℕ) (cells : List ℕ) → cells_of (demanded reason v start q cells).ending ≡ cells
 demanded_cells reason true start q cells = refl
 demanded_cells reason false start q cells = refl
 
@@ -233,12 +233,6 @@ abbrev pub IsMapWhole : List TypeDef → Element → Type 0
 IsMapWhole ds (Named j args own) = OfSome (λ d. length own ≡ length d.cells + 2 * length d.buffers) (slice_get ds j)
 IsMapWhole ds element = Unit {0}
 
-front_at : (P : ℕ → Type 0) (n : ℕ) (xs : List ℕ) (c : ℕ) → Each P (take n xs) → c < n → c < length xs → P (slice_index xs c)
-front_at P zero xs c h lt inside = absurd (omega (arith, lt))
-front_at P (suc n) [] c h lt inside = absurd (omega (arith, inside))
-front_at P (suc n) (x ∷ xs) zero h lt inside = h.0
-front_at P (suc n) (x ∷ xs) (suc c) h lt inside = front_at P n xs c h.1 (omega (arith, lt)) (omega (arith, inside))
-
 pair_given : (cells : ℕ) (bs es : List Buffer) (ks : List ℕ) (n : ℕ) → AreBuffersGiven cells bs es ks → n < length es
     → (m : ℕ) × ((m < length bs) × ((slice_index ks (2 * n) ≡ cells + 2 * m) × (slice_index ks (2 * n + 1) ≡ cells + 2 * m + 1)))
 pair_given cells bs [] ks n h lt = absurd (omega (arith, lt))
@@ -251,7 +245,7 @@ pair_given cells bs (e ∷ es) (k ∷ l ∷ ks) (suc n) h lt =
     let next : 2 * suc n + 1 ≡ suc (suc (2 * n + 1)) = omega arith in
     (g.0, (g.1.0, (ap (slice_index (k ∷ l ∷ ks)) even ∙ g.1.1.0, ap (slice_index (k ∷ l ∷ ks)) next ∙ g.1.1.1)))
 
-index_map : (f : ℕ → ℕ) (xs : List ℕ) (c : ℕ) → c < length xs → slice_index (map f xs) c ≡ f (slice_index xs c)
+pub index_map : (f : ℕ → ℕ) (xs : List ℕ) (c : ℕ) → c < length xs → slice_index (map f xs) c ≡ f (slice_index xs c)
 index_map f xs c lt = get_or-map f xs c 0 0 lt
 
 -- where the cells of a type that is named stand
@@ -260,7 +254,7 @@ given_stand : (first : ℕ) (d e : TypeDef) (places own : List ℕ) → Stands f
 given_stand first d e places own s h long = record {
   own = λ c lt.
       subst (λ x. x < first) (sym (index_map (slice_index places) own c (omega (arith, lt, long))))
-      (s.own (slice_index own c) (front_at (λ k. k < length d.cells) (length e.cells) own c h.0 lt (omega (arith, lt, long))));
+      (s.own (slice_index own c) (each_taken (λ k. k < length d.cells) (length e.cells) own c h.0 lt (omega (arith, lt, long))));
   pairs = λ n lt.
       let g = pair_given (length d.cells) d.buffers e.buffers (drop (length e.cells) own) n h.1 lt in
       let t = s.pairs g.0 g.1.0 in
@@ -279,7 +273,7 @@ zeros_kept : (first : ℕ) (o : Option ℕ) (end p : ℕ) (cells : List ℕ) →
 zeros_kept first None end p cells = refl
 zeros_kept first (Some k) end p cells = refl
 
-zero_kept : (o : Option ℕ) (w bound room p : ℕ) (cells : List ℕ) → cells_of (zero_end o w bound room p cells).ending ≡ cells
+pub zero_kept : (o : Option ℕ) (w bound room p : ℕ) (cells : List ℕ) → cells_of (zero_end o w bound room p cells).ending ≡ cells
 zero_kept None w bound room p cells = refl
 zero_kept (Some k) w bound room p cells = refl
 
@@ -306,6 +300,14 @@ elements_kept first each start end h (suc turns) p cells = by (nat_eq p end) (λ
 pub record IsFieldKept (ds : List TypeDef) (d : TypeDef) (f : Field) : Type 0 where
   pub copying : IsFieldCopying ds d f
   pub map_whole : IsMapWhole ds f.element
+
+pub case_kept : (ds : List TypeDef) (d : TypeDef) (n : ℕ) (cs : List Case) (default : Option (List Field)) → Each (λ c. Each (IsFieldKept ds d) c.fields) cs → OfSome (Each (IsFieldKept ds d)) default → OfSome (Each (IsFieldKept ds d)) (case_for n cs default)
+case_kept ds d n [] default h g = g
+case_kept ds d n (c ∷ cs) default h g = by (nat_eq c.value n) (case_kept ds d n cs default h.1 g)
+  where
+    by : (b : Bool) → OfSome (Each (IsFieldKept ds d)) (case_for n cs default) → OfSome (Each (IsFieldKept ds d)) (cond b (Some c.fields) (case_for n cs default))
+    by true later = h.0
+    by false later = later
 
 module _ (first : ℕ) (message : List ℕ) (sets : List (List ℕ)) (ds : List TypeDef) where
   pub record AllKept (senses : ℕ → Sense) : Type 0 where
@@ -387,17 +389,9 @@ module _ (first : ℕ) (message : List ℕ) (sets : List (List ℕ)) (ds : List 
     chosen_kept ty None env end p cells h = kept_within first cells (switch_place ty p) (rejected Impossible p cells) (kept_same first cells (rejected Impossible p cells) refl)
     chosen_kept ty (Some fs) env end p cells h = fields_kept ty fs env end p cells h
 
-    case_kept : (n : ℕ) (cs : List Case) (default : Option (List Field)) → Each (λ c. Each (IsFieldKept ds d) c.fields) cs → OfSome (Each (IsFieldKept ds d)) default → OfSome (Each (IsFieldKept ds d)) (case_for n cs default)
-    case_kept n [] default h g = g
-    case_kept n (c ∷ cs) default h g = by (nat_eq c.value n) (case_kept n cs default h.1 g)
-      where
-        by : (b : Bool) → OfSome (Each (IsFieldKept ds d)) (case_for n cs default) → OfSome (Each (IsFieldKept ds d)) (cond b (Some c.fields) (case_for n cs default))
-        by true later = h.0
-        by false later = later
-
     body_kept : (ty : NameId) (body : Body) (env : List ℕ) (end p : ℕ) (cells : List ℕ) → EachField (IsFieldKept ds d) body → Kept first cells (body_meaning sets senses ty body env places message end p cells)
     body_kept ty (Struct fs) env end p cells h = fields_kept ty fs env end p cells h
-    body_kept ty (Casetype switch cases default) env end p cells h = chosen_kept ty (case_for (natural_of switch env) cases default) env end p cells (case_kept (natural_of switch env) cases default h.0 h.1)
+    body_kept ty (Casetype switch cases default) env end p cells h = chosen_kept ty (case_for (natural_of switch env) cases default) env end p cells (case_kept ds d (natural_of switch env) cases default h.0 h.1)
 
     whole_kept : (env : List ℕ) (end p : ℕ) (cells : List ℕ) → EachField (IsFieldKept ds d) d.body → Kept first cells (definition_meaning sets senses (Some d) env places cells message p end)
     whole_kept env end p cells h =

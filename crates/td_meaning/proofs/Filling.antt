@@ -1,7 +1,7 @@
 -- What bytes that are taken, arrays and definitions come to, case by case. Cited by other crates.
 use Rattle.std.proofs.Common.{◌≡◌, ℕ, zero, suc, ◌+◌, ◌-◌, ◌*◌, ◌/◌, ◌<◌, ◌≤◌, min, Bool, true, false, cond, Option, Some, None, List, [], ◌∷◌, length, refl, sym, ap, ◌∙◌, subst, arith}
 use Rattle.std.specs.Prelude.{slice_get}
-use Rattle.std.proofs.lemmas.Bool.{le-leb, lt-leb}
+use Rattle.std.proofs.lemmas.Bool.{le-leb, lt-leb, eq-eqb}
 use Rattle.std.proofs.lemmas.Option.{none-some, same_Some}
 use Rattle.std.proofs.Math.Nat.{div-mul-le_self, min-le_right, mul-le-mul_right, le_trans}
 use Rattle.td_num.specs.Numbers.{bytes_in, places_from}
@@ -35,6 +35,13 @@ pub filled_long : (each : ℕ → ℕ → List ℕ → Behavior) (step : Option 
 filled_long each step size end p cells v h d =
     ap (λ t. and_then t (λ q cells. and_then (demanded ListSize (divides step size) p p cells) (elements (each q) (suc size) p q))) (taken_long size p end p cells h)
     ∙ ap (λ v. and_then (demanded ListSize v p p cells) (elements (each (p + size)) (suc size) p (p + size))) d
+
+-- turns are left, but nothing to read
+pub elements_done : (each : ℕ → List ℕ → Behavior) (turns more start end p : ℕ) (cells : List ℕ) → turns ≡ suc more → p ≡ end → (elements each turns start end p cells).ending ≡ Accepted p cells
+unfolding elements
+elements_done each turns more start end p cells e at =
+    ap (λ n. (elements each n start end p cells).ending) e
+    ∙ ap (λ v. (cond v (accepted p cells) (and_then (each p cells) (elements each more start end))).ending) (eq-eqb p end at)
 
 -- no field is left
 pub fields_none : (sets : List (List ℕ)) (senses : ℕ → Sense) (ty : NameId) (env places b : List ℕ) (end p : ℕ) (cells : List ℕ) → fields_meaning sets senses ty [] env places b end p cells ≡ accepted p cells

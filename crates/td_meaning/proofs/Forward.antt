@@ -1,9 +1,8 @@
 -- Messages that agree before a place are read alike up to it, and so fields are read forward. Cited by other crates.
-use Rattle.std.proofs.Common.{◌≡◌, ℕ, zero, suc, ◌+◌, ◌-◌, ◌*◌, ◌/◌, ◌<◌, ◌≤◌, Bool, true, false, cond, min, List, [], ◌∷◌, ◌++◌, length, map, refl, sym, ap, ◌∙◌, subst, arith, inl, inr, Option, Some, None}
+use Rattle.std.proofs.Common.{◌≡◌, ℕ, zero, suc, ◌+◌, ◌<◌, ◌≤◌, Bool, true, false, List, [], ◌∷◌, length, map, refl, sym, ap, ◌∙◌, subst, arith, inl, inr, Option, Some, None}
 use Rattle.std.specs.Prelude.{◌⊎◌, slice_get, slice_index, nat_eq, nat_le}
 use Rattle.std.proofs.lemmas.Bool.{cases_lt}
 use Rattle.td_num.specs.Numbers.{bytes_in, number_at, places_from}
-use Rattle.td_num.specs.declared.number.NumberType.{NumberType}
 use Rattle.td_num.specs.Lists.{Each, is_among}
 use Rattle.td_core.specs.Term.{Term}
 use Rattle.td_core.specs.declared.module.NameId.{NameId}
@@ -16,338 +15,59 @@ use Rattle.td_core.specs.declared.module.Field.{Field}
 use Rattle.td_core.specs.declared.module.Body.{Body}
 use Rattle.td_core.specs.declared.module.Body.TheVariants.{Struct, Casetype}
 use Rattle.td_core.specs.declared.module.TypeDef.{TypeDef}
-use Rattle.td_core.specs.declared.outcome.Reason.{Reason}
 use Rattle.td_core.specs.declared.outcome.Reason.TheVariants.{NotEnough, Constraint, ListSize}
-use Rattle.td_core.specs.Outcome.{Behavior, FramePlace, Ending, Accepted, Rejected, accepted, rejected, and_then, onward, within, after_reading}
+use Rattle.td_core.specs.Outcome.{Behavior, FramePlace, Accepted, Rejected, rejected, and_then, within, after_reading}
 use Rattle.td_meaning.specs.Doing.{natural_of, is_true}
 use Rattle.td_meaning.specs.Naming.{is_needed}
-use Rattle.td_meaning.specs.Meaning.{Sense, values, values_of, taken, demanded, is_nonzero, byte_type, zeros_end, first_where, looked_at, one_more, run_of, numbers_at, zeros_meaning, element_meaning, elements, divides, equals, zero_end, up_to_zero, element_up_to_zero, shape_meaning, content_meaning, refined, parts_meaning, field_number, number_places, extended, field_place, where_place, first_name, fields_meaning, case_for, chosen_meaning, body_meaning, definition_meaning, below, pick, entry_place, meaning}
+use Rattle.td_meaning.specs.Meaning.{Sense, values, values_of, taken, demanded, element_meaning, elements, divides, equals, shape_meaning, content_meaning, refined, parts_meaning, field_number, number_places, extended, field_place, where_place, first_name, fields_meaning, case_for, chosen_meaning, body_meaning, definition_meaning, below, pick, entry_place, meaning}
 use Rattle.td_meaning.specs.Throughout.{OnEnding}
-use Rattle.td_meaning.specs.Deciding.{SameAt}
 use Rattle.td_meaning.specs.Forward.{IsAt, ReadsGoForward, ReadsAreWithin}
-use Rattle.td_meaning.proofs.Ending.{on_map, on_within}
-use Rattle.td_meaning.proofs.Inside.{Among, Inside, wider, inside_then, inside_within, inside_demanded, taken_at, elements_inside, parts_inside, AllInside, element_inside, content_inside, fields_inside, below_inside, unframed}
-use Rattle.td_meaning.proofs.Deciding.{number_same, looked_more, reads_decide}
-
--- Places
-
-pub at_left : (k : ℕ) (xs ys : List ℕ) → IsAt k xs → IsAt k (xs ++ ys)
-at_left k [] ys h = absurd h
-at_left k (x ∷ xs) ys (inl e) = inl e
-at_left k (x ∷ xs) ys (inr h) = inr (at_left k xs ys h)
-
-pub at_right : (k : ℕ) (xs ys : List ℕ) → IsAt k ys → IsAt k (xs ++ ys)
-at_right k [] ys h = h
-at_right k (x ∷ xs) ys h = inr (at_right k xs ys h)
-
-at_cases : (k : ℕ) (xs ys : List ℕ) → IsAt k (xs ++ ys) → IsAt k xs ⊎ IsAt k ys
-at_cases k [] ys h = inr h
-at_cases k (x ∷ xs) ys (inl e) = inl (inl e)
-at_cases k (x ∷ xs) ys (inr h) = elim (at_cases k xs ys h) [ inl a ↦ inl (inr a) | inr b ↦ inr b ]
-
-pub at_each : (P : ℕ → Type 0) (k : ℕ) (xs : List ℕ) → Each P xs → IsAt k xs → P k
-at_each P k [] h i = absurd i
-at_each P k (x ∷ xs) h (inl e) = subst P (sym e) h.0
-at_each P k (x ∷ xs) h (inr i) = at_each P k xs h.1 i
-
-in_places : (k p w : ℕ) → p ≤ k → k < p + w → IsAt k (places_from p w)
-in_places k p zero le lt = absurd (omega (arith, le, lt))
-in_places k p (suc w) le lt = elim (cases_lt p k) [
-  | inl past ↦ inr (in_places k (p + 1) w (omega (arith, past)) (omega (arith, lt)))
-  | inr here ↦ inl (omega (arith, here, le))
-]
-
-from_places : (k p w : ℕ) → IsAt k (places_from p w) → p ≤ k
-from_places k p zero h = absurd h
-from_places k p (suc w) (inl e) = omega (arith, e)
-from_places k p (suc w) (inr h) = let rest = from_places k (p + 1) w h in omega (arith, rest)
+use Rattle.td_meaning.proofs.Ending.{on_within}
+use Rattle.td_meaning.proofs.Inside.{Among, Inside, wider, inside_then, inside_within, inside_demanded, taken_at, parts_inside, AllInside, element_inside, content_inside, fields_inside, below_inside, unframed}
+use Rattle.td_meaning.proofs.Deciding.{reads_decide}
+use Rattle.td_meaning.proofs.Places.{at_each, same_at_each}
+use Rattle.td_meaning.proofs.Near.{Near, apart_from, near_reading, near_after, beyond, near_then, number_alike, apart_reading, past_demanded, silent, zeros_near, element_up_to_zero_near, elements_near}
 
 module _ (b c : List ℕ) (q : ℕ) (alike : (k : ℕ) → k < q → slice_index b k ≡ slice_index c k) where
-  abbrev Past : Behavior → Type 0
-  Past t = OnEnding t.ending (λ r cells. q < r)
-
-  -- they are read alike up to q, and where they accept they are past it
-  record Apart (t u : Behavior) : Type 0 where
-    here : (k : ℕ) → k ≤ q → IsAt k t.reads → IsAt k u.reads
-    there : (k : ℕ) → k ≤ q → IsAt k u.reads → IsAt k t.reads
-    one : Past t
-    other : Past u
-
-  abbrev Near : Behavior → Behavior → Type 0
-  Near t u = (t ≡ u) ⊎ Apart t u
-
-  -- behind q nothing before it is read
-  none_before : (p high k : ℕ) (t : Behavior) → q < p → Inside p high t → k ≤ q → IsAt k t.reads → ⊥
-  none_before p high k t past i le h = let r = at_each (Among p high) k t.reads i.reads h in omega (arith, past, le, r.0)
-
-  past_from : (p high : ℕ) (t : Behavior) → q < p → Inside p high t → Past t
-  past_from p high t past i = on_map t.ending (λ r cells. (p ≤ r) × (r ≤ high)) (λ r cells. q < r) i.ending (λ r cells h. omega (arith, past, h.0))
-
-  apart_from : (p high : ℕ) (t u : Behavior) → q < p → Inside p high t → Inside p high u → Apart t u
-  apart_from p high t u past i j = record {
-    here = λ k le h. absurd (none_before p high k t past i le h);
-    there = λ k le h. absurd (none_before p high k u past j le h);
-    one = past_from p high t past i;
-    other = past_from p high u past j;
-  }
-
-  near_reading : (places : List ℕ) (t u : Behavior) → Near t u → Near (after_reading places t) (after_reading places u)
-  near_reading places t u (inl e) = inl (ap (after_reading places) e)
-  near_reading places t u (inr a) = inr (record {
-    here = λ k le h. elim (at_cases k places t.reads h) [ inl i ↦ at_left k places u.reads i | inr i ↦ at_right k places u.reads (a.here k le i) ];
-    there = λ k le h. elim (at_cases k places u.reads h) [ inl i ↦ at_left k places t.reads i | inr i ↦ at_right k places t.reads (a.there k le i) ];
-    one = a.one;
-    other = a.other;
-  })
-
-  near_within : (site : FramePlace) (t u : Behavior) → Near t u → Near (within site t) (within site u)
-  near_within site t u (inl e) = inl (ap (within site) e)
-  near_within site t u (inr a) = inr (record {
-    here = a.here;
-    there = a.there;
-    one = on_within site t.ending (λ r cells. q < r) a.one;
-    other = on_within site u.ending (λ r cells. q < r) a.other;
-  })
-
-  -- what follows the same
-  near_after : (t : Behavior) (go go' : ℕ → List ℕ → Behavior) → ((r : ℕ) (cells : List ℕ) → t.ending ≡ Accepted r cells → Near (go r cells) (go' r cells)) → Near (and_then t go) (and_then t go')
-  near_after t go go' next = by t.ending refl
-    where
-      by : (o : Ending) → t.ending ≡ o → Near (onward o t.reads go) (onward o t.reads go')
-      by (Accepted r cells) e = near_reading t.reads (go r cells) (go' r cells) (next r cells e)
-      by (Rejected reason position trace cells) e = inl refl
-
-  -- what follows what is past q reads nothing up to it
-  beyond : (high : ℕ) (o : Ending) (reads : List ℕ) (go : ℕ → List ℕ → Behavior) → OnEnding o (λ r cells. q < r) → ((r : ℕ) (cells : List ℕ) → o ≡ Accepted r cells → Inside r high (go r cells))
-      → (((k : ℕ) → k ≤ q → IsAt k (onward o reads go).reads → IsAt k reads) × ((k : ℕ) → IsAt k reads → IsAt k (onward o reads go).reads)) × Past (onward o reads go)
-  beyond high (Accepted r cells) reads go past i =
-      let inner = i r cells refl in (
-        (
-          λ k le h. elim (at_cases k reads (go r cells).reads h) [ inl a ↦ a | inr a ↦ absurd (none_before r high k (go r cells) past inner le a) ],
-          λ k h. at_left k reads (go r cells).reads h,
-        ),
-        past_from r high (go r cells) past inner,
-      )
-  beyond high (Rejected reason position trace cells) reads go past i = ((λ k le h. h, λ k h. h), tt)
-
-  near_then : (low high : ℕ) (t u : Behavior) (go go' : ℕ → List ℕ → Behavior) → Near t u → Inside low high t → Inside low high u
-      → ((r : ℕ) (cells : List ℕ) → low ≤ r → r ≤ high → Inside r high (go r cells)) → ((r : ℕ) (cells : List ℕ) → low ≤ r → r ≤ high → Inside r high (go' r cells))
-      → ((r : ℕ) (cells : List ℕ) → low ≤ r → r ≤ high → Near (go r cells) (go' r cells)) → Near (and_then t go) (and_then u go')
-  near_then low high t u go go' (inl e) i j k l next =
-      subst (λ v. Near (and_then t go) (and_then v go')) e
-      (near_after t go go' (λ r cells f. let at = subst (λ o. OnEnding o (λ r cells. (low ≤ r) × (r ≤ high))) f i.ending in next r cells at.0 at.1))
-  near_then low high t u go go' (inr a) i j k l next =
-      let one = beyond high t.ending t.reads go a.one (λ r cells f. let at = subst (λ o. OnEnding o (λ r cells. (low ≤ r) × (r ≤ high))) f i.ending in k r cells at.0 at.1) in
-      let other = beyond high u.ending u.reads go' a.other (λ r cells f. let at = subst (λ o. OnEnding o (λ r cells. (low ≤ r) × (r ≤ high))) f j.ending in l r cells at.0 at.1) in
-      inr (record {
-        here = λ k le h. other.0.1 k (a.here k le (one.0.0 k le h));
-        there = λ k le h. one.0.1 k (a.there k le (other.0.0 k le h));
-        one = one.1;
-        other = other.1;
-      })
-
-  -- Numbers
-
-  places_alike : (p w : ℕ) → p + w ≤ q → SameAt (places_from p w) b c
-  places_alike p zero le = tt
-  places_alike p (suc w) le = (alike p (omega (arith, le)), places_alike (p + 1) w (omega (arith, le)))
-
-  number_alike : (type : NumberType) (p : ℕ) → p + bytes_in type.width ≤ q → number_at type b p ≡ number_at type c p
-  number_alike type p le = number_same b c type p (places_alike p (bytes_in type.width) le)
-
-  -- after the same places were read, both are past them
-  apart_reading : (places : List ℕ) (t u : Behavior) → Past t → Past u → t.reads ≡ [] → u.reads ≡ [] → Near (after_reading places t) (after_reading places u)
-  apart_reading places t u p p' e e' = inr (record {
-    here = λ k le h. subst (λ xs. IsAt k (places ++ xs)) (e ∙ sym e') h;
-    there = λ k le h. subst (λ xs. IsAt k (places ++ xs)) (e' ∙ sym e) h;
-    one = p;
-    other = p';
-  })
-
-  past_demanded : (reason : Reason) (v : Bool) (start r : ℕ) (cells : List ℕ) → q < r → Past (demanded reason v start r cells)
-  past_demanded reason true start r cells h = h
-  past_demanded reason false start r cells h = tt
-
-  silent : (reason : Reason) (v : Bool) (start r : ℕ) (cells : List ℕ) → (demanded reason v start r cells).reads ≡ []
-  silent reason true start r cells = refl
-  silent reason false start r cells = refl
-
-  -- the first number that passes a test is the same, or in both what is looked at goes past q
-  record Farther (type : NumberType) (p m n : ℕ) : Type 0 where
-    past : q < p + m * bytes_in type.width
-    past' : q < p + n * bytes_in type.width
-
-  some_looked : (v : Bool) (o : Option ℕ) (n : ℕ) → 1 ≤ looked_at (cond v (Some 0) (one_more o)) (suc n)
-  some_looked true o n = omega arith
-  some_looked false None n = omega arith
-  some_looked false (Some k) n = omega arith
-
-  abbrev found : (ℕ → Bool) → NumberType → List ℕ → ℕ → ℕ → Option ℕ
-  found test type message p n = first_where test (numbers_at type message p n)
-
-  width_past : (w p m : ℕ) → 1 ≤ m → q < p + w → q < p + m * w
-  width_past w p zero some h = absurd (omega (arith, some))
-  width_past w p (suc m) some h = omega (arith, h)
-
-  one_farther : (w p m : ℕ) → q < p + w + m * w → q < p + suc m * w
-  one_farther w p m h = omega (arith, h)
-
-  first_near : (test : ℕ → Bool) (type : NumberType) (n p : ℕ)
-      → (found test type b p n ≡ found test type c p n) ⊎ Farther type p (looked_at (found test type b p n) n) (looked_at (found test type c p n) n)
-  first_near test type zero p = inl refl
-  first_near test type (suc n) p =
-      let w = bytes_in type.width in
-      let r = found test type b (p + w) n in
-      let r' = found test type c (p + w) n in
-      elim (cases_lt q (p + w)) [
-        | inl short ↦ inr (record {
-          past = width_past w p (looked_at (cond (test (number_at type b p)) (Some 0) (one_more r)) (suc n)) (some_looked (test (number_at type b p)) r n) short;
-          past' = width_past w p (looked_at (cond (test (number_at type c p)) (Some 0) (one_more r')) (suc n)) (some_looked (test (number_at type c p)) r' n) short;
-        })
-        | inr room ↦ subst
-            (λ y. (cond (test (number_at type b p)) (Some 0) (one_more r) ≡ cond (test y) (Some 0) (one_more r')) ⊎ Farther type p (looked_at (cond (test (number_at type b p)) (Some 0) (one_more r)) (suc n)) (looked_at (cond (test y) (Some 0) (one_more r')) (suc n)))
-            (number_alike type p room)
-            (by (test (number_at type b p)) (first_near test type n (p + w)))
-      ]
-    where
-      w : ℕ
-      w = bytes_in type.width
-
-      r : Option ℕ
-      r = found test type b (p + w) n
-
-      r' : Option ℕ
-      r' = found test type c (p + w) n
-
-      by : (v : Bool) → (r ≡ r') ⊎ Farther type (p + w) (looked_at r n) (looked_at r' n)
-          → (cond v (Some 0) (one_more r) ≡ cond v (Some 0) (one_more r')) ⊎ Farther type p (looked_at (cond v (Some 0) (one_more r)) (suc n)) (looked_at (cond v (Some 0) (one_more r')) (suc n))
-      by true h = inl refl
-      by false (inl e) = inl (ap one_more e)
-      by false (inr f) = inr (record {
-        past = subst (λ m. q < p + m * w) (sym (looked_more b c r n)) (one_farther w p (looked_at r n) f.past);
-        past' = subst (λ m. q < p + m * w) (sym (looked_more b c r' n)) (one_farther w p (looked_at r' n) f.past');
-      })
-
-  -- runs that both go past q are read alike up to it
-  runs_near : (type : NumberType) (p m n : ℕ) (t u : Behavior) → Farther type p m n → Past t → Past u → t.reads ≡ [] → u.reads ≡ [] → Near (after_reading (run_of type p m) t) (after_reading (run_of type p n) u)
-  runs_near type p m n t u f one other e e' =
-      let w = bytes_in type.width in
-      inr (record {
-        here = λ k le h. subst (λ xs. IsAt k (run_of type p n ++ xs)) (sym e')
-            (at_left k (run_of type p n) [] (in_places k p (n * w) (from_run k m t e h) (omega (arith, le, f.past'))));
-        there = λ k le h. subst (λ xs. IsAt k (run_of type p m ++ xs)) (sym e)
-            (at_left k (run_of type p m) [] (in_places k p (m * w) (from_run k n u e' h) (omega (arith, le, f.past))));
-        one = one;
-        other = other;
-      })
-    where
-      from_run : (k m : ℕ) (t : Behavior) → t.reads ≡ [] → IsAt k (run_of type p m ++ t.reads) → p ≤ k
-      from_run k m t e h = elim (at_cases k (run_of type p m) t.reads h) [
-        | inl i ↦ from_places k p (m * bytes_in type.width) i
-        | inr i ↦ absurd (subst (IsAt k) e i)
-      ]
-
-  zeros_past : (o : Option ℕ) (end p : ℕ) (cells : List ℕ) → p ≤ end → q < p + looked_at o (end - p) * 1 → Past (zeros_end o end p cells)
-  zeros_past None end p cells le h = omega (arith, h, le)
-  zeros_past (Some k) end p cells le h = tt
-
-  zeros_silent : (o : Option ℕ) (end p : ℕ) (cells : List ℕ) → (zeros_end o end p cells).reads ≡ []
-  zeros_silent None end p cells = refl
-  zeros_silent (Some k) end p cells = refl
-
-  zeros_near : (end p : ℕ) (cells : List ℕ) → p ≤ end → Near (zeros_meaning b end p cells) (zeros_meaning c end p cells)
-  zeros_near end p cells le = elim (first_near is_nonzero byte_type (end - p) p) [
-    | inl e ↦ inl (ap (λ o. after_reading (run_of byte_type p (looked_at o (end - p))) (zeros_end o end p cells)) e)
-    | inr f ↦
-        let o = found is_nonzero byte_type b p (end - p) in
-        let o' = found is_nonzero byte_type c p (end - p) in
-        runs_near byte_type p (looked_at o (end - p)) (looked_at o' (end - p)) (zeros_end o end p cells) (zeros_end o' end p cells) f
-        (zeros_past o end p cells le f.past) (zeros_past o' end p cells le f.past') (zeros_silent o end p cells) (zeros_silent o' end p cells)
-  ]
-
-  zero_past : (o : Option ℕ) (n w bound room p : ℕ) (cells : List ℕ) → q < p + looked_at o n * w → Past (zero_end o w bound room p cells)
-  zero_past None n w bound room p cells h = tt
-  zero_past (Some k) n w bound room p cells h = h
-
-  zero_silent : (o : Option ℕ) (w bound room p : ℕ) (cells : List ℕ) → (zero_end o w bound room p cells).reads ≡ []
-  zero_silent None w bound room p cells = refl
-  zero_silent (Some k) w bound room p cells = refl
-
-  up_to_zero_near : (type : NumberType) (size end p : ℕ) (cells : List ℕ) → Near (up_to_zero type size b end p cells) (up_to_zero type size c end p cells)
-  up_to_zero_near type size end p cells =
-      let w = bytes_in type.width in
-      let bound = size / w in
-      let room = (end - p) / w in
-      let n = min bound room in
-      let test = λ (n : ℕ). nat_eq n 0 in
-      elim (first_near test type n p) [
-        | inl e ↦ inl (ap (λ o. after_reading (run_of type p (looked_at o n)) (zero_end o w bound room p cells)) e)
-        | inr f ↦
-            let o = found test type b p n in
-            let o' = found test type c p n in
-            runs_near type p (looked_at o n) (looked_at o' n) (zero_end o w bound room p cells) (zero_end o' w bound room p cells) f
-            (zero_past o n w bound room p cells f.past) (zero_past o' n w bound room p cells f.past') (zero_silent o w bound room p cells) (zero_silent o' w bound room p cells)
-      ]
-
-  element_up_to_zero_near : (element : Element) (size end p : ℕ) (cells : List ℕ) → Near (element_up_to_zero element size b end p cells) (element_up_to_zero element size c end p cells)
-  element_up_to_zero_near (Number type) size end p cells = up_to_zero_near type size end p cells
-  element_up_to_zero_near (Listed base k) size end p cells = inl refl
-  element_up_to_zero_near (Named j args own) size end p cells = inl refl
-  element_up_to_zero_near UnitElement size end p cells = inl refl
-  element_up_to_zero_near Rest size end p cells = inl refl
-  element_up_to_zero_near Zeros size end p cells = inl refl
-
-  elements_near : (each each' : ℕ → List ℕ → Behavior) (start end : ℕ) → ((r : ℕ) (cells : List ℕ) → r ≤ end → Inside r end (each r cells)) → ((r : ℕ) (cells : List ℕ) → r ≤ end → Inside r end (each' r cells))
-      → ((r : ℕ) (cells : List ℕ) → r ≤ end → Near (each r cells) (each' r cells)) → (turns p : ℕ) (cells : List ℕ) → p ≤ end → Near (elements each turns start end p cells) (elements each' turns start end p cells)
-  unfolding elements
-  elements_near each each' start end i j h zero p cells le = inl refl
-  elements_near each each' start end i j h (suc turns) p cells le = by (nat_eq p end) (λ r more ge. elements_near each each' start end i j h turns r more ge)
-    where
-      by : (v : Bool) → ((r : ℕ) (more : List ℕ) → r ≤ end → Near (elements each turns start end r more) (elements each' turns start end r more))
-          → Near (cond v (accepted p cells) (and_then (each p cells) (elements each turns start end))) (cond v (accepted p cells) (and_then (each' p cells) (elements each' turns start end)))
-      by true later = inl refl
-      by false later = near_then p end (each p cells) (each' p cells) (elements each turns start end) (elements each' turns start end) (h p cells le) (i p cells le) (j p cells le)
-          (λ r more lo hi. elements_inside each start end i turns r more hi) (λ r more lo hi. elements_inside each' start end j turns r more hi) (λ r more lo hi. later r more hi)
-
   -- of each definition
   record AllNear (senses : ℕ → Sense) : Type 0 where
-    by : (j : ℕ) (args places cells : List ℕ) (p end : ℕ) → p ≤ end → Near (senses j args places cells b p end) (senses j args places cells c p end)
+    by : (j : ℕ) (args places cells : List ℕ) (p end : ℕ) → p ≤ end → Near b c q alike (senses j args places cells b p end) (senses j args places cells c p end)
 
   module _ (sets : List (List ℕ)) (senses : ℕ → Sense) (one : AllInside b sets senses) (other : AllInside c sets senses) (good : AllNear senses) where
-    element_near : (element : Element) (env places : List ℕ) (start end p : ℕ) (cells : List ℕ) → p ≤ end → Near (element_meaning sets senses element env places b start end p cells) (element_meaning sets senses element env places c start end p cells)
+    element_near : (element : Element) (env places : List ℕ) (start end p : ℕ) (cells : List ℕ) → p ≤ end → Near b c q alike (element_meaning sets senses element env places b start end p cells) (element_meaning sets senses element env places c start end p cells)
     element_near (Number type) env places start end p cells le = inl refl
     element_near (Listed base k) env places start end p cells le =
         let w = bytes_in base.width in
         let test = λ (message : List ℕ) (r : ℕ) (cells : List ℕ). demanded Constraint (is_among (values_of sets k) (number_at base message p)) start r cells in
-        near_after (taken w start end p cells) (λ r cells. after_reading (places_from p w) (test b r cells)) (λ r cells. after_reading (places_from p w) (test c r cells))
+        near_after b c q alike (taken w start end p cells) (λ r cells. after_reading (places_from p w) (test b r cells)) (λ r cells. after_reading (places_from p w) (test c r cells))
         (λ r more e.
         let at : r ≡ p + w = taken_at (nat_le (p + w) end) start (p + w) r cells more e in
         elim (cases_lt q (p + w)) [
           | inl short ↦
               let past : q < r = omega (arith, short, at) in
-              apart_reading (places_from p w) (test b r more) (test c r more)
-              (past_demanded Constraint (is_among (values_of sets k) (number_at base b p)) start r more past) (past_demanded Constraint (is_among (values_of sets k) (number_at base c p)) start r more past)
-              (silent Constraint (is_among (values_of sets k) (number_at base b p)) start r more) (silent Constraint (is_among (values_of sets k) (number_at base c p)) start r more)
-          | inr room ↦ inl (ap (λ n. after_reading (places_from p w) (demanded Constraint (is_among (values_of sets k) n) start r more)) (number_alike base p room))
+              apart_reading b c q alike (places_from p w) (test b r more) (test c r more)
+              (past_demanded b c q alike Constraint (is_among (values_of sets k) (number_at base b p)) start r more past) (past_demanded b c q alike Constraint (is_among (values_of sets k) (number_at base c p)) start r more past)
+              (silent b c q alike Constraint (is_among (values_of sets k) (number_at base b p)) start r more) (silent b c q alike Constraint (is_among (values_of sets k) (number_at base c p)) start r more)
+          | inr room ↦ inl (ap (λ n. after_reading (places_from p w) (demanded Constraint (is_among (values_of sets k) n) start r more)) (number_alike b c q alike base p room))
         ])
     element_near (Named j args own) env places start end p cells le = good.by j (values args env) (map (slice_index places) own) cells p end le
     element_near UnitElement env places start end p cells le = inl refl
     element_near Rest env places start end p cells le = inl refl
-    element_near Zeros env places start end p cells le = zeros_near end p cells le
+    element_near Zeros env places start end p cells le = zeros_near b c q alike end p cells le
 
-    shape_near : (element : Element) (extent : Extent) (env places : List ℕ) (end p : ℕ) (cells : List ℕ) → p ≤ end → Near (shape_meaning sets senses element extent env places b end p cells) (shape_meaning sets senses element extent env places c end p cells)
+    shape_near : (element : Element) (extent : Extent) (env places : List ℕ) (end p : ℕ) (cells : List ℕ) → p ≤ end → Near b c q alike (shape_meaning sets senses element extent env places b end p cells) (shape_meaning sets senses element extent env places c end p cells)
     shape_near element Once env places end p cells le = element_near element env places p end p cells le
     shape_near element (Filling size step) env places end p cells le =
         let n = natural_of size env in
         let each = element_meaning sets senses element env places b p in
         let each' = element_meaning sets senses element env places c p in
         let fits = demanded ListSize (divides step n) p p in
-        near_after (taken n p end p cells) (λ r cells. and_then (fits cells) (elements (each r) (suc n) p r)) (λ r cells. and_then (fits cells) (elements (each' r) (suc n) p r))
-        (λ r more e. near_after (fits more) (elements (each r) (suc n) p r) (elements (each' r) (suc n) p r)
+        near_after b c q alike (taken n p end p cells) (λ r cells. and_then (fits cells) (elements (each r) (suc n) p r)) (λ r cells. and_then (fits cells) (elements (each' r) (suc n) p r))
+        (λ r more e. near_after b c q alike (fits more) (elements (each r) (suc n) p r) (elements (each' r) (suc n) p r)
         (λ s last f.
         let at : r ≡ p + n = taken_at (nat_le (p + n) end) p (p + n) r cells more e in
         let from : s ≡ p = fits_at (divides step n) p p s more last f in
-        elements_near (each r) (each' r) p r
+        elements_near b c q alike (each r) (each' r) p r
         (λ t final ge. element_inside b sets senses one element env places p r t final ge) (λ t final ge. element_inside c sets senses other element env places p r t final ge)
         (λ t final ge. element_near element env places p r t final ge) (suc n) s last (omega (arith, at, from))))
       where
@@ -360,13 +80,13 @@ module _ (b c : List ℕ) (q : ℕ) (alike : (k : ℕ) → k < q → slice_index
         let each' = element_meaning sets senses element env places c p in
         let fits = demanded ListSize (equals step n) p p in
         let last = λ (r t : ℕ) (cells : List ℕ). demanded ListSize (nat_eq t r) p t cells in
-        near_after (taken n p end p cells) (λ r cells. and_then (fits cells) (λ s cells. and_then (each r s cells) (last r))) (λ r cells. and_then (fits cells) (λ s cells. and_then (each' r s cells) (last r)))
-        (λ r more e. near_after (fits more) (λ s cells. and_then (each r s cells) (last r)) (λ s cells. and_then (each' r s cells) (last r))
+        near_after b c q alike (taken n p end p cells) (λ r cells. and_then (fits cells) (λ s cells. and_then (each r s cells) (last r))) (λ r cells. and_then (fits cells) (λ s cells. and_then (each' r s cells) (last r)))
+        (λ r more e. near_after b c q alike (fits more) (λ s cells. and_then (each r s cells) (last r)) (λ s cells. and_then (each' r s cells) (last r))
         (λ s rest f.
         let at : r ≡ p + n = taken_at (nat_le (p + n) end) p (p + n) r cells more e in
         let from : s ≡ p = fits_at (equals step n) p p s more rest f in
         let room : s ≤ r = omega (arith, at, from) in
-        near_then s r (each r s rest) (each' r s rest) (last r) (last r) (element_near element env places p r s rest room)
+        near_then b c q alike s r (each r s rest) (each' r s rest) (last r) (last r) (element_near element env places p r s rest room)
         (element_inside b sets senses one element env places p r s rest room) (element_inside c sets senses other element env places p r s rest room)
         (λ t final lo hi. inside_demanded t r ListSize (nat_eq t r) p t final (omega arith) hi) (λ t final lo hi. inside_demanded t r ListSize (nat_eq t r) p t final (omega arith) hi)
         (λ t final lo hi. inl refl)))
@@ -374,7 +94,7 @@ module _ (b c : List ℕ) (q : ℕ) (alike : (k : ℕ) → k < q → slice_index
         fits_at : (v : Bool) (start r s : ℕ) (cells more : List ℕ) → (demanded ListSize v start r cells).ending ≡ Accepted s more → s ≡ r
         fits_at true start r s cells more e = let f : Accepted r cells ≡ Accepted s more = e in cc
         fits_at false start r s cells more e = absurd (let f : Rejected ListSize start [] cells ≡ Accepted s more = e in cc)
-    shape_near element (UpToZero size) env places end p cells le = element_up_to_zero_near element (natural_of size env) end p cells
+    shape_near element (UpToZero size) env places end p cells le = element_up_to_zero_near b c q alike element (natural_of size env) end p cells
 
     -- a number is read behind the same shape, and all else has no places
     numbers : (need : Bool) (element : Element) (extent : Extent) (env places : List ℕ) (end p : ℕ) (cells : List ℕ)
@@ -395,11 +115,11 @@ module _ (b c : List ℕ) (q : ℕ) (alike : (k : ℕ) → k < q → slice_index
     field_number_alike (Number type) Once env places end p r cells more e le =
         let w = bytes_in type.width in
         let at : r ≡ p + w = taken_at (nat_le (p + w) end) p (p + w) r cells more e in
-        number_alike type p (omega (arith, at, le))
+        number_alike b c q alike type p (omega (arith, at, le))
     field_number_alike (Listed base k) Once env places end p r cells more e le =
         let w = bytes_in base.width in
         let v = is_among (values_of sets k) (number_at base b p) in
-        number_alike base p (listed_at (nat_le (p + w) end) v w p r cells more e le)
+        number_alike b c q alike base p (listed_at (nat_le (p + w) end) v w p r cells more e le)
       where
         listed_at : (u v : Bool) (w p r : ℕ) (cells more : List ℕ) → (and_then (demanded NotEnough u p (p + w) cells) (λ q cells. after_reading (places_from p w) (demanded Constraint v p q cells))).ending ≡ Accepted r more → r ≤ q → p + w ≤ q
         listed_at true true w p r cells more e le = let f : Accepted (p + w) cells ≡ Accepted r more = e in let g : p + w ≡ r = cc in omega (arith, g, le)
@@ -417,7 +137,7 @@ module _ (b c : List ℕ) (q : ℕ) (alike : (k : ℕ) → k < q → slice_index
     field_number_alike Zeros extent env places end p r cells more e le = refl
 
     content_near : (element : Element) (extent : Extent) (copy : Option CopyOut) (env places : List ℕ) (end p : ℕ) (cells : List ℕ) → p ≤ end
-        → Near (content_meaning sets senses element extent copy env places b end p cells) (content_meaning sets senses element extent copy env places c end p cells)
+        → Near b c q alike (content_meaning sets senses element extent copy env places b end p cells) (content_meaning sets senses element extent copy env places c end p cells)
     content_near element extent None env places end p cells le = shape_near element extent env places end p cells le
     content_near element (Filling size step) (Some o) env places end p cells le = inl refl
     content_near element Once (Some o) env places end p cells le = shape_near element Once env places end p cells le
@@ -448,7 +168,7 @@ module _ (b c : List ℕ) (q : ℕ) (alike : (k : ℕ) → k < q → slice_index
     content_number_alike element (OnceFilling size step) (Some o) env places end p r cells more e le = field_number_alike element (OnceFilling size step) env places end p r cells more e le
     content_number_alike element (UpToZero size) (Some o) env places end p r cells more e le = field_number_alike element (UpToZero size) env places end p r cells more e le
 
-    fields_near : (ty : NameId) (fs : List Field) (env places : List ℕ) (end p : ℕ) (cells : List ℕ) → p ≤ end → Near (fields_meaning sets senses ty fs env places b end p cells) (fields_meaning sets senses ty fs env places c end p cells)
+    fields_near : (ty : NameId) (fs : List Field) (env places : List ℕ) (end p : ℕ) (cells : List ℕ) → p ≤ end → Near b c q alike (fields_meaning sets senses ty fs env places b end p cells) (fields_meaning sets senses ty fs env places c end p cells)
     unfolding fields_meaning
     fields_near ty [] env places end p cells le = inl refl
     fields_near ty (x ∷ later) env places end p cells le =
@@ -465,11 +185,11 @@ module _ (b c : List ℕ) (q : ℕ) (alike : (k : ℕ) → k < q → slice_index
         (λ s last f from to. wider s end r end (fields_meaning sets senses ty later (extended env n x.parts) places message end s last) from (omega arith) (fields_inside message sets senses i ty later (extended env n x.parts) places end s last to)) in
         let ti = inside_within p end site t (content_inside b sets senses one x.element x.extent x.copy env places end p cells le) in
         let ui = inside_within p end site u (content_inside c sets senses other x.element x.extent x.copy env places end p cells le) in
-        let rest_near : (r : ℕ) (more : List ℕ) → r ≤ end → (r ≤ q → v ≡ v') → Near (go b v r more) (go c v' r more) = λ r more hi same.
+        let rest_near : (r : ℕ) (more : List ℕ) → r ≤ end → (r ≤ q → v ≡ v') → Near b c q alike (go b v r more) (go c v' r more) = λ r more hi same.
         elim (cases_lt q r) [
-          | inl past ↦ inr (apart_from r end (go b v r more) (go c v' r more) past (rest_inside b one v r more hi) (rest_inside c other v' r more hi))
-          | inr before ↦ subst (λ n. Near (go b v r more) (go c n r more)) (same before)
-              (near_after (parts_meaning ty p v x.parts env places r more) (fields_meaning sets senses ty later (extended env v x.parts) places b end) (fields_meaning sets senses ty later (extended env v x.parts) places c end)
+          | inl past ↦ inr (apart_from b c q alike r end (go b v r more) (go c v' r more) past (rest_inside b one v r more hi) (rest_inside c other v' r more hi))
+          | inr before ↦ subst (λ n. Near b c q alike (go b v r more) (go c n r more)) (same before)
+              (near_after b c q alike (parts_meaning ty p v x.parts env places r more) (fields_meaning sets senses ty later (extended env v x.parts) places b end) (fields_meaning sets senses ty later (extended env v x.parts) places c end)
               (λ s last f.
               let at = subst (λ o. OnEnding o (λ s cells. (r ≤ s) × (s ≤ end))) f (parts_inside ty p v r end x.parts env places r more (omega arith) hi).ending in
               fields_near ty later (extended env v x.parts) places end s last at.1))
@@ -477,12 +197,12 @@ module _ (b c : List ℕ) (q : ℕ) (alike : (k : ℕ) → k < q → slice_index
         let number_same_at : (r : ℕ) (more : List ℕ) → (within site t).ending ≡ Accepted r more → r ≤ q → v ≡ v' = λ r more e before.
         content_number_alike x.element x.extent x.copy env places end p r cells more (unframed b sets senses one site t.ending r more e) before in
         elim (content_numbers (is_needed (length env) x.parts later) x.element x.extent x.copy env places end p cells) [
-          | inl e ↦ subst (λ s. Near (and_then (within site t) (λ r cells. after_reading reads (go b v r cells))) (and_then (within site s) (λ r cells. after_reading reads (go c v' r cells)))) e
-              (near_after (within site t) (λ r cells. after_reading reads (go b v r cells)) (λ r cells. after_reading reads (go c v' r cells))
+          | inl e ↦ subst (λ s. Near b c q alike (and_then (within site t) (λ r cells. after_reading reads (go b v r cells))) (and_then (within site s) (λ r cells. after_reading reads (go c v' r cells)))) e
+              (near_after b c q alike (within site t) (λ r cells. after_reading reads (go b v r cells)) (λ r cells. after_reading reads (go c v' r cells))
               (λ r more f.
               let at = subst (λ o. OnEnding o (λ r cells. (p ≤ r) × (r ≤ end))) f ti.ending in
-              near_reading reads (go b v r more) (go c v' r more) (rest_near r more at.1 (number_same_at r more f))))
-          | inr none ↦ subst (λ xs. Near (and_then (within site t) (λ r cells. after_reading xs (go b v r cells))) (and_then (within site u) (λ r cells. after_reading xs (go c v' r cells)))) (sym none)
+              near_reading b c q alike reads (go b v r more) (go c v' r more) (rest_near r more at.1 (number_same_at r more f))))
+          | inr none ↦ subst (λ xs. Near b c q alike (and_then (within site t) (λ r cells. after_reading xs (go b v r cells))) (and_then (within site u) (λ r cells. after_reading xs (go c v' r cells)))) (sym none)
               (followed site t u (λ r cells. after_reading [] (go b v r cells)) (λ r cells. after_reading [] (go c v' r cells)) p end
               (content_near x.element x.extent x.copy env places end p cells le) ti ui
               (λ r more lo hi. rest_inside b one v r more hi) (λ r more lo hi. rest_inside c other v' r more hi)
@@ -490,17 +210,17 @@ module _ (b c : List ℕ) (q : ℕ) (alike : (k : ℕ) → k < q → slice_index
         ]
       where
         -- as near_then, where what follows may rest on how the first ended
-        followed : (site : FramePlace) (t u : Behavior) (go go' : ℕ → List ℕ → Behavior) (low high : ℕ) → Near t u → Inside low high (within site t) → Inside low high (within site u)
+        followed : (site : FramePlace) (t u : Behavior) (go go' : ℕ → List ℕ → Behavior) (low high : ℕ) → Near b c q alike t u → Inside low high (within site t) → Inside low high (within site u)
             → ((r : ℕ) (cells : List ℕ) → low ≤ r → r ≤ high → Inside r high (go r cells)) → ((r : ℕ) (cells : List ℕ) → low ≤ r → r ≤ high → Inside r high (go' r cells))
-            → ((r : ℕ) (cells : List ℕ) → (within site t).ending ≡ Accepted r cells → r ≤ high → Near (go r cells) (go' r cells)) → Near (and_then (within site t) go) (and_then (within site u) go')
+            → ((r : ℕ) (cells : List ℕ) → (within site t).ending ≡ Accepted r cells → r ≤ high → Near b c q alike (go r cells) (go' r cells)) → Near b c q alike (and_then (within site t) go) (and_then (within site u) go')
         followed site t u go go' low high (inl e) i j k l next =
-            subst (λ v. Near (and_then (within site t) go) (and_then (within site v) go')) e
-            (near_after (within site t) go go' (λ r cells f. let at = subst (λ o. OnEnding o (λ r cells. (low ≤ r) × (r ≤ high))) f i.ending in next r cells f at.1))
+            subst (λ v. Near b c q alike (and_then (within site t) go) (and_then (within site v) go')) e
+            (near_after b c q alike (within site t) go go' (λ r cells f. let at = subst (λ o. OnEnding o (λ r cells. (low ≤ r) × (r ≤ high))) f i.ending in next r cells f at.1))
         followed site t u go go' low high (inr a) i j k l next =
             let past = on_within site t.ending (λ r cells. q < r) a.one in
             let past' = on_within site u.ending (λ r cells. q < r) a.other in
-            let one = beyond high (within site t).ending t.reads go past (λ r cells f. let at = subst (λ o. OnEnding o (λ r cells. (low ≤ r) × (r ≤ high))) f i.ending in k r cells at.0 at.1) in
-            let other = beyond high (within site u).ending u.reads go' past' (λ r cells f. let at = subst (λ o. OnEnding o (λ r cells. (low ≤ r) × (r ≤ high))) f j.ending in l r cells at.0 at.1) in
+            let one = beyond b c q alike high (within site t).ending t.reads go past (λ r cells f. let at = subst (λ o. OnEnding o (λ r cells. (low ≤ r) × (r ≤ high))) f i.ending in k r cells at.0 at.1) in
+            let other = beyond b c q alike high (within site u).ending u.reads go' past' (λ r cells f. let at = subst (λ o. OnEnding o (λ r cells. (low ≤ r) × (r ≤ high))) f j.ending in l r cells at.0 at.1) in
             inr (record {
               here = λ k le h. other.0.1 k (a.here k le (one.0.0 k le h));
               there = λ k le h. one.0.1 k (a.there k le (other.0.0 k le h));
@@ -508,18 +228,18 @@ module _ (b c : List ℕ) (q : ℕ) (alike : (k : ℕ) → k < q → slice_index
               other = other.1;
             })
 
-    chosen_near : (ty : NameId) (o : Option (List Field)) (env places : List ℕ) (end p : ℕ) (cells : List ℕ) → p ≤ end → Near (chosen_meaning sets senses ty o env places b end p cells) (chosen_meaning sets senses ty o env places c end p cells)
+    chosen_near : (ty : NameId) (o : Option (List Field)) (env places : List ℕ) (end p : ℕ) (cells : List ℕ) → p ≤ end → Near b c q alike (chosen_meaning sets senses ty o env places b end p cells) (chosen_meaning sets senses ty o env places c end p cells)
     chosen_near ty None env places end p cells le = inl refl
     chosen_near ty (Some fs) env places end p cells le = fields_near ty fs env places end p cells le
 
-    body_near : (ty : NameId) (body : Body) (env places : List ℕ) (end p : ℕ) (cells : List ℕ) → p ≤ end → Near (body_meaning sets senses ty body env places b end p cells) (body_meaning sets senses ty body env places c end p cells)
+    body_near : (ty : NameId) (body : Body) (env places : List ℕ) (end p : ℕ) (cells : List ℕ) → p ≤ end → Near b c q alike (body_meaning sets senses ty body env places b end p cells) (body_meaning sets senses ty body env places c end p cells)
     body_near ty (Struct fs) env places end p cells le = fields_near ty fs env places end p cells le
     body_near ty (Casetype switch cases default) env places end p cells le = chosen_near ty (case_for (natural_of switch env) cases default) env places end p cells le
 
-    definition_near : (o : Option TypeDef) (args places cells : List ℕ) (p end : ℕ) → p ≤ end → Near (definition_meaning sets senses o args places cells b p end) (definition_meaning sets senses o args places cells c p end)
+    definition_near : (o : Option TypeDef) (args places cells : List ℕ) (p end : ℕ) → p ≤ end → Near b c q alike (definition_meaning sets senses o args places cells b p end) (definition_meaning sets senses o args places cells c p end)
     definition_near None args places cells p end le = inl refl
     definition_near (Some d) args places cells p end le =
-        near_after (within (where_place d.name p) (refined d.guard args p p cells)) (body_meaning sets senses d.name d.body args places b end) (body_meaning sets senses d.name d.body args places c end)
+        near_after b c q alike (within (where_place d.name p) (refined d.guard args p p cells)) (body_meaning sets senses d.name d.body args places b end) (body_meaning sets senses d.name d.body args places c end)
         (λ r more e. body_near d.name d.body args places end r more (guard_at d.guard r more e))
       where
         guarded : (v : Bool) (r : ℕ) (more : List ℕ) → (within (where_place d.name p) (demanded Constraint v p p cells)).ending ≡ Accepted r more → r ≤ end
@@ -539,7 +259,7 @@ module _ (b c : List ℕ) (q : ℕ) (alike : (k : ℕ) → k < q → slice_index
   below_near sets ds (suc n) = record { by = λ j args places cells p end le. by_number (nat_eq j n) (below_near sets ds n) j args places cells p end le }
     where
       by_number : (v : Bool) → AllNear (below sets ds n) → (j : ℕ) (args places cells : List ℕ) (p end : ℕ) → p ≤ end
-          → Near (pick v (definition_meaning sets (below sets ds n) (slice_get ds n)) (below sets ds n j) args places cells b p end) (pick v (definition_meaning sets (below sets ds n) (slice_get ds n)) (below sets ds n j) args places cells c p end)
+          → Near b c q alike (pick v (definition_meaning sets (below sets ds n) (slice_get ds n)) (below sets ds n j) args places cells b p end) (pick v (definition_meaning sets (below sets ds n) (slice_get ds n)) (below sets ds n j) args places cells c p end)
       by_number true good j args places cells p end le =
           definition_near sets (below sets ds n) (below_inside b sets ds n) (below_inside c sets ds n) good (slice_get ds n) args places cells p end le
       by_number false good j args places cells p end le = good.by j args places cells p end le
@@ -576,11 +296,6 @@ spliced_from (suc q) [] c e k le = refl
 spliced_from (suc q) (x ∷ b) [] e k le = absurd (omega (arith, e))
 spliced_from (suc q) (x ∷ b) (y ∷ c) e zero le = absurd (omega (arith, le))
 spliced_from (suc q) (x ∷ b) (y ∷ c) e (suc k) le = spliced_from q b c (omega (arith, e)) k (omega (arith, le))
-
--- all that is read satisfies a test that each place read does
-pub same_at_each : (xs b c : List ℕ) → ((k : ℕ) → IsAt k xs → slice_index b k ≡ slice_index c k) → SameAt xs b c
-same_at_each [] b c h = tt
-same_at_each (x ∷ xs) b c h = (h x (inl refl), same_at_each xs b c (λ k i. h k (inr i)))
 
 pub reads_are_within : ReadsAreWithin
 reads_are_within m entry args cells message =

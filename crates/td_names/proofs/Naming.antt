@@ -1,5 +1,5 @@
 -- Names are the names of a table. Cited by other crates.
-use Rattle.std.proofs.Common.{◌≡◌, ℕ, suc, ◌+◌, ◌≤◌, Bool, true, false, cond, not, List, [], ◌∷◌, ◌++◌, ◌||◌, length, Some, None, is_some, if◌then◌else◌, refl, ap, ◌∙◌, arith}
+use Rattle.std.proofs.Common.{◌≡◌, ℕ, suc, ◌+◌, ◌≤◌, Bool, true, false, cond, not, List, [], ◌∷◌, ◌++◌, ◌||◌, length, Some, None, is_some, if◌then◌else◌, refl, ap, ◌∙◌, arith, ◌<◌}
 use Rattle.std.specs.Prelude.{OnOk}
 use Rattle.std.specs.Str.{bytes_eq}
 use Rattle.std.specs.declared.result.Result.{Result}
@@ -52,6 +52,15 @@ number_nowhere n (e ∷ es) name h = by (number_nowhere (n + 1) es name) (bytes_
 
 pub number_within : {A : Type 0} (es : List (List ℕ × A)) (name : List ℕ) → number_of (names_of es) name ≤ length es
 number_within es name = (let within = prefix_len-le-length (λ k. not (bytes_eq name k)) (names_of es) in let many = as_many_names es in omega (arith, within, many))
+
+-- a name that was seen has a place
+pub number_below : (names : List (List ℕ)) (name : List ℕ) → is_seen names name ≡ true → number_of names name < length names
+number_below [] name seen = cc
+number_below (x ∷ names) name seen = by (number_below names name) (bytes_eq name x) seen
+  where
+    by : (is_seen names name ≡ true → number_of names name < length names) → (b : Bool) → (b || is_seen names name) ≡ true → cond (not b) (1 + number_of names name) 0 < length (x ∷ names)
+    by later true e = omega arith
+    by later false e = let below = later e in omega arith
 
 pub on_ok : {T E P Q : Type 0} (r : Result T E) → (P → Q) → OnOk r P → OnOk r Q
 on_ok (Ok x) f h = f h

@@ -1,9 +1,9 @@
 -- One number more in a set.
-use Rattle.std.proofs.Common.{arith, ◌≡◌, ℕ, Bool, true, false, cond, List, [], ◌∷◌, ◌++◌, ◌||◌, nat_eq, refl, sym, ap, ◌∙◌}
-use Rattle.std.proofs.lemmas.Bool.Decides.{nat_tests}
+use Rattle.std.proofs.Common.{◌≡◌, ℕ, Bool, true, false, cond, List, [], ◌∷◌, ◌++◌, ◌||◌, nat_eq, refl, sym, ap, ◌∙◌}
 use Rattle.std.specs.List.{list_any}
 use Rattle.std.specs.Ordering.{is_eq, nat_cmp}
 use Rattle.std.proofs.lemmas.List.Folds.{list_any-append}
+use Rattle.td_num.proofs.Equals.{same_test}
 use Rattle.td_names.specs.Numbers.{is_among, AreAlike}
 
 either : (a b : Bool) → cond a true b ≡ (b || (a || false))
@@ -11,9 +11,6 @@ either true true = refl
 either true false = refl
 either false true = refl
 either false false = refl
-
-same_test : (n k : ℕ) → is_eq (nat_cmp k n) ≡ nat_eq n k
-same_test n k = grind (arith, nat_tests)
 
 pub added_alike : (ns old new : List ℕ) (number : ℕ) → AreAlike ns old
     → ((q : ℕ) → list_any (λ k. is_eq (nat_cmp q k)) new ≡ cond (is_eq (nat_cmp number q)) true (list_any (λ k. is_eq (nat_cmp q k)) old))

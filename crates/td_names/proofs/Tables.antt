@@ -1,5 +1,5 @@
 -- The entries of a map, by the bytes of their keys.
-use Rattle.std.proofs.Common.{◌≡◌, ℕ, false, List, [], ◌∷◌, ◌++◌, Bool, true, Option, Some, None, is_some, if◌then◌else◌, refl, sym, ap, zero, suc, ◌+◌, length, take, ◌∙◌, subst, arith}
+use Rattle.std.proofs.Common.{◌≡◌, ℕ, ◌<◌, false, List, [], ◌∷◌, ◌++◌, map, get_or, slice_get, Bool, true, Option, Some, None, is_some, if◌then◌else◌, refl, sym, ap, zero, suc, ◌+◌, length, take, ◌∙◌, subst, arith}
 use Rattle.std.specs.Str.{bytes_eq}
 use Rattle.std.specs.Ordering.{is_eq, nat_cmp}
 use Rattle.std.specs.Cmp.Lexicographic.{slice_cmp}
@@ -7,7 +7,9 @@ use Rattle.std.proofs.lemmas.Slice.Eq.{bytes_eq-Decides}
 use Rattle.std.proofs.lemmas.Map.Text.{is_eq-slice_cmp}
 use Rattle.std.specs.declared.vec.Vec.{Vec}
 use Rattle.td_names.specs.Names.{looked_up, declared}
-use Rattle.td_names.specs.Places.{entries_of, place_of, is_at, value_at, placed_at, ArePlaced}
+use Rattle.std.specs.Option.{option_map}
+use Rattle.std.proofs.lemmas.Option.{slice_get-map, slice_get-get_or}
+use Rattle.td_names.specs.Places.{names_of, entries_of, place_of, is_at, value_at, placed_at, ArePlaced}
 
 same_bytes : (xs ys : List ℕ) → bytes_eq xs ys ≡ true → xs ≡ ys
 same_bytes xs ys h = (bytes_eq-Decides xs ys).0 h
@@ -154,3 +156,10 @@ as_before es got places same h = subst (λ t. ArePlaced 0 (entries_of t) places)
 
 pub unseen : {B : Type 0} (old new : List (List ℕ × B)) (name : List ℕ) (found : Bool) → old ≡ new → found ≡ is_some (looked_up new name) → found ≡ false → is_some (looked_up old name) ≡ false
 unseen old new name found same is none = ap (λ t. is_some (looked_up t name)) same ∙ sym is ∙ none
+
+-- the name of an entry of the list
+pub entry_name : {A B : Type 0} (es : List (Vec ℕ A × B)) (k : ℕ) (e : Vec ℕ A × B) → k < length es → e ≡ get_or es k e → slice_get (names_of (entries_of es)) k ≡ Some e.0.items
+entry_name {A} {B} es k e lt is =
+    let named : List ℕ × B → List ℕ = λ e. e.0 in
+    let shown : Vec ℕ A × B → List ℕ × B = λ e. (e.0.items, e.1) in
+    slice_get-map named (map shown es) k ∙ ap (option_map named) (slice_get-map shown es k ∙ ap (option_map shown) (slice_get-get_or es k e lt ∙ ap Some (sym is)))

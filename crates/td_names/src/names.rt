@@ -1,6 +1,6 @@
 //! Names, numbered in the order in which they are seen first.
 
-ghost use Rattle.std.specs.Prelude.{◌≡◌, ◌<◌, false, [], OnOk, OnErr, IfOk, nat_le, length, take};
+ghost use Rattle.std.specs.Prelude.{◌≡◌, ◌<◌, false, [], Some, OnOk, OnErr, IfOk, nat_le, length, slice_get, take};
 ghost use Rattle.td_names.specs.Names.{with_name, is_seen, number_of};
 
 use crate::table::Table;
@@ -74,6 +74,14 @@ impl Names {
             Some(number) => number as u32,
             None => self.table.len() as u32,
         }
+    }
+
+    /// The name of this number.
+    pub fn name(&self, number: usize) -> &[u8]
+        requires { number < length self.now }
+        ensures { slice_get self.now number ≡ Some result.now }
+    {
+        self.table.name(number)
     }
 
     /// A copy of the names. `AllocError`: there are some, and there was no memory for them.

@@ -1,9 +1,9 @@
 //! Names with what stands beside them.
 
-ghost use Rattle.std.specs.Prelude.{◌≡◌, [], is_some, false, length, take, OnOk, OnErr};
+ghost use Rattle.std.specs.Prelude.{◌≡◌, ◌<◌, [], Some, is_some, false, length, slice_get, take, OnOk, OnErr};
 ghost use Rattle.std.specs.Option.{option_copied};
 ghost use Rattle.td_names.specs.Names.{looked_up, declared};
-ghost use Rattle.td_names.specs.Places.{place_of, is_at, value_at};
+ghost use Rattle.td_names.specs.Places.{names_of, place_of, is_at, value_at};
 
 use std::alloc::{AllocError, Global};
 use std::collections::BTreeMap;
@@ -44,6 +44,14 @@ impl<V: Drop> Table<V> {
         ensures { result ≡ length self.now }
     {
         self.entries.len()
+    }
+
+    /// The name at a place.
+    pub(crate) fn name(&self, place: usize) -> &[u8]
+        requires { place < length self.now }
+        ensures { slice_get (names_of self.now) place ≡ Some result.now }
+    {
+        self.entries[place].0.as_slice()
     }
 
     /// The place of a name, from 0.

@@ -1,5 +1,5 @@
 -- Numbers of bytes: digits in base 256, and their room. Cited by other crates.
-use Rattle.std.proofs.Common.{◌≡◌, inl, inr, ℕ, zero, suc, ◌+◌, ◌-◌, ◌*◌, ◌^◌, ◌<◌, ◌≤◌, List, length, sym, ap, subst, ◌∙◌, arith}
+use Rattle.std.proofs.Common.{◌≡◌, inl, inr, ℕ, zero, suc, ◌+◌, ◌-◌, ◌*◌, ◌^◌, ◌<◌, ◌≤◌, List, length, sym, ap, subst, ◌∙◌, arith, lit<}
 use Rattle.std.specs.Prelude.{slice_index}
 use Rattle.std.specs.List.{All}
 use Rattle.std.proofs.Math.Nat.{pow-suc, pow-le-pow_right, mul-le-mul_left, mul-le-mul_right, mul-suc}
@@ -23,6 +23,14 @@ are_bytes b all i =
 -- a byte more is 8 bits more
 pub power_of_bytes : (k : ℕ) → 2 ^ (8 * suc k) ≡ 256 * 2 ^ (8 * k)
 power_of_bytes k = rw mul-suc (rw pow-add (omega arith))
+
+-- the number of so many bytes is small
+pub rising_small : (bytes : List ℕ) → AreBytes bytes → (p w : ℕ) → rising_at bytes p w < 2 ^ (8 * w)
+rising_small bytes small p zero = lit< tt
+rising_small bytes small p (suc w) =
+    let rest = rising_small bytes small (p + 1) w in
+    let low = small p in
+    rw power_of_bytes (omega arith)
 
 -- a number of one more byte
 pub power_more : (w high low : ℕ) → high < 256 ^ w → low < 256 → 256 * high + low < 256 ^ suc w

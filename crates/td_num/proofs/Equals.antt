@@ -1,6 +1,7 @@
 -- Equal numbers, equal answers, and what equal parts give. Cited by other crates.
-use Rattle.std.proofs.Common.{◌≡◌, ℕ, zero, suc, ◌-◌, ◌<◌, pos, negsuc, true, false, cond, nat_eq, Result, Err, ap, ◌∙◌, arith}
+use Rattle.std.proofs.Common.{◌≡◌, ℕ, zero, suc, ◌-◌, ◌<◌, pos, negsuc, true, false, cond, nat_eq, Result, Err, ap, ◌∙◌, arith, ◌+◌, ◌*◌}
 use Rattle.std.specs.Prelude.{◌-ℤ◌}
+use Rattle.std.specs.Ordering.{is_eq, nat_cmp}
 use Rattle.std.proofs.lemmas.Bool.{lt-ltb}
 use Rattle.std.proofs.lemmas.Bool.Decides.{nat_tests}
 
@@ -12,6 +13,13 @@ unequal_below j k h = grind (arith, nat_tests)
 
 pub below_other : (n k : ℕ) → n < suc k → nat_eq n k ≡ false → n < k
 below_other n k h e = grind (arith, nat_tests)
+
+-- the two tests for equal numbers
+pub same_test : (n k : ℕ) → is_eq (nat_cmp k n) ≡ nat_eq n k
+same_test n k = grind (arith, nat_tests)
+
+pub next_product : (k w : ℕ) → suc k * w ≡ w + k * w
+next_product k w = grind arith
 
 pub same_error : {T E : Type 0} (a b : E) → (let r : Result T E = Err a in r ≡ Err b) → a ≡ b
 same_error a b same = cc

@@ -1,10 +1,14 @@
 -- What holds of each item of a list, and what stands at a place of it. Cited by other crates.
-use Rattle.std.proofs.Common.{◌≡◌, ℕ, zero, suc, ◌+◌, ◌-◌, ◌<◌, ◌≤◌, List, [], ◌∷◌, ◌++◌, length, take, drop, get_or, slice_index_or, Some, refl, sym, ap, subst, ◌∙◌, arith}
-use Rattle.std.specs.Prelude.{slice_get, slice_range}
-use Rattle.std.specs.List.{Contains}
-use Rattle.std.proofs.lemmas.List.{drop_more, drop-take, drop-drop}
+use Rattle.std.proofs.Common.{◌≡◌, ℕ, zero, suc, ◌+◌, ◌-◌, ◌<◌, ◌≤◌, List, [], ◌∷◌, ◌++◌, length, take, drop, get_or, slice_index_or, Some, refl, sym, ap, subst, ◌∙◌, arith, replicate, set}
+use Rattle.std.specs.Prelude.{slice_get, slice_range, slice_index}
+use Rattle.std.specs.List.{Contains, All}
+use Rattle.std.proofs.lemmas.List.{drop_more, drop-take, drop-drop, take_at}
 use Rattle.std.proofs.lemmas.Option.{none-some, same_Some}
+use Rattle.std.proofs.lemmas.List.Elements.{All-nil, All-cons, All-head, All-tail}
+use mathlib.Core.Option.{some, some-ne-none}
+use lib.ListN.{get_elem?}
 use Rattle.td_num.specs.Lists.{Each}
+use Rattle.td_num.specs.Numbers.{places_from}
 
 -- there is an item at each place
 pub got : {A : Type 0} (xs : List A) (n : ℕ) → n < length xs → (x : A) × (slice_get xs n ≡ Some x)
@@ -55,6 +59,43 @@ pub drop_range : {X : Type 0} (xs : List X) (a k to : ℕ) → a + k ≤ to → 
 drop_range {X} xs a k to h =
     let e : to - a ≡ k + (to - (a + k)) = omega arith in
     ap (λ n. drop k (take n (drop a xs))) e ∙ drop-take k (to - (a + k)) (drop a xs) ∙ ap (λ l. take (to - (a + k)) l) (drop-drop k a xs)
+
+-- what holds of each item of a beginning holds of the one at each of its places
+pub each_taken : (P : ℕ → Type 0) (n : ℕ) (xs : List ℕ) (k : ℕ) → Each P (take n xs) → k < n → k < length xs → P (slice_index xs k)
+each_taken P zero xs k h l m = absurd (omega (arith, l))
+each_taken P (suc n) [] k h l m = absurd (omega (arith, m))
+each_taken P (suc n) (x ∷ xs) zero h l m = h.0
+each_taken P (suc n) (x ∷ xs) (suc k) h l m = each_taken P n xs k h.1 (omega (arith, l)) (omega (arith, m))
+
+-- what a list has of which a slice was lent: all of it
+pub lent : {A : Type 0} (n : ℕ) (xs ys : List A) → length xs ≡ n → take n (xs ++ drop (length xs) ys) ≡ xs
+lent n xs ys e = take_at xs (drop (length xs) ys) n e
+
+-- the numbers of places, and zeros
+pub index_places : (n c from : ℕ) → c < n → slice_index (places_from from n) c ≡ from + c
+index_places zero c from lt = absurd (omega (arith, lt))
+index_places (suc n) zero from lt = omega arith
+index_places (suc n) (suc c) from lt = index_places n c (from + 1) (omega (arith, lt)) ∙ omega arith
+
+pub index_zeros : (n i : ℕ) → slice_index (replicate n 0) i ≡ 0
+index_zeros zero i = refl
+index_zeros (suc n) zero = refl
+index_zeros (suc n) (suc i) = index_zeros n i
+
+-- what holds of all holds of those ahead, and of those behind
+pub all_left : {A : Type 0} (P : A → Type 0) (xs ys : List A) → All P (xs ++ ys) → All P xs
+all_left P [] ys a = All-nil P
+all_left P (x ∷ xs) ys a = All-cons P x xs (All-head P x (xs ++ ys) a) (all_left P xs ys (All-tail P x (xs ++ ys) a))
+
+pub all_right : {A : Type 0} (P : A → Type 0) (xs ys : List A) → All P (xs ++ ys) → All P ys
+all_right P [] ys a = a
+all_right P (x ∷ xs) ys a = all_right P xs ys (All-tail P x (xs ++ ys) a)
+
+-- what was put at a place stands there
+pub set_at : {A : Type 0} (l : List A) (i : ℕ) (a b : A) → get_elem? l i ≡ some a → get_elem? (set l i b) i ≡ some b
+set_at [] i a b e = absurd (some-ne-none a (sym e))
+set_at (x ∷ xs) zero a b e = refl
+set_at (x ∷ xs) (suc i) a b e = set_at xs i a b e
 
 -- parts of nothing
 pub left_none : {A : Type 0} (xs ys : List A) → xs ++ ys ≡ [] → xs ≡ []

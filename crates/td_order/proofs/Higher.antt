@@ -1,8 +1,9 @@
 -- Heights, one by one, and that those that reach are no lower. Cited by other crates.
-use Rattle.std.proofs.Common.{◌≡◌, ℕ, zero, suc, ◌+◌, ◌<◌, ◌≤◌, Bool, true, false, ◌&&◌, ◌||◌, List, [], ◌∷◌, length, nat_eq, nat_le, nat_lt, refl, sym, ap, subst, ◌∙◌, arith}
+use Rattle.std.proofs.Common.{◌≡◌, ℕ, zero, suc, ◌+◌, ◌<◌, ◌≤◌, Bool, true, false, ◌||◌, List, [], ◌∷◌, length, nat_eq, nat_le, nat_lt, refl, sym, ap, subst, ◌∙◌, arith}
 use Rattle.std.specs.List.{list_all}
 use Rattle.std.proofs.lemmas.Bool.Decides.{nat_tests}
 use Rattle.td_num.specs.Lists.{is_among}
+use Rattle.td_num.proofs.Truths.{both_true}
 use Rattle.td_order.specs.Order.{used_by, ReachesBy, Reaches}
 use Rattle.td_order.specs.Heights.{height, AreHeights}
 
@@ -15,14 +16,10 @@ none_below graph heights i j lt u = absurd (omega arith)
 
 all_pass : (p : ℕ → Bool) (xs : List ℕ) → list_all p xs ≡ true → (j : ℕ) → is_among xs j ≡ true → p j ≡ true
 all_pass p [] all j h = absurd cc
-all_pass p (x ∷ xs) all j h = by (λ rest. all_pass p xs rest j) (nat_eq j x) refl (both (p x) (list_all p xs) all).1 h
+all_pass p (x ∷ xs) all j h = by (λ rest. all_pass p xs rest j) (nat_eq j x) refl (both_true (p x) (list_all p xs) all).1 h
   where
-    both : (a b : Bool) → (a && b) ≡ true → (a ≡ true) × (b ≡ true)
-    both true b e = (refl, e)
-    both false b e = absurd cc
-
     by : (list_all p xs ≡ true → is_among xs j ≡ true → p j ≡ true) → (b : Bool) → nat_eq j x ≡ b → list_all p xs ≡ true → (b || is_among xs j) ≡ true → p j ≡ true
-    by ih true e rest h = let same : x ≡ j = grind (arith, nat_tests) in subst (λ n. p n ≡ true) same (both (p x) (list_all p xs) all).0
+    by ih true e rest h = let same : x ≡ j = grind (arith, nat_tests) in subst (λ n. p n ≡ true) same (both_true (p x) (list_all p xs) all).0
     by ih false e rest h = ih rest h
 
 pub one_more : (graph : List (List ℕ)) (heights : List ℕ) (n : ℕ) → AreHeightsBelow n graph heights

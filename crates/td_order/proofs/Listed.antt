@@ -5,15 +5,13 @@ use Rattle.std.specs.Ordering.{is_eq, is_gt, nat_cmp}
 use Rattle.std.proofs.lemmas.Bool.Decides.{nat_tests}
 use Rattle.td_num.specs.Lists.{is_among}
 use Rattle.td_num.specs.Numbers.{places_from}
+use Rattle.td_num.proofs.Equals.{same_test}
 use Rattle.td_order.specs.Order.{used_by}
 use Rattle.td_order.specs.Flags.{flag_at, is_ready_by}
 use Rattle.td_order.specs.Waiting.{is_in, AreReady, IsWaiting, IsListed, AreListed}
 use Rattle.td_order.proofs.Ready.{flag_is}
 use Rattle.td_order.proofs.Lists.{set_else, added_there, kept_there}
 use Rattle.std.proofs.lemmas.List.{get_or-set_same, get_or-set_other}
-
-same_test : (n k : ℕ) → is_eq (nat_cmp k n) ≡ nat_eq n k
-same_test n k = grind (arith, nat_tests)
 
 -- one that is used isn't taken, so not all are
 not_all : (taken : ℕ → Bool) (used : List ℕ) (other : ℕ) → is_among used other ≡ true → taken other ≡ false → list_all taken used ≡ false

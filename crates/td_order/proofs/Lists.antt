@@ -1,7 +1,9 @@
 -- Lists of those that wait: one more in a list, one list taken out.
-use Rattle.std.proofs.Common.{◌≡◌, ℕ, zero, suc, ◌<◌, Bool, true, false, ◌||◌, List, [], ◌∷◌, ◌++◌, length, set, nat_eq, refl, sym, ap, subst, ◌∙◌, arith}
+use Rattle.std.proofs.Common.{◌≡◌, ℕ, zero, suc, ◌<◌, Bool, true, false, List, [], ◌∷◌, ◌++◌, length, set, nat_eq, refl, sym, ap, subst, ◌∙◌, arith}
 use Rattle.std.proofs.lemmas.Bool.Decides.{nat_tests}
 use Rattle.td_num.specs.Lists.{is_among}
+use Rattle.td_num.proofs.Equals.{equal_itself}
+use Rattle.td_num.proofs.Truths.{or_left, or_right}
 use Rattle.td_order.specs.Order.{used_by}
 use Rattle.td_order.proofs.Ready.{among_append}
 
@@ -17,22 +19,12 @@ set_else (x ∷ lists) zero (suc j) row e = refl
 set_else (x ∷ lists) (suc i) zero row e = refl
 set_else (x ∷ lists) (suc i) (suc j) row e = set_else lists i j row (grind (arith, nat_tests))
 
-or_left : (a b : Bool) → a ≡ true → (a || b) ≡ true
-or_left a b e = rw e refl
-
-or_right : (a b : Bool) → b ≡ true → (a || b) ≡ true
-or_right true b e = refl
-or_right false b e = e
-
-itself : (n : ℕ) → nat_eq n n ≡ true
-itself n = grind (arith, nat_tests)
-
 module _ (lists : List (List ℕ)) (other number : ℕ) (lt : other < length lists) where
   -- the one that was added
   pub added_there : is_among (used_by (set lists other (used_by lists other ++ number ∷ [])) other) number ≡ true
   added_there =
       ap (λ row. is_among row number) (set_here lists other (used_by lists other ++ number ∷ []) lt) ∙ among_append (used_by lists other) number number
-      ∙ or_right (is_among (used_by lists other) number) (nat_eq number number) (itself number)
+      ∙ or_right (is_among (used_by lists other) number) (nat_eq number number) (equal_itself number)
 
   -- and those that were there
   pub kept_there : (j k : ℕ) → is_among (used_by lists j) k ≡ true → is_among (used_by (set lists other (used_by lists other ++ number ∷ [])) j) k ≡ true

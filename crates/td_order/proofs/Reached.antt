@@ -2,7 +2,10 @@
 use Rattle.std.proofs.Common.{◌≡◌, ℕ, zero, suc, ◌+◌, ◌<◌, ◌≤◌, Bool, true, false, cond, ◌||◌, List, [], ◌∷◌, ◌++◌, length, set, get_or, replicate, Option, Some, None, nat_eq, refl, sym, ap, ◌∙◌, arith, ◌⊎◌, inl, inr}
 use Rattle.std.specs.Prelude.{slice_get}
 use Rattle.std.proofs.lemmas.Bool.Decides.{nat_tests}
+use Rattle.std.proofs.lemmas.List.{length_push}
+use Rattle.std.proofs.lemmas.Option.{same_Some}
 use Rattle.td_num.specs.Lists.{is_among}
+use Rattle.td_num.proofs.Truths.{or_left, or_right, or_cases, or_assoc}
 use Rattle.td_order.specs.Order.{used_by, IsWithin, ReachesBy, Reaches}
 use Rattle.td_order.specs.Flags.{flag_at, flagged, AreFlags, AreBelow, add_new}
 use Rattle.td_order.proofs.Ready.{none_flagged, flagged_more, among_append}
@@ -27,22 +30,14 @@ counted_more (true ∷ flags) zero lt e = absurd cc
 counted_more (true ∷ flags) (suc n) lt e = let h = counted_more flags n (omega arith) e in omega (arith, h)
 counted_more (false ∷ flags) (suc n) lt e = counted_more flags n (omega arith) e
 
-length_more : (xs : List ℕ) (n : ℕ) → length (xs ++ n ∷ []) ≡ length xs + 1
-length_more [] n = refl
-length_more (x ∷ xs) n = let h = length_more xs n in omega (arith, h)
-
 -- one more, that wasn't there
 pub flags_more : (flags : List Bool) (reached : List ℕ) (n : ℕ) → n < length flags → flag_at flags n ≡ false → AreFlags flags reached → AreFlags (set flags n true) (reached ++ n ∷ [])
 flags_more flags reached n lt e F = record {
   each = flagged_more flags reached n lt F.each;
-  count = counted_more flags n lt e ∙ ap (λ k. k + 1) F.count ∙ sym (length_more reached n);
+  count = counted_more flags n lt e ∙ ap (λ k. k + 1) F.count ∙ sym (length_push reached n);
 }
 
 -- those added are there, and those that were
-or_assoc : (a b c : Bool) → ((a || b) || c) ≡ (a || (b || c))
-or_assoc true b c = refl
-or_assoc false b c = refl
-
 pub among_added : (reached js : List ℕ) (j : ℕ) → is_among (add_new reached js) j ≡ (is_among reached j || is_among js j)
 among_added reached [] j = by_test (is_among reached j)
   where
@@ -68,7 +63,7 @@ kept_one (x ∷ reached) n (suc k) lt = kept_one reached n k (omega arith)
 
 pub kept : (reached js : List ℕ) (k : ℕ) → k < length reached → slice_get (add_new reached js) k ≡ slice_get reached k
 kept reached [] k lt = refl
-kept reached (n ∷ js) k lt = by_there (is_among reached n) (kept reached js k lt) (kept (reached ++ n ∷ []) js k (let l = length_more reached n in omega (arith, l)))
+kept reached (n ∷ js) k lt = by_there (is_among reached n) (kept reached js k lt) (kept (reached ++ n ∷ []) js k (let l = length_push reached n in omega (arith, l)))
   where
     by_there : (b : Bool) → slice_get (add_new reached js) k ≡ slice_get reached k → slice_get (add_new (reached ++ n ∷ []) js) k ≡ slice_get (reached ++ n ∷ []) k → slice_get (add_new (cond b reached (reached ++ n ∷ [])) js) k ≡ slice_get reached k
     by_there true old new = old
@@ -80,11 +75,11 @@ longer reached (n ∷ js) = by_there (is_among reached n) (longer reached js) (l
   where
     by_there : (b : Bool) → length reached ≤ length (add_new reached js) → length (reached ++ n ∷ []) ≤ length (add_new (reached ++ n ∷ []) js) → length reached ≤ length (add_new (cond b reached (reached ++ n ∷ [])) js)
     by_there true old new = old
-    by_there false old new = let l = length_more reached n in omega (arith, l, new)
+    by_there false old new = let l = length_push reached n in omega (arith, l, new)
 
 -- ---- reaching
 
-reaches_more : (graph : List (List ℕ)) (n a b c : ℕ) → ReachesBy graph n a b → is_among (used_by graph b) c ≡ true → ReachesBy graph (suc n) a c
+pub reaches_more : (graph : List (List ℕ)) (n a b c : ℕ) → ReachesBy graph n a b → is_among (used_by graph b) c ≡ true → ReachesBy graph (suc n) a c
 reaches_more graph zero a b c e u = (c, rw e u, refl)
 reaches_more graph (suc n) a b c (d, first, rest) u = (d, first, reaches_more graph n d b c rest u)
 
@@ -94,17 +89,6 @@ module _ (graph : List (List ℕ)) (from : ℕ) where
     pub there : is_among reached from ≡ true
     pub sound : (j : ℕ) → is_among reached j ≡ true → Reaches graph from j
     pub closed : (k c j : ℕ) → k < cursor → slice_get reached k ≡ Some c → is_among (used_by graph c) j ≡ true → is_among reached j ≡ true
-
-  or_left : (a b : Bool) → a ≡ true → (a || b) ≡ true
-  or_left a b e = rw e refl
-
-  or_right : (a b : Bool) → b ≡ true → (a || b) ≡ true
-  or_right true b e = refl
-  or_right false b e = e
-
-  or_cases : (a b : Bool) → (a || b) ≡ true → (a ≡ true) ⊎ (b ≡ true)
-  or_cases true b e = inl refl
-  or_cases false b e = inr e
 
   found_there : (reached : List ℕ) (k c : ℕ) → slice_get reached k ≡ Some c → is_among reached c ≡ true
   found_there [] k c e = absurd cc
@@ -134,11 +118,8 @@ module _ (graph : List (List ℕ)) (from : ℕ) where
           among_added reached (used_by graph number) j
           ∙ or_left (is_among reached j) (is_among (used_by graph number) j) (U.closed k c j before (sym (kept reached (used_by graph number) k (omega arith)) ∙ at) u)
       close k c j (inr same) at u =
-          let is : number ≡ c = some_same number c (sym here ∙ sym (kept reached (used_by graph number) cursor lt) ∙ ap (λ i. slice_get (add_new reached (used_by graph number)) i) (sym same) ∙ at) in
+          let is : number ≡ c = same_Some number c (sym here ∙ sym (kept reached (used_by graph number) cursor lt) ∙ ap (λ i. slice_get (add_new reached (used_by graph number)) i) (sym same) ∙ at) in
           among_added reached (used_by graph number) j ∙ or_right (is_among reached j) (is_among (used_by graph number) j) (ap (λ i. is_among (used_by graph i) j) is ∙ u)
-        where
-          some_same : (a b : ℕ) → Some a ≡ Some b → a ≡ b
-          some_same a b e = cc
 
   place_of : (reached : List ℕ) (c : ℕ) → is_among reached c ≡ true → (k : ℕ) × (k < length reached) × (slice_get reached k ≡ Some c)
   place_of [] c e = absurd cc

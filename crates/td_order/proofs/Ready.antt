@@ -1,10 +1,11 @@
--- The first part that is ready, by flags and by the list of those taken.
+-- The first part that is ready, by flags and by the list of those taken. Cited by other crates.
 use Rattle.std.proofs.Common.{◌≡◌, ℕ, zero, suc, ◌+◌, ◌-◌, ◌<◌, ◌≤◌, Bool, true, false, cond, not, ◌||◌, ◌&&◌, List, [], ◌∷◌, ◌++◌, length, get_or, set, replicate, Option, Some, None, nat_eq, refl, sym, ap, ◌∙◌, arith}
 use Rattle.std.specs.List.{list_all, find}
 use Rattle.std.proofs.lemmas.List.{get_or-set_same, get_or-set_other}
 use Rattle.std.proofs.lemmas.Bool.Decides.{nat_tests}
 use Rattle.td_num.specs.Lists.{is_among}
 use Rattle.td_num.specs.Numbers.{places_from}
+use Rattle.td_num.proofs.Truths.{or_right}
 use Rattle.td_order.specs.Order.{used_by, is_ready, next, turned, taken_after, order}
 use Rattle.td_order.specs.Flags.{flag_at, is_ready_by}
 
@@ -30,10 +31,6 @@ among_append (v ∷ taken) n j = by_test (nat_eq j v) (among_append taken n j)
     by_test true h = refl
     by_test false h = h
 
-or_true : (b c : Bool) → c ≡ true → (b || c) ≡ true
-or_true true c e = refl
-or_true false c e = e
-
 or_false : (b c : Bool) → c ≡ false → (b || c) ≡ b
 or_false true c e = refl
 or_false false c e = e
@@ -46,7 +43,7 @@ flagged_more flags taken n lt same j = by_test (nat_eq j n) refl
     by_test true e =
         let at : j ≡ n = grind (arith, nat_tests) in
         flag_is (set flags n true) j ∙ ap (λ k. get_or (set flags n true) k false) at ∙ get_or-set_same flags n true false lt
-        ∙ sym (among_append taken n j ∙ or_true (is_among taken j) (nat_eq j n) e)
+        ∙ sym (among_append taken n j ∙ or_right (is_among taken j) (nat_eq j n) e)
     by_test false e =
         flag_is (set flags n true) j ∙ get_or-set_other flags n j true false (λ at. absurd (grind (arith, nat_tests))) ∙ sym (flag_is flags j) ∙ same j
         ∙ sym (among_append taken n j ∙ or_false (is_among taken j) (nat_eq j n) e)

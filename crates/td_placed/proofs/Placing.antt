@@ -1,8 +1,8 @@
 -- The definitions of a checked module have their places in registers.
-use Rattle.std.proofs.Common.{◌≡◌, ℕ, zero, suc, ◌+◌, ◌≤◌, Bool, true, false, List, [], ◌∷◌, ◌++◌, length, refl, sym, ap, ◌∙◌, subst, arith, max, slice_index_or, Option, Some, None, slice_get}
+use Rattle.std.proofs.Common.{◌≡◌, ℕ, suc, ◌+◌, ◌≤◌, Bool, true, false, List, [], ◌∷◌, ◌++◌, length, refl, sym, ap, ◌∙◌, subst, arith, max, slice_index_or, Option, Some, None, slice_get}
 use Rattle.std.proofs.Math.Nat.{le-max_left}
 use Rattle.std.proofs.lemmas.List.{length-append}
-use Rattle.std.proofs.lemmas.Option.{none-some, same_Some, slice_get-get_or}
+use Rattle.std.proofs.lemmas.Option.{slice_get-get_or}
 use Rattle.td_num.specs.declared.number.NumberType.{NumberType}
 use Rattle.td_num.specs.Lists.{Each}
 use Rattle.td_core.specs.Term.{Term, Deed, done, set, keep, fork, answer, give_up}
@@ -25,8 +25,9 @@ use Rattle.td_core.specs.Formed.{Bound, IsScoped, IsOptionScoped, IsDeedFormed, 
 use Rattle.td_core.specs.WellFormed.{OfSome, EachField, IsSorted, IsDeedSorted, IsElementSorted, IsExtentSorted, IsPartSorted, IsFieldSorted, IsSwitchSorted, IsDefinitionSorted, AreBitsOf, AreParts, AreFieldParts, IsRefinable, IsZeroEnded, IsFieldWhole}
 use Rattle.td_expr.specs.Same.{constant_of}
 use Rattle.td_meaning.specs.Naming.{is_needed}
-use Rattle.td_kinds.specs.KindRules.{field_faults, fields_faults, cases_faults, default_faults, body_faults, definitions_faults, kinds_of, is_empty}
+use Rattle.td_kinds.specs.KindRules.{field_faults, fields_faults, cases_faults, default_faults, body_faults, kinds_of, is_empty}
 use Rattle.td_kinds.specs.declared.error.KindFault.{KindFault}
+use Rattle.td_kinds.proofs.Faultless.{faults_at}
 use Rattle.td_sizes.specs.Sizes.{HasSteps, IsFieldStepped}
 use Rattle.td_blocks.specs.Lowered.{terms_of, is_read}
 use Rattle.td_blocks.specs.Placed.{DeedPlaced, OptionExpr, OptionDeed, PartsPlaced, HasBits, AllBits, AloneFrom, Alone, ArgsPlaced, ElementPlaced, SizePlaced, ElementsPlaced, OnePlaced, IsNumber, ShapePlaced, CopyPlaced, FieldsPlaced, DefaultPlaced, CasesPlaced, BodyPlaced, count_of, params_of}
@@ -400,11 +401,6 @@ body_above (Casetype switch cs default) level =
     let h = cases_above cs level in
     let l = le-max_left (cases_levels level cs) (default_levels level default) in
     omega (arith, h, l)
-
-faults_at : (kinds : ℕ → Kind) (ds : List TypeDef) (n : ℕ) (d : TypeDef) → definitions_faults kinds ds ≡ [] → slice_get ds n ≡ Some d → body_faults kinds d.body ≡ []
-faults_at kinds [] n d h e = absurd (none-some d e)
-faults_at kinds (x ∷ ds) zero d h e = subst (λ x. body_faults kinds x.body ≡ []) (same_Some x d e) (no_left (body_faults kinds x.body) (definitions_faults kinds ds) h)
-faults_at kinds (x ∷ ds) (suc n) d h e = faults_at kinds ds n d (no_right (body_faults kinds x.body) (definitions_faults kinds ds) h) e
 
 pub definitions_are_placed : DefinitionsArePlaced
 definitions_are_placed m n d R t ready there levels tops =

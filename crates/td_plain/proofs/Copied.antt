@@ -1,27 +1,16 @@
 -- Bytes that are copied, and what buffers hold.
-use Rattle.std.proofs.Common.{◌≡◌, ℕ, zero, suc, ◌+◌, ◌*◌, ◌/◌, ◌-◌, ◌<◌, ◌≤◌, min, List, [], ◌∷◌, ◌++◌, length, take, drop, map, refl, sym, ap, ◌∙◌, arith, slice_index, replicate, append_assoc}
+use Rattle.std.proofs.Common.{◌≡◌, ℕ, zero, suc, ◌+◌, ◌*◌, ◌/◌, ◌-◌, ◌<◌, ◌≤◌, List, [], ◌∷◌, ◌++◌, length, take, drop, map, refl, sym, ap, ◌∙◌, arith, slice_index, replicate, append_assoc}
 use Rattle.std.specs.Prelude.{Result, Ok, Err, IfOk}
 use Rattle.std.proofs.lemmas.List.{drop_more, map-append, length-drop}
 use Rattle.td_num.specs.Numbers.{places_from}
-use Rattle.td_core.specs.Outcome.{Ending, Behavior, accepted, rejected, after_reading, and_then, bytes_at, copies_by}
-use Rattle.td_core.specs.declared.module.CopyOut.{CopyOut}
-use Rattle.td_core.specs.declared.outcome.Reason.TheVariants.{NotEnough}
+use Rattle.td_core.specs.Outcome.{Ending, Behavior, bytes_at, copies_by}
 use Rattle.td_core.specs.declared.outcome.Verdict.{Verdict}
 use Rattle.td_core.specs.declared.outcome.Verdict.TheVariants.{Accept, Reject}
 use Rattle.td_core.specs.declared.outcome.TraceFrame.{TraceFrame}
 use Rattle.td_core.specs.declared.outcome.Outcome.{Outcome}
 use Rattle.td_core.specs.Outcome.{outcome_of}
-use Rattle.td_meaning.specs.Meaning.{with_copy}
-use Rattle.td_meaning.specs.Machine.{copied_meaning}
 use Rattle.td_meaning.specs.Verdicts.{ending_of}
 use Rattle.td_meaning.proofs.Steps.{places_more}
-use Rattle.td_meaning.proofs.Filling.{taken_long, taken_short}
-
-pub copied_long : (c : CopyOut) (places : List ℕ) (n end p : ℕ) (cells : List ℕ) → p + n ≤ end → copied_meaning c places n end p cells ≡ after_reading (places_from p (min n c.room)) (accepted (p + n) (with_copy c places p (min n c.room) cells))
-copied_long c places n end p cells h = ap (λ t. and_then t (λ q cells. after_reading (places_from p (min n c.room)) (accepted q (with_copy c places p (min n c.room) cells)))) (taken_long n p end p cells h)
-
-pub copied_short : (c : CopyOut) (places : List ℕ) (n end p : ℕ) (cells : List ℕ) → end < p + n → copied_meaning c places n end p cells ≡ rejected NotEnough p cells
-copied_short c places n end p cells h = ap (λ t. and_then t (λ q cells. after_reading (places_from p (min n c.room)) (accepted q (with_copy c places p (min n c.room) cells)))) (taken_short n p end p cells h)
 
 pub bytes_more : (b : List ℕ) (p k v : ℕ) (bytes : List ℕ) → bytes ≡ bytes_at b (places_from p k) → v ≡ slice_index b (p + k) → bytes ++ v ∷ [] ≡ bytes_at b (places_from p (k + 1))
 bytes_more b p k v bytes h e =

@@ -1,9 +1,9 @@
 -- Endings, one after the other.
-use Rattle.std.proofs.Common.{◌≡◌, ℕ, suc, ◌+◌, ◌-◌, ◌<◌, ◌≤◌, Bool, cond, Option, Some, List, [], ◌∷◌, length, refl, sym, ap, ◌∙◌}
+use Rattle.std.proofs.Common.{◌≡◌, ℕ, suc, ◌-◌, cond, Some, List, [], ◌∷◌, length, refl, sym, ap, ◌∙◌}
 use Rattle.std.specs.Prelude.{slice_get, nat_eq}
-use Rattle.std.proofs.lemmas.Bool.{eq-eqb, ne_eqb}
+use Rattle.std.proofs.lemmas.Bool.{ne_eqb}
 use Rattle.td_num.specs.Numbers.{places_from}
-use Rattle.td_core.specs.declared.outcome.Reason.TheVariants.{NotEnough, ListSize}
+use Rattle.td_core.specs.declared.outcome.Reason.TheVariants.{ListSize}
 use Rattle.td_core.specs.declared.module.NameId.{NameId}
 use Rattle.td_core.specs.declared.module.Field.{Field}
 use Rattle.td_core.specs.declared.module.Module.{Module}
@@ -11,13 +11,12 @@ use Rattle.td_core.specs.declared.module.Entry.{Entry}
 use Rattle.td_core.specs.declared.outcome.TraceFrame.{TraceFrame}
 use Rattle.td_core.specs.declared.outcome.Verdict.{Verdict}
 use Rattle.td_core.specs.declared.outcome.Verdict.TheVariants.{Accept, Reject}
-use Rattle.td_core.specs.Outcome.{Ending, Accepted, Rejected, Behavior, plain, accepted, rejected, after_reading, onward, and_then, ending_within, within}
+use Rattle.td_core.specs.Outcome.{Ending, Accepted, Rejected, Behavior, plain, accepted, after_reading, onward, and_then, ending_within, within}
 use Rattle.td_meaning.specs.Naming.{is_needed}
-use Rattle.td_meaning.specs.Meaning.{Sense, demanded, elements, field_place, field_number, number_places, first_name, extended, filled_once, equals, entry_place, numbers_at, run_of, first_where, looked_at, is_nonzero, byte_type, zeros_end, zeros_meaning}
+use Rattle.td_meaning.specs.Meaning.{Sense, demanded, elements, field_place, field_number, number_places, first_name, extended, entry_place, numbers_at, run_of, first_where, looked_at, is_nonzero, byte_type, zeros_end, zeros_meaning}
 use Rattle.td_meaning.specs.Machine.{below, fields_meaning, content_meaning, parts_meaning}
 use Rattle.td_meaning.proofs.MachineMeaning.{meaning}
 use Rattle.td_meaning.specs.Verdicts.{ending_of, IsAt}
-use Rattle.td_meaning.proofs.Filling.{taken_long, taken_short}
 
 -- what follows an ending doesn't rest on what was read
 pub then_by : (t : Behavior) (o : Ending) (go : ℕ → List ℕ → Behavior) → t.ending ≡ o → (and_then t go).ending ≡ (and_then (plain o) go).ending
@@ -26,8 +25,6 @@ then_by t o go e = ap (λ x. (onward x t.reads go).ending) e ∙ unread o t.read
     unread : (o : Ending) (reads : List ℕ) (go : ℕ → List ℕ → Behavior) → (onward o reads go).ending ≡ (onward o [] go).ending
     unread (Accepted q cells) reads go = refl
     unread (Rejected reason position trace cells) reads go = refl
-
--- Numbers that have room
 
 -- Types
 
@@ -55,23 +52,9 @@ field_by sets senses ty f later env places b end p cells o e =
 
 -- Arrays
 
-pub once_short : (each : ℕ → ℕ → List ℕ → Behavior) (step : Option ℕ) (size end p : ℕ) (cells : List ℕ) → end < p + size → filled_once each step size end p cells ≡ rejected NotEnough p cells
-once_short each step size end p cells h = ap (λ t. and_then t (λ q cells. and_then (demanded ListSize (equals step size) p p cells) (λ r cells. and_then (each q r cells) (λ t cells. demanded ListSize (nat_eq t q) p t cells)))) (taken_short size p end p cells h)
-
-pub once_long : (each : ℕ → ℕ → List ℕ → Behavior) (step : Option ℕ) (size end p : ℕ) (cells : List ℕ) (v : Bool) → p + size ≤ end → equals step size ≡ v → filled_once each step size end p cells ≡ and_then (demanded ListSize v p p cells) (λ r cells. and_then (each (p + size) r cells) (λ t cells. demanded ListSize (nat_eq t (p + size)) p t cells))
-once_long each step size end p cells v h d =
-    ap (λ t. and_then t (λ q cells. and_then (demanded ListSize (equals step size) p p cells) (λ r cells. and_then (each q r cells) (λ t cells. demanded ListSize (nat_eq t q) p t cells)))) (taken_long size p end p cells h)
-    ∙ ap (λ v. and_then (demanded ListSize v p p cells) (λ r cells. and_then (each (p + size) r cells) (λ t cells. demanded ListSize (nat_eq t (p + size)) p t cells))) d
-
 pub elements_over : (each : ℕ → List ℕ → Behavior) (turns start end p : ℕ) (cells : List ℕ) → turns ≡ 0 → (elements each turns start end p cells).ending ≡ (demanded ListSize (nat_eq p end) start p cells).ending
 unfolding elements
 elements_over each turns start end p cells e = ap (λ n. (elements each n start end p cells).ending) e
-
-pub elements_done : (each : ℕ → List ℕ → Behavior) (turns more start end p : ℕ) (cells : List ℕ) → turns ≡ suc more → p ≡ end → (elements each turns start end p cells).ending ≡ Accepted p cells
-unfolding elements
-elements_done each turns more start end p cells e at =
-    ap (λ n. (elements each n start end p cells).ending) e
-    ∙ ap (λ v. (cond v (accepted p cells) (and_then (each p cells) (elements each more start end))).ending) (eq-eqb p end at)
 
 pub elements_on : (each : ℕ → List ℕ → Behavior) (turns more start end p : ℕ) (cells : List ℕ) (o : Ending) → turns ≡ suc more → (p ≡ end → ⊥) → (each p cells).ending ≡ o → (elements each turns start end p cells).ending ≡ (and_then (plain o) (elements each more start end)).ending
 unfolding elements

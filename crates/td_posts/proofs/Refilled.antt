@@ -1,6 +1,6 @@
 -- Buffers that are filled one after the other. Cited by other crates.
-use Rattle.std.proofs.Common.{◌≡◌, ℕ, zero, suc, ◌<◌, ◌≤◌, List, [], ◌∷◌, length, map, take, refl, sym, ap, ◌∙◌, subst, arith, slice_index_or, slice_set}
-use Rattle.td_stream.specs.Copies.{BufferView, empty_with, held_by, rooms_of}
+use Rattle.std.proofs.Common.{◌≡◌, ℕ, zero, suc, ◌<◌, ◌≤◌, List, [], ◌∷◌, length, take, refl, sym, ap, ◌∙◌, subst, arith, slice_index_or, slice_set}
+use Rattle.td_stream.specs.Copies.{BufferView, held_by, rooms_of}
 use Rattle.td_posts.specs.Posts.{HaveRoom}
 
 -- the first k hold what the first of the others hold, and the rest are as they were
@@ -82,10 +82,6 @@ held_count (b ∷ bs) = ap suc (held_count bs)
 pub rooms_count : (buffers : List BufferView) → length (rooms_of buffers) ≡ length buffers
 rooms_count [] = refl
 rooms_count (b ∷ bs) = ap suc (rooms_count bs)
-
-pub rooms_again : (rooms : List ℕ) → rooms_of (map empty_with rooms) ≡ rooms
-rooms_again [] = refl
-rooms_again (r ∷ rs) = ap (λ xs. r ∷ xs) (rooms_again rs)
 
 -- where what the first k of the others hold fits these rooms, it is what is put into buffers with these rooms
 pub first_same : (rooms : List ℕ) (k : ℕ) (others buffers : List BufferView) → rooms_of buffers ≡ rooms → HaveRoom rooms (held_by (take k others)) → take (length buffers) others ≡ take k others

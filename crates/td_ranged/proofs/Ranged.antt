@@ -1,5 +1,5 @@
 -- Writing in 64 bits is writing in whole numbers, definition by definition.
-use Rattle.std.proofs.Common.{◌≡◌, ℕ, zero, suc, ◌+◌, ◌-◌, ◌^◌, ◌<◌, ◌≤◌, Bool, true, false, cond, List, [], ◌∷◌, ◌++◌, length, map, refl, sym, ap, ◌∙◌, subst, arith, Option, Some, None, slice_get}
+use Rattle.std.proofs.Common.{◌≡◌, ℕ, zero, suc, ◌+◌, ◌-◌, ◌^◌, ◌<◌, ◌≤◌, Bool, true, false, List, [], ◌∷◌, ◌++◌, length, map, refl, sym, ap, ◌∙◌, subst, arith, Option, Some, None, slice_get}
 use Rattle.std.specs.Prelude.{nat_eq, slice_index, slice_set}
 use Rattle.std.proofs.lemmas.Bool.{leb-true, eqb-true, eqb-false}
 use Rattle.std.proofs.lemmas.Option.{none-some, same_Some, slice_get_within}
@@ -17,7 +17,6 @@ use Rattle.td_core.specs.declared.module.Extent.TheVariants.{Once, Filling, Once
 use Rattle.td_core.specs.declared.module.Bits.{Bits}
 use Rattle.td_core.specs.declared.module.Part.{Part}
 use Rattle.td_core.specs.declared.module.Field.{Field}
-use Rattle.td_core.specs.declared.module.Case.{Case}
 use Rattle.td_core.specs.declared.module.Body.{Body}
 use Rattle.td_core.specs.declared.module.Body.TheVariants.{Struct, Casetype}
 use Rattle.td_core.specs.declared.module.TypeDef.{TypeDef}
@@ -25,7 +24,7 @@ use Rattle.td_core.specs.Outcome.{Behavior}
 use Rattle.td_core.specs.Types.{limit}
 use Rattle.td_core.specs.WellFormed.{OfSome}
 use Rattle.td_core.specs.Copies.{IsDefinitionCopying}
-use Rattle.td_core.specs.Formed.{Bound, whole as word, AllFit, IsOptionScoped, IsElementFormed, IsExtentFormed, ArePartsFormed, AreFieldsFormed, AreCasesFormed, IsDefaultFormed, IsBodyFormed, IsDefinitionFormed, bits_bound, part_bound, parts_scope, param_bounds, own_bounds, params_at, own_at}
+use Rattle.td_core.specs.Formed.{Bound, whole as word, AllFit, IsOptionScoped, IsElementFormed, IsExtentFormed, ArePartsFormed, AreFieldsFormed, IsBodyFormed, IsDefinitionFormed, bits_bound, part_bound, parts_scope, param_bounds, own_bounds, params_at, own_at}
 use Rattle.td_expr.specs.Facts.{Fact}
 use Rattle.td_expr.specs.Sound.{Sound}
 use Rattle.td_expr.specs.Safe.{first_unsafe, first}
@@ -44,8 +43,9 @@ use Rattle.td_arith.proofs.States.{State, pushed, sound}
 use Rattle.td_arith.proofs.Numbers.{bits_small, no_bits}
 use Rattle.td_arith.proofs.Parts.{parts_sound, option_sound, refined_stays, action_sound}
 use Rattle.td_arith.proofs.Shapes.{args_fit, cells_stand}
-use Rattle.td_arith.proofs.Copies.{CopyStands, CopiesStand, CasesStand, BodyStands, definition_stands}
+use Rattle.td_arith.proofs.Copies.{CopyStands, CopiesStand, BodyStands, definition_stands}
 use Rattle.td_arith.proofs.Evaluated.{each_safe, stand_after, opened_fits}
+use Rattle.td_arith.proofs.Choosing.{Chosen, choose}
 use Rattle.td_values.specs.declared.error.WriteRule.TheVariants.{Shape, Range, Long}
 use Rattle.td_values.specs.declared.limits.TheConstants.{MOST_WRITTEN}
 use Rattle.td_values.specs.Datum.{Datum, Number, Sequence, Bytes, Empty, list_of}
@@ -254,24 +254,7 @@ module _ (sets : List (List ℕ)) (ours means : ℕ → Writer) (ds : List TypeD
             (ap (λ (y : Behavior). y.ending) (parts_is ty p m x.parts env places q more parts.sound)) parts.stays
             (λ r last h. next (extended env m x.parts) (suc i) q last vs h.1.1 k.0 h.1.0))
 
-    -- the fields of a case are formed and safe as its list says
-    record Chosen (scope : List Bound) (facts : List Fact) (fs : Option (List Field)) : Type 0 where
-      formed : IsDefaultFormed ds n bounds scope fs
-      stands : OfSome (CopiesStand bounds) fs
-      safe : default_unsafe facts fs ≡ None
-
-    choose : (scope : List Bound) (facts : List Fact) (v : ℕ) (cases : List Case) (default : Option (List Field)) → AreCasesFormed ds n bounds scope cases → IsDefaultFormed ds n bounds scope default → CasesStand bounds cases → OfSome (CopiesStand bounds) default
-        → cases_unsafe facts cases ≡ None → default_unsafe facts default ≡ None → Chosen scope facts (case_for v cases default)
-    choose scope facts v [] default form other cs last u w = record { formed = other; stands = last; safe = w }
-    choose scope facts v (c ∷ cases) default form other cs last u w =
-        let h = neither (fields_unsafe facts c.fields) (cases_unsafe facts cases) u in
-        by (nat_eq c.value v) (record { formed = form.0; stands = cs.0; safe = h.0 }) (choose scope facts v cases default form.1 other cs.1 last h.1 w)
-      where
-        by : (b : Bool) → Chosen scope facts (Some c.fields) → Chosen scope facts (case_for v cases default) → Chosen scope facts (cond b (Some c.fields) (case_for v cases default))
-        by true x y = x
-        by false x y = y
-
-    chosen_same : (fs : Option (List Field)) (scope : List Bound) (facts : List Fact) (env path : List ℕ) (p : ℕ) (cells : List ℕ) (vs : List Datum) → Chosen scope facts fs → State scope facts env → p ≤ MOST_WRITTEN → AllFit all cells
+    chosen_same : (fs : Option (List Field)) (scope : List Bound) (facts : List Fact) (env path : List ℕ) (p : ℕ) (cells : List ℕ) (vs : List Datum) → Chosen ds n bounds scope facts fs → State scope facts env → p ≤ MOST_WRITTEN → AllFit all cells
         → Same all p (chosen_written in_machine sets ours ty fs env places path p cells vs) (chosen_written whole sets means ty fs env places path p cells vs)
     chosen_same None scope facts env path p cells vs c s le f = (refl, tt)
     chosen_same (Some fs) scope facts env path p cells vs c s le f =
@@ -303,7 +286,7 @@ module _ (sets : List (List ℕ)) (ours means : ℕ → Writer) (ds : List TypeD
       (λ q more h.
       let v = natural_of switch args in
       let same = natural_is switch args (sound scope facts args switch h.1.1 form.0 one.0) in
-      let c = chosen_same d.name (case_for v cases default) scope facts args path p more vs (choose d.name scope facts v cases default form.1.0 form.1.1 stand.0 stand.1 two.0 two.1) h.1.1 le h.1.0 in
+      let c = chosen_same d.name (case_for v cases default) scope facts args path p more vs (choose ds n bounds scope facts v cases default form.1.0 form.1.1 stand.0 stand.1 two.0 two.1) h.1.1 le h.1.0 in
       (ap (λ k. chosen_written in_machine sets ours d.name (case_for k cases default) args places path p more vs) same ∙ c.0, c.1))
 
 definition_same : (sets : List (List ℕ)) (ours means : ℕ → Writer) (ds : List TypeDef) (n : ℕ)

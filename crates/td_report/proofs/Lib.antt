@@ -10,3 +10,4 @@ pub mod Parts
 pub mod Shown
 pub mod WrittenBytes
 pub mod Zipped
+pub mod Named

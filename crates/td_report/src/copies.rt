@@ -7,7 +7,7 @@ ghost use Rattle.td_report.specs.Report.{entry_buffers, with_bytes, copy_value, 
 
 use crate::pieces::write_pieces;
 use crate::written::write_spaced;
-use td_core::entries::{entry_definition, name_bytes};
+use td_core::entries::{entry_definition, name_pieces};
 use td_core::module::{Buffer, Entry, Module};
 use td_io::{Sink, WriteFault};
 use td_num::items::Items;
@@ -57,11 +57,13 @@ fn write_copy<O: Sink>(
 ) -> Result<(), WriteFault>
     ensures { Writes (O.state out.old) (O.state out.new) (copy_line m.now (copy_value buffer bytes.now)) result }
 {
-    write_pieces(out, &[b"copy ", name_bytes(m, buffer.name)])?;
+    let name = name_pieces(m, buffer.name);
+    write_pieces(out, &[b"copy ", name.part, name.dot, name.own])?;
     write_spaced(out, bytes)?;
     write_pieces(out, &[b"\n"])
 }
 
+/// The lines of copies, one for each buffer of the entry point, in their order.
 pub(crate) fn write_copies<O: Sink, B: CopyBuffer>(
     out: &mut O,
     m: &Module,

@@ -43,6 +43,7 @@ fn first_bytes(text: &[u8], count: u32) -> &[u8]
     }
 }
 
+/// The word `error` and a code.
 pub(crate) fn write_code<E: Sink>(err: &mut E, code: &[u8]) -> Result<(), WriteFault>
     ensures { Writes (E.state err.old) (E.state err.new) (codes "error " ++ code.now) result }
 {
@@ -64,6 +65,7 @@ fn write_place<E: Sink>(err: &mut E, text: &[u8], at: Option<u32>) -> Result<(),
     write_pieces(err, &[b" ", line, b":", column])
 }
 
+/// Words after a space, where there are any.
 pub(crate) fn write_words<E: Sink>(err: &mut E, words: &[u8]) -> Result<(), WriteFault>
     ensures { Writes (E.state err.old) (E.state err.new) (after_space words.now) result }
 {

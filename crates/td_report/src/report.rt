@@ -15,7 +15,8 @@ use crate::paged::hand_on;
 use crate::pieces::write_pieces;
 use crate::written::write_written;
 use itoa::Buffer;
-use td_core::entries::{entry_definition, name_bytes};
+use td_core::entries::{entry_definition, name_pieces};
+use td_core::full_name::NamePieces;
 use td_core::module::{Cell, Entry, Module};
 use td_core::outcome::{Outcome, Reason, Spot, TraceFrame, Verdict};
 use td_io::{Page, Sink, WriteFault, write_all};
@@ -23,13 +24,23 @@ use td_stream::layout::Layout;
 use td_stream::load::Load;
 use td_stream::loads::Loads;
 
-fn spot_of(m: &Module, spot: Spot) -> &[u8]
-    ensures { result.now ≡ spot_word m.now spot }
+fn spot_of(m: &Module, spot: Spot) -> NamePieces<'_>
+    ensures { spot_word m.now spot ≡ result.part.now ++ result.dot.now ++ result.own.now }
 {
     match spot {
-        Spot::Field(name) => name_bytes(m, name),
-        Spot::Where => b"where",
-        Spot::Switch => b"switch",
+        Spot::Field(name) => name_pieces(m, name),
+        Spot::Where => keyword(b"where"),
+        Spot::Switch => keyword(b"switch"),
+    }
+}
+
+fn keyword(word: &[u8]) -> NamePieces<'_>
+    ensures { word.now ≡ result.part.now ++ result.dot.now ++ result.own.now }
+{
+    NamePieces {
+        part: b"",
+        dot: b"",
+        own: word,
     }
 }
 
@@ -76,16 +87,13 @@ fn write_frame<O: Sink>(out: &mut O, m: &Module, frame: TraceFrame) -> Result<()
 {
     let mut buffer = Buffer::new();
     let start = buffer.format(frame.start).as_bytes();
+    let ty = name_pieces(m, frame.ty);
+    let field = spot_of(m, frame.field);
     write_pieces(
         out,
         &[
-            b"frame ",
-            name_bytes(m, frame.ty),
-            b".",
-            spot_of(m, frame.field),
-            b" ",
-            start,
-            b"\n",
+            b"frame ", ty.part, ty.dot, ty.own, b".", field.part, field.dot, field.own, b" ",
+            start, b"\n",
         ],
     )
 }
@@ -129,12 +137,23 @@ fn write_cell<O: Sink>(out: &mut O, m: &Module, cell: Cell, value: u64) -> Resul
 {
     let mut buffer = Buffer::new();
     let value = buffer.format(value).as_bytes();
-    let name = name_bytes(m, cell.name);
+    let name = name_pieces(m, cell.name);
     match cell.field {
-        None => write_pieces(out, &[b"out ", name, b" ", value, b"\n"]),
+        None => {
+            write_pieces(
+                out,
+                &[b"out ", name.part, name.dot, name.own, b" ", value, b"\n"],
+            )
+        }
         Some(field) => {
-            let field = name_bytes(m, field);
-            write_pieces(out, &[b"out ", name, b".", field, b" ", value, b"\n"])
+            let field = name_pieces(m, field);
+            write_pieces(
+                out,
+                &[
+                    b"out ", name.part, name.dot, name.own, b".", field.part, field.dot, field.own,
+                    b" ", value, b"\n",
+                ],
+            )
         }
     }
 }

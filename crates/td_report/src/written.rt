@@ -31,7 +31,7 @@ fn space_before(bytes: &[u8]) -> &'static [u8]
     if bytes.is_empty() { b"" } else { b" " }
 }
 
-// The digits of bytes, after a space where there are any.
+/// The digits of bytes, after a space where there are any.
 pub(crate) fn write_spaced<O: Sink>(out: &mut O, bytes: &[u8]) -> Result<(), WriteFault>
     ensures { Writes (O.state out.old) (O.state out.new) (after_space (byte_digits bytes.now)) result }
 {

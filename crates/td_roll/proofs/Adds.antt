@@ -6,12 +6,13 @@ use mathlib.Core.Logic.{dite}
 use native.Mathlib.Decide.{ℕ_discrete}
 use lib.ListN.{get_elem?}
 use Rattle.atomic_table.proofs.Lists.{at_set, set_else, at_longer, at_last}
+use Rattle.td_num.proofs.Lists.{set_at}
 use Rattle.td_roll.specs.declared.parts.Part.{Part}
 use Rattle.td_roll.specs.declared.parts.Head.{Head}
 use Rattle.td_roll.specs.Roll.{Entry, part_of, head_of, added, IsInLog, count_of, IsHeld, Roll}
-use Rattle.td_roll.proofs.Views.{entries_of-same, entries_of-other, placed, put_same, put_other, out_set, out-push, held_set, held_longer}
-use Rattle.td_words.proofs.Steps.{set_at, two_numbers, some_apart, none_apart as some_none}
-use Rattle.td_words.proofs.Makes.{snoc_at}
+use Rattle.td_roll.proofs.Views.{entries_of-same, entries_of-other, out_set, out-push, held_set, held_longer}
+use Rattle.td_words.proofs.Steps.{two_numbers, some_apart, none_apart as some_none}
+use Rattle.td_words.proofs.Makes.{snoc_at, placed, put_same, put_other}
 
 module _ {A V : Type 0} (head : V → Option (Head A)) (part : V → Option (Part A)) where
   module _ (views : List V) (log : List (Entry A)) (r : Roll head part views log) where

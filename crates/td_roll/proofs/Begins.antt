@@ -1,10 +1,11 @@
 -- Rolls of one view. Cited by other crates.
 use Rattle.std.proofs.Common.{◌≡◌, [], ◌∷◌, refl, sym, ap, ◌∙◌, subst, arith}
 use mathlib.Core.Option.{Option, none, some, some-injective, some-ne-none}
+use Rattle.td_words.proofs.Makes.{placed, put_same}
 use Rattle.td_roll.specs.declared.parts.Part.{Part}
 use Rattle.td_roll.specs.declared.parts.Head.{Head}
 use Rattle.td_roll.specs.Roll.{part_of, head_of, IsInLog, count_of, IsHeld, Roll}
-use Rattle.td_roll.proofs.Views.{placed, put_same, only}
+use Rattle.td_roll.proofs.Views.{only}
 
 module _ {A V : Type 0} (head : V → Option (Head A)) (part : V → Option (Part A)) where
   -- the one view is the head, and the part 0

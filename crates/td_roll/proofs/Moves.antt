@@ -3,11 +3,11 @@ use Rattle.std.proofs.Common.{◌≡◌, ◌≢◌, ℕ, List, [], ◌∷◌, �
 use mathlib.Core.Option.{Option, none, some, some-injective, some-ne-none}
 use lib.ListN.{get_elem?}
 use Rattle.atomic_table.proofs.Lists.{at_set, set_else, at_longer, at_last}
+use Rattle.td_num.proofs.Lists.{set_at}
 use Rattle.td_roll.specs.declared.parts.Part.{Part}
 use Rattle.td_roll.specs.declared.parts.Head.{Head}
 use Rattle.td_roll.specs.Roll.{Entry, count_of, Roll}
 use Rattle.td_roll.proofs.Views.{reloc, reloc_here, reloc_else, reloc_none, out_set, out-push, held_moved}
-use Rattle.td_words.proofs.Steps.{set_at}
 use Rattle.td_words.proofs.Makes.{snoc_at}
 
 module _ {A V : Type 0} (head : V → Option (Head A)) (part : V → Option (Part A)) where

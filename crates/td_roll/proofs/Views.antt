@@ -5,10 +5,10 @@ use mathlib.Core.Logic.{dite}
 use native.Mathlib.Decide.{ℕ_discrete}
 use lib.ListN.{get_elem?}
 use Rattle.atomic_table.proofs.Lists.{set_else, at_longer}
+use Rattle.td_num.proofs.Lists.{set_at}
 use Rattle.td_roll.specs.declared.parts.Part.{Part}
 use Rattle.td_roll.specs.declared.parts.Head.{Head}
 use Rattle.td_roll.specs.Roll.{Entry, entries_of, all_entries, count_of, parts_out, IsHeld}
-use Rattle.td_words.proofs.Steps.{set_at}
 
 -- ---- logs
 module _ {A : Type 0} where
@@ -29,16 +29,6 @@ module _ {A : Type 0} where
   all_entries-push (x ∷ h) e = ap (λ l. x.1 ∷ l) (all_entries-push h e)
 
 -- ---- numbers
--- the same map, but for one number
-abbrev pub placed : (ℕ → Option ℕ) → ℕ → Option ℕ → ℕ → Option ℕ
-placed place_of n x k = cond (eqb k n) x (place_of k)
-
-pub put_same : (place_of : ℕ → Option ℕ) (n : ℕ) (x : Option ℕ) → placed place_of n x n ≡ x
-put_same place_of n x = ap (λ b. cond b x (place_of n)) (eq-eqb n n refl)
-
-pub put_other : (place_of : ℕ → Option ℕ) (n : ℕ) (x : Option ℕ) (k : ℕ) → k ≢ n → placed place_of n x k ≡ place_of k
-put_other place_of n x k ne = ap (λ b. cond b x (place_of k)) (ne_eqb k n ne)
-
 pub only : {V : Type 0} (P : ℕ → V → Type 0) (v : V) → P 0 v → (i : ℕ) (u : V) → get_elem? (v ∷ []) i ≡ some u → P i u
 only P v p zero u e = subst (P 0) (some-injective v u e) p
 only P v p (suc i) u e = absurd (some-ne-none u (sym e))

@@ -6,6 +6,7 @@ pub mod Whole
 pub mod Copying
 pub mod ModulesFormed
 pub mod Naming
+pub mod FieldsFound
 pub mod FieldsWhole
 pub mod Sorting
 pub mod ModulesSorted

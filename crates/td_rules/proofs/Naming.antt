@@ -1,5 +1,5 @@
 -- Each name of a tree's module has its bytes, and no two have the same. Cited by other crates.
-use Rattle.std.proofs.Common.{◌≡◌, ℕ, zero, suc, ◌+◌, ◌<◌, Bool, true, false, cond, not, ◌||◌, if◌then◌else◌, List, [], ◌∷◌, ◌++◌, length, map, refl, sym, ap, ◌∙◌, subst, arith, Option, Some, None, slice_get}
+use Rattle.std.proofs.Common.{◌≡◌, ℕ, zero, suc, ◌+◌, Bool, true, false, ◌||◌, if◌then◌else◌, List, [], ◌∷◌, ◌++◌, length, map, refl, sym, ap, ◌∙◌, subst, Option, Some, None, slice_get}
 use Rattle.std.proofs.lemmas.Bool.{false≢true}
 use Rattle.std.proofs.lemmas.Slice.Eq.{bytes_eq-Decides}
 use Rattle.std.proofs.lemmas.List.Folds.{list_any-append}
@@ -21,6 +21,7 @@ use Rattle.td_core.specs.declared.module.Cell.{Cell}
 use Rattle.td_core.specs.declared.module.Part.{Part}
 use Rattle.td_core.specs.WellFormed.{OfSome, IsNameThere, IsDefinitionNamed}
 use Rattle.td_names.specs.Names.{is_seen, with_name, number_of}
+use Rattle.td_names.proofs.Naming.{number_below}
 use Rattle.td_rules.specs.declared.fields.FlatField.{FlatField}
 use Rattle.td_rules.specs.declared.known.CellType.{CellType}
 use Rattle.td_rules.specs.declared.known.CellType.TheVariants as cell
@@ -41,15 +42,6 @@ use Rattle.td_rules.proofs.Whole.{gathered_each}
 use Rattle.td_num.proofs.Lists.{each_append}
 
 -- Names that are seen
-
--- a name that was seen has a place
-number_below : (names : List (List ℕ)) (name : List ℕ) → is_seen names name ≡ true → number_of names name < length names
-number_below [] name seen = cc
-number_below (x ∷ names) name seen = by (number_below names name) (bytes_eq name x) seen
-  where
-    by : (is_seen names name ≡ true → number_of names name < length names) → (b : Bool) → (b || is_seen names name) ≡ true → cond (not b) (1 + number_of names name) 0 < length (x ∷ names)
-    by later true e = omega arith
-    by later false e = let below = later e in omega arith
 
 -- a name that was seen stays so
 keeps : (names : List (List ℕ)) (more name : List ℕ) → is_seen names name ≡ true → is_seen (with_name names more) name ≡ true

@@ -10,6 +10,7 @@ use Rattle.td_sched.specs.Invariant.{due, NeverFalls}
 use Rattle.td_sched.proofs.Memory.{keeps, drops}
 use Rattle.td_sched.proofs.Turns.{none, le_true, le_false}
 use Rattle.td_num.proofs.Truths.{eq_is as is_word, is_eq as eq_true}
+use Rattle.td_num.proofs.Equals.{unequal_below}
 
 -- a store to this word comes in time for load k, or doesn't
 abbrev pub InTime : ℕ → ℕ → PlannedStore → Type 0
@@ -96,10 +97,7 @@ word_falls_never (suc c) (suc d) (x ∷ xs) h le l = word_falls_never c d xs h.1
 pub none_to : (i : ℕ) (xs : List PlannedStore) → All (λ (s : PlannedStore). s.word < i) xs → to_word i xs ≡ []
 none_to i [] h = refl
 none_to i (x ∷ xs) h =
-    drops (λ s. nat_eq s.word i) x xs (below x.word i (All-head (λ (s : PlannedStore). s.word < i) x xs h)) ∙ none_to i xs (All-tail (λ (s : PlannedStore). s.word < i) x xs h)
-  where
-    below : (a b : ℕ) → a < b → nat_eq a b ≡ false
-    below a b h = grind arith
+    drops (λ s. nat_eq s.word i) x xs (unequal_below x.word i (All-head (λ (s : PlannedStore). s.word < i) x xs h)) ∙ none_to i xs (All-tail (λ (s : PlannedStore). s.word < i) x xs h)
 
 -- the value of the last store
 pub last_pushed : (o : ℕ) (xs : List PlannedStore) (x : PlannedStore) → last_value o (xs ++ x ∷ []) ≡ x.value

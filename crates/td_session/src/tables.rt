@@ -5,20 +5,17 @@ ghost use Rattle.std.specs.Arc.{arc_value};
 ghost use Rattle.td_ir.specs.Tables.{entry_of, routine_of};
 
 use crate::session::Session;
+use td_core::full_name::FullName;
 use td_core::module::{Cell, Entry, NameId, Param};
 use td_step::tables::{entry_at, routine_at};
 
 impl Session {
     /// The name of this number. Takes no memory. None: the code has no such name.
-    pub fn name(&self, id: NameId) -> Option<&[u8]>
+    pub fn name(&self, id: NameId) -> Option<&FullName>
         ensures there { IsSome result ↔ (id.number < length (arc_value self.now.code).names) }
-        ensures name { IfSome result (λ text. slice_get (arc_value self.now.code).names id.number ≡ Some text.now) }
+        ensures name { IfSome result (λ name. slice_get (arc_value self.now.code).names id.number ≡ Some name.now) }
     {
-        let parts = self.parts();
-        match parts.names.as_slice().get(id.number as usize) {
-            Some(text) => Some(text.as_slice()),
-            None => None,
-        }
+        self.parts().names.as_slice().get(id.number as usize)
     }
 
     /// How many entry points the code has.

@@ -1,7 +1,7 @@
 -- In a formed module without faults of kinds, no definition has one by the kinds of those before it.
 use Rattle.std.proofs.Common.{◌≡◌, ℕ, zero, suc, ◌+◌, ◌-◌, ◌<◌, false, ◌&&◌, ◌||◌, List, [], ◌∷◌, ◌++◌, length, refl, sym, ap, ◌∙◌, arith, Option, Some, None, slice_get}
 use Rattle.std.specs.Prelude.{nat_eq, not}
-use Rattle.std.proofs.lemmas.Option.{none-some, same_Some}
+use Rattle.std.proofs.lemmas.Option.{none-some}
 use Rattle.td_core.specs.declared.kind.Kind.{Kind}
 use Rattle.td_core.specs.declared.module.Element.{Element}
 use Rattle.td_core.specs.declared.module.Element.TheVariants as element
@@ -14,11 +14,11 @@ use Rattle.td_core.specs.declared.module.Body.TheVariants.{Struct, Casetype}
 use Rattle.td_core.specs.declared.module.TypeDef.{TypeDef}
 use Rattle.td_core.specs.Formed.{Bound, IsElementFormed, AreFieldsFormed, AreCasesFormed, IsDefaultFormed, IsBodyFormed, parts_scope, param_bounds, own_bounds}
 use Rattle.td_kinds.specs.Kinds.{element_kind, field_kind, kinds_below}
-use Rattle.td_kinds.specs.KindRules.{is_filled, fault_if, is_empty, fields_faults, cases_faults, default_faults, body_faults, definitions_faults, kinds_of}
+use Rattle.td_kinds.specs.KindRules.{is_filled, fault_if, is_empty, fields_faults, cases_faults, default_faults, body_faults, kinds_of}
 use Rattle.td_kinds.specs.declared.error.KindFault.TheVariants.{ZeroElement, RestNotLast}
-use Rattle.td_kinds.proofs.Listing.{below_as_before}
+use Rattle.td_kinds.proofs.Listing.{below_more}
+use Rattle.td_kinds.proofs.Faultless.{faults_at}
 use Rattle.td_spelled.specs.Laws.{KindsAreAdmitted}
-use Rattle.td_spelled.proofs.Fields.{nil_parts}
 
 module _ (ds : List TypeDef) (n : ℕ) (one two : ℕ → Kind) (same : (j : ℕ) → j < n → one j ≡ two j) where
   element_same : (cells scope : List Bound) (e : Element) → IsElementFormed ds n cells scope e → element_kind one e ≡ element_kind two e
@@ -56,19 +56,6 @@ module _ (ds : List TypeDef) (n : ℕ) (one two : ℕ → Kind) (same : (j : ℕ
   body_same cells scope (Struct fs) h = fields_same cells scope fs h
   body_same cells scope (Casetype switch cases default) h = λ i. cases_same cells scope cases h.1.0 i ++ default_same cells scope default h.1.1 i
 
--- the kinds of those below n, by more definitions
-below_more : (ds : List TypeDef) (n k j : ℕ) → j < n → kinds_below ds (n + k) j ≡ kinds_below ds n j
-below_more ds n zero j lt = let e : n + 0 ≡ n = omega arith in ap (λ m. kinds_below ds m j) e
-below_more ds n (suc k) j lt =
-    let e : n + suc k ≡ suc (n + k) = omega arith in
-    let less : j < n + k = omega (arith, lt) in
-    ap (λ m. kinds_below ds m j) e ∙ below_as_before ds (n + k) j less ∙ below_more ds n k j lt
-
-found_faultless : (kinds : ℕ → Kind) (ds : List TypeDef) (n : ℕ) (d : TypeDef) → slice_get ds n ≡ Some d → definitions_faults kinds ds ≡ [] → body_faults kinds d.body ≡ []
-found_faultless kinds [] n d e h = absurd (none-some d e)
-found_faultless kinds (x ∷ xs) zero d e h = ap (λ y. body_faults kinds y.body) (sym (same_Some x d e)) ∙ (nil_parts (body_faults kinds x.body) (definitions_faults kinds xs) h).0
-found_faultless kinds (x ∷ xs) (suc n) d e h = found_faultless kinds xs n d e (nil_parts (body_faults kinds x.body) (definitions_faults kinds xs) h).1
-
 in_list : (ds : List TypeDef) (n : ℕ) (d : TypeDef) → slice_get ds n ≡ Some d → n < length ds
 in_list [] n d e = absurd (none-some d e)
 in_list (x ∷ xs) zero d e = omega arith
@@ -82,4 +69,4 @@ kinds_are_admitted m formed faultless n d e =
     let same = λ (j : ℕ) (h : j < n). sym (below_more ds n (length ds - n) j h) ∙ ap (λ k. kinds_below ds k j) whole in
     let formed_here = formed n d e in
     body_same ds n (kinds_below ds n) (kinds_of m) same (own_bounds d) (param_bounds d.params) d.body formed_here.1
-    ∙ found_faultless (kinds_of m) ds n d e faultless
+    ∙ faults_at (kinds_of m) ds n d faultless e

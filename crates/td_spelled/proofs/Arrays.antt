@@ -1,6 +1,6 @@
 -- Numbers, bytes and arrays.
 use Rattle.std.proofs.Common.{◌≡◌, ℕ, zero, suc, ◌+◌, ◌-◌, ◌<◌, ◌≤◌, Bool, true, false, cond, List, [], ◌∷◌, ◌++◌, length, drop, replicate, refl, sym, ap, ◌∙◌, subst, arith, Option, Some, None}
-use Rattle.std.proofs.lemmas.Bool.{leb-true, leb-false, eq-eqb, ne_eqb, false≢true}
+use Rattle.std.proofs.lemmas.Bool.{leb-true, leb-false, ne_eqb, false≢true}
 use Rattle.std.proofs.lemmas.Option.{same_Some}
 use Rattle.std.proofs.lemmas.List.{length-replicate}
 use Rattle.td_num.specs.Numbers.{bytes_in}
@@ -24,7 +24,7 @@ use Rattle.td_spelled.specs.Laws.{FailsFor}
 use Rattle.td_spelled.proofs.Numbers.{drop_head}
 use Rattle.td_values.proofs.Lengths.{number_length}
 use Rattle.td_spelled.proofs.Told.{Fit, UpTo, Told, only_some, sized_some, fails_then, told_join, told_wanted, told_of_size}
-use Rattle.td_meaning.proofs.Filling.{taken_long}
+use Rattle.td_meaning.proofs.Filling.{taken_long, elements_done}
 
 no_room : (p n : ℕ) → has_room p n ≡ false → MOST_WRITTEN < p + n
 no_room p n e = leb-false (p + n) MOST_WRITTEN e
@@ -150,12 +150,6 @@ zeros_told path p cells (Bytes bytes) = refl
 zeros_told path p cells Empty = refl
 
 -- Elements one after the other
-
-pub elements_done : (each : ℕ → List ℕ → Behavior) (turns more start end p : ℕ) (cells : List ℕ) → turns ≡ suc more → p ≡ end → (elements each turns start end p cells).ending ≡ Accepted p cells
-unfolding elements
-elements_done each turns more start end p cells e at =
-    ap (λ n. (elements each n start end p cells).ending) e
-    ∙ ap (λ v. (cond v (accepted p cells) (and_then (each p cells) (elements each more start end))).ending) (eq-eqb p end at)
 
 pub elements_on : (each : ℕ → List ℕ → Behavior) (turns more start end p : ℕ) (cells : List ℕ) → turns ≡ suc more → (p ≡ end → ⊥) → (elements each turns start end p cells).ending ≡ (and_then (each p cells) (elements each more start end)).ending
 unfolding elements

@@ -1,7 +1,7 @@
 -- Definitions and modules.
 use Rattle.std.proofs.Common.{◌≡◌, ℕ, zero, suc, ◌+◌, ◌≤◌, Bool, true, false, cond, ◌||◌, List, [], ◌∷◌, length, refl, sym, ap, ◌∙◌, subst, arith, Option, Some, None, slice_get}
 use Rattle.std.specs.Prelude.{nat_eq}
-use Rattle.std.proofs.lemmas.Bool.{eqb-false, false≢true}
+use Rattle.std.proofs.lemmas.Bool.{eqb-false, or_parts}
 use Rattle.std.proofs.lemmas.Option.{none-some, same_Some}
 use Rattle.std.proofs.lemmas.List.{append-nil}
 use Rattle.td_num.specs.Numbers.{places_from}
@@ -33,7 +33,8 @@ use Rattle.td_values.specs.Writing.{Written, Done, Refused, Writer, tested, fiel
 use Rattle.td_spelled.specs.Laws.{FailsFor, IsExact, WritingIsExact}
 use Rattle.td_spelled.proofs.Told.{Fit, UpTo, Told, joined_some, only_some, fails_then, fails_within, accepts_then, accepts_within, told_map, told_wanted, told_tested}
 use Rattle.td_spelled.proofs.Parts.{refined_at, with_some}
-use Rattle.td_spelled.proofs.Fields.{before, nil_parts, fields_told}
+use Rattle.td_spelled.proofs.Contents.{before, nil_parts}
+use Rattle.td_spelled.proofs.Fields.{fields_told}
 
 -- How many values are spelled
 
@@ -85,17 +86,13 @@ uncounted spells fs env vs e = by (spelled_fields spells fs env vs) refl
 
 -- Cases
 
-or_false : (a b : Bool) → (a || b) ≡ false → (a ≡ false) × (b ≡ false)
-or_false true b e = absurd (false≢true (sym e))
-or_false false b e = (refl, e)
-
 kept_rest : (kinds : ℕ → Kind) (k : Kind) (cs : List Case) → (cases_kind kinds (Some k) cs).rest ≡ false → k.rest ≡ false
 kept_rest kinds k [] e = e
-kept_rest kinds k (c ∷ cs) e = (or_false k.rest (fields_kind kinds c.fields).rest (kept_rest kinds (spanned k (fields_kind kinds c.fields)) cs e)).0
+kept_rest kinds k (c ∷ cs) e = (or_parts k.rest (fields_kind kinds c.fields).rest (kept_rest kinds (spanned k (fields_kind kinds c.fields)) cs e)).0
 
 new_rest : (other : Option Kind) (k : Kind) → (spanned_with other k).rest ≡ false → k.rest ≡ false
 new_rest None k e = e
-new_rest (Some j) k e = (or_false j.rest k.rest e).1
+new_rest (Some j) k e = (or_parts j.rest k.rest e).1
 
 chosen_rest : (kinds : ℕ → Kind) (n : ℕ) (cs : List Case) (default : Option (List Field)) (other : Option Kind) (fs : List Field)
     → ((gs : List Field) → default ≡ Some gs → (k : Kind) × (other ≡ Some k) × (k.rest ≡ false → (fields_kind kinds gs).rest ≡ false))
@@ -112,7 +109,7 @@ chosen_rest kinds n (c ∷ cs) default other fs h e r =
       refl,
       λ z.
           let joint : (k.0.rest || (fields_kind kinds c.fields).rest) ≡ false = ap (λ o. (spanned_with o (fields_kind kinds c.fields)).rest) (sym k.1) ∙ z in
-          k.2 (or_false k.0.rest (fields_kind kinds c.fields).rest joint).0,
+          k.2 (or_parts k.0.rest (fields_kind kinds c.fields).rest joint).0,
     )) e r)
   where
     by : (b : Bool) → cond b (Some c.fields) (case_for n cs default) ≡ Some fs → (case_for n cs default ≡ Some fs → (fields_kind kinds fs).rest ≡ false) → (fields_kind kinds fs).rest ≡ false

@@ -6,16 +6,14 @@ use Rattle.std.proofs.lemmas.Option.{none-some, same_Some}
 use Rattle.std.proofs.lemmas.List.{append-nil}
 use Rattle.td_num.specs.Numbers.{bytes_in}
 use Rattle.td_num.specs.declared.number.NumberType.{NumberType}
-use Rattle.td_core.specs.Term.{Term, Deed}
+use Rattle.td_core.specs.Term.{Term}
 use Rattle.td_core.specs.declared.module.NameId.{NameId}
 use Rattle.td_core.specs.declared.module.Part.{Part}
 use Rattle.td_core.specs.declared.outcome.Reason.{Reason}
-use Rattle.td_core.specs.declared.outcome.Reason.TheVariants.{Constraint, Action as ActionFails}
 use Rattle.td_core.specs.Outcome.{Ending, Accepted, Rejected, and_then, within, ending_within}
-use Rattle.td_meaning.specs.Doing.{Effect, On, Returned, Aborted, doing, is_true}
-use Rattle.td_meaning.specs.Meaning.{refined, ended, acted, checked, parts_meaning, bits_of, extended, field_place}
+use Rattle.td_meaning.specs.Meaning.{refined, checked, parts_meaning, bits_of, extended, field_place}
 use Rattle.td_meaning.specs.Throughout.{OnEnding}
-use Rattle.td_meaning.proofs.Ending.{on_then, on_map, on_within, on_demanded}
+use Rattle.td_meaning.proofs.Staying.{Stays, refined_stays, checked_stays, parts_stay}
 use Rattle.td_values.specs.declared.error.WriteRule.{WriteRule}
 use Rattle.td_values.specs.declared.error.WriteRule.TheVariants.{Shape, Range, Broken, Size, Long}
 use Rattle.td_values.specs.declared.limits.TheConstants.{MOST_WRITTEN}
@@ -27,36 +25,6 @@ use Rattle.td_spelled.specs.Laws.{FailsFor}
 use Rattle.td_spelled.proofs.Told.{only_some, fails_then, fails_within, accepts_then, accepts_within}
 
 -- The place stays
-
-abbrev pub Stays : ℕ → ℕ → List ℕ → Type 0
-Stays q r cells = r ≡ q
-
-refined_stays : (r : Option Term) (env : List ℕ) (start q : ℕ) (cells : List ℕ) → OnEnding (refined r env start q cells).ending (Stays q)
-refined_stays None env start q cells = refl
-refined_stays (Some e) env start q cells = on_demanded Constraint (is_true e env) start q cells (Stays q) (λ t. refl)
-
-ended_stays : (o : Effect) (start q : ℕ) → OnEnding (ended o start q).ending (Stays q)
-ended_stays (On cells) start q = refl
-ended_stays (Returned value cells) start q = on_demanded ActionFails value start q cells (Stays q) (λ t. refl)
-ended_stays (Aborted cells) start q = tt
-
-acted_stays : (a : Option Deed) (env places : List ℕ) (start q : ℕ) (cells : List ℕ) → OnEnding (acted a env places start q cells).ending (Stays q)
-acted_stays None env places start q cells = refl
-acted_stays (Some d) env places start q cells = ended_stays (doing d (env ++ start ∷ []) places cells) start q
-
-checked_stays : (p : Part) (env places : List ℕ) (start q : ℕ) (cells : List ℕ) → OnEnding (checked p env places start q cells).ending (Stays q)
-checked_stays p env places start q cells =
-    on_then (refined p.refinement env start q cells).ending (refined p.refinement env start q cells).reads (acted p.action env places start) (Stays q) (Stays q) (refined_stays p.refinement env start q cells)
-    (λ r more e. on_map (acted p.action env places start r more).ending (Stays r) (Stays q) (acted_stays p.action env places start r more) (λ t last g. g ∙ e))
-
-parts_stay : (ty : NameId) (start n : ℕ) (ps : List Part) (env places : List ℕ) (q : ℕ) (cells : List ℕ) → OnEnding (parts_meaning ty start n ps env places q cells).ending (Stays q)
-unfolding parts_meaning
-parts_stay ty start n [] env places q cells = refl
-parts_stay ty start n (p ∷ ps) env places q cells =
-    let values = env ++ bits_of p.bits n ∷ [] in
-    on_then (within (field_place ty p.name start) (checked p values places start q cells)).ending (checked p values places start q cells).reads (parts_meaning ty start n ps values places) (Stays q) (Stays q)
-    (on_within (field_place ty p.name start) (checked p values places start q cells).ending (Stays q) (checked_stays p values places start q cells))
-    (λ r more e. on_map (parts_meaning ty start n ps values places r more).ending (Stays r) (Stays q) (parts_stay ty start n ps values places r more) (λ t last g. g ∙ e))
 
 on_accepted : (o : Ending) (P : ℕ → List ℕ → Type 0) (q : ℕ) (cells : List ℕ) → OnEnding o P → o ≡ Accepted q cells → P q cells
 on_accepted o P q cells h e = let g : OnEnding (Accepted q cells) P = subst (λ x. OnEnding x P) e h in g

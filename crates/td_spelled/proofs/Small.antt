@@ -1,9 +1,10 @@
 -- What spells a value are bytes. Cited by other crates.
-use Rattle.std.proofs.Common.{◌≡◌, ℕ, zero, suc, ◌/◌, ◌%◌, ◌^◌, ◌*◌, ◌<◌, Bool, true, false, List, [], ◌∷◌, ◌++◌, length, refl, sym, ap, subst, arith, Option, Some, None, slice_get}
+use Rattle.std.proofs.Common.{◌≡◌, ℕ, zero, suc, ◌/◌, ◌%◌, ◌<◌, Bool, true, false, List, [], ◌∷◌, ◌++◌, length, refl, sym, ap, subst, arith, Option, Some, None, slice_get, ◌^◌, ◌*◌}
 use Rattle.std.specs.Prelude.{nat_eq, replicate}
 use Rattle.std.specs.List.{All}
 use Rattle.std.proofs.lemmas.Option.{none-some, same_Some}
 use Rattle.std.proofs.lemmas.List.Elements.{All-nil, All-cons, All-append}
+use Rattle.std.proofs.lemmas.Nat.{mod_below}
 use Rattle.td_num.specs.Numbers.{bytes_in, byte_of}
 use Rattle.td_num.specs.declared.number.ByteOrder.{ByteOrder}
 use Rattle.td_num.specs.declared.number.ByteOrder.TheVariants.{LittleEndian, BigEndian}
@@ -35,16 +36,13 @@ same_small a b e h = subst Small (same_Some a b e) h
 
 -- ---- numbers
 
-below_256 : (n : ℕ) → n % 256 < 256
-below_256 n = omega arith
-
 rising_small : (w n : ℕ) → Small (rising_bytes w n)
 rising_small zero n = All-nil IsByte
-rising_small (suc w) n = All-cons IsByte (n % 256) (rising_bytes w (n / 256)) (below_256 n) (rising_small w (n / 256))
+rising_small (suc w) n = All-cons IsByte (n % 256) (rising_bytes w (n / 256)) (mod_below n 256 (omega arith)) (rising_small w (n / 256))
 
 falling_small : (w n : ℕ) → Small (falling_bytes w n)
 falling_small zero n = All-nil IsByte
-falling_small (suc w) n = All-cons IsByte (byte_of n w) (falling_bytes w n) (below_256 (n / 2 ^ (8 * w))) (falling_small w n)
+falling_small (suc w) n = All-cons IsByte (byte_of n w) (falling_bytes w n) (mod_below (n / 2 ^ (8 * w)) 256 (omega arith)) (falling_small w n)
 
 ordered_small : (order : ByteOrder) (w n : ℕ) → Small (ordered_bytes order w n)
 ordered_small LittleEndian w n = rising_small w n

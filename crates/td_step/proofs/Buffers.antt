@@ -1,23 +1,14 @@
 -- What buffers hold, after a copy.
-use Rattle.std.proofs.Common.{◌≡◌, ℕ, zero, suc, ◌+◌, ◌*◌, ◌-◌, ◌<◌, ◌≤◌, min, true, false, cond, List, [], ◌∷◌, length, drop, refl, sym, ap, ◌∙◌, arith, nat_le, slice_index, slice_index_or, slice_set}
+use Rattle.std.proofs.Common.{◌≡◌, ℕ, ◌+◌, ◌*◌, ◌-◌, ◌<◌, ◌≤◌, min, true, false, cond, List, length, drop, sym, ap, ◌∙◌, arith, nat_le, slice_set}
 use Rattle.std.proofs.lemmas.List.{drop-set-add, drop-set-lt, map-set, length-drop}
 use Rattle.td_num.specs.Numbers.{places_from}
 use Rattle.td_core.specs.declared.outcome.Reason.TheVariants.{NotEnough}
 use Rattle.td_core.specs.Outcome.{bytes_at, copies_by}
-use Rattle.td_stream.specs.Copies.{BufferView, held_by, rooms_of}
+use Rattle.td_stream.specs.Copies.{BufferView, held_by}
 use Rattle.td_ir.specs.State.{State, left}
 use Rattle.td_ir.specs.Flow.{Goes, Fails, Effect, plain, copied}
 use Rattle.td_core.specs.Held.{AreHeld}
-
-copies_set : (b xs : List ℕ) (k p n : ℕ) → 2 * k + 1 < length xs → copies_by b (slice_set (slice_set xs (2 * k) p) (2 * k + 1) n) ≡ slice_set (copies_by b xs) k (bytes_at b (places_from p n))
-copies_set b [] k p n h = absurd (omega (arith, h))
-copies_set b (x ∷ []) k p n h = absurd (omega (arith, h))
-copies_set b (x ∷ y ∷ xs) zero p n h = refl
-copies_set b (x ∷ y ∷ xs) (suc k) p n h =
-    let e : 2 * suc k ≡ suc (suc (2 * k)) = omega arith in
-    let f : 2 * suc k + 1 ≡ suc (suc (2 * k + 1)) = omega arith in
-    (λ i. copies_by b (slice_set (slice_set (x ∷ y ∷ xs) (e i) p) (f i) n))
-    ∙ ap (λ cs. bytes_at b (places_from x y) ∷ cs) (copies_set b xs k p n (omega (arith, h)))
+use Rattle.td_core.proofs.Copies.{copies_set}
 
 pub held_put : (b cells : List ℕ) (first number place p n : ℕ) (copies : List BufferView) (buffer : BufferView) → place ≡ first + 2 * number → length cells ≡ first + 2 * length copies → number < length copies
     → buffer.held ≡ bytes_at b (places_from p n) → AreHeld b first cells (held_by copies) → AreHeld b first (slice_set (slice_set cells place p) (place + 1) n) (held_by (slice_set copies number buffer))
@@ -50,8 +41,3 @@ copy_short next size room place count site s h = ap (λ v. cond v (copy_effect n
 
 pub copy_enough : (next size room place count site : ℕ) (s : State) → size ≤ left s → s.pos ≤ s.end → copied next size room place count site s ≡ copy_effect next size room place count s
 copy_enough next size room place count site s h l = ap (λ v. cond v (copy_effect next size room place count s) (plain (Fails NotEnough site s.start s))) (within s.pos size s.end h l)
-
-pub room_at : (copies : List BufferView) (n : ℕ) (d : BufferView) → n < length copies → slice_index (rooms_of copies) n ≡ (slice_index_or copies n d).room
-room_at [] n d h = absurd (omega (arith, h))
-room_at (b ∷ bs) zero d h = refl
-room_at (b ∷ bs) (suc n) d h = room_at bs n d (omega (arith, h))

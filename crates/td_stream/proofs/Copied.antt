@@ -1,12 +1,8 @@
 -- Bytes that are copied one after the other.
-use Rattle.std.proofs.Common.{◌≡◌, ℕ, zero, suc, ◌+◌, ◌<◌, List, ◌∷◌, ◌++◌, map, refl, sym, ap, ◌∙◌, subst, arith, slice_index}
+use Rattle.std.proofs.Common.{◌≡◌, ℕ, zero, suc, ◌+◌, ◌<◌, List, ◌∷◌, ◌++◌, map, refl, sym, ap, ◌∙◌, arith, slice_index}
 use Rattle.std.proofs.lemmas.List.{map-append}
 use Rattle.td_num.specs.Numbers.{byte_of, places_from}
-use Rattle.td_stream.specs.declared.load.Load.{Load}
-use Rattle.td_stream.specs.declared.stream.Stream.{Stream}
 use Rattle.td_stream.specs.Digits.{HasDigits}
-use Rattle.td_stream.specs.StreamInvariant.{Later}
-use Rattle.td_stream.specs.Loads.{Carries}
 use Rattle.td_stream.proofs.Places.{places_join}
 
 -- bytes in a row, and the bytes behind them
@@ -36,15 +32,3 @@ digits_copied b p n number h = go 0 p n from_zero
         let e : q + suc j ≡ q + 1 + j = omega arith in
         ap (byte_of number) d ∙ each (suc j) (omega (arith, lt)) ∙ ap (slice_index b) e in
         λ k. first k ∷ go (i + 1) (q + 1) n later k
-
-pub later_then : {W : Type 0} {loads : W → List Load} {reaches : W → W → Type 0} → ((u v w : W) → reaches u v → reaches v w → reaches u w) → (r s t : Stream W) → Later loads reaches r s → Later loads reaches s t → Later loads reaches r t
-later_then {W} {loads} {reaches} trans r s t h k = record {
-  same_words = k.same_words ∙ h.same_words;
-  reached = trans r.words.now s.words.now t.words.now h.reached k.reached;
-  layout = k.layout ∙ h.layout;
-  pos = omega (arith, h.pos, k.pos);
-  earlier = λ b c. h.earlier b (subst (λ l. Carries l b (loads s.words.now)) h.layout (k.earlier b (subst (λ l. Carries l b (loads t.words.now)) (sym h.layout) c)));
-}
-
-pub later_at : {W : Type 0} {loads : W → List Load} {reaches : W → W → Type 0} → ((w : W) → reaches w w) → (s : Stream W) → Later loads reaches s s
-later_at {W} {loads} {reaches} self s = record { same_words = refl; reached = self s.words.now; layout = refl; pos = omega arith; earlier = λ b c. c }

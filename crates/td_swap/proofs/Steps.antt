@@ -8,17 +8,13 @@ use mathlib.Core.Option.{none, some, some-injective, some-ne-none}
 use lib.ListN.{get_elem?}
 use Rattle.atomic_table.specs.Table.{State, step, keeps, Allows, Splits, Joins, opening}
 use Rattle.atomic_table.proofs.Lists.{at_set, set_else, set_again, at_snoc, at_longer}
+use Rattle.td_num.proofs.Lists.{set_at}
 use Rattle.td_swap.specs.declared.view.PublisherView.{PublisherView}
 use Rattle.td_swap.specs.declared.view.SwapView.{SwapView}
 use Rattle.td_swap.specs.declared.view.View.{View}
 use Rattle.td_swap.specs.declared.view.View.TheVariants.{Publisher, Swap, Spent}
 use Rattle.td_swap.specs.Views.{publisher_view, swap_view, new_view, did_load, with_ended, IsVersionRun, AreVersions}
 use Rattle.td_swap.specs.Rule.{IsPlaced, KeepsVersions, Holding, publisher_in, swap_in, IsPublisher, IsSwap, Published, LoadedVersion}
-
-set_at : {A : Type 0} (l : List A) (i : ℕ) (a b : A) → get_elem? l i ≡ some a → get_elem? (set l i b) i ≡ some b
-set_at [] i a b e = absurd (some-ne-none a (sym e))
-set_at (x ∷ xs) zero a b e = refl
-set_at (x ∷ xs) (suc i) a b e = set_at xs i a b e
 
 -- which kind a view is of
 kind_of : View → ℕ

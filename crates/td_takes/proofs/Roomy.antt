@@ -12,12 +12,13 @@ use Rattle.td_stream.specs.Copies.{BufferView, empty_with, held_by, rooms_of}
 use Rattle.td_stream.specs.Layouts.{length_in}
 use Rattle.td_stream.specs.Loads.{IsRising, Carries}
 use Rattle.td_stream.proofs.Carrying.{carried}
+use Rattle.td_stream.proofs.Rooms.{rooms_again}
 use Rattle.td_leaves.specs.Outcomes.{IsMeant}
 use Rattle.td_ir.specs.declared.tables.Parts.{Parts}
 use Rattle.td_lowered.specs.CodeRun.{IsCodeOf}
 use Rattle.td_posts.specs.declared.job.HostJob.{HostJob}
 use Rattle.td_posts.specs.Posts.{zeros, HaveRoom}
-use Rattle.td_posts.proofs.Refilled.{rooms_again, first_fits, first_same}
+use Rattle.td_posts.proofs.Refilled.{first_fits, first_same}
 use Rattle.td_takes.specs.Codes.{HasRoomVersion, VersionCode}
 
 -- what a validation by a version's code says, in the job's words

@@ -19,6 +19,7 @@ use Rattle.td_job.specs.declared.error.Key.TheVariants as key
 use Rattle.td_job.specs.declared.run_job.RunJob.{RunJob}
 use Rattle.td_num.specs.Lists.{AreBytes}
 use Rattle.td_num.specs.Numbers.{rising_at}
+use Rattle.td_num.proofs.Digits.{rising_small}
 use Rattle.td_job.specs.Fields.{Reads, field_of, number_of}
 use Rattle.td_job.specs.declared.error.JobError.TheVariants.{Fault}
 use Rattle.td_job.specs.declared.error.JobRule.TheVariants as rule
@@ -36,7 +37,6 @@ use Rattle.td_job.specs.declared.checks.TheConstants.{MOST_BYTES}
 use Rattle.td_job.specs.Stretches.{spelled_stretch, stretch_of, each_stretch, layout_faults, stretches_faults, layout_of}
 use Rattle.td_job.specs.Jobs.{length_faults, given_bytes, given_by, spelled_or_none, Spelled, spelled_store, word_in, spelled_word, store_with, store_of, each_store, listed_stores, IsJob, IsJobWith, IsRunJob}
 use Rattle.td_told.specs.Laws.{AreSized, IsSized, JobsAreSized}
-use Rattle.td_job.proofs.Bytes.{rising_small}
 use Rattle.td_job.proofs.Numbers.{both_empty, not_over}
 use Rattle.td_job.proofs.Scattered.{short, lies_there, one_at_most as few_of}
 use Rattle.td_job.proofs.Unique.{within, all_fit}

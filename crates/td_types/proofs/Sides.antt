@@ -1,6 +1,7 @@
 -- Arguments and parameters side by side.
-use Rattle.std.proofs.Common.{◌≡◌, ℕ, suc, ◌+◌, ◌<◌, arith, Some, None, inl, inr, drop, Bool, true, false, ◌&&◌, nat_le, List, [], ◌∷◌, ◌++◌, length, slice_get, is_some, refl, sym, ap, ◌∙◌}
+use Rattle.std.proofs.Common.{◌≡◌, ℕ, suc, ◌+◌, ◌<◌, arith, Some, None, inl, inr, drop, Bool, false, ◌&&◌, nat_le, List, [], ◌∷◌, ◌++◌, length, slice_get, is_some, refl, sym, ap, ◌∙◌}
 use Rattle.std.proofs.lemmas.Option.{none-some, slice_get_within, slice_get_cases, get_or_from_slice_get}
+use Rattle.std.proofs.lemmas.Bool.{and_right}
 use Rattle.td_ast.specs.Trees.{Tree}
 use Rattle.td_core.specs.Term.{Term}
 use Rattle.td_core.specs.declared.module.Buffer.{Buffer}
@@ -18,12 +19,8 @@ use Rattle.td_types.specs.Runs.{term_of, arg_breaches, cells_of, buffer_of}
 use Rattle.td_num.proofs.Truths.{all_dropped as done}
 use Rattle.td_num.proofs.Lists.{drop_next as split}
 
-and_false : (a : Bool) → (a && false) ≡ false
-and_false true = refl
-and_false false = refl
-
 with_false : (a b : Bool) → false ≡ b → false ≡ (a && b)
-with_false a b e = sym (and_false a) ∙ ap (λ c. a && c) e
+with_false a b e = sym (and_right a false refl) ∙ ap (λ c. a && c) e
 
 -- of two lists of unlike lengths nothing fits
 pub unlike_applied : (k : Known) (s : Scope) (ps : List Parameter) (es : List Tree) → (length ps ≡ length es → ⊥) → false ≡ are_applied k s ps es

@@ -23,20 +23,30 @@ use td_ir::tables::Parts;
 /// What is known of the whole code, and of the routines so far.
 #[derive(Clone, Copy)]
 pub struct Known<'a> {
+    /// The code's tables and instructions.
     pub parts: &'a Parts,
+    /// How each instruction goes on.
     pub shapes: &'a [Shape],
+    /// For each instruction the innermost window or loop around it.
     pub contexts: &'a [Innermost],
+    /// For each routine so far how deep calls go from it.
     pub depths: &'a [u64],
+    /// For each routine so far what it weighs.
     pub weights: &'a [u64],
+    /// For each routine so far whether it may end without having taken a byte.
     pub empties: &'a [bool],
+    /// For each cell map one more than its greatest number.
     pub tops: &'a [u64],
 }
 
 /// What the routines above need of a routine.
 #[derive(Clone, Copy)]
 pub struct Summary {
+    /// How deep calls go from it.
     pub depth: u64,
+    /// The sum of what its instructions weigh.
     pub weight: u64,
+    /// Whether it may end without having taken a byte.
     pub empty: bool,
 }
 

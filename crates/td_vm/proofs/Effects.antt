@@ -5,6 +5,7 @@ use Rattle.std.proofs.lemmas.Bool.{eqb-true, leb-true}
 use Rattle.std.proofs.Math.Nat.{div-mul-le_self, min-le_left, min-le_right, mul-le-mul_left, mul-le-mul_right}
 use Rattle.td_num.specs.Numbers.{rising_at, ordered_at, places_from}
 use Rattle.td_num.specs.Lists.{is_among}
+use Rattle.td_num.proofs.Equals.{next_product}
 use Rattle.td_core.specs.declared.outcome.Reason.TheVariants.{NotEnough, ListSize}
 use Rattle.td_ir.specs.declared.instructions.Instr.{Instr}
 use Rattle.td_ir.specs.declared.instructions.Instr.TheVariants as i
@@ -106,9 +107,6 @@ rooms n w d l = let a : n * w ≤ d / w * w = mul-le-mul_right w l in let b = di
 wide : (n w : ℕ) → 1 ≤ w → n ≤ n * w
 wide n w h = let a : n * 1 ≤ n * w = mul-le-mul_left n h in omega (arith, a)
 
-next_wide : (k w : ℕ) → suc k * w ≡ w + k * w
-next_wide k w = grind arith
-
 zeroterm_does : (pc site width bound most n : ℕ) (s : State) → InOrder s → IsWidth width → n ≤ left s / width → (r : Option ℕ) → ((k : ℕ) → r ≡ Some k → k < n) → Does pc (i.Zeroterm bound width site) s (1 + looked_at r n) (zeroterm_flow (pc + 1) site width most (left s / width) r s)
 zeroterm_does pc site width bound most n s o is l None f =
     let one : 1 ≤ width = ⊎_elim (λ (e : width ≡ 1). omega (arith, e)) (⊎_elim (λ (e : width ≡ 2). omega (arith, e)) (⊎_elim (λ (e : width ≡ 4). omega (arith, e)) (λ (e : width ≡ 8). omega (arith, e)))) is in
@@ -120,7 +118,7 @@ zeroterm_does pc site width bound most n s o is l (Some k) f =
     let q = f k refl in
     let a = rooms (suc k) width (left s) (omega (arith, q, l)) in
     let b = wide (suc k) width one in
-    let first = next_wide k width in
+    let first = next_product k width in
     (tt, refl, on_by width 2 (1 + suc k) s (s.pos + suc k * width) o (omega (arith, first)) (omega (arith, a, o.within)) (omega (arith, b)))
 
 pub does : (c : Parts) (n : ℕ) (b places : List ℕ) (pc : ℕ) (j : Instr) (s : State) → InOrder s → HasOperands j → Does pc j s (effect c n b places pc j s).steps (effect c n b places pc j s).flow

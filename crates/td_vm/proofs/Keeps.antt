@@ -3,6 +3,7 @@ use Rattle.std.proofs.Common.{◌≡◌, ℕ, zero, suc, ◌+◌, ◌-◌, ◌*�
 use Rattle.std.specs.Prelude.{slice_index, nat_eq}
 use Rattle.std.proofs.lemmas.Bool.{cases_lt, cases_eq, eqb-true}
 use Rattle.std.proofs.Math.Nat.{mul-le-mul_left, mul-le-mul_right}
+use Rattle.td_num.proofs.Equals.{below_other}
 use Rattle.td_ir.specs.declared.tables.Parts.{Parts}
 use Rattle.td_ir.specs.declared.instructions.Instr.{Instr}
 use Rattle.td_ir.specs.Tables.{instruction_of, lengths_of, begin, end_of as end_at}
@@ -28,12 +29,9 @@ pub own_need : (f : ℕ → ℕ) (c : Parts) (n m : ℕ) → m < n → need f (s
 own_need f c zero m h = absurd (omega arith)
 own_need f c (suc n) m h = test (λ l. own_need f c n m l) (nat_eq m n) refl
   where
-    lower : (m n : ℕ) → m < suc n → nat_eq m n ≡ false → m < n
-    lower m n h e = grind arith
-
     test : (m < n → need f (shapes_of c) (lengths_of c) n m ≡ f m + room_below f c m) → (v : Bool) → nat_eq m n ≡ v → cond v (f n + greatest (shapes_of c) (need f (shapes_of c) (lengths_of c) n) (begin (lengths_of c) n) (slice_index (lengths_of c) n)) (need f (shapes_of c) (lengths_of c) n m) ≡ f m + room_below f c m
     test rest true e = ap (λ k. f k + room_below f c k) (sym (eqb-true m n e))
-    test rest false e = rest (lower m n h e)
+    test rest false e = rest (below_other m n h e)
 
 greatest_in : (s : List Shape) (f : ℕ → ℕ) (from n k : ℕ) → k < n → called f (shape_at s (from + k)) ≤ greatest s f from n
 greatest_in s f from zero k h = absurd (omega arith)

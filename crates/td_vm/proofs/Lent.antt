@@ -6,6 +6,7 @@ use Rattle.std.proofs.Math.Seq.{drop-append_seam}
 use Rattle.td_core.specs.Held.{AreHeld}
 use Rattle.td_core.specs.Outcome.{copies_by}
 use Rattle.td_stream.specs.Copies.{BufferView, held_by, rooms_of, empty_with}
+use Rattle.td_stream.proofs.Rooms.{rooms_again}
 use Rattle.td_ir.specs.declared.tables.Parts.{Parts}
 use Rattle.td_vm.specs.Need.{most_rooms}
 use Rattle.td_vm.specs.Frames.{FrameView, IsArmed}
@@ -55,14 +56,9 @@ lent_roomy k wanted rs lent h e is =
       each = λ j l. let a = taken_at k j rs (omega (arith, l, e)) in let b = h.each j l in omega (arith, a, b);
     })
 
--- no buffer has another room than before
-pub rooms_cleared : (rs : List ℕ) → rooms_of (map empty_with rs) ≡ rs
-rooms_cleared [] = refl
-rooms_cleared (r ∷ rs) = ap (λ xs. r ∷ xs) (rooms_cleared rs)
-
 -- an armed frame's buffers, emptied and lent
 pub cleared_rooms : (c : Parts) (f : FrameView) (kept empty lent : List BufferView) → kept ≡ f.copies → IsArmed c f → empty ≡ map empty_with (rooms_of kept) → lent ≡ empty → rooms_of lent ≡ most_rooms c
-cleared_rooms c f kept empty lent k a e l = ap rooms_of (l ∙ e) ∙ rooms_cleared (rooms_of kept) ∙ ap rooms_of k ∙ a.rooms
+cleared_rooms c f kept empty lent k a e l = ap rooms_of (l ∙ e) ∙ rooms_again (rooms_of kept) ∙ ap rooms_of k ∙ a.rooms
 
 -- what buffers hold, of which the last was moved behind what the others held
 pub held_moved : (xs : List (List ℕ)) (us vs : List BufferView) (v : BufferView) → us ≡ vs ++ v ∷ [] → (xs ++ v.held ∷ []) ++ held_by (reverse vs) ≡ xs ++ held_by (reverse us)

@@ -1,7 +1,7 @@
 -- Where cells and buffers lie, from routine to routine.
 use Rattle.std.proofs.Common.{◌≡◌, ℕ, zero, suc, ◌+◌, ◌*◌, ◌<◌, List, [], ◌∷◌, ◌++◌, length, length-append, map, take, drop, refl, sym, ap, ◌∙◌, subst, arith, append_assoc}
 use Rattle.std.specs.Prelude.{slice_index, slice_set, replicate}
-use Rattle.std.proofs.lemmas.List.{get_or-map, get_or-append-add, length-map, length-take-le, length-drop, map-append}
+use Rattle.std.proofs.lemmas.List.{get_or-map, get_or-append-add, length-map, length-take-le, length-drop, map-append, length-set}
 use Rattle.std.proofs.Math.ListN.{get_or-append}
 use Rattle.std.proofs.Math.Seq.{take-suc, take-suc-set}
 use Rattle.td_num.specs.Numbers.{places_from}
@@ -11,16 +11,13 @@ use Rattle.td_stream.specs.Copies.{held_by, empty_with}
 use Rattle.td_ir.specs.declared.tables.Parts.{Parts}
 use Rattle.td_ir.specs.Tables.{routine_of, map_of, buffer_cells, own_cells, cells_by}
 use Rattle.td_ir.specs.Run.{places_by}
+use Rattle.td_ir.proofs.Buffers.{buffer_count}
 use Rattle.td_verify.specs.Operands.{AreBelow, IsCellMap}
 use Rattle.td_step.specs.Stepping.{HasPlaces}
 use Rattle.td_vm.specs.Need.{cells}
 use Rattle.td_vm.specs.Machine.{AreRoomy}
 
 -- the cells of buffers
-
-buffer_count : (k : ℕ) (bs : List ℕ) → length (buffer_cells k bs) ≡ 2 * length bs
-buffer_count k [] = refl
-buffer_count k (b ∷ bs) = let h = buffer_count k bs in omega (arith, h)
 
 buffer_place : (k : ℕ) (bs : List ℕ) (i : ℕ) → i < length bs → slice_index (buffer_cells k bs) (2 * i) ≡ k + 2 * slice_index bs i
 buffer_place k [] i h = absurd (omega (arith, h))
@@ -140,7 +137,7 @@ pair_more xs ys places bs k i l b h is =
     let at = k + 2 * slice_index bs i in
     let f = slice_index places in
     let zs = slice_set xs (2 * i) (f at) in
-    let many : length zs ≡ length xs = length_set xs (2 * i) (f at) in
+    let many : length zs ≡ length xs = length-set xs (2 * i) (f at) in
     let e : 2 * (i + 1) ≡ suc (2 * i + 1) = omega arith in
     let d : 2 * i + 1 ≡ suc (2 * i) = omega arith in
     let next : i + 1 ≡ suc i = omega arith in
@@ -153,11 +150,6 @@ pair_more xs ys places bs k i l b h is =
     ∙ sym (map-append f (buffer_cells k (take i bs)) (at ∷ (at + 1) ∷ []))
     ∙ ap (map f) (sym (buffer_append k (take i bs) (slice_index bs i ∷ [])))
     ∙ ap (λ us. places_by places (buffer_cells k us)) (sym (take-suc bs i 0 b) ∙ ap (λ j. take j bs) (sym next))
-  where
-    length_set : (xs : List ℕ) (i v : ℕ) → length (slice_set xs i v) ≡ length xs
-    length_set [] i v = refl
-    length_set (x ∷ xs) zero v = refl
-    length_set (x ∷ xs) (suc i) v = ap suc (length_set xs i v)
 
 -- buffers that hold nothing
 pub none_held : (b rooms : List ℕ) (n : ℕ) → n ≡ length rooms → copies_by b (replicate (2 * n) 0) ≡ held_by (map empty_with rooms)

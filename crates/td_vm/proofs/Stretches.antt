@@ -4,9 +4,9 @@ use Rattle.td_stream.specs.declared.load.Load.{Load}
 use Rattle.td_stream.specs.StreamInvariant.{Later, Looked}
 use Rattle.td_stream.specs.declared.stream.Stream.{Stream}
 use Rattle.td_stream.proofs.Places.{look_more}
+use Rattle.td_stream.proofs.Stages.{carried}
 use Rattle.td_ir.specs.State.{Way, Exit, at_once, after}
 use Rattle.td_step.specs.Stepping.{Ran}
-use Rattle.td_step.proofs.Stretches.{carried}
 use Rattle.td_vm.specs.Exits.{exit_by}
 
 -- two stretches

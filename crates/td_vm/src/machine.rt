@@ -3,7 +3,7 @@
 ghost use Rattle.std.specs.Prelude.{◌≡◌, ℕ, suc, ◌+◌, ◌-◌, ◌*◌, ◌^◌, ◌<◌, ◌≤◌, true, false, List, [], ◌∷◌, ◌++◌, length, take, drop, replicate, slice_index, vec_capacity};
 ghost use Rattle.td_core.specs.Outcome as outcomes;
 ghost use Rattle.td_ir.specs.WellFormed.{IsCode};
-ghost use Rattle.td_ir.specs.Tables.{routine_of, lengths_of, first_of, buffer_cells, own_cells, cells_by};
+ghost use Rattle.td_ir.specs.Tables.{routine_of, map_of, lengths_of, first_of, buffer_cells, own_cells, cells_by};
 ghost use Rattle.td_ir.specs.State.{State, Exit, registers_from};
 ghost use Rattle.td_ir.specs.Run.{place_of_site, places_by, entered, turns, block};
 ghost use Rattle.td_verify.specs.declared.shape.Shape.TheVariants.{While};
@@ -87,6 +87,9 @@ pub fn set_registers(mine: &mut [u64], args: &[u64])
     requires { length args.now ≤ length mine.old }
     ensures { mine.new ≡ args.now ++ replicate (length mine.old - length args.now) 0 }
 {
+    if mine.is_empty() {
+        return;
+    }
     let (front, rest) = mine.split_at_mut(args.len());
     front.copy_from_slice(args);
     rest.fill(0);
@@ -127,6 +130,32 @@ fn set_places(mine: &mut [usize], places: &[usize], cells: usize, map: &[u32], c
     let (front, behind) = mine.split_at_mut(count);
     set_cell_places(front, places, &map[..count]);
     set_buffer_places(behind, places, cells, &map[count..]);
+}
+
+// The places of a callee's cells and of its buffers', by those of the routine that calls it.
+fn set_callee_places(level: &Level<'_, '_>, callee: Callee, routine: &Routine, mine: &mut [usize])
+    requires caller { level.now.n < length level.now.env.parts.now.routines }
+    requires map { callee.map < length level.now.env.parts.now.maps }
+    requires routine { routine.now ≡ routine_of level.now.env.parts.now callee.routine }
+    requires fits { length mine.old ≡ routine.now.cells + 2 * length routine.now.buffers }
+    requires size { length (map_of level.now.env.parts.now callee.map) ≡ routine.now.cells + length routine.now.buffers }
+    requires within { AreBelow (length level.now.places.now) (take routine.now.cells (map_of level.now.env.parts.now callee.map)) }
+    requires buffers { (k : ℕ) → k < length (drop routine.now.cells (map_of level.now.env.parts.now callee.map))
+        → (routine_of level.now.env.parts.now level.now.n).cells + 2 * slice_index (drop routine.now.cells (map_of level.now.env.parts.now callee.map)) k + 1 < length level.now.places.now }
+    ensures { mine.new ≡ places_by level.now.places.now (cells_by level.now.env.parts.now level.now.n callee.routine callee.map) }
+{
+    // Most callees have none.
+    if mine.is_empty() {
+        return;
+    }
+    let cells = routine_at(level.env.parts, level.n).cells as usize;
+    set_places(
+        mine,
+        level.places,
+        cells,
+        map_at(level.env.parts, callee.map),
+        routine.cells as usize,
+    );
 }
 
 /// Runs from an instruction on, to the end of the routine or of a loop's turn.
@@ -336,13 +365,7 @@ fn call<W: Words, L: Ledger, C: Counter>(
     let (mine, rest) = registers.split_at_mut(routine.registers as usize);
     let (mine_places, rest_places) = places.split_at_mut(place_count(routine));
     set_registers(mine, arguments(regs, callee.first, routine.params as usize));
-    set_places(
-        mine_places,
-        level.places,
-        routine_at(level.env.parts, level.n).cells as usize,
-        map_at(level.env.parts, callee.map),
-        routine.cells as usize,
-    );
+    set_callee_places(level, callee, routine, mine_places);
     let end = stream.end();
     let mut act = Activation {
         start: stream.pos(),

@@ -25,9 +25,9 @@ use td_stream::layout::Layout;
 use td_stream::stream::Stream;
 use td_stream::words::Words;
 
-/// Runs routine n over a message that lies so in words of which none was loaded, with its cells and behind them two for each of its
-/// buffers, which hold nothing.
-pub fn run_message<W: Words, L: Ledger, C: Counter>(
+// Runs routine n over a message that lies so in words of which none was loaded, with its cells and behind them two for each of its
+// buffers, which hold nothing.
+fn run_opened<W: Words, L: Ledger, C: Counter>(
     env: &Env<'_>,
     n: usize,
     args: &[u64],
@@ -78,9 +78,10 @@ fn open_cells(cells: &mut [u64], first: usize)
     behind.fill(0);
 }
 
-/// The same with the first cells of a longer list, as many as the routine has and two for each of its buffers, which are set to
-/// zero, with the first buffers of others, and a trace that is emptied first.
-pub fn run_front<W: Words, L: Ledger, C: Counter>(
+/// Runs routine n over a message that lies so in words of which none was loaded: with the first cells of a list, as many as the routine
+/// has and two for each of its buffers, which are set to zero, with the first of the buffers, which hold nothing, and a trace that is
+/// emptied first.
+pub fn run_message<W: Words, L: Ledger, C: Counter>(
     env: &Env<'_>,
     n: usize,
     args: &[u64],
@@ -125,5 +126,5 @@ pub fn run_front<W: Words, L: Ledger, C: Counter>(
     open_cells(cells, routine.cells as usize);
     let (copies, _) = buffers.split_at_mut(routine.buffers.len());
     let mut front = Slate { cells, copies };
-    run_message(env, n, args, layout, spare, &mut front, trace, words, steps)
+    run_opened(env, n, args, layout, spare, &mut front, trace, words, steps)
 }

@@ -14,7 +14,7 @@ ghost use Rattle.td_vm.specs.Outcomes.{IsRun};
 
 use crate::arm::{Kind, begins_of, buffer_count, most_cells, need_of, rooms_for};
 use crate::level::Spare;
-use crate::message::run_front;
+use crate::message::run_message;
 use crate::outcome::held_by_first;
 use std::alloc::{AllocError, Global};
 use std::marker::Model;
@@ -256,7 +256,7 @@ pub fn validate<W: Words, L: Ledger, C: Counter>(
     let cells = frame.cells.as_mut_slice();
     let copies = frame.copies.buffers.as_mut_slice();
     let mut slate = Slate { cells, copies };
-    run_front(
+    run_message(
         &env,
         point.routine as usize,
         args,

@@ -1,6 +1,6 @@
--- The name of a part and one that is written in it are together no longer than the text, so no name of its module is longer.
-use Rattle.std.proofs.Common.{◌≡◌, ℕ, ◌+◌, ◌≤◌, Bool, true, false, List, [], ◌∷◌, ◌++◌, length, Some, None, codes, bytes_eq, refl, ap, subst, sym, arith, length-append}
-use Rattle.std.specs.Prelude.{if◌then◌else◌}
+-- The name of a part, a dot and a name that is written in it are together no longer than the text, so no name of its module is longer.
+use Rattle.std.proofs.Common.{◌≡◌, ℕ, zero, suc, ◌+◌, ◌^◌, ◌<◌, ◌≤◌, Bool, true, false, List, [], ◌∷◌, ◌++◌, length, get_or, Some, None, codes, bytes_eq, refl, ap, ◌∙◌, subst, sym, arith, length-append}
+use Rattle.std.specs.Prelude.{if◌then◌else◌, slice_get}
 use Rattle.std.proofs.lemmas.Slice.Eq.{bytes_eq-Decides}
 use Rattle.td_num.specs.Lists.{Each}
 use Rattle.td_ast.specs.declared.token.Token.{Token}
@@ -9,9 +9,9 @@ use Rattle.td_ast.specs.declared.token.TokenKind.{TokenKind}
 use Rattle.td_ast.specs.declared.token.TokenKind.TheVariants as kinds
 use Rattle.td_ast.specs.declared.names.Name.{Name}
 use Rattle.td_ast.specs.declared.parts.PartTree.{PartTree}
-use Rattle.td_ast.specs.declared.parts.InputTree.{InputTree}
+use Rattle.td_ast.specs.declared.definitions.ModuleTree.{ModuleTree}
 use Rattle.td_ast.specs.declared.parts.InputTree.TheVariants.{Module, Parts}
-use Rattle.td_lexer.specs.Splits.{SplitsUpTo, Splits}
+use Rattle.td_lexer.specs.Splits.{IsName, SplitsUpTo, Splits}
 use Rattle.td_lexer.specs.Splits.SplitsUpTo.{splits_here, splits_passed, splits_token}
 use Rattle.td_grammar.specs.Grammar.{all_of}
 use Rattle.td_grammar.specs.Sequences.{some_of}
@@ -19,13 +19,17 @@ use Rattle.td_grammar.specs.Tokens.{name, name_of}
 use Rattle.td_grammar.specs.Definitions.{module_text}
 use Rattle.td_grammar.specs.Parts.{module_of_kind, module_word, part, input_text}
 use Rattle.td_grammar.specs.Laws.{EitherForm}
+use Rattle.td_flat.specs.Names.{of_part, spelled}
 use Rattle.td_flat.specs.Definitions.{own_of, flat_part}
-use Rattle.td_flat.specs.Order.{graph_of, order}
+use Rattle.td_flat.specs.Order.{names_of, graph_of, order}
 use Rattle.td_flat.specs.Flat.{flat}
 use Rattle.td_rules.specs.Written.{definitions_written, names_written}
 use Rattle.td_admitted.proofs.Tokens.{OfKind, OfToken}
 use Rattle.td_admitted.proofs.Names.{spelled_names}
-use Rattle.td_linked.proofs.Words.{definitions_are, parts_are}
+use Rattle.td_admitted.proofs.Words.{written_words}
+use Rattle.td_linked.specs.Laws.{OfPart}
+use Rattle.td_linked.proofs.Words.{definitions_are, parts_are, place_within}
+use Rattle.td_linked.proofs.Told.{place, place_is, numbered_told, words_are_told_so}
 use Rattle.td_within.proofs.Tokens.{IsShort, token_short}
 
 -- ---- how long the names among tokens are
@@ -116,20 +120,87 @@ some_roomy most ps tokens ((p, others), made, (front, back, is, first, rest)) lo
     let b = weight_append front back in
     subst (Each (IsRoomy most)) made (part_roomy most p front first (omega (arith, a, b, low)), parts_roomy most others back rest (omega (arith, a, b, low)))
 
--- ---- as one tree
+-- each part takes a byte
+part_light : (p : PartTree) (tokens : List Token) → part.Spells p tokens → 1 ≤ weight tokens
+unfolding part module_text
+part_light p tokens ((at, (n, ds)), made, (front, back, is, word, (head, rest, parted, named, spelled))) =
+    let a = ap weight is in
+    let b = weight_append front back in
+    let w = word_weight at front word in
+    omega (arith, a, b, w)
 
-part_short : (most : ℕ) (p : PartTree) → IsRoomy most p → Each (IsShort most) (definitions_written (flat_part p))
-part_short most p (own, room, short) = definitions_are (IsShort own) (IsShort most) (own_of p) alone joined p.definitions short
-  where
-    alone : (x : List ℕ) → length x ≤ own → length x ≤ most
-    alone x h = omega (arith, h, room)
+parts_light : (ps : List PartTree) (tokens : List Token) → (all_of part).Spells ps tokens → length ps ≤ weight tokens
+parts_light [] tokens h = omega arith
+parts_light (p ∷ ps) tokens (front, back, is, first, others) =
+    let a = ap weight is in
+    let b = weight_append front back in
+    let one = part_light p front first in
+    let few = parts_light ps back others in
+    omega (arith, a, b, one, few)
 
-    joined : (x : List ℕ) → length x ≤ own → length (p.name.text ++ 46 ∷ x) ≤ most
-    joined x h = (let a = length-append p.name.text (46 ∷ x) in omega (arith, a, h, room))
+some_light : (ps : List PartTree) (tokens : List Token) → (some_of part).Spells ps tokens → length ps ≤ weight tokens
+some_light ps tokens ((p, others), made, (front, back, is, first, rest)) =
+    let a = ap weight is in
+    let b = weight_append front back in
+    let one = part_light p front first in
+    let few = parts_light others back rest in
+    subst (λ qs. length qs ≤ weight tokens) made (omega (arith, a, b, one, few))
 
-pub flat_short : EitherForm → (text : List ℕ) (tokens : List Token) (input : InputTree) → Splits text tokens → input_text.Spells input tokens → Each (IsShort (length text)) (names_written (flat input))
-flat_short form text tokens (Module t) split spelled =
+-- ---- as they are told
+
+abbrev pub IsToldShort : ℕ → List (List ℕ) → List ℕ → Type 0
+IsToldShort most names x = length (spelled names x) ≤ most
+
+-- a word, and short
+abbrev IsShortWord : ℕ → List ℕ → Type 0
+IsShortWord own x = IsName x × IsShort own x
+
+each_both : (own : ℕ) (xs : List (List ℕ)) → Each IsName xs → Each (IsShort own) xs → Each (IsShortWord own) xs
+each_both own [] h k = tt
+each_both own (x ∷ xs) h k = ((h.0, k.0), each_both own xs h.1 k.1)
+
+named_there : (parts : List PartTree) (i : ℕ) (p : PartTree) → slice_get parts i ≡ Some p → get_or (names_of parts) i [] ≡ p.name.text
+named_there [] i p e = absurd cc
+named_there (q ∷ parts) zero p e = let same : q ≡ p = cc in ap (λ (x : PartTree). x.name.text) same
+named_there (q ∷ parts) (suc i) p e = named_there parts i p e
+
+-- words, and with its name short
+abbrev IsFitting : ℕ → PartTree → Type 0
+IsFitting most p = OfPart IsName p × IsRoomy most p
+
+each_fitting : (most : ℕ) (parts : List PartTree) → Each (OfPart IsName) parts → Each (IsRoomy most) parts → Each (IsFitting most) parts
+each_fitting most [] h k = tt
+each_fitting most (p ∷ ps) h k = ((h.0, k.0), each_fitting most ps h.1 k.1)
+
+module _ (most : ℕ) (parts : List PartTree) (few : length parts < 2 ^ 32) where
+  alone : (own : ℕ) → own ≤ most → (x : List ℕ) → IsShortWord own x → IsToldShort most (names_of parts) x
+  alone own room x (word, h) = (let l = ap length (words_are_told_so (names_of parts) x word) in omega (arith, l, h, room))
+
+  joined : (i : ℕ) (p : PartTree) → slice_get parts i ≡ Some p → (own : ℕ) → length p.name.text + 1 + own ≤ most → (x : List ℕ) → IsShortWord own x → IsToldShort most (names_of parts) (of_part i x)
+  joined i p there own room x (word, h) =
+      let lt : i < 4294967296 = (let below = place_within parts i p there in omega (arith, below, few)) in
+      let name : get_or (names_of parts) (place i) [] ≡ p.name.text = ap (λ k. get_or (names_of parts) k []) (place_is i lt) ∙ named_there parts i p there in
+      let told : spelled (names_of parts) (of_part i x) ≡ p.name.text ++ 46 ∷ x = numbered_told (names_of parts) i x ∙ ap (λ front. front ++ 46 ∷ x) name in
+      let a = length-append p.name.text (46 ∷ x) in
+      let l = ap length told in
+      omega (arith, a, l, h, room)
+
+  part_short : (i : ℕ) (p : PartTree) → slice_get parts i ≡ Some p → IsFitting most p → Each (IsToldShort most (names_of parts)) (definitions_written (flat_part (names_of parts) i p))
+  part_short i p there (words, (own, room, short)) =
+      definitions_are (IsShortWord own) (IsToldShort most (names_of parts)) (own_of (names_of parts) i p) (alone own (omega (arith, room))) (joined i p there own room) p.definitions
+      (each_both own (definitions_written p.definitions) words.1 short)
+
+pub module_short : EitherForm → (text : List ℕ) (tokens : List Token) (t : ModuleTree) → Splits text tokens → input_text.Spells (Module t) tokens → Each (IsShort (length text)) (names_written t)
+module_short form text tokens t split spelled =
     spelled_names (IsShort (length text)) t tokens (form.0 t tokens spelled) (all_short (length text) tokens (text_weight split.1))
-flat_short form text tokens (Parts parts) split spelled =
-    parts_are (IsRoomy (length text)) (IsShort (length text)) (part_short (length text)) parts (order (graph_of parts))
-    (some_roomy (length text) parts tokens (form.2 parts tokens spelled) (text_weight split.1))
+
+pub parts_short : EitherForm → (text : List ℕ) (tokens : List Token) (parts : List PartTree) → length text < 2 ^ 32 → Splits text tokens → input_text.Spells (Parts parts) tokens
+    → Each (IsToldShort (length text) (names_of parts)) (names_written (flat (Parts parts)))
+parts_short form text tokens parts short split spelled =
+    let most = length text in
+    let spells = form.2 parts tokens spelled in
+    let weighs = text_weight split.1 in
+    let light = some_light parts tokens spells in
+    let few : length parts < 2 ^ 32 = omega (arith, light, weighs, short) in
+    parts_are parts (IsFitting most) (IsToldShort most (names_of parts)) (part_short most parts few) (order (graph_of parts))
+    (each_fitting most parts (written_words form text tokens (Parts parts) split spelled) (some_roomy most parts tokens spells weighs))

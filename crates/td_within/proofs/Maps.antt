@@ -1,26 +1,26 @@
 -- The cell maps of a module's code are no longer than an image's: they have a number for each cell and one for each buffer.
-use Rattle.std.proofs.Common.{◌≡◌, ℕ, suc, ◌+◌, ◌-◌, ◌*◌, ◌/◌, ◌%◌, ◌^◌, ◌<◌, ◌≤◌, Bool, true, false, cond, nat_eq, nat_lt, List, [], ◌∷◌, length, take, drop, Option, Some, None, slice_get, refl, sym, ap, subst, arith, length-append}
-use Rattle.std.proofs.lemmas.List.{length-map, length-take, length-drop}
+use Rattle.std.proofs.Common.{◌≡◌, ℕ, suc, ◌+◌, ◌-◌, ◌/◌, ◌%◌, ◌^◌, ◌<◌, ◌≤◌, Bool, true, false, cond, nat_eq, nat_lt, List, [], ◌∷◌, length, take, drop, Option, Some, None, slice_get, refl, sym, ap, subst, arith, length-append}
+use Rattle.std.proofs.lemmas.List.{length-take, length-drop}
 use Rattle.td_num.specs.Lists.{Each}
 use Rattle.td_core.specs.declared.module.Element.{Element}
 use Rattle.td_core.specs.declared.module.Element.TheVariants.{Number, Listed, Named, Unit as UnitElement, Rest, Zeros}
-use Rattle.td_core.specs.declared.module.Buffer.{Buffer}
 use Rattle.td_core.specs.declared.module.Part.{Part}
 use Rattle.td_core.specs.declared.module.Field.{Field}
 use Rattle.td_core.specs.declared.module.Case.{Case}
 use Rattle.td_core.specs.declared.module.Body.{Body}
 use Rattle.td_core.specs.declared.module.Body.TheVariants.{Struct, Casetype}
 use Rattle.td_core.specs.declared.module.TypeDef.{TypeDef}
-use Rattle.td_core.specs.Formed.{Bound, cell_bound, cell_bounds, buffer_bounds, own_bounds, param_bounds, parts_scope, own_at, AreCellsFormed, IsElementFormed, AreFieldsFormed, AreCasesFormed, IsDefaultFormed, IsBodyFormed, IsDefinitionFormed}
+use Rattle.td_core.specs.Formed.{Bound, own_bounds, param_bounds, parts_scope, own_at, AreCellsFormed, IsElementFormed, AreFieldsFormed, AreCasesFormed, IsDefaultFormed, IsBodyFormed, IsDefinitionFormed}
 use Rattle.td_core.specs.Copies.{AreOwnGiven, IsElementGiven, IsFieldCopying, IsDefinitionCopying}
 use Rattle.td_core.specs.WellFormed.{OfSome, EachField, DefinitionWithin}
 use Rattle.td_ir.specs.Tables.{buffer_cells, own_cells}
+use Rattle.td_ir.proofs.Buffers.{buffer_count}
 use Rattle.td_lower.specs.Tables.{in_map, map_for, own_of, empty_maps, parts_maps, fields_maps, default_maps, cases_maps, body_maps, definition_maps, definitions_maps}
 use Rattle.td_lower.proofs.Codes.{there}
 use Rattle.td_lower.proofs.Mapping.{map_back}
 use Rattle.td_image.specs.Within.{IsSmallMap}
 use Rattle.td_num.proofs.Lists.{each_at, each_append}
-use Rattle.td_core.proofs.Found.{cells_mapped as map_count}
+use Rattle.td_core.proofs.Found.{cells_mapped as map_count, own_count}
 
 some_map : (mapped : List ℕ) → length mapped ≤ 80 → Each (λ n. n < 2 ^ 32) mapped → IsSmallMap mapped
 some_map mapped few numbers = record { few = omega (arith, few); numbers = numbers }
@@ -29,22 +29,6 @@ no_map : IsSmallMap []
 no_map = some_map [] (omega arith) tt
 
 -- ---- how many numbers
-
-pairs_count : (bs : List Buffer) → length (buffer_bounds bs) ≡ 2 * length bs
-pairs_count [] = refl
-pairs_count (b ∷ bs) = let h = pairs_count bs in omega (arith, h)
-
--- a definition's cells, and two for each of its buffers
-own_count : (d : TypeDef) → length (own_bounds d) ≡ length d.cells + 2 * length d.buffers
-own_count d =
-    let a = length-append (cell_bounds d.cells) (buffer_bounds d.buffers) in
-    let k = length-map d.cells (λ x. cell_bound x.kind) in
-    let b = pairs_count d.buffers in
-    omega (arith, a, k, b)
-
-two_for_each : (C : ℕ) (bs : List ℕ) → length (buffer_cells C bs) ≡ 2 * length bs
-two_for_each C [] = refl
-two_for_each C (b ∷ bs) = let h = two_for_each C bs in omega (arith, h)
 
 -- of a callee with so many cells and buffers
 given_few : (d e : TypeDef) (own : List ℕ) → length own ≡ length (own_bounds e) → DefinitionWithin e → AreOwnGiven d (Some e) own → length (map_for (length d.cells) own) ≤ 80
@@ -57,7 +41,7 @@ given_few d e own size w given =
     let both = length-append (take K mapped) (buffer_cells C (drop K mapped)) in
     let front = length-take K mapped in
     let rest = length-drop K mapped in
-    let pairs = two_for_each C (drop K mapped) in
+    let pairs = buffer_count C (drop K mapped) in
     omega (arith, size, count, back, both, front, rest, pairs, w.cells, w.buffers)
 
 -- ---- how great they are

@@ -1,5 +1,5 @@
 -- The names of a module are no more than the nodes of its text, and no longer than the text.
-use Rattle.std.proofs.Common.{◌≡◌, ℕ, ◌+◌, ◌≤◌, Bool, true, false, if◌then◌else◌, List, [], ◌∷◌, ◌++◌, length, Option, Some, None, arith, length-append}
+use Rattle.std.proofs.Common.{◌≡◌, ℕ, ◌+◌, ◌^◌, ◌<◌, ◌≤◌, map, Bool, true, false, if◌then◌else◌, List, [], ◌∷◌, ◌++◌, length, Option, Some, None, arith, length-append}
 use Rattle.td_num.specs.Lists.{Each}
 use Rattle.td_ast.specs.declared.token.Token.{Token}
 use Rattle.td_ast.specs.declared.fields.FieldTree.{FieldTree}
@@ -12,8 +12,11 @@ use Rattle.td_ast.specs.declared.definitions.ModuleTree.{ModuleTree}
 use Rattle.td_lexer.specs.Splits.{Splits}
 use Rattle.td_grammar.specs.Parts.{input_text}
 use Rattle.td_grammar.specs.Laws.{EitherForm}
-use Rattle.td_flat.specs.Flat.{flat}
+use Rattle.td_flat.specs.Names.{spelled}
+use Rattle.td_flat.specs.Order.{names_of as parts_names}
+use Rattle.td_flat.specs.Flat.{flat, spelled_names}
 use Rattle.td_ast.specs.declared.parts.InputTree.{InputTree}
+use Rattle.td_ast.specs.declared.parts.InputTree.TheVariants.{Module as Parsed, Parts}
 use Rattle.td_limits.specs.declared.limits.Limit.TheVariants as limit
 use Rattle.td_limits.specs.Excesses.{above, first_excess, definition_name}
 use Rattle.td_limits.specs.Nodes.{inner_nodes, fields_nodes, default_nodes, cases_nodes, definition_nodes}
@@ -26,7 +29,7 @@ use Rattle.td_rules.specs.Written.{names_written}
 use Rattle.td_rules.specs.Laws.{NamesAreWritten}
 use Rattle.td_admitted.proofs.Fields.{sum_total}
 use Rattle.td_within.proofs.Tokens.{IsShort}
-use Rattle.td_within.proofs.Lengths.{flat_short}
+use Rattle.td_within.proofs.Lengths.{module_short, parts_short}
 use Rattle.td_within.proofs.Knowns.{all_nodes}
 use Rattle.td_num.proofs.Lists.{all_among}
 use Rattle.td_limits.proofs.Counting.{none_both, above_none as not_above}
@@ -119,7 +122,15 @@ names_few t = (let x = all_count [] t.definitions in omega (arith, x))
 
 -- ---- how long they are
 
-pub names_short : NamesAreWritten → EitherForm → (text : List ℕ) (tokens : List Token) (input : InputTree) (m : Module) → Splits text tokens → input_text.Spells input tokens → StandsFor (flat input) m
-    → Each (λ name. length name ≤ length text) m.names
-names_short written form text tokens input m split spelled stands =
-    all_among (IsShort (length text)) (names_written (flat input)) m.names (flat_short form text tokens input split spelled) (written (flat input) m stands)
+pub names_short : NamesAreWritten → EitherForm → (text : List ℕ) (tokens : List Token) (input : InputTree) (m : Module) → length text < 2 ^ 32 → Splits text tokens → input_text.Spells input tokens → StandsFor (flat input) m
+    → Each (λ name. length name ≤ length text) (spelled_names input m.names)
+names_short written form text tokens (Parsed t) m short split spells stands =
+    all_among (IsShort (length text)) (names_written t) m.names (module_short form text tokens t split spells) (written t m stands)
+names_short written form text tokens (Parts parts) m short split spells stands =
+    let tree = flat (Parts parts) in
+    let names = parts_names parts in
+    told m.names (all_among (λ x. length (spelled names x) ≤ length text) (names_written tree) m.names (parts_short form text tokens parts short split spells) (written tree m stands))
+  where
+    told : (xs : List (List ℕ)) → Each (λ x. length (spelled (parts_names parts) x) ≤ length text) xs → Each (λ name. length name ≤ length text) (map (spelled (parts_names parts)) xs)
+    told [] h = tt
+    told (x ∷ xs) h = (h.0, told xs h.1)

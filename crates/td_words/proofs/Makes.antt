@@ -6,6 +6,7 @@ use native.Mathlib.Decide.{ℕ_discrete, dec_lt}
 use lib.ListN.{get_elem?}
 use Rattle.atomic_table.specs.Table.{State, step, keeps, Allows, Splits, Joins, opening}
 use Rattle.atomic_table.proofs.Lists.{at_set, set_else, set_again, at_longer, at_last}
+use Rattle.td_num.proofs.Lists.{set_at}
 use Rattle.td_words.specs.declared.view.SeatView.{SeatView}
 use Rattle.td_words.specs.declared.view.HostView.{HostView}
 use Rattle.td_words.specs.declared.view.View.{View}
@@ -13,7 +14,7 @@ use Rattle.td_words.specs.declared.view.View.TheVariants.{Host, Seat, Spent}
 use Rattle.td_words.specs.Views.{seat_view, host_view, one_more, new_seat, with_ended}
 use Rattle.td_words.specs.Rule.{seat_count, seats_out, IsInHistory, IsPlaced, IsHeld, KeepsHistory, seat_in, host_in, IsSeat, IsHost, Holding, Learned}
 use Rattle.td_words.specs.Gathered.{Ended, Apart, Told}
-use Rattle.td_words.proofs.Steps.{set_at, set_same, seats_out_set, seats_out-push, seat_not_host, seat_is, two_numbers, some_apart}
+use Rattle.td_words.proofs.Steps.{set_same, seats_out_set, seats_out-push, seat_not_host, seat_is, two_numbers, some_apart}
 
 pub snoc_at : {A : Type 0} (l : List A) (a b : A) (j : ℕ) → get_elem? (l ++ a ∷ []) j ≡ some b → (get_elem? l j ≡ some b) ⊎ ((j ≡ length l) × (a ≡ b))
 snoc_at [] a b zero e = inr (refl, some-injective a b e)
@@ -25,10 +26,10 @@ snoc_at (x ∷ xs) a b (suc j) e = ⊎_elim (λ t. inl t) (λ (t : (j ≡ length
 abbrev pub placed : (ℕ → Option ℕ) → ℕ → Option ℕ → ℕ → Option ℕ
 placed place_of n x k = cond (eqb k n) x (place_of k)
 
-put_same : (place_of : ℕ → Option ℕ) (n : ℕ) (x : Option ℕ) → placed place_of n x n ≡ x
+pub put_same : (place_of : ℕ → Option ℕ) (n : ℕ) (x : Option ℕ) → placed place_of n x n ≡ x
 put_same place_of n x = ap (λ b. cond b x (place_of n)) (eq-eqb n n refl)
 
-put_other : (place_of : ℕ → Option ℕ) (n : ℕ) (x : Option ℕ) (k : ℕ) → k ≢ n → placed place_of n x k ≡ place_of k
+pub put_other : (place_of : ℕ → Option ℕ) (n : ℕ) (x : Option ℕ) (k : ℕ) → k ≢ n → placed place_of n x k ≡ place_of k
 put_other place_of n x k ne = ap (λ b. cond b x (place_of k)) (ne_eqb k n ne)
 
 held_more : (vs ws : List View) (ended : List SeatView) (h : ℕ) (x : HostView) (w : View) (n : ℕ) → get_elem? vs h ≡ some (Host x) → (o : Option ℕ) → IsHeld vs ended n o → IsHeld (set vs h w ++ ws) ended n o

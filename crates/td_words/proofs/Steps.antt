@@ -7,6 +7,7 @@ use native.Mathlib.Decide.{ℕ_discrete}
 use lib.ListN.{get_elem?}
 use Rattle.atomic_table.specs.Table.{State, step, keeps, Allows}
 use Rattle.atomic_table.proofs.Lists.{at_set, set_else}
+use Rattle.td_num.proofs.Lists.{set_at}
 use Rattle.td_words.specs.declared.view.Access.{Access}
 use Rattle.td_words.specs.declared.view.Access.TheVariants.{Load, Store}
 use Rattle.td_words.specs.declared.view.SeatView.{SeatView}
@@ -17,11 +18,6 @@ use Rattle.td_words.specs.History.{Entry, after, Gives, memory_after}
 use Rattle.td_words.specs.Views.{did}
 use Rattle.td_words.specs.Rule.{seat_count, seats_out, IsInHistory, IsPlaced, IsHeld, KeepsHistory, seat_in, IsSeat, Holding, Loaded, Stored}
 use Rattle.td_words.proofs.Histories.{memory_after-push, IsHistory-push, steps_of-same, steps_of-other}
-
-pub set_at : {A : Type 0} (l : List A) (i : ℕ) (a b : A) → get_elem? l i ≡ some a → get_elem? (set l i b) i ≡ some b
-set_at [] i a b e = absurd (some-ne-none a (sym e))
-set_at (x ∷ xs) zero a b e = refl
-set_at (x ∷ xs) (suc i) a b e = set_at xs i a b e
 
 pub set_same : (l : List ℕ) (i : ℕ) → set l i (get_or l i 0) ≡ l
 set_same [] i = refl

@@ -19,19 +19,10 @@ impl TableRule<u8, View, Snapshot<Vec<u64>>> for OneHistory {
     ghost first = { λ k. Host (host_view (drop 1 k.value.items) 0 []) };
 }
 
-/// A reader's load.
+/// A load of a word, by a reader or a guest.
 pub(crate) struct Loads;
 
 impl Play<u8, View> for Loads {
-    ghost use Rattle.td_words.specs.Rule.{Loaded};
-
-    ghost then = { Loaded };
-}
-
-/// A guest's load of a word.
-pub(crate) struct LoadsBack;
-
-impl Play<u8, View> for LoadsBack {
     ghost use Rattle.td_words.specs.Rule.{Loaded};
 
     ghost then = { Loaded };

@@ -8,7 +8,7 @@ ghost use Rattle.td_words.specs.Gathered.{Told, Fetched};
 ghost use Rattle.td_words.specs.Seats.{then_did, with_view, seat_state};
 
 use crate::final_words::Final;
-use crate::rule::{Gathers, Guests, Learns, Loads, LoadsBack, OneHistory, Readers, Stores};
+use crate::rule::{Gathers, Guests, Learns, Loads, OneHistory, Readers, Stores};
 use crate::seats::{GuestSeat, HostSeat, ReadSeat};
 use crate::view::View;
 use atomic_table::Table;
@@ -107,9 +107,8 @@ impl Shared {
         requires inside { i < self.now.count }
         ensures { seat.new ≡ then_did seat.old (Load i result) }
     {
-        self.table
-            .shared
-            .load::<LoadsBack>(&mut seat.seat, i as usize + 1)
+        let place = i as usize + 1;
+        self.table.shared.load::<Loads>(&mut seat.seat, place)
     }
 
     /// Takes a guest's seat back, with all that it did.

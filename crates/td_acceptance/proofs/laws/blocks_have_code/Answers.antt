@@ -1,6 +1,5 @@
 use Rattle.td_blocks.specs.Constructs.{body}
-use Rattle.td_acceptance.proofs.Fine.{ends_some}
-use Rattle.td_acceptance.proofs.Stepping.{ends_body}
+use Rattle.td_blocks.proofs.Ending.{ends_some, ends_body}
 use Rattle.td_acceptance.proofs.laws.blocks_have_code.Goals as goal
 
 pub returns : goal.returns

@@ -9,8 +9,8 @@ some_definition : (ds : List Def) → 0 < length (all_names [] ds) → 0 < lengt
 some_definition [] h = h
 some_definition (d ∷ ds) h = omega arith
 
-pub returns-in_err-texts-clause-memory : goal.returns-in_err-texts-clause-memory
-returns-in_err-texts-clause-memory c =
+pub returns-in_err-full_names-clause-memory : goal.returns-in_err-full_names-clause-memory
+returns-in_err-full_names-clause-memory c =
     let names = c.in_ok-names.ensures.names ∙ ap (λ ds. all_names [] ds) c.as_slice-trees.ensures in
-    on_err_always c.from_residual-in_err-texts.result
-    (some_definition c.args.tree.now.definitions (subst (λ n. 0 < length n) names c.in_err-texts.ensures.memory))
+    on_err_always c.from_residual-in_err-full_names.result
+    (some_definition c.args.tree.now.definitions (subst (λ n. 0 < length n) names c.in_err-full_names.ensures.memory))

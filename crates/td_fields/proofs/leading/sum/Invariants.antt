@@ -1,6 +1,6 @@
 use Rattle.std.proofs.Common.{◌≡◌, ◌+◌, drop, None}
 use Rattle.td_rules.specs.Leading.{leading_size}
-use Rattle.td_fields.specs.Scopes.{Grows}
+use Rattle.td_actions.specs.Scopes.{Grows}
 use Rattle.td_fields.proofs.leading.sum.Given as goal
 
 -- what is left of the fields decides

@@ -1,8 +1,8 @@
-use Rattle.std.proofs.Common.{◌≡◌, List, None, Some, map, flat_map, sym, ap, subst, ◌∙◌}
+use Rattle.std.proofs.Common.{◌≡◌, None, Some, map, flat_map, sym, ap, subst, ◌∙◌}
 use Rattle.td_flat.specs.Uses.{part_uses}
 use Rattle.td_order.specs.Order.{IsWithin, order}
 use Rattle.td_flat.specs.Order.{names_of, numbers_of, graph_of}
-use Rattle.td_flat.specs.Flat.{flat_at}
+use Rattle.td_flat.specs.Flat.{flat_in, flat_at}
 use Rattle.td_flat.proofs.Linking.{graph_is, is_within, moved, none_cyclic, first_cyclic}
 use Rattle.td_flat.proofs.flatten.flat_parts.Goals as goal
 
@@ -49,5 +49,5 @@ returns-clause-ok c =
         none_cyclic parts (moved c.in_ok-names.names (names_of parts) c.as_slice-2.result.now (graph_of parts) c.as_slice-3.result.now (map part_uses parts) c.in_ok-span.field-0 None
             c.in_ok-names.ensures.ok.0 (c.as_slice-2.ensures ∙ made) (c.as_slice-3.ensures ∙ c.in_ok-all.ensures) c.in_default.is c.in_ok-span.ensures),
       ),
-      ap (λ ds. record { definitions = ds }) (c.in_ok-definitions.ensures ∙ ap (λ ns. flat_map (flat_at parts) ns) numbers),
+      ap (λ ds. record { definitions = ds }) (c.in_ok-definitions.ensures ∙ ap (λ ns. flat_map (flat_in ns parts) c.as_slice-5.result.now) c.in_ok-names.ensures.ok.0 ∙ ap (λ ns. flat_map (flat_at parts) ns) numbers),
     )

@@ -14,4 +14,4 @@ pub returns-clause-one_part : goal.returns-clause-one_part
 returns-clause-one_part c =
     λ p e.
     ap (λ us. record { definitions = flat_map (flat_at (p ∷ [])) (order (numbers_of (p.name.text ∷ []) us ∷ [])) }) e
-    ∙ ap (λ ds. record { definitions = ds }) (append-nil (flat_part p))
+    ∙ ap (λ ds. record { definitions = ds }) (append-nil (flat_part (p.name.text ∷ []) 0 p))

@@ -1,6 +1,7 @@
 use Rattle.std.proofs.Common.{rules, ◌≡◌, ℕ, ◌+◌, ◌*◌, ◌-◌, ◌<◌, ◌≤◌, ◌^◌, List, ◌++◌, length, map, vec_capacity, sym, ap, ◌∙◌, subst, arith}
 use Rattle.std.specs.List.{All, sum_by}
 use Rattle.std.specs.List.Sorted.{IsPermutation}
+use Rattle.td_num.proofs.Lists.{lent, all_left}
 use Rattle.td_words.specs.Gathered.{Fetched, Told}
 use Rattle.td_words.specs.Seats.{HostState}
 use Rattle.td_ring.specs.Ring.{PassState, with_takes}
@@ -15,9 +16,9 @@ use Rattle.td_actors.specs.declared.actor.Actor.TheVariants as kind
 use Rattle.td_actors.specs.Acting.{IsInRoom}
 use Rattle.td_actors.specs.Actors.{service_at}
 use Rattle.td_host.specs.Gathered.{IsAt, seats_all, puts_all, takes_all, draws_all, swaps_all, all_replies, takes_of_all, IsDescribedBy}
-use Rattle.td_host.proofs.Serves.{lent, ready, all_ready, at_all, parted, one_end, same_publisher}
+use Rattle.td_host.proofs.Serves.{ready, all_ready, at_all, parted, one_end, same_publisher}
 use Rattle.td_host.specs.Hosts.{takes_in}
-use Rattle.td_host.proofs.Wholes.{ahead, halves, found_few, made_few, taken, same_names, served_versions, no_versions}
+use Rattle.td_host.proofs.Wholes.{halves, found_few, made_few, taken, same_names, served_versions, no_versions}
 use Rattle.td_host.proofs.Memory.{put}
 use Rattle.td_host.proofs.serve.serve_all.Goals as goal
 
@@ -167,7 +168,7 @@ returns-clause-served g c m described =
     let code : JobCode d.codes.codes d.job = c.requires.code in
     let numbers = ap (λ (s : SwapState). s.view) e.swap ∙ (ap (λ (s : SwapState). swaps_all s.view c.take_publisher-publisher.new.actors.items) r.is_swap ∙ ap (swaps_all (new_view n)) v) in
     let publisher = sym (same_publisher x.publisher c.take_publisher-publisher.result end.1) ∙ (x.ran ∙ ap (λ (s : PublishState). publish_state s.table (publisher_view s.view.count (s.view.count - 1))) r.is_publisher) in
-    let by = ahead (IsDescribedBy m) olds _ (subst (All (IsDescribedBy m)) r.are described) in
+    let by = all_left (IsDescribedBy m) olds _ (subst (All (IsDescribedBy m)) r.are described) in
     let made : c.of-2.result ≡ takes_of_all news = c.of-2.ensures ∙ (e.made ∙ (λ i. r.no_take i ++ takes_of_all (v i))) in
     served_versions names d.shared d.ring (service_at d) d.job d.mails.items k.seat k.posts k.takes k.drawer olds news h m by perm c.requires.mails c.settle.new.pass.view v_is c.learn.new.host.view k_is fetched c.learn.ensures.told.0 told c.of.result named order
     n code.as_many c.gather_all.new.swap.view numbers e.versions c.take_publisher-publisher.result.view (ap (λ (s : PublishState). s.view) publisher) c.of-2.result made

@@ -1,4 +1,5 @@
-use Rattle.std.proofs.Common.{◌≡◌, ◌∙◌, ◌&&◌, ◌+◌, ◌≤◌, ℕ, Bool, true, false, List, length, take, drop, refl, sym, ap, arith}
+use Rattle.std.proofs.Common.{◌≡◌, ◌∙◌, ◌&&◌, ◌+◌, ◌≤◌, ℕ, Bool, false, List, length, take, drop, refl, sym, ap, arith}
+use Rattle.std.proofs.lemmas.Bool.{and_right}
 use Rattle.td_num.proofs.Truths.{all_dropped}
 use Rattle.td_image.specs.Names as names
 use Rattle.td_image.proofs.names.are_two_names.Goals as goal
@@ -7,17 +8,13 @@ use Rattle.td_image.proofs.names.are_two_names.Goals.{then-dot-text, else-dot-te
 abbrev two_at : List ℕ → ℕ → Bool
 two_at name dot = names.is_plain (take dot name) && names.is_plain (drop (dot + 1) name)
 
-and_false : (b : Bool) → (b && false) ≡ false
-and_false true = refl
-and_false false = refl
-
 -- what stands before the dot is no plain name
 first_fails : (name : List ℕ) (dot : ℕ) → names.is_plain (take dot name) ≡ false → two_at name dot ≡ false
 first_fails name dot h = ap (λ b. b && names.is_plain (drop (dot + 1) name)) h
 
 -- behind the end stands no name
 no_dot : (name : List ℕ) (dot : ℕ) → length name ≤ dot → two_at name dot ≡ false
-no_dot name dot le = ap (λ l. names.is_plain (take dot name) && names.is_plain l) (all_dropped name (dot + 1) (omega (arith, le))) ∙ and_false (names.is_plain (take dot name))
+no_dot name dot le = ap (λ l. names.is_plain (take dot name) && names.is_plain l) (all_dropped name (dot + 1) (omega (arith, le))) ∙ and_right (names.is_plain (take dot name)) false refl
 
 -- src/names.rt:56:1
 pub returns-else-is_plain : goal.returns-else-is_plain

@@ -24,7 +24,7 @@ returns-in_err-row-clause-memory c =
 
 pub loop-preserved : goal.loop-preserved
 loop-preserved c = (
-  rw (c.in_ok-push.ensures.ok, c.in_ok-see.ensures.ok, c.as_slice.ensures) (goes_on (format.name c.args.version) with_name c.loop.rows c.args.count c.loop.counter c.loop.seen c.loop.rest.now c.in_ok-row.row c.in_ok-row.after.now ((format.names c.args.version c.args.count).read c.args.bytes.now) c.loop-test.true c.in_ok-row.ensures.read c.loop.invariant.0),
+  rw (c.in_ok-push.ensures.ok, c.alone.ensures, c.in_ok-see.ensures.ok, c.as_slice.ensures) (goes_on (format.name c.args.version) with_name c.loop.rows c.args.count c.loop.counter c.loop.seen c.loop.rest.now c.in_ok-row.row c.in_ok-row.after.now ((format.names c.args.version c.args.count).read c.args.bytes.now) c.loop-test.true c.in_ok-row.ensures.read c.loop.invariant.0),
   inr (first_row (format.name c.args.version) [] c.loop.seen c.args.bytes.now c.loop.rest.now c.loop.invariant.1 (c.in_ok-row.row, c.in_ok-row.after.now, c.in_ok-row.ensures.read)),
 )
 

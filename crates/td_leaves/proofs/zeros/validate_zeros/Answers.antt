@@ -2,9 +2,10 @@ use Rattle.std.proofs.Common.{rules, ◌≡◌, ℕ, suc, ◌+◌, ◌-◌, ◌<
 use Rattle.std.specs.Prelude.{nat_eq, slice_index}
 use Rattle.td_core.specs.declared.outcome.Reason.TheVariants.{Padding}
 use Rattle.td_core.specs.Outcome.{rejected, accepted}
+use Rattle.td_stream.proofs.Stages.{later_trans, carried}
 use Rattle.td_meaning.specs.Meaning.{zeros_meaning}
 use Rattle.td_leaves.specs.Step.{Step}
-use Rattle.td_leaves.proofs.Stepping.{later_trans, carried, step_trans, step_to}
+use Rattle.td_leaves.proofs.Stepping.{step_trans, step_to}
 use Rattle.td_meaning.proofs.Zeros.{zeros_none, zeros_on, zeros_stop}
 use Rattle.td_leaves.proofs.zeros.validate_zeros.Goals as goal
 

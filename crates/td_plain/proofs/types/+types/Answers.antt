@@ -13,9 +13,9 @@ use Rattle.td_meaning.specs.Meaning.{elements, filled, field_number, extended, f
 use Rattle.td_meaning.specs.Machine.{below, fields_meaning, content_meaning, shape_meaning, element_meaning, parts_meaning}
 use Rattle.td_meaning.specs.Verdicts.{ending_of, frame_place}
 use Rattle.td_meaning.proofs.Below.{below_past}
-use Rattle.td_plain.proofs.Endings.{empty_at, then_same, field_by, elements_over, elements_done, elements_on}
+use Rattle.td_plain.proofs.Endings.{empty_at, then_same, field_by, elements_over, elements_on}
 use Rattle.td_plain.proofs.types.+types.Goals as goal
-use Rattle.td_meaning.proofs.Filling.{named_by, accepted_at, fields_none}
+use Rattle.td_meaning.proofs.Filling.{named_by, accepted_at, fields_none, elements_done}
 
 pub all_elements-returns-then-position-end-clause-ending : goal.all_elements-returns-then-position-end-clause-ending
 all_elements-returns-then-position-end-clause-ending t c =

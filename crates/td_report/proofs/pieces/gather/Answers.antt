@@ -1,4 +1,4 @@
-use Rattle.std.proofs.Common.{◌+◌, ◌++◌, List, [], ℕ, get_or, arith, sym, ap, ◌∙◌}
+use Rattle.std.proofs.Common.{◌++◌, List, [], ℕ, get_or, arith, sym, ap, ◌∙◌}
 use Rattle.std.specs.Borrow.{Bor}
 use Rattle.td_report.proofs.Composing.{each_more}
 use Rattle.td_report.proofs.pieces.gather.Goals as goal

@@ -6,11 +6,12 @@ use Rattle.td_stream.specs.Loads.{Carries}
 use Rattle.td_stream.specs.Copies.{BufferView, rooms_of}
 use Rattle.td_stream.specs.StreamInvariant.{Looked, position, end_of, layout_of}
 use Rattle.td_stream.proofs.Places.{look_more}
+use Rattle.td_stream.proofs.Rooms.{room_at}
 use Rattle.td_ir.specs.Flow.{Goes}
 use Rattle.td_ir.specs.Tables.{routine_of}
 use Rattle.td_step.specs.Stepping.{state_of, effect_of}
 use Rattle.td_step.proofs.Stretches.{ran_self, ran_here}
-use Rattle.td_step.proofs.Buffers.{held_put, copy_short, copy_enough, room_at}
+use Rattle.td_step.proofs.Buffers.{held_put, copy_short, copy_enough}
 use Rattle.td_step.proofs.copying.copy.Goals as goal
 
 pub returns-then-size-from-clause-same : goal.returns-then-size-from-clause-same

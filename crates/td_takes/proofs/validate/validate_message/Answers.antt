@@ -1,6 +1,7 @@
 use Rattle.std.proofs.Common.{ℕ, List, length, sym, ap, ◌∙◌, subst, arith}
 use Rattle.std.specs.Prelude.{slice_index_or}
 use Rattle.std.proofs.lemmas.Option.{slice_get_within}
+use Rattle.td_num.proofs.Lists.{lent}
 use Rattle.td_core.specs.declared.module.Entry.{Entry}
 use Rattle.td_core.specs.declared.outcome.Outcome.{Outcome}
 use Rattle.td_stream.specs.Copies.{held_by}
@@ -9,7 +10,6 @@ use Rattle.td_posts.specs.Posts.{zeros}
 use Rattle.td_ir.specs.Entries.{Fits, buffers_of}
 use Rattle.td_vm.specs.Frames.{FrameView, outcome_in}
 use Rattle.td_takes.specs.Codes.{IsCodeAt, IsMessageCode}
-use Rattle.td_takes.proofs.Cells.{whole}
 use Rattle.td_takes.proofs.Messages.{message_by, entry_at}
 use Rattle.td_takes.proofs.Roomy.{meant_of, copies_fit, kept_fits, kept_same}
 use Rattle.td_takes.proofs.validate.validate_message.Goals as goal
@@ -76,7 +76,7 @@ returns-clause-message c =
     let meant = meant_of job c.args.code.now code.1.format code.0 used c.one-layout.result v.new.loads.list c.as_slice-args.result.now c.set_cells.new.self.cells o
     code.1.can begins c.as_slice-args.ensures zero c.message_is_short.ensures v.ensures.behavior in
     let fit = copies_fit job code.1.format code.0 c.one-layout.result v.new.loads.list o code.1.can.roomy v.ensures.rising c.message_is_short.ensures meant in
-    let all = whole c.args.room.copies.buffers.len c.keep_copies.new.copies c.args.room.copies.buffers.items (c.keep_copies.auto.copies ∙ c.as_mut_slice.ensures.len) in
+    let all = lent c.args.room.copies.buffers.len c.keep_copies.new.copies c.args.room.copies.buffers.items (c.keep_copies.auto.copies ∙ c.as_mut_slice.ensures.len) in
     let held =
     ap held_by all
     ∙ (c.keep_copies.ensures.held

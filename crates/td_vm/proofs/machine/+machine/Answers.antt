@@ -10,7 +10,8 @@ use Rattle.td_verify.specs.Shape.{shape}
 use Rattle.td_stream.specs.StreamInvariant.{position, end_of}
 use Rattle.td_step.specs.Stepping.{Ends}
 use Rattle.td_stream.specs.Copies.{rooms_of}
-use Rattle.td_step.proofs.Stretches.{later_trans, later_self, lent_self, hold_on, ran_self}
+use Rattle.td_stream.proofs.Stages.{later_trans, later_self}
+use Rattle.td_step.proofs.Stretches.{lent_self, hold_on, ran_self}
 use Rattle.td_vm.specs.Exits.{exit_by}
 use Rattle.td_vm.proofs.Stretches.{ran_step, after_once, after_none}
 use Rattle.td_vm.proofs.Shapes.{shape_here}
@@ -308,14 +309,14 @@ call-returns-clause-held = calls.call-returns-clause-held
 pub call-place_count-requires : goal.call-place_count-requires
 call-place_count-requires = calls.call-place_count-requires
 
-pub call-set_places-requires-clause-fits : goal.call-set_places-requires-clause-fits
-call-set_places-requires-clause-fits = calls.call-set_places-requires-clause-fits
+pub call-set_callee_places-requires-clause-fits : goal.call-set_callee_places-requires-clause-fits
+call-set_callee_places-requires-clause-fits = calls.call-set_callee_places-requires-clause-fits
 
-pub call-set_places-requires-clause-count : goal.call-set_places-requires-clause-count
-call-set_places-requires-clause-count = calls.call-set_places-requires-clause-count
+pub call-set_callee_places-requires-clause-size : goal.call-set_callee_places-requires-clause-size
+call-set_callee_places-requires-clause-size = calls.call-set_callee_places-requires-clause-size
 
-pub call-set_places-requires-clause-within : goal.call-set_places-requires-clause-within
-call-set_places-requires-clause-within = calls.call-set_places-requires-clause-within
+pub call-set_callee_places-requires-clause-within : goal.call-set_callee_places-requires-clause-within
+call-set_callee_places-requires-clause-within = calls.call-set_callee_places-requires-clause-within
 
-pub call-set_places-requires-clause-buffers : goal.call-set_places-requires-clause-buffers
-call-set_places-requires-clause-buffers = calls.call-set_places-requires-clause-buffers
+pub call-set_callee_places-requires-clause-buffers : goal.call-set_callee_places-requires-clause-buffers
+call-set_callee_places-requires-clause-buffers = calls.call-set_callee_places-requires-clause-buffers

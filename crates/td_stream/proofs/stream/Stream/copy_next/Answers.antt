@@ -2,9 +2,10 @@ use Rattle.std.proofs.Common.{◌++◌, sym, ap, ◌∙◌, subst, arith}
 use Rattle.td_stream.specs.Digits.{HasDigits}
 use Rattle.td_stream.specs.Loads.{Carries}
 use Rattle.td_stream.specs.StreamInvariant.{position}
-use Rattle.td_stream.proofs.Copied.{digits_copied, later_then}
+use Rattle.td_stream.proofs.Copied.{digits_copied}
 use Rattle.td_stream.proofs.Places.{look_again}
 use Rattle.td_stream.proofs.stream.Stream.copy_next.Goals as goal
+use Rattle.td_stream.proofs.Stages.{later_trans}
 
 pub returns-then-self-eq8-clause-looked : goal.returns-then-self-eq8-clause-looked
 returns-then-self-eq8-clause-looked g c =
@@ -18,7 +19,7 @@ returns-then-self-eq8-clause-held g c = λ b h.
     c.push_word.ensures.held ∙ ap (λ xs. c.args.buffer.now.held ++ xs) (digits_copied b (position c.args.self.now) 8 c.take_held-word.result digits)
 
 pub returns-clause-later : goal.returns-clause-later
-returns-clause-later g c = later_then g.met.W.Words.reaches_on c.args.self.now c.hold.new.self c.byte-value.new.self c.hold.ensures.later c.byte-value.ensures.later
+returns-clause-later g c = later_trans g.met.W.Words.reaches_on c.args.self.now c.hold.new.self c.byte-value.new.self c.hold.ensures.later c.byte-value.ensures.later
 
 pub returns-clause-looked : goal.returns-clause-looked
 returns-clause-looked g c =

@@ -2,8 +2,9 @@ use Rattle.std.proofs.Common.{◌+◌, refl, sym, ◌∙◌, subst, arith}
 use Rattle.td_stream.specs.Loads.{Carries}
 use Rattle.td_stream.specs.StreamInvariant.{position}
 use Rattle.td_stream.proofs.Places.{look_join}
-use Rattle.td_stream.proofs.Copied.{bytes_more, later_then}
+use Rattle.td_stream.proofs.Copied.{bytes_more}
 use Rattle.td_stream.proofs.stream.Stream.copy_to.Goals as goal
+use Rattle.td_stream.proofs.Stages.{later_trans}
 
 pub bytes-preserved : goal.bytes-preserved
 bytes-preserved g c =
@@ -16,7 +17,7 @@ bytes-preserved g c =
     let k = c.bytes.done in
     let m = c.copy_next-done.result in
     record {
-      later = later_then g.met.W.Words.reaches_on r s t i.later e.later;
+      later = later_trans g.met.W.Words.reaches_on r s t i.later e.later;
       whole = e.whole;
       end = e.end ∙ i.end;
       reached = omega (arith, e.most, i.reached);

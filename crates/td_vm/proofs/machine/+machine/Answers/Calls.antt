@@ -1,12 +1,12 @@
 -- The answers of `call`.
 use Rattle.std.proofs.Common.{rules, ◌≡◌, suc, ◌+◌, ◌<◌, length, arith, sym, ap, ◌∙◌, refl}
 use Rattle.std.specs.Prelude.{slice_index}
-use Rattle.td_ir.specs.Tables.{routine_of, own_cells, first_of}
+use Rattle.td_ir.specs.Tables.{routine_of, map_of, first_of}
 use Rattle.td_ir.specs.State.{State, registers_from}
 use Rattle.td_ir.specs.Run.{places_by, entered, block}
 use Rattle.td_stream.specs.StreamInvariant.{position, end_of}
 use Rattle.td_stream.specs.Copies.{rooms_of}
-use Rattle.td_step.proofs.Stretches.{later_trans, carried}
+use Rattle.td_stream.proofs.Stages.{later_trans, carried}
 use Rattle.td_vm.specs.Exits.{frames_of}
 use Rattle.td_vm.specs.Need.{room_below, registers, cells, level}
 use Rattle.td_vm.proofs.Stretches.{ran_after}
@@ -37,14 +37,13 @@ call-run_block-left-requires g t c =
     let d = c.requires.callee in
     let cell : c.routine_at-routine.result.now.cells ≡ (routine_of C m).cells = ap (λ x. x.cells) c.routine_at-routine.ensures in
     let buffer : length c.routine_at-routine.result.now.buffers ≡ length (routine_of C m).buffers = ap (λ x. length x.buffers) c.routine_at-routine.ensures in
-    let own : c.routine_at.result.now.cells ≡ (routine_of C c.args.level.now.n).cells = ap (λ x. x.cells) c.routine_at.ensures in
-    let places = c.set_places.ensures ∙ (λ i. places_by c.args.level.now.places.now (own_cells (own i) (cell i) (c.map_at.ensures i))) in
+    let places = c.set_callee_places.ensures in
     let register = ap (λ x. x.registers) c.routine_at-routine.ensures in
     let l : m < length C.routines = omega (arith, d.lower, c.requires.room.routine) in
     let b = c.requires.room.begins.each m (omega (arith, l)) in
     let q : m + 1 ≡ suc m = omega arith in
     let f = c.requires.room.begins.each (m + 1) (omega (arith, l)) ∙ ap (first_of C) q in
-    let room = callee_room c.args.level.now.env c.args.level.now.n c.args.callee.at m c.args.callee.first c.args.callee.map c.args.level.now.first c.args.level.now.places.now c.args.spare.now.places.now c.args.regs.now c.args.spare.now.registers.now c.args.slate.now.cells.now (rooms_of c.args.slate.now.copies.now) c.set_places.new.mine c.split_at_mut-mine_places.result.1.now c.set_registers.new.mine c.split_at_mut-mine.result.1.now c.args.trace.now c.requires.room d (omega (arith, cell, buffer, c.place_count.ensures.is, c.split_at_mut-mine_places.ensures.back_len, c.split_at_mut-mine_places.ensures.front_len)) (omega (arith, register, c.set_registers.auto.mine, c.split_at_mut-mine.ensures.front_len)) (omega (arith, register, c.split_at_mut-mine.ensures.back_len)) places in
+    let room = callee_room c.args.level.now.env c.args.level.now.n c.args.callee.at m c.args.callee.first c.args.callee.map c.args.level.now.first c.args.level.now.places.now c.args.spare.now.places.now c.args.regs.now c.args.spare.now.registers.now c.args.slate.now.cells.now (rooms_of c.args.slate.now.copies.now) c.set_callee_places.new.mine c.split_at_mut-mine_places.result.1.now c.set_registers.new.mine c.split_at_mut-mine.result.1.now c.args.trace.now c.requires.room d (omega (arith, cell, buffer, c.place_count.ensures.is, c.split_at_mut-mine_places.ensures.back_len, c.split_at_mut-mine_places.ensures.front_len)) (omega (arith, register, c.set_registers.auto.mine, c.split_at_mut-mine.ensures.front_len)) (omega (arith, register, c.split_at_mut-mine.ensures.back_len)) places in
     λ κs h. (omega (arith, c.decreases, b, f), (h.0, (h.1.0, (h.1.1, (room, (whole_stretch C m _ _ c.requires.room.runnable l b f, (c.requires.whole, record { around = omega (arith, c.end-end.ensures); within = omega (arith, c.end-end.ensures, c.requires.whole.short) })))))))
 
 pub call-returns-clause-traced : goal.call-returns-clause-traced
@@ -73,16 +72,15 @@ call-returns-clause-same g t c = λ start outer.
     let s2 = c.widen.new.self in
     let S : State = record { regs = c.args.regs.now; cells = c.args.slate.now.cells.now; start = start; pos = position s0; end = end_of s0; outer = outer } in
     let cell : c.routine_at-routine.result.now.cells ≡ r.cells = ap (λ x. x.cells) is in
-    let own : c.routine_at.result.now.cells ≡ (routine_of C c.args.level.now.n).cells = ap (λ x. x.cells) c.routine_at.ensures in
-    let places = c.set_places.ensures ∙ (λ i. places_by c.args.level.now.places.now (own_cells (own i) (cell i) (c.map_at.ensures i))) in
+    let places = c.set_callee_places.ensures in
     let args = registers_from c.args.regs.now c.args.callee.first r.params in
     let regs = begun r args c.arguments.result.now c.set_registers.new.mine _ c.set_registers.ensures (c.arguments.ensures ∙ ap (λ k. registers_from c.args.regs.now c.args.callee.first k.params) is) (c.split_at_mut-mine.ensures.front_len ∙ ap (λ k. k.registers) is) in
     let turn = no_turn C m _ c.run_block-left.result c.requires.room.runnable l b' c.run_block-left.ensures.inside in
     ran_after s0 s1 s2 c.args.steps.now c.run_block-left.new.steps _ _ c.run_block-left.ensures.later c.widen.ensures.later c.run_block-left.ensures.same c.widen.ensures.looked (λ b x j p.
     let state = entered_is r args c.set_registers.new.mine S c.pos.result c.end-end.result regs c.pos.ensures c.end-end.ensures in
     let ran = ap (λ q. block C b m q (first_of C m) (entered r args S)) (sym places)
-    ∙ ap (λ f. block C b m c.set_places.new.mine f (entered r args S)) (sym b')
-    ∙ ap (λ u. block C b m c.set_places.new.mine (slice_index c.args.level.now.env.begins.now m) u) state ∙ p in
+    ∙ ap (λ f. block C b m c.set_callee_places.new.mine f (entered r args S)) (sym b')
+    ∙ ap (λ u. block C b m c.set_callee_places.new.mine (slice_index c.args.level.now.env.begins.now m) u) state ∙ p in
     call_left c.run_block-left.result _ (position s2) (frames_of c.run_block-left.new.trace) x j _ turn ran (sym c.widen.ensures.pos))
 
 pub call-set_registers-requires : goal.call-set_registers-requires
@@ -118,27 +116,24 @@ call-place_count-requires g t c =
     let l : m < length C.routines = omega (arith, c.requires.callee.lower, c.requires.room.routine) in
     omega (arith, ap (λ x. length x.buffers) c.routine_at-routine.ensures, (c.requires.room.runnable.code.routines m l).few)
 
-pub call-set_places-requires-clause-fits : goal.call-set_places-requires-clause-fits
-call-set_places-requires-clause-fits g t c =
+pub call-set_callee_places-requires-clause-fits : goal.call-set_callee_places-requires-clause-fits
+call-set_callee_places-requires-clause-fits g t c = omega (arith, c.place_count.ensures.is, c.split_at_mut-mine_places.ensures.front_len)
+
+pub call-set_callee_places-requires-clause-size : goal.call-set_callee_places-requires-clause-size
+call-set_callee_places-requires-clause-size g t c =
     let C = c.args.level.now.env.parts.now in
-    let w = widens C c.args.level.now.n c.args.callee.routine c.args.callee.map c.args.level.now.places.now c.args.level.now.first (length c.args.slate.now.cells.now) (rooms_of c.args.slate.now.copies.now) c.requires.room.in_cells c.requires.callee.cell_map c.routine_at-routine.result.now.cells c.routine_at.result.now.cells c.map_at.result.now (ap (λ x. x.cells) c.routine_at-routine.ensures) (ap (λ x. x.cells) c.routine_at.ensures) c.map_at.ensures in
+    let w = widens C c.args.level.now.n c.args.callee.routine c.args.callee.map c.args.level.now.places.now c.args.level.now.first (length c.args.slate.now.cells.now) (rooms_of c.args.slate.now.copies.now) c.requires.room.in_cells c.requires.callee.cell_map c.routine_at-routine.result.now.cells (routine_of C c.args.level.now.n).cells (map_of C c.args.callee.map) (ap (λ x. x.cells) c.routine_at-routine.ensures) refl refl in
     let b = ap (λ x. length x.buffers) c.routine_at-routine.ensures in
-    omega (arith, b, w.size, c.place_count.ensures.is, c.split_at_mut-mine_places.ensures.front_len)
+    omega (arith, b, w.size)
 
-pub call-set_places-requires-clause-count : goal.call-set_places-requires-clause-count
-call-set_places-requires-clause-count g t c =
+pub call-set_callee_places-requires-clause-within : goal.call-set_callee_places-requires-clause-within
+call-set_callee_places-requires-clause-within g t c =
     let C = c.args.level.now.env.parts.now in
-    let w = widens C c.args.level.now.n c.args.callee.routine c.args.callee.map c.args.level.now.places.now c.args.level.now.first (length c.args.slate.now.cells.now) (rooms_of c.args.slate.now.copies.now) c.requires.room.in_cells c.requires.callee.cell_map c.routine_at-routine.result.now.cells c.routine_at.result.now.cells c.map_at.result.now (ap (λ x. x.cells) c.routine_at-routine.ensures) (ap (λ x. x.cells) c.routine_at.ensures) c.map_at.ensures in
-    omega (arith, w.size)
-
-pub call-set_places-requires-clause-within : goal.call-set_places-requires-clause-within
-call-set_places-requires-clause-within g t c =
-    let C = c.args.level.now.env.parts.now in
-    let w = widens C c.args.level.now.n c.args.callee.routine c.args.callee.map c.args.level.now.places.now c.args.level.now.first (length c.args.slate.now.cells.now) (rooms_of c.args.slate.now.copies.now) c.requires.room.in_cells c.requires.callee.cell_map c.routine_at-routine.result.now.cells c.routine_at.result.now.cells c.map_at.result.now (ap (λ x. x.cells) c.routine_at-routine.ensures) (ap (λ x. x.cells) c.routine_at.ensures) c.map_at.ensures in
+    let w = widens C c.args.level.now.n c.args.callee.routine c.args.callee.map c.args.level.now.places.now c.args.level.now.first (length c.args.slate.now.cells.now) (rooms_of c.args.slate.now.copies.now) c.requires.room.in_cells c.requires.callee.cell_map c.routine_at-routine.result.now.cells (routine_of C c.args.level.now.n).cells (map_of C c.args.callee.map) (ap (λ x. x.cells) c.routine_at-routine.ensures) refl refl in
     w.below
 
-pub call-set_places-requires-clause-buffers : goal.call-set_places-requires-clause-buffers
-call-set_places-requires-clause-buffers g t c =
+pub call-set_callee_places-requires-clause-buffers : goal.call-set_callee_places-requires-clause-buffers
+call-set_callee_places-requires-clause-buffers g t c =
     let C = c.args.level.now.env.parts.now in
-    let w = widens C c.args.level.now.n c.args.callee.routine c.args.callee.map c.args.level.now.places.now c.args.level.now.first (length c.args.slate.now.cells.now) (rooms_of c.args.slate.now.copies.now) c.requires.room.in_cells c.requires.callee.cell_map c.routine_at-routine.result.now.cells c.routine_at.result.now.cells c.map_at.result.now (ap (λ x. x.cells) c.routine_at-routine.ensures) (ap (λ x. x.cells) c.routine_at.ensures) c.map_at.ensures in
+    let w = widens C c.args.level.now.n c.args.callee.routine c.args.callee.map c.args.level.now.places.now c.args.level.now.first (length c.args.slate.now.cells.now) (rooms_of c.args.slate.now.copies.now) c.requires.room.in_cells c.requires.callee.cell_map c.routine_at-routine.result.now.cells (routine_of C c.args.level.now.n).cells (map_of C c.args.callee.map) (ap (λ x. x.cells) c.routine_at-routine.ensures) refl refl in
     w.behind

@@ -1,9 +1,9 @@
 use Rattle.std.proofs.Common.{◌≡◌, map, ap, ◌∙◌, subst}
 use Rattle.td_stream.specs.Copies.{rooms_of, empty_with}
+use Rattle.td_stream.proofs.Rooms.{rooms_again}
 use Rattle.td_ir.specs.declared.tables.Parts.{Parts}
 use Rattle.td_vm.specs.Need.{most_need, most_entry_cells, most_rooms, registers, cells, level}
 use Rattle.td_vm.specs.Frames.{AreBegins}
-use Rattle.td_vm.proofs.Lent.{rooms_cleared}
 use Rattle.td_vm.proofs.validate.Frame.arm.Goals as goal
 
 pub returns-clause-armed : goal.returns-clause-armed
@@ -26,5 +26,5 @@ returns-clause-armed c =
           let k = c.in_ok-filled-3.ensures.memory ∙ fourth in
           let t = c.in_ok-filled-4.ensures.memory ∙ third in
           λ i. record { registers = r i; places = p i; cells = k i; trace = t i };
-      rooms = ap rooms_of (c.in_ok-with_rooms.ensures.ok ∙ ap (map empty_with) rooms) ∙ rooms_cleared (most_rooms C);
+      rooms = ap rooms_of (c.in_ok-with_rooms.ensures.ok ∙ ap (map empty_with) rooms) ∙ rooms_again (most_rooms C);
     }

@@ -1,5 +1,0 @@
-use Rattle.td_ir.specs.WellFormed.{AreCells}
-use Rattle.td_ir.proofs.tests_of_tables.are_cells.Given as goal
-
-abbrev pub invariant-loop-k : goal.invariant-loop-k
-invariant-loop-k l = AreCells l.names l.cells l.k
