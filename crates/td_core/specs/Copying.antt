@@ -1,4 +1,4 @@
--- What memory is taken for where an expression or an action is copied.
+-- What memory is taken for where an expression or an action is copied (own rule).
 use Rattle.td_core.specs.Term.{Term, number, name, complement, negation, compute, compare, both, either, choice, range_okay, Deed, done, set, keep, fork, answer, give_up}
 
 -- an operator with its operands, and no literal or name

@@ -1,4 +1,4 @@
--- Each operand is smaller than its expression.
+-- Each operand is smaller than its expression (own rule).
 use Rattle.std.specs.Prelude.{◌≤◌}
 use Rattle.std.proofs.Common.{arith}
 use Rattle.td_core.specs.declared.expressions.CoreExpr.TheInside.{Inside}

@@ -1,4 +1,4 @@
--- What follows is shorter than the action.
+-- What follows is shorter than the action (own rule).
 use Rattle.std.specs.Prelude.{◌≤◌}
 use Rattle.std.proofs.Common.{arith}
 use Rattle.td_core.specs.declared.actions.Action.TheInside.{Inside}

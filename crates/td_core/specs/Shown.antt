@@ -1,4 +1,4 @@
--- The expression that a node is.
+-- The expression that a node is (own rule).
 use Rattle.td_core.specs.declared.expressions.Node.{Node}
 use Rattle.td_core.specs.declared.expressions.Node.TheVariants.{Number, Name, Complement, Not, Compute, Compare, Both, Either, Choice, RangeOkay}
 use Rattle.td_core.specs.Term.{Term, number, name, complement, negation, compute, compare, both, either, choice, range_okay}

@@ -1,4 +1,4 @@
--- What an action does.
+-- What an action does (own rule).
 use Rattle.td_core.specs.declared.actions.Step.{Step}
 use Rattle.td_core.specs.declared.actions.Step.TheVariants.{Done, Set, Read, If, Return, Abort}
 use Rattle.td_core.specs.Term.{Deed, done, set, keep, fork, answer, give_up}

@@ -1,4 +1,4 @@
--- Codes by which proofs tell terms, and deeds, apart: trees of numbers that give them back.
+-- Codes by which proofs tell terms, and deeds, apart (own rule): trees of numbers that give them back.
 use Rattle.std.specs.Prelude.{◌≡◌, ℕ, zero, suc, refl}
 use Rattle.std.specs.Coded.{Coded, code_by}
 use base.Stored.{Gv, gnil, gnum, gcons}

@@ -1,4 +1,4 @@
--- Expressions and actions as contracts see them.
+-- Expressions and actions as contracts see them (own rule).
 use Rattle.std.specs.Prelude.{ℕ, ◌+◌}
 use Rattle.td_ast.specs.declared.token.Span.{Span}
 use Rattle.td_core.specs.declared.expressions.Relation.{Relation}

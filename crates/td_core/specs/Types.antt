@@ -1,4 +1,4 @@
--- The types of expressions, and `UINT8`.
+-- The types of expressions, and `UINT8` (own rule).
 use Rattle.std.specs.Prelude.{ℕ, ◌^◌, Bool, true, false, cond, nat_le}
 use Rattle.td_num.specs.declared.number.Width.{Width}
 use Rattle.td_num.specs.declared.number.Width.TheVariants.{One}

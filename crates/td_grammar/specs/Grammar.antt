@@ -1,4 +1,4 @@
--- Productions: which tokens spell a value, which token of them passes a limit, and beside it how a value is read. Who
+-- Productions (own rule): which tokens spell a value, which token of them passes a limit, and beside it how a value is read. Who
 -- asks what the language is looks at `Spells` and `Passes` alone.
 use Rattle.std.specs.Prelude.{ℕ, Bool, List, Option}
 use Rattle.td_ast.specs.declared.token.Token.{Token}

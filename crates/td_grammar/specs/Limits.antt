@@ -1,4 +1,4 @@
--- Which token passes a limit. Where tokens begin a spelling and the last of them is one too many for a limit, they "pass"
+-- Which token passes a limit (own rule). Where tokens begin a spelling and the last of them is one too many for a limit, they "pass"
 -- it, whether or not an earlier one passed one too.
 use Rattle.std.specs.Prelude.{◌≡◌, ℕ, true, if◌then◌else◌, List, [], ◌∷◌, ◌++◌, length, take, ◌<◌, ◌+◌, ◌⊎◌}
 use Rattle.td_ast.specs.declared.token.Token.{Token}

@@ -1,4 +1,4 @@
--- A list whose elements are parted by one kind of token, which may also stand after the last.
+-- A list whose elements are parted by one kind of token, which may also stand after the last (own rule).
 use Rattle.std.specs.Prelude.{◌≡◌, ℕ, zero, suc, true, false, List, [], ◌∷◌, ◌++◌, length, ◌⊎◌, if◌then◌else◌}
 use Rattle.td_ast.specs.declared.token.Token.{Token}
 use Rattle.td_ast.specs.Kinds.{number_of_kind}

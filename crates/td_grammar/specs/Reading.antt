@@ -1,4 +1,4 @@
--- How a production is read from the front of a list of tokens, where the next token alone decides. No public contract
+-- How a production is read from the front of a list of tokens, where the next token alone decides (own rule). No public contract
 -- speaks of this: what a parser's functions give is compared with it, and it is proved to find just what is spelled.
 use Rattle.std.specs.Prelude.{ℕ, zero, suc, Bool, true, false, ◌&&◌, nat_lt, List, [], ◌∷◌, ◌++◌, length, Option, Some, None, if◌then◌else◌}
 use Rattle.td_ast.specs.declared.token.Token.{Token}

@@ -1,4 +1,4 @@
--- Where the token of an expression stands that would be one too many. The scan ends where an expression must end, so
+-- Where the token of an expression stands that would be one too many (own rule). The scan ends where an expression must end, so
 -- that it looks at no token twice.
 use Rattle.std.specs.Prelude.{ℕ, zero, suc, Bool, true, false, List, [], ◌∷◌, Option, Some, None, if◌then◌else◌}
 use Rattle.td_ast.specs.declared.token.Token.{Token}

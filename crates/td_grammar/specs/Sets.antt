@@ -1,4 +1,4 @@
--- Sets of kinds of tokens, by their numbers.
+-- Sets of kinds of tokens, by their numbers (own rule).
 use Rattle.std.specs.Prelude.{ℕ, Bool, true, false, ◌==◌, List, [], ◌∷◌, if◌then◌else◌}
 use Rattle.td_num.specs.declared.number.Width.TheVariants as widths
 use Rattle.td_num.specs.declared.number.ByteOrder.TheVariants as orders

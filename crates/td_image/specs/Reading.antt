@@ -1,4 +1,4 @@
--- What a function that reads returned: what the format reads, unless memory ran out.
+-- What a function that reads returned (own rule): what the format reads, unless memory ran out.
 use Rattle.std.specs.Prelude.{◌≡◌, Result, Ok, Err, IfErr}
 use Rattle.td_image.specs.declared.fault.Fault.{Fault}
 use Rattle.td_image.specs.declared.fault.ReadError.{ReadError}

@@ -1,4 +1,4 @@
--- Entry points of code by name, and what fits them.
+-- Entry points of code by name, and what fits them (own rule).
 use Rattle.std.specs.Prelude.{◌≡◌, ℕ, ◌<◌, ◌^◌, ◌*◌, List, ◌++◌, length, replicate, slice_get, slice_index, Some}
 use Rattle.td_num.specs.Numbers.{bytes_in}
 use Rattle.td_core.specs.declared.module.Entry.{Entry}

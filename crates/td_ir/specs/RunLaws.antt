@@ -1,4 +1,4 @@
--- Laws of run: the exit from one instruction on, by the exits from those to which it leads. They need forward jumps and calls of lower routines alone.
+-- Laws of run (own rule): the exit from one instruction on, by the exits from those to which it leads. They need forward jumps and calls of lower routines alone.
 use Rattle.std.specs.Prelude.{◌≡◌, ℕ, suc, ◌+◌, ◌<◌, List, [], ◌∷◌, ◌++◌, Some, slice_get}
 use Rattle.td_core.specs.declared.outcome.Reason.{Reason}
 use Rattle.td_ir.specs.declared.instructions.Instr.{Instr}

@@ -1,4 +1,4 @@
--- What operators and other instructions compute. Registers are below 2^64.
+-- What operators and other instructions compute (own rule). Registers are below 2^64.
 use Rattle.std.specs.Prelude.{ℕ, zero, suc, ◌+◌, ◌-◌, ◌*◌, ◌/◌, ◌%◌, ◌^◌, Bool, true, false, cond, List, [], ◌∷◌, Option, Some, None, nat_eq, nat_lt, nat_le, bit_and, bit_or, bit_xor}
 use Rattle.td_num.specs.Numbers.{rising_at}
 use Rattle.td_num.specs.declared.number.ByteOrder.{ByteOrder}

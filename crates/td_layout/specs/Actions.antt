@@ -1,4 +1,4 @@
--- The pieces of statements and actions. All of an action stands on its field's line.
+-- The pieces of statements and actions (own rule). All of an action stands on its field's line.
 use Rattle.std.specs.Prelude.{List, [], ◌∷◌, ◌++◌, flat_map}
 use Rattle.td_ast.specs.declared.token.TokenKind.{TokenKind}
 use Rattle.td_ast.specs.declared.token.TokenKind.TheVariants as kinds

@@ -1,4 +1,4 @@
--- The canonical text of an input: a module, or parts.
+-- The canonical text of an input (own rule): a module, or parts.
 use Rattle.std.specs.Prelude.{ℕ, Bool, true, false, List, [], ◌∷◌, ◌++◌, flat_map, codes}
 use Rattle.td_ast.specs.declared.token.TokenKind.TheVariants as kinds
 use Rattle.td_ast.specs.declared.names.Name.{Name}

@@ -1,4 +1,4 @@
--- A module, parts, and their canonical texts, letter by letter: rows to compare the definition with.
+-- A module, parts, and their canonical texts, letter by letter (own rule): rows to compare the definition with.
 use Rattle.std.specs.Prelude.{◌≡◌, ℕ, true, List, [], ◌∷◌, ◌++◌, flat_map, Some, None, codes}
 use Rattle.td_num.specs.declared.number.NumberType.{NumberType}
 use Rattle.td_num.specs.declared.number.Width.TheVariants as widths

@@ -1,4 +1,4 @@
--- The pieces of an expression. Parentheses stand only where the tree needs them: where an operand binds looser than its
+-- The pieces of an expression (own rule). Parentheses stand only where the tree needs them: where an operand binds looser than its
 -- place lets it.
 use Rattle.std.specs.Prelude.{ℕ, nat_le, Bool, true, false, List, [], ◌∷◌, ◌++◌}
 use Rattle.td_ast.specs.declared.token.TokenKind.{TokenKind}

@@ -1,4 +1,4 @@
--- The pieces of a field, which stands on one line.
+-- The pieces of a field, which stands on one line (own rule).
 use Rattle.std.specs.Prelude.{ℕ, List, [], ◌∷◌, ◌++◌}
 use Rattle.td_ast.specs.declared.token.TokenKind.TheVariants as kinds
 use Rattle.td_ast.specs.declared.actions.ActionTree.{ActionTree}

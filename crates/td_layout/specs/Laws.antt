@@ -1,4 +1,4 @@
--- What holds of canonical texts.
+-- What holds of canonical texts (own rule).
 use Rattle.std.specs.Prelude.{◌≡◌, ℕ, List, map}
 use Rattle.td_num.specs.Lists.{Each}
 use Rattle.td_ast.specs.declared.token.Token.{Token}

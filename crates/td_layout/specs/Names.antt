@@ -1,4 +1,4 @@
--- The pieces of a name that may be qualified. A qualified name is one text in the tree, and three tokens in the text.
+-- The pieces of a name that may be qualified (own rule). A qualified name is one text in the tree, and three tokens in the text.
 use Rattle.std.specs.Prelude.{ℕ, List, [], ◌∷◌, Option, Some, None, if◌then◌else◌, ◌==◌}
 use Rattle.td_ast.specs.declared.token.TokenKind.TheVariants as kinds
 use Rattle.td_ast.specs.declared.names.ConstTree.{ConstTree}

@@ -1,4 +1,4 @@
--- The pieces of what stands between the first name of a struct or casetype and its body.
+-- The pieces of what stands between the first name of a struct or casetype and its body (own rule).
 use Rattle.std.specs.Prelude.{List, [], ◌∷◌, ◌++◌}
 use Rattle.td_num.specs.declared.number.Width.TheVariants.{One}
 use Rattle.td_num.specs.declared.number.ByteOrder.TheVariants.{LittleEndian}

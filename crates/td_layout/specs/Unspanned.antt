@@ -1,4 +1,4 @@
--- Trees without their places: each span is that of no bytes at place 0, and all else is as it was.
+-- Trees without their places (own rule): each span is that of no bytes at place 0, and all else is as it was.
 use Rattle.std.specs.Prelude.{map, option_map}
 use Rattle.td_ast.specs.declared.token.Span.{Span}
 use Rattle.td_ast.specs.declared.names.Name.{Name}

@@ -1,4 +1,4 @@
--- The values of numbers as they are spelled.
+-- The values of numbers as they are spelled (own rule).
 use Rattle.std.specs.Prelude.{ℕ, List, drop}
 use Rattle.td_ast.specs.declared.token.Base.{Base}
 use Rattle.td_ast.specs.declared.token.Base.TheVariants.{Decimal, Hexadecimal}

@@ -1,4 +1,4 @@
--- What a step of reading tokens does, and where a lexeme ends: words for the clauses of private functions alone, which
+-- What a step of reading tokens does, and where a lexeme ends (own rule): words for the clauses of private functions alone, which
 -- no public one cites.
 use Rattle.std.specs.Prelude.{◌≡◌, ℕ, ◌+◌, ◌<◌, ◌≤◌, ◌++◌, List, [], ◌∷◌, length, drop, Result, Ok, Err}
 use Rattle.td_ast.specs.declared.token.Token.{Token}

@@ -1,4 +1,4 @@
--- The tokens of a text as a function: what stands at the beginning of some bytes, and lexeme by lexeme the tokens of all.
+-- The tokens of a text as a function (own rule): what stands at the beginning of some bytes, and lexeme by lexeme the tokens of all.
 -- That it is the splitting that the manual asks for is the law beside it (`Splits`).
 use Rattle.std.specs.Prelude.{◌≡◌, ℕ, zero, suc, ◌+◌, ◌-◌, ◌^◌, Bool, false, ◌&&◌, ◌==◌, nat_lt, List, [], ◌∷◌, take, drop, Option, Some, None, Result, Ok, Err, if◌then◌else◌}
 use Rattle.std.specs.Global.{Vec}

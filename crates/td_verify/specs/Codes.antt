@@ -1,4 +1,4 @@
--- The rules by code.
+-- The rules by code (own rule).
 use Rattle.std.specs.Prelude.{ℕ, List, codes}
 use Rattle.td_verify.specs.declared.rule.Rule.{Rule}
 use Rattle.td_verify.specs.declared.rule.Rule.TheVariants.{Target, Register, Depth, Loop, Table, Weight, Operand}

@@ -1,4 +1,4 @@
--- The verifier's table of what is open: for each place the innermost window or loop.
+-- The verifier's table of what is open (own rule): for each place the innermost window or loop.
 use Rattle.std.specs.Prelude.{◌≡◌, ℕ, ◌<◌, List, [], ◌∷◌, Option, Some, None, slice_index_or}
 use Rattle.td_verify.specs.declared.shape.Shape.{Shape}
 use Rattle.td_verify.specs.declared.bracket.Bracket.{Bracket}

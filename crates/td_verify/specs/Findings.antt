@@ -1,4 +1,4 @@
--- What the verifier keeps while it goes through the routines, and what it says of one.
+-- What the verifier keeps while it goes through the routines, and what it says of one (own rule).
 use Rattle.std.specs.Prelude.{◌≡◌, ℕ, suc, ◌+◌, ◌-◌, ◌^◌, ◌<◌, ◌≤◌, ◌↔◌, true, List, length, slice_index, Option, Some, None, [], vec_capacity}
 use Rattle.td_ir.specs.declared.tables.Parts.{Parts}
 use Rattle.td_ir.specs.Tables.{routine_of, map_of, lengths_of, begin}

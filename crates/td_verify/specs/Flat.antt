@@ -1,4 +1,4 @@
--- Windows and loops as they may stand: none, a window, or a loop in a window.
+-- Windows and loops as they may stand (own rule): none, a window, or a loop in a window.
 use Rattle.std.specs.Prelude.{List, [], ◌∷◌, Option, Some, None}
 use Rattle.td_verify.specs.declared.bracket.Bracket.{Bracket}
 use Rattle.td_verify.specs.declared.bracket.Bracket.TheVariants.{Window, Loop}

@@ -1,4 +1,4 @@
--- The verifier's marks: places that are reached with no byte taken, and a table of the routines that may take none.
+-- The verifier's marks (own rule): places that are reached with no byte taken, and a table of the routines that may take none.
 use Rattle.std.specs.Prelude.{◌≡◌, ℕ, ◌+◌, ◌⊎◌, List, Option, Some, Bool, true, false, slice_index_or}
 
 -- by a table of the routines so far

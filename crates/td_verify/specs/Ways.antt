@@ -1,4 +1,4 @@
--- Ways through code, and those that may take no byte.
+-- Ways through code, and those that may take no byte (own rule).
 use Rattle.std.specs.Prelude.{◌≡◌, ℕ, zero, suc, ◌+◌, ◌<◌, ◌≤◌, ◌⊎◌, ◌≢◌, List, [], ◌∷◌, Option, Some, None, Bool, true, false, slice_index_or}
 use Rattle.td_ir.specs.Tables.{begin}
 use Rattle.td_verify.specs.Brackets.{shape_at, opened, window_bytes}
