@@ -35,7 +35,7 @@ use Rattle.td_flat.specs.Flat.{flat, flat_or_none, flat_at}
 use Rattle.td_grammar.specs.Laws.{EitherForm}
 use Rattle.td_linked.specs.Laws.{OfPart, OfInput, IsNumbered, NumberedAreDotted}
 use Rattle.td_linked.proofs.Words.{place_within}
-use Rattle.td_admitted.specs.Laws.{told_bytes, TypesAreAlike}
+use Rattle.td_admitted.specs.Laws.{spelled_bytes, TypesAreAlike}
 use Rattle.td_admitted.proofs.Words.{written_words}
 
 -- ---- what stands at the number of a name
@@ -158,7 +158,7 @@ module _ (parts : List PartTree) (h : Each (OfPart IsName) parts) where
   not_empty : IsOwn [] → ⊥
   not_empty (k, own, lt, word, is) = cc
 
-  -- as they are told
+  -- as they are spelled
   module _ (dotted : NumberedAreDotted) where
     dotted_at : (names : List (List ℕ)) (i : ℕ) → IsOwn (bytes_or_none (slice_get names i)) → IsDotted (bytes_or_none (slice_get (map (spelled (parts_names parts)) names) i))
     dotted_at [] i own = absurd (not_empty own)
@@ -173,7 +173,7 @@ module _ (parts : List PartTree) (h : Each (OfPart IsName) parts) where
 -- ---- the law
 
 abbrev AreAlike : InputTree → Module → Type 0
-AreAlike input m = Each (λ d. IsName (told_bytes input m d.name)) m.definitions ⊎ Each (λ d. IsDotted (told_bytes input m d.name)) m.definitions
+AreAlike input m = Each (λ d. IsName (spelled_bytes input m d.name)) m.definitions ⊎ Each (λ d. IsDotted (spelled_bytes input m d.name)) m.definitions
 
 alike : ModulesAreNamed → NumberedAreDotted → (input : InputTree) (m : Module) → OfInput IsName input → StandsFor (flat input) m → AreAlike input m
 alike named dotted (Parsed tree) m h stands = inl (of_module IsName named tree m stands (plain_heads tree.definitions h))

@@ -1,4 +1,4 @@
--- The names of a module of a text as they are told: words, or two words joined by a dot, and no two alike. Cited by other crates.
+-- The names of a module of a text as they are spelled: words, or two words joined by a dot, and no two alike. Cited by other crates.
 use Rattle.std.proofs.Common.{◌≡◌, ℕ, zero, suc, List, [], ◌∷◌, map, Some, None, inl, inr, refl, sym, subst, ◌∙◌}
 use Rattle.std.specs.Prelude.{slice_get}
 use Rattle.td_num.specs.Lists.{Each}
@@ -17,8 +17,8 @@ use Rattle.td_rules.specs.Laws.{NamesAreWritten, NamesAreApart}
 use Rattle.td_flat.specs.Names.{spelled}
 use Rattle.td_flat.specs.Order.{names_of, first_twice}
 use Rattle.td_flat.specs.Flat.{flat}
-use Rattle.td_linked.specs.Laws.{OfPart, OfInput, IsFlat, NamesStayWords, WordsAreToldSo, NumberedAreDotted, NamesStayApart}
-use Rattle.td_admitted.specs.Laws.{NamesAreWords, PlainNamesAreWords, ToldNamesAreApart}
+use Rattle.td_linked.specs.Laws.{OfPart, OfInput, IsFlat, NamesStayWords, WordsAreSpelledSo, NumberedAreDotted, NamesStayApart}
+use Rattle.td_admitted.specs.Laws.{NamesAreWords, PlainNamesAreWords, SpelledNamesAreApart}
 use Rattle.td_admitted.proofs.Tokens.{splitting_words}
 use Rattle.td_admitted.proofs.Names.{spelled_names, spelled_parts}
 
@@ -37,11 +37,11 @@ module _ {A B : Type 0} (P : A → Type 0) (Q : B → Type 0) (f : A → B) (mov
 
 -- ---- words
 
-long_told : WordsAreToldSo → NumberedAreDotted → (parts : List PartTree) → Each (OfPart IsName) parts → (x : List ℕ) → IsFlat IsName (Parts parts) x → IsLongName (spelled (names_of parts) x)
+long_told : WordsAreSpelledSo → NumberedAreDotted → (parts : List PartTree) → Each (OfPart IsName) parts → (x : List ℕ) → IsFlat IsName (Parts parts) x → IsLongName (spelled (names_of parts) x)
 long_told words dotted parts h x (inl word) = subst IsLongName (sym (words (names_of parts) x word)) (inl word)
 long_told words dotted parts h x (inr numbered) = inr (dotted parts x h numbered)
 
-pub names_are_words : NamesAreWritten → EitherForm → NamesStayWords → WordsAreToldSo → NumberedAreDotted → NamesAreWords
+pub names_are_words : NamesAreWritten → EitherForm → NamesStayWords → WordsAreSpelledSo → NumberedAreDotted → NamesAreWords
 names_are_words written form stay words dotted text tokens (Parsed t) m split spells stands =
     each_map IsName IsLongName m.names (λ x h. inl h) (names_flat written stay (Parsed t) m (written_words form text tokens (Parsed t) split spells) stands)
 names_are_words written form stay words dotted text tokens (Parts parts) m split spells stands =
@@ -75,8 +75,8 @@ names_apart stay parts names once words flat apart i j name e f =
     let same = stay parts a.from b.from once words one other (a.told ∙ sym b.told) in
     apart i j a.from a.there (subst (λ x. slice_get names j ≡ Some x) (sym same) b.there)
 
-pub told_names_are_apart : NamesAreWritten → NamesAreApart → EitherForm → NamesStayWords → NamesStayApart → ToldNamesAreApart
-told_names_are_apart written apart form stay told text tokens (Parsed t) m split spells linked stands = apart t m stands
-told_names_are_apart written apart form stay told text tokens (Parts parts) m split spells linked stands =
+pub spelled_names_are_apart : NamesAreWritten → NamesAreApart → EitherForm → NamesStayWords → NamesStayApart → SpelledNamesAreApart
+spelled_names_are_apart written apart form stay told text tokens (Parsed t) m split spells linked stands = apart t m stands
+spelled_names_are_apart written apart form stay told text tokens (Parts parts) m split spells linked stands =
     let h = written_words form text tokens (Parts parts) split spells in
     names_apart told parts m.names linked.0 h (names_flat written stay (Parts parts) m h stands) (apart (flat (Parts parts)) m stands)

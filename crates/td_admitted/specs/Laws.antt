@@ -19,7 +19,7 @@ use Rattle.td_sizes.specs.Sizes.{IsFieldStepped}
 use Rattle.td_rules.specs.Modules.{StandsFor}
 use Rattle.td_flat.specs.Flat.{flat, spelled_names, IsLinked}
 
--- each name of a module of a text, as it is told, is a word, and no keyword, or two such words joined by a dot
+-- each name of a module of a text, as it is spelled, is a word, and no keyword, or two such words joined by a dot
 abbrev pub NamesAreWords : Type 0
 NamesAreWords =
     (text : List ℕ) (tokens : List Token) (input : InputTree) (m : Module) →
@@ -31,20 +31,20 @@ PlainNamesAreWords =
     (text : List ℕ) (tokens : List Token) (t : ModuleTree) (m : Module) →
     Splits text tokens → input_text.Spells (Parsed t) tokens → StandsFor t m → Each IsName m.names
 
--- the bytes of a name of a module of a text, as it is told; none where the module has no such name
-abbrev pub told_bytes : InputTree → Module → NameId → List ℕ
-told_bytes input m name = bytes_or_none (slice_get (spelled_names input m.names) name.number)
+-- the bytes of a name of a module of a text, as it is spelled; none where the module has no such name
+abbrev pub spelled_bytes : InputTree → Module → NameId → List ℕ
+spelled_bytes input m name = bytes_or_none (slice_get (spelled_names input m.names) name.number)
 
 -- the names of a module's types are all words, as those of a text without parts, or all two words joined by a dot
 abbrev pub TypesAreAlike : Type 0
 TypesAreAlike =
     (text : List ℕ) (tokens : List Token) (input : InputTree) (m : Module) →
     Splits text tokens → input_text.Spells input tokens → StandsFor (flat input) m →
-    Each (λ d. IsName (told_bytes input m d.name)) m.definitions ⊎ Each (λ d. IsDotted (told_bytes input m d.name)) m.definitions
+    Each (λ d. IsName (spelled_bytes input m d.name)) m.definitions ⊎ Each (λ d. IsDotted (spelled_bytes input m d.name)) m.definitions
 
--- no two names of a module of a text are told with the same bytes
-abbrev pub ToldNamesAreApart : Type 0
-ToldNamesAreApart =
+-- no two names of a module of a text are spelled with the same bytes
+abbrev pub SpelledNamesAreApart : Type 0
+SpelledNamesAreApart =
     (text : List ℕ) (tokens : List Token) (input : InputTree) (m : Module) →
     Splits text tokens → input_text.Spells input tokens → IsLinked input → StandsFor (flat input) m →
     (i j : ℕ) (name : List ℕ) → slice_get (spelled_names input m.names) i ≡ Some name → slice_get (spelled_names input m.names) j ≡ Some name → i ≡ j

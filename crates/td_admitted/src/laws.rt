@@ -1,12 +1,12 @@
 //! Laws of the modules that admitted trees stand for. They do nothing when they are called.
 
-ghost use Rattle.td_admitted.specs.Laws.{NamesAreWords, PlainNamesAreWords, TypesAreAlike, ToldNamesAreApart, ModulesAreWithin, NodesAreWithin, DepthsAreWithin, WeightsAreWithin, StepsAreSizes};
+ghost use Rattle.td_admitted.specs.Laws.{NamesAreWords, PlainNamesAreWords, TypesAreAlike, SpelledNamesAreApart, ModulesAreWithin, NodesAreWithin, DepthsAreWithin, WeightsAreWithin, StepsAreSizes};
 
 use td_grammar::laws::either_form;
-use td_linked::laws::{names_are_told, names_stay_words};
+use td_linked::laws::{names_are_spelled, names_stay_words};
 use td_rules::laws::{modules_are_named, names_are_apart, names_are_written};
 
-/// In a module that the tree of a text stands for, each name as it is told is a letter or `_` and then letters, digits and
+/// In a module that the tree of a text stands for, each name as it is spelled is a letter or `_` and then letters, digits and
 /// `_`, and no keyword; of a text with parts it may be two of these, joined by a dot.
 pub fn names_are_words()
     ensures all { NamesAreWords }
@@ -15,29 +15,29 @@ pub fn names_are_words()
     names_are_written();
     either_form();
     names_stay_words();
-    names_are_told();
+    names_are_spelled();
 }
 
-/// In a module that the tree of a text stands for, the names of types as they are told are all words, or all two words
+/// In a module that the tree of a text stands for, the names of types as they are spelled are all words, or all two words
 /// joined by a dot.
 pub fn types_are_alike()
     ensures { TypesAreAlike }
 {
     modules_are_named();
     either_form();
-    names_are_told();
+    names_are_spelled();
 }
 
-/// In a module that the tree of a text stands for, no two names are told with the same bytes, where no part has the name of
+/// In a module that the tree of a text stands for, no two names are spelled with the same bytes, where no part has the name of
 /// an earlier one.
-pub fn told_names_are_apart()
-    ensures { ToldNamesAreApart }
+pub fn spelled_names_are_apart()
+    ensures { SpelledNamesAreApart }
 {
     names_are_written();
     names_are_apart();
     either_form();
     names_stay_words();
-    names_are_told();
+    names_are_spelled();
 }
 
 /// In a module that an admitted tree stands for, definitions, parameters, cells, fields and cases are no more than a text

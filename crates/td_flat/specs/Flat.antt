@@ -37,7 +37,7 @@ abbrev pub written : InputTree → ModuleTree
 written (Module tree) = tree
 written (Parts parts) = record { definitions = flat_map (λ p. p.definitions) parts }
 
--- names of the one tree, as they are told
+-- names of the one tree, as they are spelled
 abbrev pub spelled_names : InputTree → List (List ℕ) → List (List ℕ)
 spelled_names (Module tree) names = names
 spelled_names (Parts parts) names = map (spelled (names_of parts)) names

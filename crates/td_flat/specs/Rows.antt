@@ -66,7 +66,7 @@ FlatRow =
           ∷ struct_of true (codes "_T") (field_of (types.Named (of_part 1 (codes "N")) []) (at 29 32) (named (codes "n") 33 34) ∷ []) (of_part 0 (codes "T")) ∷ [];
     }
 
--- as they are told; a local's name is told as it stands
+-- as they are spelled; a local's name is spelled as it stands
 abbrev pub SpelledRow : Type 0
 SpelledRow =
     (map (spelled (codes "A" ∷ codes "B" ∷ [])) (of_part 0 (codes "T") ∷ of_part 1 (codes "N") ∷ codes "x" ∷ [])) ≡ codes "A.T" ∷ codes "B.N" ∷ codes "x" ∷ []

@@ -1,4 +1,4 @@
--- What holds of the module of a text, whose names are told: names aside, it is what its one tree stands for. Cited by other crates.
+-- What holds of the module of a text, whose names are spelled: names aside, it is what its one tree stands for. Cited by other crates.
 use Rattle.std.proofs.Common.{◌≡◌, ℕ, List, length, refl, sym, subst}
 use Rattle.std.proofs.lemmas.List.{length-map}
 use Rattle.td_num.specs.Lists.{Each}
@@ -11,7 +11,7 @@ use Rattle.td_rules.specs.Laws.{ModulesAreFormed, ModulesAreCopying, ModulesAreW
 use Rattle.td_flat.specs.Names.{spelled}
 use Rattle.td_flat.specs.Order.{names_of}
 use Rattle.td_flat.specs.Flat.{flat, spelled_names}
-use Rattle.td_admitted.specs.Laws.{HasLimits, NamesAreWords, TypesAreAlike, ToldNamesAreApart, ModulesAreWithin, NodesAreWithin, DepthsAreWithin, WeightsAreWithin, StepsAreSizes}
+use Rattle.td_admitted.specs.Laws.{HasLimits, NamesAreWords, TypesAreAlike, SpelledNamesAreApart, ModulesAreWithin, NodesAreWithin, DepthsAreWithin, WeightsAreWithin, StepsAreSizes}
 use Rattle.td_front.specs.Checked.{IsChecked}
 use Rattle.td_front.specs.Passes.{IsAdmitted}
 use Rattle.td_front.specs.Inputs.{IsAdmittedInput, with_names, input_module}
@@ -27,7 +27,7 @@ pub record Below : Type 0 where
   pub fields : FieldsAreWhole
   pub steps : StepsAreSizes
   pub named : ModulesAreNamed
-  pub apart : ToldNamesAreApart
+  pub apart : SpelledNamesAreApart
   pub words : NamesAreWords
   pub types : TypesAreAlike
   pub within : ModulesAreWithin
@@ -35,7 +35,7 @@ pub record Below : Type 0 where
   pub depth : DepthsAreWithin
   pub weight : WeightsAreWithin
 
--- as many names are told
+-- as many names are spelled
 pub as_many : (input : InputTree) (names : List (List ℕ)) → length (spelled_names input names) ≡ length names
 as_many (Parsed tree) names = refl
 as_many (Parts parts) names = length-map names (spelled (names_of parts))

@@ -24,7 +24,7 @@ pub record Parting : Type 0 where
 
 -- ---- the answer
 
--- what the one tree is answered, with names as they are told
+-- what the one tree is answered, with names as they are spelled
 abbrev told : InputTree → Judgement → Judgement
 told input (Ok m) = Ok (with_names (spelled_names input m.names) m)
 told input (Err e) = Err e

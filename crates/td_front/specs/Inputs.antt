@@ -23,7 +23,7 @@ IsAdmittedInput input = HasInputCounts input × IsLinked input × IsAdmitted (fl
 abbrev pub with_names : List (List ℕ) → Module → Module
 with_names names m = record { written = m.written; names = names; listed = m.listed; definitions = m.definitions; entries = m.entries }
 
--- the module of an input: that of its one tree, with its names as they are told
+-- the module of an input: that of its one tree, with its names as they are spelled
 abbrev pub input_module : InputTree → Module
 input_module input = with_names (spelled_names input (module_of (flat input)).names) (module_of (flat input))
 

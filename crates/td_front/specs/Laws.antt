@@ -38,7 +38,7 @@ pub record IsAnsweredAs (text : List ℕ) (tree : ModuleTree) (stood : Module) :
   pub refused : (e : FrontError) → RefusedBy text e ↔ RefusesTree tree e
 
 -- Where no count is passed and parts are linked, the text is answered as the one tree that the parts are, at the same places; its
--- module has its names as they are told.
+-- module has its names as they are spelled.
 abbrev pub PartsAreAnsweredFlat : Type 0
 PartsAreAnsweredFlat =
     (text : List ℕ) (input : InputTree) → SpellsTree text input → HasInputCounts input → IsLinked input → IsAnsweredAs text (flat input) (input_module input)

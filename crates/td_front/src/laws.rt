@@ -4,7 +4,7 @@ ghost use Rattle.td_front.specs.Laws.{OneModuleEach, OneRefusalEach, NeverBoth, 
 
 use td_admitted::laws::{
     depths_are_within, modules_are_within, names_are_words, nodes_are_within, steps_are_sizes,
-    told_names_are_apart, types_are_alike, weights_are_within,
+    spelled_names_are_apart, types_are_alike, weights_are_within,
 };
 use td_elab::laws::{breaches_are_all, one_is_first, some_is_first};
 use td_flat::laws::each_answered as each_linked;
@@ -82,7 +82,7 @@ pub fn modules_are_checked()
     modules_are_whole();
     fields_are_whole();
     modules_are_named();
-    told_names_are_apart();
+    spelled_names_are_apart();
     names_are_words();
     types_are_alike();
     modules_are_within();

@@ -1,4 +1,4 @@
-//! Names of the one tree of parts, as they are told.
+//! Names of the one tree of parts, as they are spelled.
 
 ghost use Rattle.std.specs.Prelude.{◌≡◌, ◌++◌, [], ◌∷◌, map, drop, get_or, IfOk};
 ghost use Rattle.td_num.specs.Numbers.{rising_at};
@@ -146,7 +146,7 @@ fn spelled_names(
     Ok(told)
 }
 
-/// A module of the one tree of parts, with its names as they are told; the names in one part share the part's name.
+/// A module of the one tree of parts, with its names as they are spelled; the names in one part share the part's name.
 /// `AllocError`: out of memory.
 pub(crate) fn spelled_module(
     alloc: Global,

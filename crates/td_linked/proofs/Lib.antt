@@ -1,6 +1,6 @@
 pub mod Answers
 pub mod Words
-pub mod Told
+pub mod Spellings
 pub mod Sizes
 pub mod Picked
 pub mod Counted

@@ -53,18 +53,18 @@ IsFlat P (Parts parts) x = P x ⊎ IsNumbered P (length parts) x
 abbrev pub NamesStayWords : Type 0
 NamesStayWords = (input : InputTree) → OfInput IsName input → Each (IsFlat IsName input) (names_written (flat input))
 
--- Such names as they are told, where the names of parts are words
+-- Such names as they are spelled, where the names of parts are words
 
--- a word is told as it stands
-abbrev pub WordsAreToldSo : Type 0
-WordsAreToldSo = (names : List (List ℕ)) (x : List ℕ) → IsName x → spelled names x ≡ x
+-- a word is spelled as it stands
+abbrev pub WordsAreSpelledSo : Type 0
+WordsAreSpelledSo = (names : List (List ℕ)) (x : List ℕ) → IsName x → spelled names x ≡ x
 
--- a name with a part's number is told as two words joined by a dot
+-- a name with a part's number is spelled as two words joined by a dot
 abbrev pub NumberedAreDotted : Type 0
 NumberedAreDotted =
     (parts : List PartTree) (x : List ℕ) → Each (OfPart IsName) parts → IsNumbered IsName (length parts) x → IsDotted (spelled (names_of parts) x)
 
--- where no part has the name of an earlier one, no two names are told alike
+-- where no part has the name of an earlier one, no two names are spelled alike
 abbrev pub NamesStayApart : Type 0
 NamesStayApart =
     (parts : List PartTree) (x y : List ℕ) → first_twice [] parts ≡ None → Each (OfPart IsName) parts → IsFlat IsName (Parts parts) x → IsFlat IsName (Parts parts) y →

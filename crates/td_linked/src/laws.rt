@@ -1,6 +1,6 @@
 //! Laws of flat inputs. They do nothing when they are called.
 
-ghost use Rattle.td_linked.specs.Laws.{OneAnswerEach, NoPartIsLost, CountsStay, NamesStayWords, WordsAreToldSo, NumberedAreDotted, NamesStayApart};
+ghost use Rattle.td_linked.specs.Laws.{OneAnswerEach, NoPartIsLost, CountsStay, NamesStayWords, WordsAreSpelledSo, NumberedAreDotted, NamesStayApart};
 
 /// An input is linked, or breaks N2 of parts at one place, or N5 at one place, and no two of these.
 pub fn one_answer_each()
@@ -23,10 +23,10 @@ pub fn names_stay_words()
     ensures { NamesStayWords }
 {}
 
-/// Where the names of parts are words, and no two are alike: a word is told as it stands, a name with a part's number as two
-/// words joined by a dot, and no two names are told alike.
-pub fn names_are_told()
-    ensures words { WordsAreToldSo }
+/// Where the names of parts are words, and no two are alike: a word is spelled as it stands, a name with a part's number as two
+/// words joined by a dot, and no two names are spelled alike.
+pub fn names_are_spelled()
+    ensures words { WordsAreSpelledSo }
     ensures numbered { NumberedAreDotted }
     ensures apart { NamesStayApart }
 {}

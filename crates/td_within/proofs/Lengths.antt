@@ -29,7 +29,7 @@ use Rattle.td_admitted.proofs.Names.{spelled_names}
 use Rattle.td_admitted.proofs.Words.{written_words}
 use Rattle.td_linked.specs.Laws.{OfPart}
 use Rattle.td_linked.proofs.Words.{definitions_are, parts_are, place_within}
-use Rattle.td_linked.proofs.Told.{place, place_is, numbered_told, words_are_told_so}
+use Rattle.td_linked.proofs.Spellings.{place, place_is, numbered_spelled, words_are_spelled_so}
 use Rattle.td_within.proofs.Tokens.{IsShort, token_short}
 
 -- ---- how long the names among tokens are
@@ -146,7 +146,7 @@ some_light ps tokens ((p, others), made, (front, back, is, first, rest)) =
     let few = parts_light others back rest in
     subst (λ qs. length qs ≤ weight tokens) made (omega (arith, a, b, one, few))
 
--- ---- as they are told
+-- ---- as they are spelled
 
 abbrev pub IsToldShort : ℕ → List (List ℕ) → List ℕ → Type 0
 IsToldShort most names x = length (spelled names x) ≤ most
@@ -174,13 +174,13 @@ each_fitting most (p ∷ ps) h k = ((h.0, k.0), each_fitting most ps h.1 k.1)
 
 module _ (most : ℕ) (parts : List PartTree) (few : length parts < 2 ^ 32) where
   alone : (own : ℕ) → own ≤ most → (x : List ℕ) → IsShortWord own x → IsToldShort most (names_of parts) x
-  alone own room x (word, h) = (let l = ap length (words_are_told_so (names_of parts) x word) in omega (arith, l, h, room))
+  alone own room x (word, h) = (let l = ap length (words_are_spelled_so (names_of parts) x word) in omega (arith, l, h, room))
 
   joined : (i : ℕ) (p : PartTree) → slice_get parts i ≡ Some p → (own : ℕ) → length p.name.text + 1 + own ≤ most → (x : List ℕ) → IsShortWord own x → IsToldShort most (names_of parts) (of_part i x)
   joined i p there own room x (word, h) =
       let lt : i < 4294967296 = (let below = place_within parts i p there in omega (arith, below, few)) in
       let name : get_or (names_of parts) (place i) [] ≡ p.name.text = ap (λ k. get_or (names_of parts) k []) (place_is i lt) ∙ named_there parts i p there in
-      let told : spelled (names_of parts) (of_part i x) ≡ p.name.text ++ 46 ∷ x = numbered_told (names_of parts) i x ∙ ap (λ front. front ++ 46 ∷ x) name in
+      let told : spelled (names_of parts) (of_part i x) ≡ p.name.text ++ 46 ∷ x = numbered_spelled (names_of parts) i x ∙ ap (λ front. front ++ 46 ∷ x) name in
       let a = length-append p.name.text (46 ∷ x) in
       let l = ap length told in
       omega (arith, a, l, h, room)

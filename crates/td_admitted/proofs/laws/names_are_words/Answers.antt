@@ -3,7 +3,7 @@ use Rattle.td_admitted.proofs.laws.names_are_words.Goals as goal
 
 pub returns-clause-all : goal.returns-clause-all
 returns-clause-all c =
-    names_are_words c.names_are_written.ensures c.either_form.ensures.form c.names_stay_words.ensures c.names_are_told.ensures.words c.names_are_told.ensures.numbered
+    names_are_words c.names_are_written.ensures c.either_form.ensures.form c.names_stay_words.ensures c.names_are_spelled.ensures.words c.names_are_spelled.ensures.numbered
 
 pub returns-clause-plain : goal.returns-clause-plain
 returns-clause-plain c = plain_names_are_words c.names_are_written.ensures c.either_form.ensures.form

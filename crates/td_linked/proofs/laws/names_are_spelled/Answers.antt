@@ -1,8 +1,8 @@
-use Rattle.td_linked.proofs.Told.{words_are_told_so, numbered_are_dotted, names_stay_apart}
-use Rattle.td_linked.proofs.laws.names_are_told.Goals as goal
+use Rattle.td_linked.proofs.Spellings.{words_are_spelled_so, numbered_are_dotted, names_stay_apart}
+use Rattle.td_linked.proofs.laws.names_are_spelled.Goals as goal
 
 pub returns-clause-words : goal.returns-clause-words
-returns-clause-words c = words_are_told_so
+returns-clause-words c = words_are_spelled_so
 
 pub returns-clause-numbered : goal.returns-clause-numbered
 returns-clause-numbered c = numbered_are_dotted

@@ -1,4 +1,4 @@
--- Names of the one tree as they are told. Cited by other crates.
+-- Names of the one tree as they are spelled. Cited by other crates.
 use Rattle.std.proofs.Common.{◌≡◌, ℕ, zero, suc, ◌+◌, ◌*◌, ◌/◌, ◌%◌, ◌^◌, ◌<◌, ◌≤◌, Bool, true, false, cond, ◌||◌, List, [], ◌∷◌, ◌++◌, length, get_or, drop, Some, None, refl, sym, ap, ap₂, subst, ◌∙◌, inl, inr, arith}
 use Rattle.std.specs.Prelude.{◌==◌}
 use Rattle.std.specs.Str.{bytes_eq}
@@ -14,7 +14,7 @@ use Rattle.td_lexer.specs.Splits.{IsName, IsDotted}
 use Rattle.td_names.specs.Names.{is_seen}
 use Rattle.td_flat.specs.Names.{of_part, spelled}
 use Rattle.td_flat.specs.Order.{names_of, first_twice}
-use Rattle.td_linked.specs.Laws.{OfPart, IsNumbered, WordsAreToldSo, NumberedAreDotted, NamesStayApart}
+use Rattle.td_linked.specs.Laws.{OfPart, IsNumbered, WordsAreSpelledSo, NumberedAreDotted, NamesStayApart}
 
 -- ---- the number in four bytes
 
@@ -66,18 +66,18 @@ same_part k l x s =
     ap (λ (b : ℕ). 46 ∷ b ∷ byte_of k 1 ∷ byte_of k 2 ∷ byte_of k 3 ∷ x) h.first ∙ ap (λ (b : ℕ). 46 ∷ byte_of l 0 ∷ b ∷ byte_of k 2 ∷ byte_of k 3 ∷ x) h.second
     ∙ ap (λ (b : ℕ). 46 ∷ byte_of l 0 ∷ byte_of l 1 ∷ b ∷ byte_of k 3 ∷ x) h.third ∙ ap (λ (b : ℕ). 46 ∷ byte_of l 0 ∷ byte_of l 1 ∷ byte_of l 2 ∷ b ∷ x) h.fourth
 
--- a name with a number as it is told
-pub numbered_told : (names : List (List ℕ)) (k : ℕ) (x : List ℕ) → spelled names (of_part k x) ≡ get_or names (place k) [] ++ 46 ∷ x
-numbered_told names k x = refl
+-- a name with a number as it is spelled
+pub numbered_spelled : (names : List (List ℕ)) (k : ℕ) (x : List ℕ) → spelled names (of_part k x) ≡ get_or names (place k) [] ++ 46 ∷ x
+numbered_spelled names k x = refl
 
 -- ---- words
 
 no_letter : is_letter 46 ≡ false
 no_letter = refl
 
-pub words_are_told_so : WordsAreToldSo
-words_are_told_so names [] h = refl
-words_are_told_so names (b ∷ x) h = by (b == 46) refl
+pub words_are_spelled_so : WordsAreSpelledSo
+words_are_spelled_so names [] h = refl
+words_are_spelled_so names (b ∷ x) h = by (b == 46) refl
   where
     by : (t : Bool) → (b == 46) ≡ t → cond t (get_or names (four (get_or (b ∷ x) 1 0) (get_or (b ∷ x) 2 0) (get_or (b ∷ x) 3 0) (get_or (b ∷ x) 4 0)) [] ++ 46 ∷ drop 5 (b ∷ x)) (b ∷ x) ≡ b ∷ x
     by true e = let same : b ≡ 46 = grind (arith, nat_tests) in let no : is_letter 46 ≡ true = subst (λ n. is_letter n ≡ true) same h.0 in absurd cc
@@ -178,7 +178,7 @@ numbered_are_dotted parts x words (k, own, lt, word, is) =
 -- a word and a name with a number are told apart
 not_word : (parts : List PartTree) (x y : List ℕ) → IsName x → IsNumbered IsName (length parts) y → spelled (names_of parts) x ≡ spelled (names_of parts) y → ⊥
 not_word parts x y word (k, own, lt, also, is) e =
-    let same : x ≡ get_or (names_of parts) (place k) [] ++ 46 ∷ own = sym (words_are_told_so (names_of parts) x word) ∙ e ∙ ap (spelled (names_of parts)) is in
+    let same : x ≡ get_or (names_of parts) (place k) [] ++ 46 ∷ own = sym (words_are_spelled_so (names_of parts) x word) ∙ e ∙ ap (spelled (names_of parts)) is in
     no_dot (get_or (names_of parts) (place k) []) own (subst (λ z. every is_word_byte z ≡ true) same word.1)
 
 both_numbered : (parts : List PartTree) (x y : List ℕ) → first_twice [] parts ≡ None → Each (OfPart IsName) parts → IsNumbered IsName (length parts) x → IsNumbered IsName (length parts) y
@@ -193,7 +193,7 @@ both_numbered parts x y once words (k, own, lt, word, is) (l, other, ll, also, a
     is ∙ same_part k l own part ∙ ap (of_part l) both.backs ∙ sym are
 
 pub names_stay_apart : NamesStayApart
-names_stay_apart parts x y once words (inl word) (inl also) e = sym (words_are_told_so (names_of parts) x word) ∙ e ∙ words_are_told_so (names_of parts) y also
+names_stay_apart parts x y once words (inl word) (inl also) e = sym (words_are_spelled_so (names_of parts) x word) ∙ e ∙ words_are_spelled_so (names_of parts) y also
 names_stay_apart parts x y once words (inl word) (inr numbered) e = absurd (not_word parts x y word numbered e)
 names_stay_apart parts x y once words (inr numbered) (inl word) e = absurd (not_word parts y x word numbered (sym e))
 names_stay_apart parts x y once words (inr numbered) (inr also) e = both_numbered parts x y once words numbered also e
