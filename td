@@ -1,5 +1,5 @@
 #!/usr/bin/env bash
-# Runs the proved program with these words and this input. Where it isn't built yet, or a source of any crate but td_rows is newer,
+# Runs the proved program with these words and this input. Where it isn't built yet, or a source of any crate but td_test_tool is newer,
 # it is proved and built first; that is said on standard error, and takes half an hour and more the first time. How far it is, is
 # said there, too: every ten seconds in one line on a terminal (or so many as TD_SECONDS says), else each fifth minute at most.
 set -u
@@ -10,7 +10,7 @@ quiet_seconds=$((seconds * 30))
 
 is_stale() {
     [ -x "$program" ] || return 0
-    [ -n "$(find "$top/crates" "$top/crates.txt" \( -name out -o -name td_rows \) -prune -o \
+    [ -n "$(find "$top/crates" "$top/crates.txt" \( -name out -o -name td_test_tool \) -prune -o \
         -type f \( -name '*.rt' -o -name '*.antt' -o -name crates.txt \) -newer "$program" -print -quit)" ]
 }
 

@@ -1,7 +1,7 @@
-"""Code in Python: a plain reading of docs/language/code.md, and how code and its runs are given to crates/td_code_try.
+"""Code in Python: a plain reading of docs/language/code.md, and how code and its runs are given to crates/td_try_code.
 
 An instruction is a tuple of its name and its operands, in the order of the page's table. Code is given as its image, a run in
-numbers (crates/td_code_try/src/numbers.rt).
+numbers (crates/td_try_code/src/numbers.rt).
 """
 
 from codes import NO_FIELD, Tables, image_of, turned
@@ -299,12 +299,12 @@ def code_of_image(tables):
 
 
 def run_line(image, runs):
-    """The line that gives td_code_try an image and the numbers of its runs."""
+    """The line that gives td_try_code an image and the numbers of its runs."""
     return "run %s %s" % (";".join(" ".join(map(str, run)) for run in runs), image.hex())
 
 
 def run_answers(program, cases):
-    """What td_code_try answers to cases, each an image and the numbers of its runs: an answer to each run, or one of the image."""
+    """What td_try_code answers to cases, each an image and the numbers of its runs: an answer to each run, or one of the image."""
     return [line.split("; ") for line in answers(program, [run_line(image, runs) for image, runs in cases])]
 
 

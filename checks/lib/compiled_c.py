@@ -186,7 +186,7 @@ class Ended:
         return lines + ["load %d %016x" % load for load in self.loads]
 
     def line(self, code):
-        """The line that td_code_try writes of it, in numbers."""
+        """The line that td_try_code writes of it, in numbers."""
         verdict = "accept" if self.reason == "accept" else "reject %d" % (REASONS.index(self.reason) - 1)
         words = ["%s %d" % (verdict, self.position)]
         for ty, field, start in self.frames:

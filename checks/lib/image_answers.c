@@ -1,4 +1,4 @@
-/* Answers each line of its input, the digits of an image, as td_code_try does, by the library for C: `ok`, or why it isn't read. */
+/* Answers each line of its input, the digits of an image, as td_try_code does, by the library for C: `ok`, or why it isn't read. */
 #include "td.h"
 #include <stdio.h>
 #include <stdlib.h>

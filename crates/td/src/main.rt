@@ -14,9 +14,9 @@ use std::sync::Wait;
 use std::thread::Threads;
 use std::{env, io};
 use td_cli::{Status, finish_out_of_memory, run_alone, run_hosted};
+use td_cli_host::gates::GATES_OF_EACH;
 use td_io::{ReaderSource, Sink, Source, WriterSink};
 use td_live::gate::OpenGate;
-use td_serving::gates::GATES_OF_EACH;
 
 fn main(rt: HostRuntime) -> ExitCode {
     let mut src = ReaderSource::over(rt.stdin());

@@ -4,9 +4,9 @@ ghost use Rattle.std.specs.Prelude.{◌≡◌};
 ghost use Rattle.td_expr.specs.Same.{constant_of};
 ghost use Rattle.td_arith.specs.Sides.{side_of};
 
+use td_arith_ranges::same::constant_difference;
 use td_core::expressions::{CoreExpr, Relation};
 use td_expr::constant::constant_of;
-use td_ranges::same::constant_difference;
 
 /// One side of a comparison: an expression, or the difference of two, which `is_range_okay` compares and nobody wrote.
 #[derive(Clone, Copy)]

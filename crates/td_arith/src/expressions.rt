@@ -7,18 +7,18 @@ ghost use Rattle.td_expr.specs.Value.{flip};
 ghost use Rattle.td_expr.specs.declared.safety.Unsafe.TheVariants.{Operator};
 ghost use Rattle.td_expr.specs.Range.{narrowed, whole, computed_range, range_of};
 ghost use Rattle.td_expr.specs.Safe.{is_safe, is_below, first, unless_safe, says_sum, says_up_to, says_not_zero};
-ghost use Rattle.td_ranges.specs.Ends.{range_in, spanned};
+ghost use Rattle.td_arith_ranges.specs.Ends.{range_in, spanned};
 ghost use Rattle.td_arith.specs.Known.{facts_in};
 
 use crate::comparisons::Known;
 use crate::facts::{Question, narrowed, some_known};
 use std::alloc::{AllocError, Global};
+use td_arith_ranges::ends::{Ends, computed, span, whole};
 use td_ast::token::Span;
+use td_bigint::whole::Whole;
 use td_core::expressions::{Binary, CoreExpr, Scalar};
 use td_expr::safety::Unsafe;
 use td_expr::types::{bits_of, greatest_of, type_of, wider_of};
-use td_ranges::ends::{Ends, computed, span, whole};
-use td_whole::whole::Whole;
 
 /// The first of two findings.
 pub fn first_of(one: Option<Unsafe>, other: Option<Unsafe>) -> Option<Unsafe>

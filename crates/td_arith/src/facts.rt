@@ -7,18 +7,18 @@ ghost use Rattle.td_expr.specs.Same.{same};
 ghost use Rattle.td_expr.specs.Facts.{no_span, some_fact};
 ghost use Rattle.td_expr.specs.Range.{cut_where, cut_by, cut_by_all, narrowed};
 ghost use Rattle.td_expr.specs.Safe.{up_to, is_zero, bounds_sum};
-ghost use Rattle.td_ranges.specs.Ends.{range_in};
+ghost use Rattle.td_arith_ranges.specs.Ends.{range_in};
 ghost use Rattle.td_arith.specs.Sides.{side_of};
 ghost use Rattle.td_arith.specs.Known.{fact_in, facts_in, asks};
 
 use crate::comparisons::{Known, Side};
 use std::alloc::{AllocError, Global};
+use td_arith_ranges::ends::{Ends, constant_or, cut};
+use td_arith_ranges::relations::mirrored;
+use td_arith_ranges::same::{is_same, is_same_difference};
 use td_core::expressions::{Binary, CoreExpr, Node, Relation, Scalar};
 use td_expr::constant::constant_of;
 use td_expr::types::{bits_of, type_of};
-use td_ranges::ends::{Ends, constant_or, cut};
-use td_ranges::relations::mirrored;
-use td_ranges::same::{is_same, is_same_difference};
 
 /// What is asked of a fact: whether one expression is at most another, isn't 0, or whether the sum of two is bounded by a
 /// number no wider than a type.

@@ -9,8 +9,8 @@ ghost use Rattle.td_arith.specs.Known.{comparison, IsLearned};
 
 use crate::comparisons::{Known, Side, compared};
 use std::alloc::AllocError;
+use td_arith_ranges::relations::turned;
 use td_core::expressions::{CoreExpr, Node, Relation};
-use td_ranges::relations::turned;
 
 /// Adds the comparisons that are conjuncts of a condition, which is true, or is false, behind what is known. `AllocError`: there
 /// was no memory for one of them.

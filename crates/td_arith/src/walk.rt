@@ -8,7 +8,7 @@ ghost use Rattle.td_expr.specs.Facts.{facts_of};
 ghost use Rattle.td_expr.specs.declared.safety.Unsafe.TheVariants.{Operator};
 ghost use Rattle.td_expr.specs.Range.{narrowed, computed_range, range_of};
 ghost use Rattle.td_expr.specs.Safe.{is_safe, first, first_unsafe, unless_safe};
-ghost use Rattle.td_ranges.specs.Ends.{range_in, spanned};
+ghost use Rattle.td_arith_ranges.specs.Ends.{range_in, spanned};
 ghost use Rattle.td_arith.specs.Known.{facts_in};
 
 use crate::comparisons::Known;
@@ -16,11 +16,11 @@ use crate::expressions::{computed_range, first_of, is_safe, spanned_range, unles
 use crate::facts::narrowed;
 use crate::learning::learn_condition;
 use std::alloc::{AllocError, Global};
+use td_arith_ranges::ends::{Ends, up_to};
 use td_ast::token::Span;
+use td_bigint::whole::Whole;
 use td_core::expressions::{Binary, CoreExpr, Node};
 use td_expr::safety::Unsafe;
-use td_ranges::ends::{Ends, up_to};
-use td_whole::whole::Whole;
 
 /// What a look at an expression tells: its range, and its first operator that isn't safe.
 #[derive(Drop)]

@@ -1,7 +1,7 @@
 -- What C is answered of a module text.
 use Rattle.std.specs.Prelude.{◌≡◌, ◌⊎◌, ℕ, ℤ, pos, ◌<◌, ◌≤◌, ◌↔◌, List, length, take}
 use Rattle.td_core.specs.declared.module.Module.{Module}
-use Rattle.td_coding.specs.Coding.{IsPacked}
+use Rattle.td_code.specs.Coding.{IsPacked}
 use Rattle.td_front.specs.declared.error.FrontError.{FrontError}
 use Rattle.td_front.specs.ModuleText.{IsModuleText, RefusedBy}
 use Rattle.td_c_pack.specs.declared.refusal.TdPacked.{TdPacked}

@@ -7,7 +7,7 @@ ghost use Rattle.td_c_pack.specs.Packed.{IsImageOf, IsPacking};
 
 use crate::refusal::{TdPacked, tell_refusal};
 use std::alloc::Global;
-use td_coding::packed_image;
+use td_code::packed_image;
 use td_front::{FrontError, check_module};
 use td_num::items::Items;
 

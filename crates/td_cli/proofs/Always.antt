@@ -12,21 +12,21 @@ use Rattle.td_formats.specs.declared.format.Format.TheVariants.{Ethernet, Ipv4, 
 use Rattle.td_formats.specs.Format.{text_of}
 use Rattle.td_gen.specs.Message.{format_of}
 use Rattle.td_gen.specs.Laws.{SomeMessageEach}
-use Rattle.td_host_job.specs.HostJobs.{IsHostJob, RefusedHostJob}
-use Rattle.td_host_job.specs.Laws.{AlwaysOneHost}
-use Rattle.td_input.specs.Inputs.{IsInputOf, RefusesInput}
-use Rattle.td_input.proofs.Inputs.{Kind, Faults}
-use Rattle.td_serving.specs.Laws.{RingsReadOrNot}
-use Rattle.td_command.specs.declared.command.Command.TheVariants.{Check, Tidy, Run, Host, Code, Pack, Bench}
-use Rattle.td_input.specs.declared.refusal.Refusal.{Refusal}
-use Rattle.td_input.specs.declared.refusal.Refusal.TheVariants.{TooLong, NoJob, BadModule, BadJob, NoRing}
+use Rattle.td_job_host.specs.HostJobs.{IsHostJob, RefusedHostJob}
+use Rattle.td_job_host.specs.Laws.{AlwaysOneHost}
+use Rattle.td_cli_input.specs.Inputs.{IsInputOf, RefusesInput}
+use Rattle.td_cli_input.proofs.Inputs.{Kind, Faults}
+use Rattle.td_cli_host.specs.Laws.{RingsReadOrNot}
+use Rattle.td_cli_command.specs.declared.command.Command.TheVariants.{Check, Tidy, Run, Host, Code, Pack, Bench}
+use Rattle.td_cli_input.specs.declared.refusal.Refusal.{Refusal}
+use Rattle.td_cli_input.specs.declared.refusal.Refusal.TheVariants.{TooLong, NoJob, BadModule, BadJob, NoRing}
 use Rattle.td_cli.specs.declared.tool.TheConstants.{INPUT_LIMIT}
 use Rattle.td_cli.specs.Answers.{Admits, Refuses}
 use Rattle.td_cli.specs.Bench.{HaveModules, HasJob, IsMessageOf, AdmitsBench, RefusesBench}
 use Rattle.td_cli.proofs.Benches.{text_module}
-use Rattle.td_input.specs.Marker.{text_part, job_part}
+use Rattle.td_cli_input.specs.Marker.{text_part, job_part}
 use Rattle.td_cli.specs.Laws.{AlwaysOne}
-use Rattle.td_input.proofs.Markers.{marker_below}
+use Rattle.td_cli_input.proofs.Markers.{marker_below}
 
 -- ---- inputs
 

@@ -1,8 +1,8 @@
 -- How a command answers an input that was read, from what was made of it.
 use Rattle.std.proofs.Common.{inl, inr, ℕ, List}
 use Rattle.td_io.specs.States.{SinkState}
-use Rattle.td_command.specs.declared.command.Command.{Command}
-use Rattle.td_input.specs.declared.refusal.Refusal.{Refusal}
+use Rattle.td_cli_command.specs.declared.command.Command.{Command}
+use Rattle.td_cli_input.specs.declared.refusal.Refusal.{Refusal}
 use Rattle.td_cli.specs.declared.status.Status.{Status}
 use Rattle.td_cli.specs.declared.status.Status.TheVariants as at
 use Rattle.td_cli.specs.Answers.{Answers, Admits, Refuses}

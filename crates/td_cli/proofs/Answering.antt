@@ -4,7 +4,7 @@ use Rattle.std.specs.Prelude.{◌↔◌}
 use Rattle.td_core.specs.declared.module.Module.{Module}
 use Rattle.td_core.specs.declared.outcome.Outcome.{Outcome}
 use Rattle.td_stream.specs.declared.load.Load.{Load}
-use Rattle.td_runs.specs.Runs.{RunsAreOne}
+use Rattle.td_fetch.specs.Runs.{RunsAreOne}
 use Rattle.td_ast.specs.declared.token.Token.{Token}
 use Rattle.td_ast.specs.declared.parts.InputTree.{InputTree}
 use Rattle.td_lexer.specs.declared.error.LexError.{LexError}
@@ -12,35 +12,35 @@ use Rattle.td_lexer.specs.Scanner.{tokens_of}
 use Rattle.td_lexer.specs.Splits.{Splits}
 use Rattle.td_grammar.specs.Parts.{input_text}
 use Rattle.td_grammar.specs.Laws.{OneTree}
-use Rattle.td_layout.specs.Definitions.{canonical_text}
+use Rattle.td_print_layout.specs.Definitions.{canonical_text}
 use Rattle.td_front.specs.ModuleText.{SpellsTree, IsModuleText}
 use Rattle.td_front.specs.Laws.{OneModuleEach, NeverBoth as NeverBothTexts}
 use Rattle.td_job.specs.declared.run_job.RunJob.{RunJob}
 use Rattle.td_job.specs.declared.error.JobError.{JobError}
 use Rattle.td_job.specs.Jobs.{IsRunJob, RefusedJob}
-use Rattle.td_host_job.specs.HostJobs.{IsHostJob, RefusedHostJob}
-use Rattle.td_host_job.specs.Laws.{OneHostJobEach, NeverBothHost}
+use Rattle.td_job_host.specs.HostJobs.{IsHostJob, RefusedHostJob}
+use Rattle.td_job_host.specs.Laws.{OneHostJobEach, NeverBothHost}
 use Rattle.td_posts.specs.declared.ring.RingJob.{RingJob}
-use Rattle.td_input.specs.Inputs.{IsInputOf, RefusesInput}
-use Rattle.td_serving.specs.Rings.{RingsAreRead}
-use Rattle.td_serving.proofs.Refusals.{same_rings, read_by, never_both as both_rings}
+use Rattle.td_cli_input.specs.Inputs.{IsInputOf, RefusesInput}
+use Rattle.td_cli_host.specs.Rings.{RingsAreRead}
+use Rattle.td_cli_host.proofs.Refusals.{same_rings, read_by, never_both as both_rings}
 use Rattle.td_job.specs.Laws.{OneJobEach, NeverBoth as NeverBothJobs, OneNamedJobEach, NeverBothNamed}
 use Rattle.td_gen.specs.Laws.{OneMessageEach}
-use Rattle.td_coding.specs.Coding.{IsListing, IsPacked}
-use Rattle.td_coding.specs.Laws.{OneListing, OnePacked}
+use Rattle.td_code.specs.Coding.{IsListing, IsPacked}
+use Rattle.td_code.specs.Laws.{OneListing, OnePacked}
 use Rattle.td_report.specs.Report.{report}
 use Rattle.td_report.specs.Summary.{summary}
-use Rattle.td_command.specs.declared.command.Command.TheVariants.{Check, Tidy, Run, Host, Code, Pack, Bench}
-use Rattle.td_input.specs.declared.refusal.Refusal.{Refusal}
-use Rattle.td_input.specs.declared.refusal.Refusal.TheVariants.{TooLong, NoJob, BadModule, BadJob, NoRing}
+use Rattle.td_cli_command.specs.declared.command.Command.TheVariants.{Check, Tidy, Run, Host, Code, Pack, Bench}
+use Rattle.td_cli_input.specs.declared.refusal.Refusal.{Refusal}
+use Rattle.td_cli_input.specs.declared.refusal.Refusal.TheVariants.{TooLong, NoJob, BadModule, BadJob, NoRing}
 use Rattle.td_cli.specs.declared.tool.TheConstants.{INPUT_LIMIT}
 use Rattle.td_cli.specs.Run.{IsRunOf}
 use Rattle.td_cli.specs.Answers.{IsReport, IsSummary, IsTidy}
-use Rattle.td_input.specs.Marker.{text_part, job_part}
+use Rattle.td_cli_input.specs.Marker.{text_part, job_part}
 use Rattle.td_cli.specs.Laws.{OneAnswer, AnsweredIsAdmitted, NeverBoth}
 use Rattle.td_cli.proofs.OneRun.{SomeCarry, same_run}
 use Rattle.td_cli.proofs.Benches.{one_bench, totals_admitted, never_refused}
-use Rattle.td_input.proofs.Inputs.{Kind, Faults, text_there, job_there, nothing_refuses}
+use Rattle.td_cli_input.proofs.Inputs.{Kind, Faults, text_there, job_there, nothing_refuses}
 
 -- ---- reports
 

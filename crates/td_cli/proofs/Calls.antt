@@ -5,15 +5,15 @@ use Rattle.td_io.specs.declared.reading.ReadError.{ReadError}
 use Rattle.td_io.specs.declared.reading.ReadError.TheVariants as reading
 use Rattle.td_io.specs.Causes.{ReadWhole, HasMore, TookAtMost}
 use Rattle.td_io.specs.States.{SourceState, SinkState}
-use Rattle.td_command.specs.declared.command.Command.{Command}
-use Rattle.td_command.specs.declared.command.Command.TheVariants.{Check, Tidy, Run, Host, Code, Pack, Bench}
-use Rattle.td_input.specs.declared.refusal.Refusal.{Refusal}
-use Rattle.td_input.specs.declared.refusal.Refusal.TheVariants.{TooLong}
+use Rattle.td_cli_command.specs.declared.command.Command.{Command}
+use Rattle.td_cli_command.specs.declared.command.Command.TheVariants.{Check, Tidy, Run, Host, Code, Pack, Bench}
+use Rattle.td_cli_input.specs.declared.refusal.Refusal.{Refusal}
+use Rattle.td_cli_input.specs.declared.refusal.Refusal.TheVariants.{TooLong}
 use Rattle.td_cli.specs.declared.status.Status.{Status}
 use Rattle.td_cli.specs.declared.status.Status.TheVariants as at
 use Rattle.td_cli.specs.declared.tool.TheConstants.{INPUT_LIMIT}
-use Rattle.td_command.specs.Command.{Means, MeansNone}
-use Rattle.td_command.proofs.OneCommand.{one_command}
+use Rattle.td_cli_command.specs.Command.{Means, MeansNone}
+use Rattle.td_cli_command.proofs.OneCommand.{one_command}
 use Rattle.td_cli.specs.Answers.{Admits, Refuses}
 use Rattle.td_cli.specs.Errors.{unread_status, unread_line}
 use Rattle.td_cli.specs.Lines.{usage_line, read_line, memory_line, refusal_line}

@@ -9,11 +9,11 @@ use Rattle.td_sched.specs.declared.store.PlannedStore.{PlannedStore}
 use Rattle.td_job.specs.declared.run_job.RunJob.{RunJob}
 use Rattle.td_stream.specs.declared.stretch.Stretch.{Stretch}
 use Rattle.td_job.specs.Jobs.{HasRoom, HasValues}
-use Rattle.td_input.specs.Inputs.{IsSoundJob}
+use Rattle.td_cli_input.specs.Inputs.{IsSoundJob}
 use Rattle.td_ir.specs.declared.tables.Parts.{Parts}
 use Rattle.td_ir.specs.Entries.{Fits}
-use Rattle.td_lowered.specs.CodeRun.{IsCodeOf, ArgumentsFit}
-use Rattle.td_job_run.specs.Runs.{Input, IsRunBy}
+use Rattle.td_lower_means.specs.CodeRun.{IsCodeOf, ArgumentsFit}
+use Rattle.td_run.specs.Runs.{Input, IsRunBy}
 use Rattle.td_core.specs.declared.outcome.Verdict.{Verdict}
 use Rattle.td_core.specs.declared.outcome.TraceFrame.{TraceFrame}
 use Rattle.td_front.specs.ModuleText.{IsModuleText}

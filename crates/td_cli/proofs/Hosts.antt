@@ -3,18 +3,18 @@ use Rattle.std.proofs.Common.{◌≡◌, ℕ, ◌≤◌, List, length, Result, E
 use Rattle.td_io.specs.States.{SinkState}
 use Rattle.td_core.specs.declared.module.Module.{Module}
 use Rattle.td_posts.specs.declared.job.HostJob.{HostJob}
-use Rattle.td_host_report.specs.Report.{host_report}
-use Rattle.td_input.specs.declared.refusal.Refusal.{Refusal}
-use Rattle.td_input.specs.declared.refusal.Refusal.TheVariants.{TooLong, NoJob, BadModule, BadJob, NoRing}
-use Rattle.td_input.specs.declared.refusal.InputError.{InputError}
-use Rattle.td_input.specs.declared.refusal.InputError.TheVariants.{Refused, NoMemory}
-use Rattle.td_input.specs.Causes.{HasCause}
-use Rattle.td_input.specs.Marker.{IsMarker}
-use Rattle.td_input.specs.Inputs.{IsHostInput}
-use Rattle.td_serving.specs.declared.serving.ServedInput.{ServedInput}
-use Rattle.td_serving.specs.Rings.{RingsAreRead, at_desc}
-use Rattle.td_serving.specs.Serving.{IsServedInput, RefusesServing}
-use Rattle.td_command.specs.declared.command.Command.TheVariants.{Host}
+use Rattle.td_report_host.specs.Report.{host_report}
+use Rattle.td_cli_input.specs.declared.refusal.Refusal.{Refusal}
+use Rattle.td_cli_input.specs.declared.refusal.Refusal.TheVariants.{TooLong, NoJob, BadModule, BadJob, NoRing}
+use Rattle.td_cli_input.specs.declared.refusal.InputError.{InputError}
+use Rattle.td_cli_input.specs.declared.refusal.InputError.TheVariants.{Refused, NoMemory}
+use Rattle.td_cli_input.specs.Causes.{HasCause}
+use Rattle.td_cli_input.specs.Marker.{IsMarker}
+use Rattle.td_cli_input.specs.Inputs.{IsHostInput}
+use Rattle.td_cli_host.specs.declared.serving.ServedInput.{ServedInput}
+use Rattle.td_cli_host.specs.Rings.{RingsAreRead, at_desc}
+use Rattle.td_cli_host.specs.Serving.{IsServedInput, RefusesServing}
+use Rattle.td_cli_command.specs.declared.command.Command.TheVariants.{Host}
 use Rattle.td_cli.specs.declared.status.Status.{Status}
 use Rattle.td_cli.specs.declared.status.Status.TheVariants as at
 use Rattle.td_cli.specs.declared.tool.TheConstants.{INPUT_LIMIT}
@@ -22,7 +22,7 @@ use Rattle.td_cli.specs.Answers.{Refuses}
 use Rattle.td_cli.specs.Errors.{unanswered_status, unanswered_line}
 use Rattle.td_cli.specs.Ends.{Passage}
 use Rattle.td_cli.specs.Endings.{EndsWith, AnswersInput}
-use Rattle.td_input.proofs.Markers.{marker_there}
+use Rattle.td_cli_input.proofs.Markers.{marker_there}
 use Rattle.td_cli.proofs.Answered.{output_answers, refusal_answers, memory_answers}
 
 refuses_short : (input : List ℕ) (refusal : Refusal) → length input ≤ INPUT_LIMIT → RefusesServing input refusal → Refuses Host input refusal

@@ -4,12 +4,12 @@ use Rattle.td_core.specs.declared.module.Module.{Module}
 use Rattle.td_front.specs.declared.error.FrontError.{FrontError}
 use Rattle.td_front.specs.declared.error.FrontError.TheVariants as front
 use Rattle.td_front.specs.ModuleText.{IsModuleText, RefusedBy}
-use Rattle.td_input.specs.declared.refusal.Refusal.{Refusal}
-use Rattle.td_input.specs.declared.refusal.Refusal.TheVariants.{TooLong, NoJob, BadModule, BadJob, NoRing}
-use Rattle.td_input.specs.declared.refusal.InputError.{InputError}
-use Rattle.td_input.specs.declared.refusal.InputError.TheVariants.{NoMemory}
-use Rattle.td_input.specs.Causes.{HasCause, of_module}
-use Rattle.td_input.proofs.Inputs.{module_cause}
+use Rattle.td_cli_input.specs.declared.refusal.Refusal.{Refusal}
+use Rattle.td_cli_input.specs.declared.refusal.Refusal.TheVariants.{TooLong, NoJob, BadModule, BadJob, NoRing}
+use Rattle.td_cli_input.specs.declared.refusal.InputError.{InputError}
+use Rattle.td_cli_input.specs.declared.refusal.InputError.TheVariants.{NoMemory}
+use Rattle.td_cli_input.specs.Causes.{HasCause, of_module}
+use Rattle.td_cli_input.proofs.Inputs.{module_cause}
 use Rattle.td_cli.specs.Answers.{RefusesCheck}
 use Rattle.td_cli.specs.Texts.{AnswersText}
 

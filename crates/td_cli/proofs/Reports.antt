@@ -10,10 +10,10 @@ use Rattle.td_front.specs.Laws.{ModulesAreChecked}
 use Rattle.td_job.specs.declared.run_job.RunJob.{RunJob}
 use Rattle.td_report.specs.Laws.{IsShownLoad, shown_loads, ReportsDetermineOutcomes, ShownLoadsAreOne}
 use Rattle.td_report.specs.Report.{report}
-use Rattle.td_told.specs.Laws.{IsSized, JobsAreSized, ModulesHaveWords, IsTold, RunsAreTold, LoadsAreTold}
+use Rattle.td_report_facts.specs.Laws.{IsSized, JobsAreSized, ModulesHaveWords, IsTold, RunsAreTold, LoadsAreTold}
 use Rattle.td_cli.specs.Run.{message_of, IsRunOf}
 use Rattle.td_cli.specs.Answers.{IsReport}
-use Rattle.td_input.specs.Marker.{text_part, job_part}
+use Rattle.td_cli_input.specs.Marker.{text_part, job_part}
 use Rattle.td_cli.specs.Laws.{ReportsDetermineRuns}
 use Rattle.td_cli.proofs.OneRun.{SomeCarry}
 use Rattle.td_num.proofs.Digits.{are_bytes as bytes_of}

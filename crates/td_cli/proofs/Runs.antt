@@ -4,24 +4,24 @@ use Rattle.td_io.specs.States.{SinkState}
 use Rattle.td_core.specs.declared.module.Module.{Module}
 use Rattle.td_job.specs.declared.run_job.RunJob.{RunJob}
 use Rattle.td_report.specs.Report.{report}
-use Rattle.td_command.specs.declared.command.Command.TheVariants.{Run}
-use Rattle.td_input.specs.declared.refusal.Refusal.{Refusal}
-use Rattle.td_input.specs.declared.refusal.Refusal.TheVariants.{TooLong, NoJob, BadModule, BadJob, NoRing}
-use Rattle.td_input.specs.declared.refusal.InputError.{InputError}
-use Rattle.td_input.specs.declared.refusal.InputError.TheVariants.{Refused, NoMemory}
+use Rattle.td_cli_command.specs.declared.command.Command.TheVariants.{Run}
+use Rattle.td_cli_input.specs.declared.refusal.Refusal.{Refusal}
+use Rattle.td_cli_input.specs.declared.refusal.Refusal.TheVariants.{TooLong, NoJob, BadModule, BadJob, NoRing}
+use Rattle.td_cli_input.specs.declared.refusal.InputError.{InputError}
+use Rattle.td_cli_input.specs.declared.refusal.InputError.TheVariants.{Refused, NoMemory}
 use Rattle.td_cli.specs.declared.run.FinishedRun.{FinishedRun}
 use Rattle.td_cli.specs.declared.status.Status.{Status}
 use Rattle.td_cli.specs.declared.status.Status.TheVariants as at
 use Rattle.td_cli.specs.declared.tool.TheConstants.{INPUT_LIMIT}
 use Rattle.td_cli.specs.Answers.{Refuses}
-use Rattle.td_input.specs.Inputs.{IsRunInput, RefusesRun}
+use Rattle.td_cli_input.specs.Inputs.{IsRunInput, RefusesRun}
 use Rattle.td_cli.specs.Errors.{unanswered_status, unanswered_line}
-use Rattle.td_input.specs.Causes.{HasCause}
-use Rattle.td_input.specs.Marker.{IsMarker}
+use Rattle.td_cli_input.specs.Causes.{HasCause}
+use Rattle.td_cli_input.specs.Marker.{IsMarker}
 use Rattle.td_cli.specs.Run.{IsRunOf}
 use Rattle.td_cli.specs.Ends.{Passage}
 use Rattle.td_cli.specs.Endings.{EndsWith, AnswersInput}
-use Rattle.td_input.proofs.Markers.{marker_there}
+use Rattle.td_cli_input.proofs.Markers.{marker_there}
 use Rattle.td_cli.proofs.Answered.{output_answers, refusal_answers, memory_answers}
 
 refuses_short : (input : List ℕ) (refusal : Refusal) → length input ≤ INPUT_LIMIT → RefusesRun input refusal → Refuses Run input refusal

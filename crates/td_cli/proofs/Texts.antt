@@ -6,12 +6,12 @@ use Rattle.td_core.specs.declared.module.Module.{Module}
 use Rattle.td_front.specs.declared.error.FrontError.{FrontError}
 use Rattle.td_front.specs.ModuleText.{IsModuleText, RefusedBy}
 use Rattle.td_job.specs.declared.error.JobError.{JobError}
-use Rattle.td_command.specs.declared.command.Command.{Command}
-use Rattle.td_command.specs.declared.command.Command.TheVariants.{Check, Tidy, Code, Pack}
-use Rattle.td_input.specs.declared.refusal.Refusal.{Refusal}
-use Rattle.td_input.specs.declared.refusal.Refusal.TheVariants.{TooLong, NoJob, BadModule, BadJob, NoRing}
-use Rattle.td_input.specs.declared.refusal.InputError.{InputError}
-use Rattle.td_input.specs.declared.refusal.InputError.TheVariants.{Refused, NoMemory}
+use Rattle.td_cli_command.specs.declared.command.Command.{Command}
+use Rattle.td_cli_command.specs.declared.command.Command.TheVariants.{Check, Tidy, Code, Pack}
+use Rattle.td_cli_input.specs.declared.refusal.Refusal.{Refusal}
+use Rattle.td_cli_input.specs.declared.refusal.Refusal.TheVariants.{TooLong, NoJob, BadModule, BadJob, NoRing}
+use Rattle.td_cli_input.specs.declared.refusal.InputError.{InputError}
+use Rattle.td_cli_input.specs.declared.refusal.InputError.TheVariants.{Refused, NoMemory}
 use Rattle.td_cli.specs.declared.status.Status.{Status}
 use Rattle.td_cli.specs.declared.status.Status.TheVariants as at
 use Rattle.td_cli.specs.declared.tool.TheConstants.{INPUT_LIMIT}

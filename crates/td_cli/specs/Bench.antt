@@ -20,8 +20,8 @@ use Rattle.td_formats.specs.Format.{text_of}
 use Rattle.td_gen.specs.Message.{format_of, IsMessage}
 use Rattle.td_cli.specs.declared.totals.Totals.{Totals}
 use Rattle.td_cli.specs.Totals.{totals_text}
-use Rattle.td_input.specs.declared.refusal.Refusal.{Refusal}
-use Rattle.td_input.specs.declared.refusal.Refusal.TheVariants.{TooLong, NoJob, BadModule, BadJob, NoRing}
+use Rattle.td_cli_input.specs.declared.refusal.Refusal.{Refusal}
+use Rattle.td_cli_input.specs.declared.refusal.Refusal.TheVariants.{TooLong, NoJob, BadModule, BadJob, NoRing}
 use Rattle.td_cli.specs.Run.{IsRunOf}
 
 -- ---- texts and messages

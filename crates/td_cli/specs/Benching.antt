@@ -4,7 +4,7 @@ use Rattle.td_core.specs.declared.module.Module.{Module}
 use Rattle.td_core.specs.declared.outcome.Verdict.{Verdict}
 use Rattle.td_core.specs.declared.outcome.TraceFrame.{TraceFrame}
 use Rattle.td_stream.specs.declared.load.Load.{Load}
-use Rattle.td_lowered.specs.CodeRun.{IsCodeOf}
+use Rattle.td_lower_means.specs.CodeRun.{IsCodeOf}
 use Rattle.td_vm.specs.Frames.{IsArmed}
 use Rattle.td_front.specs.Checked.{IsChecked}
 use Rattle.td_front.specs.ModuleText.{IsModuleText}
@@ -16,8 +16,8 @@ use Rattle.td_formats.specs.Format.{text_of}
 use Rattle.td_cli.specs.declared.totals.Totals.{Totals}
 use Rattle.td_cli.specs.declared.bench.Modules.{Modules}
 use Rattle.td_cli.specs.declared.bench.Prepared.{Prepared}
-use Rattle.td_input.specs.declared.refusal.Refusal.{Refusal}
-use Rattle.td_input.specs.declared.refusal.Refusal.TheVariants.{TooLong, NoJob, BadModule, BadJob, NoRing}
+use Rattle.td_cli_input.specs.declared.refusal.Refusal.{Refusal}
+use Rattle.td_cli_input.specs.declared.refusal.Refusal.TheVariants.{TooLong, NoJob, BadModule, BadJob, NoRing}
 use Rattle.td_cli.specs.Bench.{IsTextRefused, IsMessageOf, MessageRun, IsMessageRun, accepted_one, rejected_one, accepted_bytes}
 
 -- what is prepared for a format

@@ -3,10 +3,10 @@ use Rattle.std.specs.Prelude.{◌≡◌, ◌≢◌, ◌⊎◌, ℕ, List}
 use Rattle.td_io.specs.States.{SinkState}
 use Rattle.td_cli.specs.declared.status.Status.{Status}
 use Rattle.td_cli.specs.declared.status.Status.TheVariants as at
-use Rattle.td_command.specs.declared.command.Command.{Command}
-use Rattle.td_command.specs.declared.command.Command.TheVariants.{Run, Host}
-use Rattle.td_input.specs.declared.refusal.Refusal.{Refusal}
-use Rattle.td_input.specs.Marker.{IsFirstMarker}
+use Rattle.td_cli_command.specs.declared.command.Command.{Command}
+use Rattle.td_cli_command.specs.declared.command.Command.TheVariants.{Run, Host}
+use Rattle.td_cli_input.specs.declared.refusal.Refusal.{Refusal}
+use Rattle.td_cli_input.specs.Marker.{IsFirstMarker}
 use Rattle.td_cli.specs.Answers.{Answers, Admits, Refuses}
 use Rattle.td_cli.specs.Lines.{memory_line, refusal_line}
 use Rattle.td_cli.specs.Ends.{Passage, Takes, WriteFails}

@@ -5,13 +5,13 @@ use Rattle.std.specs.Io.KnownBytes.{IsAtEnd}
 use Rattle.td_io.specs.Causes.{ReadWhole, TookAtMost}
 use Rattle.td_io.specs.States as io
 use Rattle.td_io.specs.declared.reading.TheConstants.{PIECE}
-use Rattle.td_command.specs.declared.command.Command.{Command}
-use Rattle.td_command.specs.declared.command.Command.TheVariants.{Host, Bench}
-use Rattle.td_input.specs.declared.refusal.Refusal.{Refusal}
+use Rattle.td_cli_command.specs.declared.command.Command.{Command}
+use Rattle.td_cli_command.specs.declared.command.Command.TheVariants.{Host, Bench}
+use Rattle.td_cli_input.specs.declared.refusal.Refusal.{Refusal}
 use Rattle.td_cli.specs.declared.status.Status.{Status}
 use Rattle.td_cli.specs.declared.status.Status.TheVariants.{Done, Refused, Usage, ReadFault, WriteFault, NoMemory}
 use Rattle.td_cli.specs.declared.tool.TheConstants.{INPUT_LIMIT}
-use Rattle.td_command.specs.Command.{Means, MeansNone}
+use Rattle.td_cli_command.specs.Command.{Means, MeansNone}
 use Rattle.td_cli.specs.Answers.{Answers, Admits, Refuses}
 use Rattle.td_cli.specs.Lines.{usage_line, read_line, memory_line, refusal_line}
 

@@ -4,10 +4,10 @@ use Rattle.td_io.specs.declared.reading.ReadError.{ReadError}
 use Rattle.td_io.specs.declared.reading.ReadError.TheVariants as reading
 use Rattle.td_cli.specs.declared.status.Status.{Status}
 use Rattle.td_cli.specs.declared.status.Status.TheVariants as ends
-use Rattle.td_input.specs.declared.refusal.Refusal.{Refusal}
-use Rattle.td_input.specs.declared.refusal.Refusal.TheVariants.{TooLong}
-use Rattle.td_input.specs.declared.refusal.InputError.{InputError}
-use Rattle.td_input.specs.declared.refusal.InputError.TheVariants.{Refused, NoMemory}
+use Rattle.td_cli_input.specs.declared.refusal.Refusal.{Refusal}
+use Rattle.td_cli_input.specs.declared.refusal.Refusal.TheVariants.{TooLong}
+use Rattle.td_cli_input.specs.declared.refusal.InputError.{InputError}
+use Rattle.td_cli_input.specs.declared.refusal.InputError.TheVariants.{Refused, NoMemory}
 use Rattle.td_cli.specs.Lines.{read_line, memory_line, refusal_line}
 
 -- how a call ends whose source wasn't read to its end, and the line that tells it

@@ -1,8 +1,8 @@
 -- What holds of answers and refusals.
 use Rattle.std.specs.Prelude.{◌≡◌, ◌⊎◌, ℕ, List}
-use Rattle.td_command.specs.declared.command.Command.{Command}
-use Rattle.td_command.specs.declared.command.Command.TheVariants.{Host}
-use Rattle.td_input.specs.declared.refusal.Refusal.{Refusal}
+use Rattle.td_cli_command.specs.declared.command.Command.{Command}
+use Rattle.td_cli_command.specs.declared.command.Command.TheVariants.{Host}
+use Rattle.td_cli_input.specs.declared.refusal.Refusal.{Refusal}
 use Rattle.td_report.specs.Laws.{shown_loads}
 use Rattle.td_cli.specs.Answers.{Answers, Admits, Refuses, IsReport}
 

@@ -5,8 +5,8 @@ use Rattle.td_front.specs.Lines.{place_of, code_of, words_of}
 use Rattle.td_job.specs.declared.error.JobError.{JobError}
 use Rattle.td_job.specs.Errors.{code_of as job_code, path_of}
 use Rattle.td_report.specs.ErrorLine.{error_line}
-use Rattle.td_input.specs.declared.refusal.Refusal.{Refusal}
-use Rattle.td_input.specs.declared.refusal.Refusal.TheVariants.{TooLong, NoJob, BadModule, BadJob, NoRing}
+use Rattle.td_cli_input.specs.declared.refusal.Refusal.{Refusal}
+use Rattle.td_cli_input.specs.declared.refusal.Refusal.TheVariants.{TooLong, NoJob, BadModule, BadJob, NoRing}
 
 abbrev pub usage_line : List ℕ
 usage_line = codes "usage: td check|tidy|code|run|host|pack|bench N\n"

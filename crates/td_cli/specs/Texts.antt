@@ -2,10 +2,10 @@
 use Rattle.std.specs.Prelude.{◌≡◌, ℕ, List, Result, IfOk, IfErr, IsErr}
 use Rattle.td_core.specs.declared.module.Module.{Module}
 use Rattle.td_front.specs.ModuleText.{IsModuleText}
-use Rattle.td_input.specs.declared.refusal.Refusal.{Refusal}
-use Rattle.td_input.specs.declared.refusal.InputError.{InputError}
-use Rattle.td_input.specs.declared.refusal.InputError.TheVariants.{NoMemory}
-use Rattle.td_input.specs.Causes.{HasCause}
+use Rattle.td_cli_input.specs.declared.refusal.Refusal.{Refusal}
+use Rattle.td_cli_input.specs.declared.refusal.InputError.{InputError}
+use Rattle.td_cli_input.specs.declared.refusal.InputError.TheVariants.{NoMemory}
+use Rattle.td_cli_input.specs.Causes.{HasCause}
 use Rattle.td_cli.specs.Answers.{RefusesCheck}
 
 -- an answer is what is asked of the input, and an error has its cause; a module text has no answer only where there was no memory,

@@ -2,7 +2,7 @@
 
 ghost use Rattle.std.specs.Prelude.{◌<◌, ◌≤◌, ◌-◌, ◌^◌, length};
 ghost use Rattle.td_front.specs.ModuleText.{IsModuleText};
-ghost use Rattle.td_command.specs.declared.command.Command.TheVariants as commands;
+ghost use Rattle.td_cli_command.specs.declared.command.Command.TheVariants as commands;
 ghost use Rattle.td_cli.specs.Ends.{passage};
 ghost use Rattle.td_cli.specs.Endings.{AnswersInput};
 ghost use Rattle.td_cli.specs.Texts.{AnswersText};
@@ -11,9 +11,9 @@ use crate::finish::{finish_summary, finish_unanswered};
 use crate::status::Status;
 use crate::tool::INPUT_LIMIT;
 use std::alloc::Global;
+use td_cli_input::refusal::{InputError, of_module};
 use td_core::module::Module;
 use td_front::check_module;
-use td_input::refusal::{InputError, of_module};
 use td_io::Sink;
 
 // The module for which an input stands.

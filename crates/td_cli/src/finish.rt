@@ -5,9 +5,9 @@ ghost use Rattle.std.specs.Prelude.{◌≡◌, option_map};
 ghost use Rattle.std.specs.List.{All};
 ghost use Rattle.td_stream.specs.Layouts.{IsNumberOf};
 ghost use Rattle.td_report.specs.Report.{report};
-ghost use Rattle.td_host_report.specs.Report.{host_report};
-ghost use Rattle.td_serving.specs.Rings.{at_desc};
-ghost use Rattle.td_serving.specs.Serving.{CanBeShown};
+ghost use Rattle.td_report_host.specs.Report.{host_report};
+ghost use Rattle.td_cli_host.specs.Rings.{at_desc};
+ghost use Rattle.td_cli_host.specs.Serving.{CanBeShown};
 ghost use Rattle.td_report.specs.Summary.{summary};
 ghost use Rattle.td_cli.specs.Totals.{totals_text};
 ghost use Rattle.td_cli.specs.Ends.{passage};
@@ -19,13 +19,13 @@ use crate::lines::{MEMORY, READ, write_refusal};
 use crate::run::FinishedRun;
 use crate::status::Status;
 use crate::totals::{Totals, write_totals};
+use td_cli_host::serving::ServedInput;
+use td_cli_input::refusal::{InputError, Refusal};
 use td_core::module::{Entry, Module};
-use td_host_report::report::host_report;
-use td_input::refusal::{InputError, Refusal};
 use td_io::{ReadError, Sink, write_all};
 use td_report::report::run_report;
 use td_report::summary::module_summary;
-use td_serving::serving::ServedInput;
+use td_report_host::report::host_report;
 
 /// Writes a line to the error stream, and answers the status that was to come, or that of a fault in writing it.
 pub(crate) fn finish_with_line<E: Sink>(line: &[u8], status: Status, err: &mut E) -> Status

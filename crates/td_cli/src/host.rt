@@ -2,7 +2,7 @@
 //! to the buffer.
 
 ghost use Rattle.std.specs.Prelude.{◌≡◌, ◌≤◌, ◌*◌, length};
-ghost use Rattle.td_command.specs.declared.command.Command.TheVariants as commands;
+ghost use Rattle.td_cli_command.specs.declared.command.Command.TheVariants as commands;
 ghost use Rattle.td_cli.specs.Ends.{passage};
 ghost use Rattle.td_cli.specs.Endings.{AnswersInput};
 
@@ -12,10 +12,10 @@ use crate::tool::INPUT_LIMIT;
 use std::alloc::AllocGlobal;
 use std::sync::Wait;
 use std::thread::Threads;
+use td_cli_host::gates::GATES_OF_EACH;
+use td_cli_host::serving::serve_input;
 use td_io::Sink;
 use td_live::gate::Gate;
-use td_serving::gates::GATES_OF_EACH;
-use td_serving::serving::serve_input;
 
 /// Answers the input of `host`: with the report of its job's replies and takes, or the line that refuses it. There may be no
 /// memory only where the input has a marker. It may wait.

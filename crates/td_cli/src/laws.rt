@@ -2,18 +2,18 @@
 
 ghost use Rattle.td_cli.specs.Laws.{AlwaysOne, AnsweredIsAdmitted, NeverBoth, OneAnswer, ReportsDetermineRuns};
 
-use td_coding::laws::code_is_one;
+use td_cli_host::laws::rings_are_read_or_not;
+use td_code::laws::code_is_one;
+use td_fetch::laws::runs_are_one;
 use td_front::laws as front;
 use td_gen::laws::{one_message_each, some_message_each};
 use td_grammar::laws::one_tree;
-use td_host_job::laws as host_jobs;
 use td_job::laws as jobs;
+use td_job_host::laws as host_jobs;
 use td_lexer::tokens_are_the_splitting;
 use td_report::laws::{reports_determine_outcomes, shown_loads_are_one};
-use td_runs::laws::runs_are_one;
-use td_serving::laws::rings_are_read_or_not;
+use td_report_facts::laws::{jobs_are_sized, loads_are_told, modules_have_words, runs_are_told};
 use td_stream::laws::some_message_carries;
-use td_told::laws::{jobs_are_sized, loads_are_told, modules_have_words, runs_are_told};
 
 /// A command but `host` answers an input with at most one output: so the report of a run is one function of its input.
 pub fn one_answer()

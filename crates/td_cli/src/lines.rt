@@ -3,8 +3,8 @@
 ghost use Rattle.td_io.specs.States.{Writes};
 ghost use Rattle.td_cli.specs.Lines.{job_line, module_line, refusal_line};
 
+use td_cli_input::refusal::Refusal;
 use td_front::{FrontError, line_of};
-use td_input::refusal::Refusal;
 use td_io::{Sink, WriteFault};
 use td_job::error::{JobError, PathParts};
 use td_report::error_line::front_line;

@@ -1,7 +1,7 @@
 //! The command `pack`: the image of the code of a module text that is accepted.
 
 ghost use Rattle.std.specs.Prelude.{◌<◌, ◌≤◌, ◌-◌, ◌^◌, length};
-ghost use Rattle.td_command.specs.declared.command.Command.TheVariants as commands;
+ghost use Rattle.td_cli_command.specs.declared.command.Command.TheVariants as commands;
 ghost use Rattle.td_cli.specs.Answers.{IsImageOf};
 ghost use Rattle.td_cli.specs.Ends.{passage};
 ghost use Rattle.td_cli.specs.Endings.{AnswersInput};
@@ -11,9 +11,9 @@ use crate::finish::{finish_bytes, finish_unanswered};
 use crate::status::Status;
 use crate::tool::INPUT_LIMIT;
 use std::alloc::Global;
-use td_coding::packed_image;
+use td_cli_input::refusal::{InputError, of_module};
+use td_code::packed_image;
 use td_front::check_module;
-use td_input::refusal::{InputError, of_module};
 use td_io::Sink;
 use td_num::items::Items;
 

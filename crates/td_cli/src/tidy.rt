@@ -1,7 +1,7 @@
 //! The command `tidy`: the canonical text of a module text that is accepted.
 
 ghost use Rattle.std.specs.Prelude.{◌<◌, ◌≤◌, ◌-◌, ◌^◌, length};
-ghost use Rattle.td_command.specs.declared.command.Command.TheVariants as commands;
+ghost use Rattle.td_cli_command.specs.declared.command.Command.TheVariants as commands;
 ghost use Rattle.td_cli.specs.Answers.{IsTidy};
 ghost use Rattle.td_cli.specs.Ends.{passage};
 ghost use Rattle.td_cli.specs.Endings.{AnswersInput};
@@ -11,8 +11,8 @@ use crate::finish::{finish_bytes, finish_unanswered};
 use crate::status::Status;
 use crate::tool::INPUT_LIMIT;
 use std::alloc::{AllocError, Global};
+use td_cli_input::refusal::{InputError, of_module};
 use td_front::check_input;
-use td_input::refusal::{InputError, of_module};
 use td_io::Sink;
 use td_num::text::Text;
 use td_print::print;

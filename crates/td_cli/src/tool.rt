@@ -1,9 +1,9 @@
 //! The whole tool, over any source and sinks.
 
 ghost use Rattle.std.specs.Prelude.{◌≡◌, ◌≢◌, ◌≤◌, ◌⊎◌, ◌*◌, ℕ, List, None, Some, IfSome, MatchOption, length, map, string_bytes};
-ghost use Rattle.td_input.specs.declared.refusal.Refusal.{Refusal};
+ghost use Rattle.td_cli_input.specs.declared.refusal.Refusal.{Refusal};
 ghost use Rattle.td_cli.specs.Answers.{Admits, Refuses};
-ghost use Rattle.td_command.specs.Command.{IsInRange, Means};
+ghost use Rattle.td_cli_command.specs.Command.{IsInRange, Means};
 ghost use Rattle.td_cli.specs.Ends.{CallEnds, EndsAs, IsHandedOn, Reads, StopsReading, passage};
 ghost use Rattle.td_cli.specs.Laws.{IsAlone};
 ghost use Rattle.td_cli.specs.Endings.{AnswersInput};
@@ -21,10 +21,10 @@ use crate::tidy::answer_tidy;
 use std::alloc::{AllocGlobal, Global};
 use std::sync::Wait;
 use std::thread::Threads;
-use td_command::command::{Command, command_of};
+use td_cli_command::command::{Command, command_of};
+use td_cli_host::gates::GATES_OF_EACH;
 use td_io::{Sink, Source, read_whole};
 use td_live::gate::Gate;
-use td_serving::gates::GATES_OF_EACH;
 
 /// How many bytes an input has at most: 4 MiB.
 pub const INPUT_LIMIT: usize = 4_194_304;

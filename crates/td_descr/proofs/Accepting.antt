@@ -16,8 +16,8 @@ use Rattle.td_ir.specs.declared.tables.Parts.{Parts}
 use Rattle.td_meaning.specs.Copies.{opened, IsSoundOn}
 use Rattle.td_meaning.proofs.Copying.{opened_alone}
 use Rattle.td_stream.specs.Loads.{Inside}
-use Rattle.td_leaves.specs.Outcomes.{IsMeant}
-use Rattle.td_lowered.specs.CodeRun.{IsCodeOf}
+use Rattle.td_fetch.specs.Outcomes.{IsMeant}
+use Rattle.td_lower_means.specs.CodeRun.{IsCodeOf}
 use Rattle.td_descr.specs.Ring.{desc_entry, desc_args, desc_cells, desc_bytes, AreWithin, IsRingCode, IsValidated, IfAccepted}
 use Rattle.td_num.proofs.Digits.{are_bytes as bytes_of}
 

@@ -14,10 +14,10 @@ use Rattle.td_meaning.specs.Throughout.{OnEnding}
 use Rattle.td_stream.specs.declared.load.Load.{Load}
 use Rattle.td_stream.specs.Layouts.{plain}
 use Rattle.td_stream.specs.Loads.{IsRising, Inside, Carries}
-use Rattle.td_leaves.specs.Outcomes.{IsMeant}
+use Rattle.td_fetch.specs.Outcomes.{IsMeant}
 use Rattle.td_ir.specs.declared.tables.Parts.{Parts}
 use Rattle.td_ir.specs.Entries.{Fits}
-use Rattle.td_lowered.specs.CodeRun.{IsCodeOf}
+use Rattle.td_lower_means.specs.CodeRun.{IsCodeOf}
 use Rattle.td_vm.specs.Frames.{FrameView, IsArmed}
 use Rattle.td_descr.specs.declared.next.Standing.{Standing}
 use Rattle.td_descr.specs.declared.next.Standing.TheVariants.{Nothing, Lost, Waiting}

@@ -16,9 +16,9 @@ use Rattle.td_meaning.specs.Machine.{below}
 use Rattle.td_meaning.specs.Meaning.{meaning}
 use Rattle.td_meaning.specs.Verdicts.{ending_of, IsAt}
 use Rattle.td_meaning.proofs.MachineMeaning as machine
-use Rattle.td_leaves.specs.Outcomes.{IsBehaviorOf}
-use Rattle.td_leaves.specs.Step.{Step}
-use Rattle.td_leaves.proofs.Stepping.{behavior_lent}
+use Rattle.td_fetch.specs.Outcomes.{IsBehaviorOf}
+use Rattle.td_direct.specs.Step.{Step}
+use Rattle.td_direct.proofs.Stepping.{behavior_lent}
 use Rattle.td_stream.specs.Copies.{BufferView, held_by, rooms_of}
 use Rattle.td_stream.specs.Loads.{Carries}
 use Rattle.td_stream.specs.StreamInvariant.{layout_of}

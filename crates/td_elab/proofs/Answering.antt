@@ -3,11 +3,11 @@ use Rattle.std.proofs.Common.{◌≡◌, List, [], Option, Some, None, Result, O
 use Rattle.std.specs.Prelude.{MatchOption, MatchResult, IfOk, IfErr}
 use Rattle.td_ast.specs.declared.definitions.ModuleTree.{ModuleTree}
 use Rattle.td_core.specs.declared.module.Module.{Module}
-use Rattle.td_rules.specs.declared.breach.Breach.{Breach}
+use Rattle.td_elab_rules.specs.declared.breach.Breach.{Breach}
 use Rattle.td_elab.specs.declared.elaborate.ElabError.{ElabError}
 use Rattle.td_elab.specs.declared.elaborate.ElabError.TheVariants.{NoMemory}
-use Rattle.td_rules.specs.Known.{nothing_known}
-use Rattle.td_rules.specs.Modules.{breaches, names_of, module_of, StandsFor}
+use Rattle.td_elab_rules.specs.Known.{nothing_known}
+use Rattle.td_elab_rules.specs.Modules.{breaches, names_of, module_of, StandsFor}
 use Rattle.td_elab.specs.Firsts.{breaches_in, first_among, all_of, IsFirstIn}
 use Rattle.td_elab.specs.Elaborates.{error_of, IsCause, IsOnly}
 use Rattle.td_elab.proofs.First.{found_first_in, none_found_in, none_among, one_first_in, first_is_there, each_is_all}

@@ -1,9 +1,9 @@
 -- Results that hold in any case, and breaches one after the other.
 use Rattle.std.proofs.Common.{◌≡◌, List, ◌++◌, Option, sym, ◌∙◌}
 use Rattle.std.specs.Prelude.{Result, Ok, Err, OnOk, OnErr}
-use Rattle.td_rules.specs.declared.breach.Breach.{Breach}
-use Rattle.td_rules.specs.Breach.{first_of}
-use Rattle.td_typing.proofs.Steps.{first_append}
+use Rattle.td_elab_rules.specs.declared.breach.Breach.{Breach}
+use Rattle.td_elab_rules.specs.Breach.{first_of}
+use Rattle.td_elab_exprs.proofs.Steps.{first_append}
 
 pub on_ok_always : {T E P : Type 0} (r : Result T E) → P → OnOk r P
 on_ok_always (Ok x) p = p

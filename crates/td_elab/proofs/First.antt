@@ -2,13 +2,13 @@
 use Rattle.std.proofs.Common.{length, ◌≡◌, ℕ, Bool, true, false, if◌then◌else◌, nat_lt, nat_eq, List, [], ◌∷◌, ◌++◌, Option, Some, None, Contains, All, ◌⊎◌, inl, inr, subst, refl, sym, ap, ◌∙◌, arith}
 use Rattle.std.proofs.lemmas.Bool.Decides.{nat_tests}
 use Rattle.std.proofs.lemmas.List.Elements.{All-nil, All-cons, All-append, All-contains, Contains-get_or, Contains-append_left, Contains-append_right}
-use Rattle.td_rules.specs.declared.breach.Rule.{Rule}
-use Rattle.td_rules.specs.declared.breach.Rule.TheVariants.{Unknown, Twice, NotReadable, WrongArgs, Mismatch, Narrowing, NotConstant, BadAction}
-use Rattle.td_rules.specs.declared.breach.Breach.{Breach}
+use Rattle.td_elab_rules.specs.declared.breach.Rule.{Rule}
+use Rattle.td_elab_rules.specs.declared.breach.Rule.TheVariants.{Unknown, Twice, NotReadable, WrongArgs, Mismatch, Narrowing, NotConstant, BadAction}
+use Rattle.td_elab_rules.specs.declared.breach.Breach.{Breach}
 use Rattle.td_ast.specs.declared.definitions.Def.{Def}
-use Rattle.td_rules.specs.declared.known.Known.{Known}
-use Rattle.td_rules.specs.Breach.{rank, is_sooner, first_of, IsFirst}
-use Rattle.td_rules.specs.Definitions.{definition_breaches, after, definitions_breaches}
+use Rattle.td_elab_rules.specs.declared.known.Known.{Known}
+use Rattle.td_elab_rules.specs.Breach.{rank, is_sooner, first_of, IsFirst}
+use Rattle.td_elab_rules.specs.Definitions.{definition_breaches, after, definitions_breaches}
 use Rattle.td_elab.specs.Firsts.{breaches_each, first_among, all_of, IsFirstIn, AreRising}
 
 -- one step of the order: the first numbers decide, and where they are equal the rest does

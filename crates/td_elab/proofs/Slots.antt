@@ -4,12 +4,12 @@ use Rattle.td_ast.specs.declared.definitions.ItemTree.{ItemTree}
 use Rattle.td_ast.specs.declared.definitions.EnumTree.{EnumTree}
 use Rattle.td_ast.specs.declared.definitions.SlotTree.{SlotTree}
 use Rattle.td_ast.specs.declared.definitions.OutputTree.{OutputTree}
-use Rattle.td_rules.specs.declared.known.Slot.{Slot}
-use Rattle.td_rules.specs.declared.known.Known.{Known}
-use Rattle.td_rules.specs.Enums.{next_value, item_value, with_item, items_after, with_enum_name, after_enum}
-use Rattle.td_rules.specs.Records.{slot_of, after_record}
-use Rattle.td_declarations.specs.declared.slots.SlotCell.{SlotCell}
-use Rattle.td_declarations.specs.Slots.{slot_part, record_parts}
+use Rattle.td_elab_rules.specs.declared.known.Slot.{Slot}
+use Rattle.td_elab_rules.specs.declared.known.Known.{Known}
+use Rattle.td_elab_rules.specs.Enums.{next_value, item_value, with_item, items_after, with_enum_name, after_enum}
+use Rattle.td_elab_rules.specs.Records.{slot_of, after_record}
+use Rattle.td_elab_defs.specs.declared.slots.SlotCell.{SlotCell}
+use Rattle.td_elab_defs.specs.Slots.{slot_part, record_parts}
 
 items_keep : (k : Known) (next : Option ℕ) (is : List ItemTree) → (items_after k next is).records ≡ k.records
 items_keep k next [] = refl

@@ -2,12 +2,12 @@
 use Rattle.std.specs.Prelude.{ℕ, Bool, ◌+◌, List, [], ◌∷◌, ◌++◌, length}
 use Rattle.td_core.specs.declared.module.TypeDef.{TypeDef}
 use Rattle.td_kinds.specs.Kinds.{body_kind}
-use Rattle.td_rules.specs.declared.known.Known.{Known}
-use Rattle.td_rules.specs.declared.known.Parameter.{Parameter}
-use Rattle.td_rules.specs.declared.known.Meaning.TheVariants as meaning
-use Rattle.td_rules.specs.Known.{kind_at}
-use Rattle.td_rules.specs.Constants.{with_global}
-use Rattle.td_rules.specs.Definitions.{with_names, entry_more}
+use Rattle.td_elab_rules.specs.declared.known.Known.{Known}
+use Rattle.td_elab_rules.specs.declared.known.Parameter.{Parameter}
+use Rattle.td_elab_rules.specs.declared.known.Meaning.TheVariants as meaning
+use Rattle.td_elab_rules.specs.Known.{kind_at}
+use Rattle.td_elab_rules.specs.Constants.{with_global}
+use Rattle.td_elab_rules.specs.Definitions.{with_names, entry_more}
 
 -- its name stands for the next place, and it gave these names
 abbrev pub announced : Known → Bool → List ℕ → List (List ℕ) → Known

@@ -1,11 +1,11 @@
 //! Casetypes.
 
 ghost use Rattle.std.specs.Prelude.{◌≡◌, [], IfOk, OnOk};
-ghost use Rattle.td_rules.specs.Breach.{first_of};
-ghost use Rattle.td_rules.specs.Known.{next_case};
-ghost use Rattle.td_rules.specs.Constants.{is_value_among};
-ghost use Rattle.td_rules.specs.Casetypes.{is_past_switch, case_breaches, case_taken, cases_breaches, cases_taken, default_breaches, default_taken, switch_breaches, switch_taken, cases_core, default_core, switch_core};
-ghost use Rattle.td_rules.specs.Fields.{fields_breaches, fields_core};
+ghost use Rattle.td_elab_rules.specs.Breach.{first_of};
+ghost use Rattle.td_elab_rules.specs.Known.{next_case};
+ghost use Rattle.td_elab_rules.specs.Constants.{is_value_among};
+ghost use Rattle.td_elab_rules.specs.Casetypes.{is_past_switch, case_breaches, case_taken, cases_breaches, cases_taken, default_breaches, default_taken, switch_breaches, switch_taken, cases_core, default_core, switch_core};
+ghost use Rattle.td_elab_rules.specs.Fields.{fields_breaches, fields_core};
 
 use std::alloc::{AllocError, Global};
 use td_ast::definitions::{CaseTree, CasetypeTree};
@@ -13,19 +13,19 @@ use td_ast::fields::FieldTree;
 use td_ast::names::ConstTree;
 use td_core::expressions::Scalar;
 use td_core::module::{Body, Case, Field};
-use td_declarations::constants::{
+use td_elab_defs::constants::{
     check_constant, constant_span, constant_value, is_past, number_or_zero,
 };
-use td_declarations::numbers::{add_value, is_value_among};
-use td_fields::fields::fields;
+use td_elab_defs::numbers::{add_value, is_value_among};
+use td_elab_exprs::expressions::number;
+use td_elab_exprs::findings::Findings;
+use td_elab_exprs::sorts::type_alone;
+use td_elab_fields::fields::fields;
+use td_elab_rules::breach::Rule;
+use td_elab_rules::known::{Known, Scope, Taken};
 use td_names::names::Names;
 use td_names::numbers::Numbers;
 use td_num::items::Items;
-use td_rules::breach::Rule;
-use td_rules::known::{Known, Scope, Taken};
-use td_typing::expressions::number;
-use td_typing::findings::Findings;
-use td_typing::sorts::type_alone;
 
 /// Whether a value is past the type of the switch.
 fn is_past_switch(switch: Option<Scalar>, value: Option<u64>) -> bool
@@ -38,7 +38,7 @@ fn is_past_switch(switch: Option<Scalar>, value: Option<u64>) -> bool
 }
 
 /// Notes what the value of a case breaks, after values that were given before.
-#[tactic(auto, using(td_typing::proofs::Steps::first_append))]
+#[tactic(auto, using(td_elab_exprs::proofs::Steps::first_append))]
 fn check_case(
     known: &Known,
     scope: &Scope,
@@ -134,7 +134,7 @@ fn default_fields(
 }
 
 /// The body of a casetype; its breaches are noted. `AllocError`: out of memory.
-#[tactic(auto, using(td_typing::proofs::Steps::first_append))]
+#[tactic(auto, using(td_elab_exprs::proofs::Steps::first_append))]
 pub fn switch(
     alloc: Global,
     names: &Names,

@@ -2,15 +2,15 @@
 
 ghost use Rattle.std.specs.Prelude.{◌≡◌, ◌<◌, ◌++◌, IfOk, OnOk, OnErr, length};
 ghost use Rattle.td_core.specs.declared.module.Body.TheVariants.{Struct as StructBody};
-ghost use Rattle.td_declarations.specs.Slots.{record_parts};
-ghost use Rattle.td_rules.specs.Breach.{first_of};
-ghost use Rattle.td_rules.specs.Known.{nothing_known};
-ghost use Rattle.td_rules.specs.Sorts.{option_core};
-ghost use Rattle.td_rules.specs.ExprRules.{test_breaches};
-ghost use Rattle.td_rules.specs.Fields.{fields_breaches, fields_taken, fields_core};
-ghost use Rattle.td_rules.specs.Records.{after_record, record_breaches};
-ghost use Rattle.td_rules.specs.Casetypes.{switch_breaches, switch_taken, switch_core};
-ghost use Rattle.td_rules.specs.Definitions.{with_names, entry_more, with_type, struct_scope, struct_breaches, after_struct, casetype_breaches, after_casetype, definition_breaches, after, known_after};
+ghost use Rattle.td_elab_defs.specs.Slots.{record_parts};
+ghost use Rattle.td_elab_rules.specs.Breach.{first_of};
+ghost use Rattle.td_elab_rules.specs.Known.{nothing_known};
+ghost use Rattle.td_elab_rules.specs.Sorts.{option_core};
+ghost use Rattle.td_elab_rules.specs.ExprRules.{test_breaches};
+ghost use Rattle.td_elab_rules.specs.Fields.{fields_breaches, fields_taken, fields_core};
+ghost use Rattle.td_elab_rules.specs.Records.{after_record, record_breaches};
+ghost use Rattle.td_elab_rules.specs.Casetypes.{switch_breaches, switch_taken, switch_core};
+ghost use Rattle.td_elab_rules.specs.Definitions.{with_names, entry_more, with_type, struct_scope, struct_breaches, after_struct, casetype_breaches, after_casetype, definition_breaches, after, known_after};
 ghost use Rattle.td_elab.specs.Heads.{announced, with_definition};
 ghost use Rattle.td_elab.specs.Firsts.{breaches_each, earlier, first_among};
 
@@ -19,22 +19,22 @@ use std::alloc::{AllocError, Global};
 use td_ast::definitions::{CasetypeTree, Def, OutputTree, StructTree};
 use td_core::expressions::CoreExpr;
 use td_core::module::{Body, NameId, TypeDef};
-use td_declarations::aliases::alias;
-use td_declarations::constants::{check_global, check_literal, declare, define};
-use td_declarations::enums::enumerate;
-use td_declarations::numbers::next_place;
-use td_declarations::parameters::head;
-use td_declarations::records::record;
-use td_declarations::scopes::nothing_known;
-use td_declarations::slots::{SlotCell, slot_cells};
-use td_fields::fields::fields;
-use td_fields::leading::leading_size;
+use td_elab_defs::aliases::alias;
+use td_elab_defs::constants::{check_global, check_literal, declare, define};
+use td_elab_defs::enums::enumerate;
+use td_elab_defs::numbers::next_place;
+use td_elab_defs::parameters::head;
+use td_elab_defs::records::record;
+use td_elab_defs::scopes::nothing_known;
+use td_elab_defs::slots::{SlotCell, slot_cells};
+use td_elab_exprs::expressions::test;
+use td_elab_exprs::findings::Findings;
+use td_elab_fields::fields::fields;
+use td_elab_fields::leading::leading_size;
+use td_elab_rules::known::{Known, Meaning, Parameter, Scope, Taken};
 use td_kinds::casetypes::body_kind;
 use td_names::names::Names;
 use td_num::items::Items;
-use td_rules::known::{Known, Meaning, Parameter, Scope, Taken};
-use td_typing::expressions::test;
-use td_typing::findings::Findings;
 
 /// More names, beside others. `AllocError`: out of memory.
 fn see_names(alloc: Global, names: &mut Names, given: &Names) -> Result<(), AllocError>
@@ -116,7 +116,7 @@ struct Inner {
 }
 
 /// `where` and the fields of a struct, in the scope of its head; their breaches are noted. `AllocError`: out of memory.
-#[tactic(auto, using(td_typing::proofs::Steps::first_append))]
+#[tactic(auto, using(td_elab_exprs::proofs::Steps::first_append))]
 fn struct_inner(
     alloc: Global,
     names: &Names,
@@ -143,7 +143,7 @@ fn struct_inner(
 }
 
 /// What is known after a struct. `AllocError`: out of memory.
-#[tactic(auto, using(td_typing::proofs::Steps::first_append))]
+#[tactic(auto, using(td_elab_exprs::proofs::Steps::first_append))]
 fn structure(
     alloc: Global,
     names: &Names,
@@ -189,7 +189,7 @@ fn structure(
 }
 
 /// `where` and the body of a casetype, in the scope of its head; their breaches are noted. `AllocError`: out of memory.
-#[tactic(auto, using(td_typing::proofs::Steps::first_append))]
+#[tactic(auto, using(td_elab_exprs::proofs::Steps::first_append))]
 fn casetype_inner(
     alloc: Global,
     names: &Names,
@@ -210,7 +210,7 @@ fn casetype_inner(
 }
 
 /// What is known after a casetype. `AllocError`: out of memory.
-#[tactic(auto, using(td_typing::proofs::Steps::first_append))]
+#[tactic(auto, using(td_elab_exprs::proofs::Steps::first_append))]
 fn casetype(
     alloc: Global,
     names: &Names,

@@ -1,12 +1,12 @@
 //! Values of the formats' texts, for a writer.
 
 ghost use Rattle.std.specs.Prelude.{◌≡◌, IfOk, List, ℕ};
-ghost use Rattle.td_values.specs.Datum as datum;
+ghost use Rattle.td_write_values.specs.Datum as datum;
 ghost use Rattle.td_formats.specs.EthernetValue.{ethernet_datum, payload_datum, listed};
 
 use std::alloc::{AllocError, Global};
 use td_num::text::Text;
-use td_values::value::{Value, ValueKind, Values};
+use td_write_values::value::{Value, ValueKind, Values};
 
 /// The greatest number that is a payload's length.
 const MOST_LENGTH: u16 = 1500;

@@ -6,12 +6,12 @@ use Rattle.td_ast.specs.declared.parts.InputTree.{InputTree}
 use Rattle.td_ast.specs.declared.parts.InputTree.TheVariants.{Module as Parsed, Parts}
 use Rattle.td_core.specs.declared.module.Module.{Module}
 use Rattle.td_core.specs.WellFormed.{IsWhole, IsWithin, IsDefinitionNamed}
-use Rattle.td_rules.specs.Modules.{StandsFor, module_of}
-use Rattle.td_rules.specs.Laws.{ModulesAreFormed, ModulesAreCopying, ModulesAreWhole, ModulesAreSorted, FieldsAreWhole, ModulesAreNamed}
-use Rattle.td_flat.specs.Names.{spelled}
-use Rattle.td_flat.specs.Order.{names_of}
-use Rattle.td_flat.specs.Flat.{flat, spelled_names}
-use Rattle.td_admitted.specs.Laws.{HasLimits, NamesAreWords, TypesAreAlike, SpelledNamesAreApart, ModulesAreWithin, NodesAreWithin, DepthsAreWithin, WeightsAreWithin, StepsAreSizes}
+use Rattle.td_elab_rules.specs.Modules.{StandsFor, module_of}
+use Rattle.td_elab_rules.specs.Laws.{ModulesAreFormed, ModulesAreCopying, ModulesAreWhole, ModulesAreSorted, FieldsAreWhole, ModulesAreNamed}
+use Rattle.td_front_flat.specs.Names.{spelled}
+use Rattle.td_front_flat.specs.Order.{names_of}
+use Rattle.td_front_flat.specs.Flat.{flat, spelled_names}
+use Rattle.td_front_facts.specs.Laws.{HasLimits, NamesAreWords, TypesAreAlike, SpelledNamesAreApart, ModulesAreWithin, NodesAreWithin, DepthsAreWithin, WeightsAreWithin, StepsAreSizes}
 use Rattle.td_front.specs.Checked.{IsChecked}
 use Rattle.td_front.specs.Passes.{IsAdmitted}
 use Rattle.td_front.specs.Inputs.{IsAdmittedInput, with_names, input_module}

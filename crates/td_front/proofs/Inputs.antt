@@ -6,10 +6,10 @@ use Rattle.td_ast.specs.declared.parts.InputTree.{InputTree}
 use Rattle.td_ast.specs.declared.parts.InputTree.TheVariants.{Module as Parsed}
 use Rattle.td_limits.specs.declared.limits.Excess.{Excess}
 use Rattle.td_limits.specs.Counts.{counts_passed}
-use Rattle.td_rules.specs.declared.breach.Rule.TheVariants.{Twice}
-use Rattle.td_flat.specs.Flat.{flat, written, spelled_names, IsTwice, IsCycle, IsLinked}
-use Rattle.td_flat.specs.Laws.{HasAnswer, EachAnswered}
-use Rattle.td_linked.specs.Laws.{OneAnswerEach}
+use Rattle.td_elab_rules.specs.declared.breach.Rule.TheVariants.{Twice}
+use Rattle.td_front_flat.specs.Flat.{flat, written, spelled_names, IsTwice, IsCycle, IsLinked}
+use Rattle.td_front_flat.specs.Laws.{HasAnswer, EachAnswered}
+use Rattle.td_front_flat_facts.specs.Laws.{OneAnswerEach}
 use Rattle.td_front.specs.declared.error.FrontError.{FrontError}
 use Rattle.td_front.specs.declared.error.FrontError.TheVariants.{BadByte, OpenComment, BigNumber, Unexpected, Deep, Limit, Broken, Cycle, ZeroElement, RestNotLast, Unsafe, Room, NoMemory}
 use Rattle.td_front.specs.Passes.{RefusesTree}

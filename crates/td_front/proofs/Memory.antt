@@ -16,11 +16,11 @@ use Rattle.td_grammar.specs.Sequences.{some_of}
 use Rattle.td_grammar.specs.Laws.{OneTree, EitherForm}
 use Rattle.td_parser.specs.declared.error.ParseError.{ParseError}
 use Rattle.td_parser.specs.declared.error.ParseError.TheVariants.{Unexpected as UnexpectedToken, Deep as DeepToken, NoMemory as NoTree}
-use Rattle.td_rules.specs.Known.{nothing_known}
-use Rattle.td_rules.specs.Definitions.{known_after}
-use Rattle.td_rules.specs.Modules.{all_names, module_from, module_of}
-use Rattle.td_flat.specs.declared.error.FlatError.{FlatError}
-use Rattle.td_flat.specs.declared.error.FlatError.TheVariants.{Twice as TwiceAt, Cycle as CycleAt, NoMemory as NotFlat}
+use Rattle.td_elab_rules.specs.Known.{nothing_known}
+use Rattle.td_elab_rules.specs.Definitions.{known_after}
+use Rattle.td_elab_rules.specs.Modules.{all_names, module_from, module_of}
+use Rattle.td_front_flat.specs.declared.error.FlatError.{FlatError}
+use Rattle.td_front_flat.specs.declared.error.FlatError.TheVariants.{Twice as TwiceAt, Cycle as CycleAt, NoMemory as NotFlat}
 use Rattle.td_elab.specs.declared.elaborate.ElabError.{ElabError}
 use Rattle.td_elab.specs.declared.elaborate.ElabError.TheVariants.{Broken as BrokenAt, NoMemory as NoModule}
 use Rattle.td_kinds.specs.declared.error.KindError.{KindError}

@@ -9,9 +9,9 @@ use Rattle.td_lexer.specs.declared.error.LexError.{LexError}
 use Rattle.td_lexer.specs.Scanner.{tokens_of}
 use Rattle.td_lexer.specs.Splits.{Splits}
 use Rattle.td_grammar.specs.Laws.{EitherForm}
-use Rattle.td_flat.specs.declared.error.FlatError.{FlatError}
-use Rattle.td_flat.specs.declared.error.FlatError.TheVariants.{Twice as TwiceAt, Cycle as CycleAt, NoMemory as NotFlat}
-use Rattle.td_flat.specs.Flat.{flat, IsFault, IsLinked}
+use Rattle.td_front_flat.specs.declared.error.FlatError.{FlatError}
+use Rattle.td_front_flat.specs.declared.error.FlatError.TheVariants.{Twice as TwiceAt, Cycle as CycleAt, NoMemory as NotFlat}
+use Rattle.td_front_flat.specs.Flat.{flat, IsFault, IsLinked}
 use Rattle.td_front.specs.declared.error.FrontError.{FrontError}
 use Rattle.td_front.specs.declared.error.FrontError.TheVariants.{NoMemory}
 use Rattle.td_front.specs.Errors.{of_flattening}

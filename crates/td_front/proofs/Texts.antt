@@ -13,8 +13,8 @@ use Rattle.td_grammar.specs.Spelling.{IsFirstRefused}
 use Rattle.td_grammar.specs.Limits.{IsFirstDeep, IsWithinLimits}
 use Rattle.td_grammar.specs.Parts.{input_text}
 use Rattle.td_grammar.specs.Laws.{Answer, Tree, Refused, TooDeep, EachAnswered, OneTree, OneRefused, OneTooDeep, NeverBoth as NeverBothSpelled}
-use Rattle.td_rules.specs.Modules.{module_of}
-use Rattle.td_flat.specs.Flat.{flat, IsLinked}
+use Rattle.td_elab_rules.specs.Modules.{module_of}
+use Rattle.td_front_flat.specs.Flat.{flat, IsLinked}
 use Rattle.td_front.specs.declared.error.FrontError.{FrontError}
 use Rattle.td_front.specs.declared.error.FrontError.TheVariants.{BadByte, OpenComment, BigNumber, Unexpected, Deep, Limit, Broken, Cycle, ZeroElement, RestNotLast, Unsafe, Room, NoMemory}
 use Rattle.td_front.specs.Errors.{of_lexing}

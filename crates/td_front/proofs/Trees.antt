@@ -7,9 +7,9 @@ use Rattle.td_expr.specs.declared.safety.Unsafe.TheVariants as finding
 use Rattle.td_limits.specs.declared.limits.Excess.{Excess}
 use Rattle.td_limits.specs.Counts.{counts_passed}
 use Rattle.td_limits.specs.Sizes.{sizes_passed}
-use Rattle.td_rules.specs.declared.breach.Breach.{Breach}
-use Rattle.td_rules.specs.Breach.{IsFirst}
-use Rattle.td_rules.specs.Modules.{breaches, module_of}
+use Rattle.td_elab_rules.specs.declared.breach.Breach.{Breach}
+use Rattle.td_elab_rules.specs.Breach.{IsFirst}
+use Rattle.td_elab_rules.specs.Modules.{breaches, module_of}
 use Rattle.td_elab.specs.Firsts.{IsFirstIn, breaches_in, all_of}
 use Rattle.td_elab.specs.Laws.{OneIsFirst, SomeIsFirst, BreachesAreAll}
 use Rattle.td_num.proofs.Lists.{left_none, right_none}

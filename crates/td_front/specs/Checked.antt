@@ -8,7 +8,7 @@ use Rattle.td_core.specs.declared.limits.TheConstants.{MOST_NODES, MOST_DEPTH, M
 use Rattle.td_core.specs.Entries.{name_bytes}
 use Rattle.td_core.specs.Weights.{depth_of, definitions_nodes, weight_of}
 use Rattle.td_core.specs.WellFormed.{EachField, IsWhole, IsFieldWhole, IsDefinitionSorted, IsDefinitionNamed, IsWithin}
-use Rattle.td_sizes.specs.Sizes.{IsFieldStepped}
+use Rattle.td_core.specs.Sizes.{IsFieldStepped}
 use Rattle.td_lexer.specs.Splits.{IsName, IsDotted, IsLongName}
 use Rattle.td_kinds.specs.KindRules.{kind_faults}
 use Rattle.td_arith.specs.SafeModule.{module_unsafe}

@@ -6,9 +6,9 @@ use Rattle.td_lexer.specs.declared.error.LexError.TheVariants.{BadByte as BadByt
 use Rattle.td_parser.specs.declared.error.ParseError.{ParseError}
 use Rattle.td_parser.specs.declared.error.ParseError.TheVariants.{Unexpected as UnexpectedToken, Deep as DeepToken, NoMemory as NoTree}
 use Rattle.td_limits.specs.declared.limits.Excess.{Excess}
-use Rattle.td_flat.specs.declared.error.FlatError.{FlatError}
-use Rattle.td_flat.specs.declared.error.FlatError.TheVariants.{Twice as TwiceAt, Cycle as CycleAt, NoMemory as NotFlat}
-use Rattle.td_rules.specs.declared.breach.Rule.TheVariants.{Twice}
+use Rattle.td_front_flat.specs.declared.error.FlatError.{FlatError}
+use Rattle.td_front_flat.specs.declared.error.FlatError.TheVariants.{Twice as TwiceAt, Cycle as CycleAt, NoMemory as NotFlat}
+use Rattle.td_elab_rules.specs.declared.breach.Rule.TheVariants.{Twice}
 use Rattle.td_elab.specs.declared.elaborate.ElabError.{ElabError}
 use Rattle.td_elab.specs.declared.elaborate.ElabError.TheVariants.{Broken as BrokenAt, NoMemory as NoModule}
 use Rattle.td_kinds.specs.declared.error.KindError.{KindError}

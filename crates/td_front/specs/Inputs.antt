@@ -5,9 +5,9 @@ use Rattle.td_ast.specs.declared.parts.InputTree.{InputTree}
 use Rattle.td_ast.specs.declared.parts.InputTree.TheVariants.{Module as Parsed, Parts}
 use Rattle.td_core.specs.declared.module.Module.{Module}
 use Rattle.td_limits.specs.Counts.{counts_passed}
-use Rattle.td_rules.specs.declared.breach.Rule.TheVariants.{Twice}
-use Rattle.td_rules.specs.Modules.{module_of}
-use Rattle.td_flat.specs.Flat.{flat, written, spelled_names, IsTwice, IsCycle, IsLinked}
+use Rattle.td_elab_rules.specs.declared.breach.Rule.TheVariants.{Twice}
+use Rattle.td_elab_rules.specs.Modules.{module_of}
+use Rattle.td_front_flat.specs.Flat.{flat, written, spelled_names, IsTwice, IsCycle, IsLinked}
 use Rattle.td_front.specs.declared.error.FrontError.{FrontError}
 use Rattle.td_front.specs.declared.error.FrontError.TheVariants.{Limit, Broken, Cycle}
 use Rattle.td_front.specs.Passes.{IsAdmitted, RefusesTree}

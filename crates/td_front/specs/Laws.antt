@@ -4,8 +4,8 @@ use Rattle.td_ast.specs.declared.definitions.ModuleTree.{ModuleTree}
 use Rattle.td_ast.specs.declared.parts.InputTree.{InputTree}
 use Rattle.td_ast.specs.declared.parts.InputTree.TheVariants.{Module as Parsed}
 use Rattle.td_core.specs.declared.module.Module.{Module}
-use Rattle.td_rules.specs.Modules.{module_of}
-use Rattle.td_flat.specs.Flat.{flat, IsLinked}
+use Rattle.td_elab_rules.specs.Modules.{module_of}
+use Rattle.td_front_flat.specs.Flat.{flat, IsLinked}
 use Rattle.td_front.specs.declared.error.FrontError.{FrontError}
 use Rattle.td_front.specs.Checked.{IsChecked}
 use Rattle.td_front.specs.Passes.{IsAdmitted, RefusesTree}

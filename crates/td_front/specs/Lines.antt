@@ -4,8 +4,8 @@ use Rattle.td_core.specs.declared.expressions.Binary.{Binary}
 use Rattle.td_core.specs.declared.expressions.Binary.TheVariants as operator
 use Rattle.td_limits.specs.declared.limits.Limit as limits
 use Rattle.td_limits.specs.declared.limits.Limit.TheVariants as limit
-use Rattle.td_rules.specs.declared.breach.Rule.{Rule}
-use Rattle.td_rules.specs.declared.breach.Rule.TheVariants as rule
+use Rattle.td_elab_rules.specs.declared.breach.Rule.{Rule}
+use Rattle.td_elab_rules.specs.declared.breach.Rule.TheVariants as rule
 use Rattle.td_front.specs.declared.error.FrontError.{FrontError}
 use Rattle.td_front.specs.declared.error.FrontError.TheVariants.{BadByte, OpenComment, BigNumber, Unexpected, Deep, Limit, Broken, Cycle, ZeroElement, RestNotLast, Unsafe, Room, NoMemory}
 

@@ -4,7 +4,7 @@ use Rattle.std.specs.Prelude.{◌≡◌, ◌⊎◌, [], Some, None}
 use Rattle.td_ast.specs.declared.definitions.ModuleTree.{ModuleTree}
 use Rattle.td_limits.specs.Counts.{counts_passed}
 use Rattle.td_limits.specs.Sizes.{sizes_passed}
-use Rattle.td_rules.specs.Modules.{breaches, module_of}
+use Rattle.td_elab_rules.specs.Modules.{breaches, module_of}
 use Rattle.td_elab.specs.Firsts.{IsFirstIn, breaches_in}
 use Rattle.td_kinds.specs.declared.error.KindFault.TheVariants as kind
 use Rattle.td_kinds.specs.KindRules.{kind_faults, first_fault}

@@ -5,11 +5,11 @@ use td_arith::error::ArithError;
 use td_ast::token::Span;
 use td_core::expressions::Binary;
 use td_elab::elaborate::ElabError;
-use td_flat::error::FlatError;
+use td_elab_rules::breach::Rule;
+use td_front_flat::error::FlatError;
 use td_kinds::error::KindError;
 use td_lexer::LexError;
 use td_limits::{Excess, Limit};
-use td_rules::breach::Rule;
 use thiserror::Error;
 
 /// Why a text is no module text. Places are in bytes, from 0. It prints the words of its error line.

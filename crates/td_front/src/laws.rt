@@ -2,19 +2,19 @@
 
 ghost use Rattle.td_front.specs.Laws.{OneModuleEach, OneRefusalEach, NeverBoth, AlwaysOne, ModulesAreChecked, PartsAreAnsweredFlat, ModulesAreAnsweredAlone};
 
-use td_admitted::laws::{
-    depths_are_within, modules_are_within, names_are_words, nodes_are_within, steps_are_sizes,
-    spelled_names_are_apart, types_are_alike, weights_are_within,
-};
 use td_elab::laws::{breaches_are_all, one_is_first, some_is_first};
-use td_flat::laws::each_answered as each_linked;
-use td_grammar::laws::{each_answered, never_both, one_refused, one_too_deep, one_tree};
-use td_lexer::tokens_are_the_splitting;
-use td_linked::laws::one_answer_each as one_of_each;
-use td_rules::laws::{
+use td_elab_rules::laws::{
     fields_are_whole, modules_are_copying, modules_are_formed, modules_are_named,
     modules_are_sorted, modules_are_whole,
 };
+use td_front_facts::laws::{
+    depths_are_within, modules_are_within, names_are_words, nodes_are_within,
+    spelled_names_are_apart, steps_are_sizes, types_are_alike, weights_are_within,
+};
+use td_front_flat::laws::each_answered as each_linked;
+use td_front_flat_facts::laws::one_answer_each as one_of_each;
+use td_grammar::laws::{each_answered, never_both, one_refused, one_too_deep, one_tree};
+use td_lexer::tokens_are_the_splitting;
 
 /// A text stands for at most one module, or has at most one refusal, and never both.
 pub fn one_answer_each()

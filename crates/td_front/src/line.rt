@@ -5,8 +5,8 @@ ghost use Rattle.td_front.specs.Lines.{place_of, code_of, words_of, rule_code, r
 
 use crate::error::FrontError;
 use td_core::expressions::Binary;
+use td_elab_rules::breach::Rule;
 use td_limits::Limit;
-use td_rules::breach::Rule;
 
 /// What an error line says: the byte of the text at which it stands, a code and words.
 #[derive(Clone, Copy)]

@@ -2,12 +2,12 @@
 
 ghost use Rattle.std.specs.Prelude.{◌≡◌, ◌⊎◌, ◌<◌, ◌^◌, None, Err, length, OnOk, IfOk, IfErr};
 ghost use Rattle.td_ast.specs.declared.parts.InputTree.TheVariants as InputTree;
-ghost use Rattle.td_flat.specs.Flat.{flat, written, spelled_names, IsLinked};
+ghost use Rattle.td_front_flat.specs.Flat.{flat, written, spelled_names, IsLinked};
 ghost use Rattle.td_limits.specs.Counts.{counts_passed};
 ghost use Rattle.td_front.specs.Passes.{HasCounts, HasModule, HasKinds, HasSafety, IsAdmitted, RefusesTree};
 ghost use Rattle.td_front.specs.Inputs.{HasInputCounts, HasFewParts, IsAdmittedInput, IsFilled, RefusedByCounts, RefusedByParts, RefusesInput, with_names, input_module};
 ghost use Rattle.td_front.specs.declared.error.FrontError.{FrontError};
-ghost use Rattle.td_rules.specs.Modules.{module_of};
+ghost use Rattle.td_elab_rules.specs.Modules.{module_of};
 
 use crate::error::FrontError;
 use crate::spelled::spelled_module;
@@ -17,10 +17,10 @@ use td_ast::definitions::ModuleTree;
 use td_ast::parts::{InputTree, PartTree};
 use td_core::module::Module;
 use td_elab::elaborate::elaborate;
-use td_flat::flatten::flat_parts;
+use td_front_flat::flatten::flat_parts;
+use td_front_flat_facts::laws::counts_stay;
 use td_kinds::modules::kinds;
 use td_limits::{Excess, counts_passed, counts_passed_in, sizes_passed};
-use td_linked::laws::counts_stay;
 
 /// The first limit by count that an input passes, in the order of the text. Takes no memory.
 fn input_counts_passed(input: &InputTree) -> Option<Excess>

@@ -2,8 +2,8 @@
 
 ghost use Rattle.std.specs.Prelude.{◌≡◌, ◌++◌, [], ◌∷◌, map, drop, get_or, IfOk};
 ghost use Rattle.td_num.specs.Numbers.{rising_at};
-ghost use Rattle.td_flat.specs.Names.{is_numbered, spelled};
-ghost use Rattle.td_flat.specs.Order.{names_of};
+ghost use Rattle.td_front_flat.specs.Names.{is_numbered, spelled};
+ghost use Rattle.td_front_flat.specs.Order.{names_of};
 ghost use Rattle.td_front.specs.Inputs.{with_names};
 
 use std::alloc::{AllocError, Global};

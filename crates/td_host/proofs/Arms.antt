@@ -20,11 +20,11 @@ use Rattle.td_posts.specs.declared.job.HostJob.{HostJob}
 use Rattle.td_posts.specs.declared.ring.RingJob.{RingJob}
 use Rattle.td_descr.specs.Ring.{ReaderView}
 use Rattle.td_posts.specs.Posts.{post_name, mails_from, mails_of, all_mails}
-use Rattle.td_actors.specs.declared.actor.Actor.{Actor}
-use Rattle.td_actors.specs.declared.actor.Actor.TheVariants as kind
-use Rattle.td_actors.specs.declared.actor.Worker.{Worker}
-use Rattle.td_actors.specs.declared.actor.Guest.{Guest}
-use Rattle.td_actors.specs.declared.actor.Taker.{Taker}
+use Rattle.td_host_actors.specs.declared.actor.Actor.{Actor}
+use Rattle.td_host_actors.specs.declared.actor.Actor.TheVariants as kind
+use Rattle.td_host_actors.specs.declared.actor.Worker.{Worker}
+use Rattle.td_host_actors.specs.declared.actor.Guest.{Guest}
+use Rattle.td_host_actors.specs.declared.actor.Taker.{Taker}
 use Rattle.td_vm.specs.Frames.{FrameView, IsArmed}
 use Rattle.td_ir.specs.declared.tables.Parts.{Parts}
 use Rattle.td_vm.specs.Need.{most_need, level}
@@ -32,9 +32,9 @@ use Rattle.td_swap.specs.declared.version.Version.{Version}
 use Rattle.td_swap.specs.Versions.{version_code}
 use Rattle.td_swap.specs.Views.{new_view}
 use Rattle.td_swap.specs.Seats.{swap_state}
-use Rattle.td_actors.specs.Actors.{Service, IsTakerReady}
-use Rattle.td_actors.specs.Acting.{most_frames, AreArmed, RoomsFor, StoresInside, post_of}
-use Rattle.td_actors.proofs.Posting.{Posting, mail_by, mails_post}
+use Rattle.td_host_actors.specs.Actors.{Service, IsTakerReady}
+use Rattle.td_host_actors.specs.Acting.{most_frames, AreArmed, RoomsFor, StoresInside, post_of}
+use Rattle.td_host_actors.proofs.Posting.{Posting, mail_by, mails_post}
 use Rattle.td_host.specs.Gathered.{FreshWorker, FreshWorkers, FreshGuest, FreshGuests, FreshTaker, FreshTakers, WorkersSeated, GuestsSeated, TakersSeated, Armed, host_at, posts_at, takes_at, draws_at}
 
 -- ---- posts of a script that is gone through

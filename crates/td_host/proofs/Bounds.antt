@@ -8,7 +8,7 @@ use Rattle.td_posts.specs.declared.job.Step.TheVariants as step
 use Rattle.td_posts.specs.declared.job.HostJob.{HostJob}
 use Rattle.td_posts.specs.Posts.{mails_from, mails_of, all_mails, stores_of, all_stores}
 use Rattle.td_posts.specs.Servable.{IsServable}
-use Rattle.td_actors.specs.Acting.{StoresInside}
+use Rattle.td_host_actors.specs.Acting.{StoresInside}
 use Rattle.td_host.specs.Gathered.{IsBounded}
 
 -- each step is a post or a store

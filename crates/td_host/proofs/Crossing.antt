@@ -42,7 +42,7 @@ use Rattle.td_ring.specs.declared.naming.Naming.{Ghosts}
 use Rattle.td_ring.proofs.ring.Ring.TheSendSync as ring
 use Rattle.td_ring.proofs.tickets.Tickets.TheSendSync as tickets
 use Rattle.td_swap.proofs.codes.Codes.TheSendSync as codes
-use Rattle.td_actors.specs.contracts.actor.Desk as desk
+use Rattle.td_host_actors.specs.contracts.actor.Desk as desk
 
 pub ruleset leaves = (known.crosses, known.sync, step.the_sync, step.the_field_sync, post_name.the_sync, post_name.the_field_sync, ring_job.the_sync, ring_job.the_field_sync, span.the_field_sync, span.the_sync, number_type.the_field_sync, number_type.the_sync, items.the_sync, text.the_sync, scalar.the_field_sync, scalar.the_sync, binary.the_field_sync, binary.the_sync, relation.the_field_sync, relation.the_sync, full_name.the_sync, name_id.the_field_sync, name_id.the_sync, bits.the_field_sync, bits.the_sync, param.the_field_sync, param.the_sync, cell.the_field_sync, cell.the_sync, entry.the_field_sync, entry.the_sync)
 

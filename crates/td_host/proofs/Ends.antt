@@ -12,11 +12,11 @@ use Rattle.td_words.specs.declared.view.HostView.{HostView}
 use Rattle.td_words.specs.History.{loads, stores}
 use Rattle.td_words.specs.Views.{seat_view, host_view, with_ended}
 use Rattle.td_words.specs.Seats.{SeatState, BufferState}
-use Rattle.td_roll.specs.declared.parts.Part.{Part}
-use Rattle.td_roll.specs.declared.parts.Head.{Head}
-use Rattle.td_roll.specs.Roll.{part_of, head_of, owned}
+use Rattle.td_ring.specs.declared.roll.Part.{Part}
+use Rattle.td_ring.specs.declared.roll.Head.{Head}
+use Rattle.td_ring.specs.Roll.{part_of, head_of, owned}
 use Rattle.td_ring.specs.declared.post.Post.{Post}
-use Rattle.td_roll.specs.Heads.{with_ended as part_ended}
+use Rattle.td_ring.specs.Heads.{with_ended as part_ended}
 use Rattle.td_ring.specs.Ring.{PassState, RingState, ring_view}
 use Rattle.td_ring.specs.Tickets.{DrawerState, ticket_view}
 use Rattle.td_posts.specs.declared.job.Step.{Step}
@@ -28,12 +28,12 @@ use Rattle.td_posts.specs.Posts.{all_mails, stores_of, reply_name, version_in}
 use Rattle.td_swap.specs.declared.view.SwapView.{SwapView}
 use Rattle.td_swap.specs.Views.{swap_view, new_view}
 use Rattle.td_swap.specs.Seats.{SwapState, swap_state}
-use Rattle.td_actors.specs.declared.actor.Actor.{Actor}
-use Rattle.td_actors.specs.declared.actor.Actor.TheVariants as kind
-use Rattle.td_actors.specs.Replies.{pieces}
+use Rattle.td_host_actors.specs.declared.actor.Actor.{Actor}
+use Rattle.td_host_actors.specs.declared.actor.Actor.TheVariants as kind
+use Rattle.td_host_actors.specs.Replies.{pieces}
 use Rattle.td_host.specs.Served.{In, ArePieces, joined, AreStored, ArePosted, AnswerTakes}
-use Rattle.td_actors.specs.Acting.{acts_of, guest_seat, read_seat, post_pass, take_pass, ticket_seat, RanScript, RanWorker, Answered}
-use Rattle.td_actors.specs.Actors.{Service, Did}
+use Rattle.td_host_actors.specs.Acting.{acts_of, guest_seat, read_seat, post_pass, take_pass, ticket_seat, RanScript, RanWorker, Answered}
+use Rattle.td_host_actors.specs.Actors.{Service, Did}
 use Rattle.td_host.specs.Gathered.{view_of, put_one, take_one, draw_one, swap_one, seats_all, puts_all, takes_all, draws_all, swaps_all, all_replies, takes_of_all, FreshWorkers, FreshGuests}
 use Rattle.td_host.proofs.Shares.{one_below}
 

@@ -5,13 +5,13 @@ use Rattle.std.proofs.lemmas.List.Elements.{All-head, All-tail}
 use Rattle.std.proofs.lemmas.List.{append-nil}
 use Rattle.td_words.specs.Views.{with_ended}
 use Rattle.td_words.specs.Seats.{BufferState, HostState, with_view}
-use Rattle.td_roll.specs.declared.parts.Part.{Part}
-use Rattle.td_roll.specs.declared.parts.Head.{Head}
+use Rattle.td_ring.specs.declared.roll.Part.{Part}
+use Rattle.td_ring.specs.declared.roll.Head.{Head}
 use Rattle.td_ring.specs.declared.post.Post.{Post}
 use Rattle.td_ring.specs.declared.view.RingView.{RingView}
 use Rattle.atomic_table.specs.Seated.{TableId}
 use Rattle.td_ring.specs.declared.view.TicketView.{TicketView}
-use Rattle.td_roll.specs.Heads.{HasHead, with_ended as part_ended}
+use Rattle.td_ring.specs.Heads.{HasHead, with_ended as part_ended}
 use Rattle.td_ring.specs.Ring.{PassState, RingState, pass_with}
 use Rattle.td_ring.specs.Tickets.{DrawerState, drawer_with}
 use Rattle.td_posts.specs.declared.reply.Reply.{Reply}
@@ -20,9 +20,9 @@ use Rattle.td_swap.specs.declared.view.SwapView.{SwapView}
 use Rattle.td_swap.specs.Versions.{CodesState}
 use Rattle.td_swap.specs.Views.{AreVersions}
 use Rattle.td_swap.specs.Seats.{SwapState, IsOwn, swap_state}
-use Rattle.td_actors.specs.declared.actor.Actor.{Actor}
-use Rattle.td_actors.specs.declared.actor.Actor.TheVariants as kind
-use Rattle.td_actors.specs.Actors.{replies_of}
+use Rattle.td_host_actors.specs.declared.actor.Actor.{Actor}
+use Rattle.td_host_actors.specs.declared.actor.Actor.TheVariants as kind
+use Rattle.td_host_actors.specs.Actors.{replies_of}
 use Rattle.td_host.specs.Gathered.{view_of, IsAt, put_one, take_one, draw_one, swap_one, takes_of, seats_all, puts_all, takes_all, draws_all, swaps_all, all_replies, takes_of_all}
 
 put_keeps : (h : Option (Head Post)) (p : Option (Part Post)) → HasHead h → HasHead (part_ended h p)

@@ -7,8 +7,8 @@ use Rattle.std.proofs.lemmas.List.Elements.{All-nil, All-head, All-tail, All-app
 use Rattle.std.proofs.lemmas.List.Sorted.{All-permutation}
 use Rattle.td_num.proofs.Lists.{all_left}
 use Rattle.td_posts.specs.declared.reply.Reply.{Reply}
-use Rattle.td_actors.specs.declared.actor.Actor.{Actor}
-use Rattle.td_actors.specs.Actors.{replies_of}
+use Rattle.td_host_actors.specs.declared.actor.Actor.{Actor}
+use Rattle.td_host_actors.specs.Actors.{replies_of}
 use Rattle.td_host.specs.Gathered.{all_replies}
 
 module _ {G : Type 0} (P : Reply → Type 0) where

@@ -15,10 +15,10 @@ use Rattle.td_posts.specs.Posts.{mails_of}
 use Rattle.td_swap.specs.Views.{new_view}
 use Rattle.td_swap.specs.Seats.{PublishState, SwapState, swap_state}
 use Rattle.td_host.specs.Hosts.{first_publisher}
-use Rattle.td_actors.specs.declared.actor.Actor.{Actor}
-use Rattle.td_actors.specs.declared.actor.Actor.TheVariants as kind
-use Rattle.td_actors.specs.Acting.{RoomsFor, StoresInside, guest_seat, read_seat, post_pass, take_pass, ticket_seat, RanScript, RanPublisher, RanWorker}
-use Rattle.td_actors.specs.Actors.{Service, IsReady, Did}
+use Rattle.td_host_actors.specs.declared.actor.Actor.{Actor}
+use Rattle.td_host_actors.specs.declared.actor.Actor.TheVariants as kind
+use Rattle.td_host_actors.specs.Acting.{RoomsFor, StoresInside, guest_seat, read_seat, post_pass, take_pass, ticket_seat, RanScript, RanPublisher, RanWorker}
+use Rattle.td_host_actors.specs.Actors.{Service, IsReady, Did}
 use Rattle.td_posts.specs.declared.ring.RingJob.{RingJob}
 use Rattle.td_descr.specs.Ring.{ReaderView}
 use Rattle.td_takes.specs.Takes.{RanRing}

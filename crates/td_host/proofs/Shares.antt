@@ -9,10 +9,10 @@ use Rattle.std.proofs.lemmas.List.Elements.{All-nil, All-push, All-weaker, All-c
 use Rattle.std.proofs.lemmas.List.Sorted.{IsPermutation-sym, IsPermutation-trans, length_permutation, sum_by-IsPermutation, Contains-permutation}
 use Rattle.std.proofs.lemmas.List.Sums.{sum_by_push}
 use Rattle.std.proofs.lemmas.List.{append-nil, nil_from_length}
-use Rattle.td_roll.specs.declared.parts.Part.{Part}
-use Rattle.td_roll.specs.declared.parts.Head.{Head}
-use Rattle.td_roll.specs.Roll.{Entry, all_entries, owned}
-use Rattle.td_roll.specs.Heads.{AreInLog}
+use Rattle.td_ring.specs.declared.roll.Part.{Part}
+use Rattle.td_ring.specs.declared.roll.Head.{Head}
+use Rattle.td_ring.specs.Roll.{Entry, all_entries, owned}
+use Rattle.td_ring.specs.Heads.{AreInLog}
 use Rattle.td_ring.specs.declared.post.Post.{Post}
 use Rattle.td_ring.specs.declared.view.RingView.{RingView}
 use Rattle.td_ring.specs.Ring.{Settled}

@@ -27,11 +27,11 @@ use Rattle.td_descr.specs.declared.next.Next.TheVariants.{Idle, Overrun, Bad, Me
 use Rattle.td_takes.specs.declared.take.Take.{Take}
 use Rattle.td_takes.specs.Takes.{Describes, AreTakes, RanRing, HasDone, all_steps, take_steps, taken_after, ring_steps, ring_layout, message_layout, message_steps, loads_of}
 use Rattle.td_takes.specs.TakesServed.{AreTaken, all_takes}
-use Rattle.td_actors.specs.declared.actor.Actor.{Actor}
-use Rattle.td_actors.specs.declared.actor.Actor.TheVariants as kind
-use Rattle.td_actors.specs.Acting.{read_seat}
-use Rattle.td_actors.specs.Actors.{Service}
-use Rattle.td_actors.proofs.Works.{stores-append, no_stores}
+use Rattle.td_host_actors.specs.declared.actor.Actor.{Actor}
+use Rattle.td_host_actors.specs.declared.actor.Actor.TheVariants as kind
+use Rattle.td_host_actors.specs.Acting.{read_seat}
+use Rattle.td_host_actors.specs.Actors.{Service}
+use Rattle.td_host_actors.proofs.Works.{stores-append, no_stores}
 use Rattle.td_host.specs.Served.{In}
 use Rattle.td_host.specs.Hosts.{takes_in}
 use Rattle.td_host.specs.Gathered.{view_of, takes_of_all, all_replies, IsDescribedBy, IsReaderBy, FreshWorkers, FreshGuests, FreshTaker, FreshTakers, WorkersSeated, GuestsSeated, TakersSeated}

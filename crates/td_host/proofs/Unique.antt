@@ -8,10 +8,10 @@ use Rattle.td_posts.specs.declared.reply.Reply.{Reply}
 use Rattle.td_posts.specs.declared.job.HostJob.{HostJob}
 use Rattle.td_posts.specs.Posts.{all_mails, mail_named, reply_name}
 use Rattle.td_posts.proofs.Unique.{each_first}
-use Rattle.td_actors.specs.Replies.{IsReplyTo}
+use Rattle.td_host_actors.specs.Replies.{IsReplyTo}
 use Rattle.td_host.specs.Served.{RepliesTo}
-use Rattle.td_actors.specs.Acting.{Answered}
-use Rattle.td_actors.proofs.Named.{some_same}
+use Rattle.td_host_actors.specs.Acting.{Answered}
+use Rattle.td_host_actors.proofs.Named.{some_same}
 
 module _ (job : HostJob) where
   replies_each : (ms : List Mail) (rs : List Reply) → map reply_name rs ≡ map (λ (m : Mail). m.name) ms → All (Answered job) rs → All (λ (m : Mail). mail_named m.name (all_mails 1 job.guests) ≡ Some m) ms → RepliesTo job ms rs

@@ -12,9 +12,9 @@ use Rattle.td_words.specs.Views.{host_view}
 use Rattle.td_words.specs.History.{Entry as HistoryEntry}
 use Rattle.td_words.specs.Gathered.{Fetched, Told}
 use Rattle.td_words.specs.Seats.{BufferState, HostState}
-use Rattle.td_roll.specs.declared.parts.Part.{Part}
-use Rattle.td_roll.specs.declared.parts.Head.{Head}
-use Rattle.td_roll.specs.Roll.{Entry, part_of, head_of, owned}
+use Rattle.td_ring.specs.declared.roll.Part.{Part}
+use Rattle.td_ring.specs.declared.roll.Head.{Head}
+use Rattle.td_ring.specs.Roll.{Entry, part_of, head_of, owned}
 use Rattle.td_ring.specs.declared.post.Post.{Post}
 use Rattle.td_ring.specs.declared.view.RingView.{RingView}
 use Rattle.td_ring.specs.declared.view.TicketView.{TicketView}
@@ -31,11 +31,11 @@ use Rattle.td_swap.specs.Views.{publisher_view, swap_view, new_view, IsVersionRu
 use Rattle.td_host.specs.Versioned.{Versioned, ServedVersions}
 use Rattle.td_core.specs.declared.module.Module.{Module}
 use Rattle.td_takes.specs.declared.take.Take.{Take}
-use Rattle.td_actors.specs.declared.actor.Actor.{Actor}
-use Rattle.td_actors.specs.Replies.{label, mail_label}
+use Rattle.td_host_actors.specs.declared.actor.Actor.{Actor}
+use Rattle.td_host_actors.specs.Replies.{label, mail_label}
 use Rattle.td_host.specs.Served.{ArePosted, joined, AnswerTakes, Served}
-use Rattle.td_actors.specs.Acting.{Answered}
-use Rattle.td_actors.specs.Actors.{Service, replies_of}
+use Rattle.td_host_actors.specs.Acting.{Answered}
+use Rattle.td_host_actors.specs.Actors.{Service, replies_of}
 use Rattle.td_host.specs.Gathered.{view_of, seats_all, puts_all, takes_all, draws_all, swaps_all, all_replies, takes_of, takes_of_all, IsDescribedBy, Armed}
 use Rattle.td_host.proofs.Shares.{all_taken, drawn_all, drawn_below}
 use Rattle.td_host.proofs.Ends.{put_of, take_of, draw_of, swaps_of, put_parts, take_parts, draw_parts, swap_lists, swaps_are, seats_are, puts_are, takes_are, draws_are, DidAll, did_both, GuestsDone, guests_done, WorkersDone, workers_done, cons_opt}

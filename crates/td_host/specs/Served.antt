@@ -6,9 +6,9 @@ use Rattle.td_words.specs.declared.view.SeatView.{SeatView}
 use Rattle.td_words.specs.declared.view.HostView.{HostView}
 use Rattle.td_words.specs.History.{Entry, loads, stores}
 use Rattle.td_words.specs.Gathered.{Told}
-use Rattle.td_roll.specs.declared.parts.Part.{Part}
-use Rattle.td_roll.specs.declared.parts.Head.{Head}
-use Rattle.td_roll.specs.Roll.{part_of, owned}
+use Rattle.td_ring.specs.declared.roll.Part.{Part}
+use Rattle.td_ring.specs.declared.roll.Head.{Head}
+use Rattle.td_ring.specs.Roll.{part_of, owned}
 use Rattle.td_ring.specs.declared.post.Post.{Post}
 use Rattle.td_ring.specs.declared.view.RingView.{RingView}
 use Rattle.td_posts.specs.declared.job.Step.{Step}
@@ -19,7 +19,7 @@ use Rattle.td_posts.specs.Posts.{mails_of, all_mails, stores_of, reply_name}
 use Rattle.td_core.specs.declared.module.Module.{Module}
 use Rattle.td_takes.specs.declared.take.Take.{Take}
 use Rattle.td_takes.specs.TakesServed.{TakesServed}
-use Rattle.td_actors.specs.Replies.{IsReplyTo, pieces, label, mail_label}
+use Rattle.td_host_actors.specs.Replies.{IsReplyTo, pieces, label, mail_label}
 
 -- the first replies to the first, the second to the second, and so on; there are as many of the one as of the other
 unfoldable pub RepliesTo : HostJob → List Mail → List Reply → Type 0

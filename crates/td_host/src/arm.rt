@@ -9,9 +9,9 @@ ghost use Rattle.td_posts.specs.Posts.{mails_of, all_mails, mail_named, scattere
 ghost use Rattle.td_posts.specs.Servable.{IsServable};
 ghost use Rattle.td_core.specs.declared.module.Module.{Module};
 ghost use Rattle.td_posts.specs.declared.limits.TheConstants.{MOST_WORKERS, MOST_POSTS};
-ghost use Rattle.td_actors.specs.Acting.{AreArmed, Fits, most_frames, RoomsFor};
+ghost use Rattle.td_host_actors.specs.Acting.{AreArmed, Fits, most_frames, RoomsFor};
 ghost use Rattle.td_host.specs.Hosts.{IsOpened, AreFresh, IsCrew, first_swap};
-ghost use Rattle.td_actors.specs.Actors.{service_at};
+ghost use Rattle.td_host_actors.specs.Actors.{service_at};
 ghost use Rattle.td_host.specs.Gathered.{IsBounded, host_at, posts_at, takes_at, draws_at, WorkersSeated, GuestsSeated, AreReadersOf, IsReaderBy, IsDescribedBy};
 
 use crate::gather::{Heads, VersionSeats};
@@ -22,9 +22,9 @@ use crate::serve::Crew;
 use std::alloc::{AllocError, Global};
 use std::collections::VecDeque;
 use std::snapshot::Snapshot;
-use td_actors::actor::{Actor, Desk, Guest, Worker};
 use td_core::outcome::Verdict;
 use td_descr::Descr;
+use td_host_actors::actor::{Actor, Desk, Guest, Worker};
 use td_num::items::Items;
 use td_posts::job::{HostJob, Step};
 use td_posts::mail::{Mail, word_count};

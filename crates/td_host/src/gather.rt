@@ -4,15 +4,15 @@ ghost use Rattle.std.specs.Prelude.{◌≡◌, ◌+◌, ◌≤◌, ◌++◌, len
 ghost use Rattle.std.specs.List.{All};
 ghost use Rattle.td_words.specs.Seats.{with_view};
 ghost use Rattle.td_words.specs.Views.{with_ended};
-ghost use Rattle.td_roll.specs.Heads.{HasHead};
+ghost use Rattle.td_ring.specs.Heads.{HasHead};
 ghost use Rattle.td_ring.specs.Ring.{pass_with, with_put, with_take};
 ghost use Rattle.td_ring.specs.Tickets.{drawer_with, with_seat};
 ghost use Rattle.td_swap.specs.Views.{AreVersions};
 ghost use Rattle.td_swap.specs.Seats.{IsOwn, then_gathered, swap_state};
-ghost use Rattle.td_actors.specs.Actors.{replies_of};
+ghost use Rattle.td_host_actors.specs.Actors.{replies_of};
 ghost use Rattle.td_host.specs.Gathered.{IsAt, view_of, put_one, take_one, draw_one, swap_one, takes_of, seats_all, puts_all, takes_all, draws_all, swaps_all, all_replies, takes_of_all};
 
-use td_actors::actor::{Actor, Desk, Guest, Taker, Worker};
+use td_host_actors::actor::{Actor, Desk, Guest, Taker, Worker};
 use td_posts::reply::Reply;
 use td_ring::naming::Naming;
 use td_ring::passes::{PostPass, TakePass};

@@ -4,9 +4,9 @@ ghost use Rattle.std.specs.Prelude.{◌≡◌, ◌+◌, ◌*◌, [], length, IfO
 ghost use Rattle.std.specs.List.{All};
 ghost use Rattle.td_core.specs.declared.module.Module.{Module};
 ghost use Rattle.td_ring.specs.declared.post.Post.{Post};
-ghost use Rattle.td_actors.specs.Acting.{Fits, IsInRoom, most_frames};
+ghost use Rattle.td_host_actors.specs.Acting.{Fits, IsInRoom, most_frames};
 ghost use Rattle.td_posts.specs.Servable.{IsServable};
-ghost use Rattle.td_actors.specs.Replies.{IsJobCode};
+ghost use Rattle.td_host_actors.specs.Replies.{IsJobCode};
 ghost use Rattle.td_host.specs.Gathered.{AreReadersOf, IsReaderBy};
 ghost use Rattle.td_host.specs.Hosts.{IsArmed, IsOpened, AreFresh, HasDescribed, IsServed, replies_in, takes_made, published_in};
 
@@ -17,8 +17,8 @@ use crate::serve::{Crew, Finished, serve_all};
 use std::alloc::{AllocError, Global};
 use std::sync::Wait;
 use std::thread::Threads;
-use td_actors::actor::Desk;
 use td_descr::Descr;
+use td_host_actors::actor::Desk;
 use td_live::gate::Gate;
 use td_num::items::Items;
 use td_posts::job::HostJob;

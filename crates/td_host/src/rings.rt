@@ -5,7 +5,7 @@ ghost use Rattle.std.specs.List.{All};
 ghost use Rattle.td_posts.specs.Servable.{IsRingWithin};
 ghost use Rattle.td_posts.specs.declared.limits.TheConstants.{MOST_RINGS, MOST_TAKES};
 ghost use Rattle.td_takes.specs.Takes.{IsRoom, AreRooms};
-ghost use Rattle.td_actors.specs.Actors.{service_at, IsTakerReady};
+ghost use Rattle.td_host_actors.specs.Actors.{service_at, IsTakerReady};
 ghost use Rattle.td_host.specs.Hosts.{takes_in};
 ghost use Rattle.td_host.specs.Gathered.{host_at, TakersSeated, IsReaderOf, AreReadersOf};
 
@@ -13,8 +13,8 @@ use crate::arm::room_for;
 use crate::gather::Heads;
 use std::alloc::{AllocError, Global};
 use std::collections::VecDeque;
-use td_actors::actor::{Actor, Desk, Taker};
 use td_descr::Descr;
+use td_host_actors::actor::{Actor, Desk, Taker};
 use td_posts::job::HostJob;
 use td_posts::name::PostName;
 use td_posts::ring::RingJob;

@@ -5,9 +5,9 @@ ghost use Rattle.std.specs.List.{All};
 ghost use Rattle.td_core.specs.declared.module.Module.{Module};
 ghost use Rattle.td_host.specs.Gathered.{AreReadersOf, IsReaderBy};
 ghost use Rattle.td_ring.specs.declared.post.Post.{Post};
-ghost use Rattle.td_actors.specs.Acting.{Fits, IsInRoom, most_frames};
+ghost use Rattle.td_host_actors.specs.Acting.{Fits, IsInRoom, most_frames};
 ghost use Rattle.td_posts.specs.Servable.{IsServable};
-ghost use Rattle.td_actors.specs.Replies.{IsJobCode};
+ghost use Rattle.td_host_actors.specs.Replies.{IsJobCode};
 ghost use Rattle.td_host.specs.Hosts.{IsServedJob};
 
 use crate::host::{Host, ServedJob};

@@ -10,14 +10,14 @@ use Rattle.td_ir.specs.declared.tables.Parts.{Parts}
 use Rattle.td_ir.specs.declared.tables.Site.{Site}
 use Rattle.td_ir.specs.declared.tables.Routine.{Routine}
 use Rattle.td_ir.specs.Tables.{site_of, first_of, end_of}
-use Rattle.td_turning.specs.Turning.{used_by, renumbered, routine_code, number_in, own_code, code_below, sites_below, turned}
-use Rattle.td_turning.specs.Laws.{IsDivided}
-use Rattle.td_turning.specs.declared.turning.TheConstants.{NO_SITE}
-use Rattle.td_turning.proofs.Sites.{few_sites, few_used, end_within, code_long}
+use Rattle.td_image_upgrade.specs.Turning.{used_by, renumbered, routine_code, number_in, own_code, code_below, sites_below, turned}
+use Rattle.td_image_upgrade.specs.Laws.{IsDivided}
+use Rattle.td_image_upgrade.specs.declared.turning.TheConstants.{NO_SITE}
+use Rattle.td_image_upgrade.proofs.Sites.{few_sites, few_used, end_within, code_long}
 use Rattle.td_ir.proofs.Begins.{begin_next}
 use Rattle.td_ir.specs.WellFormed.{IsCode}
 use Rattle.std.proofs.lemmas.List.{length-take}
-use Rattle.td_turning.proofs.Places.{place_within}
+use Rattle.td_image_upgrade.proofs.Places.{place_within}
 use Rattle.td_image.specs.declared.limits.TheConstants.{MOST_ROWS, FIRST_ROWS, MOST_INSTRUCTIONS, FIRST_INSTRUCTIONS, MOST_NUMBERS, FIRST_NUMBERS, MOST_MAPPED}
 use Rattle.td_image.specs.declared.version.ImageVersion.{ImageVersion}
 use Rattle.td_image.specs.declared.version.ImageVersion.TheVariants.{First, Second, Third}

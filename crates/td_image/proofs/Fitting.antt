@@ -19,8 +19,8 @@ use Rattle.td_image.specs.declared.version.ImageVersion.TheVariants.{First, Seco
 use Rattle.td_image.specs.declared.version.Spelled.{Spelled}
 use Rattle.td_image.specs.Versions.{most_numbers, most_instructions, has_owners}
 use Rattle.td_image.specs.Answer.{code_in, code_of}
-use Rattle.td_turning.specs.Laws.{IsDivided, IsOldCode}
-use Rattle.td_turning.proofs.Codes.{turned_is_code}
+use Rattle.td_image_upgrade.specs.Laws.{IsDivided, IsOldCode}
+use Rattle.td_image_upgrade.proofs.Codes.{turned_is_code}
 use Rattle.td_image.specs.Format.{Format, all_fit}
 use Rattle.td_image.specs.Image as format
 use Rattle.td_num.proofs.Truths.{or_cases as either, both_true as both}

@@ -20,10 +20,10 @@ use Rattle.td_core.specs.declared.module.Module.{Module}
 use Rattle.td_core.specs.declared.module.Entry.{Entry}
 use Rattle.td_core.specs.declared.module.TypeDef.{TypeDef}
 use Rattle.td_core.specs.Entries.{IsEntryNamed, HasName, entry_definition}
-use Rattle.td_values.specs.Datum.{data_of}
-use Rattle.td_values.specs.Spelling.{spelling}
-use Rattle.td_spelled.specs.Laws.{HoldsBytes, HoldBytes}
-use Rattle.td_spelled.proofs.Small.{spelled_are_bytes}
+use Rattle.td_write_values.specs.Datum.{data_of}
+use Rattle.td_write_values.specs.Spelling.{spelling}
+use Rattle.td_write_spells.specs.Laws.{HoldsBytes, HoldBytes}
+use Rattle.td_write_spells.proofs.Small.{spelled_are_bytes}
 use Rattle.td_job.specs.declared.error.Key.TheVariants as key
 use Rattle.td_job.specs.declared.error.Path.TheVariants as path
 use Rattle.td_job.specs.declared.error.JobError.{JobError}

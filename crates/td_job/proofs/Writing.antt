@@ -12,12 +12,12 @@ use Rattle.td_core.specs.Entries.{entry_definition}
 use Rattle.td_core.specs.Formed.{AllFit, params_at, cells_at}
 use Rattle.td_meaning.specs.Meaning.{meaning}
 use Rattle.td_meaning.specs.Copies.{opened}
-use Rattle.td_values.specs.declared.error.WriteRule.{WriteRule}
-use Rattle.td_values.specs.declared.limits.TheConstants.{MOST_WRITTEN}
-use Rattle.td_values.specs.Datum.{Datum}
-use Rattle.td_values.specs.Spelling.{spelling}
-use Rattle.td_values.specs.Writing.{Written, Done, Refused, writing, whole}
-use Rattle.td_spelled.specs.Laws.{IsExact, WritingIsExact, KindsAreAdmitted}
+use Rattle.td_write_values.specs.declared.error.WriteRule.{WriteRule}
+use Rattle.td_write_values.specs.declared.limits.TheConstants.{MOST_WRITTEN}
+use Rattle.td_write_values.specs.Datum.{Datum}
+use Rattle.td_write_values.specs.Spelling.{spelling}
+use Rattle.td_write_values.specs.Writing.{Written, Done, Refused, writing, whole}
+use Rattle.td_write_spells.specs.Laws.{IsExact, WritingIsExact, KindsAreAdmitted}
 use Rattle.td_write.specs.Answers.{IsWritable, IsAccepted, IsAppended}
 use Rattle.td_write.proofs.Whole.{nowhere}
 use Rattle.td_job.specs.declared.error.JobError.{JobError}

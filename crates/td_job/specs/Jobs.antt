@@ -22,9 +22,9 @@ use Rattle.td_core.specs.Formed.{AllFit}
 use Rattle.td_num.specs.Numbers.{rising_at}
 use Rattle.td_stream.specs.declared.stretch.Stretch.{Stretch}
 use Rattle.td_stream.specs.Layouts.{length_in, count_in, laid, counted, IsOver}
-use Rattle.td_values.specs.Spelling.{spelling}
+use Rattle.td_write_values.specs.Spelling.{spelling}
 use Rattle.td_meaning.specs.Copies.{opened}
-use Rattle.td_values.specs.Writing.{writing, whole as whole_numbers}
+use Rattle.td_write_values.specs.Writing.{writing, whole as whole_numbers}
 use Rattle.td_sched.specs.declared.store.PlannedStore.{PlannedStore}
 use Rattle.td_job.specs.declared.error.Key.{Key}
 use Rattle.td_job.specs.declared.error.Key.TheVariants as key

@@ -4,11 +4,11 @@ use Rattle.serde_json.specs.Data.{Data}
 use Rattle.td_core.specs.declared.module.Module.{Module}
 use Rattle.td_core.specs.declared.module.Entry.{Entry}
 use Rattle.td_core.specs.Entries.{entry_definition}
-use Rattle.td_values.specs.declared.limits.TheConstants.{MOST_WRITTEN}
-use Rattle.td_values.specs.Datum.{Datum}
-use Rattle.td_values.specs.Spelling.{spelling}
+use Rattle.td_write_values.specs.declared.limits.TheConstants.{MOST_WRITTEN}
+use Rattle.td_write_values.specs.Datum.{Datum}
+use Rattle.td_write_values.specs.Spelling.{spelling}
 use Rattle.td_meaning.specs.Copies.{opened}
-use Rattle.td_values.specs.Writing.{writing, whole}
+use Rattle.td_write_values.specs.Writing.{writing, whole}
 use Rattle.td_job.specs.Values.{given_args, given_cells}
 use Rattle.td_job.specs.Jobs.{BeginsWithValue}
 use Rattle.td_job.specs.Written.{datum_of, write_faults}

@@ -9,7 +9,7 @@ use std::alloc::AllocError;
 use std::fmt;
 use td_num::items::Items;
 use td_num::text::Text;
-use td_values::error::WriteRule;
+use td_write_values::error::WriteRule;
 use thiserror::Error;
 
 /// The name of a field of a run job, of a host job, or of a guest or a ring in one, or of a total over a host job.

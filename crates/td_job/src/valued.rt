@@ -7,7 +7,7 @@ ghost use Rattle.serde_json.specs.View.{view};
 ghost use Rattle.td_core.specs.Entries.{entry_definition};
 ghost use Rattle.td_core.specs.Formed.{AllFit, params_at, cells_at};
 ghost use Rattle.td_meaning.specs.Copies.{opened};
-ghost use Rattle.td_values.specs.Writing.{Written, writing, whole};
+ghost use Rattle.td_write_values.specs.Writing.{Written, writing, whole};
 ghost use Rattle.td_write.specs.Answers.{IsWritable, IsRefusal};
 ghost use Rattle.td_job.specs.Fields.{field_of, fault_if_there, IsFirst};
 ghost use Rattle.td_job.specs.Jobs.{beside_faults, faults_by, first_unknown, from_value, given_stores, run_keys, stores_faults, unknown_faults, BeginsWithValue, FirstFaultBy, HasRoom, IsJobWith};
@@ -28,9 +28,9 @@ use td_core::module::{Entry, Module};
 use td_num::items::Items;
 use td_num::text::Text;
 use td_sched::store::PlannedStore;
-use td_spelled::laws::{kinds_are_admitted, writing_is_exact};
-use td_values::error::{WriteError, WriteRule};
 use td_write::write_value;
+use td_write_spells::laws::{kinds_are_admitted, writing_is_exact};
+use td_write_values::error::{WriteError, WriteRule};
 
 /// Tests that a field doesn't stand beside a value. J2: it does. Takes no memory.
 fn check_absent(job: &Json, key: Key) -> Result<(), JobError>

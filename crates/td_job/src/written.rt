@@ -4,7 +4,7 @@ ghost use Rattle.std.specs.Prelude.{◌≡◌, ◌≢◌, [], None, IfOk, IfErr,
 ghost use Rattle.hex.specs.Hex.{decode_of};
 ghost use Rattle.serde_json.specs.Find.{as_array};
 ghost use Rattle.serde_json.specs.View.{view, items_view};
-ghost use Rattle.td_values.specs.DatumView.{datum_at};
+ghost use Rattle.td_write_values.specs.DatumView.{datum_at};
 ghost use Rattle.td_job.specs.Fields.{bytes_or_none, IsFirst};
 ghost use Rattle.td_job.specs.Written.{worse, form_faults, form_of, forms_of, datum_of, datums_of};
 
@@ -14,7 +14,7 @@ use hex::FromHexError;
 use serde_json::Value as Json;
 use std::alloc::{AllocError, Global};
 use td_num::text::Text;
-use td_values::value::{Value, ValueKind, Values};
+use td_write_values::value::{Value, ValueKind, Values};
 
 /// What is wrong with the form of a value.
 #[derive(Clone, Copy)]

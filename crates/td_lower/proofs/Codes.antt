@@ -24,16 +24,16 @@ use Rattle.td_ir.specs.declared.tables.Parts.{Parts}
 use Rattle.td_ir.specs.declared.tables.Site.{Site}
 use Rattle.td_ir.specs.Tables.{routine_of, site_of, entry_of, param_of, cell_of, lengths_of, begin}
 use Rattle.td_ir.specs.WellFormed.{IsName as IsNameIn, IsField, IsSite, IsRoutine, IsCellNamed, AreBuffers, IsEntry, IsCode}
-use Rattle.td_blocks.specs.Block.{size, LayingOut}
-use Rattle.td_blocks.specs.Constructs.{body}
-use Rattle.td_blocks.specs.Lowered.{definition_body, definition_block, block_of, first_site, sites_in}
-use Rattle.td_blocks.specs.Laid.{IsLaid}
-use Rattle.td_blocks.specs.Placed.{count_of}
-use Rattle.td_blocks.specs.Tabled.{IsTabled, DefinitionSited}
-use Rattle.td_blocks.specs.Tops.{fields_levels, cases_levels, body_levels}
-use Rattle.td_acceptance.specs.Laws.{BlocksHaveCode}
-use Rattle.td_acceptance.specs.Modules.{IsSupplied}
-use Rattle.td_acceptance.specs.Good.{IsSiteOf}
+use Rattle.td_lower_blocks.specs.Block.{size, LayingOut}
+use Rattle.td_lower_blocks.specs.Constructs.{body}
+use Rattle.td_lower_blocks.specs.Lowered.{definition_body, definition_block, block_of, first_site, sites_in}
+use Rattle.td_lower_blocks.specs.Laid.{IsLaid}
+use Rattle.td_lower_blocks.specs.Placed.{count_of}
+use Rattle.td_lower_blocks.specs.Tabled.{IsTabled, DefinitionSited}
+use Rattle.td_lower_blocks.specs.Tops.{fields_levels, cases_levels, body_levels}
+use Rattle.td_verify_lowered.specs.Laws.{BlocksHaveCode}
+use Rattle.td_verify_lowered.specs.Modules.{IsSupplied}
+use Rattle.td_verify_lowered.specs.Good.{IsSiteOf}
 use Rattle.td_lower.specs.Tables.{where_name, switch_name, parts_sites, fields_sites, default_sites, cases_sites, body_sites, definition_sites, definitions_sites, definition_maps, params_or_none, cells_or_none, buffer_names, buffers_or_none, entry_for, entries_for}
 use Rattle.td_lower.specs.Code.{units_of, routine_for, IsLowerable, IsWritten}
 use Rattle.td_lower.proofs.Standing.{From, all_from, sites_from, maps_from, all_sites, all_maps, definition_count}
@@ -41,7 +41,7 @@ use Rattle.td_lower.proofs.Owning.{body_owned}
 use Rattle.td_lower.proofs.Tabling.{definition_sited, no_site}
 use Rattle.td_lower.proofs.Places.{routines_count, routine_is, length_is, begins, stands_at}
 use Rattle.td_num.proofs.Lists.{got, each_at, each_append, each_index}
-use Rattle.td_acceptance.proofs.Modules.{sites_up}
+use Rattle.td_verify_lowered.proofs.Modules.{sites_up}
 
 pub there : {A : Type 0} (xs : List A) (n : ℕ) (x : A) → slice_get xs n ≡ Some x → n < length xs
 there [] n x h = absurd (cc)

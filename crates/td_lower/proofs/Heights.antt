@@ -19,11 +19,11 @@ use Rattle.td_core.specs.declared.module.Body.{Body}
 use Rattle.td_core.specs.declared.module.Body.TheVariants.{Struct, Casetype}
 use Rattle.td_core.specs.declared.module.TypeDef.{TypeDef}
 use Rattle.td_core.specs.Weights.{option_nodes, terms_nodes, deed_nodes, action_nodes, element_nodes, extent_nodes, part_nodes, total, fields_nodes, default_nodes, cases_nodes, body_nodes, head_nodes}
-use Rattle.td_blocks.specs.Constructs.{Expr}
-use Rattle.td_blocks.specs.Lowered.{compared_of, mask_of, expr_of, terms_of}
-use Rattle.td_blocks.specs.Tops.{deed_levels, action_levels, parts_levels, fields_levels, default_levels, cases_levels, body_levels, definition_levels, top, terms_top, test_top, deed_top, action_top, parts_top, sized_top, shape_top, content_top, fields_top, default_top, cases_top, body_top, definition_top}
+use Rattle.td_lower_blocks.specs.Constructs.{Expr}
+use Rattle.td_lower_blocks.specs.Lowered.{compared_of, mask_of, expr_of, terms_of}
+use Rattle.td_lower_blocks.specs.Tops.{deed_levels, action_levels, parts_levels, fields_levels, default_levels, cases_levels, body_levels, definition_levels, top, terms_top, test_top, deed_top, action_top, parts_top, sized_top, shape_top, content_top, fields_top, default_top, cases_top, body_top, definition_top}
 use Rattle.td_core.proofs.Nodes.{some_node as some_measure, each_node as count_low}
-use Rattle.td_blocks.proofs.Heights.{computed_top}
+use Rattle.td_lower_blocks.proofs.Heights.{computed_top}
 
 -- how many values are kept, each at a level of its own, and how many fields' values beside them
 

@@ -11,17 +11,17 @@ use Rattle.td_ir.specs.declared.tables.Parts.{Parts}
 use Rattle.td_ir.specs.Tables.{routine_of}
 use Rattle.td_ir.specs.WellFormed.{IsCode}
 use Rattle.td_verify.specs.Verify.{IsSound}
-use Rattle.td_blocks.specs.Lowered.{first_site}
-use Rattle.td_blocks.specs.Placed.{IsPlaced, HasPlaced, ArePlaced}
-use Rattle.td_blocks.specs.Tops.{definition_levels}
-use Rattle.td_acceptance.specs.Modules.{IsAdmissible, IsNoHeavier, OperandsFit}
-use Rattle.td_lowered.specs.CodeRun.{IsCodeOf}
+use Rattle.td_lower_blocks.specs.Lowered.{first_site}
+use Rattle.td_lower_blocks.specs.Placed.{IsPlaced, HasPlaced, ArePlaced}
+use Rattle.td_lower_blocks.specs.Tops.{definition_levels}
+use Rattle.td_verify_lowered.specs.Modules.{IsAdmissible, IsNoHeavier, OperandsFit}
+use Rattle.td_lower_means.specs.CodeRun.{IsCodeOf}
 use Rattle.td_lower.specs.Code.{unit_in, units_of, IsWritten, HasRoomFor, IsLowerable, MeansModule, HasLaws}
 use Rattle.td_lower.proofs.Codes.{there, routine_at, is_code, is_laid, is_tabled, is_supplied}
 use Rattle.td_lower.proofs.Rooms.{body_less, sites_less, own_nodes}
 use Rattle.td_lower.proofs.Heights.{registers_low}
 use Rattle.td_num.proofs.Lists.{got, each_at}
-use Rattle.td_acceptance.proofs.Modules.{last_site}
+use Rattle.td_verify_lowered.proofs.Modules.{last_site}
 
 admissible : (m : Module) → IsLowerable m → IsAdmissible m
 admissible m l = record { formed = l.ready.formed; copying = l.copying; fields = l.ready.fields; depth = l.depth; weight = l.weight; kinds = l.ready.kinds }

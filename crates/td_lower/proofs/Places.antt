@@ -6,14 +6,14 @@ use Rattle.td_ir.specs.declared.tables.Parts.{Parts}
 use Rattle.td_ir.specs.declared.tables.Routine.{Routine}
 use Rattle.td_ir.specs.Tables.{no_routine, routine_of, lengths_of, begin, first_of}
 use Rattle.td_ir.proofs.Begins.{length_there}
-use Rattle.td_blocks.specs.Block.{size, code, Stands, LayingOut}
-use Rattle.td_blocks.specs.Lowered.{definition_body, definition_block, block_of, first_site}
-use Rattle.td_blocks.specs.Constructs.{body}
-use Rattle.td_blocks.specs.Tops.{definition_levels}
-use Rattle.td_emit.specs.Emission.{Finishes}
-use Rattle.td_emit.proofs.Writing.{written}
+use Rattle.td_lower_blocks.specs.Block.{size, code, Stands, LayingOut}
+use Rattle.td_lower_blocks.specs.Lowered.{definition_body, definition_block, block_of, first_site}
+use Rattle.td_lower_blocks.specs.Constructs.{body}
+use Rattle.td_lower_blocks.specs.Tops.{definition_levels}
+use Rattle.td_lower_emit.specs.Emission.{Finishes}
+use Rattle.td_lower_emit.proofs.Writing.{written}
 use Rattle.td_lower.specs.Code.{unit_in, code_to, routine_for, routines_to}
-use Rattle.td_blocks.proofs.Laying.{code_size}
+use Rattle.td_lower_blocks.proofs.Laying.{code_size}
 
 pub routines_count : (units : ℕ → ℕ) (ds : List TypeDef) (n : ℕ) → length (routines_to units ds n) ≡ n
 routines_count units ds zero = refl

@@ -6,7 +6,7 @@ use Rattle.td_core.specs.declared.module.Body.{Body}
 use Rattle.td_core.specs.declared.module.Body.TheVariants.{Struct, Casetype}
 use Rattle.td_core.specs.declared.module.TypeDef.{TypeDef}
 use Rattle.td_core.specs.Weights.{fields_nodes, default_nodes, cases_nodes, body_nodes, head_nodes, definitions_nodes}
-use Rattle.td_blocks.specs.Lowered.{parts_in, cases_parts, default_parts, body_parts, first_site}
+use Rattle.td_lower_blocks.specs.Lowered.{parts_in, cases_parts, default_parts, body_parts, first_site}
 use Rattle.td_lower.proofs.Standing.{first_behind}
 
 parts_less : (fs : List Field) → parts_in fs ≤ fields_nodes fs

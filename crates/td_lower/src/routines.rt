@@ -2,23 +2,23 @@
 
 ghost use Rattle.std.specs.Prelude.{◌≡◌, ◌<◌, ◌^◌, ◌++◌, ◌∷◌, [], ℕ, length, OnOk, IfOk, Some, slice_get};
 ghost use Rattle.td_core.specs.declared.module.TypeDef.{TypeDef};
-ghost use Rattle.td_blocks.specs.Block.{size};
-ghost use Rattle.td_blocks.specs.Constructs.{body};
-ghost use Rattle.td_blocks.specs.Lowered.{definition_body, first_site};
-ghost use Rattle.td_blocks.specs.Tops.{definition_levels};
-ghost use Rattle.td_emit.specs.Emission.{Finishes};
-ghost use Rattle.td_blocks.specs.Laid.{rooms};
+ghost use Rattle.td_lower_blocks.specs.Block.{size};
+ghost use Rattle.td_lower_blocks.specs.Constructs.{body};
+ghost use Rattle.td_lower_blocks.specs.Lowered.{definition_body, first_site};
+ghost use Rattle.td_lower_blocks.specs.Tops.{definition_levels};
+ghost use Rattle.td_lower_emit.specs.Emission.{Finishes};
+ghost use Rattle.td_lower_blocks.specs.Laid.{rooms};
 ghost use Rattle.td_lower.specs.Code.{unit_in, code_to, routine_for, routines_to, HasRoomFor};
 
 use std::alloc::{AllocError, Global};
 use td_core::module::{Buffer, TypeDef};
-use td_emit::counts::count_sites;
-use td_emit::definitions::write_definition;
-use td_emit::writer::Writer;
 use td_ir::tables::Routine;
+use td_lower_emit::counts::count_sites;
+use td_lower_emit::definitions::write_definition;
+use td_lower_emit::levels::definition_levels;
+use td_lower_emit::tops::definition_top;
+use td_lower_emit::writer::Writer;
 use td_num::items::Items;
-use td_registers::levels::definition_levels;
-use td_registers::tops::definition_top;
 
 // The rooms of buffers.
 fn push_rooms(all: &mut Items<u32>, buffers: &[Buffer]) -> Result<(), AllocError>

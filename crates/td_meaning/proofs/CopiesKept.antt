@@ -1,4 +1,4 @@
--- What a copy buffer holds after a definition was read by it, or the buffer is as it was. Cited by other crates.
+-- What a copy buffer holds after a definition was read by it, or the buffer is as it was.
 use Rattle.std.proofs.Common.{◌≡◌, ◌⊎◌, inl, inr, ℕ, zero, suc, ◌+◌, ◌*◌, ◌<◌, ◌≤◌, Bool, true, false, cond, List, [], ◌∷◌, ◌++◌, length, map, drop, refl, sym, ap, ◌∙◌, subst, arith, Option, Some, None, nat_eq, nat_le}
 use Rattle.std.specs.Prelude.{slice_get, slice_index, slice_set}
 use Rattle.std.proofs.lemmas.Bool.{cases_order, eqb-true}

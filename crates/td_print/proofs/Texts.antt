@@ -1,13 +1,13 @@
 -- Texts of pieces one after the other.
 use Rattle.std.proofs.Common.{◌≡◌, ℕ, zero, suc, ◌+◌, ◌<◌, ◌≤◌, List, [], ◌∷◌, ◌++◌, length, take, drop, get_or, flat_map, refl, sym, ap, ◌∙◌, append_assoc, arith}
 use Rattle.std.proofs.lemmas.List.{append-nil}
-use Rattle.td_joined.specs.Pieces.{Piece, Word, Blank, LineEnd, spelling, text_of}
+use Rattle.td_print_layout.specs.Pieces.{Piece, Word, Blank, LineEnd, spelling, text_of}
 use Rattle.td_ast.specs.Statements.{Statement, block_of}
-use Rattle.td_layout.specs.Actions.{statement_pieces, block_pieces}
+use Rattle.td_print_layout.specs.Actions.{statement_pieces, block_pieces}
 use Rattle.td_ast.specs.declared.definitions.ItemTree.{ItemTree}
 use Rattle.td_ast.specs.declared.token.TokenKind.TheVariants.{Comma, CloseParen}
-use Rattle.td_layout.specs.Sequences.{comma, indented, in_parentheses, parted_by}
-use Rattle.td_layout.specs.Definitions.{item_pieces, item_lines}
+use Rattle.td_print_layout.specs.Sequences.{comma, indented, in_parentheses, parted_by}
+use Rattle.td_print_layout.specs.Definitions.{item_pieces, item_lines}
 use Rattle.td_print.specs.Writing.{piece_text, after_comma}
 
 pub text_append : (xs ys : List Piece) → text_of (xs ++ ys) ≡ text_of xs ++ text_of ys

@@ -2,10 +2,10 @@
 use Rattle.std.proofs.Common.{◌≡◌, ℕ, List, [], ◌∷◌, ◌++◌, flat_map, codes, refl, sym, ap, ◌∙◌, append_assoc}
 use Rattle.td_ast.specs.declared.token.TokenKind.TheVariants as kinds
 use Rattle.td_ast.specs.declared.definitions.CasetypeTree.{CasetypeTree}
-use Rattle.td_joined.specs.Pieces.{Piece, Word, Blank, LineEnd, text_of}
-use Rattle.td_layout.specs.Sequences.{comma, name_piece, optional, indented}
-use Rattle.td_layout.specs.Parameters.{head_pieces}
-use Rattle.td_layout.specs.Definitions.{case_lines, cases_lines, casetype_pieces, closing_pieces, default_lines, entry_pieces, subject_pieces}
+use Rattle.td_print_layout.specs.Pieces.{Piece, Word, Blank, LineEnd, text_of}
+use Rattle.td_print_layout.specs.Sequences.{comma, name_piece, optional, indented}
+use Rattle.td_print_layout.specs.Parameters.{head_pieces}
+use Rattle.td_print_layout.specs.Definitions.{case_lines, cases_lines, casetype_pieces, closing_pieces, default_lines, entry_pieces, subject_pieces}
 use Rattle.td_print.proofs.Texts.{text_append}
 
 pub range_text : (a b c : List Piece) → text_of (Word kinds.IsRangeOkay ∷ Word kinds.OpenParen ∷ (a ++ (comma ++ (b ++ (comma ++ (c ++ Word kinds.CloseParen ∷ []))))))

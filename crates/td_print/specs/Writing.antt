@@ -4,9 +4,9 @@ use Rattle.td_ast.specs.declared.token.TokenKind.TheVariants.{Comma}
 use Rattle.td_ast.specs.declared.definitions.ItemTree.{ItemTree}
 use Rattle.td_ast.specs.declared.parts.InputTree.{InputTree}
 use Rattle.td_ast.specs.declared.parts.InputTree.TheVariants.{Module, Parts}
-use Rattle.td_joined.specs.Pieces.{Piece, Word, Blank, LineEnd, spelling}
-use Rattle.td_layout.specs.Sequences.{indented}
-use Rattle.td_layout.specs.Definitions.{item_pieces}
+use Rattle.td_print_layout.specs.Pieces.{Piece, Word, Blank, LineEnd, spelling}
+use Rattle.td_print_layout.specs.Sequences.{indented}
+use Rattle.td_print_layout.specs.Definitions.{item_pieces}
 
 -- the text of one piece
 abbrev pub piece_text : Piece → List ℕ

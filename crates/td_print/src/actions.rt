@@ -3,8 +3,8 @@
 
 ghost use Rattle.std.specs.Prelude.{◌≡◌, ◌++◌, OnOk, flat_map};
 ghost use Rattle.td_ast.specs.Statements.{block_of};
-ghost use Rattle.td_joined.specs.Pieces.{spelling, text_of};
-ghost use Rattle.td_layout.specs.Actions.{action_kind, action_pieces, assigned_pieces, block_pieces, in_braces, statement_after, statement_pieces};
+ghost use Rattle.td_print_layout.specs.Pieces.{spelling, text_of};
+ghost use Rattle.td_print_layout.specs.Actions.{action_kind, action_pieces, assigned_pieces, block_pieces, in_braces, statement_after, statement_pieces};
 
 use crate::expressions::write_expression;
 use crate::printer::Printer;

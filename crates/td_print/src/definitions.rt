@@ -3,10 +3,10 @@
 
 ghost use Rattle.std.specs.Prelude.{◌≡◌, ◌<◌, [], ◌∷◌, ◌++◌, length, OnErr, OnOk, flat_map};
 ghost use Rattle.td_ast.specs.declared.token.TokenKind.TheVariants as kinds;
-ghost use Rattle.td_joined.specs.Pieces.{Blank, LineEnd, Word, text_of};
-ghost use Rattle.td_layout.specs.Definitions as layouts;
-ghost use Rattle.td_layout.specs.Parameters.{head_pieces};
-ghost use Rattle.td_layout.specs.Sequences.{name_piece, optional};
+ghost use Rattle.td_print_layout.specs.Pieces.{Blank, LineEnd, Word, text_of};
+ghost use Rattle.td_print_layout.specs.Definitions as layouts;
+ghost use Rattle.td_print_layout.specs.Parameters.{head_pieces};
+ghost use Rattle.td_print_layout.specs.Sequences.{name_piece, optional};
 ghost use Rattle.td_print.specs.Writing.{after_comma, piece_text};
 
 use crate::expressions::write_expression;

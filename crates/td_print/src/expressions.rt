@@ -3,9 +3,9 @@
 
 ghost use Rattle.std.specs.Prelude.{◌≡◌, [], ◌∷◌, ◌++◌, OnOk, flat_map};
 ghost use Rattle.td_ast.specs.declared.token.TokenKind.TheVariants as kinds;
-ghost use Rattle.td_joined.specs.Pieces.{Word, spelling, text_of};
-ghost use Rattle.td_layout.specs.Expressions.{expression_pieces, fitted, operand_pieces, tree_level, truth_kind};
-ghost use Rattle.td_layout.specs.Sequences.{comma, in_parentheses};
+ghost use Rattle.td_print_layout.specs.Pieces.{Word, spelling, text_of};
+ghost use Rattle.td_print_layout.specs.Expressions.{expression_pieces, fitted, operand_pieces, tree_level, truth_kind};
+ghost use Rattle.td_print_layout.specs.Sequences.{comma, in_parentheses};
 
 use crate::operators::{binary_sign, left_of, level_of, right_of, unary_sign};
 use crate::printer::Printer;

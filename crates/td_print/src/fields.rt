@@ -3,10 +3,10 @@
 
 ghost use Rattle.std.specs.Prelude.{◌≡◌, [], ◌∷◌, ◌++◌, OnOk, flat_map};
 ghost use Rattle.td_ast.specs.declared.token.TokenKind.TheVariants as kinds;
-ghost use Rattle.td_joined.specs.Pieces.{Word, text_of};
-ghost use Rattle.td_layout.specs.Expressions.{expression_pieces};
-ghost use Rattle.td_layout.specs.Fields.{action_after, extent_pieces, field_line, field_pieces, refinement_pieces, type_pieces};
-ghost use Rattle.td_layout.specs.Sequences.{optional};
+ghost use Rattle.td_print_layout.specs.Pieces.{Word, text_of};
+ghost use Rattle.td_print_layout.specs.Expressions.{expression_pieces};
+ghost use Rattle.td_print_layout.specs.Fields.{action_after, extent_pieces, field_line, field_pieces, refinement_pieces, type_pieces};
+ghost use Rattle.td_print_layout.specs.Sequences.{optional};
 
 use crate::actions::write_action;
 use crate::expressions::{write_arguments, write_expression};

@@ -1,5 +1,5 @@
 //! Canonical texts. The layer above rests on one promise: `print` writes exactly the canonical text of a tree
-//! (crate td_layout), whose tokens spell that tree again, its places aside.
+//! (crate td_print_layout), whose tokens spell that tree again, its places aside.
 #![tactic(auto)]
 
 mod actions;

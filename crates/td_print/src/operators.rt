@@ -2,8 +2,8 @@
 #![tactic(auto, using(crate::proofs::Texts::texts))]
 
 ghost use Rattle.std.specs.Prelude.{◌≡◌};
-ghost use Rattle.td_joined.specs.Pieces.{spelling};
-ghost use Rattle.td_layout.specs.Operators as operators;
+ghost use Rattle.td_print_layout.specs.Pieces.{spelling};
+ghost use Rattle.td_print_layout.specs.Operators as operators;
 
 use td_ast::expressions::{BinaryOperator, UnaryOperator};
 

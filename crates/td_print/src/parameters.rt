@@ -2,9 +2,9 @@
 #![tactic(auto, using(crate::proofs::Texts::texts))]
 
 ghost use Rattle.std.specs.Prelude.{◌≡◌, ◌++◌, OnOk, flat_map};
-ghost use Rattle.td_joined.specs.Pieces.{text_of};
-ghost use Rattle.td_layout.specs.Parameters.{condition_pieces, head_pieces, parameter_pieces, room_pieces, target_pieces};
-ghost use Rattle.td_layout.specs.Sequences.{comma, in_parentheses, optional};
+ghost use Rattle.td_print_layout.specs.Pieces.{text_of};
+ghost use Rattle.td_print_layout.specs.Parameters.{condition_pieces, head_pieces, parameter_pieces, room_pieces, target_pieces};
+ghost use Rattle.td_print_layout.specs.Sequences.{comma, in_parentheses, optional};
 
 use crate::expressions::write_expression;
 use crate::printer::Printer;

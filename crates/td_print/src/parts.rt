@@ -2,9 +2,9 @@
 #![tactic(auto, using(crate::proofs::Texts::texts))]
 
 ghost use Rattle.std.specs.Prelude.{◌≡◌, ◌<◌, [], ◌∷◌, ◌++◌, length, OnErr, OnOk, flat_map};
-ghost use Rattle.td_joined.specs.Pieces.{LineEnd, text_of};
-ghost use Rattle.td_layout.specs.Definitions.{layout, part_lines};
-ghost use Rattle.td_layout.specs.Sequences.{parted_by};
+ghost use Rattle.td_print_layout.specs.Pieces.{LineEnd, text_of};
+ghost use Rattle.td_print_layout.specs.Definitions.{layout, part_lines};
+ghost use Rattle.td_print_layout.specs.Sequences.{parted_by};
 ghost use Rattle.td_print.specs.Writing.{HasLines};
 
 use crate::definitions::write_definitions;

@@ -2,7 +2,7 @@
 #![tactic(auto, using(crate::proofs::Texts::texts))]
 
 ghost use Rattle.std.specs.Prelude.{◌≡◌, [], ◌++◌, OnOk};
-ghost use Rattle.td_joined.specs.Pieces.{number_spelling};
+ghost use Rattle.td_print_layout.specs.Pieces.{number_spelling};
 
 use itoa::Buffer;
 use std::alloc::{AllocError, Global};

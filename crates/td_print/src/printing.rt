@@ -2,7 +2,7 @@
 #![tactic(auto, using(crate::proofs::Texts::texts))]
 
 ghost use Rattle.std.specs.Prelude.{◌≡◌, IfOk, OnErr};
-ghost use Rattle.td_layout.specs.Definitions.{canonical_text};
+ghost use Rattle.td_print_layout.specs.Definitions.{canonical_text};
 ghost use Rattle.td_print.specs.Writing.{HasLines};
 
 use crate::parts::write_input;

@@ -2,8 +2,8 @@
 #![tactic(auto, using(crate::proofs::Texts::texts))]
 
 ghost use Rattle.std.specs.Prelude.{◌≡◌, ◌++◌, OnOk};
-ghost use Rattle.td_joined.specs.Pieces.{text_of, type_spelling};
-ghost use Rattle.td_layout.specs.Names.{constant_pieces, plain_pieces, qualified_pieces};
+ghost use Rattle.td_print_layout.specs.Pieces.{text_of, type_spelling};
+ghost use Rattle.td_print_layout.specs.Names.{constant_pieces, plain_pieces, qualified_pieces};
 
 use crate::printer::Printer;
 use std::alloc::AllocError;

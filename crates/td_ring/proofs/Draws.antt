@@ -6,16 +6,16 @@ use mathlib.Core.Option as maybe
 use lib.ListN.{get_elem?}
 use Rattle.atomic_table.specs.Table.{State, step, keeps, Allows, Splits, Joins}
 use Rattle.atomic_table.proofs.Lists.{at_set, set_again}
-use Rattle.td_roll.specs.declared.parts.Head.{Head}
-use Rattle.td_roll.specs.Roll.{Entry, added}
-use Rattle.td_roll.proofs.Views.{all_entries-push}
-use Rattle.td_roll.proofs.Adds.{adds, makes}
-use Rattle.td_roll.proofs.Gathers.{gathers}
-use Rattle.td_roll.proofs.Begins.{begins_own}
-use Rattle.td_roll.proofs.Heads.{is_none, are_in_log}
+use Rattle.td_ring.specs.declared.roll.Head.{Head}
+use Rattle.td_ring.specs.Roll.{Entry, added}
+use Rattle.td_ring.proofs.RollViews.{all_entries-push}
+use Rattle.td_ring.proofs.RollAdds.{adds, makes}
+use Rattle.td_ring.proofs.RollGathers.{gathers}
+use Rattle.td_ring.proofs.RollBegins.{begins_own}
+use Rattle.td_ring.proofs.RollHeads.{is_none, are_in_log}
 use Rattle.td_ring.specs.declared.view.TicketView.{TicketView}
-use Rattle.td_roll.specs.Heads as more
-use Rattle.td_roll.specs.Heads.{maybe_of, new_part, with_ended, with_more}
+use Rattle.td_ring.specs.Heads as more
+use Rattle.td_ring.specs.Heads.{maybe_of, new_part, with_ended, with_more}
 use Rattle.td_ring.specs.Tickets.{head_in, part_in, counted, KeepsCount, CanDraw, did_draw, first_view, no_view, one_more, new_seat, with_seat, Holding, Drew, Told, Learned}
 
 one_longer : (log : List (Entry ℕ)) (e : Entry ℕ) → length (log ++ e ∷ []) ≡ suc (length log)

@@ -1,3 +1,10 @@
+pub mod RollViews
+pub mod RollAdds
+pub mod RollGathers
+pub mod RollHeads
+pub mod RollMoves
+pub mod RollBegins
+pub mod RollLogs
 pub mod Moves
 pub mod Draws
 pub mod Shares

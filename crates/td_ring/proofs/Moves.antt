@@ -6,17 +6,17 @@ use mathlib.Core.Option.{some}
 use lib.ListN.{get_elem?}
 use Rattle.atomic_table.proofs.Lists.{at_set}
 use Rattle.crossbeam_queue.specs.Fifo.{Pushes, Pops, Forks, Merges, Learns}
-use Rattle.td_roll.specs.declared.parts.Head.{Head}
-use Rattle.td_roll.specs.Roll.{all_entries, part_of, head_of, added}
-use Rattle.td_roll.proofs.Views.{all_entries-push}
-use Rattle.td_roll.proofs.Adds.{adds, stays, longer, makes}
-use Rattle.td_roll.proofs.Gathers.{gathers}
-use Rattle.td_roll.proofs.Moves.{moves, hands}
-use Rattle.td_roll.proofs.Begins.{begins_own}
-use Rattle.td_roll.proofs.Heads.{is_none, are_in_log}
+use Rattle.td_ring.specs.declared.roll.Head.{Head}
+use Rattle.td_ring.specs.Roll.{all_entries, part_of, head_of, added}
+use Rattle.td_ring.proofs.RollViews.{all_entries-push}
+use Rattle.td_ring.proofs.RollAdds.{adds, stays, longer, makes}
+use Rattle.td_ring.proofs.RollGathers.{gathers}
+use Rattle.td_ring.proofs.RollMoves.{moves, hands}
+use Rattle.td_ring.proofs.RollBegins.{begins_own}
+use Rattle.td_ring.proofs.RollHeads.{is_none, are_in_log}
 use Rattle.td_ring.specs.declared.post.Post.{Post}
 use Rattle.td_ring.specs.declared.view.RingView.{RingView}
-use Rattle.td_roll.specs.Heads.{maybe_of, one_more, new_part, with_ended, with_more}
+use Rattle.td_ring.specs.Heads.{maybe_of, one_more, new_part, with_ended, with_more}
 use Rattle.td_ring.specs.Ring.{ring_view, head_put, part_put, head_take, part_take, KeepsPosts, CanPost, CanTake, did_post, did_take, both_heads, only_put, only_take, no_view, one_more_put, new_put, one_more_take, new_take, with_put, with_take, with_takes, Settled, Stood}
 use Rattle.td_num.proofs.Lists.{each_push as Each-push}
 

@@ -2,11 +2,11 @@
 use Rattle.std.proofs.Common.{◌≡◌, suc, List, [], ◌∷◌, length, refl, sym, ap, ◌∙◌, subst}
 use Rattle.std.specs.List.Sorted.{IsPermutation}
 use Rattle.std.proofs.lemmas.List.Sorted.{length_permutation}
-use Rattle.td_roll.specs.declared.parts.Part.{Part}
-use Rattle.td_roll.specs.declared.parts.Head.{Head}
-use Rattle.td_roll.specs.Roll.{Entry, all_entries, owned}
-use Rattle.td_roll.specs.Heads.{AreInLog}
-use Rattle.td_roll.proofs.Logs.{ended_is_all}
+use Rattle.td_ring.specs.declared.roll.Part.{Part}
+use Rattle.td_ring.specs.declared.roll.Head.{Head}
+use Rattle.td_ring.specs.Roll.{Entry, all_entries, owned}
+use Rattle.td_ring.specs.Heads.{AreInLog}
+use Rattle.td_ring.proofs.RollLogs.{ended_is_all}
 use Rattle.td_ring.specs.Tickets.{counted}
 use Rattle.td_ring.specs.Laws.{AllGathered, TakesAreFirstPosts, DrawsAreCounted}
 

@@ -1,9 +1,9 @@
 -- What is known once all passes or seats that were made were gathered.
 use Rattle.std.specs.Prelude.{◌≡◌, ℕ, ◌+◌, List, ◌∷◌, ◌++◌, length, Some}
 use Rattle.std.specs.List.Sorted.{IsPermutation}
-use Rattle.td_roll.specs.declared.parts.Part.{Part}
-use Rattle.td_roll.specs.declared.parts.Head.{Head}
-use Rattle.td_roll.specs.Roll.{Entry, owned}
+use Rattle.td_ring.specs.declared.roll.Part.{Part}
+use Rattle.td_ring.specs.declared.roll.Head.{Head}
+use Rattle.td_ring.specs.Roll.{Entry, owned}
 use Rattle.td_ring.specs.declared.post.Post.{Post}
 use Rattle.td_ring.specs.declared.view.RingView.{RingView}
 use Rattle.td_ring.specs.declared.view.TicketView.{TicketView}

@@ -1,3 +1,5 @@
+pub mod Roll
+pub mod Heads
 pub mod Ring
 pub mod Tickets
 pub mod Laws

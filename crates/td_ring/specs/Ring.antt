@@ -5,10 +5,10 @@ use mathlib.Core.Option as maybe
 use mathlib.Core.Option.{some}
 use lib.ListN.{get_elem?}
 use Rattle.atomic_table.specs.Seated.{TableId}
-use Rattle.td_roll.specs.declared.parts.Part.{Part}
-use Rattle.td_roll.specs.declared.parts.Head.{Head}
-use Rattle.td_roll.specs.Roll.{Entry, all_entries, part_of, head_of, Roll}
-use Rattle.td_roll.specs.Heads.{maybe_of, one_more, new_part, with_ended, with_more, AreInLog}
+use Rattle.td_ring.specs.declared.roll.Part.{Part}
+use Rattle.td_ring.specs.declared.roll.Head.{Head}
+use Rattle.td_ring.specs.Roll.{Entry, all_entries, part_of, head_of, Roll}
+use Rattle.td_ring.specs.Heads.{maybe_of, one_more, new_part, with_ended, with_more, AreInLog}
 use Rattle.td_ring.specs.declared.post.Post.{Post}
 use Rattle.td_ring.specs.declared.view.RingView.{RingView}
 

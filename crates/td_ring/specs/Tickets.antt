@@ -3,11 +3,11 @@ use Rattle.std.specs.Prelude.{◌≡◌, ℕ, zero, suc, ◌%◌, ◌^◌, List,
 use mathlib.Core.Option as maybe
 use Rattle.atomic_table.specs.Table.{State, Me, Step}
 use Rattle.atomic_table.specs.Seated.{TableId}
-use Rattle.td_roll.specs.declared.parts.Part.{Part}
-use Rattle.td_roll.specs.declared.parts.Head.{Head}
-use Rattle.td_roll.specs.Roll.{Entry, all_entries, part_of, head_of, Roll}
-use Rattle.td_roll.specs.Heads as more
-use Rattle.td_roll.specs.Heads.{maybe_of, new_part, with_ended, with_more, AreInLog}
+use Rattle.td_ring.specs.declared.roll.Part.{Part}
+use Rattle.td_ring.specs.declared.roll.Head.{Head}
+use Rattle.td_ring.specs.Roll.{Entry, all_entries, part_of, head_of, Roll}
+use Rattle.td_ring.specs.Heads as more
+use Rattle.td_ring.specs.Heads.{maybe_of, new_part, with_ended, with_more, AreInLog}
 use Rattle.td_ring.specs.declared.view.TicketView.{TicketView}
 
 abbrev pub ticket_view : Option (Head ℕ) → Option (Part ℕ) → TicketView

@@ -9,6 +9,7 @@ pub mod naming;
 pub mod passes;
 pub mod post;
 pub mod ring;
+pub mod roll;
 mod rule;
 mod ticket_rule;
 pub mod ticket_seat;

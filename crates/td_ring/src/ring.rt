@@ -4,7 +4,7 @@ ghost use Rattle.std.specs.Prelude.{◌≡◌, ◌<◌, List, length, IfOk, IfEr
 ghost use Rattle.crossbeam_queue.specs.Fifo.{Held};
 ghost use Rattle.td_words.specs.History.{stores};
 ghost use Rattle.td_ring.specs.declared.post.Post.{Post};
-ghost use Rattle.td_roll.specs.Heads.{HasHead};
+ghost use Rattle.td_ring.specs.Heads.{HasHead};
 ghost use Rattle.td_ring.specs.Ring.{both_heads, only_put, only_take, did_post, did_take, pass_with, pass_state, one_more_put, new_put, one_more_take, new_take, with_put, with_take, with_takes, Settled, Stood};
 
 use crate::naming::Naming;

@@ -1,8 +1,8 @@
 //! Tickets: numbers that threads draw.
 
 ghost use Rattle.std.specs.Prelude.{◌≡◌, ℕ, List, IfOk};
-ghost use Rattle.td_roll.specs.Roll.{Entry};
-ghost use Rattle.td_roll.specs.Heads.{HasHead};
+ghost use Rattle.td_ring.specs.Roll.{Entry};
+ghost use Rattle.td_ring.specs.Heads.{HasHead};
 ghost use Rattle.td_ring.specs.Tickets.{first_view, did_draw, drawer_with, drawer_state, one_more, new_seat, with_seat, Told};
 
 use crate::ticket_rule::{Draws, EachOnce, Seats, Tells};

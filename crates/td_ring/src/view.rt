@@ -1,7 +1,7 @@
 //! What passes and ticket seats know. These types stand in contracts alone: no value of them is made.
 
 use crate::post::Post;
-use td_roll::parts::{Head, Part};
+use crate::roll::{Head, Part};
 
 /// What a pass of a ring knows. One that posts has a list of its own posts, one that takes has a list of its own takes. The
 /// pass that makes others of its kind and gathers them has a head of that kind too.

@@ -7,11 +7,11 @@ use Rattle.td_meaning.specs.Copies.{IsSoundOn}
 use Rattle.td_stream.specs.declared.load.Load.{Load}
 use Rattle.td_stream.specs.declared.stretch.Stretch.{Stretch}
 use Rattle.td_stream.specs.Loads.{Carries, Inside, IsRising}
-use Rattle.td_leaves.specs.Outcomes.{IsMeant}
+use Rattle.td_fetch.specs.Outcomes.{IsMeant}
 use Rattle.td_ir.specs.declared.tables.Parts.{Parts}
 use Rattle.td_ir.specs.Entries.{opened_by}
 use Rattle.td_ir.specs.Run.{run}
-use Rattle.td_lowered.specs.CodeRun.{IsCodeOf}
+use Rattle.td_lower_means.specs.CodeRun.{IsCodeOf}
 use Rattle.td_vm.specs.Outcomes.{IsRun}
 
 -- a validation from an entry point on, with these arguments and cells, of a message that lies so: it made these loads, had this outcome, and told so

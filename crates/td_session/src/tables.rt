@@ -7,7 +7,7 @@ ghost use Rattle.td_ir.specs.Tables.{entry_of, routine_of};
 use crate::session::Session;
 use td_core::full_name::FullName;
 use td_core::module::{Cell, Entry, NameId, Param};
-use td_step::tables::{entry_at, routine_at};
+use td_vm_step::tables::{entry_at, routine_at};
 
 impl Session {
     /// The name of this number. Takes no memory. None: the code has no such name.

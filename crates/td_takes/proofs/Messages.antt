@@ -8,7 +8,7 @@ use Rattle.td_core.specs.declared.module.Entry.{Entry}
 use Rattle.td_core.specs.declared.outcome.Outcome.{Outcome}
 use Rattle.td_core.specs.declared.outcome.Verdict.{Verdict}
 use Rattle.td_core.specs.declared.outcome.Verdict.TheVariants.{Accept, Reject}
-use Rattle.td_leaves.specs.Outcomes.{IsMeant}
+use Rattle.td_fetch.specs.Outcomes.{IsMeant}
 use Rattle.td_stream.specs.declared.load.Load.{Load}
 use Rattle.std.proofs.Common.{append-nil as append_nil}
 use Rattle.td_stream.specs.declared.stretch.Stretch.{Stretch}

@@ -13,9 +13,9 @@ use Rattle.td_stream.specs.Layouts.{length_in}
 use Rattle.td_stream.specs.Loads.{IsRising, Carries}
 use Rattle.td_stream.proofs.Carrying.{carried}
 use Rattle.td_stream.proofs.Rooms.{rooms_again}
-use Rattle.td_leaves.specs.Outcomes.{IsMeant}
+use Rattle.td_fetch.specs.Outcomes.{IsMeant}
 use Rattle.td_ir.specs.declared.tables.Parts.{Parts}
-use Rattle.td_lowered.specs.CodeRun.{IsCodeOf}
+use Rattle.td_lower_means.specs.CodeRun.{IsCodeOf}
 use Rattle.td_posts.specs.declared.job.HostJob.{HostJob}
 use Rattle.td_posts.specs.Posts.{zeros, HaveRoom}
 use Rattle.td_posts.proofs.Refilled.{first_fits, first_same}

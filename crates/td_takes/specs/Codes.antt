@@ -6,7 +6,7 @@ use Rattle.td_core.specs.declared.module.Entry.{Entry}
 use Rattle.td_meaning.specs.Copies.{outcome, IsSoundFrom}
 use Rattle.td_ir.specs.declared.tables.Parts.{Parts}
 use Rattle.td_ir.specs.Entries.{Fits}
-use Rattle.td_lowered.specs.CodeRun.{IsCodeOf}
+use Rattle.td_lower_means.specs.CodeRun.{IsCodeOf}
 use Rattle.td_posts.specs.declared.job.HostJob.{HostJob}
 use Rattle.td_posts.specs.Posts.{IsVersion, zeros, HaveRoom}
 

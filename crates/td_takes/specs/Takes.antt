@@ -9,9 +9,9 @@ use Rattle.td_stream.specs.declared.stretch.Stretch.{Stretch}
 use Rattle.td_stream.specs.Layouts.{plain}
 use Rattle.td_stream.specs.Copies.{empty_with}
 use Rattle.td_stream.specs.Loads.{IsRising, Inside, Carries}
-use Rattle.td_leaves.specs.Outcomes.{IsMeant}
+use Rattle.td_fetch.specs.Outcomes.{IsMeant}
 use Rattle.td_ir.specs.declared.tables.Parts.{Parts}
-use Rattle.td_lowered.specs.CodeRun.{IsCodeOf}
+use Rattle.td_lower_means.specs.CodeRun.{IsCodeOf}
 use Rattle.td_vm.specs.Need.{most_need, level}
 use Rattle.td_words.specs.declared.view.Access.{Access}
 use Rattle.td_words.specs.Views.{seat_view}

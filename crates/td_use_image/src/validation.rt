@@ -6,9 +6,9 @@ ghost use Rattle.td_use_image.specs.Answers.{IsValidated};
 
 use crate::shared_words::SharedWords;
 use std::alloc::{AllocError, Global};
-use td_compiled::compiled::validate_compiled;
 use td_core::module::Entry;
 use td_core::outcome::Outcome;
+use td_run::compiled::validate_compiled;
 use td_stream::layout::Layout;
 use td_verify::verify::Verified;
 use td_vm::laws::fitting_cells_have_room;

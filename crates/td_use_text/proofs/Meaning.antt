@@ -10,15 +10,15 @@ use Rattle.td_stream.specs.Layouts.{plain}
 use Rattle.td_stream.specs.Loads.{Carries}
 use Rattle.td_meaning.specs.Copies.{opened}
 use Rattle.td_meaning.specs.Meaning.{meaning}
-use Rattle.td_leaves.specs.Outcomes.{IsMeant}
+use Rattle.td_fetch.specs.Outcomes.{IsMeant}
 use Rattle.td_ir.specs.declared.tables.Parts.{Parts}
 use Rattle.td_ir.specs.Run as code
 use Rattle.td_ir.specs.Entries.{opened_by}
 use Rattle.td_vm.specs.Outcomes.{IsRun}
 use Rattle.td_vm.specs.Outcomes as run
-use Rattle.td_coding.specs.Coding.{DoesWhatItMeans}
+use Rattle.td_code.specs.Coding.{DoesWhatItMeans}
 use Rattle.td_use_text.specs.Reports.{Begins}
-use Rattle.td_compiled.proofs.Behaving.{behaves}
+use Rattle.td_run.proofs.Behaving.{behaves}
 
 -- on each message that carries the loads; the cells were set, and the layout is a plain one
 pub means : (c : Parts) (m : Module) (entry : Entry) (n : ℕ) (loads : List Load) (cells cells' : List ℕ) (layout : List Stretch) (outcome : Outcome)

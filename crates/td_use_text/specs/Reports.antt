@@ -8,7 +8,7 @@ use Rattle.td_core.specs.Formed.{AllFit, params_at, cells_at}
 use Rattle.td_stream.specs.declared.load.Load.{Load}
 use Rattle.td_stream.specs.Layouts.{plain}
 use Rattle.td_stream.specs.Loads.{Carries, IsRising}
-use Rattle.td_leaves.specs.Outcomes.{IsMeant}
+use Rattle.td_fetch.specs.Outcomes.{IsMeant}
 use Rattle.td_io.specs.States.{SinkState, Takes}
 use Rattle.td_report.specs.Report.{report}
 

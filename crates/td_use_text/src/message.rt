@@ -2,25 +2,24 @@
 
 ghost use Rattle.std.specs.Prelude.{◌≡◌, ◌<◌, ◌^◌, [], Err, length, take, IfOk, OnOk};
 ghost use Rattle.td_ir.specs.Entries.{buffers_of};
-ghost use Rattle.td_lowered.specs.CodeRun.{IsCodeOf};
-ghost use Rattle.td_coding.specs.Coding.{DoesWhatItMeans};
+ghost use Rattle.td_lower_means.specs.CodeRun.{IsCodeOf};
+ghost use Rattle.td_code.specs.Coding.{DoesWhatItMeans};
 ghost use Rattle.td_vm.specs.Frames.{IsArmed, outcome_in};
 ghost use Rattle.td_use_text.specs.declared.message.MessageError.{MessageError};
 ghost use Rattle.td_use_text.specs.Reports.{Begins, IsRunOf, Reports};
 
 use crate::text::Compiled;
 use std::alloc::{AllocError, Global};
-use td_compiled::compiled::validate_recorded;
 use td_core::module::Entry;
 use td_core::outcome::Verdict;
 use td_io::{Sink, WriteFault};
 use td_job::words::fill_words;
-use td_lowered::laws::arguments_fit;
+use td_lower_means::laws::arguments_fit;
 use td_report::outcome::OutcomeParts;
 use td_report::report::report_of_parts;
+use td_run::compiled::validate_recorded;
 use td_sched::laws::loads_are_planned;
 use td_sched::planned::Planned;
-use td_step::tables::{entry_at, routine_at};
 use td_stream::copies::Buffer;
 use td_stream::laws::{plain_carries, plain_message};
 use td_stream::layout::Layout;
@@ -28,6 +27,7 @@ use td_stream::loads::Loads;
 use td_verify::verify::Verified;
 use td_vm::laws::fitting_cells_have_room;
 use td_vm::validate::Frame;
+use td_vm_step::tables::{entry_at, routine_at};
 use thiserror::Error;
 
 /// Why there is no report, or not all of it.

@@ -3,12 +3,12 @@
 ghost use Rattle.std.specs.Prelude.{◌≡◌, ◌<◌, ◌-◌, ◌^◌, ◌⊎◌, length, IfOk, IfErr, IfSome};
 ghost use Rattle.td_front.specs.Checked.{IsChecked};
 ghost use Rattle.td_front.specs.ModuleText.{IsModuleText, RefusedBy};
-ghost use Rattle.td_lowered.specs.CodeRun.{IsCodeOf};
-ghost use Rattle.td_coding.specs.Coding.{DoesWhatItMeans};
+ghost use Rattle.td_lower_means.specs.CodeRun.{IsCodeOf};
+ghost use Rattle.td_code.specs.Coding.{DoesWhatItMeans};
 ghost use Rattle.td_use_text.specs.Reports.{Begins};
 
 use std::alloc::{AllocError, Global};
-use td_coding::code_of;
+use td_code::code_of;
 use td_core::entries::entry_definition;
 use td_core::module::{Entry, Module};
 use td_front::{FrontError, check_module};

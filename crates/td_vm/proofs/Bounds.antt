@@ -20,7 +20,7 @@ use Rattle.td_verify.specs.Brackets.{shape_at, opened, in_loop, window_bytes}
 use Rattle.td_verify.specs.Ways.{MayBeEmpty}
 use Rattle.td_verify.specs.Verify.{IsIn, IsSound}
 use Rattle.td_verify.specs.Safe.{IsSafe, before, looped}
-use Rattle.td_step.specs.Stepping.{Passes}
+use Rattle.td_vm_step.specs.Stepping.{Passes}
 use Rattle.td_vm.specs.Machine.{Idle, IsRunnable, IsStretch, IdleTurn, IdleReturn, scale}
 use Rattle.td_vm.specs.Outcomes.{weight}
 use Rattle.td_vm.specs.Laws.{RunIsBounded}

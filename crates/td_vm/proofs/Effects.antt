@@ -20,7 +20,7 @@ use Rattle.td_verify.specs.declared.shape.Shape.TheVariants.{Straight, Jump, Bra
 use Rattle.td_verify.specs.Shape.{shape}
 use Rattle.td_verify.specs.Ways.{Leads}
 use Rattle.td_verify.specs.Operands.{HasOperands, IsWidth}
-use Rattle.td_step.specs.Stepping.{Passes, least, more, Ends}
+use Rattle.td_vm_step.specs.Stepping.{Passes, least, more, Ends}
 
 -- from s to t in so many steps
 pub record Moves (j : Shape) (s t : State) (steps : ℕ) : Type 0 where

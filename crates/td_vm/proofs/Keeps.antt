@@ -18,7 +18,7 @@ use Rattle.td_verify.specs.Ways.{Leads, IsIdle, MayBeEmpty}
 use Rattle.td_verify.specs.Rules.{cost}
 use Rattle.td_verify.specs.Verify.{IsIn, weights}
 use Rattle.td_verify.specs.Safe.{IsSafe, IsWholeAt, Stays, before, cost_at, looped}
-use Rattle.td_step.specs.Stepping.{Passes, least, more, Ends, IsFine}
+use Rattle.td_vm_step.specs.Stepping.{Passes, least, more, Ends, IsFine}
 use Rattle.td_vm.specs.Need.{called, greatest, need, room_below, registers}
 use Rattle.td_vm.specs.Machine.{Idle, IsRunnable, scale}
 use Rattle.td_verify.proofs.Flat.{next_opened}

@@ -13,7 +13,7 @@ use Rattle.td_ir.specs.Tables.{routine_of, map_of, buffer_cells, own_cells, cell
 use Rattle.td_ir.specs.Run.{places_by}
 use Rattle.td_ir.proofs.Buffers.{buffer_count}
 use Rattle.td_verify.specs.Operands.{AreBelow, IsCellMap}
-use Rattle.td_step.specs.Stepping.{HasPlaces}
+use Rattle.td_vm_step.specs.Stepping.{HasPlaces}
 use Rattle.td_vm.specs.Need.{cells}
 use Rattle.td_vm.specs.Machine.{AreRoomy}
 

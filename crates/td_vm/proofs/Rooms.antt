@@ -16,8 +16,8 @@ use Rattle.td_verify.specs.Shape.{shapes_of}
 use Rattle.td_verify.specs.Brackets.{shape_at}
 use Rattle.td_verify.specs.Rules.{CallsWell}
 use Rattle.td_verify.specs.Verify.{IsIn, depths}
-use Rattle.td_step.specs.declared.activation.TraceRoom.{TraceRoom}
-use Rattle.td_step.specs.declared.activation.Env.{Env}
+use Rattle.td_vm_step.specs.declared.activation.TraceRoom.{TraceRoom}
+use Rattle.td_vm_step.specs.declared.activation.Env.{Env}
 use Rattle.td_vm.specs.Need.{called, greatest, need, room_below, most, greatest_of, entry_cells, entry_rooms, most_entry_cells, most_buffers, most_room, most_rooms, registers, cells, level}
 use Rattle.td_vm.specs.Frames.{FrameView, AreBegins, IsArmed}
 use Rattle.td_vm.specs.Machine.{IsRunnable, HasEntryRoom, AreRoomy}

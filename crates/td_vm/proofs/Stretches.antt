@@ -6,7 +6,7 @@ use Rattle.td_stream.specs.declared.stream.Stream.{Stream}
 use Rattle.td_stream.proofs.Places.{look_more}
 use Rattle.td_stream.proofs.Stages.{carried}
 use Rattle.td_ir.specs.State.{Way, Exit, at_once, after}
-use Rattle.td_step.specs.Stepping.{Ran}
+use Rattle.td_vm_step.specs.Stepping.{Ran}
 use Rattle.td_vm.specs.Exits.{exit_by}
 
 -- two stretches

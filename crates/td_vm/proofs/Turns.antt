@@ -25,15 +25,15 @@ use Rattle.td_verify.specs.Brackets.{shape_at, opened, and_then, opening, in_loo
 use Rattle.td_verify.specs.Ways.{MayBeEmpty}
 use Rattle.td_verify.specs.Verify.{IsIn, depths}
 use Rattle.td_verify.specs.Safe.{IsSafe, IsWhole, IsWholeAt, before, looped}
-use Rattle.td_step.specs.declared.activation.TraceRoom.{TraceRoom}
-use Rattle.td_step.specs.declared.activation.Env.{Env}
-use Rattle.td_step.specs.declared.activation.Left.{Left}
-use Rattle.td_step.specs.declared.activation.Left.TheVariants.{Returned, Turned, Failed}
+use Rattle.td_vm_step.specs.declared.activation.TraceRoom.{TraceRoom}
+use Rattle.td_vm_step.specs.declared.activation.Env.{Env}
+use Rattle.td_vm_step.specs.declared.activation.Left.{Left}
+use Rattle.td_vm_step.specs.declared.activation.Left.TheVariants.{Returned, Turned, Failed}
 use Rattle.td_vm.specs.Exits.{frames_of, exit_by, way_of, call_way, WhenTurned, WhenReturned, NotTurned, Traced}
 use Rattle.td_vm.specs.Need.{registers, cells, level}
 use Rattle.td_vm.specs.Machine.{Idle, IsRunnable, HasRoom, HasEntryRoom, IsStretch, IsCallee, IdleTurn, IdleReturn, scale, IsKept, AreRoomy}
 use Rattle.td_vm.specs.declared.level.Spare.{Spare}
-use Rattle.td_step.specs.Stepping.{HasPlaces}
+use Rattle.td_vm_step.specs.Stepping.{HasPlaces}
 use Rattle.td_vm.proofs.Keeps.{callee_need, goes_on}
 use Rattle.td_vm.proofs.Places.{callee_places, entry_places, own_snoc}
 use Rattle.td_verify.proofs.Flat.{next_opened}

@@ -2,9 +2,9 @@
 use Rattle.std.specs.Prelude.{◌≡◌, ℕ, ◌≤◌, List, take, length}
 use Rattle.td_core.specs.declared.outcome.TraceFrame.{TraceFrame}
 use Rattle.td_ir.specs.State.{State, Way, Returned, Turned, Failed, Stuck, Exit, after}
-use Rattle.td_step.specs.declared.activation.TraceRoom.{TraceRoom}
-use Rattle.td_step.specs.declared.activation.Left.{Left}
-use Rattle.td_step.specs.declared.activation.Left.TheVariants as left
+use Rattle.td_vm_step.specs.declared.activation.TraceRoom.{TraceRoom}
+use Rattle.td_vm_step.specs.declared.activation.Left.{Left}
+use Rattle.td_vm_step.specs.declared.activation.Left.TheVariants as left
 
 abbrev pub frames_of : TraceRoom → List TraceFrame
 frames_of t = take t.count t.frames.items

@@ -11,9 +11,9 @@ use Rattle.td_verify.specs.Ways.{IdleWay, MayBeEmpty}
 use Rattle.td_verify.specs.Operands.{IsCellMap}
 use Rattle.td_verify.specs.Verify.{IsIn}
 use Rattle.td_verify.specs.Safe.{IsSafe, looped}
-use Rattle.td_step.specs.declared.activation.TraceRoom.{TraceRoom}
-use Rattle.td_step.specs.declared.activation.Env.{Env}
-use Rattle.td_step.specs.Stepping.{HasPlaces}
+use Rattle.td_vm_step.specs.declared.activation.TraceRoom.{TraceRoom}
+use Rattle.td_vm_step.specs.declared.activation.Env.{Env}
+use Rattle.td_vm_step.specs.Stepping.{HasPlaces}
 use Rattle.td_vm.specs.declared.level.Spare.{Spare}
 use Rattle.td_vm.specs.Frames.{AreBegins}
 use Rattle.td_vm.specs.Need.{room_below, registers, cells, level}

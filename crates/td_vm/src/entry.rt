@@ -6,19 +6,19 @@ ghost use Rattle.td_ir.specs.Tables.{routine_of};
 ghost use Rattle.td_ir.specs.Run.{run_routine};
 ghost use Rattle.td_stream.specs.StreamInvariant.{IsStream, Later, length_of, position, end_of};
 ghost use Rattle.td_stream.specs.Copies.{rooms_of};
-ghost use Rattle.td_step.specs.Stepping.{Ran, IsLent, Hold};
+ghost use Rattle.td_vm_step.specs.Stepping.{Ran, IsLent, Hold};
 ghost use Rattle.td_vm.specs.Exits.{frames_of, exit_by, call_way, NotTurned, WhenReturned};
 ghost use Rattle.td_vm.specs.Machine.{HasEntryRoom, IsKept, AreRoomy};
 
 use crate::level::{Spare, Stretch};
 use crate::machine::{place_count, run_block, set_registers};
 use std::sync::ledger::Ledger;
-use td_step::activation::{Activation, Env, Left, Level, TraceRoom};
-use td_step::slate::Slate;
-use td_step::steps::{Counter, Steps};
-use td_step::tables::routine_at;
 use td_stream::stream::Stream;
 use td_stream::words::Words;
+use td_vm_step::activation::{Activation, Env, Left, Level, TraceRoom};
+use td_vm_step::slate::Slate;
+use td_vm_step::steps::{Counter, Steps};
+use td_vm_step::tables::routine_at;
 
 // The cells of an entry point are its own, in order, and behind them those of its buffers.
 fn set_own_places(mine: &mut [usize])

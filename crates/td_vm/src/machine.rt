@@ -15,7 +15,7 @@ ghost use Rattle.td_verify.specs.Verify.{IsIn};
 ghost use Rattle.td_verify.specs.Safe.{looped};
 ghost use Rattle.td_stream.specs.StreamInvariant.{IsStream, Later, position, end_of};
 ghost use Rattle.td_stream.specs.Copies.{rooms_of};
-ghost use Rattle.td_step.specs.Stepping.{state_of, Ran, InWindow, IsLent, Hold};
+ghost use Rattle.td_vm_step.specs.Stepping.{state_of, Ran, InWindow, IsLent, Hold};
 ghost use Rattle.td_vm.specs.Exits.{frames_of, exit_by, way_of, call_way, loop_exit, WhenTurned, WhenReturned, NotTurned, NotReturned, Traced};
 ghost use Rattle.td_vm.specs.Machine.{AreLaws, HasRoom, IsStretch, IsCallee, IsKept, IdleTurn, IdleReturn};
 ghost use Rattle.td_vm.specs.Need.{room_below, level as levels};
@@ -27,13 +27,13 @@ use td_ir::laws::{
     run_calls, run_fails, run_goes, run_loops, run_returns, run_turns as run_turned,
 };
 use td_ir::tables::{Parts, Routine};
-use td_step::activation::{Activation, Left, Level, Step, TraceRoom};
-use td_step::slate::Slate;
-use td_step::step::step;
-use td_step::steps::{Counter, Steps};
-use td_step::tables::{frame_at, instruction_at, map_at, routine_at};
 use td_stream::stream::Stream;
 use td_stream::words::Words;
+use td_vm_step::activation::{Activation, Left, Level, Step, TraceRoom};
+use td_vm_step::slate::Slate;
+use td_vm_step::step::step;
+use td_vm_step::steps::{Counter, Steps};
+use td_vm_step::tables::{frame_at, instruction_at, map_at, routine_at};
 
 // The laws of run. Does nothing.
 fn laws()

@@ -6,7 +6,7 @@ ghost use Rattle.td_ir.specs.Run.{run_routine};
 ghost use Rattle.td_stream.specs.Layouts.{count_in};
 ghost use Rattle.td_stream.specs.Loads.{Carries, Inside, IsRising};
 ghost use Rattle.td_stream.specs.Copies.{rooms_of, held_by, empty_with};
-ghost use Rattle.td_step.specs.Stepping.{IsLent};
+ghost use Rattle.td_vm_step.specs.Stepping.{IsLent};
 ghost use Rattle.td_vm.specs.Exits.{frames_of};
 ghost use Rattle.td_vm.specs.Outcomes.{IsRun};
 ghost use Rattle.td_vm.specs.Machine.{HasEntryRoom, IsKept, AreRoomy};
@@ -17,13 +17,13 @@ use crate::level::Spare;
 use crate::machine::place_count;
 use std::sync::ledger::Ledger;
 use td_core::outcome::Verdict;
-use td_step::activation::{Env, Left, TraceRoom};
-use td_step::slate::Slate;
-use td_step::steps::{Counter, Steps};
-use td_step::tables::routine_at;
 use td_stream::layout::Layout;
 use td_stream::stream::Stream;
 use td_stream::words::Words;
+use td_vm_step::activation::{Env, Left, TraceRoom};
+use td_vm_step::slate::Slate;
+use td_vm_step::steps::{Counter, Steps};
+use td_vm_step::tables::routine_at;
 
 // Runs routine n over a message that lies so in words of which none was loaded, with its cells and behind them two for each of its
 // buffers, which hold nothing.

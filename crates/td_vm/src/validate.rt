@@ -23,15 +23,15 @@ use td_core::module::{Entry, NameId};
 use td_core::outcome::{Outcome, Reason, Spot, TraceFrame, Verdict};
 use td_ir::tables::Parts;
 use td_num::items::Items;
-use td_step::activation::{Env, TraceRoom};
-use td_step::slate::Slate;
-use td_step::steps::{Counter, Steps};
-use td_step::tables::entry_at;
 use td_stream::copies::{Buffer, Copies};
 use td_stream::layout::Layout;
 use td_stream::words::Words;
 use td_verify::laws::sound_code_is_safe;
 use td_verify::verify::Verified;
+use td_vm_step::activation::{Env, TraceRoom};
+use td_vm_step::slate::Slate;
+use td_vm_step::steps::{Counter, Steps};
+use td_vm_step::tables::entry_at;
 
 /// Room for validations by one code, with the cells that the next one begins with, and those, the trace and the copies that the
 /// last one left. A contract sees how much room there is, how much memory its lists have, the cells, the trace and the buffers of

@@ -8,11 +8,11 @@ use Rattle.td_core.specs.declared.module.Field.{Field}
 use Rattle.td_core.specs.declared.module.TypeDef.{TypeDef}
 use Rattle.td_core.specs.declared.outcome.Reason.TheVariants.{Impossible}
 use Rattle.td_meaning.specs.Meaning.{pick, extended}
-use Rattle.td_values.specs.declared.error.WriteRule.TheVariants.{Shape, Broken}
-use Rattle.td_values.specs.Datum.{Datum, Sequence, data_of, list_of}
-use Rattle.td_values.specs.Bytes.{unit_type}
-use Rattle.td_values.specs.Spelling.{number_in}
-use Rattle.td_values.specs.Writing.{Tests, Written, Done, Refused, Writer, Later, after_writing, tested, bytes_written, list_written, items_written, shape_written, copied, field_written, fields_written, definition_written, writers_below}
+use Rattle.td_write_values.specs.declared.error.WriteRule.TheVariants.{Shape, Broken}
+use Rattle.td_write_values.specs.Datum.{Datum, Sequence, data_of, list_of}
+use Rattle.td_write_values.specs.Bytes.{unit_type}
+use Rattle.td_write_values.specs.Spelling.{number_in}
+use Rattle.td_write_values.specs.Writing.{Tests, Written, Done, Refused, Writer, Later, after_writing, tested, bytes_written, list_written, items_written, shape_written, copied, field_written, fields_written, definition_written, writers_below}
 use Rattle.td_write.specs.Writes.{Passes}
 use Rattle.td_write.proofs.Totals.{total_followed}
 

@@ -5,7 +5,7 @@ use Rattle.std.proofs.lemmas.Bool.{le-leb}
 use Rattle.std.proofs.Math.Nat.{mul-le-mul_right}
 use Rattle.std.proofs.Math.Pow.{pow_mono}
 use Rattle.td_num.specs.Numbers.{byte_of}
-use Rattle.td_values.specs.Bytes.{rising_bytes, falling_bytes}
+use Rattle.td_write_values.specs.Bytes.{rising_bytes, falling_bytes}
 
 pub rising_more : (w n : ℕ) (old mid new : List ℕ) → (w ≡ 0 → ⊥) → mid ≡ old ++ n % 256 ∷ [] → new ≡ mid ++ rising_bytes (w - 1) (n / 256) → new ≡ old ++ rising_bytes w n
 rising_more zero n old mid new apart e f = absurd (apart refl)

@@ -6,10 +6,10 @@ use Rattle.std.proofs.lemmas.List.{append-nil}
 use Rattle.td_num.specs.Numbers.{bytes_in}
 use Rattle.td_num.specs.declared.number.NumberType.{NumberType}
 use Rattle.td_core.specs.declared.outcome.Reason.TheVariants.{Constraint}
-use Rattle.td_values.specs.declared.error.WriteRule.TheVariants.{Shape, Broken}
-use Rattle.td_values.specs.Datum.{Datum, Sequence, data_of}
-use Rattle.td_values.specs.Spelling.{ends_in_zero}
-use Rattle.td_values.specs.Writing.{Done, Refused, after_writing, followed, wanted, items_written, number_written, up_to_zero_written}
+use Rattle.td_write_values.specs.declared.error.WriteRule.TheVariants.{Shape, Broken}
+use Rattle.td_write_values.specs.Datum.{Datum, Sequence, data_of}
+use Rattle.td_write_values.specs.Spelling.{ends_in_zero}
+use Rattle.td_write_values.specs.Writing.{Done, Refused, after_writing, followed, wanted, items_written, number_written, up_to_zero_written}
 use Rattle.td_write.specs.declared.halt.Halt.{Halt}
 use Rattle.td_write.specs.declared.halt.Halt.TheVariants as halt
 use Rattle.td_write.specs.Writes.{Halts}

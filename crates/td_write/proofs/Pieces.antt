@@ -7,10 +7,10 @@ use Rattle.td_core.specs.declared.module.Part.{Part}
 use Rattle.td_core.specs.declared.outcome.Reason.{Reason}
 use Rattle.td_core.specs.declared.outcome.TraceFrame.{TraceFrame}
 use Rattle.td_core.specs.Outcome.{Accepted, Rejected}
-use Rattle.td_values.specs.declared.error.WriteRule.TheVariants.{Shape, Range, Broken, Long}
-use Rattle.td_values.specs.Datum.{Datum, Number, Sequence, Bytes, Empty}
-use Rattle.td_values.specs.Bytes.{fits}
-use Rattle.td_values.specs.Writing.{Tests, Written, Done, Refused, after_writing, wanted, tested, has_room, parts_written}
+use Rattle.td_write_values.specs.declared.error.WriteRule.TheVariants.{Shape, Range, Broken, Long}
+use Rattle.td_write_values.specs.Datum.{Datum, Number, Sequence, Bytes, Empty}
+use Rattle.td_write_values.specs.Bytes.{fits}
+use Rattle.td_write_values.specs.Writing.{Tests, Written, Done, Refused, after_writing, wanted, tested, has_room, parts_written}
 use Rattle.td_write.specs.Writes.{IsNumber}
 
 module _ (tests : Tests) (t : NumberType) (part : Part) (parts : List Part) (env places path : List ℕ) (i start : ℕ) (cells : List ℕ) (go : List ℕ → List ℕ → ℕ → List ℕ → List Datum → Written) where

@@ -2,14 +2,14 @@
 use Rattle.std.proofs.Common.{◌≡◌, ℕ, suc, ◌+◌, ◌-◌, Bool, true, false, List, [], ◌∷◌, ◌++◌, length, refl, sym, ap, ◌∙◌, arith, append_assoc, length-append, Option}
 use Rattle.std.proofs.lemmas.List.{append-nil}
 use Rattle.td_core.specs.declared.module.CopyOut.{CopyOut}
-use Rattle.td_values.specs.declared.error.WriteRule.{WriteRule}
-use Rattle.td_values.specs.declared.error.WriteRule.TheVariants.{Size}
-use Rattle.td_values.specs.Datum.{Datum}
+use Rattle.td_write_values.specs.declared.error.WriteRule.{WriteRule}
+use Rattle.td_write_values.specs.declared.error.WriteRule.TheVariants.{Size}
+use Rattle.td_write_values.specs.Datum.{Datum}
 use Rattle.td_write.specs.declared.halt.Halt.{Halt}
 use Rattle.td_write.specs.declared.halt.Halt.TheVariants as halt
 use Rattle.td_write.specs.Writes.{Halts}
-use Rattle.td_values.specs.Spelling.{is_some_size}
-use Rattle.td_values.specs.Writing.{Written, Done, Refused, after_writing, followed, wanted, of_size, noted, copied, items_written}
+use Rattle.td_write_values.specs.Spelling.{is_some_size}
+use Rattle.td_write_values.specs.Writing.{Written, Done, Refused, after_writing, followed, wanted, of_size, noted, copied, items_written}
 
 -- what was written is behind what stood there
 pub done_parts : (old new cells : List ℕ) (w : Written) → after_writing old w ≡ Done new cells → (s : List ℕ) × (w ≡ Done s cells) × (new ≡ old ++ s)

@@ -15,16 +15,16 @@ use Rattle.td_core.specs.Entries.{entry_definition, definition_at}
 use Rattle.td_core.specs.Formed.{AllFit, params_at, cells_at}
 use Rattle.td_meaning.specs.Meaning.{meaning, entry_place}
 use Rattle.td_meaning.specs.Copies.{opened, outcome}
-use Rattle.td_values.specs.declared.error.WriteRule.{WriteRule}
-use Rattle.td_values.specs.declared.error.WriteRule.TheVariants.{Shape, Range, Broken, Size, Long}
-use Rattle.td_values.specs.declared.error.WriteError.{WriteError}
-use Rattle.td_values.specs.declared.error.WriteError.TheVariants as error
-use Rattle.td_values.specs.declared.limits.TheConstants.{MOST_WRITTEN}
-use Rattle.td_values.specs.Datum.{Datum}
-use Rattle.td_values.specs.Spelling.{spelling}
-use Rattle.td_values.specs.Writing.{Tests, Written, Done, Refused, writers_below, writing, in_machine, whole}
-use Rattle.td_spelled.specs.Laws.{IsExact, FailsFor, WritingIsExact, KindsAreAdmitted}
-use Rattle.td_ranged.specs.Laws.{WritingIsInRange}
+use Rattle.td_write_values.specs.declared.error.WriteRule.{WriteRule}
+use Rattle.td_write_values.specs.declared.error.WriteRule.TheVariants.{Shape, Range, Broken, Size, Long}
+use Rattle.td_write_values.specs.declared.error.WriteError.{WriteError}
+use Rattle.td_write_values.specs.declared.error.WriteError.TheVariants as error
+use Rattle.td_write_values.specs.declared.limits.TheConstants.{MOST_WRITTEN}
+use Rattle.td_write_values.specs.Datum.{Datum}
+use Rattle.td_write_values.specs.Spelling.{spelling}
+use Rattle.td_write_values.specs.Writing.{Tests, Written, Done, Refused, writers_below, writing, in_machine, whole}
+use Rattle.td_write_spells.specs.Laws.{IsExact, FailsFor, WritingIsExact, KindsAreAdmitted}
+use Rattle.td_write_fits.specs.Laws.{WritingIsInRange}
 use Rattle.td_write.specs.Answers.{IsWritable, IsAppended, IsCause, IsNowhere, Unless}
 use Rattle.td_write.proofs.Definitions.{writers_past}
 

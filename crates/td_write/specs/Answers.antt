@@ -9,13 +9,13 @@ use Rattle.td_core.specs.Copies.{IsCopying}
 use Rattle.td_kinds.specs.KindRules.{kind_faults}
 use Rattle.td_arith.specs.SafeModule.{module_unsafe}
 use Rattle.td_meaning.specs.Copies.{opened, outcome}
-use Rattle.td_values.specs.declared.error.WriteRule.TheVariants as rule
-use Rattle.td_values.specs.declared.error.WriteError.{WriteError}
-use Rattle.td_values.specs.declared.error.WriteError.TheVariants.{Shape, Range, Broken, Size, Long, NoMemory}
-use Rattle.td_values.specs.declared.limits.TheConstants.{MOST_WRITTEN}
-use Rattle.td_values.specs.Datum.{Datum}
-use Rattle.td_values.specs.Spelling.{spelling}
-use Rattle.td_values.specs.Writing.{Written, Refused, writing, whole}
+use Rattle.td_write_values.specs.declared.error.WriteRule.TheVariants as rule
+use Rattle.td_write_values.specs.declared.error.WriteError.{WriteError}
+use Rattle.td_write_values.specs.declared.error.WriteError.TheVariants.{Shape, Range, Broken, Size, Long, NoMemory}
+use Rattle.td_write_values.specs.declared.limits.TheConstants.{MOST_WRITTEN}
+use Rattle.td_write_values.specs.Datum.{Datum}
+use Rattle.td_write_values.specs.Spelling.{spelling}
+use Rattle.td_write_values.specs.Writing.{Written, Refused, writing, whole}
 
 -- what is asked of a module; each that a text stands for is so
 pub record IsWritable (m : Module) : Type 0 where

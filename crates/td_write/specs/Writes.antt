@@ -2,9 +2,9 @@
 use Rattle.std.specs.Prelude.{◌≡◌, ◌≤◌, ℕ, List, length}
 use Rattle.td_core.specs.declared.module.Module.{Module}
 use Rattle.td_core.specs.Outcome.{Ending}
-use Rattle.td_values.specs.declared.limits.TheConstants.{MOST_WRITTEN}
-use Rattle.td_values.specs.Datum.{Datum, Number, Sequence, Bytes, Empty}
-use Rattle.td_values.specs.Writing.{Written, Done, Refused, Writer, after_writing, tested, writers_below, in_machine}
+use Rattle.td_write_values.specs.declared.limits.TheConstants.{MOST_WRITTEN}
+use Rattle.td_write_values.specs.Datum.{Datum, Number, Sequence, Bytes, Empty}
+use Rattle.td_write_values.specs.Writing.{Written, Done, Refused, Writer, after_writing, tested, writers_below, in_machine}
 use Rattle.td_write.specs.declared.halt.Halt.{Halt}
 use Rattle.td_write.specs.declared.halt.Halt.TheVariants as halt
 

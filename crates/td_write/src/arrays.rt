@@ -1,8 +1,8 @@
 //! Arrays of elements.
 
 ghost use Rattle.std.specs.Prelude.{◌≤◌, length, IfOk, IfErr};
-ghost use Rattle.td_values.specs.Writing.{element_written, items_written, contents_written, shape_written, in_machine};
-ghost use Rattle.td_values.specs.declared.limits.TheConstants.{MOST_WRITTEN};
+ghost use Rattle.td_write_values.specs.Writing.{element_written, items_written, contents_written, shape_written, in_machine};
+ghost use Rattle.td_write_values.specs.declared.limits.TheConstants.{MOST_WRITTEN};
 ghost use Rattle.td_write.specs.Writes.{below, Wrote, Halts};
 
 use crate::elements::{element_bytes, one_element};
@@ -14,8 +14,8 @@ use td_core::module::{Element, Extent};
 use td_core::outcome::Reason;
 use td_meaning::arrays::{divides, equals};
 use td_meaning::expressions::value_of;
-use td_values::error::WriteRule;
-use td_values::value::{Value, ValueKind};
+use td_write_values::error::WriteRule;
+use td_write_values::value::{Value, ValueKind};
 
 /// An element, or an array of them.
 #[cycle(types)]

@@ -1,7 +1,7 @@
 //! The fields whose values a definition's value lists.
 
 ghost use Rattle.std.specs.Prelude.{◌≡◌, ℕ, List, IfOk, IfErr};
-ghost use Rattle.td_values.specs.Writing.{Writer, fields_written, body_written, in_machine};
+ghost use Rattle.td_write_values.specs.Writing.{Writer, fields_written, body_written, in_machine};
 ghost use Rattle.td_write.specs.Writes.{Halts};
 
 use crate::halt::Halt;
@@ -11,8 +11,8 @@ use td_core::module::{Body, Field, TypeDef};
 use td_core::outcome::Reason;
 use td_meaning::casetypes::case_for;
 use td_meaning::expressions::{is_met, value_of};
-use td_values::error::WriteRule;
-use td_values::value::Value;
+use td_write_values::error::WriteRule;
+use td_write_values::value::Value;
 
 /// The fields of a struct, or of the case that is chosen, where there are as many values as they have and `where` is met.
 pub fn written_fields<'a>(

@@ -1,14 +1,14 @@
 //! Bytes at the end of what was written.
 
 ghost use Rattle.std.specs.Prelude.{◌≡◌, ◌≤◌, ◌++◌, length, replicate, OnOk, IfOk};
-ghost use Rattle.td_values.specs.Bytes.{number_bytes, rising_bytes, falling_bytes};
-ghost use Rattle.td_values.specs.Writing.{has_room};
-ghost use Rattle.td_values.specs.declared.limits.TheConstants.{MOST_WRITTEN};
+ghost use Rattle.td_write_values.specs.Bytes.{number_bytes, rising_bytes, falling_bytes};
+ghost use Rattle.td_write_values.specs.Writing.{has_room};
+ghost use Rattle.td_write_values.specs.declared.limits.TheConstants.{MOST_WRITTEN};
 
 use std::alloc::AllocError;
 use td_num::bytes::byte_of;
 use td_num::number::{ByteOrder, NumberType, byte_count};
-use td_values::limits::MOST_WRITTEN;
+use td_write_values::limits::MOST_WRITTEN;
 
 /// Whether so many bytes more are within the limit.
 pub fn has_room(written: usize, count: u64) -> bool

@@ -3,15 +3,15 @@
 ghost use Rattle.std.specs.Prelude.{◌≡◌, ◌≤◌, [], IfOk, length, take, drop};
 ghost use Rattle.td_core.specs.declared.outcome.Verdict.TheVariants.{Accept};
 ghost use Rattle.td_core.specs.Outcome.{copies_by};
-ghost use Rattle.td_values.specs.Writing.{noted};
-ghost use Rattle.td_values.specs.declared.limits.TheConstants.{MOST_WRITTEN};
+ghost use Rattle.td_write_values.specs.Writing.{noted};
+ghost use Rattle.td_write_values.specs.declared.limits.TheConstants.{MOST_WRITTEN};
 
 use std::alloc::{AllocError, Global};
 use td_core::module::CopyOut;
 use td_core::outcome::{Outcome, Verdict};
 use td_meaning::copies::put_copy;
+use td_meaning_plain::copies::copies_by;
 use td_num::items::Items;
-use td_plain::copies::copies_by;
 
 /// Where a field is copied, notes the place and the number of its bytes.
 pub fn note_copy(

@@ -1,8 +1,8 @@
 //! Elements of fields and arrays.
 
 ghost use Rattle.std.specs.Prelude.{◌≤◌, length, IfOk, IfErr};
-ghost use Rattle.td_values.specs.Writing.{element_bytes, element_written, in_machine};
-ghost use Rattle.td_values.specs.declared.limits.TheConstants.{MOST_WRITTEN};
+ghost use Rattle.td_write_values.specs.Writing.{element_bytes, element_written, in_machine};
+ghost use Rattle.td_write_values.specs.declared.limits.TheConstants.{MOST_WRITTEN};
 ghost use Rattle.td_write.specs.Writes.{below, Wrote, Halts};
 
 use crate::halt::Halt;
@@ -13,8 +13,8 @@ use td_core::module::Element;
 use td_core::outcome::Reason;
 use td_meaning::expressions::values_of;
 use td_meaning::parameters::cells_of;
-use td_values::error::WriteRule;
-use td_values::value::Value;
+use td_write_values::error::WriteRule;
+use td_write_values::value::Value;
 
 /// An element.
 #[cycle(types)]

@@ -1,9 +1,9 @@
 //! Fields, and what stands in them.
 
 ghost use Rattle.std.specs.Prelude.{◌≡◌, ◌≤◌, length, drop, IfOk, IfErr};
-ghost use Rattle.td_values.specs.Bytes.{unit_type};
-ghost use Rattle.td_values.specs.Writing.{Later, shape_written, copied, field_written, fields_written, in_machine};
-ghost use Rattle.td_values.specs.declared.limits.TheConstants.{MOST_WRITTEN};
+ghost use Rattle.td_write_values.specs.Bytes.{unit_type};
+ghost use Rattle.td_write_values.specs.Writing.{Later, shape_written, copied, field_written, fields_written, in_machine};
+ghost use Rattle.td_write_values.specs.declared.limits.TheConstants.{MOST_WRITTEN};
 ghost use Rattle.td_write.specs.Writes.{below, Wrote, GoesOn, Halts};
 
 use crate::arrays::shape;
@@ -14,8 +14,8 @@ use crate::parts::test_parts;
 use crate::units::one_unit;
 use crate::walk::{Left, Walk};
 use td_core::module::{Field, NameId};
-use td_values::error::WriteRule;
-use td_values::value::Value;
+use td_write_values::error::WriteRule;
+use td_write_values::value::Value;
 
 /// Fields one after the other.
 #[cycle(types)]

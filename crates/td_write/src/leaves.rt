@@ -1,9 +1,9 @@
 //! Values that name no type.
 
 ghost use Rattle.std.specs.Prelude.{◌≡◌, ◌≤◌, ℕ, List, [], length, IfOk, IfErr};
-ghost use Rattle.td_values.specs.Spelling.{is_zero, ends_in_zero};
-ghost use Rattle.td_values.specs.Writing.{Done, after_writing, up_to_zero_written, number_written, is_listed, bytes_written, zeros_written, unit_written, zero_ended_written, items_written};
-ghost use Rattle.td_values.specs.declared.limits.TheConstants.{MOST_WRITTEN};
+ghost use Rattle.td_write_values.specs.Spelling.{is_zero, ends_in_zero};
+ghost use Rattle.td_write_values.specs.Writing.{Done, after_writing, up_to_zero_written, number_written, is_listed, bytes_written, zeros_written, unit_written, zero_ended_written, items_written};
+ghost use Rattle.td_write_values.specs.declared.limits.TheConstants.{MOST_WRITTEN};
 ghost use Rattle.td_write.specs.Writes.{Halts, Wrote};
 
 use crate::bytes::{has_room, push_number, push_zeros};
@@ -15,8 +15,8 @@ use td_core::outcome::Reason;
 use td_meaning::enums::{is_among, values_at};
 use td_num::items::Items;
 use td_num::number::{NumberType, byte_count};
-use td_values::error::WriteRule;
-use td_values::value::{Value, ValueKind};
+use td_write_values::error::WriteRule;
+use td_write_values::value::{Value, ValueKind};
 
 /// A number of a type.
 pub fn write_number(number_type: NumberType, value: &Value, out: &mut Vec<u8>) -> Result<(), Halt>

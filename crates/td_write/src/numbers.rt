@@ -2,18 +2,18 @@
 
 ghost use Rattle.std.specs.Prelude.{◌≡◌, ◌≤◌, nat_eq, List, length, IfOk, IfErr, ◌*◌, ◌-◌, ◌^◌, ◌<◌, nat_le, MatchOption, Some, None, false, true};
 ghost use Rattle.td_core.specs.Formed.{bits_bound};
-ghost use Rattle.td_values.specs.Datum as datum;
-ghost use Rattle.td_values.specs.Spelling.{number_in};
-ghost use Rattle.td_values.specs.Writing.{value_count, values_count};
+ghost use Rattle.td_write_values.specs.Datum as datum;
+ghost use Rattle.td_write_values.specs.Spelling.{number_in};
+ghost use Rattle.td_write_values.specs.Writing.{value_count, values_count};
 ghost use Rattle.td_write.specs.Writes.{IsNumber};
-ghost use Rattle.td_values.specs.Bytes.{fits, unit_type, is_byte, at_bits, unit_number, are_bits_of, makes_unit};
+ghost use Rattle.td_write_values.specs.Bytes.{fits, unit_type, is_byte, at_bits, unit_number, are_bits_of, makes_unit};
 
 use crate::halt::Halt;
 use td_core::module::{Bits, Element, Extent, Field, Part};
 use td_meaning::bit_fields::bits_of;
 use td_num::number::{ByteOrder, NumberType, Width};
-use td_values::error::WriteRule;
-use td_values::value::{Value, ValueKind};
+use td_write_values::error::WriteRule;
+use td_write_values::value::{Value, ValueKind};
 
 /// The greatest number of a width.
 fn greatest(width: Width) -> u64

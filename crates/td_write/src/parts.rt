@@ -11,7 +11,7 @@ use td_core::module::{NameId, Part};
 use td_core::outcome::Verdict;
 use td_meaning::checking::check_parts;
 use td_num::items::Items;
-use td_values::error::WriteRule;
+use td_write_values::error::WriteRule;
 
 /// Refuses the value at hand where a test doesn't hold.
 pub fn want(holds: bool, rule: WriteRule) -> Result<(), Halt>

@@ -1,8 +1,8 @@
 //! Definitions, as they are named from above.
 
 ghost use Rattle.std.specs.Prelude.{◌≤◌, length, IfOk, IfErr};
-ghost use Rattle.td_values.specs.Writing.{listed_written, in_machine};
-ghost use Rattle.td_values.specs.declared.limits.TheConstants.{MOST_WRITTEN};
+ghost use Rattle.td_write_values.specs.Writing.{listed_written, in_machine};
+ghost use Rattle.td_write_values.specs.declared.limits.TheConstants.{MOST_WRITTEN};
 ghost use Rattle.td_write.specs.Writes.{below, Wrote, Halts};
 
 use crate::bodies::written_fields;
@@ -11,8 +11,8 @@ use crate::halt::Halt;
 use crate::walk::Walk;
 use td_core::module::TypeDef;
 use td_core::outcome::Reason;
-use td_values::error::WriteRule;
-use td_values::value::{Value, ValueKind};
+use td_write_values::error::WriteRule;
+use td_write_values::value::{Value, ValueKind};
 
 /// A definition that is named from above, with its value arguments and, in the walk, the places of its cells.
 #[cycle(types)]

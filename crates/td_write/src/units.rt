@@ -2,9 +2,9 @@
 
 ghost use Rattle.std.specs.Prelude.{◌≡◌, ◌+◌, ◌≤◌, ◌++◌, ◌∷◌, [], ℕ, List, length, drop, IfOk, IfErr};
 ghost use Rattle.td_core.specs.declared.module.Part.{Part};
-ghost use Rattle.td_values.specs.Datum.{Datum};
-ghost use Rattle.td_values.specs.Writing.{Written, Later, parts_written, unit_then, in_machine};
-ghost use Rattle.td_values.specs.declared.limits.TheConstants.{MOST_WRITTEN};
+ghost use Rattle.td_write_values.specs.Datum.{Datum};
+ghost use Rattle.td_write_values.specs.Writing.{Written, Later, parts_written, unit_then, in_machine};
+ghost use Rattle.td_write_values.specs.declared.limits.TheConstants.{MOST_WRITTEN};
 ghost use Rattle.td_write.specs.Writes.{GoesOn, Halts};
 
 use crate::bytes::{has_room, push_number};
@@ -15,7 +15,7 @@ use td_core::module::{Field, Part};
 use td_core::outcome::Verdict;
 use td_meaning::checking::part_verdict;
 use td_num::number::{NumberType, byte_count};
-use td_values::error::WriteRule;
+use td_write_values::error::WriteRule;
 
 /// A bit field of a unit (or a number) that began at `start`: its value, which comes into scope, its refinement and its
 /// action.

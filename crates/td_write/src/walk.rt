@@ -2,7 +2,7 @@
 
 use std::alloc::Global;
 use td_core::module::Module;
-use td_values::value::Value;
+use td_write_values::value::Value;
 
 /// What stays the same while a definition's value is written: the allocator, the module, the bound below which the
 /// definitions lie that may be named, and for each cell of the definition its place among all cells.

@@ -3,7 +3,7 @@
 ghost use Rattle.std.specs.Prelude.{IfOk, IfErr, OnErr, ◌≡◌};
 ghost use Rattle.td_core.specs.Entries.{entry_definition};
 ghost use Rattle.td_core.specs.Formed.{AllFit, params_at, cells_at};
-ghost use Rattle.td_values.specs.Writing.{Written, Refused};
+ghost use Rattle.td_write_values.specs.Writing.{Written, Refused};
 ghost use Rattle.td_write.specs.Writes.{Halts};
 ghost use Rattle.td_write.specs.Answers.{IsWritable, IsAppended, IsRefusal, IsCause, IsNowhere, Unless};
 
@@ -15,12 +15,12 @@ use std::alloc::Global;
 use td_core::module::{Entry, Module};
 use td_core::outcome::{Outcome, Reason};
 use td_meaning::parameters::places_below;
+use td_meaning_plain::meaning::opened;
 use td_num::items::Items;
-use td_plain::meaning::opened;
-use td_ranged::laws::writing_is_in_range;
-use td_spelled::laws::{kinds_are_admitted, writing_is_exact};
-use td_values::error::{WriteError, WriteRule};
-use td_values::value::Value;
+use td_write_fits::laws::writing_is_in_range;
+use td_write_spells::laws::{kinds_are_admitted, writing_is_exact};
+use td_write_values::error::{WriteError, WriteRule};
+use td_write_values::value::Value;
 
 /// The error of a broken rule at a path.
 fn broken(rule: WriteRule, path: Vec<usize>) -> WriteError

@@ -5,12 +5,12 @@ use Rattle.std.specs.Prelude.{slice_get}
 use Rattle.std.proofs.lemmas.List.{drop_more, drop_all, append-nil}
 use Rattle.td_core.specs.declared.module.Field.{Field}
 use Rattle.td_core.specs.declared.module.TypeDef.{TypeDef}
-use Rattle.td_values.specs.declared.error.WriteRule.TheVariants.{Shape, Size}
-use Rattle.td_values.specs.Datum.{Datum, Sequence, Empty, data_of}
-use Rattle.td_values.specs.DatumView.{datum_at}
-use Rattle.td_values.specs.Bytes.{unit_type, is_byte}
-use Rattle.td_values.specs.Spelling.{number_in}
-use Rattle.td_values.specs.Writing.{Later, Done, Refused, after_writing, tested, element_written, items_written, shape_written, noted, copied, field_written, fields_written, body_written, listed_written, writers_below, in_machine}
+use Rattle.td_write_values.specs.declared.error.WriteRule.TheVariants.{Shape, Size}
+use Rattle.td_write_values.specs.Datum.{Datum, Sequence, Empty, data_of}
+use Rattle.td_write_values.specs.DatumView.{datum_at}
+use Rattle.td_write_values.specs.Bytes.{unit_type, is_byte}
+use Rattle.td_write_values.specs.Spelling.{number_in}
+use Rattle.td_write_values.specs.Writing.{Later, Done, Refused, after_writing, tested, element_written, items_written, shape_written, noted, copied, field_written, fields_written, body_written, listed_written, writers_below, in_machine}
 use Rattle.td_meaning.specs.Meaning.{extended}
 use Rattle.td_meaning.specs.Machine as machine
 use Rattle.td_write.specs.Writes.{Wrote, Halts, Passes}

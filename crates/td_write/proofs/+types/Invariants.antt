@@ -1,6 +1,6 @@
 use Rattle.std.proofs.Common.{◌≡◌, ◌+◌, ◌*◌, ◌≤◌, drop, length}
-use Rattle.td_values.specs.declared.limits.TheConstants.{MOST_WRITTEN}
-use Rattle.td_values.specs.Writing.{after_writing, items_written, element_written, fields_written, writers_below, in_machine}
+use Rattle.td_write_values.specs.declared.limits.TheConstants.{MOST_WRITTEN}
+use Rattle.td_write_values.specs.Writing.{after_writing, items_written, element_written, fields_written, writers_below, in_machine}
 use Rattle.td_write.proofs.+types.Given as goal
 
 abbrev pub decreases-types::named : goal.decreases-types::named

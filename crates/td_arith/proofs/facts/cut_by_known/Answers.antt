@@ -1,4 +1,4 @@
-use Rattle.td_ranges.specs.Ends.{range_in}
+use Rattle.td_arith_ranges.specs.Ends.{range_in}
 use Rattle.td_arith.proofs.Cutting.{cut_next}
 use Rattle.td_arith.proofs.facts.cut_by_known.Goals as goal
 

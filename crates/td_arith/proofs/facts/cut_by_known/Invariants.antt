@@ -1,6 +1,6 @@
 use Rattle.std.proofs.Common.{◌≡◌, drop}
 use Rattle.td_expr.specs.Range.{cut_by_all}
-use Rattle.td_ranges.specs.Ends.{range_in}
+use Rattle.td_arith_ranges.specs.Ends.{range_in}
 use Rattle.td_arith.specs.Known.{facts_in}
 use Rattle.td_arith.proofs.facts.cut_by_known.Given as goal
 

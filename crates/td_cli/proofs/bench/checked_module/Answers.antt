@@ -1,7 +1,7 @@
 use Rattle.std.proofs.Common.{◌≡◌, ◌⊎◌, List, ℕ, sym, subst}
 use Rattle.td_front.specs.declared.error.FrontError.TheVariants as front
 use Rattle.td_front.specs.ModuleText.{IsModuleText, RefusedBy}
-use Rattle.td_input.specs.Causes.{HasCause}
+use Rattle.td_cli_input.specs.Causes.{HasCause}
 use Rattle.td_cli.specs.Benching.{RefusesText}
 use Rattle.td_cli.proofs.Benches.{text_error}
 use Rattle.td_cli.proofs.bench.checked_module.Goals as goal

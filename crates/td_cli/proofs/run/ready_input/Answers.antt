@@ -1,5 +1,5 @@
 use Rattle.std.specs.Prelude.{option_map}
-use Rattle.td_told.proofs.Words.{over_with}
+use Rattle.td_report_facts.proofs.Words.{over_with}
 use Rattle.td_cli.proofs.run.ready_input.Goals as goal
 
 pub prepare-requires-clause-over : goal.prepare-requires-clause-over

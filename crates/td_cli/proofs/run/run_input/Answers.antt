@@ -1,5 +1,5 @@
 use Rattle.std.proofs.lemmas.Result.{err_from_is_err_and}
-use Rattle.td_input.specs.Marker.{text_part, job_part}
+use Rattle.td_cli_input.specs.Marker.{text_part, job_part}
 use Rattle.td_cli.proofs.run.run_input.Goals as goal
 
 pub returns-in_err-parsed-clause-complete : goal.returns-in_err-parsed-clause-complete

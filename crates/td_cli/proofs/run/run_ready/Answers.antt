@@ -7,7 +7,7 @@ use Rattle.td_ir.specs.Entries.{buffers_of}
 use Rattle.td_vm.specs.Frames.{outcome_in}
 use Rattle.td_cli.specs.Run.{IsRunOf}
 use Rattle.td_cli.proofs.Compiled.{job_fits, fits_with, run_with, run_of}
-use Rattle.td_told.proofs.Words.{ends_with}
+use Rattle.td_report_facts.proofs.Words.{ends_with}
 use Rattle.td_cli.proofs.run.run_ready.Goals as goal
 
 pub run_counted-ran-requires-clause-fits : goal.run_counted-ran-requires-clause-fits

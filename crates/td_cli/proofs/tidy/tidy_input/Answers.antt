@@ -1,5 +1,5 @@
 use Rattle.std.proofs.Common.{sym, ap, ◌∙◌}
-use Rattle.td_layout.specs.Definitions.{canonical_text}
+use Rattle.td_print_layout.specs.Definitions.{canonical_text}
 use Rattle.td_cli.specs.Answers.{IsTidy}
 use Rattle.td_cli.proofs.Inputs.{text_made, text_refused, text_unmade}
 use Rattle.td_cli.proofs.tidy.tidy_input.Goals as goal

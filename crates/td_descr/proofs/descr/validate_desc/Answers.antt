@@ -1,9 +1,9 @@
 use Rattle.std.proofs.Common.{List, sym, ap, ◌∙◌, subst, length, arith}
 use Rattle.td_stream.specs.declared.load.Load.{Load}
 use Rattle.td_core.specs.declared.outcome.Outcome.{Outcome}
-use Rattle.td_leaves.specs.Outcomes.{IsMeant}
+use Rattle.td_fetch.specs.Outcomes.{IsMeant}
 use Rattle.td_ir.specs.Entries.{buffers_of}
-use Rattle.td_lowered.proofs.Opening.{buffers_same}
+use Rattle.td_lower_means.proofs.Opening.{buffers_same}
 use Rattle.td_vm.proofs.Alone.{no_copies}
 use Rattle.td_descr.specs.Ring.{desc_entry, desc_args, desc_cells, IsValidated, frame_outcome}
 use Rattle.td_descr.proofs.Accepting.{validated_by, accepted_within}

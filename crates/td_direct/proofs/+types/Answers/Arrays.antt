@@ -12,7 +12,7 @@ use Rattle.td_meaning.specs.Meaning.{elements, filled, filled_once, demanded, di
 use Rattle.td_meaning.specs.Machine.{values, below, shape_meaning, element_meaning}
 use Rattle.td_meaning.specs.Verdicts.{ending_of}
 use Rattle.td_stream.proofs.Places.{look_nowhere}
-use Rattle.td_leaves.proofs.Stepping.{step_trans, step_still, step_from, step_to, step_then, only_after, only_from, only_then}
+use Rattle.td_direct.proofs.Stepping.{step_trans, step_still, step_from, step_to, step_then, only_after, only_from, only_then}
 use Rattle.td_stream.proofs.Stages.{later_trans, carried}
 use Rattle.td_direct.specs.Arrays.{once_rest}
 use Rattle.td_direct.specs.Passing.{IsPassed, passes_all}

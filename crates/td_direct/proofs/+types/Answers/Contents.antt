@@ -13,11 +13,11 @@ use Rattle.td_core.specs.Outcome.{Ending, plain, and_then, within, ending_within
 use Rattle.td_meaning.specs.Meaning.{values_of as values_in, field_place, first_name}
 use Rattle.td_meaning.specs.Machine.{values, below, fields_meaning, content_meaning}
 use Rattle.td_meaning.specs.Verdicts.{ending_of, frame_place}
-use Rattle.td_leaves.specs.declared.fields.Counted.{Counted}
-use Rattle.td_leaves.specs.Counting.{IsCounted, IsPlain}
-use Rattle.td_leaves.specs.Step.{Step, OnlyRead, rest_meaning}
-use Rattle.td_leaves.proofs.Stepping.{step_from, step_to, step_then, step_within, step_only, only_from, only_then}
-use Rattle.td_leaves.proofs.FieldLemmas.{plain_by}
+use Rattle.td_direct.specs.declared.counting.Counted.{Counted}
+use Rattle.td_direct.specs.Counting.{IsCounted, IsPlain}
+use Rattle.td_direct.specs.Step.{Step, OnlyRead, rest_meaning}
+use Rattle.td_direct.proofs.Stepping.{step_from, step_to, step_then, step_within, step_only, only_from, only_then}
+use Rattle.td_direct.proofs.FieldLemmas.{plain_by}
 use Rattle.td_direct.specs.Copying.{IsKept}
 use Rattle.td_direct.proofs.TypeLemmas.{number_is, number_not_listed, listed_is, plain_not_number, plain_not_listed}
 use Rattle.td_direct.proofs.+types.Goals as goal

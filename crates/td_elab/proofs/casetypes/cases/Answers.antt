@@ -1,11 +1,11 @@
 use Rattle.std.proofs.Common.{◌≡◌, sym, ap, ◌∙◌, ◌+◌, [], ◌∷◌, ◌++◌, drop, append_assoc, arith}
 use Rattle.std.proofs.lemmas.List.{append-nil}
-use Rattle.td_rules.specs.Breach.{first_of}
-use Rattle.td_rules.specs.Known.{next_case}
-use Rattle.td_rules.specs.Constants.{constant_value, with_value_number, number_or_zero}
-use Rattle.td_rules.specs.Fields.{fields_breaches, fields_core}
-use Rattle.td_rules.specs.Casetypes.{case_breaches, case_taken, cases_breaches, cases_taken, cases_core}
-use Rattle.td_typing.proofs.Steps.{first_append}
+use Rattle.td_elab_rules.specs.Breach.{first_of}
+use Rattle.td_elab_rules.specs.Known.{next_case}
+use Rattle.td_elab_rules.specs.Constants.{constant_value, with_value_number, number_or_zero}
+use Rattle.td_elab_rules.specs.Fields.{fields_breaches, fields_core}
+use Rattle.td_elab_rules.specs.Casetypes.{case_breaches, case_taken, cases_breaches, cases_taken, cases_core}
+use Rattle.td_elab_exprs.proofs.Steps.{first_append}
 use Rattle.td_elab.proofs.casetypes.cases.Goals as goal
 use Rattle.td_num.proofs.Truths.{all_dropped as done}
 use Rattle.td_num.proofs.Lists.{drop_next as split}

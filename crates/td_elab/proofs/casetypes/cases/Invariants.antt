@@ -1,6 +1,6 @@
 use Rattle.std.proofs.Common.{◌≡◌, [], ◌++◌, drop}
-use Rattle.td_rules.specs.Breach.{first_of}
-use Rattle.td_rules.specs.Casetypes.{cases_breaches, cases_taken, cases_core}
+use Rattle.td_elab_rules.specs.Breach.{first_of}
+use Rattle.td_elab_rules.specs.Casetypes.{cases_breaches, cases_taken, cases_core}
 use Rattle.td_elab.proofs.casetypes.cases.Given as goal
 
 -- what is left of the cases decides

@@ -1,7 +1,7 @@
 use Rattle.std.proofs.Common.{◌≡◌, ◌+◌, length, ap, ◌∙◌}
-use Rattle.td_rules.specs.declared.known.Meaning.TheVariants as meaning
-use Rattle.td_rules.specs.Constants.{with_global}
-use Rattle.td_rules.specs.Definitions.{with_names, entry_more}
+use Rattle.td_elab_rules.specs.declared.known.Meaning.TheVariants as meaning
+use Rattle.td_elab_rules.specs.Constants.{with_global}
+use Rattle.td_elab_rules.specs.Definitions.{with_names, entry_more}
 use Rattle.td_elab.proofs.definitions.announce.Goals as goal
 
 pub returns : goal.returns

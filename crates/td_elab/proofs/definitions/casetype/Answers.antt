@@ -1,13 +1,13 @@
 use Rattle.std.proofs.Common.{◌≡◌, List, ◌++◌, ap, ◌∙◌, append_assoc}
 use Rattle.td_ast.specs.declared.definitions.CasetypeTree.{CasetypeTree}
-use Rattle.td_rules.specs.declared.breach.Breach.{Breach}
-use Rattle.td_rules.specs.declared.known.Known.{Known}
-use Rattle.td_rules.specs.declared.parameters.Head.{Head}
-use Rattle.td_rules.specs.Breach.{first_of}
-use Rattle.td_rules.specs.ExprRules.{test_breaches}
-use Rattle.td_rules.specs.Constants.{global_breaches}
-use Rattle.td_rules.specs.Parameters.{no_head, head_of, params_breaches}
-use Rattle.td_rules.specs.Casetypes.{switch_breaches}
+use Rattle.td_elab_rules.specs.declared.breach.Breach.{Breach}
+use Rattle.td_elab_rules.specs.declared.known.Known.{Known}
+use Rattle.td_elab_rules.specs.declared.parameters.Head.{Head}
+use Rattle.td_elab_rules.specs.Breach.{first_of}
+use Rattle.td_elab_rules.specs.ExprRules.{test_breaches}
+use Rattle.td_elab_rules.specs.Constants.{global_breaches}
+use Rattle.td_elab_rules.specs.Parameters.{no_head, head_of, params_breaches}
+use Rattle.td_elab_rules.specs.Casetypes.{switch_breaches}
 use Rattle.td_elab.proofs.Chains.{on_ok_always, three}
 use Rattle.td_elab.proofs.definitions.casetype.Goals as goal
 

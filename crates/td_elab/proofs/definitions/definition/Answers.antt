@@ -1,7 +1,7 @@
 use Rattle.std.proofs.Common.{refl}
-use Rattle.td_rules.specs.Definitions.{after_define, after_struct, after_casetype}
-use Rattle.td_rules.specs.Aliases.{after_alias}
-use Rattle.td_rules.specs.Enums.{after_enum}
+use Rattle.td_elab_rules.specs.Definitions.{after_define, after_struct, after_casetype}
+use Rattle.td_elab_rules.specs.Aliases.{after_alias}
+use Rattle.td_elab_rules.specs.Enums.{after_enum}
 use Rattle.td_names.proofs.Naming.{on_ok as on_ok_then}
 use Rattle.td_elab.proofs.Slots.{stay, enum_keeps}
 use Rattle.td_elab.proofs.definitions.definition.Goals as goal

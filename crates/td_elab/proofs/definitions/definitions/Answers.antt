@@ -1,6 +1,6 @@
 use Rattle.std.proofs.Common.{None, sym, ap, ◌∙◌, ◌+◌, drop, arith}
-use Rattle.td_rules.specs.Breach.{first_of}
-use Rattle.td_rules.specs.Definitions.{definition_breaches, known_after}
+use Rattle.td_elab_rules.specs.Breach.{first_of}
+use Rattle.td_elab_rules.specs.Definitions.{definition_breaches, known_after}
 use Rattle.td_elab.specs.Firsts.{breaches_each, earlier, first_among}
 use Rattle.td_elab.proofs.definitions.definitions.Goals as goal
 use Rattle.td_num.proofs.Truths.{all_dropped as done}

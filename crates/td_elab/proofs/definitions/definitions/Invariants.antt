@@ -1,7 +1,7 @@
 use Rattle.std.proofs.Common.{◌≡◌, drop}
-use Rattle.td_rules.specs.Known.{nothing_known}
-use Rattle.td_declarations.specs.Slots.{record_parts}
-use Rattle.td_rules.specs.Definitions.{known_after}
+use Rattle.td_elab_rules.specs.Known.{nothing_known}
+use Rattle.td_elab_defs.specs.Slots.{record_parts}
+use Rattle.td_elab_rules.specs.Definitions.{known_after}
 use Rattle.td_elab.specs.Firsts.{breaches_each, first_among}
 use Rattle.td_elab.proofs.definitions.definitions.Given as goal
 

@@ -1,8 +1,8 @@
 use Rattle.td_names.proofs.Naming.{on_ok as on_ok_then}
 use Rattle.std.proofs.Common.{List, map, ap, ◌∙◌}
 use Rattle.td_ast.specs.declared.definitions.SlotTree.{SlotTree}
-use Rattle.td_rules.specs.Records.{slot_of}
-use Rattle.td_declarations.specs.Slots.{slot_part}
+use Rattle.td_elab_rules.specs.Records.{slot_of}
+use Rattle.td_elab_defs.specs.Slots.{slot_part}
 use Rattle.td_elab.proofs.Slots.{grow}
 use Rattle.td_elab.proofs.definitions.output.Goals as goal
 

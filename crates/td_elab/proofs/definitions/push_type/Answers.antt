@@ -1,6 +1,6 @@
 use Rattle.std.proofs.Common.{◌≡◌, [], ◌∷◌, ◌++◌, ap, ◌∙◌}
 use Rattle.td_kinds.specs.Kinds as kinds
-use Rattle.td_rules.specs.Known.{kind_at}
+use Rattle.td_elab_rules.specs.Known.{kind_at}
 use Rattle.td_elab.proofs.definitions.push_type.Goals as goal
 use Rattle.td_names.proofs.Naming.{on_ok as on_ok_then}
 

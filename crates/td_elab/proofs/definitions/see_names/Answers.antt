@@ -1,6 +1,6 @@
 use Rattle.std.proofs.Common.{sym, ap, ◌∙◌, ◌+◌, drop, arith}
 use Rattle.td_names.specs.Names.{with_name}
-use Rattle.td_rules.specs.Definitions.{with_names}
+use Rattle.td_elab_rules.specs.Definitions.{with_names}
 use Rattle.td_elab.proofs.definitions.see_names.Goals as goal
 use Rattle.td_num.proofs.Lists.{drop_next as split}
 

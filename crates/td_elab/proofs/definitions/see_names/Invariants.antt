@@ -1,5 +1,5 @@
 use Rattle.std.proofs.Common.{◌≡◌, drop}
-use Rattle.td_rules.specs.Definitions.{with_names}
+use Rattle.td_elab_rules.specs.Definitions.{with_names}
 use Rattle.td_elab.proofs.definitions.see_names.Given as goal
 
 abbrev pub invariant-loop-text : goal.invariant-loop-text

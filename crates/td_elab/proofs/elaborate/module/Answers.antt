@@ -1,6 +1,6 @@
 use Rattle.std.proofs.Common.{◌<◌, List, [], ◌∷◌, length, subst, ap, ◌∙◌, arith}
 use Rattle.td_ast.specs.declared.definitions.Def.{Def}
-use Rattle.td_rules.specs.Modules.{all_names}
+use Rattle.td_elab_rules.specs.Modules.{all_names}
 use Rattle.td_elab.proofs.Chains.{on_err_always}
 use Rattle.td_elab.proofs.elaborate.module.Goals as goal
 

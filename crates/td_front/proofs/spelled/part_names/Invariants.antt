@@ -1,5 +1,5 @@
 use Rattle.std.proofs.Common.{◌≡◌, ◌++◌, drop}
-use Rattle.td_flat.specs.Order.{names_of}
+use Rattle.td_front_flat.specs.Order.{names_of}
 use Rattle.td_front.proofs.spelled.part_names.Given as goal
 
 -- what was copied, and what is left

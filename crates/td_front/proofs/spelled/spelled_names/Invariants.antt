@@ -1,5 +1,5 @@
 use Rattle.std.proofs.Common.{◌≡◌, ◌++◌, drop, map}
-use Rattle.td_flat.specs.Names.{spelled}
+use Rattle.td_front_flat.specs.Names.{spelled}
 use Rattle.td_front.proofs.spelled.spelled_names.Given as goal
 
 -- what was told, and what is left

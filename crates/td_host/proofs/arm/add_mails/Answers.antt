@@ -3,7 +3,7 @@ use Rattle.std.proofs.lemmas.List.{drop_all}
 use Rattle.td_posts.specs.declared.job.Step.{Step}
 use Rattle.td_posts.specs.declared.job.Step.TheVariants as step
 use Rattle.td_posts.specs.declared.mail.Mail.{Mail}
-use Rattle.td_actors.proofs.Posting.{from_here}
+use Rattle.td_host_actors.proofs.Posting.{from_here}
 use Rattle.td_host.proofs.Arms.{lists_store, lists_post, lists_all}
 use Rattle.td_host.proofs.arm.add_mails.Goals.{in-Store, in-Post+in_ok-push-in-Post, in-Scatter+in_ok-push-in-Scatter}
 use Rattle.td_host.proofs.arm.add_mails.Goals as goal

@@ -4,7 +4,7 @@ use Rattle.std.specs.List.{All}
 use Rattle.td_posts.specs.declared.job.Step.{Step}
 use Rattle.td_posts.specs.declared.mail.Mail.{Mail}
 use Rattle.td_posts.specs.Posts.{mails_of, all_mails, mail_named}
-use Rattle.td_actors.specs.Acting.{RoomsFor, StoresInside}
+use Rattle.td_host_actors.specs.Acting.{RoomsFor, StoresInside}
 use Rattle.td_posts.proofs.Unique.{each_first}
 use Rattle.td_host.proofs.Arms.{of_guest, no_guest, one_guest, all_guests}
 use Rattle.td_host.proofs.arm.seat_guests.Goals as goal

@@ -1,7 +1,7 @@
 use Rattle.std.proofs.Common.{rules, ◌≡◌, ◌+◌, ◌≤◌, length, vec_capacity, refl, ap, ◌∙◌, arith}
 use Rattle.td_swap.specs.Views.{new_view}
 use Rattle.td_swap.specs.Seats.{SwapState, swap_state}
-use Rattle.td_actors.specs.Actors.{service_at}
+use Rattle.td_host_actors.specs.Actors.{service_at}
 use Rattle.td_host.proofs.Arms.{no_worker, one_worker}
 use Rattle.td_host.proofs.arm.seat_workers.Goals as goal
 

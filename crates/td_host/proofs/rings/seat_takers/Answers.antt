@@ -3,7 +3,7 @@ use Rattle.std.specs.Prelude.{slice_index_or}
 use Rattle.td_posts.specs.declared.ring.RingJob.{RingJob}
 use Rattle.td_posts.specs.Servable.{IsRingWithin}
 use Rattle.td_descr.specs.Ring.{ReaderView}
-use Rattle.td_actors.specs.Actors.{service_at}
+use Rattle.td_host_actors.specs.Actors.{service_at}
 use Rattle.td_host.specs.Gathered.{IsReaderOf}
 use Rattle.td_host.proofs.Arms.{no_taker, one_taker, all_takers}
 use Rattle.td_host.proofs.Takers.{dropped, none_left, as_many_readers, reader_at}

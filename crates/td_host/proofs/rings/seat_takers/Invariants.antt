@@ -1,5 +1,5 @@
 use Rattle.std.proofs.Common.{◌≡◌, ◌+◌, ◌≤◌, length, drop}
-use Rattle.td_actors.specs.Actors.{service_at}
+use Rattle.td_host_actors.specs.Actors.{service_at}
 use Rattle.td_host.proofs.Arms.{Ringing}
 use Rattle.td_host.proofs.rings.seat_takers.Given as goal
 

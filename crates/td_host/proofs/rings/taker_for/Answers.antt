@@ -5,7 +5,7 @@ use Rattle.td_vm.specs.Frames.{FrameView}
 use Rattle.td_swap.specs.declared.version.Version.{Version}
 use Rattle.td_swap.specs.Versions.{version_code}
 use Rattle.td_takes.specs.Takes.{AreRooms}
-use Rattle.td_actors.proofs.Versions.{version_at}
+use Rattle.td_host_actors.proofs.Versions.{version_at}
 use Rattle.td_host.proofs.rings.taker_for.Goals as goal
 
 pub bounds-versions-0 : goal.bounds-versions-0

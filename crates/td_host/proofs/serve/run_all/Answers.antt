@@ -4,7 +4,7 @@ use denote.Param.{param}
 use denote.Param.Send.{shr_sync}
 use denote.Struct.Field.{shr_ref_field}
 use mir.Syntax.{named}
-use Rattle.td_actors.specs.contracts.actor.Desk as desk
+use Rattle.td_host_actors.specs.contracts.actor.Desk as desk
 use Rattle.td_host.proofs.Crossing.{desk_sync, tuple_sync}
 use Rattle.td_host.proofs.serve.run_all.Goals as goal
 

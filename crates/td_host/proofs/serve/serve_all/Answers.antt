@@ -11,10 +11,10 @@ use Rattle.td_posts.specs.declared.mail.Mail.{Mail}
 use Rattle.td_posts.specs.Posts.{reply_name}
 use Rattle.td_swap.specs.Views.{publisher_view, new_view, AreVersions}
 use Rattle.td_swap.specs.Seats.{PublishState, SwapState, publish_state}
-use Rattle.td_actors.specs.Replies.{IsJobCode, JobCode}
-use Rattle.td_actors.specs.declared.actor.Actor.TheVariants as kind
-use Rattle.td_actors.specs.Acting.{IsInRoom}
-use Rattle.td_actors.specs.Actors.{service_at}
+use Rattle.td_host_actors.specs.Replies.{IsJobCode, JobCode}
+use Rattle.td_host_actors.specs.declared.actor.Actor.TheVariants as kind
+use Rattle.td_host_actors.specs.Acting.{IsInRoom}
+use Rattle.td_host_actors.specs.Actors.{service_at}
 use Rattle.td_host.specs.Gathered.{IsAt, seats_all, puts_all, takes_all, draws_all, swaps_all, all_replies, takes_of_all, IsDescribedBy}
 use Rattle.td_host.proofs.Serves.{ready, all_ready, at_all, parted, one_end, same_publisher}
 use Rattle.td_host.specs.Hosts.{takes_in}

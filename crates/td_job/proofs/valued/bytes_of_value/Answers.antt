@@ -1,8 +1,8 @@
 use Rattle.std.proofs.Common.{subst}
 use Rattle.serde_json.specs.View.{view}
-use Rattle.td_values.specs.Datum.{Datum}
+use Rattle.td_write_values.specs.Datum.{Datum}
 use Rattle.td_meaning.specs.Copies.{opened}
-use Rattle.td_values.specs.Writing.{writing, whole}
+use Rattle.td_write_values.specs.Writing.{writing, whole}
 use Rattle.td_write.specs.Answers.{IsRefusal}
 use Rattle.td_job.specs.Written.{datum_of}
 use Rattle.td_job.proofs.valued.bytes_of_value.Goals as goal

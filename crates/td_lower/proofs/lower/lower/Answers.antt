@@ -2,9 +2,9 @@ use Rattle.std.proofs.Common.{◌≡◌, sym, subst, ◌∙◌}
 use Rattle.std.proofs.lemmas.Result.{IfOk-weaker}
 use Rattle.td_ir.specs.declared.tables.Parts.{Parts}
 use Rattle.td_verify.specs.Verify.{IsSound}
-use Rattle.td_lowered.specs.CodeRun.{IsCodeOf}
+use Rattle.td_lower_means.specs.CodeRun.{IsCodeOf}
 use Rattle.td_lower.specs.Code.{MeansModule}
-use Rattle.td_acceptance.specs.Modules.{IsNoHeavier}
+use Rattle.td_verify_lowered.specs.Modules.{IsNoHeavier}
 use Rattle.td_lower.proofs.Lowers.{code_fits, sound, no_heavier, code_of, means}
 use Rattle.td_lower.proofs.lower.lower.Goals as goal
 

@@ -1,12 +1,12 @@
 use Rattle.std.proofs.Common.{rules, ◌≡◌, ℕ, ◌-◌, List, [], ◌∷◌, ◌++◌, length, ap, ◌∙◌, arith}
 use Rattle.td_core.specs.declared.module.NameId.{NameId}
 use Rattle.td_ir.specs.declared.tables.Routine.{Routine}
-use Rattle.td_blocks.specs.Block.{size}
-use Rattle.td_blocks.specs.Constructs.{body}
-use Rattle.td_blocks.specs.Lowered.{definition_body}
-use Rattle.td_blocks.specs.Laid.{rooms}
-use Rattle.td_blocks.specs.Tops.{definition_levels, definition_top}
-use Rattle.td_emit.proofs.Writing.{grown_to, longer}
+use Rattle.td_lower_blocks.specs.Block.{size}
+use Rattle.td_lower_blocks.specs.Constructs.{body}
+use Rattle.td_lower_blocks.specs.Lowered.{definition_body}
+use Rattle.td_lower_blocks.specs.Laid.{rooms}
+use Rattle.td_lower_blocks.specs.Tops.{definition_levels, definition_top}
+use Rattle.td_lower_emit.proofs.Writing.{grown_to, longer}
 use Rattle.td_lower.proofs.routines.write_routine.Goals as goal
 
 pub overflow_sub-place : goal.overflow_sub-place

@@ -1,9 +1,9 @@
 use Rattle.std.proofs.Common.{◌≡◌, suc, ◌+◌, ◌<◌, length, Some, sym, ap, subst, ◌∙◌, arith}
-use Rattle.td_blocks.specs.Lowered.{body_parts, sites_in, first_site}
+use Rattle.td_lower_blocks.specs.Lowered.{body_parts, sites_in, first_site}
 use Rattle.td_lower.specs.Code.{HasRoomFor}
 use Rattle.td_lower.proofs.Places.{found, next_code, next_routine}
 use Rattle.td_lower.proofs.routines.write_routines.Goals as goal
-use Rattle.td_acceptance.proofs.Modules.{last_site}
+use Rattle.td_verify_lowered.proofs.Modules.{last_site}
 
 pub write_routine-requires : goal.write_routine-requires
 write_routine-requires c =

@@ -1,5 +1,5 @@
 use Rattle.std.proofs.Common.{◌≡◌, slice_get}
-use Rattle.td_blocks.specs.Lowered.{first_site}
+use Rattle.td_lower_blocks.specs.Lowered.{first_site}
 use Rattle.td_lower.specs.Code.{unit_in, code_to, routines_to}
 use Rattle.td_lower.proofs.routines.write_routines.Given as goal
 

@@ -1,7 +1,7 @@
 use Rattle.std.proofs.Common.{◌≡◌, ◌++◌, ◌+◌, ◌*◌, take}
 use Rattle.td_ast.specs.Statements.{statement_size, list_size, block_of}
-use Rattle.td_joined.specs.Pieces.{text_of}
-use Rattle.td_layout.specs.Actions.{block_pieces}
+use Rattle.td_print_layout.specs.Pieces.{text_of}
+use Rattle.td_print_layout.specs.Actions.{block_pieces}
 use Rattle.td_print.proofs.actions.+block.Given as goal
 
 abbrev pub decreases-write_statement : goal.decreases-write_statement

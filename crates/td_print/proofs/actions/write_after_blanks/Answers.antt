@@ -1,5 +1,5 @@
 use Rattle.std.proofs.Common.{◌++◌, arith}
-use Rattle.td_layout.specs.Actions.{statement_after}
+use Rattle.td_print_layout.specs.Actions.{statement_after}
 use Rattle.td_print.proofs.Texts.{texts, text_more}
 use Rattle.td_print.proofs.actions.write_after_blanks.Goals as goal
 

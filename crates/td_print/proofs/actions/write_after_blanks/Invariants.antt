@@ -1,6 +1,6 @@
 use Rattle.std.proofs.Common.{◌≡◌, ◌++◌, take, flat_map}
-use Rattle.td_joined.specs.Pieces.{text_of}
-use Rattle.td_layout.specs.Actions.{statement_after}
+use Rattle.td_print_layout.specs.Pieces.{text_of}
+use Rattle.td_print_layout.specs.Actions.{statement_after}
 use Rattle.td_print.proofs.actions.write_after_blanks.Given as goal
 
 abbrev pub invariant-loop-statement : goal.invariant-loop-statement

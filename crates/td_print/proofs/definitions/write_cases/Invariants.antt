@@ -1,6 +1,6 @@
 use Rattle.std.proofs.Common.{◌≡◌, ◌++◌, take, flat_map}
-use Rattle.td_joined.specs.Pieces.{text_of}
-use Rattle.td_layout.specs.Definitions.{case_lines}
+use Rattle.td_print_layout.specs.Pieces.{text_of}
+use Rattle.td_print_layout.specs.Definitions.{case_lines}
 use Rattle.td_print.proofs.definitions.write_cases.Given as goal
 
 abbrev pub invariant-loop-case_tree : goal.invariant-loop-case_tree

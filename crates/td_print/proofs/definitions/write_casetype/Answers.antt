@@ -1,9 +1,9 @@
 use Rattle.std.proofs.Common.{[], ◌∷◌, ◌++◌, codes}
 use Rattle.td_ast.specs.declared.token.TokenKind.TheVariants as kinds
-use Rattle.td_joined.specs.Pieces.{Word, Blank, LineEnd, text_of}
-use Rattle.td_layout.specs.Sequences.{name_piece}
-use Rattle.td_layout.specs.Parameters.{head_pieces}
-use Rattle.td_layout.specs.Definitions.{cases_lines, casetype_pieces, closing_pieces, entry_pieces}
+use Rattle.td_print_layout.specs.Pieces.{Word, Blank, LineEnd, text_of}
+use Rattle.td_print_layout.specs.Sequences.{name_piece}
+use Rattle.td_print_layout.specs.Parameters.{head_pieces}
+use Rattle.td_print_layout.specs.Definitions.{cases_lines, casetype_pieces, closing_pieces, entry_pieces}
 use Rattle.td_print.proofs.Wholes.{casetype_text, five}
 use Rattle.td_print.proofs.definitions.write_casetype.Goals as goal
 

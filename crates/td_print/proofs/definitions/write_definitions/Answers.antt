@@ -1,6 +1,6 @@
 use Rattle.std.proofs.Common.{[], ◌∷◌, refl, append_assoc}
-use Rattle.td_joined.specs.Pieces.{LineEnd}
-use Rattle.td_layout.specs.Definitions.{definition_pieces}
+use Rattle.td_print_layout.specs.Pieces.{LineEnd}
+use Rattle.td_print_layout.specs.Definitions.{definition_pieces}
 use Rattle.td_print.proofs.Tails.{tail_whole}
 use Rattle.td_print.proofs.Texts.{parted_text}
 use Rattle.td_print.proofs.definitions.write_definitions.Goals as goal

@@ -1,5 +1,5 @@
 use Rattle.std.proofs.Common.{◌≡◌, ◌++◌, take, flat_map}
-use Rattle.td_joined.specs.Pieces.{text_of}
+use Rattle.td_print_layout.specs.Pieces.{text_of}
 use Rattle.td_print.specs.Writing.{after_comma}
 use Rattle.td_print.proofs.definitions.write_other_items.Given as goal
 

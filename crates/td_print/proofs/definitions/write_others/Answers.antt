@@ -1,6 +1,6 @@
 use Rattle.std.proofs.Common.{[], ◌∷◌, ◌++◌, arith}
-use Rattle.td_joined.specs.Pieces.{LineEnd}
-use Rattle.td_layout.specs.Definitions.{definition_pieces}
+use Rattle.td_print_layout.specs.Pieces.{LineEnd}
+use Rattle.td_print_layout.specs.Definitions.{definition_pieces}
 use Rattle.td_print.proofs.Texts.{texts, text_more}
 use Rattle.td_print.proofs.definitions.write_others.Goals as goal
 

@@ -1,6 +1,6 @@
 use Rattle.std.proofs.Common.{◌≡◌, ◌++◌, take, flat_map}
-use Rattle.td_joined.specs.Pieces.{text_of}
-use Rattle.td_layout.specs.Definitions.{slot_line}
+use Rattle.td_print_layout.specs.Pieces.{text_of}
+use Rattle.td_print_layout.specs.Definitions.{slot_line}
 use Rattle.td_print.proofs.definitions.write_slots.Given as goal
 
 abbrev pub invariant-loop-slot : goal.invariant-loop-slot

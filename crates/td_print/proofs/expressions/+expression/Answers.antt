@@ -1,8 +1,8 @@
 use Rattle.std.proofs.Common.{[], ◌∷◌, ◌++◌, codes}
 use Rattle.td_ast.specs.declared.token.TokenKind.TheVariants as kinds
-use Rattle.td_joined.specs.Pieces.{Word, text_of}
-use Rattle.td_layout.specs.Sequences.{comma}
-use Rattle.td_layout.specs.Expressions.{expression_pieces}
+use Rattle.td_print_layout.specs.Pieces.{Word, text_of}
+use Rattle.td_print_layout.specs.Sequences.{comma}
+use Rattle.td_print_layout.specs.Expressions.{expression_pieces}
 use Rattle.td_print.proofs.Wholes.{five, range_text}
 use Rattle.td_print.proofs.expressions.+expression.Goals as goal
 

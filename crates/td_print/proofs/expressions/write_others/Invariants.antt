@@ -1,7 +1,7 @@
 use Rattle.std.proofs.Common.{◌≡◌, ◌++◌, take, flat_map}
-use Rattle.td_joined.specs.Pieces.{text_of}
-use Rattle.td_layout.specs.Sequences.{comma}
-use Rattle.td_layout.specs.Expressions.{expression_pieces}
+use Rattle.td_print_layout.specs.Pieces.{text_of}
+use Rattle.td_print_layout.specs.Sequences.{comma}
+use Rattle.td_print_layout.specs.Expressions.{expression_pieces}
 use Rattle.td_print.proofs.expressions.write_others.Given as goal
 
 abbrev pub invariant-loop-e : goal.invariant-loop-e

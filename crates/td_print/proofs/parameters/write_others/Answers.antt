@@ -1,6 +1,6 @@
 use Rattle.std.proofs.Common.{◌++◌, arith}
-use Rattle.td_layout.specs.Sequences.{comma}
-use Rattle.td_layout.specs.Parameters.{parameter_pieces}
+use Rattle.td_print_layout.specs.Sequences.{comma}
+use Rattle.td_print_layout.specs.Parameters.{parameter_pieces}
 use Rattle.td_print.proofs.Texts.{texts, text_more}
 use Rattle.td_print.proofs.parameters.write_others.Goals as goal
 

@@ -1,7 +1,7 @@
 use Rattle.std.proofs.Common.{◌≡◌, ◌++◌, take, flat_map}
-use Rattle.td_joined.specs.Pieces.{text_of}
-use Rattle.td_layout.specs.Sequences.{comma}
-use Rattle.td_layout.specs.Parameters.{parameter_pieces}
+use Rattle.td_print_layout.specs.Pieces.{text_of}
+use Rattle.td_print_layout.specs.Sequences.{comma}
+use Rattle.td_print_layout.specs.Parameters.{parameter_pieces}
 use Rattle.td_print.proofs.parameters.write_others.Given as goal
 
 abbrev pub invariant-loop-parameter : goal.invariant-loop-parameter

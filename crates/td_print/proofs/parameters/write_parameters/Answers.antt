@@ -1,5 +1,5 @@
 use Rattle.std.proofs.Common.{refl, append_assoc}
-use Rattle.td_layout.specs.Parameters.{parameter_pieces}
+use Rattle.td_print_layout.specs.Parameters.{parameter_pieces}
 use Rattle.td_print.proofs.Tails.{tail_whole}
 use Rattle.td_print.proofs.Texts.{parentheses_text}
 use Rattle.td_print.proofs.parameters.write_parameters.Goals as goal

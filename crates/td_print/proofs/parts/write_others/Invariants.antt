@@ -1,6 +1,6 @@
 use Rattle.std.proofs.Common.{◌≡◌, [], ◌∷◌, ◌++◌, take, flat_map}
-use Rattle.td_joined.specs.Pieces.{LineEnd, text_of}
-use Rattle.td_layout.specs.Definitions.{part_lines}
+use Rattle.td_print_layout.specs.Pieces.{LineEnd, text_of}
+use Rattle.td_print_layout.specs.Definitions.{part_lines}
 use Rattle.td_print.proofs.parts.write_others.Given as goal
 
 abbrev pub invariant-loop-part : goal.invariant-loop-part

@@ -1,5 +1,5 @@
 use Rattle.std.proofs.Common.{refl}
-use Rattle.td_layout.proofs.Dots.{name_text}
+use Rattle.td_print_layout.proofs.Dots.{name_text}
 use Rattle.td_print.proofs.words.write_qualified.Goals as goal
 
 pub returns : goal.returns

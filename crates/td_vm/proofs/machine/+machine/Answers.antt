@@ -8,10 +8,10 @@ use Rattle.td_ir.specs.State as ir
 use Rattle.td_ir.proofs.Begins.{begin_up}
 use Rattle.td_verify.specs.Shape.{shape}
 use Rattle.td_stream.specs.StreamInvariant.{position, end_of}
-use Rattle.td_step.specs.Stepping.{Ends}
+use Rattle.td_vm_step.specs.Stepping.{Ends}
 use Rattle.td_stream.specs.Copies.{rooms_of}
 use Rattle.td_stream.proofs.Stages.{later_trans, later_self}
-use Rattle.td_step.proofs.Stretches.{lent_self, hold_on, ran_self}
+use Rattle.td_vm_step.proofs.Stretches.{lent_self, hold_on, ran_self}
 use Rattle.td_vm.specs.Exits.{exit_by}
 use Rattle.td_vm.proofs.Stretches.{ran_step, after_once, after_none}
 use Rattle.td_vm.proofs.Shapes.{shape_here}

@@ -8,7 +8,7 @@ use Rattle.td_verify.specs.Verify.{IsIn}
 use Rattle.td_verify.specs.Safe.{looped}
 use Rattle.td_stream.specs.StreamInvariant.{IsStream, Later, position, end_of}
 use Rattle.td_stream.specs.Copies.{rooms_of}
-use Rattle.td_step.specs.Stepping.{state_of, Ran, InWindow, IsLent, Hold}
+use Rattle.td_vm_step.specs.Stepping.{state_of, Ran, InWindow, IsLent, Hold}
 use Rattle.td_vm.specs.Machine.{Idle, HasRoom, IsKept}
 use Rattle.td_vm.proofs.machine.+machine.Given as goal
 

@@ -3,7 +3,7 @@ use Rattle.td_stream.specs.Copies.{held_by}
 use Rattle.td_stream.specs.StreamInvariant.{position}
 use Rattle.td_ir.specs.Tables.{routine_of}
 use Rattle.td_ir.specs.Run.{run_routine}
-use Rattle.td_step.specs.declared.activation.Left.TheVariants.{Returned, Failed}
+use Rattle.td_vm_step.specs.declared.activation.Left.TheVariants.{Returned, Failed}
 use Rattle.td_vm.specs.Exits.{frames_of}
 use Rattle.td_vm.proofs.Lent.{starts_held}
 use Rattle.td_vm.proofs.Told.{run_told, told_accept, told_reject}

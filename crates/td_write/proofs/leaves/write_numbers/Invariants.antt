@@ -1,6 +1,6 @@
 use Rattle.std.proofs.Common.{◌≡◌, ◌≤◌, ℕ, List, drop, length}
-use Rattle.td_values.specs.declared.limits.TheConstants.{MOST_WRITTEN}
-use Rattle.td_values.specs.Writing.{after_writing, items_written, number_written}
+use Rattle.td_write_values.specs.declared.limits.TheConstants.{MOST_WRITTEN}
+use Rattle.td_write_values.specs.Writing.{after_writing, items_written, number_written}
 use Rattle.td_write.proofs.leaves.write_numbers.Given as goal
 
 abbrev pub invariant-loop-index : goal.invariant-loop-index

@@ -1,5 +1,5 @@
 use Rattle.std.proofs.Common.{ℕ, List, length, sym, subst, IfOk}
-use Rattle.td_values.specs.Writing.{zero_ended_written}
+use Rattle.td_write_values.specs.Writing.{zero_ended_written}
 use Rattle.td_core.specs.declared.module.Element.{Element}
 use Rattle.td_write.specs.Writes.{Wrote}
 use Rattle.td_write.proofs.leaves.write_zero_ended.Goals as goal

@@ -1,5 +1,5 @@
 use Rattle.std.proofs.Common.{◌≤◌, ◌^◌, sym, subst, arith}
-use Rattle.td_values.specs.Bytes.{at_bits}
+use Rattle.td_write_values.specs.Bytes.{at_bits}
 use Rattle.td_write.proofs.Digits.{at_bits_far}
 use Rattle.td_write.proofs.numbers.at_bits.Goals as goal
 

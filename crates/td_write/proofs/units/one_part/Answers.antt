@@ -5,10 +5,10 @@ use Rattle.td_core.specs.declared.outcome.Verdict.{Verdict}
 use Rattle.td_core.specs.Outcome.{Behavior}
 use Rattle.td_meaning.specs.Machine.{checked}
 use Rattle.td_meaning.specs.Verdicts.{ending_of}
-use Rattle.td_values.specs.declared.error.WriteRule.TheVariants.{Shape, Range, Broken, Long}
-use Rattle.td_values.specs.Datum.{Datum, Number}
-use Rattle.td_values.specs.Bytes.{fits}
-use Rattle.td_values.specs.Writing.{Refused, has_room, parts_written, in_machine}
+use Rattle.td_write_values.specs.declared.error.WriteRule.TheVariants.{Shape, Range, Broken, Long}
+use Rattle.td_write_values.specs.Datum.{Datum, Number}
+use Rattle.td_write_values.specs.Bytes.{fits}
+use Rattle.td_write_values.specs.Writing.{Refused, has_room, parts_written, in_machine}
 use Rattle.td_write.specs.declared.halt.Halt.{Halt}
 use Rattle.td_write.specs.Writes.{Halts}
 use Rattle.td_write.proofs.Pieces.{part_missing, part_shape, part_range, part_long, part_broken, part_passed}

@@ -8,8 +8,8 @@ use Rattle.td_core.specs.declared.outcome.Reason.TheVariants.{Impossible}
 use Rattle.td_core.specs.declared.outcome.Verdict.TheVariants.{Accept}
 use Rattle.td_core.specs.Outcome.{copies_by}
 use Rattle.td_meaning.specs.Copies.{opened}
-use Rattle.td_values.specs.declared.error.WriteRule.TheVariants.{Broken}
-use Rattle.td_values.specs.Writing.{Done, Refused, after_writing, writers_below, writing, in_machine, whole}
+use Rattle.td_write_values.specs.declared.error.WriteRule.TheVariants.{Broken}
+use Rattle.td_write_values.specs.Writing.{Done, Refused, after_writing, writers_below, writing, in_machine, whole}
 use Rattle.td_write.specs.Answers.{IsRefusal}
 use Rattle.td_write.specs.Writes.{Halts}
 use Rattle.td_write.proofs.Totals.{whole_done}

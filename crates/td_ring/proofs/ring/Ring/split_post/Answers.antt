@@ -1,6 +1,6 @@
 use Rattle.std.proofs.Common.{ap}
 use Rattle.td_ring.specs.Ring.{PassState}
-use Rattle.td_roll.proofs.Heads.{head_in}
+use Rattle.td_ring.proofs.RollHeads.{head_in}
 use Rattle.td_ring.proofs.Moves.{splits_put}
 use Rattle.td_ring.proofs.ring.Ring.split_post.Goals as goal
 

@@ -1,6 +1,6 @@
 use Rattle.std.proofs.Common.{sym, ap, ◌∙◌, arith}
 use Rattle.td_ring.specs.Tickets.{DrawerState}
-use Rattle.td_roll.proofs.Heads.{head_in}
+use Rattle.td_ring.proofs.RollHeads.{head_in}
 use Rattle.td_ring.proofs.Draws.{splits}
 use Rattle.td_ring.proofs.tickets.Tickets.split.Goals as goal
 

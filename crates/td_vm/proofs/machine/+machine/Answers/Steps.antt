@@ -9,10 +9,10 @@ use Rattle.td_verify.specs.Shape.{shape, shapes_of}
 use Rattle.td_verify.specs.Brackets.{in_loop, window_bytes}
 use Rattle.td_stream.specs.Layouts.{length_in}
 use Rattle.td_stream.specs.StreamInvariant.{position, end_of, length_of}
-use Rattle.td_step.specs.Stepping.{state_of, Ends}
+use Rattle.td_vm_step.specs.Stepping.{state_of, Ends}
 use Rattle.td_stream.specs.Copies.{rooms_of}
 use Rattle.td_stream.proofs.Stages.{later_trans}
-use Rattle.td_step.proofs.Stretches.{lent_trans, hold_on}
+use Rattle.td_vm_step.proofs.Stretches.{lent_trans, hold_on}
 use Rattle.td_vm.specs.Exits.{exit_by}
 use Rattle.td_vm.proofs.Stretches.{ran_trans, ran_step, after_more}
 use Rattle.td_vm.proofs.Shapes.{shape_here}

@@ -3,10 +3,10 @@ use Rattle.std.proofs.Common.{◌≡◌, suc, ◌+◌, ◌-◌, ◌<◌, ◌≤�
 use Rattle.td_ir.specs.State.{State, Exit, after}
 use Rattle.td_ir.specs.Run.{turns, block}
 use Rattle.td_stream.specs.StreamInvariant.{position, end_of}
-use Rattle.td_step.specs.Stepping.{state_of}
+use Rattle.td_vm_step.specs.Stepping.{state_of}
 use Rattle.td_stream.specs.Copies.{rooms_of}
 use Rattle.td_stream.proofs.Stages.{later_trans, later_self}
-use Rattle.td_step.proofs.Stretches.{lent_self, lent_trans, hold_on, ran_self, ran_weaker}
+use Rattle.td_vm_step.proofs.Stretches.{lent_self, lent_trans, hold_on, ran_self, ran_weaker}
 use Rattle.td_vm.proofs.Stretches.{ran_trans, ran_ticked, after_more, after_none}
 use Rattle.td_vm.proofs.Keeps.{grown}
 use Rattle.td_vm.proofs.Turns.{none_left, room_kept, body_stretch, loop_whole, turn_busy, turn_more, turn_fails, turns_over, spare_same, spare_on}

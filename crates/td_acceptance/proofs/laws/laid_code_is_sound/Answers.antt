@@ -1,5 +1,0 @@
-use Rattle.td_acceptance.proofs.Empties.{laid_sound}
-use Rattle.td_acceptance.proofs.laws.laid_code_is_sound.Goals as goal
-
-pub returns : goal.returns
-returns c = laid_sound

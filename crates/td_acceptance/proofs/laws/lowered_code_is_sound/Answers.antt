@@ -1,5 +1,0 @@
-use Rattle.td_acceptance.proofs.Lowered.{lowered_sound}
-use Rattle.td_acceptance.proofs.laws.lowered_code_is_sound.Goals as goal
-
-pub returns : goal.returns
-returns c = lowered_sound

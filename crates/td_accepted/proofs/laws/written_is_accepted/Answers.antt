@@ -1,5 +1,0 @@
-use Rattle.td_accepted.proofs.Accepting.{written_is_accepted}
-use Rattle.td_accepted.proofs.laws.written_is_accepted.Goals as goal
-
-pub returns : goal.returns
-returns c = written_is_accepted c.spelled_are_bytes.ensures

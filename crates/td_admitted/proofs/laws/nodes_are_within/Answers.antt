@@ -1,5 +1,0 @@
-use Rattle.td_admitted.proofs.Within.{nodes_are_within}
-use Rattle.td_admitted.proofs.laws.nodes_are_within.Goals as goal
-
-pub returns : goal.returns
-returns c = nodes_are_within

@@ -1,5 +1,0 @@
-use Rattle.td_admitted.proofs.Stepped.{steps_are_sizes}
-use Rattle.td_admitted.proofs.laws.steps_are_sizes.Goals as goal
-
-pub returns : goal.returns
-returns c = steps_are_sizes

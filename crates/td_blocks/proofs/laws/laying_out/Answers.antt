@@ -1,5 +1,0 @@
-use Rattle.td_blocks.proofs.Laying.{laying_out}
-use Rattle.td_blocks.proofs.laws.laying_out.Goals as goal
-
-pub returns : goal.returns
-returns c = laying_out

@@ -1,8 +1,0 @@
-//! A law of blocks. It does nothing when it is called.
-
-ghost use Rattle.td_blocks.specs.Block.{LayingOut};
-
-/// A block that is laid out somewhere in code stands there.
-pub fn laying_out()
-    ensures { LayingOut }
-{}

@@ -1,5 +1,0 @@
-use Rattle.td_told.proofs.Words.{numbered}
-use Rattle.td_bodies.proofs.answer.answer_job.Goals as goal
-
-pub report_line-requires : goal.report_line-requires
-report_line-requires c = numbered c.args.job.now.length c.args.job.now.layout c.in_ok-run.run'.loads.list c.in_ok-run.ensures.inside

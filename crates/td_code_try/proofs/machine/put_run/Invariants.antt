@@ -1,4 +1,0 @@
-use Rattle.td_code_try.proofs.machine.put_run.Given as goal
-
-abbrev pub ghosts-validated : goal.ghosts-validated
-ghosts-validated a = record { name = a.blank.name; parts = a.blank.parts }

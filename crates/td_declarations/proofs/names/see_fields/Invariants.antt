@@ -1,7 +1,0 @@
-use Rattle.std.proofs.Common.{◌≡◌, drop}
-use Rattle.td_rules.specs.Modules.{see_fields}
-use Rattle.td_declarations.proofs.names.see_fields.Given as goal
-
--- what is left of them decides
-abbrev pub invariant-loop-tree : goal.invariant-loop-tree
-invariant-loop-tree l = see_fields l.names (drop l.tree-index l.trees) ≡ see_fields l.fn.names l.trees

@@ -1,7 +1,0 @@
-use Rattle.std.proofs.Common.{◌≡◌, drop}
-use Rattle.td_rules.specs.Modules.{see_params}
-use Rattle.td_declarations.proofs.names.see_params.Given as goal
-
--- what is left of them decides
-abbrev pub invariant-loop-tree : goal.invariant-loop-tree
-invariant-loop-tree l = see_params l.names (drop l.tree-index l.trees) ≡ see_params l.fn.names l.trees

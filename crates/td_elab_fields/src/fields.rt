@@ -1,0 +1,192 @@
+//! The fields of a struct, a case or `default`.
+
+ghost use Rattle.std.specs.Prelude.{◌≡◌, ◌<◌, ◌++◌, IfOk, OnErr, OnOk, length};
+ghost use Rattle.td_elab_rules.specs.Breach.{first_of};
+ghost use Rattle.td_elab_rules.specs.Known.{with_field_name};
+ghost use Rattle.td_elab_rules.specs.Sorts.{option_core};
+ghost use Rattle.td_elab_rules.specs.ExprRules.{test_breaches};
+ghost use Rattle.td_elab_rules.specs.Actions.{action_breaches, action_vars, action_core};
+ghost use Rattle.td_elab_rules.specs.Types.{type_breaches, element_of};
+ghost use Rattle.td_elab_rules.specs.Extents.{extent_breaches, extent_core};
+ghost use Rattle.td_elab_rules.specs.Copies.{copy_breaches, copy_core};
+ghost use Rattle.td_elab_rules.specs.Fields.{readable_of, with_field, field_name_breaches, field_breaches, field_taken, flat_of, fields_breaches, fields_taken, fields_core};
+ghost use Rattle.td_elab_fields.specs.Narrow.{IsNarrow};
+ghost use Rattle.td_elab_fields.specs.Scopes.{fields_scope};
+
+use crate::arrays::{bit_width, extent};
+use crate::bit_fields::Gathering;
+use crate::copies::{are_bytes, copy};
+use crate::flat::{add_field, check_name, check_refined, refinement_of};
+use std::alloc::{AllocError, Global};
+use td_ast::fields::FieldTree;
+use td_core::actions::Action;
+use td_core::expressions::CoreExpr;
+use td_core::module::{Element, Extent, Field, NameId};
+use td_elab_actions::actions::action;
+use td_elab_actions::scopes::{cut_back, take_field_name};
+use td_elab_exprs::expressions::test;
+use td_elab_exprs::findings::Findings;
+use td_elab_rules::fields::{FlatField, Readable};
+use td_elab_rules::known::{Known, Scope, Taken};
+use td_elab_types::types::element;
+use td_names::names::Names;
+use td_num::items::Items;
+
+/// The type of a field and how often it stands there; their breaches and that of its name are noted. `AllocError`: out of
+/// memory.
+#[tactic(auto, using(td_elab_exprs::proofs::Steps::first_append))]
+fn shape(
+    alloc: Global,
+    known: &Known,
+    scope: &Scope,
+    taken: &Taken,
+    tree: &FieldTree,
+    findings: &mut Findings,
+) -> Result<(Element, Extent), AllocError>
+    ensures element { IfOk result (λ s. s.0 ≡ element_of known.now scope.now tree.now.type_tree) }
+    ensures extent { IfOk result (λ s. s.1 ≡ extent_core known.now scope.now (element_of known.now scope.now tree.now.type_tree) tree.now.extent) }
+    ensures first { OnOk result (findings.new.first ≡ first_of findings.old.first
+        (type_breaches known.now scope.now tree.now.type_tree ++ (field_name_breaches known.now taken.now tree.now
+        ++ extent_breaches known.now scope.now tree.now.type_tree tree.now.extent))) }
+{
+    let element = element(alloc, known, scope, &tree.type_tree, findings)?;
+    check_name(known, taken, tree, findings);
+    let extent = extent(
+        alloc,
+        known,
+        scope,
+        &tree.type_tree,
+        &element,
+        &tree.extent,
+        findings,
+    )?;
+    Ok((element, extent))
+}
+
+/// The name of a field in scope and among the names that are given, and the number that it gives. `AllocError`: out of
+/// memory.
+fn bring(
+    alloc: Global,
+    known: &Known,
+    scope: &mut Scope,
+    taken: &mut Taken,
+    tree: &FieldTree,
+) -> Result<Option<Readable>, AllocError>
+    ensures readable { IfOk result (λ r. r ≡ readable_of known.now scope.old tree.now) }
+    ensures scope { OnOk result (scope.new ≡ with_field known.now scope.old tree.now) }
+    ensures taken { OnOk result (taken.new ≡ with_field_name taken.old tree.now.name.text) }
+{
+    let readable = add_field(alloc, known, scope, tree)?;
+    take_field_name(alloc, taken, tree.name.text.as_slice())?;
+    Ok(readable)
+}
+
+/// The refinement and the action of a field that is in scope; their breaches are noted. `AllocError`: out of memory.
+#[tactic(auto, using(td_elab_exprs::proofs::Steps::first_append))]
+fn tests(
+    alloc: Global,
+    known: &Known,
+    scope: &mut Scope,
+    taken: &mut Taken,
+    tree: &FieldTree,
+    findings: &mut Findings,
+) -> Result<(Option<CoreExpr>, Option<Action>), AllocError>
+    ensures refinement { IfOk result (λ t. t.0 ≡ option_core known.now scope.old tree.now.refinement) }
+    ensures action { IfOk result (λ t. t.1 ≡ action_core known.now scope.old tree.now.action) }
+    ensures first { OnOk result (findings.new.first ≡ first_of findings.old.first
+        (test_breaches known.now scope.old tree.now.refinement ++ action_breaches known.now taken.old scope.old tree.now.action)) }
+    ensures taken { OnOk result (taken.new ≡ action_vars taken.old tree.now.action) }
+    ensures scope { OnOk result (scope.new ≡ scope.old) }
+{
+    let refinement = test(alloc, known, scope, &tree.refinement, findings)?;
+    let action = action(alloc, known, scope, taken, &tree.action, findings)?;
+    Ok((refinement, action))
+}
+
+/// A field, which is in scope after it; its breaches are noted. `AllocError`: out of memory.
+#[tactic(auto, using(td_elab_exprs::proofs::Steps::first_append))]
+fn field(
+    alloc: Global,
+    names: &Names,
+    known: &Known,
+    scope: &mut Scope,
+    taken: &mut Taken,
+    tree: &FieldTree,
+    findings: &mut Findings,
+) -> Result<FlatField, AllocError>
+    ensures narrow { IfOk result (λ f. IsNarrow f) }
+    ensures core { IfOk result (λ f. f ≡ flat_of names.now known.now scope.old tree.now) }
+    ensures first { OnOk result (findings.new.first ≡ first_of findings.old.first (field_breaches known.now taken.old scope.old tree.now)) }
+    ensures taken { OnOk result (taken.new ≡ field_taken taken.old tree.now) }
+    ensures scope { OnOk result (scope.new ≡ with_field known.now scope.old tree.now) }
+{
+    let shape = shape(alloc, known, scope, taken, tree, findings)?;
+    check_refined(known, scope, tree, findings);
+    let width = bit_width(known, scope, &tree.type_tree, &tree.extent);
+    let bytes = are_bytes(known, scope, &tree.type_tree, &tree.extent);
+    let readable = bring(alloc, known, scope, taken, tree)?;
+    let tests = tests(alloc, known, scope, taken, tree, findings)?;
+    let copy = copy(known, scope, bytes, &tree.action, findings)?;
+    let (element, extent) = shape;
+    let (refinement, action) = tests;
+    Ok(FlatField {
+        element,
+        extent,
+        copy,
+        width,
+        name: NameId {
+            number: names.number(tree.name.text.as_slice()),
+        },
+        refinement: refinement_of(readable, refinement),
+        action,
+        place: tree.name.span,
+    })
+}
+
+/// The fields, which are then in scope. `AllocError`: there is a field, and out of memory.
+fn gathered(
+    alloc: Global,
+    names: &Names,
+    known: &Known,
+    scope: &mut Scope,
+    taken: &mut Taken,
+    trees: &[FieldTree],
+    findings: &mut Findings,
+) -> Result<Items<Field>, AllocError>
+    ensures core { IfOk result (λ fs. fs ≡ fields_core names.now known.now scope.old trees.now) }
+    ensures first { OnOk result (findings.new.first ≡ first_of findings.old.first (fields_breaches known.now taken.old scope.old trees.now)) }
+    ensures taken { OnOk result (taken.new ≡ fields_taken taken.old trees.now) }
+    ensures scope { OnOk result (scope.new ≡ fields_scope known.now scope.old trees.now) }
+    ensures memory { OnErr result (0 < length trees.now) }
+{
+    let mut gathering = Gathering::new(alloc);
+    for tree in trees {
+        let flat = field(alloc, names, known, scope, taken, tree, findings)?;
+        gathering.gather(alloc, flat)?;
+    }
+    gathering.close()?;
+    Ok(gathering.fields)
+}
+
+/// The fields of a struct, a case or `default`; their breaches are noted, and their names are given. The scope is then
+/// as before. `AllocError`: there is a field, and out of memory.
+pub fn fields(
+    alloc: Global,
+    names: &Names,
+    known: &Known,
+    scope: &mut Scope,
+    taken: &mut Taken,
+    trees: &[FieldTree],
+    findings: &mut Findings,
+) -> Result<Items<Field>, AllocError>
+    ensures core { IfOk result (λ fs. fs ≡ fields_core names.now known.now scope.old trees.now) }
+    ensures first { OnOk result (findings.new.first ≡ first_of findings.old.first (fields_breaches known.now taken.old scope.old trees.now)) }
+    ensures taken { OnOk result (taken.new ≡ fields_taken taken.old trees.now) }
+    ensures scope { OnOk result (scope.new ≡ scope.old) }
+    ensures memory { OnErr result (0 < length trees.now) }
+{
+    let (locals, levels) = (scope.locals.len(), scope.levels);
+    let fields = gathered(alloc, names, known, scope, taken, trees, findings)?;
+    cut_back(scope, locals, levels);
+    Ok(fields)
+}

@@ -1,5 +1,0 @@
-pub mod Cells
-pub mod Shapes
-pub mod Definitions
-pub mod RoomsKept
-pub mod Rooms

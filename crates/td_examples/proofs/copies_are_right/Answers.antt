@@ -1,5 +1,0 @@
-use Rattle.std.proofs.Common.{refl}
-use Rattle.td_examples.proofs.copies_are_right.Goals as goal
-
-pub returns : goal.returns
-returns c = refl

@@ -1,5 +1,0 @@
-use Rattle.td_examples.proofs.Worked.{are_worked}
-use Rattle.td_examples.proofs.worked_texts_are_right.Goals as goal
-
-pub returns : goal.returns
-returns c = are_worked

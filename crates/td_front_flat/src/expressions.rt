@@ -1,0 +1,114 @@
+//! Expressions as they stand in the whole text.
+
+ghost use Rattle.std.specs.Prelude.{◌≡◌, map, IfOk};
+ghost use Rattle.td_front_flat.specs.Expressions as specs;
+
+use crate::names::{meant, used_name};
+use crate::own::Own;
+use std::alloc::{AllocError, Global};
+use td_ast::expressions::{Expr, ExprKind, SizeofOperand};
+use td_names::names::Names;
+use td_num::items::Items;
+
+fn flat_operand(
+    alloc: Global,
+    own: &Own,
+    scope: &Names,
+    operand: &SizeofOperand,
+) -> Result<SizeofOperand, AllocError>
+    ensures { IfOk result (λ z. z ≡ specs.flat_operand own.now scope.now operand.now) }
+{
+    match operand {
+        SizeofOperand::Number(number) => Ok(SizeofOperand::Number(*number)),
+        SizeofOperand::Name(name) => {
+            let text = meant(alloc, own, scope, name.as_slice())?;
+            Ok(SizeofOperand::Name(text))
+        }
+        SizeofOperand::This => Ok(SizeofOperand::This),
+    }
+}
+
+// A box with such an expression.
+#[cycle(expression)]
+fn flat_boxed(alloc: Global, own: &Own, scope: &Names, e: &Expr) -> Result<Box<Expr>, AllocError>
+    ensures { IfOk result (λ boxed. boxed.value ≡ specs.flat_tree own.now scope.now e.now) }
+{
+    let flat = flat_tree(alloc, own, scope, e)?;
+    Ok(Box::new(alloc, flat)?)
+}
+
+/// An expression as it stands in the whole text, where these locals are in scope. `AllocError`: out of memory.
+#[cycle(expression)]
+pub(crate) fn flat_tree(
+    alloc: Global,
+    own: &Own,
+    scope: &Names,
+    e: &Expr,
+) -> Result<Expr, AllocError>
+    ensures { IfOk result (λ flat. flat ≡ specs.flat_tree own.now scope.now e.now) }
+{
+    let kind = match &e.kind {
+        ExprKind::Number(value, base) => ExprKind::Number(*value, *base),
+        ExprKind::Truth(value) => ExprKind::Truth(*value),
+        ExprKind::Name(name) => ExprKind::Name(used_name(alloc, own, scope, name)?),
+        ExprKind::FieldPos(at) => ExprKind::FieldPos(*at),
+        ExprKind::Sizeof(at, operand, place) => {
+            ExprKind::Sizeof(*at, flat_operand(alloc, own, scope, operand)?, *place)
+        }
+        ExprKind::RangeOkay(a, b, c) => ExprKind::RangeOkay(
+            flat_boxed(alloc, own, scope, a)?,
+            flat_boxed(alloc, own, scope, b)?,
+            flat_boxed(alloc, own, scope, c)?,
+        ),
+        ExprKind::Unary(operator, at, a) => {
+            ExprKind::Unary(*operator, *at, flat_boxed(alloc, own, scope, a)?)
+        }
+        ExprKind::Binary(operator, at, a, b) => ExprKind::Binary(
+            *operator,
+            *at,
+            flat_boxed(alloc, own, scope, a)?,
+            flat_boxed(alloc, own, scope, b)?,
+        ),
+        ExprKind::Choice(at, a, b, c) => ExprKind::Choice(
+            *at,
+            flat_boxed(alloc, own, scope, a)?,
+            flat_boxed(alloc, own, scope, b)?,
+            flat_boxed(alloc, own, scope, c)?,
+        ),
+    };
+    Ok(Expr { span: e.span, kind })
+}
+
+/// The same, where there is one.
+pub(crate) fn flat_option(
+    alloc: Global,
+    own: &Own,
+    scope: &Names,
+    e: &Option<Expr>,
+) -> Result<Option<Expr>, AllocError>
+    ensures { IfOk result (λ flat. flat ≡ specs.flat_option own.now scope.now e.now) }
+{
+    match e {
+        None => Ok(None),
+        Some(e) => {
+            let flat = flat_tree(alloc, own, scope, e)?;
+            Ok(Some(flat))
+        }
+    }
+}
+
+/// The same of several.
+pub(crate) fn flat_trees(
+    alloc: Global,
+    own: &Own,
+    scope: &Names,
+    es: &[Expr],
+) -> Result<Items<Expr>, AllocError>
+    ensures { IfOk result (λ flat. flat ≡ map (specs.flat_tree own.now scope.now) es.now) }
+{
+    let mut flat = Items::new(alloc);
+    for e in es {
+        flat.push(flat_tree(alloc, own, scope, e)?)?;
+    }
+    Ok(flat)
+}

@@ -1,0 +1,100 @@
+//! The tree of an input.
+
+ghost use Rattle.std.specs.Prelude.{◌≡◌, ◌<◌, ◌^◌, ◌++◌, None, Some, IfOk, IfErr, OnOk, MatchOption, flat_map, length, slice_get};
+ghost use Rattle.td_ast.specs.declared.parts.InputTree.TheVariants as InputTree;
+ghost use Rattle.td_front_flat.specs.Flat.{flat, flat_in, IsLinked, IsFault};
+
+use crate::cycle::first_cyclic;
+use crate::error::FlatError;
+use crate::graph::{all_uses, graph_of, names_of};
+use crate::own::Own;
+use crate::parts::add_part;
+use std::alloc::{AllocError, Global};
+use td_ast::definitions::{Def, ModuleTree};
+use td_ast::parts::{InputTree, PartTree};
+use td_front_order::order::order;
+use td_names::names::Names;
+use td_num::items::Items;
+
+fn part_at(parts: &[PartTree], number: u32) -> Option<&PartTree>
+    ensures { MatchOption result (slice_get parts.now number ≡ None) (λ part. slice_get parts.now number ≡ Some part.now) }
+{
+    parts.get(number as usize)
+}
+
+#[tactic(auto, using(crate::proofs::Among::found_in))]
+fn add_at(
+    alloc: Global,
+    whole: &mut Items<Def>,
+    own: &mut Own,
+    parts: &[PartTree],
+    number: u32,
+) -> Result<(), AllocError>
+    ensures whole { OnOk result (whole.new ≡ whole.old ++ flat_in own.old.parts parts.now number) }
+    ensures parts { OnOk result (own.new.parts ≡ own.old.parts) }
+{
+    match part_at(parts, number) {
+        None => Ok(()),
+        Some(part) => {
+            add_part(alloc, whole, own, number, part)?;
+            Ok(())
+        }
+    }
+}
+
+// The definitions of parts of these names, in this order.
+fn definitions(
+    alloc: Global,
+    names: Names,
+    parts: &[PartTree],
+    numbers: &[u32],
+) -> Result<Items<Def>, AllocError>
+    ensures { IfOk result (λ whole. whole ≡ flat_map (flat_in names parts.now) numbers.now) }
+{
+    let mut own = Own {
+        number: 0,
+        parts: names,
+        literals: Names::new(alloc),
+    };
+    let mut whole = Items::new(alloc);
+    for number in numbers {
+        add_at(alloc, &mut whole, &mut own, parts, *number)?;
+    }
+    Ok(whole)
+}
+
+/// The tree of parts, which stay as they are; the errors are those of `flatten`.
+pub fn flat_parts(alloc: Global, parts: &[PartTree]) -> Result<ModuleTree, FlatError>
+    requires { length parts.now < 2 ^ 32 }
+    ensures ok { IfOk result (λ tree. IsLinked (InputTree.Parts parts.now) × (tree ≡ flat (InputTree.Parts parts.now))) }
+    ensures err { IfErr result (IsFault (InputTree.Parts parts.now)) }
+{
+    let names = names_of(alloc, parts)?;
+    let all = all_uses(alloc, parts)?;
+    let graph = graph_of(alloc, &names, all.as_slice())?;
+    if let Some(span) = first_cyclic(alloc, graph.as_slice(), &names, all.as_slice())? {
+        return Err(FlatError::Cycle { span });
+    }
+    let numbers = order(alloc, graph.as_slice())?;
+    let definitions = definitions(alloc, names, parts, numbers.as_slice())?;
+    Ok(ModuleTree { definitions })
+}
+
+/// The tree of an input: a module's own, or the definitions of parts, each part after those that it uses, with the names
+/// that they have in the whole text; places stay. `FlatError::Twice` names the first part that has the name of an earlier
+/// one (N2), `FlatError::Cycle` the first use of a part that reaches, by uses, the part in which it is used (N5), where no
+/// name is twice. `FlatError::NoMemory`: there are parts, and out of memory.
+pub fn flatten(alloc: Global, input: InputTree) -> Result<ModuleTree, FlatError>
+    ensures ok { IfOk result (λ tree. IsLinked input × (tree ≡ flat input)) }
+    ensures err { IfErr result (IsFault input) }
+{
+    match input {
+        InputTree::Module(tree) => Ok(tree),
+        InputTree::Parts(parts) => {
+            if parts.len() > u32::MAX as usize {
+                return Err(FlatError::NoMemory);
+            }
+            flat_parts(alloc, parts.as_slice())
+        }
+    }
+}

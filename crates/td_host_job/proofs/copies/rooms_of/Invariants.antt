@@ -1,7 +1,0 @@
-use Rattle.std.proofs.Common.{◌≡◌, ◌++◌, drop, map}
-use Rattle.td_core.specs.declared.module.Buffer.{Buffer}
-use Rattle.td_host_job.proofs.copies.rooms_of.Given as goal
-
--- the rooms so far, and those from here
-abbrev pub invariant-loop-buffer : goal.invariant-loop-buffer
-invariant-loop-buffer l = map (λ (b : Buffer). b.room) l.buffers ≡ l.rooms ++ map (λ (b : Buffer). b.room) (drop l.buffer-index l.buffers)

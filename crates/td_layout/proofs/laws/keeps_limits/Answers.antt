@@ -1,5 +1,0 @@
-use Rattle.td_layout.proofs.Keeping.{input_keeps_limits}
-use Rattle.td_layout.proofs.laws.keeps_limits.Goals as goal
-
-pub returns : goal.returns
-returns c = input_keeps_limits

@@ -1,5 +1,0 @@
-use Rattle.td_layout.proofs.SoundDefinitions.{input_keeps_spellings}
-use Rattle.td_layout.proofs.laws.keeps_spellings.Goals as goal
-
-pub returns : goal.returns
-returns c = input_keeps_spellings

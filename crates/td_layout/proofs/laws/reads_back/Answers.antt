@@ -1,5 +1,0 @@
-use Rattle.td_layout.proofs.Inputs.{input_reads_back}
-use Rattle.td_layout.proofs.laws.reads_back.Goals as goal
-
-pub returns : goal.returns
-returns c = input_reads_back

@@ -1,5 +1,0 @@
-use Rattle.td_linked.proofs.Whole.{no_part_is_lost}
-use Rattle.td_linked.proofs.laws.no_part_is_lost.Goals as goal
-
-pub returns : goal.returns
-returns c = no_part_is_lost

@@ -1,8 +1,0 @@
--- A pass or seat that makes others goes on to make them.
-use Rattle.std.proofs.Common.{Option, None, Some, refl, sym, true≢false}
-use Rattle.td_roll.specs.declared.parts.Head.{Head}
-use Rattle.td_roll.specs.Heads.{HasHead, one_more}
-
-pub still_head : {A : Type 0} (o : Option (Head A)) → HasHead o → HasHead (one_more o)
-still_head (Some h) e = refl
-still_head None e = absurd (true≢false (sym e))

@@ -1,6 +1,0 @@
-use Rattle.std.proofs.Common.{◌≡◌}
-use Rattle.td_roll.specs.Heads.{HasHead}
-use Rattle.td_live_rows.proofs.drawers.drawers.Given as goal
-
-abbrev pub invariant-loop : goal.invariant-loop
-invariant-loop l = (l.first.table ≡ l.tickets) × HasHead l.first.view.head

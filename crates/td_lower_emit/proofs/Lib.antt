@@ -1,0 +1,4 @@
+pub mod Measures
+pub mod Writing
+pub mod Values
+pub mod Needs

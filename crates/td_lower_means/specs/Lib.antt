@@ -1,0 +1,2 @@
+pub mod CodeRun
+pub mod Ready

@@ -1,5 +1,0 @@
-use Rattle.std.proofs.Common.{length}
-use Rattle.td_needed.proofs.flags.+mark_expressions.Given as goal
-
-abbrev pub decreases-mark_expressions : goal.decreases-mark_expressions
-decreases-mark_expressions l = length l.exprs.now

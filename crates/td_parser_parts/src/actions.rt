@@ -1,0 +1,383 @@
+//! Actions and their statements.
+
+ghost use Rattle.std.specs.Prelude.{◌≡◌, true, IfErr};
+ghost use Rattle.td_grammar.specs.Reading.{Got};
+ghost use Rattle.td_grammar.specs.Sets.{comes};
+ghost use Rattle.td_grammar.specs.Ahead as ahead;
+ghost use Rattle.td_grammar.specs.Grammar as grammar;
+ghost use Rattle.td_grammar.specs.Actions as productions;
+ghost use Rattle.td_parser_expr.specs.Giving.{Gives, Reads};
+ghost use Rattle.td_parser_expr.specs.Memory.{OnMemory};
+ghost use Rattle.td_parser_parts.specs.Actions as pieces;
+
+use std::alloc::Global;
+use td_ast::actions::{ActionKind, ActionTree, Assigned, Block, Stmt, StmtKind};
+use td_ast::expressions::Expr;
+use td_ast::token::{Span, Token, TokenKind};
+use td_grammar::limits::BRACES;
+use td_parser_expr::failure::Failure;
+use td_parser_expr::token::{expect, name, over, peek_is};
+use td_parser_expr::whole::expression;
+
+fn peek_is_expression(tokens: &[Token]) -> bool
+    ensures { result ≡ comes ahead.begins tokens.now }
+{
+    match tokens {
+        [] => false,
+        [first, ..] => matches!(
+            &first.kind,
+            TokenKind::Name(_)
+                | TokenKind::Number(_, _)
+                | TokenKind::Sizeof
+                | TokenKind::FieldPos
+                | TokenKind::IsRangeOkay
+                | TokenKind::True
+                | TokenKind::False
+                | TokenKind::Tilde
+                | TokenKind::Bang
+                | TokenKind::OpenParen
+        ),
+    }
+}
+
+/// `expr | "field_ptr"`. `Failure::OutOfMemory`: an expression begins, and there was no memory for it.
+#[tactic(auto, unfolding(td_grammar::specs::Actions::assigned, td_grammar::specs::Expressions::expr))]
+fn assigned(alloc: Global, tokens: &[Token]) -> Result<(Assigned, &[Token]), Failure<'_>>
+    ensures reading { Gives (λ x. Got x.0 x.1.now) result (productions.assigned.reader.read tokens.now) }
+    ensures memory { IfErr result (OnMemory (comes ahead.begins tokens.now ≡ true)) }
+{
+    if peek_is_expression(tokens) {
+        let (value, rest) = expression(alloc, tokens)?;
+        return Ok((Assigned::Value(value), rest));
+    }
+    let (at, rest) = expect(tokens, &TokenKind::FieldPtr)?;
+    Ok((Assigned::FieldPtr(at), rest))
+}
+
+// "=" rhs ";"
+fn assignment(
+    alloc: Global,
+    tokens: &[Token],
+) -> Result<(Span, Assigned, Span, &[Token]), Failure<'_>>
+    ensures { Gives (λ x. Got (x.0, (x.1, x.2)) x.3.now) result (pieces.assignment.reader.read tokens.now) }
+{
+    let (assign, rest) = expect(tokens, &TokenKind::Assign)?;
+    let (value, rest) = assigned(alloc, rest)?;
+    let (end, rest) = expect(rest, &TokenKind::Semicolon)?;
+    Ok((assign, value, end, rest))
+}
+
+// "*" NAME "=" rhs ";"
+fn store(alloc: Global, tokens: &[Token]) -> Result<(Stmt, &[Token]), Failure<'_>>
+    ensures { Gives (λ x. Got x.0 x.1.now) result (pieces.store.reader.read tokens.now) }
+{
+    let (at, rest) = expect(tokens, &TokenKind::Star)?;
+    let (cell, rest) = name(alloc, rest)?;
+    let (_, value, end, rest) = assignment(alloc, rest)?;
+    let statement = Stmt {
+        span: over(at, end),
+        kind: StmtKind::Store(cell, value),
+    };
+    Ok((statement, rest))
+}
+
+// NAME "->" NAME "=" rhs ";"
+fn store_field(alloc: Global, tokens: &[Token]) -> Result<(Stmt, &[Token]), Failure<'_>>
+    ensures { Gives (λ x. Got x.0 x.1.now) result (pieces.store_field.reader.read tokens.now) }
+{
+    let (cells, rest) = name(alloc, tokens)?;
+    let (_, rest) = expect(rest, &TokenKind::Arrow)?;
+    let (field, rest) = name(alloc, rest)?;
+    let (_, value, end, rest) = assignment(alloc, rest)?;
+    let statement = Stmt {
+        span: over(cells.span, end),
+        kind: StmtKind::StoreField(cells, field, value),
+    };
+    Ok((statement, rest))
+}
+
+// "var" NAME "=" "*" NAME ";"
+fn variable(alloc: Global, tokens: &[Token]) -> Result<(Stmt, &[Token]), Failure<'_>>
+    ensures { Gives (λ x. Got x.0 x.1.now) result (pieces.variable.reader.read tokens.now) }
+{
+    let (at, rest) = expect(tokens, &TokenKind::Var)?;
+    let (local, rest) = name(alloc, rest)?;
+    let (_, rest) = expect(rest, &TokenKind::Assign)?;
+    let (star, rest) = expect(rest, &TokenKind::Star)?;
+    let (cell, rest) = name(alloc, rest)?;
+    let (end, rest) = expect(rest, &TokenKind::Semicolon)?;
+    let statement = Stmt {
+        span: over(at, end),
+        kind: StmtKind::Var(local, star, cell),
+    };
+    Ok((statement, rest))
+}
+
+// "return" expr ";"
+fn returning(alloc: Global, tokens: &[Token]) -> Result<(Stmt, &[Token]), Failure<'_>>
+    ensures { Gives (λ x. Got x.0 x.1.now) result (pieces.returning.reader.read tokens.now) }
+{
+    let (at, rest) = expect(tokens, &TokenKind::Return)?;
+    let (value, rest) = expression(alloc, rest)?;
+    let (end, rest) = expect(rest, &TokenKind::Semicolon)?;
+    let statement = Stmt {
+        span: over(at, end),
+        kind: StmtKind::Return(value),
+    };
+    Ok((statement, rest))
+}
+
+// "abort" ";". Takes no memory.
+fn aborting(tokens: &[Token]) -> Result<(Stmt, &[Token]), Failure<'_>>
+    ensures { Reads (λ x. Got x.0 x.1.now) result (pieces.aborting.reader.read tokens.now) }
+{
+    let (at, rest) = expect(tokens, &TokenKind::Abort)?;
+    let (end, rest) = expect(rest, &TokenKind::Semicolon)?;
+    let statement = Stmt {
+        span: over(at, end),
+        kind: StmtKind::Abort,
+    };
+    Ok((statement, rest))
+}
+
+// "(" expr ")"
+fn condition(alloc: Global, tokens: &[Token]) -> Result<(Span, Expr, Span, &[Token]), Failure<'_>>
+    ensures { Gives (λ x. Got (x.0, (x.1, x.2)) x.3.now) result (pieces.condition.reader.read tokens.now) }
+{
+    let (opening, rest) = expect(tokens, &TokenKind::OpenParen)?;
+    let (value, rest) = expression(alloc, rest)?;
+    let (closing, rest) = expect(rest, &TokenKind::CloseParen)?;
+    Ok((opening, value, closing, rest))
+}
+
+/// `"{" { stmt } "}"`, and the span of its last token, where so many braces may be open.
+#[cycle(statement)]
+fn braced(
+    alloc: Global,
+    braces: u32,
+    tokens: &[Token],
+) -> Result<(Block, Span, &[Token]), Failure<'_>>
+    ensures { Gives (λ x. Got (x.0, x.1) x.2.now) result ((pieces.braced_at braces).reader.read tokens.now) }
+{
+    if braces == 0 {
+        if peek_is(tokens, &TokenKind::OpenBrace) {
+            return Err(Failure::TooDeep(tokens));
+        }
+        return Err(Failure::Unexpected(tokens));
+    }
+    let (_, rest) = expect(tokens, &TokenKind::OpenBrace)?;
+    let (block, rest) = statements(alloc, braces - 1, rest)?;
+    let (closing, rest) = expect(rest, &TokenKind::CloseBrace)?;
+    Ok((block, closing, rest))
+}
+
+// [ "else" braced ]
+#[cycle(statement)]
+fn maybe_other(
+    alloc: Global,
+    braces: u32,
+    tokens: &[Token],
+) -> Result<(Option<(Block, Span)>, &[Token]), Failure<'_>>
+    ensures { Gives (λ x. Got x.0 x.1.now) result ((grammar.maybe (pieces.other_at braces)).reader.read tokens.now) }
+{
+    if !peek_is(tokens, &TokenKind::Else) {
+        return Ok((None, tokens));
+    }
+    let (_, rest) = expect(tokens, &TokenKind::Else)?;
+    let (block, closing, rest) = braced(alloc, braces, rest)?;
+    Ok((Some((block, closing)), rest))
+}
+
+fn if_of(
+    at: Span,
+    condition: Expr,
+    block: Block,
+    closing: Span,
+    other: Option<(Block, Span)>,
+) -> Stmt
+    ensures { result ≡ productions.if_of at condition (block, closing) other }
+{
+    match other {
+        None => Stmt {
+            span: over(at, closing),
+            kind: StmtKind::If(condition, block),
+        },
+        Some((other, last)) => Stmt {
+            span: over(at, last),
+            kind: StmtKind::IfElse(condition, block, other),
+        },
+    }
+}
+
+// "if" "(" expr ")" braced [ "else" braced ]
+#[cycle(statement)]
+fn conditional(
+    alloc: Global,
+    braces: u32,
+    tokens: &[Token],
+) -> Result<(Stmt, &[Token]), Failure<'_>>
+    ensures { Gives (λ x. Got x.0 x.1.now) result ((pieces.if_at braces).reader.read tokens.now) }
+{
+    let (at, rest) = expect(tokens, &TokenKind::If)?;
+    let (_, condition, _, rest) = condition(alloc, rest)?;
+    let (block, closing, rest) = braced(alloc, braces, rest)?;
+    let (other, rest) = maybe_other(alloc, braces, rest)?;
+    Ok((if_of(at, condition, block, closing, other), rest))
+}
+
+#[cycle(statement)]
+fn any_statement(
+    alloc: Global,
+    braces: u32,
+    tokens: &[Token],
+) -> Result<(Stmt, &[Token]), Failure<'_>>
+    ensures { Gives (λ x. Got x.0 x.1.now) result ((pieces.statement_at braces).reader.read tokens.now) }
+{
+    let [first, ..] = tokens else {
+        return Err(Failure::Unexpected(tokens));
+    };
+    match &first.kind {
+        TokenKind::Star => store(alloc, tokens),
+        TokenKind::Name(_) => store_field(alloc, tokens),
+        TokenKind::Var => variable(alloc, tokens),
+        TokenKind::If => conditional(alloc, braces, tokens),
+        TokenKind::Return => returning(alloc, tokens),
+        _ => aborting(tokens),
+    }
+}
+
+/// A statement, in which so many braces may be open.
+#[cycle(statement)]
+fn statement(alloc: Global, braces: u32, tokens: &[Token]) -> Result<(Stmt, &[Token]), Failure<'_>>
+    ensures { Gives (λ x. Got x.0 x.1.now) result ((productions.statement braces).reader.read tokens.now) }
+{
+    any_statement(alloc, braces, tokens)
+}
+
+fn peek_is_statement(tokens: &[Token]) -> bool
+    ensures { result ≡ comes productions.begins tokens.now }
+{
+    match tokens {
+        [] => false,
+        [first, ..] => matches!(
+            &first.kind,
+            TokenKind::Name(_)
+                | TokenKind::If
+                | TokenKind::Return
+                | TokenKind::Abort
+                | TokenKind::Var
+                | TokenKind::Star
+        ),
+    }
+}
+
+/// `{ stmt }`
+#[cycle(statement)]
+pub fn statements(
+    alloc: Global,
+    braces: u32,
+    tokens: &[Token],
+) -> Result<(Block, &[Token]), Failure<'_>>
+    ensures { Gives (λ x. Got x.0 x.1.now) result ((grammar.all_of (productions.statement braces)).reader.read tokens.now) }
+{
+    let mut block = Block::new(alloc);
+    let mut rest = tokens;
+    while peek_is_statement(rest) {
+        let (next, after) = statement(alloc, braces, rest)?;
+        block.push(next)?;
+        rest = after;
+    }
+    Ok((block, rest))
+}
+
+fn action_of(kind: &TokenKind) -> Option<ActionKind>
+    ensures { result ≡ productions.action_of kind.now }
+{
+    match kind {
+        TokenKind::Act => Some(ActionKind::Act),
+        TokenKind::Check => Some(ActionKind::Check),
+        TokenKind::OnSuccess => Some(ActionKind::OnSuccess),
+        _ => None,
+    }
+}
+
+// Takes no memory.
+fn action_word(tokens: &[Token]) -> Result<(ActionKind, Span, &[Token]), Failure<'_>>
+    ensures { Reads (λ x. Got (x.0, x.1) x.2.now) result (pieces.action_word.reader.read tokens.now) }
+{
+    let [first, rest @ ..] = tokens else {
+        return Err(Failure::Unexpected(tokens));
+    };
+    match action_of(&first.kind) {
+        Some(kind) => Ok((kind, first.span, rest)),
+        None => Err(Failure::Unexpected(tokens)),
+    }
+}
+
+fn peek_is_action(tokens: &[Token]) -> bool
+    ensures { result ≡ comes pieces.action_begins tokens.now }
+{
+    match tokens {
+        [] => false,
+        [first, ..] => matches!(
+            &first.kind,
+            TokenKind::Act | TokenKind::Check | TokenKind::OnSuccess | TokenKind::Copy
+        ),
+    }
+}
+
+/// `ACTWORD { stmt } "}"`
+fn done(alloc: Global, tokens: &[Token]) -> Result<(ActionTree, &[Token]), Failure<'_>>
+    ensures { Gives (λ x. Got x.0 x.1.now) result (pieces.done.reader.read tokens.now) }
+{
+    let (kind, span, rest) = action_word(tokens)?;
+    let (statements, rest) = statements(alloc, BRACES, rest)?;
+    let (_, rest) = expect(rest, &TokenKind::CloseBrace)?;
+    let action = ActionTree::Done {
+        kind,
+        span,
+        statements,
+    };
+    Ok((action, rest))
+}
+
+/// `"{:copy" NAME "}"`
+fn copied(alloc: Global, tokens: &[Token]) -> Result<(ActionTree, &[Token]), Failure<'_>>
+    ensures { Gives (λ x. Got x.0 x.1.now) result (pieces.copied.reader.read tokens.now) }
+{
+    let (span, rest) = expect(tokens, &TokenKind::Copy)?;
+    let (name, rest) = name(alloc, rest)?;
+    let (_, after) = expect(rest, &TokenKind::CloseBrace)?;
+    Ok((ActionTree::Copied { span, name }, after))
+}
+
+/// `ACTWORD { stmt } "}" | "{:copy" NAME "}"`
+#[tactic(auto, unfolding(td_grammar::specs::Actions::action))]
+fn action(alloc: Global, tokens: &[Token]) -> Result<(ActionTree, &[Token]), Failure<'_>>
+    ensures { Gives (λ x. Got x.0 x.1.now) result (productions.action.reader.read tokens.now) }
+{
+    match tokens {
+        [
+            Token {
+                kind: TokenKind::Act | TokenKind::Check | TokenKind::OnSuccess,
+                ..
+            },
+            ..
+        ] => done(alloc, tokens),
+        _ => copied(alloc, tokens),
+    }
+}
+
+#[tactic(auto, unfolding(td_grammar::specs::Actions::action))]
+pub fn maybe_action(
+    alloc: Global,
+    tokens: &[Token],
+) -> Result<(Option<ActionTree>, &[Token]), Failure<'_>>
+    ensures { Gives (λ x. Got x.0 x.1.now) result ((grammar.maybe productions.action).reader.read tokens.now) }
+{
+    if !peek_is_action(tokens) {
+        return Ok((None, tokens));
+    }
+    let (action, rest) = action(alloc, tokens)?;
+    Ok((Some(action), rest))
+}

@@ -1,4 +1,0 @@
-use Rattle.td_plain.proofs.numbers.+rising_at.Given as goal
-
-abbrev pub decreases-rising_at : goal.decreases-rising_at
-decreases-rising_at l = l.width

@@ -1,0 +1,14 @@
+pub mod Pieces
+pub mod Joining
+pub mod Operators
+pub mod Sequences
+pub mod Names
+pub mod Expressions
+pub mod Actions
+pub mod Parameters
+pub mod Fields
+pub mod Definitions
+pub mod Unspanned
+pub mod Laws
+pub mod Example
+pub mod ReadBack

@@ -1,5 +1,0 @@
-use Rattle.std.proofs.Common.{length}
-use Rattle.td_registers.proofs.levels.+cases_levels.Given as goal
-
-abbrev pub decreases-cases_levels : goal.decreases-cases_levels
-decreases-cases_levels l = length l.cases.now

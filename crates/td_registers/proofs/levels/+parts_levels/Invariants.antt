@@ -1,5 +1,0 @@
-use Rattle.std.proofs.Common.{length}
-use Rattle.td_registers.proofs.levels.+parts_levels.Given as goal
-
-abbrev pub decreases-parts_levels : goal.decreases-parts_levels
-decreases-parts_levels l = length l.parts.now

@@ -1,5 +1,0 @@
-use Rattle.std.proofs.Common.{length}
-use Rattle.td_registers.proofs.tops.+fields_top.Given as goal
-
-abbrev pub decreases-fields_top : goal.decreases-fields_top
-decreases-fields_top l = length l.fields.now

@@ -1,5 +1,0 @@
-use Rattle.std.proofs.Common.{length}
-use Rattle.td_registers.proofs.tops.+terms_top.Given as goal
-
-abbrev pub decreases-terms_top : goal.decreases-terms_top
-decreases-terms_top l = length l.args.now

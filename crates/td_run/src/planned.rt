@@ -1,0 +1,240 @@
+//! A run by code on words to which others store by a plan.
+
+ghost use Rattle.std.specs.Prelude.{◌≡◌, ℕ, ◌+◌, ◌<◌, ◌≤◌, ◌^◌, [], None, option_map, length as size_of, IfOk, IsErr, IsOk};
+ghost use Rattle.td_stream.specs.Layouts.{count_in, counted, laid, IsOver};
+ghost use Rattle.td_ir.specs.Entries.{Fits, buffers_of};
+ghost use Rattle.td_vm.specs.Frames.{IsArmed, outcome_in};
+ghost use Rattle.td_run.specs.Runs.{IsRunBy};
+
+use crate::compiled::validate_recorded;
+use crate::looks::Looks;
+use std::alloc::{AllocError, Global};
+use std::sync::ledger::Ledger;
+use td_core::module::Entry;
+use td_core::outcome::{Outcome, Verdict};
+use td_sched::planned::Planned;
+use td_sched::store::PlannedStore;
+use td_stream::layout::Layout;
+use td_stream::loads::Loads;
+use td_verify::verify::Verified;
+use td_vm::laws::fitting_cells_have_room;
+use td_vm::validate::Frame;
+
+/// Memory to which others store by a plan: its words, the stores, and how the message lies in the words, where it isn't at their front.
+#[derive(Clone, Copy)]
+pub struct Memory<'a> {
+    pub words: &'a [u64],
+    pub stores: &'a [PlannedStore],
+    pub layout: Option<&'a Layout>,
+}
+
+/// The verdict of a run, and the loads that it made.
+#[derive(Drop)]
+pub struct Ran {
+    pub verdict: Verdict,
+    pub loads: Loads,
+}
+
+/// How a run came out, and the loads that it made.
+#[derive(Drop)]
+pub struct Run {
+    pub outcome: Outcome,
+    pub loads: Loads,
+}
+
+/// What a run takes memory for: the words, with the plan of stores to them, and room for a load of each. No word was loaded.
+#[derive(Drop)]
+pub struct Prepared<'a> {
+    words: Planned<'a>,
+    loads: Loads,
+    pub ghost fresh: { words.loads ≡ [] },
+    pub ghost empty: { loads.list ≡ [] },
+    pub ghost room: { counted words.layout (size_of words.opening) ≤ loads.room },
+}
+
+// How many words may be loaded.
+fn words_of(layout: Option<&Layout>, all: u32) -> u32
+    ensures { result ≡ counted (option_map (λ l. l.now) layout.entry) all }
+{
+    match layout {
+        None => all,
+        Some(layout) => layout.count(),
+    }
+}
+
+// Memory with a layout or without one.
+fn opened<'a>(alloc: Global, memory: &Memory<'a>) -> Result<Planned<'a>, AllocError>
+    requires few { size_of memory.now.words.now < 2 ^ 32 }
+    requires over { IsOver (size_of memory.now.words.now) (option_map (λ l. l.now) memory.now.layout) }
+    ensures opening { IfOk result (λ p. p.opening ≡ memory.now.words.now) }
+    ensures stores { IfOk result (λ p. p.stores ≡ memory.now.stores.now) }
+    ensures layout { IfOk result (λ p. p.layout ≡ option_map (λ l. l.now) memory.now.layout) }
+    ensures loads { IfOk result (λ p. p.loads ≡ []) }
+    ensures memory { memory.now.words.now ≡ [] → memory.now.stores.now ≡ [] → option_map (λ l. l.now) memory.now.layout ≡ None → IsOk result }
+{
+    match memory.layout {
+        None => Planned::open(alloc, memory.words, memory.stores),
+        Some(layout) => Planned::open_over(alloc, memory.words, memory.stores, layout),
+    }
+}
+
+/// Takes all memory that a run takes, and loads no word. The words are lent, not copied. `AllocError`: there was no memory;
+/// never where there are neither words nor stores and no layout.
+pub fn prepare<'a>(alloc: Global, memory: &Memory<'a>) -> Result<Prepared<'a>, AllocError>
+    requires few { size_of memory.now.words.now < 2 ^ 32 }
+    requires over { IsOver (size_of memory.now.words.now) (option_map (λ l. l.now) memory.now.layout) }
+    ensures opening { IfOk result (λ p. p.words.opening ≡ memory.now.words.now) }
+    ensures stores { IfOk result (λ p. p.words.stores ≡ memory.now.stores.now) }
+    ensures layout { IfOk result (λ p. p.words.layout ≡ option_map (λ l. l.now) memory.now.layout) }
+    ensures memory { memory.now.words.now ≡ [] → memory.now.stores.now ≡ [] → option_map (λ l. l.now) memory.now.layout ≡ None → IsOk result }
+{
+    let count = words_of(memory.layout, memory.words.len() as u32);
+    let loads = Loads::with_room(alloc, count)?;
+    let words = opened(alloc, memory)?;
+    Ok(Prepared { words, loads })
+}
+
+/// Runs code once over words that were prepared, in a frame that was armed for the code, from an entry point that these
+/// arguments and cells fit, on a message that lies so in the words. The frame is left with the trace, the cells and the copies.
+/// It has no allocator and no error: from the first load on nothing can stand in place of the verdict.
+pub fn run_prepared(
+    code: &Verified,
+    frame: &mut Frame,
+    entry: Entry,
+    args: &[u64],
+    cells: &[u64],
+    message: &Layout,
+    prepared: Prepared<'_>,
+) -> Ran
+    requires armed { IsArmed code.now frame.old }
+    requires fits { Fits code.now entry args.now cells.now }
+    requires room { count_in message.now ≤ counted prepared.words.layout (size_of prepared.words.opening) }
+    ensures run { (n : ℕ) → message.now ≡ laid n prepared.entry.words.layout → IsRunBy code.now
+        (record { entry = entry; args = args.now; cells = cells.now; length = n; layout = prepared.entry.words.layout; words = prepared.entry.words.opening; stores = prepared.entry.words.stores })
+        (outcome_in frame.new (buffers_of code.now entry) result.verdict) result.loads.list }
+    ensures armed { IsArmed code.now frame.new }
+{
+    fitting_cells_have_room();
+    let Prepared {
+        mut words,
+        mut loads,
+    } = prepared;
+    frame.set_cells(cells);
+    let verdict = validate_recorded(code, entry, args, message, frame, &mut words, &mut loads);
+    Ran { verdict, loads }
+}
+
+// Runs code over prepared words on a message of `length` bytes that has a layout or none.
+fn run_laid(
+    code: &Verified,
+    frame: &mut Frame,
+    entry: Entry,
+    args: &[u64],
+    cells: &[u64],
+    length: u32,
+    layout: Option<&Layout>,
+    prepared: Prepared<'_>,
+) -> Ran
+    requires armed { IsArmed code.now frame.old }
+    requires fits { Fits code.now entry args.now cells.now }
+    requires same { prepared.words.layout ≡ option_map (λ l. l.now) layout }
+    requires room { count_in (laid length (option_map (λ l. l.now) layout)) ≤ counted prepared.words.layout (size_of prepared.words.opening) }
+    ensures run { IsRunBy code.now
+        (record { entry = entry; args = args.now; cells = cells.now; length = length; layout = prepared.entry.words.layout; words = prepared.entry.words.opening; stores = prepared.entry.words.stores })
+        (outcome_in frame.new (buffers_of code.now entry) result.verdict) result.loads.list }
+    ensures armed { IsArmed code.now frame.new }
+{
+    match layout {
+        None => {
+            let message = Layout::plain(length);
+            run_prepared(code, frame, entry, args, cells, &message, prepared)
+        }
+        Some(message) => run_prepared(code, frame, entry, args, cells, message, prepared),
+    }
+}
+
+/// Runs code once over words that were prepared, on a message of `length` bytes, by the layout that they were prepared for or at their
+/// front; its loads are counted. As `run_prepared`, it has no allocator and no error.
+pub fn run_counted<L: Ledger>(
+    code: &Verified,
+    frame: &mut Frame,
+    entry: Entry,
+    args: &[u64],
+    cells: &[u64],
+    length: u32,
+    layout: Option<&Layout>,
+    prepared: Prepared<'_>,
+    looks: &mut Looks<L>,
+) -> Ran
+    requires armed { IsArmed code.now frame.old }
+    requires fits { Fits code.now entry args.now cells.now }
+    requires same { prepared.words.layout ≡ option_map (λ l. l.now) layout }
+    requires room { count_in (laid length (option_map (λ l. l.now) layout)) ≤ counted prepared.words.layout (size_of prepared.words.opening) }
+    ensures run { IsRunBy code.now
+        (record { entry = entry; args = args.now; cells = cells.now; length = length; layout = prepared.entry.words.layout; words = prepared.entry.words.opening; stores = prepared.entry.words.stores })
+        (outcome_in frame.new (buffers_of code.now entry) result.verdict) result.loads.list }
+    ensures armed { IsArmed code.now frame.new }
+    ensures counted { looks.new ≡ looks.old + size_of result.loads.list }
+{
+    let ran = run_laid(code, frame, entry, args, cells, length, layout, prepared);
+    looks.add(&ran.loads);
+    ran
+}
+
+/// Runs code once, in a frame that was armed for it, from an entry point that these arguments and cells fit, on a message of
+/// `length` bytes, by the memory's layout or at the front of its words, while others store to them by its plan. The frame is
+/// left with the trace, the cells and the copies. `AllocError`: there was no memory; never where there are neither words nor
+/// stores and no layout. That comes of `prepare`, which loads no word; `run_prepared`, which follows, takes none, so want of
+/// memory never hides an outcome.
+pub fn run_in_frame(
+    alloc: Global,
+    code: &Verified,
+    frame: &mut Frame,
+    entry: Entry,
+    args: &[u64],
+    cells: &[u64],
+    length: u32,
+    memory: &Memory<'_>,
+) -> Result<Ran, AllocError>
+    requires armed { IsArmed code.now frame.old }
+    requires fits { Fits code.now entry args.now cells.now }
+    requires many { size_of memory.now.words.now < 2 ^ 32 }
+    requires room { count_in (laid length (option_map (λ l. l.now) memory.now.layout)) ≤ counted (option_map (λ l. l.now) memory.now.layout) (size_of memory.now.words.now) }
+    requires over { IsOver (size_of memory.now.words.now) (option_map (λ l. l.now) memory.now.layout) }
+    ensures run { IfOk result (λ ran. IsRunBy code.now
+        (record { entry = entry; args = args.now; cells = cells.now; length = length; layout = option_map (λ l. l.now) memory.now.layout; words = memory.now.words.now; stores = memory.now.stores.now })
+        (outcome_in frame.new (buffers_of code.now entry) ran.verdict) ran.loads.list) }
+    ensures armed { IsArmed code.now frame.new }
+    ensures untouched { IsErr result → frame.new ≡ frame.old }
+    ensures memory { memory.now.words.now ≡ [] → memory.now.stores.now ≡ [] → option_map (λ l. l.now) memory.now.layout ≡ None → IsOk result }
+{
+    let layout = memory.layout;
+    let prepared = prepare(alloc, memory)?;
+    Ok(run_laid(code, frame, entry, args, cells, length, layout, prepared))
+}
+
+/// Runs code once as `run_in_frame` does, in a frame of its own.
+pub fn run_planned(
+    alloc: Global,
+    code: &Verified,
+    entry: Entry,
+    args: &[u64],
+    cells: &[u64],
+    length: u32,
+    memory: &Memory<'_>,
+) -> Result<Run, AllocError>
+    requires fits { Fits code.now entry args.now cells.now }
+    requires many { size_of memory.now.words.now < 2 ^ 32 }
+    requires room { count_in (laid length (option_map (λ l. l.now) memory.now.layout)) ≤ counted (option_map (λ l. l.now) memory.now.layout) (size_of memory.now.words.now) }
+    requires over { IsOver (size_of memory.now.words.now) (option_map (λ l. l.now) memory.now.layout) }
+    ensures { IfOk result (λ run. IsRunBy code.now
+        (record { entry = entry; args = args.now; cells = cells.now; length = length; layout = option_map (λ l. l.now) memory.now.layout; words = memory.now.words.now; stores = memory.now.stores.now })
+        run.outcome run.loads.list) }
+{
+    let mut frame = Frame::arm(alloc, code)?;
+    let ran = run_in_frame(alloc, code, &mut frame, entry, args, cells, length, memory)?;
+    Ok(Run {
+        outcome: frame.into_outcome(code, entry, ran.verdict),
+        loads: ran.loads,
+    })
+}

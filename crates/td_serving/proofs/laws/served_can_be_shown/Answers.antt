@@ -1,5 +1,0 @@
-use Rattle.td_serving.proofs.Answered.{can_be_shown}
-use Rattle.td_serving.proofs.laws.served_can_be_shown.Goals as goal
-
-pub returns : goal.returns
-returns c = can_be_shown

@@ -1,0 +1,5 @@
+use Rattle.std.proofs.Common.{refl}
+use Rattle.td_test_rows.proofs.expressions_are_right.Goals as goal
+
+pub returns : goal.returns
+returns c = refl

@@ -1,5 +1,0 @@
-use Rattle.td_told.proofs.Jobs.{jobs_are_sized}
-use Rattle.td_told.proofs.laws.jobs_are_sized.Goals as goal
-
-pub returns : goal.returns
-returns c = jobs_are_sized c.writing_is_exact.ensures c.kinds_are_admitted.ensures

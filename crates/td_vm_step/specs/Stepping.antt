@@ -1,0 +1,141 @@
+-- What one instruction does to the machine's values; of use in this crate and in td_vm alone.
+use Rattle.std.specs.Prelude.{◌≡◌, ℕ, ◌+◌, ◌-◌, ◌*◌, ◌^◌, ◌<◌, ◌≤◌, Bool, true, false, List, length, slice_index}
+use Rattle.td_core.specs.Held.{IsBufferAt, AreHeld}
+use Rattle.td_stream.specs.Copies.{BufferView, held_by}
+use Rattle.td_stream.specs.declared.load.Load.{Load}
+use Rattle.td_stream.specs.declared.stream.Stream.{Stream}
+use Rattle.td_stream.specs.Loads.{Carries}
+use Rattle.td_stream.specs.StreamInvariant.{Looked, position, end_of, layout_of, length_of, loads_of}
+use Rattle.td_ir.specs.declared.instructions.Instr.{Instr}
+use Rattle.td_ir.specs.declared.instructions.Instr.TheVariants as i
+use Rattle.td_ir.specs.declared.tables.Parts.{Parts}
+use Rattle.td_ir.specs.Tables.{routine_of}
+use Rattle.td_ir.specs.State.{State}
+use Rattle.td_ir.specs.Flow.{Flow, Goes, Fails, Calls, Returns, Loops, Turns, Effect, copied}
+use Rattle.td_ir.specs.Values.{is_zero, is_nonzero}
+use Rattle.td_verify.specs.declared.shape.Shape.{Shape}
+use Rattle.td_verify.specs.declared.shape.Shape.TheVariants.{Straight, Call, While, Open, Close}
+use Rattle.td_verify.specs.Shape.{shape}
+use Rattle.td_verify.specs.Ways.{Leads}
+use Rattle.td_verify.specs.Operands.{HasRegisters, HasTables, HasOperands, callee_params}
+use Rattle.td_vm_step.specs.declared.activation.Activation.{Activation}
+use Rattle.td_vm_step.specs.declared.activation.Step.{Step}
+use Rattle.td_vm_step.specs.declared.activation.Step.TheVariants as step
+use Rattle.td_vm_step.specs.declared.slate.Slate.{Slate}
+
+-- the state that the machine's values stand for
+abbrev pub state_of : {W : Type 0} → (regs cells : List ℕ) → Activation → Stream W → State
+state_of regs cells a s = record { regs = regs; cells = cells; start = a.start; pos = position s; end = end_of s; outer = a.outer }
+
+-- where a step from s to t leads; what fails leaves the position as it was
+abbrev pub flow_of : Step → (s t : State) → Flow
+flow_of (step.Goes target) s t = Goes target t
+flow_of (step.Fails reason site pos) s t = Fails reason site pos (record t { pos = s.pos })
+flow_of (step.Calls first routine map site) s t = Calls first routine map site t
+flow_of step.Returns s t = Returns t
+flow_of (step.Loops target) s t = Loops target t
+flow_of (step.Turns start) s t = Turns t
+
+abbrev pub effect_of : Flow → List ℕ → ℕ → Effect
+effect_of flow touched steps = record { flow = flow; touched = touched; steps = steps }
+
+-- from s to t the count of steps rose from one number to another and just the words of some places were loaded, and on every list that carries them P holds of it, of these places and of how much the count rose
+pub record Ran {W : Type 0} (loads : W → List Load) (s t : Stream W) (from to : ℕ) (P : List ℕ → List ℕ → ℕ → Type 0) : Type 0 where
+  pub touched : List ℕ
+  pub taken : ℕ
+  pub counted : to ≡ from + taken
+  pub looked : Looked loads s t touched
+  pub holds : (b : List ℕ) → Carries (layout_of s) b (loads_of loads t) → P b touched taken
+
+-- from s to t buffers went on holding what the cells behind the first ones say, on every list that carries the words loaded
+abbrev pub Hold : {W : Type 0} (loads : W → List Load) (s t : Stream W) (first : ℕ) (cells cells' : List ℕ) (copies copies' : List BufferView) → Type 0
+Hold loads s t first cells cells' copies copies' = (b : List ℕ) → Carries (layout_of s) b (loads_of loads t) → AreHeld b first cells (held_by copies) → AreHeld b first cells' (held_by copies')
+
+-- the same cells and buffers are lent, as many as before
+pub record IsLent (s t : Slate) : Type 0 where
+  pub same_cells : t.cells.ghost_name ≡ s.cells.ghost_name
+  pub same_copies : t.copies.ghost_name ≡ s.copies.ghost_name
+  pub cells : length t.cells.now ≡ length s.cells.now
+  pub copies : length t.copies.now ≡ length s.copies.now
+
+-- what a copy to a buffer of routine n does, whose cells, and then those of its buffers, are at these places
+abbrev pub copied_to : Parts → (n : ℕ) → (places : List ℕ) → (next size buffer site : ℕ) → State → Effect
+copied_to c n places next size buffer site s =
+    let first = (routine_of c n).cells + 2 * buffer in
+    copied next size (slice_index (routine_of c n).buffers buffer) (slice_index places first) (slice_index places (first + 1)) site s
+
+-- the end and the one outside of the window lie within the message
+pub record InWindow {W : Type 0} (a : Activation) (s : Stream W) : Type 0 where
+  pub around : end_of s ≤ a.outer
+  pub within : a.outer ≤ length_of s
+
+-- an instruction of routine n, which has so many registers, as the verifier admits it
+pub record IsFine (c : Parts) (n registers : ℕ) (j : Instr) : Type 0 where
+  pub registers_in : HasRegisters registers (callee_params c j) j
+  pub tables_in : HasTables c n j
+  pub operands_in : HasOperands j
+
+-- the places of routine n's cells, among the first ones, and those of its buffers' cells, among the pairs behind them
+pub record HasPlaces (c : Parts) (n : ℕ) (places : List ℕ) (first size : ℕ) (rooms : List ℕ) : Type 0 where
+  pub count : length places ≡ (routine_of c n).cells + 2 * length (routine_of c n).buffers
+  pub size_is : size ≡ first + 2 * length rooms
+  pub cells : (k : ℕ) → k < (routine_of c n).cells → slice_index places k < first
+  pub buffers : (k : ℕ) → k < length (routine_of c n).buffers →
+      IsBufferAt (slice_index places ((routine_of c n).cells + 2 * k)) (slice_index places ((routine_of c n).cells + 2 * k + 1)) (slice_index (routine_of c n).buffers k) first rooms
+
+-- neither a call nor a loop
+abbrev pub Passes : Shape → Type 0
+Passes (Call m) = ⊥
+Passes (While t) = ⊥
+Passes j = Unit {0}
+
+-- what a step says of its instruction
+abbrev pub LeadsTo : Step → ℕ → Instr → Type 0
+LeadsTo (step.Goes target) pc j = Passes (shape j) × Leads pc (shape j) target
+LeadsTo (step.Fails reason site pos) pc j = Passes (shape j)
+LeadsTo (step.Calls first routine map site) pc j = j ≡ i.Call first routine map site
+LeadsTo step.Returns pc j = j ≡ i.Return
+LeadsTo (step.Loops target) pc j = j ≡ i.While target
+LeadsTo (step.Turns start) pc j = j ≡ i.Again start
+
+-- the site that it names is one of so many
+abbrev pub HasSite : Step → ℕ → Type 0
+HasSite (step.Fails reason site pos) n = site < n
+HasSite (step.Calls first routine map site) n = site < n
+HasSite j n = Unit {0}
+
+-- where it fails, the position has 32 bits
+abbrev pub IsSmall : Step → Type 0
+IsSmall (step.Fails reason site pos) = pos < 2 ^ 32
+IsSmall j = Unit {0}
+
+-- the bytes that an instruction takes at least
+abbrev pub least : Shape → ℕ
+least (Straight b w) = b
+least j = 0
+
+-- the steps that it may take for each byte, its own apart
+abbrev pub more : Shape → ℕ
+more (Straight b w) = w - 1
+more j = 0
+
+-- what becomes of the end
+abbrev pub Ends : Shape → (pos before after : ℕ) → Type 0
+Ends (Open k) pos before after = pos + k ≤ after
+Ends Close pos before after = pos ≡ before
+Ends j pos before after = after ≡ before
+
+abbrev pub WhenGoes : Step → Type 0 → Type 0
+WhenGoes (step.Fails reason site pos) P = Unit {0}
+WhenGoes j P = P
+
+-- it goes on at a place, or fails at a site
+abbrev pub OnOrOut : (next site : ℕ) → Step → Type 0
+OnOrOut next place (step.Goes target) = target ≡ next
+OnOrOut next place (step.Fails reason site pos) = site ≡ place
+OnOrOut next place j = ⊥
+
+-- what is sought among elements: a zero, or one that isn't
+abbrev pub sought : Bool → ℕ → Bool
+sought true n = is_zero n
+sought false n = is_nonzero n

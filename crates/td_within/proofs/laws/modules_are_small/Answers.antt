@@ -1,5 +1,0 @@
-use Rattle.td_within.proofs.Texts.{modules_are_small}
-use Rattle.td_within.proofs.laws.modules_are_small.Goals as goal
-
-pub returns : goal.returns
-returns c = modules_are_small c.names_are_written.ensures c.either_form.ensures.form
