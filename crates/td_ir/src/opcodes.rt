@@ -90,127 +90,43 @@ pub struct Opcode {
     pub operands: &'static [Operand],
 }
 
+// Rows of the table, each a name and the operands behind it.
+macro_rules! rows {
+    ($($name:literal $($operand:ident)*;)*) => {
+        [$(Opcode { name: $name, operands: &[$(Operand::$operand),*] }),*]
+    };
+}
+
 /// The kinds of instruction by their numbers, from 0 on.
-pub const OPCODES: [Opcode; 27] = [
-    Opcode {
-        name: "Const",
-        operands: &[Operand::Into, Operand::Value],
-    },
-    Opcode {
-        name: "Member",
-        operands: &[Operand::Into, Operand::Source, Operand::Set],
-    },
-    Opcode {
-        name: "Op",
-        operands: &[
-            Operand::Into,
-            Operand::Operator,
-            Operand::Left,
-            Operand::Right,
-        ],
-    },
-    Opcode {
-        name: "Bits",
-        operands: &[Operand::Into, Operand::Source, Operand::Low, Operand::Count],
-    },
-    Opcode {
-        name: "Pos",
-        operands: &[Operand::Into],
-    },
-    Opcode {
-        name: "Jump",
-        operands: &[Operand::Target],
-    },
-    Opcode {
-        name: "JumpIf",
-        operands: &[Operand::Test, Operand::Target],
-    },
-    Opcode {
-        name: "JumpUnless",
-        operands: &[Operand::Test, Operand::Target],
-    },
-    Opcode {
-        name: "Call",
-        operands: &[
-            Operand::First,
-            Operand::Routine,
-            Operand::Map,
-            Operand::Site,
-        ],
-    },
-    Opcode {
-        name: "Return",
-        operands: &[],
-    },
-    Opcode {
-        name: "Fetch",
-        operands: &[Operand::Into, Operand::Order, Operand::Width, Operand::Site],
-    },
-    Opcode {
-        name: "SkipK",
-        operands: &[Operand::Bytes, Operand::Site],
-    },
-    Opcode {
-        name: "Skip",
-        operands: &[Operand::Size, Operand::Site],
-    },
-    Opcode {
-        name: "Rest",
-        operands: &[],
-    },
-    Opcode {
-        name: "Zeros",
-        operands: &[Operand::Site],
-    },
-    Opcode {
-        name: "Zeroterm",
-        operands: &[Operand::Bound, Operand::Width, Operand::Site],
-    },
-    Opcode {
-        name: "NarrowK",
-        operands: &[Operand::Bytes, Operand::Site],
-    },
-    Opcode {
-        name: "Narrow",
-        operands: &[Operand::Size, Operand::Site],
-    },
-    Opcode {
-        name: "Divides",
-        operands: &[Operand::Size, Operand::Step, Operand::Site],
-    },
-    Opcode {
-        name: "While",
-        operands: &[Operand::Target],
-    },
-    Opcode {
-        name: "Again",
-        operands: &[Operand::Target],
-    },
-    Opcode {
-        name: "Widen",
-        operands: &[Operand::Site],
-    },
-    Opcode {
-        name: "Fail",
-        operands: &[Operand::Reason, Operand::Site],
-    },
-    Opcode {
-        name: "Get",
-        operands: &[Operand::Into, Operand::Cell],
-    },
-    Opcode {
-        name: "Set",
-        operands: &[Operand::Source, Operand::Cell],
-    },
-    Opcode {
-        name: "Mark",
-        operands: &[],
-    },
-    Opcode {
-        name: "Copy",
-        operands: &[Operand::Size, Operand::Buffer, Operand::Site],
-    },
-];
+pub const OPCODES: [Opcode; 27] = rows! {
+    "Const" Into Value;
+    "Member" Into Source Set;
+    "Op" Into Operator Left Right;
+    "Bits" Into Source Low Count;
+    "Pos" Into;
+    "Jump" Target;
+    "JumpIf" Test Target;
+    "JumpUnless" Test Target;
+    "Call" First Routine Map Site;
+    "Return";
+    "Fetch" Into Order Width Site;
+    "SkipK" Bytes Site;
+    "Skip" Size Site;
+    "Rest";
+    "Zeros" Site;
+    "Zeroterm" Bound Width Site;
+    "NarrowK" Bytes Site;
+    "Narrow" Size Site;
+    "Divides" Size Step Site;
+    "While" Target;
+    "Again" Target;
+    "Widen" Site;
+    "Fail" Reason Site;
+    "Get" Into Cell;
+    "Set" Source Cell;
+    "Mark";
+    "Copy" Size Buffer Site;
+};
 
 /// What a number that no kind has stands for.
 const NONE: Opcode = Opcode {
