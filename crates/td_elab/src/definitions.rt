@@ -19,6 +19,7 @@ use std::alloc::{AllocError, Global};
 use td_ast::definitions::{CasetypeTree, Def, OutputTree, StructTree};
 use td_core::expressions::CoreExpr;
 use td_core::module::{Body, NameId, TypeDef};
+use td_elab_actions::scopes::Bindings;
 use td_elab_defs::aliases::alias;
 use td_elab_defs::constants::{check_global, check_literal, declare, define};
 use td_elab_defs::enums::enumerate;
@@ -31,7 +32,7 @@ use td_elab_exprs::expressions::test;
 use td_elab_exprs::findings::Findings;
 use td_elab_fields::fields::fields;
 use td_elab_fields::leading::leading_size;
-use td_elab_rules::known::{Known, Meaning, Parameter, Scope, Taken};
+use td_elab_rules::known::{Known, Meaning, Parameter};
 use td_kinds::casetypes::body_kind;
 use td_names::names::Names;
 use td_num::items::Items;
@@ -121,21 +122,26 @@ fn struct_inner(
     alloc: Global,
     names: &Names,
     known: &Known,
-    scope: &mut Scope,
-    taken: &mut Taken,
+    bindings: &mut Bindings,
     tree: &StructTree,
     findings: &mut Findings,
 ) -> Result<Inner, AllocError>
-    ensures guard { IfOk result (λ i. i.guard ≡ option_core known.now (struct_scope known.now scope.old tree.now.fields) tree.now.head.condition) }
-    ensures body { IfOk result (λ i. i.body ≡ StructBody (fields_core names.now known.now (struct_scope known.now scope.old tree.now.fields) tree.now.fields)) }
-    ensures first { OnOk result (findings.new.first ≡ first_of findings.old.first (test_breaches known.now (struct_scope known.now scope.old tree.now.fields) tree.now.head.condition ++ fields_breaches known.now taken.old (struct_scope known.now scope.old tree.now.fields) tree.now.fields)) }
-    ensures taken { OnOk result (taken.new ≡ fields_taken taken.old tree.now.fields) }
+    ensures guard { IfOk result (λ i. i.guard ≡ option_core known.now (struct_scope known.now bindings.old.scope tree.now.fields) tree.now.head.condition) }
+    ensures body { IfOk result (λ i. i.body ≡ StructBody (fields_core names.now known.now (struct_scope known.now bindings.old.scope tree.now.fields) tree.now.fields)) }
+    ensures first { OnOk result (findings.new.first ≡ first_of findings.old.first (test_breaches known.now (struct_scope known.now bindings.old.scope tree.now.fields) tree.now.head.condition ++ fields_breaches known.now bindings.old.taken (struct_scope known.now bindings.old.scope tree.now.fields) tree.now.fields)) }
+    ensures taken { OnOk result (bindings.new.taken ≡ fields_taken bindings.old.taken tree.now.fields) }
 {
     let trees = tree.fields.as_slice();
-    let this = leading_size(alloc, known, scope, trees)?;
-    scope.this = Some(this);
-    let guard = test(alloc, known, scope, &tree.head.condition, findings)?;
-    let fields = fields(alloc, names, known, scope, taken, trees, findings)?;
+    let this = leading_size(alloc, known, &mut bindings.scope, trees)?;
+    bindings.scope.this = Some(this);
+    let guard = test(
+        alloc,
+        known,
+        &bindings.scope,
+        &tree.head.condition,
+        findings,
+    )?;
+    let fields = fields(alloc, names, known, bindings, trees, findings)?;
     Ok(Inner {
         guard,
         body: Body::Struct(fields),
@@ -164,8 +170,9 @@ fn structure(
         tree.head.params.as_slice(),
         findings,
     )?;
-    let (mut scope, mut taken) = (head.scope, head.taken);
-    let inner = struct_inner(alloc, names, known, &mut scope, &mut taken, tree, findings)?;
+    let (scope, taken) = (head.scope, head.taken);
+    let mut bindings = Bindings { scope, taken };
+    let inner = struct_inner(alloc, names, known, &mut bindings, tree, findings)?;
     check_global(known, &tree.name, findings);
     let name = tree.name.text.as_slice();
     let number = names.number(name);
@@ -183,7 +190,7 @@ fn structure(
         tree.entry,
         name,
         head.parameters,
-        &taken.all,
+        &bindings.taken.all,
         definition,
     )
 }
@@ -194,18 +201,23 @@ fn casetype_inner(
     alloc: Global,
     names: &Names,
     known: &Known,
-    scope: &mut Scope,
-    taken: &mut Taken,
+    bindings: &mut Bindings,
     tree: &CasetypeTree,
     findings: &mut Findings,
 ) -> Result<Inner, AllocError>
-    ensures guard { IfOk result (λ i. i.guard ≡ option_core known.now scope.old tree.now.head.condition) }
-    ensures body { IfOk result (λ i. i.body ≡ switch_core names.now known.now scope.old tree.now) }
-    ensures first { OnOk result (findings.new.first ≡ first_of findings.old.first (test_breaches known.now scope.old tree.now.head.condition ++ switch_breaches known.now taken.old scope.old tree.now)) }
-    ensures taken { OnOk result (taken.new ≡ switch_taken taken.old tree.now) }
+    ensures guard { IfOk result (λ i. i.guard ≡ option_core known.now bindings.old.scope tree.now.head.condition) }
+    ensures body { IfOk result (λ i. i.body ≡ switch_core names.now known.now bindings.old.scope tree.now) }
+    ensures first { OnOk result (findings.new.first ≡ first_of findings.old.first (test_breaches known.now bindings.old.scope tree.now.head.condition ++ switch_breaches known.now bindings.old.taken bindings.old.scope tree.now)) }
+    ensures taken { OnOk result (bindings.new.taken ≡ switch_taken bindings.old.taken tree.now) }
 {
-    let guard = test(alloc, known, scope, &tree.head.condition, findings)?;
-    let body = switch(alloc, names, known, scope, taken, tree, findings)?;
+    let guard = test(
+        alloc,
+        known,
+        &bindings.scope,
+        &tree.head.condition,
+        findings,
+    )?;
+    let body = switch(alloc, names, known, bindings, tree, findings)?;
     Ok(Inner { guard, body })
 }
 
@@ -231,8 +243,9 @@ fn casetype(
         tree.head.params.as_slice(),
         findings,
     )?;
-    let (mut scope, mut taken) = (head.scope, head.taken);
-    let inner = casetype_inner(alloc, names, known, &mut scope, &mut taken, tree, findings)?;
+    let (scope, taken) = (head.scope, head.taken);
+    let mut bindings = Bindings { scope, taken };
+    let inner = casetype_inner(alloc, names, known, &mut bindings, tree, findings)?;
     check_global(known, &tree.name, findings);
     let name = tree.name.text.as_slice();
     let number = names.number(name);
@@ -250,7 +263,7 @@ fn casetype(
         tree.entry,
         name,
         head.parameters,
-        &taken.all,
+        &bindings.taken.all,
         definition,
     )
 }
