@@ -88,6 +88,7 @@ fn see_var(alloc: Global, scope: &mut Names, statement: &Stmt) -> Result<(), All
     }
 }
 
+/// A statement. An expression comes last, as each way through its variants, where it is let go, is a way through the function.
 #[cycle(statement)]
 #[tactic(auto, using(crate::proofs::Scopes::block_is))]
 fn flat_statement(
@@ -128,17 +129,17 @@ fn flat_statement(
             })
         }
         StmtKind::If(e, one) => {
-            let e = flat_tree(alloc, own, scope, e)?;
             let one = flat_block(alloc, own, params, scope, one)?;
+            let e = flat_tree(alloc, own, scope, e)?;
             Ok(Stmt {
                 span,
                 kind: StmtKind::If(e, one),
             })
         }
         StmtKind::IfElse(e, one, other) => {
-            let e = flat_tree(alloc, own, scope, e)?;
             let one = flat_block(alloc, own, params, scope, one)?;
             let other = flat_block(alloc, own, params, scope, other)?;
+            let e = flat_tree(alloc, own, scope, e)?;
             Ok(Stmt {
                 span,
                 kind: StmtKind::IfElse(e, one, other),
@@ -191,9 +192,8 @@ fn flat_statements(
 {
     let mut flat = Block::new(alloc);
     for statement in statements {
-        let next = flat_statement(alloc, own, params, scope, statement)?;
+        flat.push(flat_statement(alloc, own, params, scope, statement)?)?;
         see_var(alloc, scope, statement)?;
-        flat.push(next)?;
     }
     Ok(flat)
 }
