@@ -1,4 +1,4 @@
-use Rattle.std.proofs.Common.{None, Some, refl, subst, inr}
+use Rattle.std.proofs.Common.{refl, subst, inr}
 use Rattle.td_front_flat.specs.Firsts.{IsFirstPlace}
 use Rattle.td_front_flat.proofs.flatten.order_in.Goals as goal
 
