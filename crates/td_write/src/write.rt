@@ -10,7 +10,7 @@ ghost use Rattle.td_write.specs.Answers.{IsWritable, IsAppended, IsRefusal, IsCa
 use crate::copies::accepted_with;
 use crate::halt::Halt;
 use crate::types::named;
-use crate::walk::Walk;
+use crate::walk::{Draft, Walk};
 use std::alloc::Global;
 use td_core::module::{Entry, Module};
 use td_core::outcome::{Outcome, Reason};
@@ -70,11 +70,12 @@ pub fn write_value(
     kinds_are_admitted();
     writing_is_in_range();
     let mut left = opened(alloc, m, entry, cells)?;
-    let mut path = Vec::new(alloc);
-    let mut written = Vec::new(alloc);
+    let path = Vec::new(alloc);
+    let written = Vec::new(alloc);
+    let mut draft = Draft { path, out: written };
     let places = places_below(alloc, left.len())?;
     let Some(place) = m.entries.as_slice().get(entry.number as usize) else {
-        return Err(broken(WriteRule::Broken(Reason::Impossible), path));
+        return Err(broken(WriteRule::Broken(Reason::Impossible), draft.path));
     };
     let walk = Walk {
         alloc,
@@ -82,20 +83,12 @@ pub fn write_value(
         bound: m.definitions.len(),
         places: places.as_slice(),
     };
-    match named(
-        &walk,
-        *place,
-        value,
-        args,
-        &mut path,
-        left.as_mut_slice(),
-        &mut written,
-    ) {
+    match named(&walk, *place, value, args, left.as_mut_slice(), &mut draft) {
         Ok(()) => {
-            let answer = accepted_with(alloc, written.as_slice(), left, cells.len())?;
-            out.extend_from_slice(written.as_slice())?;
+            let answer = accepted_with(alloc, draft.out.as_slice(), left, cells.len())?;
+            out.extend_from_slice(draft.out.as_slice())?;
             Ok(answer)
         }
-        Err(halt) => Err(stopped(halt, path)),
+        Err(halt) => Err(stopped(halt, draft.path)),
     }
 }
