@@ -1,6 +1,5 @@
 use Rattle.std.proofs.Common.{sym, subst}
 use Rattle.td_num.specs.Lists.{Each}
-use Rattle.td_ir.specs.Fields.{fields_of}
 use Rattle.td_ir.specs.Opcodes.{row_of}
 use Rattle.td_verify.specs.Operands.{HasRegister}
 use Rattle.td_verify.proofs.Registers.{by_operands}
