@@ -13,13 +13,13 @@ pub returns-in_default-clause-ending : goal.returns-in_default-clause-ending
 returns-in_default-clause-ending c = λ sound.
     let a = c.args in
     let missing : slice_get a.m.now.entries a.entry.number ≡ None = search rules in
-    ap (λ (t : Behavior). t.ending) (sym (meaning_is a.m.now a.entry a.args.now a.cells.now a.bytes.now sound) ∙ no_entry a.m.now a.entry a.args.now a.cells.now a.bytes.now missing)
-    ∙ ap (λ tr. Rejected Impossible 0 tr a.cells.now) (sym c.requires.empty_trace)
+    ap (λ (t : Behavior). t.ending) (sym (meaning_is a.m.now a.entry a.args.now a.slate.now.cells.items a.bytes.now sound) ∙ no_entry a.m.now a.entry a.args.now a.slate.now.cells.items a.bytes.now missing)
+    ∙ ap (λ tr. Rejected Impossible 0 tr a.slate.now.cells.items) (sym c.requires.empty_trace)
 
 pub returns-clause-ending : goal.returns-clause-ending
 returns-clause-ending c =
     if_ok_map c.named.result _ _ c.named.ensures.ending (λ v h sound.
     let a = c.args in
-    let whole = entry_is a.m.now a.entry a.args.now a.cells.now a.bytes.now c.in-Some.place c.len.result c.as_slice.result.now (length a.bytes.now) c.in-Some.ensures c.len.ensures (c.as_slice.ensures.value ∙ c.in_ok-places.ensures.ok) refl
-    ∙ meaning_is a.m.now a.entry a.args.now a.cells.now a.bytes.now sound in
+    let whole = entry_is a.m.now a.entry a.args.now a.slate.now.cells.items a.bytes.now c.in-Some.place c.len.result c.as_slice.result.now (length a.bytes.now) c.in-Some.ensures c.len.ensures (c.as_slice.ensures.value ∙ c.in_ok-places.ensures.ok) refl
+    ∙ meaning_is a.m.now a.entry a.args.now a.slate.now.cells.items a.bytes.now sound in
     sym (ap (λ (t : Behavior). t.ending) whole) ∙ h)
