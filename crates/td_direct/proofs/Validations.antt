@@ -31,11 +31,15 @@ lent_trans x y z h k = record {
   rooms = k.rooms ∙ h.rooms;
 }
 
+pub lent_many : (x y : Slate) → IsLent x y → length y.copies.now ≡ length x.copies.now
+lent_many x y h =
+    let room : BufferView → ℕ = λ (v : BufferView). v.room in
+    sym (length-map y.copies.now room) ∙ ap length h.rooms ∙ length-map x.copies.now room
+
 -- behind the first numbers stand two for each buffer
 pub lent_size : (x y : Slate) (first : ℕ) → IsLent x y → length x.cells.now ≡ first + 2 * length x.copies.now → length y.cells.now ≡ first + 2 * length y.copies.now
 lent_size x y first h size =
-    let room : BufferView → ℕ = λ (v : BufferView). v.room in
-    let many : length y.copies.now ≡ length x.copies.now = sym (length-map y.copies.now room) ∙ ap length h.rooms ∙ length-map x.copies.now room in
+    let many = lent_many x y h in
     let cells = h.cells in
     omega (arith, many, cells, size)
 

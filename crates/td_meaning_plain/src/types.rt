@@ -180,11 +180,27 @@ fn one_field(
 {
     let parts = field.parts.as_slice();
     let verdict = content(walk, field, env.as_slice(), start, slate)?;
-    match framed(verdict, ty, Spot::Field(first_name(parts)), start, &mut slate.trace)? {
+    match framed(
+        verdict,
+        ty,
+        Spot::Field(first_name(parts)),
+        start,
+        &mut slate.trace,
+    )? {
         Verdict::Accept { pos } => {
             let value = field_number(&field.element, &field.extent, walk.message, start);
             let cells = slate.cells.as_mut_slice();
-            Ok(check_parts(ty, parts, value, env, walk.places, cells, start, pos, &mut slate.trace)?)
+            Ok(check_parts(
+                ty,
+                parts,
+                value,
+                env,
+                walk.places,
+                cells,
+                start,
+                pos,
+                &mut slate.trace,
+            )?)
         }
         Verdict::Reject { reason, pos } => Ok(Verdict::Reject { reason, pos }),
     }
@@ -207,17 +223,17 @@ fn content(
     if let Some(copy) = field.copy {
         if let Extent::Filling { size, .. } = &field.extent {
             let cells = slate.cells.as_mut_slice();
-            return Ok(copied(copy, value_of(size, env), walk.places, walk.end, start, cells));
+            return Ok(copied(
+                copy,
+                value_of(size, env),
+                walk.places,
+                walk.end,
+                start,
+                cells,
+            ));
         }
     }
-    Ok(shape(
-        walk,
-        &field.element,
-        &field.extent,
-        env,
-        start,
-        slate,
-    )?)
+    Ok(shape(walk, &field.element, &field.extent, env, start, slate)?)
 }
 
 // An element, or an array of them.

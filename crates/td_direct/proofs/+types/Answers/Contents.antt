@@ -80,11 +80,11 @@ fields::validate_content-returns-in_ok-validate_number-in-Number-clause-validate
 
 pub fields::validate_content-returns-in_err-validate_number-in-Number-clause-runs_out : goal.fields::validate_content-returns-in_err-validate_number-in-Number-clause-runs_out
 fields::validate_content-returns-in_err-validate_number-in-Number-clause-runs_out g t c = let p = err_from_is_err_and c.from_residual.result c.from_residual.ensures.1 in rw p.1 (record {
-      later = c.validate_number.ensures.later;
-      stream = c.validate_number.ensures.whole;
-      lent = record { same_cells = refl; same_copies = refl; same_trace = refl; cells = refl; rooms = refl };
-      only = λ b h. only_still g.W.Words.loads c.args.stream.now c.validate_number.new.stream _ c.in_err-validate_number-in-Number.ensures.only;
-    })
+  later = c.validate_number.ensures.later;
+  stream = c.validate_number.ensures.whole;
+  lent = record { same_cells = refl; same_copies = refl; same_trace = refl; cells = refl; rooms = refl };
+  only = λ b h. only_still g.W.Words.loads c.args.stream.now c.validate_number.new.stream _ c.in_err-validate_number-in-Number.ensures.only;
+})
 
 pub fields::validate_content-returns-in_ok-validate_listed_field-in-Listed-clause-validates : goal.fields::validate_content-returns-in_ok-validate_listed_field-in-Listed-clause-validates
 fields::validate_content-returns-in_ok-validate_listed_field-in-Listed-clause-validates g t c =
