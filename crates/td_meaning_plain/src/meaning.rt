@@ -1,6 +1,6 @@
 //! The plain program.
 
-ghost use Rattle.std.specs.Prelude.{◌≡◌, ℕ, ◌<◌, ◌≤◌, ◌^◌, [], IfOk, MatchOption, slice_get, Some, None, length, take, drop};
+ghost use Rattle.std.specs.Prelude.{◌≡◌, ℕ, ◌<◌, ◌^◌, [], IfOk, MatchOption, slice_get, Some, None, length, take, drop};
 ghost use Rattle.td_core.specs.Entries.{entry_definition};
 ghost use Rattle.td_core.specs.Outcome.{copies_by};
 ghost use Rattle.td_meaning.specs.Copies.{buffers_at, opened, outcome};
@@ -90,7 +90,7 @@ fn verdict_of(
     named(&walk, place, args, 0, slate)
 }
 
-// The outcome, of which the first cells are the entry point's.
+// The outcome, of which so many of the first cells are the entry point's.
 fn outcome_from(
     alloc: Global,
     verdict: Verdict,
@@ -98,11 +98,10 @@ fn outcome_from(
     count: usize,
     bytes: &[u8],
 ) -> Result<Outcome, AllocError>
-    requires { count ≤ length slate.cells.items }
     ensures { IfOk result (λ o. o ≡ record { verdict = verdict; trace = slate.trace; cells = take count slate.cells.items; copies = copies_by bytes.now (drop count slate.cells.items) }) }
 {
     let Slate { cells, trace } = slate;
-    let (own, rest) = cells.as_slice().split_at(count);
+    let (own, rest) = cells.as_slice().split_at(count.min(cells.len()));
     Ok(Outcome {
         verdict,
         trace,

@@ -189,14 +189,13 @@ fn one_field(
     )? {
         Verdict::Accept { pos } => {
             let value = field_number(&field.element, &field.extent, walk.message, start);
-            let cells = slate.cells.as_mut_slice();
             Ok(check_parts(
                 ty,
                 parts,
                 value,
                 env,
                 walk.places,
-                cells,
+                slate.cells.as_mut_slice(),
                 start,
                 pos,
                 &mut slate.trace,

@@ -1,5 +1,6 @@
-use Rattle.std.proofs.Common.{rules, ◌≡◌, List, length, refl, sym, ap, ◌∙◌}
+use Rattle.std.proofs.Common.{rules, ◌≡◌, List, length, refl, sym, ap, ◌∙◌, arith}
 use Rattle.std.specs.Prelude.{slice_get, None}
+use Rattle.td_num.specs.Numbers.{places_from}
 use Rattle.td_core.specs.declared.outcome.Reason.TheVariants.{Impossible}
 use Rattle.td_core.specs.Outcome.{Behavior, Rejected}
 use Rattle.td_meaning.specs.Machine.{below}
@@ -20,6 +21,7 @@ pub returns-clause-ending : goal.returns-clause-ending
 returns-clause-ending c =
     if_ok_map c.named.result _ _ c.named.ensures.ending (λ v h sound.
     let a = c.args in
-    let whole = entry_is a.m.now a.entry a.args.now a.slate.now.cells.items a.bytes.now c.in-Some.place c.len.result c.as_slice.result.now (length a.bytes.now) c.in-Some.ensures c.len.ensures (c.as_slice.ensures.value ∙ c.in_ok-places.ensures.ok) refl
+    let many : c.len.result ≡ length a.slate.now.cells.items = omega (arith, c.len.ensures) in
+    let whole = entry_is a.m.now a.entry a.args.now a.slate.now.cells.items a.bytes.now c.in-Some.place c.len-2.result c.as_slice.result.now (length a.bytes.now) c.in-Some.ensures c.len-2.ensures (c.as_slice.ensures.value ∙ c.in_ok-places.ensures.ok ∙ ap (places_from 0) many) refl
     ∙ meaning_is a.m.now a.entry a.args.now a.slate.now.cells.items a.bytes.now sound in
     sym (ap (λ (t : Behavior). t.ending) whole) ∙ h)

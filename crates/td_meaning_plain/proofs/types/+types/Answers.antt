@@ -1,8 +1,9 @@
-use Rattle.std.proofs.Common.{◌≡◌, ℕ, suc, ◌+◌, ◌-◌, List, [], drop, true, false, None, Some, sym, ap, ◌∙◌, arith}
+use Rattle.std.proofs.Common.{◌≡◌, ℕ, suc, ◌+◌, ◌-◌, List, [], ◌++◌, length, take, drop, true, false, None, Some, sym, ap, ◌∙◌, arith}
 use Rattle.std.specs.Prelude.{slice_get}
 use Rattle.std.proofs.lemmas.Option.{gets}
 use Rattle.std.proofs.lemmas.Grind.{common_steps}
 use Rattle.std.proofs.lemmas.List.{drop_all}
+use Rattle.td_num.proofs.Lists.{lent}
 use Rattle.td_core.specs.declared.module.Extent.{Extent}
 use Rattle.td_core.specs.declared.module.Field.{Field as FieldDef}
 use Rattle.td_core.specs.declared.outcome.Spot.TheVariants.{Field}
@@ -17,15 +18,15 @@ use Rattle.td_meaning_plain.proofs.Endings.{empty_at, then_same, field_by, eleme
 use Rattle.td_meaning_plain.proofs.types.+types.Goals as goal
 use Rattle.td_meaning.proofs.Filling.{named_by, accepted_at, fields_none, elements_done}
 
-pub all_elements-returns-then-position-end-clause-ending : goal.all_elements-returns-then-position-end-clause-ending
-all_elements-returns-then-position-end-clause-ending t c =
+pub all_elements-returns-then-position-walk-clause-ending : goal.all_elements-returns-then-position-walk-clause-ending
+all_elements-returns-then-position-walk-clause-ending t c =
     let a = c.args in
     let l = c.loop-turn in
     let each = element_meaning a.walk.now.m.now.listed (below a.walk.now.m.now.listed a.walk.now.m.now.definitions a.walk.now.bound) a.element.now a.env.now a.walk.now.places.now a.walk.now.message.now a.start a.walk.now.end in
     let full = suc (a.walk.now.end - a.start) - l.turn in
     let more = a.walk.now.end - a.start - l.turn in
     let is : full ≡ suc more = omega (arith, c.loop-turn-test.true, c.saturating_sub-size.ensures) in
-    l.invariant.ending ∙ elements_done each full more a.start a.walk.now.end l.position l.slate.cells.items is c.if-position-end.true
+    l.invariant.ending ∙ elements_done each full more a.start a.walk.now.end l.position l.slate.cells.items is c.if-position-walk.true
 
 pub all_elements-returns-in-Reject-clause-ending : goal.all_elements-returns-in-Reject-clause-ending
 all_elements-returns-in-Reject-clause-ending t c =
@@ -36,7 +37,7 @@ all_elements-returns-in-Reject-clause-ending t c =
     let more = a.walk.now.end - a.start - l.turn in
     let is : full ≡ suc more = omega (arith, c.loop-turn-test.true, c.saturating_sub-size.ensures) in
     let o : Ending = ending_of c.in_ok-pos.field-0 c.one_element.new.slate.trace c.one_element.new.slate.cells.items in
-    let on = elements_on each full more a.start a.walk.now.end l.position l.slate.cells.items o is c.if-position-end.false c.in_ok-pos.ensures.ending in
+    let on = elements_on each full more a.start a.walk.now.end l.position l.slate.cells.items o is c.if-position-walk.false c.in_ok-pos.ensures.ending in
     l.invariant.ending ∙ on ∙ ap (λ (v : Verdict). (and_then (plain (ending_of v c.one_element.new.slate.trace c.one_element.new.slate.cells.items)) (elements each more a.start a.walk.now.end)).ending) c.in-Reject.is
 
 pub all_elements-loop-turn-preserved : goal.all_elements-loop-turn-preserved
@@ -48,7 +49,7 @@ all_elements-loop-turn-preserved t c =
     let more = a.walk.now.end - a.start - l.turn in
     let is : full ≡ suc more = omega (arith, c.loop-turn-test.true, c.saturating_sub-size.ensures) in
     let o : Ending = ending_of c.in_ok-pos.field-0 c.one_element.new.slate.trace c.one_element.new.slate.cells.items in
-    let on = elements_on each full more a.start a.walk.now.end l.position l.slate.cells.items o is c.if-position-end.false c.in_ok-pos.ensures.ending in
+    let on = elements_on each full more a.start a.walk.now.end l.position l.slate.cells.items o is c.if-position-walk.false c.in_ok-pos.ensures.ending in
     let fewer : more ≡ suc (a.walk.now.end - a.start) - (l.turn + 1) = omega arith in
     record {
       empty_trace = c.in_ok-pos.ensures.empty_trace c.in-Accept.pos c.in-Accept.is;
@@ -133,11 +134,15 @@ one_field-returns-in_ok-check_parts-in-Accept-clause-ending t c = λ later.
     let rest = λ (q : ℕ) (cells : List ℕ). and_then (parts_meaning a.ty a.start n f.parts env a.walk.now.places.now q cells) (next (extended env n f.parts)) in
     let e = c.in_ok-check_parts-in-Accept.ensures in
     let w : Verdict = c.in_ok-check_parts-in-Accept.field-0 in
-    let parts = (λ k. parts_meaning a.ty a.start (sym c.field_number-value.ensures k) (sym c.as_slice-parts.ensures k) env a.walk.now.places.now c.in-Accept.pos cells) ∙ e.ending in
+    let given : cells ≡ c.as_mut_slice.result.now = sym c.as_mut_slice.ensures.value in
+    let left : List ℕ = c.check_parts.new.cells in
+    let back : left ≡ take c.content.new.slate.cells.len (left ++ drop (length left) cells) = sym (lent c.content.new.slate.cells.len left cells (c.check_parts.auto.cells ∙ c.as_mut_slice.ensures.len)) in
+    let parts = (λ k. parts_meaning a.ty a.start (sym c.field_number-value.ensures k) (sym c.as_slice-parts.ensures k) env a.walk.now.places.now c.in-Accept.pos (given k)) ∙ e.ending in
     field_by a.walk.now.m.now.listed (below a.walk.now.m.now.listed a.walk.now.m.now.definitions a.walk.now.bound) a.ty f later env a.walk.now.places.now a.walk.now.message.now a.walk.now.end a.start a.slate.now.cells.items _ framed
     ∙ ap (λ (u : Verdict). (and_then (plain (ending_of u c.framed.new.trace cells)) rest).ending) c.in-Accept.is
     ∙ ap (λ (t : Behavior). (and_then t (next (extended env n f.parts))).ending) parts
-    ∙ ap (λ (t : Behavior). t.ending) (then_same w c.check_parts.new.trace c.check_parts.new.cells (next (extended env n f.parts)) (next c.check_parts.new.env.items) (λ q g. ap (λ vs. next vs q c.check_parts.new.cells) ((λ k. extended env (sym c.field_number-value.ensures k) (sym c.as_slice-parts.ensures k)) ∙ sym (e.scope q g))))
+    ∙ ap (λ (t : Behavior). t.ending) (then_same w c.check_parts.new.trace left (next (extended env n f.parts)) (next c.check_parts.new.env.items) (λ q g. ap (λ vs. next vs q left) ((λ k. extended env (sym c.field_number-value.ensures k) (sym c.as_slice-parts.ensures k)) ∙ sym (e.scope q g))))
+    ∙ ap (λ xs. (and_then (plain (ending_of w c.check_parts.new.trace xs)) (next c.check_parts.new.env.items)).ending) back
 
 pub shape-returns-in_ok-filling-in-Filling-clause-ending : goal.shape-returns-in_ok-filling-in-Filling-clause-ending
 shape-returns-in_ok-filling-in-Filling-clause-ending t c =
