@@ -4,7 +4,7 @@ use Rattle.std.specs.Prelude.{Result, Ok, Err, IfOk, nat_le}
 use Rattle.std.proofs.lemmas.Bool.{leb-true, leb-false}
 use Rattle.std.proofs.lemmas.List.{drop_more, drop_all, take_all, map-append, length-drop}
 use Rattle.td_num.specs.Numbers.{places_from}
-use Rattle.td_core.specs.Outcome.{Ending, Behavior, bytes_at, copies_by}
+use Rattle.td_core.specs.Outcome.{bytes_at, copies_by}
 use Rattle.td_core.specs.declared.outcome.Verdict.{Verdict}
 use Rattle.td_core.specs.declared.outcome.Verdict.TheVariants.{Accept, Reject}
 use Rattle.td_core.specs.declared.outcome.TraceFrame.{TraceFrame}

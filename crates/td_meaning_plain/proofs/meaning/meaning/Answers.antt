@@ -1,9 +1,7 @@
-use Rattle.std.proofs.Common.{◌≡◌, ◌++◌, ℕ, List, length, take, drop, refl, sym, ap, ◌∙◌, subst, arith}
-use Rattle.std.proofs.Math.Seq.{take-append_seam}
-use Rattle.td_core.specs.Outcome.{outcome_of, copies_by}
+use Rattle.std.proofs.Common.{length, sym, ap, ◌∙◌, subst}
+use Rattle.td_core.specs.Outcome.{outcome_of}
 use Rattle.td_expr.specs.Sound.{Sound}
 use Rattle.td_meaning.specs.Meaning.{meaning}
-use Rattle.td_meaning.specs.Copies.{opened}
 use Rattle.td_meaning.specs.Throughout.{Throughout}
 use Rattle.td_meaning_plain.proofs.Copied.{outcome_by}
 use Rattle.td_meaning_plain.proofs.meaning.meaning.Goals as goal

@@ -1,4 +1,4 @@
-use Rattle.std.proofs.Common.{◌≡◌, ℕ, List, ap, ◌∙◌, take, drop, min, length, arith}
+use Rattle.std.proofs.Common.{◌≡◌, ap, ◌∙◌, take, drop, min, length, arith}
 use Rattle.td_core.specs.Outcome.{copies_by}
 use Rattle.td_meaning_plain.proofs.Copied.{take_least, drop_least}
 use Rattle.td_meaning_plain.proofs.meaning.outcome_from.Goals as goal

@@ -1,9 +1,8 @@
-use Rattle.std.proofs.Common.{rules, ◌≡◌, List, length, refl, sym, ap, ◌∙◌, arith}
+use Rattle.std.proofs.Common.{rules, ◌≡◌, length, refl, sym, ap, ◌∙◌, arith}
 use Rattle.std.specs.Prelude.{slice_get, None}
 use Rattle.td_num.specs.Numbers.{places_from}
 use Rattle.td_core.specs.declared.outcome.Reason.TheVariants.{Impossible}
 use Rattle.td_core.specs.Outcome.{Behavior, Rejected}
-use Rattle.td_meaning.specs.Machine.{below}
 use Rattle.td_meaning.proofs.MachineMeaning.{meaning_is}
 use Rattle.td_meaning_plain.proofs.Copied.{if_ok_map}
 use Rattle.td_meaning.proofs.Filling.{no_entry}
