@@ -125,16 +125,10 @@ pub fn run_prepared(
         mut words,
         mut loads,
     } = prepared;
+    let entry = start.entry;
+    let args = start.args;
     frame.set_cells(start.cells);
-    let verdict = validate_recorded(
-        code,
-        start.entry,
-        start.args,
-        message,
-        frame,
-        &mut words,
-        &mut loads,
-    );
+    let verdict = validate_recorded(code, entry, args, message, frame, &mut words, &mut loads);
     Ran { verdict, loads }
 }
 

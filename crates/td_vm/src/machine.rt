@@ -289,9 +289,10 @@ fn run_turns<W: Words, L: Ledger, C: Counter>(
         turns (suc (end_of stream.old - position stream.old)) (block stretch.now.level.now.code.parts.now b stretch.now.level.now.n stretch.now.level.now.places.now (stretch.now.first + 1)) behind (state_of regs.old output.old.slate.cells.now act.old stream.old)
         ≡ loop_exit result behind (state_of regs.new output.new.slate.cells.now act.new stream.new) (frames_of output.new.trace.now) touched taken) }
 {
+    let first = stretch.first + 1;
     let body = Stretch {
         level: stretch.level,
-        first: stretch.first + 1,
+        first,
         to: stretch.to,
     };
     'turns: while stream.need(1) {

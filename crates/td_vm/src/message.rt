@@ -1,14 +1,15 @@
 //! Runs a routine over a message, with cells and buffers that are opened first.
 
-ghost use Rattle.std.specs.Prelude.{◌≡◌, ℕ, ◌-◌, ◌*◌, ◌≤◌, List, [], ◌++◌, length, map, take, replicate};
+ghost use Rattle.std.specs.Prelude.{◌≡◌, ℕ, ◌-◌, ◌*◌, ◌≤◌, List, [], ◌++◌, length, map, take, replicate, vec_capacity};
 ghost use Rattle.td_ir.specs.Tables.{routine_of};
 ghost use Rattle.td_ir.specs.Run.{run_routine};
 ghost use Rattle.td_stream.specs.Layouts.{count_in};
 ghost use Rattle.td_stream.specs.Loads.{IsFetchedOnce};
 ghost use Rattle.td_stream.specs.Copies.{rooms_of, held_by, empty_with};
+ghost use Rattle.td_vm_step.specs.Stepping.{IsLent};
 ghost use Rattle.td_vm.specs.Exits.{frames_of};
 ghost use Rattle.td_vm.specs.Outcomes.{IsRun};
-ghost use Rattle.td_vm.specs.Machine.{HasEntryRoom, IsKept, SameRoom, AreRoomy};
+ghost use Rattle.td_vm.specs.Machine.{HasEntryRoom, IsKept, AreRoomy};
 ghost use Rattle.td_vm.specs.Need.{cells as cells_in};
 
 use crate::entry::run_entry;
@@ -18,6 +19,7 @@ use std::sync::ledger::Ledger;
 use td_core::outcome::Verdict;
 use td_stream::layout::Layout;
 use td_stream::words::Words;
+use td_vm_step::activation::TraceRoom;
 use td_vm_step::slate::Slate;
 use td_vm_step::steps::{Counter, Steps};
 use td_vm_step::tables::routine_at;
@@ -38,40 +40,46 @@ pub fn run_message<W: Words, L: Ledger, C: Counter>(
     call: &Call<'_, '_>,
     layout: &Layout,
     spare: &mut Spare<'_, '_>,
-    output: &mut Output<'_, '_, '_>,
+    slate: &mut Slate<'_, '_>,
+    trace: &mut TraceRoom,
     words: &mut W,
     steps: &mut Steps<L, C>,
 ) -> Verdict
-    requires room { HasEntryRoom call.now.code call.now.n spare.old.places.now spare.old.registers.now output.old.trace.now }
+    requires room { HasEntryRoom call.now.code call.now.n spare.old.places.now spare.old.registers.now trace.old }
     requires args { length call.now.args.now ≡ (routine_of call.now.code.parts.now call.now.n).params }
-    requires cell_room { cells_in call.now.code.parts.now call.now.n ≤ length output.old.slate.cells.now }
-    requires rooms { AreRoomy (routine_of call.now.code.parts.now call.now.n).buffers (rooms_of output.old.slate.copies.now) }
-    requires none { output.old.slate.copies.now ≡ map empty_with (rooms_of output.old.slate.copies.now) }
+    requires cell_room { cells_in call.now.code.parts.now call.now.n ≤ length slate.old.cells.now }
+    requires rooms { AreRoomy (routine_of call.now.code.parts.now call.now.n).buffers (rooms_of slate.old.copies.now) }
+    requires none { slate.old.copies.now ≡ map empty_with (rooms_of slate.old.copies.now) }
     requires words { count_in layout.now ≤ W.size words.old }
     requires fresh { W.loads words.old ≡ [] }
     ensures reaches { W.reaches words.old words.new }
     ensures kept { IsKept spare.old spare.new }
-    ensures lent { SameRoom output.old output.new }
-    ensures frames { output.new.trace.now.count ≤ length output.new.trace.now.frames.items }
+    ensures trace_room { length trace.new.frames.items ≡ length trace.old.frames.items }
+    ensures trace_memory { vec_capacity trace.new.frames ≡ vec_capacity trace.old.frames }
+    ensures frames { trace.new.count ≤ length trace.new.frames.items }
+    ensures lent { IsLent slate.old slate.new }
+    ensures rooms { rooms_of slate.new.copies.now ≡ rooms_of slate.old.copies.now }
     ensures fetched { IsFetchedOnce layout.now (W.loads words.new) (λ (b : List ℕ).
         IsRun layout.now (routine_of call.now.code.parts.now call.now.n).cells b (W.loads words.new)
-        (run_routine call.now.code.parts.now call.now.n call.now.args.now (take (routine_of call.now.code.parts.now call.now.n).cells output.old.slate.cells.now ++ replicate (2 * length (routine_of call.now.code.parts.now call.now.n).buffers) 0) b)
+        (run_routine call.now.code.parts.now call.now.n call.now.args.now (take (routine_of call.now.code.parts.now call.now.n).cells slate.old.cells.now ++ replicate (2 * length (routine_of call.now.code.parts.now call.now.n).buffers) 0) b)
         (record {
           verdict = result;
-          trace = frames_of output.new.trace.now;
-          cells = take (routine_of call.now.code.parts.now call.now.n).cells output.new.slate.cells.now;
-          copies = held_by (take (length (routine_of call.now.code.parts.now call.now.n).buffers) output.new.slate.copies.now);
+          trace = frames_of trace.new;
+          cells = take (routine_of call.now.code.parts.now call.now.n).cells slate.new.cells.now;
+          copies = held_by (take (length (routine_of call.now.code.parts.now call.now.n).buffers) slate.new.copies.now);
         }) steps.old steps.new) }
 {
-    output.trace.count = 0;
+    trace.count = 0;
     let routine = routine_at(call.code.parts, call.n);
-    let all = &mut *output.slate.cells;
-    let buffers = &mut *output.slate.copies;
-    let trace = &mut *output.trace;
+    let all = &mut *slate.cells;
+    let buffers = &mut *slate.copies;
     let (cells, _) = all.split_at_mut(place_count(routine));
     open_cells(cells, routine.cells as usize);
     let (copies, _) = buffers.split_at_mut(routine.buffers.len());
-    let slate = Slate { cells, copies };
-    let mut front = Output { slate, trace };
-    run_entry(call, layout, spare, &mut front, words, steps)
+    let front = Slate { cells, copies };
+    let mut output = Output {
+        slate: front,
+        trace,
+    };
+    run_entry(call, layout, spare, &mut output, words, steps)
 }

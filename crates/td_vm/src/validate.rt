@@ -13,7 +13,7 @@ ghost use Rattle.td_vm.specs.Need.{most_rooms};
 ghost use Rattle.td_vm.specs.Outcomes.{IsRun};
 
 use crate::arm::{NeedKind, begins_of, buffer_count, most_cells, need_of, rooms_for};
-use crate::level::{Call, Output, Spare};
+use crate::level::{Call, Spare};
 use crate::message::run_message;
 use crate::outcome::held_by_first;
 use std::alloc::{AllocError, Global};
@@ -258,8 +258,14 @@ pub fn validate<W: Words, L: Ledger, C: Counter>(
     let mut spare = Spare { places, registers };
     let cells = frame.cells.as_mut_slice();
     let copies = frame.copies.buffers.as_mut_slice();
-    let slate = Slate { cells, copies };
-    let trace = &mut frame.trace;
-    let mut output = Output { slate, trace };
-    run_message(&call, layout, &mut spare, &mut output, words, steps)
+    let mut slate = Slate { cells, copies };
+    run_message(
+        &call,
+        layout,
+        &mut spare,
+        &mut slate,
+        &mut frame.trace,
+        words,
+        steps,
+    )
 }

@@ -239,8 +239,8 @@ run_block-returns-in-Returns-clause-later g t c = later_trans g.met.W.Words.reac
 pub run_block-returns-in-Turns-clause-later : goal.run_block-returns-in-Turns-clause-later
 run_block-returns-in-Turns-clause-later g t c = later_trans g.met.W.Words.reaches_on c.args.stream.now c.steps.stream c.step.new.stream c.steps.invariant.later c.in-Turns.ensures.later
 
-pub run_turns-overflow_add-stretch : goal.run_turns-overflow_add-stretch
-run_turns-overflow_add-stretch = turns.run_turns-overflow_add-stretch
+pub run_turns-overflow_add-first : goal.run_turns-overflow_add-first
+run_turns-overflow_add-first = turns.run_turns-overflow_add-first
 
 pub call-set_registers-requires : goal.call-set_registers-requires
 call-set_registers-requires = calls.call-set_registers-requires

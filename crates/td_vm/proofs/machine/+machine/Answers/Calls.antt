@@ -56,7 +56,7 @@ call-returns-clause-idle g t c =
     let C = c.args.level.now.code.parts.now in
     let m = c.args.callee.routine in
     let l : m < length C.routines = omega (arith, c.requires.callee.lower, c.requires.room.routine) in
-    call_idle C m _ _ _ _ c.run_block-exit.result c.requires.room.runnable (c.requires.room.begins.each m (omega (arith, l))) c.run_block-exit.ensures.idle_return (sym c.widen.ensures.pos)
+    call_idle C m _ _ _ _ c.run_block-exit.result c.requires.room.runnable (c.requires.room.begins.each m (omega (arith, l))) c.run_block-exit.ensures.idle_return (sym c.widen.ensures.moves.at)
 
 pub call-returns-clause-same : goal.call-returns-clause-same
 call-returns-clause-same g t c = λ start outer.
@@ -75,12 +75,12 @@ call-returns-clause-same g t c = λ start outer.
     let args = registers_from c.args.regs.now c.args.callee.first r.params in
     let regs = begun r args c.arguments.result.now c.set_registers.new.mine _ c.set_registers.ensures (c.arguments.ensures ∙ ap (λ k. registers_from c.args.regs.now c.args.callee.first k.params) is) (c.split_at_mut-mine.ensures.front_len ∙ ap (λ k. k.registers) is) in
     let turn = no_turn C m _ c.run_block-exit.result c.requires.room.runnable l b' c.run_block-exit.ensures.inside in
-    ran_after s0 s1 s2 c.args.steps.now c.run_block-exit.new.steps _ _ c.run_block-exit.ensures.later c.widen.ensures.later c.run_block-exit.ensures.same c.widen.ensures.looked (λ b x j p.
+    ran_after s0 s1 s2 c.args.steps.now c.run_block-exit.new.steps _ _ c.run_block-exit.ensures.later c.widen.ensures.moves.later c.run_block-exit.ensures.same c.widen.ensures.moves.looked (λ b x j p.
     let state = entered_is r args c.set_registers.new.mine S c.pos.result c.end-end.result regs c.pos.ensures c.end-end.ensures in
     let ran = ap (λ q. block C b m q (first_of C m) (entered r args S)) (sym places)
     ∙ ap (λ f. block C b m c.set_callee_places.new.mine f (entered r args S)) (sym b')
     ∙ ap (λ u. block C b m c.set_callee_places.new.mine (slice_index c.args.level.now.code.begins.now m) u) state ∙ p in
-    call_left c.run_block-exit.result _ (position s2) (frames_of c.run_block-exit.new.output.trace.now) x j _ turn ran (sym c.widen.ensures.pos))
+    call_left c.run_block-exit.result _ (position s2) (frames_of c.run_block-exit.new.output.trace.now) x j _ turn ran (sym c.widen.ensures.moves.at))
 
 pub call-set_registers-requires : goal.call-set_registers-requires
 call-set_registers-requires g t c =
@@ -92,7 +92,7 @@ call-set_registers-requires g t c =
     omega (arith, count, ap (λ x. x.params) is, ap (λ x. x.registers) is, (c.requires.room.runnable.code.routines m l).room, c.split_at_mut-mine.ensures.front_len)
 
 pub call-returns-clause-later : goal.call-returns-clause-later
-call-returns-clause-later g t c = later_trans g.met.W.Words.reaches_on c.args.stream.now c.run_block-exit.new.stream c.widen.new.self c.run_block-exit.ensures.later c.widen.ensures.later
+call-returns-clause-later g t c = later_trans g.met.W.Words.reaches_on c.args.stream.now c.run_block-exit.new.stream c.widen.new.self c.run_block-exit.ensures.later c.widen.ensures.moves.later
 
 pub call-returns-clause-no_turn : goal.call-returns-clause-no_turn
 call-returns-clause-no_turn g t c =
@@ -105,7 +105,7 @@ call-returns-clause-kept g t c = record { same_places = refl; same_registers = r
 
 pub call-returns-clause-held : goal.call-returns-clause-held
 call-returns-clause-held g t c = λ b h k.
-    let d = carried c.args.stream.now c.run_block-exit.new.stream c.widen.new.self b c.run_block-exit.ensures.later c.widen.ensures.later h in
+    let d = carried c.args.stream.now c.run_block-exit.new.stream c.widen.new.self b c.run_block-exit.ensures.later c.widen.ensures.moves.later h in
     c.run_block-exit.ensures.held b d.0 k
 
 pub call-place_count-requires : goal.call-place_count-requires

@@ -95,8 +95,8 @@ run_turns-returns-clause-same g t c =
     let over : end_of s - position s ≡ 0 = none_left (end_of s - position s) (λ h. let a = c.need.ensures.1 h in let b = c.turns-test.false in cc) in
     ran_weaker c.args.stream.now s c.args.steps.now c.turns.steps _ _ i.same.2 (λ b x j p behind. p behind ∙ ap (after x j) (turns_over i.same.0 _ behind _ over i.whole.within))
 
-pub run_turns-overflow_add-stretch : goal.run_turns-overflow_add-stretch
-run_turns-overflow_add-stretch g t c =
+pub run_turns-overflow_add-first : goal.run_turns-overflow_add-first
+run_turns-overflow_add-first g t c =
     let w = loop_whole c.args.stretch.now.level.now.code.parts.now c.args.stretch.now.level.now.n c.args.stretch.now.first c.args.stretch.now.to c.requires.room.runnable c.requires.place c.requires.loops in
     omega (arith, w.body, c.well_formed)
 
