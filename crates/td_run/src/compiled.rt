@@ -23,7 +23,6 @@ use td_vm::validate::{Frame, validate};
 use td_vm_step::steps::{Counter, Steps, Told, Untold};
 
 // Where steps are counted: the blank of a ledger, and the counter that they are told to.
-#[derive(Drop)]
 struct Tally<C: Counter> {
     blank: Blank,
     counter: C,

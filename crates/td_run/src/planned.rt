@@ -134,7 +134,7 @@ pub fn run_prepared(
 
 // How a message lies that has a layout, or is plain.
 fn message_in<'a>(layout: Option<&'a Layout>, plain: &'a Layout) -> &'a Layout
-    ensures { (n : ℕ) → plain.entry.now ≡ laid n None → result.now ≡ laid n (option_map (λ l. l.now) layout.entry) }
+    ensures { (n : ℕ) → plain.now ≡ laid n None → result.now ≡ laid n (option_map (λ l. l.now) layout.entry) }
 {
     match layout {
         None => plain,
