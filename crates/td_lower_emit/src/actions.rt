@@ -87,7 +87,10 @@ fn write_statements(
             Ok(())
         }
         Step::Abort => {
-            code.write(Instr::Fail { reason: ACTION, site })?;
+            code.write(Instr::Fail {
+                reason: ACTION,
+                site,
+            })?;
             Ok(())
         }
     }

@@ -40,7 +40,10 @@ fn write_filling_constant(
         (constant_step t size site (cond (divides step size) (each_inner t element.now u site) (Uneven site)))) }
 {
     if size >= 1 << 32 {
-        code.write(Instr::Fail { reason: NOT_ENOUGH, site })?;
+        code.write(Instr::Fail {
+            reason: NOT_ENOUGH,
+            site,
+        })?;
         return Ok(false);
     }
     code.write(Instr::NarrowK { bytes: size, site })?;
@@ -64,7 +67,10 @@ fn write_once_filling_constant(
         (constant_step t size site (cond (equals step size) (one_inner t element.now u site) (Uneven site)))) }
 {
     if size >= 1 << 32 {
-        code.write(Instr::Fail { reason: NOT_ENOUGH, site })?;
+        code.write(Instr::Fail {
+            reason: NOT_ENOUGH,
+            site,
+        })?;
         return Ok(false);
     }
     code.write(Instr::NarrowK { bytes: size, site })?;
@@ -206,7 +212,10 @@ fn write_up_to_zero(
         | Element::Unit
         | Element::Rest
         | Element::Zeros => {
-            code.write(Instr::Fail { reason: NOT_ENOUGH, site })?;
+            code.write(Instr::Fail {
+                reason: NOT_ENOUGH,
+                site,
+            })?;
             Ok(false)
         }
     }

@@ -29,7 +29,10 @@ fn write_copied_constant(
     ensures { IfOk result (λ on. GoesOn on code.old code.new (constant_step t size site (CopyAll (suc t) buffer size site))) }
 {
     if size >= 1 << 32 {
-        code.write(Instr::Fail { reason: NOT_ENOUGH, site })?;
+        code.write(Instr::Fail {
+            reason: NOT_ENOUGH,
+            site,
+        })?;
         return Ok(false);
     }
     code.write(Instr::NarrowK { bytes: size, site })?;

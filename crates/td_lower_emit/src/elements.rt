@@ -70,7 +70,10 @@ pub fn write_exactly(
             })?;
             let place = code.place();
             code.write(Instr::Mark)?;
-            code.write(Instr::Fail { reason: LIST_SIZE, site })?;
+            code.write(Instr::Fail {
+                reason: LIST_SIZE,
+                site,
+            })?;
             land(code, place, true, u + 1);
             Ok(())
         }
@@ -141,7 +144,10 @@ pub fn write_each(
             Ok(())
         }
         Element::Unit | Element::Rest | Element::Zeros => {
-            code.write(Instr::Fail { reason: LIST_SIZE, site })?;
+            code.write(Instr::Fail {
+                reason: LIST_SIZE,
+                site,
+            })?;
             Ok(())
         }
     }
@@ -200,7 +206,10 @@ pub fn write_each_if(
         write_each(code, t, u, site, element)?;
         return Ok(());
     }
-    code.write(Instr::Fail { reason: LIST_SIZE, site })?;
+    code.write(Instr::Fail {
+        reason: LIST_SIZE,
+        site,
+    })?;
     Ok(())
 }
 
@@ -220,6 +229,9 @@ pub fn write_one_if(
         write_one(code, t, u, site, element)?;
         return Ok(());
     }
-    code.write(Instr::Fail { reason: LIST_SIZE, site })?;
+    code.write(Instr::Fail {
+        reason: LIST_SIZE,
+        site,
+    })?;
     Ok(())
 }

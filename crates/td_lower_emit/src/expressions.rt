@@ -48,12 +48,7 @@ fn write_operation(code: &mut Writer, t: u16, operator: u8) -> Result<(), AllocE
 }
 
 // Writes an operator on register `t` and a number, which comes into the next.
-fn write_by_number(
-    code: &mut Writer,
-    t: u16,
-    operator: u8,
-    number: u64,
-) -> Result<(), AllocError>
+fn write_by_number(code: &mut Writer, t: u16, operator: u8, number: u64) -> Result<(), AllocError>
     requires { t + 1 < 2 ^ 16 }
     ensures { OnOk result (Writes code.old code.new (by_number_then operator number t)) }
 {

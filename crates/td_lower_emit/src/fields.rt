@@ -78,7 +78,10 @@ pub fn write_listed(
     })?;
     let place = code.place();
     code.write(Instr::Mark)?;
-    code.write(Instr::Fail { reason: CONSTRAINT, site })?;
+    code.write(Instr::Fail {
+        reason: CONSTRAINT,
+        site,
+    })?;
     land(code, place, true, t);
     Ok(())
 }
