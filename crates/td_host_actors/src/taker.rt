@@ -6,7 +6,7 @@ ghost use Rattle.td_host_actors.specs.Actors.{IsTakerReady};
 
 use crate::actor::{Desk, Taker};
 use td_ring::naming::Naming;
-use td_takes::{RingAt, run_ring};
+use td_takes::{RingAt, Validator, run_ring};
 
 /// Makes all takes of a ring, each with the next of the rooms. Messages are validated under version 0, whatever is published. It
 /// takes no memory and waits for nobody.
@@ -29,15 +29,10 @@ pub fn run_taker<J: Naming>(desk: &Desk<J>, taker: &mut Taker)
         job: &*ring,
         number: *number,
     };
-    run_ring(
-        &versions[0].code,
-        &desk.job,
-        &desk.shared,
-        &at,
-        descr,
-        seat,
-        frame,
-        rooms,
-        takes,
-    );
+    let validator = Validator {
+        code: &versions[0].code,
+        job: &desk.job,
+        shared: &desk.shared,
+    };
+    run_ring(&validator, &at, descr, seat, frame, rooms, takes);
 }

@@ -1,8 +1,6 @@
 use Rattle.std.proofs.Common.{rules, ◌≡◌, ◌<◌, ◌≤◌, length, vec_capacity, List, refl, sym, ap, ◌∙◌, subst, arith}
 use Rattle.std.specs.List.{All}
 use Rattle.std.proofs.lemmas.List.Elements.{All-nil, All-push}
-use Rattle.td_stream.specs.Layouts.{AreWithin}
-use Rattle.td_posts.specs.Posts.{layout_of, all_mails}
 use Rattle.td_host_actors.specs.Acting.{AreArmed, IsInRoom, most_frames, RanWorker}
 use Rattle.td_ring.specs.Ring.{PassState}
 use Rattle.td_ring.specs.Tickets.{DrawerState}
@@ -50,10 +48,9 @@ loop-seat-preserved g c =
     let e = c.answer_now-reply.ensures in
     let less : c.draw.result < length mails = search rules in
     let free : length l.replies.items < length mails = search rules in
-    let all : mails ≡ all_mails 1 job.guests = c.as_slice-mails.ensures.value ∙ c.requires.mails in
     let In : Reply → Type 0 = IsInRoom c.args.desk.now.codes.codes job in
     let kept : In r = e.memory (most_frames c.args.desk.now.codes.codes) (c.requires.says c.take-post.result c.take-post.ensures.named).memory in
-    let read = subst (λ (ms : List Mail). HasLoaded (layout_in ms r) l.seat c.answer_now-reply.new.seat r.loads.list) all e.read in
+    let read = subst (λ (ms : List Mail). HasLoaded (layout_in ms r) l.seat c.answer_now-reply.new.seat r.loads.list) c.requires.mails e.read in
     record {
       seat = e.table ∙ i.seat;
       pass = ap (λ (h : PassState). h.queue) c.take-post.ensures.pass ∙ i.pass;
@@ -65,12 +62,6 @@ loop-seat-preserved g c =
       done = answers job (length mails) w.seat l.seat w.pass l.pass w.drawer l.drawer w.swap l.swap l.replies.items i.done c.answer_now-reply.new.seat c.take-post.new.pass c.draw.new.seat c.answer_now-reply.new.swap c.draw.result c.take-post.result r c.push_reserved.new.self.items
           c.draw.ensures less c.take-post.ensures.pass e.name e.answered read e.swap free c.push_reserved.ensures.items;
     }
-
-pub answer_now-reply-requires-clause-mails : goal.answer_now-reply-requires-clause-mails
-answer_now-reply-requires-clause-mails g c = c.as_slice-mails.ensures.value ∙ c.requires.mails
-
-pub answer_now-reply-requires-clause-inside : goal.answer_now-reply-requires-clause-inside
-answer_now-reply-requires-clause-inside g c = subst (All (λ (m : Mail). AreWithin c.args.desk.now.shared.count (layout_of m))) (sym c.as_slice-mails.ensures.value) c.requires.inside
 
 pub returns-clause-ran : goal.returns-clause-ran
 returns-clause-ran g c =

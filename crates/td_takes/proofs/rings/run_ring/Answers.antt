@@ -9,7 +9,7 @@ pub loop-i-init : goal.loop-i-init
 loop-i-init c =
     let a = c.args in
     record {
-      running = begins a.job.now a.descr.now.code a.descr.now.room a.ring.now.job.now a.ring.now.number a.seat.now a.descr.now a.takes.now.items c.requires.empty c.requires.none;
+      running = begins a.validator.now.job.now a.descr.now.code a.descr.now.room a.ring.now.job.now a.ring.now.number a.seat.now a.descr.now a.takes.now.items c.requires.empty c.requires.none;
       armed = c.requires.armed;
       rooms = c.requires.rooms;
       as_many = let n = c.requires.as_many in omega (arith, n);
@@ -21,8 +21,8 @@ take_once-take-requires-clause-rooms c =
     let a = c.args in
     let l = c.loop-i in
     let out : l.rooms.items ≡ c.in-Some.room ∷ c.pop_front.new.self.items = c.pop_front.ensures.items ∙ ap (λ o. option_to_list o ++ c.pop_front.new.self.items) c.in-Some.is in
-    let first = first_room a.job.now (frames_of a.code.now) (frames_of a.descr.now.code) a.ring.now.job.now.most l.rooms.items c.pop_front.new.self.items c.in-Some.room l.invariant.rooms out in
-    subst (λ (x : Parts). IsRoom a.job.now (frames_of a.code.now) (frames_of x) a.ring.now.job.now.most c.in-Some.room) (sym l.invariant.running.code) first.0
+    let first = first_room a.validator.now.job.now (frames_of a.validator.now.code.now) (frames_of a.descr.now.code) a.ring.now.job.now.most l.rooms.items c.pop_front.new.self.items c.in-Some.room l.invariant.rooms out in
+    subst (λ (x : Parts). IsRoom a.validator.now.job.now (frames_of a.validator.now.code.now) (frames_of x) a.ring.now.job.now.most c.in-Some.room) (sym l.invariant.running.code) first.0
 
 pub loop-i-preserved : goal.loop-i-preserved
 loop-i-preserved c =
@@ -31,10 +31,10 @@ loop-i-preserved c =
     let v = l.invariant in
     let t = c.take_once-take in
     let out : l.rooms.items ≡ c.in-Some.room ∷ c.pop_front.new.self.items = c.pop_front.ensures.items ∙ ap (λ o. option_to_list o ++ c.pop_front.new.self.items) c.in-Some.is in
-    let rest = first_room a.job.now (frames_of a.code.now) (frames_of a.descr.now.code) a.ring.now.job.now.most l.rooms.items c.pop_front.new.self.items c.in-Some.room v.rooms out in
+    let rest = first_room a.validator.now.job.now (frames_of a.validator.now.code.now) (frames_of a.descr.now.code) a.ring.now.job.now.most l.rooms.items c.pop_front.new.self.items c.in-Some.room v.rooms out in
     let shorter = ap (λ (rs : List Room). length rs) out in
     record {
-      running = goes_on a.job.now a.descr.now.code a.descr.now.room a.ring.now.job.now a.ring.now.number l.i a.seat.now l.seat t.new.seat a.descr.now l.descr t.new.descr l.takes.items c.push_reserved.new.self.items t.result
+      running = goes_on a.validator.now.job.now a.descr.now.code a.descr.now.room a.ring.now.job.now a.ring.now.number l.i a.seat.now l.seat t.new.seat a.descr.now l.descr t.new.descr l.takes.items c.push_reserved.new.self.items t.result
           v.running t.ensures.table t.ensures.descr t.ensures.ring t.ensures.number t.ensures.take t.ensures.read refl refl c.push_reserved.ensures.items;
       armed = t.ensures.armed;
       rooms = rest.1;
