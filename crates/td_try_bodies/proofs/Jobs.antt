@@ -49,12 +49,12 @@ pub run_is_meant : (c : Parts) (m : Module) (job : RunJob) (outcome : Outcome) (
 run_is_meant c m job outcome loads args cells words stores layout of sound room p q r run =
     let R : List ℕ → List ℕ → Option (List Stretch) → Type 0 = λ a z l. IsRunBy c (input_by job a z words stores l) outcome loads in
     let h : R job.args job.cells job.layout = subst (λ l. R job.args job.cells l) r (subst (λ z. R job.args z layout) q (subst (λ a. R a cells layout) p run)) in
-    λ b bytes carried. h.meant m b of carried (sound b bytes (carried.size ∙ room.long))
+    λ b bytes carried. (h.validated.holds b carried).meant m of (sound b bytes (carried.size ∙ room.long))
 
 -- and its loads are of words of the message
 pub run_is_inside : (c : Parts) (job : RunJob) (outcome : Outcome) (loads : List Load) (args cells words : List ℕ) (stores : List PlannedStore) (layout : Option (List Stretch)) → layout ≡ job.layout
     → IsRunBy c (input_by job args cells words stores layout) outcome loads → Inside (laid job.length job.layout) loads
-run_is_inside c job outcome loads args cells words stores layout r run = subst (λ (l : Option (List Stretch)). Inside (laid job.length l) loads) r run.inside
+run_is_inside c job outcome loads args cells words stores layout r run = subst (λ (l : Option (List Stretch)). Inside (laid job.length l) loads) r run.validated.inside
 
 -- a run whose outcome is the meaning's, from lists that are alike, is meant
 pub outcome_is_meant : (m : Module) (job : RunJob) (loads : List Load) (args start left cells : List ℕ) (held copies : List (List ℕ)) (verdict : Verdict) (trace : List TraceFrame) (layout : List Stretch) → IsSoundJob m job → HasRoom job
