@@ -1,6 +1,7 @@
 //! Takers, each of which looks at one ring.
 
 ghost use Rattle.td_takes.specs.Takes.{RanRing};
+ghost use Rattle.td_takes.specs.Memory.{KeepRooms};
 ghost use Rattle.td_host_actors.specs.Replies.{IsJobCode};
 ghost use Rattle.td_host_actors.specs.Actors.{IsTakerReady};
 
@@ -13,7 +14,8 @@ use td_takes::{RingAt, Validator, run_ring};
 pub fn run_taker<J: Naming>(desk: &Desk<J>, taker: &mut Taker)
     requires ready { IsTakerReady desk.now.shared desk.now.codes.codes desk.now.job taker.old }
     requires code { IsJobCode desk.now.codes.codes desk.now.job }
-    ensures { RanRing desk.now.job taker.old.descr.code taker.old.descr.room taker.old.ring taker.old.number taker.old.seat taker.new.seat taker.new.takes.items }
+    ensures ran { RanRing desk.now.job taker.old.descr.code taker.old.descr.room taker.old.ring taker.old.number taker.old.seat taker.new.seat taker.new.takes.items }
+    ensures memory { KeepRooms taker.old.rooms.items taker.new.takes.items }
 {
     let Taker {
         number,

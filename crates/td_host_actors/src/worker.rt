@@ -11,14 +11,14 @@ ghost use Rattle.td_live.specs.Live.{HasLoaded};
 ghost use Rattle.td_vm.specs.Frames.{IsArmed};
 ghost use Rattle.td_swap.specs.Seats.{IsOwn, then_loaded};
 ghost use Rattle.td_takes.specs.Codes.{IsCodeAt};
+ghost use Rattle.td_takes.specs.Memory.{KeepsMemory};
 ghost use Rattle.td_host_actors.specs.Replies.{IsJobCode, layout_in};
-ghost use Rattle.td_host_actors.specs.Acting.{AreArmed, Fits, HasMemory, IsInRoom, most_frames, Answered, RanWorker};
+ghost use Rattle.td_host_actors.specs.Acting.{AreArmed, Fits, IsInRoom, most_frames, Answered, RanWorker};
 
 use crate::actor::{Desk, Worker};
 use std::sync::Wait;
 use std::thread;
 use td_core::module::Entry;
-use td_core::outcome::TraceFrame;
 use td_live::gate::Gate;
 use td_live::message::LiveMessage;
 use td_live::slot::validate_slot;
@@ -34,6 +34,7 @@ use td_stream::laws::message_is_short;
 use td_stream::layout::Layout;
 use td_swap::seats::SwapSeat;
 use td_swap::version::Version;
+use td_takes::keep;
 use td_vm::laws::fitting_cells_have_room;
 use td_vm::validate::Frame;
 use td_words::seats::ReadSeat;
@@ -52,22 +53,6 @@ fn take<J: Naming, R: Wait>(rt: &R, ring: &Ring<J>, pass: &mut TakePass) -> Post
         thread::yield_now();
     }
     unreachable!()
-}
-
-/// Puts what the last validation left in a frame into room that was taken for it, of which no list is let grow.
-fn keep(frame: &Frame, trace: &mut Vec<TraceFrame>, cells: &mut [u64])
-    requires empty { trace.old.items ≡ [] }
-    requires room { frame.now.trace_room ≤ vec_capacity trace.old }
-    requires cells { length cells.old ≡ length frame.now.cells }
-    ensures trace { trace.new.items ≡ frame.now.trace }
-    ensures cells { cells.new ≡ frame.now.cells }
-    ensures memory { vec_capacity trace.new ≡ vec_capacity trace.old }
-{
-    cells.copy_from_slice(frame.cells());
-    let lines = frame.trace();
-    for line in lines {
-        trace.push_reserved(*line);
-    }
 }
 
 /// How the message of a post lies that has no list of stretches. Takes no memory.
@@ -117,7 +102,7 @@ fn answer<J: Naming, G: Gate>(
     ensures version { result.version ≡ version.now.number }
     ensures answered { Answered desk.now.job result }
     ensures read { HasLoaded (layout_in desk.now.mails.items result) seat.old seat.new result.loads.list }
-    ensures memory { (frames : ℕ) → HasMemory frames desk.now.job.cells desk.now.job.rooms post.room → HasMemory frames desk.now.job.cells desk.now.job.rooms result }
+    ensures memory { KeepsMemory post.room result }
 {
     each_mail_is_named();
     fitting_cells_have_room();
@@ -198,7 +183,7 @@ fn answer_now<J: Naming, G: Gate>(
     ensures name { reply_name result ≡ post.name }
     ensures answered { Answered desk.now.job result }
     ensures read { HasLoaded (layout_in desk.now.mails.items result) seat.old seat.new result.loads.list }
-    ensures memory { (frames : ℕ) → HasMemory frames desk.now.job.cells desk.now.job.rooms post.room → HasMemory frames desk.now.job.cells desk.now.job.rooms result }
+    ensures memory { KeepsMemory post.room result }
 {
     let version = desk.codes.current(swap);
     let number = version.number as usize;
@@ -220,6 +205,7 @@ pub fn run_worker<J: Naming, R: Wait, G: Gate>(rt: &R, desk: &Desk<J>, worker: &
     requires room { length desk.now.mails.items ≤ vec_capacity worker.old.replies }
     ensures ran { RanWorker desk.now.job (length desk.now.mails.items) worker.old.seat worker.new.seat worker.old.pass worker.new.pass worker.old.drawer worker.new.drawer worker.old.swap worker.new.swap worker.new.replies.items }
     ensures memory { All (IsInRoom desk.now.codes.codes desk.now.job) worker.new.replies.items }
+    ensures armed { AreArmed desk.now.codes.codes worker.new.frames.items }
 {
     let Worker {
         seat,

@@ -1,6 +1,6 @@
 //! The takes of one ring.
 
-ghost use Rattle.std.specs.Prelude.{◌≡◌, ℕ, ◌+◌, ◌*◌, ◌≤◌, ◌<◌, ◌^◌, [], length, vec_capacity};
+ghost use Rattle.std.specs.Prelude.{◌≡◌, ℕ, ◌+◌, ◌*◌, ◌≤◌, ◌<◌, ◌^◌, [], length, vec_capacity, IfSome};
 ghost use Rattle.td_core.specs.declared.module.Module.{Module};
 ghost use Rattle.td_vm.specs.Frames.{IsArmed};
 ghost use Rattle.td_posts.specs.declared.limits.TheConstants.{MOST_ENTRIES as most_entries};
@@ -8,6 +8,7 @@ ghost use Rattle.td_descr.specs.Ring.{Answers, LiesWithin, ring_words, standing}
 ghost use Rattle.td_takes.specs.Codes.{IsMessageCode};
 ghost use Rattle.td_takes.specs.Takes.{Describes, IsMessageRoom, IsRoom, AreRooms, IsTake, RanRing, HasMessage, IsDescRoom, IfJudged, HasDone, frames_of, message_steps, take_steps, taken_after};
 ghost use Rattle.td_takes.specs.Kept.{IsKept};
+ghost use Rattle.td_takes.specs.Memory.{KeepsMemory, KeepsRoom, KeepRooms};
 
 use crate::take::{Room, Take};
 use crate::validate::{Validator, look_ring, reply_of, validate_message};
@@ -28,7 +29,8 @@ pub struct RingAt<'a> {
 fn desc_reply(descr: &Descr, number: u32, mut room: Reply) -> Option<Reply>
     requires room { IsDescRoom (frames_of descr.now.code) room }
     requires cells { IfJudged descr.now.last.verdict (length descr.now.frame.cells ≡ 3) }
-    ensures { IsKept descr.now.last descr.now.frame result }
+    ensures kept { IsKept descr.now.last descr.now.frame result }
+    ensures memory { IfSome result (KeepsMemory room) }
 {
     let last = descr.last();
     match last.verdict {
@@ -59,6 +61,7 @@ fn message_of(
     ensures armed { IsArmed validator.now.code.now frame.new }
     ensures message { HasMessage validator.now.job.now next result }
     ensures read { HasDone seat.old seat.new (message_steps next result) }
+    ensures memory { IfSome result (KeepsMemory room) }
 {
     match next {
         Next::Idle { made: _ } => None,
@@ -100,6 +103,7 @@ pub fn take_once(
     ensures descr { descr.new ≡ record descr.old { taken = taken_after descr.old.taken result.next; frame = descr.new.frame; last = descr.new.last } }
     ensures take { (m : Module) → Describes m descr.old.code descr.old.room ring.now.job.now.most → IsTake validator.now.job.now m descr.old.room ring.now.job.now descr.old.taken result }
     ensures read { HasDone seat.old seat.new (take_steps ring.now.job.now descr.old.taken result) }
+    ensures memory { KeepsRoom room result }
 {
     let Room {
         descr: desc_room,
@@ -149,7 +153,8 @@ pub fn run_ring(
     requires as_many { length rooms.old.items ≡ ring.now.job.now.takes }
     requires empty { takes.old.items ≡ [] }
     requires space { ring.now.job.now.takes ≤ vec_capacity takes.old }
-    ensures { RanRing validator.now.job.now descr.old.code descr.old.room ring.now.job.now ring.now.number seat.old seat.new takes.new.items }
+    ensures ran { RanRing validator.now.job.now descr.old.code descr.old.room ring.now.job.now ring.now.number seat.old seat.new takes.new.items }
+    ensures memory { KeepRooms rooms.old.items takes.new.items }
 {
     for i in 0..ring.job.takes {
         let Some(room) = rooms.pop_front() else {

@@ -9,6 +9,7 @@ ghost use Rattle.td_live.specs.Live.{HasLoaded};
 ghost use Rattle.td_descr.specs.Words.{load_of, raised};
 ghost use Rattle.td_descr.specs.Ring.{Answers, LiesWithin, standing, ring_words, desc_word};
 ghost use Rattle.td_takes.specs.Codes.{IsMessageCode};
+ghost use Rattle.td_takes.specs.Memory.{KeepsMemory};
 ghost use Rattle.td_takes.specs.Takes.{IsMessage, IsMessageRoom, frames_of, message_layout, ring_layout};
 
 use td_core::outcome::{TraceFrame, Verdict};
@@ -35,18 +36,20 @@ pub struct Validator<'a> {
     pub shared: &'a Shared,
 }
 
-/// Puts what the last validation left in a frame into room that was taken for it.
-fn keep(frame: &Frame, trace: &mut Vec<TraceFrame>, cells: &mut [u64])
+/// Puts what the last validation left in a frame into room that was taken for it, of which no list is let grow.
+pub fn keep(frame: &Frame, trace: &mut Vec<TraceFrame>, cells: &mut [u64])
     requires empty { trace.old.items ≡ [] }
     requires room { frame.now.trace_room ≤ vec_capacity trace.old }
     requires cells { length cells.old ≡ length frame.now.cells }
     ensures trace { trace.new.items ≡ frame.now.trace }
     ensures cells { cells.new ≡ frame.now.cells }
+    ensures memory { vec_capacity trace.new ≡ vec_capacity trace.old }
 {
     cells.copy_from_slice(frame.cells());
-    let Ok(()) = trace.extend_from_slice(frame.trace()) else {
-        unreachable!()
-    };
+    let lines = frame.trace();
+    for line in lines {
+        trace.push_reserved(*line);
+    }
 }
 
 /// The reply of a validation that left its trace and cells in a frame, in room that was taken for it and has the loads and the copies
@@ -66,6 +69,7 @@ pub fn reply_of(
     ensures layout { result.layout ≡ layout }
     ensures outcome { outcome_in result ≡ record { verdict = verdict; trace = frame.now.trace; cells = frame.now.cells; copies = held_by room.copies.buffers.items } }
     ensures loads { result.loads ≡ room.loads }
+    ensures memory { KeepsMemory room result }
 {
     let Reply {
         guest: _,
@@ -111,6 +115,7 @@ pub fn validate_message(
     ensures armed { IsArmed validator.now.code.now frame.new }
     ensures message { IsMessage validator.now.job.now place size result }
     ensures read { HasLoaded (message_layout place size) seat.old seat.new result.loads.list }
+    ensures memory { KeepsMemory room result }
 {
     fitting_cells_have_room();
     let layout = Layout::one(place, size);

@@ -125,14 +125,9 @@ returns-clause-answered g c =
 
 -- no list was let grow, and no buffer
 pub returns-clause-memory : goal.returns-clause-memory
-returns-clause-memory g c = λ frames m.
+returns-clause-memory g c =
     let all = lent c.args.post.room.copies.buffers.len c.keep_copies.new.copies c.args.post.room.copies.buffers.items (c.keep_copies.auto.copies ∙ c.as_mut_slice-2.ensures.len) in
-    record {
-      trace_room = c.keep.ensures.memory ∙ m.trace_room;
-      cell_room = m.cell_room;
-      buffer_room = m.buffer_room;
-      copy_rooms = ap rooms_of all ∙ (c.keep_copies.ensures.rooms ∙ (ap rooms_of c.as_mut_slice-2.ensures.value ∙ m.copy_rooms));
-    }
+    record { trace = c.keep.ensures.memory; cells = refl; buffers = refl; rooms = ap rooms_of all ∙ (c.keep_copies.ensures.rooms ∙ ap rooms_of c.as_mut_slice-2.ensures.value) }
 
 pub at_word-single-requires : goal.at_word-single-requires
 at_word-single-requires g c = named_met (λ (m : Mail). AreWithin c.args.desk.now.shared.count (layout_of m)) c.args.post.name c.as_slice-mails.result.now c.in-Some.mail.now c.in-Some.ensures (subst (All (λ (m : Mail). AreWithin c.args.desk.now.shared.count (layout_of m))) (sym c.as_slice-mails.ensures.value) c.requires.inside)

@@ -1,8 +1,10 @@
-use Rattle.std.proofs.Common.{◌≡◌, List, ◌∷◌, ◌++◌, length, option_to_list, refl, sym, ap, ◌∙◌, subst, arith}
+use Rattle.std.proofs.Common.{◌≡◌, List, ◌∷◌, ◌++◌, length, drop, option_to_list, refl, sym, ap, ◌∙◌, subst, arith}
 use Rattle.td_ir.specs.declared.tables.Parts.{Parts}
 use Rattle.td_takes.specs.declared.take.Room.{Room}
 use Rattle.td_takes.specs.Takes.{IsRoom, frames_of}
-use Rattle.td_takes.proofs.Running.{begins, goes_on, first_room}
+use Rattle.td_takes.specs.declared.take.Take.{Take}
+use Rattle.td_takes.specs.Memory.{KeepRooms}
+use Rattle.td_takes.proofs.Running.{begins, goes_on, first_room, no_takes, rooms_push, rooms_left}
 use Rattle.td_takes.proofs.rings.run_ring.Goals as goal
 
 pub loop-i-init : goal.loop-i-init
@@ -14,6 +16,8 @@ loop-i-init c =
       rooms = c.requires.rooms;
       as_many = let n = c.requires.as_many in omega (arith, n);
       space = c.requires.space;
+      memory = no_takes a.rooms.now.items a.takes.now.items c.requires.empty;
+      left = sym (ap (λ (ts : List Take). drop (length ts) a.rooms.now.items) c.requires.empty);
     }
 
 pub take_once-take-requires-clause-rooms : goal.take_once-take-requires-clause-rooms
@@ -40,4 +44,7 @@ loop-i-preserved c =
       rooms = rest.1;
       as_many = let n = v.as_many in omega (arith, n, shorter);
       space = omega (arith, v.space, c.push_reserved.ensures.capacity);
+      memory = subst (KeepRooms a.rooms.now.items) (sym c.push_reserved.ensures.items)
+          (rooms_push a.rooms.now.items c.pop_front.new.self.items l.takes.items c.in-Some.room t.result v.memory (sym v.left ∙ out) t.ensures.memory);
+      left = rooms_left a.rooms.now.items c.pop_front.new.self.items l.takes.items c.in-Some.room t.result (sym v.left ∙ out) ∙ ap (λ (ts : List Take). drop (length ts) a.rooms.now.items) (sym c.push_reserved.ensures.items);
     }

@@ -4,7 +4,7 @@ use Rattle.std.proofs.lemmas.Option.{slice_get_within}
 use Rattle.td_num.proofs.Lists.{lent}
 use Rattle.td_core.specs.declared.module.Entry.{Entry}
 use Rattle.td_core.specs.declared.outcome.Outcome.{Outcome}
-use Rattle.td_stream.specs.Copies.{held_by}
+use Rattle.td_stream.specs.Copies.{held_by, rooms_of}
 use Rattle.td_stream.specs.Room.{LoadsView}
 use Rattle.td_posts.specs.Posts.{zeros}
 use Rattle.td_ir.specs.Entries.{Fits, buffers_of}
@@ -85,3 +85,10 @@ returns-clause-message c =
     code.1.version c.reply_of.ensures.guest c.reply_of.ensures.version c.reply_of.ensures.layout c.one-layout.ensures (ap (λ (l : LoadsView). l.list) c.reply_of.ensures.loads)
     (c.reply_of.ensures.outcome ∙ ap (λ (x : List (List ℕ)). record { verdict = v.result; trace = frame.trace; cells = frame.cells; copies = x }) held)
     fetched
+
+-- no list was let grow, and no buffer
+pub returns-clause-memory : goal.returns-clause-memory
+returns-clause-memory c =
+    let all = lent c.args.room.copies.buffers.len c.keep_copies.new.copies c.args.room.copies.buffers.items (c.keep_copies.auto.copies ∙ c.as_mut_slice.ensures.len) in
+    let m = c.reply_of.ensures.memory in
+    record { trace = m.trace; cells = m.cells; buffers = m.buffers; rooms = m.rooms ∙ (ap rooms_of all ∙ (c.keep_copies.ensures.rooms ∙ ap rooms_of c.as_mut_slice.ensures.value)) }
