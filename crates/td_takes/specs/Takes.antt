@@ -92,7 +92,8 @@ IsAnswer Waiting m room most taken t =
 abbrev pub HasNumber : ℕ → Option Reply → Type 0
 HasNumber n r = IfSome r (λ x. x.number ≡ n)
 
--- a take of a ring of which so many descriptors were taken, with its number in both replies, by this module of descriptors, in a buffer of `room` bytes
+-- a take of a ring of which so many descriptors were taken, by this module of descriptors, in a buffer of `room` bytes; its replies have
+-- its number
 pub record IsTake (job : HostJob) (m : Module) (room : ℕ) (ring : RingJob) (taken : ℕ) (t : Take) : Type 0 where
   pub answers : IsAnswer (standing ring.entries taken t.head) m room ring.most taken t
   pub message : HasMessage job t.next t.message
