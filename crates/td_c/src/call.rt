@@ -111,37 +111,7 @@ fn run_session(
     }
 }
 
-// The same, of the first so many arguments and cells.
-fn run_front(
-    session: &mut Session,
-    entry: Entry,
-    args: &[u64],
-    arg_count: usize,
-    cells: &mut [u64],
-    cell_count: usize,
-    layout: &Layout,
-    words: TdWords,
-    rows: &mut [TdLoad],
-) -> Run
-    requires inside { AreWithin words.count layout.now }
-    requires fresh { words.made ≡ [] }
-    requires args { arg_count ≤ size_of args.now }
-    requires cells { cell_count ≤ size_of cells.old }
-    ensures code { arc_value session.new.code ≡ arc_value session.old.code }
-    ensures fits { IsSome result.verdict ↔ Fits (arc_value session.old.code) entry (take arg_count args.now) (take cell_count cells.old) }
-    ensures validated { IfSome result.verdict (λ v. IsValidated (arc_value session.old.code) entry (take arg_count args.now) (take cell_count cells.old) layout.now result.made
-        (record { verdict = v.0; trace = session.new.frame.trace; cells = take cell_count cells.new; copies = copied_by (arc_value session.old.code) entry session.new.frame }) v.1) }
-    ensures unloaded { IsNone result.verdict → result.made ≡ [] }
-    ensures loaded { result.words.made ≡ buffered (Some layout.now) result.made }
-    ensures noted { IsNoted layout.now result.made result.count rows.new }
-    ensures size { size_of cells.new ≡ size_of cells.old }
-{
-    let (mine, _) = args.split_at(arg_count);
-    let (front, _) = cells.split_at_mut(cell_count);
-    run_session(session, entry, mine, front, layout, words, rows)
-}
-
-// The same, of arguments and cells that there is room for in a call.
+// The same, of the first so many arguments and cells of a call, which has room for them.
 fn run_call(
     session: &mut Session,
     call: &mut TdCall,
@@ -163,13 +133,11 @@ fn run_call(
     ensures same { SameQuestion call.old call.new }
 {
     let entry = Entry { number: call.entry };
-    let args = &call.args[..];
     let arg_count = call.arg_count as usize;
     let cell_count = call.cell_count as usize;
-    let cells = &mut call.cells[..];
-    run_front(
-        session, entry, args, arg_count, cells, cell_count, layout, words, rows,
-    )
+    let args = &call.args[..arg_count];
+    let cells = &mut call.cells[..cell_count];
+    run_session(session, entry, args, cells, layout, words, rows)
 }
 
 fn told(verdict: Verdict) -> (u32, u32)

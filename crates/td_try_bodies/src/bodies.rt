@@ -2,7 +2,6 @@
 
 ghost use Rattle.std.specs.Prelude.{◌≡◌, ◌<◌, ◌≤◌, [], length, IfOk};
 ghost use Rattle.td_stream.specs.Layouts.{count_in, counted, laid};
-ghost use Rattle.td_stream.specs.Loads.{Inside};
 ghost use Rattle.td_front.specs.Checked.{IsChecked};
 ghost use Rattle.td_job.specs.Jobs.{HasRoom, HasValues};
 ghost use Rattle.td_cli_input.specs.Inputs.{IsSoundJob};
@@ -34,8 +33,7 @@ pub fn run_compiled(alloc: Global, m: &Module, job: &RunJob) -> Result<Run, Allo
     requires values { HasValues m.now job.now }
     requires room { HasRoom job.now }
     requires sound { IsSoundJob m.now job.now }
-    ensures meant { IfOk result (λ run. IsJobMeant m.now job.now run.outcome run.loads.list) }
-    ensures inside { IfOk result (λ run. Inside (laid job.now.length job.now.layout) run.loads.list) }
+    ensures { IfOk result (λ run. IsJobMeant m.now job.now run.outcome run.loads.list) }
 {
     arguments_fit();
     let code = lower(alloc, m)?;

@@ -2,11 +2,13 @@
 
 ghost use Rattle.std.specs.Prelude.{◌≡◌, ◌*◌, ◌<◌, ◌≤◌, ◌^◌, ◌∷◌, [], Err, length, IfOk};
 ghost use Rattle.std.specs.List.{All};
+ghost use Rattle.td_stream.specs.Layouts.{plain};
 ghost use Rattle.td_ir.specs.Entries.{Fits};
 ghost use Rattle.td_image.specs.declared.error.ImageError.{ImageError};
 ghost use Rattle.td_image.specs.Answer.{IsRefused};
 ghost use Rattle.td_use_image.specs.declared.message.AnswerError.{AnswerError};
-ghost use Rattle.td_use_image.specs.Answers.{IsAnswer, IsValidated};
+ghost use Rattle.td_run.specs.Validation.{IsValidation};
+ghost use Rattle.td_use_image.specs.Answers.{IsAnswer};
 
 use crate::shared_words::SharedWords;
 use crate::validation::validated;
@@ -93,7 +95,7 @@ fn validate_shared(
 ) -> Result<Answer, AllocError>
     requires fits { Fits code.now entry args.now cells.now }
     requires short { length message.now < 2 ^ 32 }
-    ensures { IfOk result (λ a. IsValidated code.now entry args.now cells.now (length message.now) a.loads.list a.outcome) }
+    ensures { IfOk result (λ a. IsValidation code.now entry args.now cells.now (plain (length message.now)) a.loads.list a.outcome) }
 {
     let atomics = shared(alloc, message)?;
     let mut words = SharedWords::over(alloc, &atomics)?;
