@@ -1,7 +1,10 @@
 //! The tree of an input.
 
-ghost use Rattle.std.specs.Prelude.{◌≡◌, ◌<◌, ◌^◌, ◌++◌, None, Some, IfOk, IfErr, OnOk, MatchOption, flat_map, length, slice_get};
+ghost use Rattle.std.specs.Prelude.{◌≡◌, ◌<◌, ◌^◌, ◌++◌, [], None, Some, IfOk, IfErr, OnOk, MatchOption, flat_map, length, slice_get};
 ghost use Rattle.td_ast.specs.declared.parts.InputTree.TheVariants as InputTree;
+ghost use Rattle.td_front_order.specs.Order.{IsWithin};
+ghost use Rattle.td_front_flat.specs.Order.{order, names_of, graph_of, first_twice};
+ghost use Rattle.td_front_flat.specs.Firsts.{IsFirstPlace, IsCycleFault};
 ghost use Rattle.td_front_flat.specs.Flat.{flat, flat_in, IsLinked, IsFault};
 
 use crate::cycle::first_cyclic;
@@ -11,6 +14,7 @@ use crate::own::Own;
 use crate::parts::add_part;
 use std::alloc::{AllocError, Global};
 use td_ast::definitions::{Def, ModuleTree};
+use td_ast::names::Name;
 use td_ast::parts::{InputTree, PartTree};
 use td_front_order::order::order;
 use td_names::names::Names;
@@ -63,6 +67,39 @@ fn definitions(
     Ok(whole)
 }
 
+// The order of parts by a graph of uses, where `all` has for each part what it uses, or the first use in a cycle.
+fn order_in(
+    alloc: Global,
+    graph: &[Items<u32>],
+    names: &Names,
+    all: &[Items<Name>],
+) -> Result<Items<u32>, FlatError>
+    requires within { IsWithin graph.now }
+    requires count { length graph.now ≡ length names.now }
+    requires graph { length graph.now < 2 ^ 32 }
+    requires small { length all.now < 2 ^ 32 }
+    ensures ok { IfOk result (λ numbers. IsFirstPlace names.now graph.now all.now None × (numbers ≡ order graph.now)) }
+    ensures err { IfErr result (IsCycleFault names.now graph.now all.now) }
+{
+    if let Some(span) = first_cyclic(alloc, graph, names, all)? {
+        return Err(FlatError::Cycle { span });
+    }
+    Ok(order(alloc, graph)?)
+}
+
+// The order of parts of these names, each part after those that it uses, or the first use in a cycle.
+fn order_of(alloc: Global, names: &Names, parts: &[PartTree]) -> Result<Items<u32>, FlatError>
+    requires names { names.now ≡ names_of parts.now }
+    requires distinct { first_twice [] parts.now ≡ None }
+    requires small { length parts.now < 2 ^ 32 }
+    ensures ok { IfOk result (λ numbers. IsLinked (InputTree.Parts parts.now) × (numbers ≡ order (graph_of parts.now))) }
+    ensures err { IfErr result (IsFault (InputTree.Parts parts.now)) }
+{
+    let all = all_uses(alloc, parts)?;
+    let graph = graph_of(alloc, names, all.as_slice())?;
+    order_in(alloc, graph.as_slice(), names, all.as_slice())
+}
+
 /// The tree of parts, which stay as they are; the errors are those of `flatten`.
 pub fn flat_parts(alloc: Global, parts: &[PartTree]) -> Result<ModuleTree, FlatError>
     requires { length parts.now < 2 ^ 32 }
@@ -70,12 +107,7 @@ pub fn flat_parts(alloc: Global, parts: &[PartTree]) -> Result<ModuleTree, FlatE
     ensures err { IfErr result (IsFault (InputTree.Parts parts.now)) }
 {
     let names = names_of(alloc, parts)?;
-    let all = all_uses(alloc, parts)?;
-    let graph = graph_of(alloc, &names, all.as_slice())?;
-    if let Some(span) = first_cyclic(alloc, graph.as_slice(), &names, all.as_slice())? {
-        return Err(FlatError::Cycle { span });
-    }
-    let numbers = order(alloc, graph.as_slice())?;
+    let numbers = order_of(alloc, &names, parts)?;
     let definitions = definitions(alloc, names, parts, numbers.as_slice())?;
     Ok(ModuleTree { definitions })
 }
