@@ -1,6 +1,6 @@
 //! Casetypes.
 
-ghost use Rattle.std.specs.Prelude.{◌≡◌, [], IfOk, OnOk};
+ghost use Rattle.std.specs.Prelude.{◌≡◌, ◌++◌, [], IfOk, OnOk};
 ghost use Rattle.td_elab_rules.specs.Breach.{first_of};
 ghost use Rattle.td_elab_rules.specs.Known.{next_case};
 ghost use Rattle.td_elab_rules.specs.Constants.{is_value_among};
@@ -138,6 +138,30 @@ fn default_fields(
     }
 }
 
+/// The cases, and the fields of `default`; their breaches are noted. `AllocError`: out of memory.
+#[tactic(auto, using(td_elab_exprs::proofs::Steps::first_append))]
+fn all_cases(
+    alloc: Global,
+    names: &Names,
+    known: &Known,
+    bindings: &mut Bindings,
+    switch: Option<Scalar>,
+    tree: &CasetypeTree,
+    findings: &mut Findings,
+) -> Result<(Items<Case>, Option<Items<Field>>), AllocError>
+    ensures core { IfOk result (λ c. (c.0 ≡ cases_core names.now known.now bindings.old.scope tree.now.cases) × (c.1 ≡ default_core names.now known.now bindings.old.scope tree.now.default)) }
+    ensures first { OnOk result (findings.new.first ≡ first_of findings.old.first
+        (cases_breaches known.now bindings.old.taken bindings.old.scope switch [] tree.now.cases
+        ++ default_breaches known.now (cases_taken bindings.old.taken tree.now.cases) bindings.old.scope tree.now.default)) }
+    ensures taken { OnOk result (bindings.new.taken ≡ switch_taken bindings.old.taken tree.now) }
+    ensures scope { OnOk result (bindings.new.scope ≡ bindings.old.scope) }
+{
+    let trees = tree.cases.as_slice();
+    let cases = cases(alloc, names, known, bindings, switch, trees, findings)?;
+    let default = default_fields(alloc, names, known, bindings, &tree.default, findings)?;
+    Ok((cases, default))
+}
+
 /// The body of a casetype; its breaches are noted. `AllocError`: out of memory.
 #[tactic(auto, using(td_elab_exprs::proofs::Steps::first_append))]
 pub fn switch(
@@ -155,12 +179,16 @@ pub fn switch(
 {
     let subject = number(alloc, known, &bindings.scope, &tree.subject, findings)?;
     let width = type_alone(subject.sort);
-    let trees = tree.cases.as_slice();
-    let cases = cases(alloc, names, known, bindings, width, trees, findings)?;
-    let default = default_fields(alloc, names, known, bindings, &tree.default, findings)?;
-    Ok(Body::Casetype {
-        switch: subject.core,
-        cases,
-        default,
-    })
+    match all_cases(alloc, names, known, bindings, width, tree, findings) {
+        Ok((cases, default)) => Ok(Body::Casetype {
+            switch: subject.core,
+            cases,
+            default,
+        }),
+        // by a call, as each way through its variants, where it is let go, is a way through the function
+        Err(error) => {
+            drop(subject);
+            Err(error)
+        }
+    }
 }

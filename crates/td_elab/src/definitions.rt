@@ -37,6 +37,8 @@ use td_kinds::casetypes::body_kind;
 use td_names::names::Names;
 use td_num::items::Items;
 
+// Where a value is let go, each way through its variants is a way through the function. So what has many is let go by a call.
+
 /// More names, beside others. `AllocError`: out of memory.
 fn see_names(alloc: Global, names: &mut Names, given: &Names) -> Result<(), AllocError>
     ensures { OnOk result (names.new ≡ with_names names.old given.now) }
@@ -91,8 +93,13 @@ fn add_type(
 ) -> Result<(), AllocError>
     ensures { OnOk result (known.new ≡ with_type known.old is_entry name.now parameters given.now definition) }
 {
-    announce(alloc, known, is_entry, name, given)?;
-    push_type(known, parameters, definition)
+    match announce(alloc, known, is_entry, name, given) {
+        Ok(()) => push_type(known, parameters, definition),
+        Err(error) => {
+            drop(definition);
+            Err(error)
+        }
+    }
 }
 
 /// The struct or casetype itself, with its parameters and its kind. `AllocError`: out of memory.
@@ -104,9 +111,9 @@ fn push_type(
     ensures { OnOk result (known.new ≡ with_definition known.old parameters definition) }
 {
     let kind = body_kind(known.kinds.as_slice(), &definition.body);
-    known.signatures.push(parameters)?;
+    known.definitions.push(definition)?;
     known.kinds.push(kind)?;
-    known.definitions.push(definition)
+    known.signatures.push(parameters)
 }
 
 /// `where` and the body of a struct or casetype.
@@ -141,11 +148,16 @@ fn struct_inner(
         &tree.head.condition,
         findings,
     )?;
-    let fields = fields(alloc, names, known, bindings, trees, findings)?;
-    Ok(Inner {
-        guard,
-        body: Body::Struct(fields),
-    })
+    match fields(alloc, names, known, bindings, trees, findings) {
+        Ok(fields) => Ok(Inner {
+            guard,
+            body: Body::Struct(fields),
+        }),
+        Err(error) => {
+            drop(guard);
+            Err(error)
+        }
+    }
 }
 
 /// What is known after a struct. `AllocError`: out of memory.
@@ -217,8 +229,13 @@ fn casetype_inner(
         &tree.head.condition,
         findings,
     )?;
-    let body = switch(alloc, names, known, bindings, tree, findings)?;
-    Ok(Inner { guard, body })
+    match switch(alloc, names, known, bindings, tree, findings) {
+        Ok(body) => Ok(Inner { guard, body }),
+        Err(error) => {
+            drop(guard);
+            Err(error)
+        }
+    }
 }
 
 /// What is known after a casetype. `AllocError`: out of memory.

@@ -25,6 +25,8 @@ use td_elab_exprs::findings::Findings;
 use td_elab_rules::breach::Rule;
 use td_elab_rules::known::{Known, Scope};
 
+// Where a value is let go, each way through its variants is a way through the function. So what has many is let go by a call.
+
 /// A statement, apart from what follows it. `AllocError`: out of memory.
 #[cycle(block)]
 #[tactic(auto, using(td_elab_exprs::proofs::Steps::first_append))]
@@ -80,8 +82,13 @@ fn if_piece(
     ensures scope { OnOk result (bindings.new.scope ≡ bindings.old.scope) }
 {
     let condition = truth_value(alloc, known, &bindings.scope, e, findings)?;
-    let one = block(alloc, known, bindings, one, findings)?;
-    Ok(Piece::If(condition, one, Action { step: Step::Done }))
+    match block(alloc, known, bindings, one, findings) {
+        Ok(one) => Ok(Piece::If(condition, one, Action { step: Step::Done })),
+        Err(error) => {
+            drop(condition);
+            Err(error)
+        }
+    }
 }
 
 /// `if (e) { .. } else { .. }`. `AllocError`: out of memory.
@@ -105,8 +112,13 @@ fn if_else_piece(
     ensures scope { OnOk result (bindings.new.scope ≡ bindings.old.scope) }
 {
     let condition = truth_value(alloc, known, &bindings.scope, e, findings)?;
-    let (one, other) = branches(alloc, known, bindings, one, other, findings)?;
-    Ok(Piece::If(condition, one, other))
+    match branches(alloc, known, bindings, one, other, findings) {
+        Ok((one, other)) => Ok(Piece::If(condition, one, other)),
+        Err(error) => {
+            drop(condition);
+            Err(error)
+        }
+    }
 }
 
 /// The branches of an `if` with an `else`. `AllocError`: out of memory.
@@ -128,8 +140,13 @@ fn branches(
     ensures scope { OnOk result (bindings.new.scope ≡ bindings.old.scope) }
 {
     let one = block(alloc, known, bindings, one, findings)?;
-    let other = block(alloc, known, bindings, other, findings)?;
-    Ok((one, other))
+    match block(alloc, known, bindings, other, findings) {
+        Ok(other) => Ok((one, other)),
+        Err(error) => {
+            drop(one);
+            Err(error)
+        }
+    }
 }
 
 /// `return e;`. `AllocError`: e has an operator or is `is_range_okay`, and out of memory.

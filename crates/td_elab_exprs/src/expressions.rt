@@ -1,6 +1,6 @@
 //! Expressions: their sorts, the core expressions that they stand for, and what they break, all in one walk.
 
-ghost use Rattle.std.specs.Prelude.{◌≡◌, IfOk, OnErr, OnOk, IsSomeAnd, is_none};
+ghost use Rattle.std.specs.Prelude.{◌≡◌, ◌++◌, IfOk, OnErr, OnOk, IsSomeAnd, is_none};
 ghost use Rattle.td_ast.specs.Trees as tree;
 ghost use Rattle.td_ast.specs.Trees.{span_of};
 ghost use Rattle.td_core.specs.Term.{choice};
@@ -179,6 +179,31 @@ fn size_of(
     }
 }
 
+/// Two operands, from the left to the right. The first is let go by a call where there is no second, as each way through its
+/// variants is a way through the function.
+#[cycle(expression)]
+#[tactic(auto, using(crate::proofs::Steps::first_append))]
+fn operands(
+    alloc: Global,
+    context: &Context<'_>,
+    a: &Expr,
+    b: &Expr,
+    findings: &mut Findings,
+) -> Result<(Typing, Typing), AllocError>
+    ensures left { IfOk result (λ o. (o.0.sort ≡ sort_of context.now.known.now context.now.scope.now a.now) × (o.0.core ≡ core_of context.now.known.now context.now.scope.now a.now)) }
+    ensures right { IfOk result (λ o. (o.1.sort ≡ sort_of context.now.known.now context.now.scope.now b.now) × (o.1.core ≡ core_of context.now.known.now context.now.scope.now b.now)) }
+    ensures first { OnOk result (findings.new.first ≡ first_of findings.old.first (expr_breaches context.now.known.now context.now.scope.now a.now ++ expr_breaches context.now.known.now context.now.scope.now b.now)) }
+{
+    let left = expression(alloc, context, a, findings)?;
+    match expression(alloc, context, b, findings) {
+        Ok(right) => Ok((left, right)),
+        Err(error) => {
+            drop(left);
+            Err(error)
+        }
+    }
+}
+
 /// `is_range_okay(size, offset, access)`
 #[cycle(expression)]
 #[tactic(auto, using(crate::proofs::Steps::first_append))]
@@ -195,9 +220,14 @@ fn range_okay(
     ensures core { IfOk result (λ t. t.core ≡ core_of context.now.known.now context.now.scope.now (tree.RangeOkay at z.now o.now a.now)) }
     ensures first { OnOk result (findings.new.first ≡ first_of findings.old.first (expr_breaches context.now.known.now context.now.scope.now (tree.RangeOkay at z.now o.now a.now))) }
 {
-    let size = expression(alloc, context, z, findings)?;
-    let offset = expression(alloc, context, o, findings)?;
-    let access = expression(alloc, context, a, findings)?;
+    let (size, offset) = operands(alloc, context, z, o, findings)?;
+    let access = match expression(alloc, context, a, findings) {
+        Ok(access) => access,
+        Err(error) => {
+            drop((size, offset));
+            return Err(error);
+        }
+    };
     findings.note_if(is_truth(size.sort), Rule::Mismatch, span_of(z));
     findings.note_if(is_truth(offset.sort), Rule::Mismatch, span_of(o));
     findings.note_if(is_truth(access.sort), Rule::Mismatch, span_of(a));
@@ -251,8 +281,7 @@ fn binary(
     ensures first { OnOk result (findings.new.first ≡ first_of findings.old.first (expr_breaches context.now.known.now context.now.scope.now (tree.Binary own operator own a.now b.now))) }
 {
     let operation = operation(operator);
-    let left = expression(alloc, context, a, findings)?;
-    let right = expression(alloc, context, b, findings)?;
+    let (left, right) = operands(alloc, context, a, b, findings)?;
     findings.note_if(
         are_wrong_operands(operation, left.sort, right.sort),
         Rule::Mismatch,
@@ -280,9 +309,14 @@ fn choice(
     ensures core { IfOk result (λ t. t.core ≡ core_of context.now.known.now context.now.scope.now (tree.Choice own own c.now a.now b.now)) }
     ensures first { OnOk result (findings.new.first ≡ first_of findings.old.first (expr_breaches context.now.known.now context.now.scope.now (tree.Choice own own c.now a.now b.now))) }
 {
-    let condition = expression(alloc, context, c, findings)?;
-    let first = expression(alloc, context, a, findings)?;
-    let second = expression(alloc, context, b, findings)?;
+    let (condition, first) = operands(alloc, context, c, a, findings)?;
+    let second = match expression(alloc, context, b, findings) {
+        Ok(second) => second,
+        Err(error) => {
+            drop((condition, first));
+            return Err(error);
+        }
+    };
     findings.note_if(
         is_wrong_choice(condition.sort, first.sort, second.sort),
         Rule::Mismatch,

@@ -8,7 +8,7 @@ ghost use Rattle.td_elab_rules.specs.ExprRules.{test_breaches};
 ghost use Rattle.td_elab_rules.specs.Actions.{action_breaches, action_vars, action_core};
 ghost use Rattle.td_elab_rules.specs.Types.{type_breaches, element_of};
 ghost use Rattle.td_elab_rules.specs.Extents.{extent_breaches, extent_core};
-ghost use Rattle.td_elab_rules.specs.Copies.{copy_breaches, copy_core};
+ghost use Rattle.td_elab_rules.specs.Copies.{copied_breaches, copied_core};
 ghost use Rattle.td_elab_rules.specs.Fields.{readable_of, with_field, field_name_breaches, field_breaches, field_taken, flat_of, fields_breaches, fields_taken, fields_core};
 ghost use Rattle.td_elab_fields.specs.Narrow.{IsNarrow};
 ghost use Rattle.td_elab_fields.specs.Scopes.{fields_scope};
@@ -21,7 +21,7 @@ use std::alloc::{AllocError, Global};
 use td_ast::fields::FieldTree;
 use td_core::actions::Action;
 use td_core::expressions::CoreExpr;
-use td_core::module::{Element, Extent, Field, NameId};
+use td_core::module::{CopyOut, Element, Extent, Field, NameId};
 use td_elab_actions::actions::action;
 use td_elab_actions::scopes::{Bindings, cut_back, take_field_name};
 use td_elab_exprs::expressions::test;
@@ -31,6 +31,8 @@ use td_elab_rules::known::Known;
 use td_elab_types::types::element;
 use td_names::names::Names;
 use td_num::items::Items;
+
+// Where a value is let go, each way through its variants is a way through the function. So what has many is let go by a call.
 
 /// The type of a field and how often it stands there; their breaches and that of its name are noted. `AllocError`: out of
 /// memory.
@@ -96,8 +98,59 @@ fn tests(
     ensures scope { OnOk result (bindings.new.scope ≡ bindings.old.scope) }
 {
     let refinement = test(alloc, known, &bindings.scope, &tree.refinement, findings)?;
-    let action = action(alloc, known, bindings, &tree.action, findings)?;
-    Ok((refinement, action))
+    match action(alloc, known, bindings, &tree.action, findings) {
+        Ok(action) => Ok((refinement, action)),
+        Err(error) => {
+            drop(refinement);
+            Err(error)
+        }
+    }
+}
+
+/// What a field says behind its type and its size: the number that it gives, its refinement and its action, and where its bytes
+/// are copied to.
+#[derive(Drop)]
+struct Rest {
+    readable: Option<Readable>,
+    tests: (Option<CoreExpr>, Option<Action>),
+    copy: Option<CopyOut>,
+}
+
+/// What a field says behind its type and its size, where it is a byte-sized array of `UINT8`, or isn't; its breaches are noted. The
+/// field is then in scope. `AllocError`: out of memory.
+#[tactic(auto, using(td_elab_exprs::proofs::Steps::first_append))]
+fn behind(
+    alloc: Global,
+    known: &Known,
+    bindings: &mut Bindings,
+    bytes: bool,
+    tree: &FieldTree,
+    findings: &mut Findings,
+) -> Result<Rest, AllocError>
+    ensures readable { IfOk result (λ b. b.readable ≡ readable_of known.now bindings.old.scope tree.now) }
+    ensures refinement { IfOk result (λ b. b.tests.0 ≡ option_core known.now (with_field known.now bindings.old.scope tree.now) tree.now.refinement) }
+    ensures action { IfOk result (λ b. b.tests.1 ≡ action_core known.now (with_field known.now bindings.old.scope tree.now) tree.now.action) }
+    ensures copy { IfOk result (λ b. b.copy ≡ copied_core known.now (with_field known.now bindings.old.scope tree.now) bytes tree.now.action) }
+    ensures first { OnOk result (findings.new.first ≡ first_of findings.old.first
+        (test_breaches known.now (with_field known.now bindings.old.scope tree.now) tree.now.refinement
+        ++ (action_breaches known.now (with_field_name bindings.old.taken tree.now.name.text) (with_field known.now bindings.old.scope tree.now) tree.now.action
+        ++ copied_breaches known.now (with_field known.now bindings.old.scope tree.now) bytes tree.now.action))) }
+    ensures taken { OnOk result (bindings.new.taken ≡ field_taken bindings.old.taken tree.now) }
+    ensures scope { OnOk result (bindings.new.scope ≡ with_field known.now bindings.old.scope tree.now) }
+{
+    let readable = bring(alloc, known, bindings, tree)?;
+    let tests = tests(alloc, known, bindings, tree, findings)?;
+    match copy(known, &bindings.scope, bytes, &tree.action, findings) {
+        Ok(copy) => Ok(Rest {
+            readable,
+            tests,
+            copy,
+        }),
+        Err(error) => {
+            drop(tests);
+            Err(error)
+        }
+    }
 }
 
 /// A field, which is in scope after it; its breaches are noted. `AllocError`: out of memory.
@@ -120,23 +173,28 @@ fn field(
     check_refined(known, &bindings.scope, tree, findings);
     let width = bit_width(known, &bindings.scope, &tree.type_tree, &tree.extent);
     let bytes = are_bytes(known, &bindings.scope, &tree.type_tree, &tree.extent);
-    let readable = bring(alloc, known, bindings, tree)?;
-    let tests = tests(alloc, known, bindings, tree, findings)?;
-    let copy = copy(known, &bindings.scope, bytes, &tree.action, findings)?;
-    let (element, extent) = shape;
-    let (refinement, action) = tests;
-    Ok(FlatField {
-        element,
-        extent,
-        copy,
-        width,
-        name: NameId {
-            number: names.number(tree.name.text.as_slice()),
-        },
-        refinement: refinement_of(readable, refinement),
-        action,
-        place: tree.name.span,
-    })
+    match behind(alloc, known, bindings, bytes, tree, findings) {
+        Ok(behind) => {
+            let (element, extent) = shape;
+            let (refinement, action) = behind.tests;
+            Ok(FlatField {
+                element,
+                extent,
+                copy: behind.copy,
+                width,
+                name: NameId {
+                    number: names.number(tree.name.text.as_slice()),
+                },
+                refinement: refinement_of(behind.readable, refinement),
+                action,
+                place: tree.name.span,
+            })
+        }
+        Err(error) => {
+            drop(shape);
+            Err(error)
+        }
+    }
 }
 
 /// The fields, which are then in scope. `AllocError`: there is a field, and out of memory.

@@ -14,6 +14,7 @@ use crate::activation::{Activation, Step};
 use crate::steps::{Counter, Steps};
 use std::sync::ledger::Ledger;
 use td_core::outcome::Reason;
+use td_ir::constants::LITTLE_ENDIAN;
 use td_num::number::ByteOrder;
 use td_stream::stream::Stream;
 use td_stream::words::Words;
@@ -21,7 +22,7 @@ use td_stream::words::Words;
 fn order_of(order: u8) -> ByteOrder
     ensures { result ≡ values.order_of order }
 {
-    if order == 0 {
+    if order == LITTLE_ENDIAN {
         ByteOrder::LittleEndian
     } else {
         ByteOrder::BigEndian
