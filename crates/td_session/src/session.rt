@@ -120,8 +120,9 @@ impl Session {
     }
 
     /// Validates a message that lies so in the words, of which none was loaded yet. None: arguments and cells don't fit the entry point;
-    /// nothing was loaded, and the session is as before. The cells begin as they are, and are left as the validation left them. Beside the verdict it tells how many
-    /// steps the code's run took (docs/language/code.md), 2^64 - 1 where they are more. Takes no memory and waits for nobody.
+    /// nothing was loaded, and the session is as before. The cells begin as they are, and are left as the validation left them. Beside
+    /// the verdict it tells how many steps the code's run took (docs/language/code.md), 2^64 - 1 where they are more. Takes no memory and
+    /// waits for nobody.
     pub fn validate<W: Words>(
         &mut self,
         entry: Entry,
