@@ -75,6 +75,8 @@ fn put_string(bytes: &[u8], room: &mut [u8])
 pub(crate) fn tell_refusal(text: &[u8], error: &FrontError, told: &mut TdPacked) -> i32
     ensures which { (result ≡ pos 4) ⊎ (result ≡ pos 22) }
     ensures told { result ≡ pos 22 → IsTold text.now error.now told.new }
+    ensures size { told.new.size ≡ told.old.size }
+    ensures untold { result ≡ pos 4 → told.new ≡ told.old }
     ensures memory { error.now ≡ FrontError.NoMemory → result ≡ pos 4 }
 {
     let Some(line) = line_of(error) else {

@@ -38,10 +38,12 @@ input_of job = record { entry = job.entry; args = job.args; cells = job.cells; l
 -- a run by a module's code is a run of the job
 pub run_of : (c : Parts) (m : Module) (job : RunJob) (outcome : Outcome) (loads : List Load) → IsCodeOf c m → IsSoundJob m job → HasRoom job → IsRunBy c (input_of job) outcome loads → IsRunOf m job outcome loads
 run_of c m job outcome loads of sound room run = record {
-  rising = run.rising;
-  inside = run.inside;
+  fetched = record {
+    rising = run.validated.rising;
+    inside = run.validated.inside;
+    holds = λ b carried bytes. (run.validated.holds b carried).meant m of (sound b bytes (carried.size ∙ room.long));
+  };
   held = run.held;
-  meant = λ b bytes carried. run.meant m b of carried (sound b bytes (carried.size ∙ room.long));
 }
 
 -- the same of lists that are the job's

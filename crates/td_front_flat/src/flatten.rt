@@ -1,4 +1,4 @@
-//! The tree of an input.
+//! The tree of parts.
 
 ghost use Rattle.std.specs.Prelude.{◌≡◌, ◌<◌, ◌^◌, ◌++◌, [], None, Some, IfOk, IfErr, OnOk, MatchOption, flat_map, length, slice_get};
 ghost use Rattle.td_ast.specs.declared.parts.InputTree.TheVariants as InputTree;
@@ -15,7 +15,7 @@ use crate::parts::add_part;
 use std::alloc::{AllocError, Global};
 use td_ast::definitions::{Def, ModuleTree};
 use td_ast::names::Name;
-use td_ast::parts::{InputTree, PartTree};
+use td_ast::parts::PartTree;
 use td_front_order::order::order;
 use td_names::names::Names;
 use td_num::items::Items;
@@ -100,7 +100,10 @@ fn order_of(alloc: Global, names: &Names, parts: &[PartTree]) -> Result<Items<u3
     order_in(alloc, graph.as_slice(), names, all.as_slice())
 }
 
-/// The tree of parts, which stay as they are; the errors are those of `flatten`.
+/// The tree of parts, which stay as they are: their definitions, each part after those that it uses, with the names that they have in
+/// the whole text; places stay. `FlatError::Twice` names the first part that has the name of an earlier one (N2), `FlatError::Cycle` the
+/// first use of a part that reaches, by uses, the part in which it is used (N5), where no name is twice. `FlatError::NoMemory`: out of
+/// memory.
 pub fn flat_parts(alloc: Global, parts: &[PartTree]) -> Result<ModuleTree, FlatError>
     requires { length parts.now < 2 ^ 32 }
     ensures ok { IfOk result (λ tree. IsLinked (InputTree.Parts parts.now) × (tree ≡ flat (InputTree.Parts parts.now))) }
@@ -110,23 +113,4 @@ pub fn flat_parts(alloc: Global, parts: &[PartTree]) -> Result<ModuleTree, FlatE
     let numbers = order_of(alloc, &names, parts)?;
     let definitions = definitions(alloc, names, parts, numbers.as_slice())?;
     Ok(ModuleTree { definitions })
-}
-
-/// The tree of an input: a module's own, or the definitions of parts, each part after those that it uses, with the names
-/// that they have in the whole text; places stay. `FlatError::Twice` names the first part that has the name of an earlier
-/// one (N2), `FlatError::Cycle` the first use of a part that reaches, by uses, the part in which it is used (N5), where no
-/// name is twice. `FlatError::NoMemory`: there are parts, and out of memory.
-pub fn flatten(alloc: Global, input: InputTree) -> Result<ModuleTree, FlatError>
-    ensures ok { IfOk result (λ tree. IsLinked input × (tree ≡ flat input)) }
-    ensures err { IfErr result (IsFault input) }
-{
-    match input {
-        InputTree::Module(tree) => Ok(tree),
-        InputTree::Parts(parts) => {
-            if parts.len() > u32::MAX as usize {
-                return Err(FlatError::NoMemory);
-            }
-            flat_parts(alloc, parts.as_slice())
-        }
-    }
 }

@@ -1,9 +1,9 @@
 //! Definitions, as they are named from above.
 
-ghost use Rattle.std.specs.Prelude.{◌≤◌, length, IfOk, IfErr};
+ghost use Rattle.std.specs.Prelude.{◌≡◌, ◌≤◌, length, Err, IfOk, IfErr};
 ghost use Rattle.td_write_values.specs.Writing.{listed_written, in_machine};
 ghost use Rattle.td_write_values.specs.declared.limits.TheConstants.{MOST_WRITTEN};
-ghost use Rattle.td_write.specs.Writes.{below, Wrote, Halts};
+ghost use Rattle.td_write.specs.Writes.{below, Wrote, Halts, IsSequence};
 
 use crate::bodies::written_fields;
 use crate::fields::counted;
@@ -48,7 +48,7 @@ pub fn named(
     }
 }
 
-/// A definition: its value is a list.
+/// A definition: its value is a list. `NoMemory`: it is one, and there was no memory.
 #[cycle(types)]
 fn defined(
     walk: &Walk<'_, '_>,
@@ -64,6 +64,7 @@ fn defined(
         draft.old.out.items draft.new.out.items draft.old.path.items draft.new.path.items cells.new) }
     ensures err { IfErr result (λ h. Halts h draft.new.path.items
         (listed_written in_machine walk.now.m.now.listed (below walk.now.m.now walk.now.bound) definition.now args.now walk.now.places.now cells.old draft.old.path.items (length draft.old.out.items) value.now)) }
+    ensures memory { result ≡ Err Halt.NoMemory → IsSequence value.now }
 {
     match &value.kind {
         ValueKind::List(values) => {

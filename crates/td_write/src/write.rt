@@ -1,6 +1,6 @@
 //! The writer's call.
 
-ghost use Rattle.std.specs.Prelude.{IfOk, IfErr, OnErr, ◌≡◌};
+ghost use Rattle.std.specs.Prelude.{IfOk, IfErr, OnErr, ◌≡◌, ◌≢◌};
 ghost use Rattle.td_core.specs.Entries.{entry_definition};
 ghost use Rattle.td_core.specs.Formed.{AllFit, params_at, cells_at};
 ghost use Rattle.td_write_values.specs.Writing.{Written, Refused};
@@ -22,9 +22,10 @@ use td_write_spells::laws::{kinds_are_admitted, writing_is_exact};
 use td_write_values::error::{WriteError, WriteRule};
 use td_write_values::value::Value;
 
-/// The error of a broken rule at a path.
+/// The error of a broken rule at a path. Takes no memory.
 fn broken(rule: WriteRule, path: Vec<usize>) -> WriteError
-    ensures { IsRefusal (Refused rule path.items) result }
+    ensures rule { IsRefusal (Refused rule path.items) result }
+    ensures broken { result ≢ WriteError.NoMemory }
 {
     let path = Items::of(path);
     match rule {
@@ -36,9 +37,10 @@ fn broken(rule: WriteRule, path: Vec<usize>) -> WriteError
     }
 }
 
-/// The error of what stopped the writer at a path.
+/// The error of what stopped the writer at a path: `NoMemory` exactly where it was that. Takes no memory.
 fn stopped(halt: Halt, path: Vec<usize>) -> WriteError
-    ensures { (w : Written) → Halts halt path.items w → IsRefusal w result }
+    ensures cause { (w : Written) → Halts halt path.items w → IsRefusal w result }
+    ensures memory { result ≡ WriteError.NoMemory → halt ≡ Halt.NoMemory }
 {
     match halt {
         Halt::Broken(rule) => broken(rule, path),

@@ -1,5 +1,5 @@
 use Rattle.std.proofs.Common.{◌≡◌, take, vec_capacity}
-use Rattle.td_host_actors.proofs.worker.keep.Given as goal
+use Rattle.td_takes.proofs.validate.keep.Given as goal
 
 -- the lines so far, in the memory that was there
 abbrev pub invariant-loop-line : goal.invariant-loop-line
