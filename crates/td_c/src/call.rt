@@ -144,7 +144,8 @@ fn run_call(
     let arg_count = call.arg_count as usize;
     let cell_count = call.cell_count as usize;
     let args = &call.args[..arg_count];
-    let cells = &mut call.cells[..cell_count];
+    let room = &mut call.cells[..];
+    let cells = &mut room[..cell_count];
     run_session(session, entry, args, cells, layout, words, rows)
 }
 
