@@ -17,7 +17,7 @@ use Rattle.td_meaning.specs.Meaning.{meaning}
 use Rattle.td_meaning.specs.Verdicts.{ending_of, IsAt}
 use Rattle.td_meaning.proofs.MachineMeaning as machine
 use Rattle.td_fetch.specs.Outcomes.{IsBehaviorOf}
-use Rattle.td_direct.specs.Step.{Step}
+use Rattle.td_direct.specs.Validates.{Reads}
 use Rattle.td_direct.proofs.Stepping.{behavior_lent}
 use Rattle.td_stream.specs.Copies.{BufferView, held_by, rooms_of}
 use Rattle.td_stream.specs.Loads.{Carries}
@@ -32,7 +32,7 @@ use Rattle.td_direct.proofs.TypeLemmas.{entry_is}
 
 -- a whole validation, with the cells that are given back and what the buffers hold
 pub behavior_held : {W : Type 0} {loads : W → List Load} (s t : Stream W) (words : W) (layout : List Stretch) (whole meant : Behavior) (v : Verdict) (p n : ℕ) (trace : List TraceFrame) (all cells b : List ℕ) (copies : List (List ℕ)) → loads s.words.now ≡ [] → IsAt v p trace → words ≡ t.words.now → layout_of s ≡ layout
-    → Carries layout b (loads words) → (Carries (layout_of s) b (loads t.words.now) → Step loads s t whole (plain (ending_of v trace all))) → whole ≡ meant → take n all ≡ cells → (Carries (layout_of s) b (loads t.words.now) → copies_by b (drop n all) ≡ copies)
+    → Carries layout b (loads words) → (Carries (layout_of s) b (loads t.words.now) → Reads loads s t whole (plain (ending_of v trace all))) → whole ≡ meant → take n all ≡ cells → (Carries (layout_of s) b (loads t.words.now) → copies_by b (drop n all) ≡ copies)
     → IsBehaviorOf layout n b (loads words) meant (record { verdict = v; trace = trace; cells = cells; copies = copies })
 behavior_held {W} {loads} s t words layout whole meant v p n trace all cells b copies none at w long h step same last held =
     let h' : Carries (layout_of s) b (loads t.words.now) = subst (λ (x : List Stretch × W). Carries x.0 b (loads x.1)) (λ i. (sym long i, w i)) h in

@@ -16,10 +16,10 @@ use Rattle.td_core.specs.declared.outcome.Verdict.TheVariants.{Accept, Reject}
 use Rattle.td_core.specs.Outcome.{Ending, Accepted, Rejected, Behavior, FramePlace, plain, after_reading, onward, and_then, ending_within, within, outcome_of, copies_by}
 use Rattle.td_meaning.specs.Verdicts.{ending_of, IsAt}
 use Rattle.td_meaning.proofs.Steps.{reading_then}
-use Rattle.td_direct.specs.Step.{Step, OnlyRead}
+use Rattle.td_direct.specs.Validates.{Reads, OnlyRead}
 use Rattle.td_fetch.specs.Outcomes.{IsBehaviorOf}
 
-pub step_trans : {W : Type 0} {loads : W → List Load} (r s t : Stream W) (x y z : Behavior) → Step loads r s x y → Step loads s t y z → Step loads r t x z
+pub step_trans : {W : Type 0} {loads : W → List Load} (r s t : Stream W) (x y z : Behavior) → Reads loads r s x y → Reads loads s t y z → Reads loads r t x z
 step_trans r s t x y z h k = record {
   seen = h.seen ++ k.seen;
   looked = look_more r s t h.seen k.seen h.looked k.looked;
@@ -27,28 +27,28 @@ step_trans r s t x y z h k = record {
 }
 
 -- no word was loaded
-pub step_still : {W : Type 0} {loads : W → List Load} (s t : Stream W) (x : Behavior) → layout_of t ≡ layout_of s → t.words.now ≡ s.words.now → Step loads s t x x
+pub step_still : {W : Type 0} {loads : W → List Load} (s t : Stream W) (x : Behavior) → layout_of t ≡ layout_of s → t.words.now ≡ s.words.now → Reads loads s t x x
 step_still {W} {loads} s t x same e = record { seen = []; looked = look_nowhere s t same (ap loads e); is = refl }
 
-pub step_from : {W : Type 0} {loads : W → List Load} (s t : Stream W) (w x y : Behavior) → w ≡ x → Step loads s t x y → Step loads s t w y
+pub step_from : {W : Type 0} {loads : W → List Load} (s t : Stream W) (w x y : Behavior) → w ≡ x → Reads loads s t x y → Reads loads s t w y
 step_from s t w x y e h = record { seen = h.seen; looked = h.looked; is = e ∙ h.is }
 
-pub step_to : {W : Type 0} {loads : W → List Load} (s t : Stream W) (x y z : Behavior) → Step loads s t x y → y ≡ z → Step loads s t x z
+pub step_to : {W : Type 0} {loads : W → List Load} (s t : Stream W) (x y z : Behavior) → Reads loads s t x y → y ≡ z → Reads loads s t x z
 step_to s t x y z h e = record { seen = h.seen; looked = h.looked; is = h.is ∙ ap (after_reading h.seen) e }
 
 -- a step, and what follows
-pub step_then : {W : Type 0} {loads : W → List Load} (s t : Stream W) (x : Behavior) (e : Ending) (go : ℕ → List ℕ → Behavior) → Step loads s t x (plain e) → Step loads s t (and_then x go) (and_then (plain e) go)
+pub step_then : {W : Type 0} {loads : W → List Load} (s t : Stream W) (x : Behavior) (e : Ending) (go : ℕ → List ℕ → Behavior) → Reads loads s t x (plain e) → Reads loads s t (and_then x go) (and_then (plain e) go)
 step_then s t x e go h = record { seen = h.seen; looked = h.looked; is = ap (λ y. and_then y go) h.is ∙ reading_then h.seen (plain e) go }
 
-pub step_within : {W : Type 0} {loads : W → List Load} (s t : Stream W) (place : FramePlace) (x : Behavior) (e : Ending) → Step loads s t x (plain e) → Step loads s t (within place x) (plain (ending_within place e))
+pub step_within : {W : Type 0} {loads : W → List Load} (s t : Stream W) (place : FramePlace) (x : Behavior) (e : Ending) → Reads loads s t x (plain e) → Reads loads s t (within place x) (plain (ending_within place e))
 step_within s t place x e h = record { seen = h.seen; looked = h.looked; is = ap (within place) h.is }
 
 -- after a step the words that it took are read, whatever follows
-pub step_only : {W : Type 0} {loads : W → List Load} (s t : Stream W) (whole rest : Behavior) → Step loads s t whole rest → OnlyRead loads s t whole
+pub step_only : {W : Type 0} {loads : W → List Load} (s t : Stream W) (whole rest : Behavior) → Reads loads s t whole rest → OnlyRead loads s t whole
 step_only s t whole rest h = λ i l. ⊎_elim (λ old. inl old) (λ k. inr (k.0, subst (λ ps. Contains ps k.0) (sym (ap (λ (x : Behavior). x.reads) h.is)) (Contains-append_left h.seen rest.reads k.0 k.1), k.2)) (h.looked.only i l)
 
 -- and what is read after it
-pub only_after : {W : Type 0} {loads : W → List Load} (r s t : Stream W) (whole rest : Behavior) → Step loads r s whole rest → OnlyRead loads s t rest → OnlyRead loads r t whole
+pub only_after : {W : Type 0} {loads : W → List Load} (r s t : Stream W) (whole rest : Behavior) → Reads loads r s whole rest → OnlyRead loads s t rest → OnlyRead loads r t whole
 only_after r s t whole rest h k = λ i l. ⊎_elim
     (λ old. step_only r s whole rest h i old)
     (λ k. inr (k.0, subst (λ ps. Contains ps k.0) (sym (ap (λ (x : Behavior). x.reads) h.is)) (Contains-append_right h.seen rest.reads k.0 k.1), ap (λ layout. word_at layout k.0) (sym h.looked.layout) ∙ k.2))
@@ -80,7 +80,7 @@ nothing_loaded : (i : ℕ) → IsLoaded [] i → ⊥
 nothing_loaded i l = search rules
 
 -- from a stream without loads just the words of the reads were loaded
-pub behavior_all : {W : Type 0} {loads : W → List Load} (s t : Stream W) (whole : Behavior) (v : Verdict) (p n : ℕ) (b : List ℕ) (trace : List TraceFrame) (cells : List ℕ) → loads s.words.now ≡ [] → IsAt v p trace → Step loads s t whole (plain (ending_of v trace cells)) → IsBehaviorOf (layout_of s) n b (loads t.words.now) whole (told n b v trace cells)
+pub behavior_all : {W : Type 0} {loads : W → List Load} (s t : Stream W) (whole : Behavior) (v : Verdict) (p n : ℕ) (b : List ℕ) (trace : List TraceFrame) (cells : List ℕ) → loads s.words.now ≡ [] → IsAt v p trace → Reads loads s t whole (plain (ending_of v trace cells)) → IsBehaviorOf (layout_of s) n b (loads t.words.now) whole (told n b v trace cells)
 behavior_all {W} {loads} s t whole v p n b trace cells none at h =
     let reads : whole.reads ≡ h.seen = ap (λ (x : Behavior). x.reads) h.is ∙ append-nil h.seen in
     record {
@@ -92,7 +92,7 @@ behavior_all {W} {loads} s t whole v p n b trace cells none at h =
     }
 
 -- the same of the words that were lent to the stream, which are now its words
-pub behavior_lent : {W : Type 0} {loads : W → List Load} (s t : Stream W) (words : W) (layout : List Stretch) (whole meant : Behavior) (v : Verdict) (p n : ℕ) (trace : List TraceFrame) (cells b : List ℕ) → loads s.words.now ≡ [] → IsAt v p trace → words ≡ t.words.now → layout_of s ≡ layout → Carries layout b (loads words) → (Carries (layout_of s) b (loads t.words.now) → Step loads s t whole (plain (ending_of v trace cells))) → whole ≡ meant → IsBehaviorOf layout n b (loads words) meant (told n b v trace cells)
+pub behavior_lent : {W : Type 0} {loads : W → List Load} (s t : Stream W) (words : W) (layout : List Stretch) (whole meant : Behavior) (v : Verdict) (p n : ℕ) (trace : List TraceFrame) (cells b : List ℕ) → loads s.words.now ≡ [] → IsAt v p trace → words ≡ t.words.now → layout_of s ≡ layout → Carries layout b (loads words) → (Carries (layout_of s) b (loads t.words.now) → Reads loads s t whole (plain (ending_of v trace cells))) → whole ≡ meant → IsBehaviorOf layout n b (loads words) meant (told n b v trace cells)
 behavior_lent {W} {loads} s t words layout whole meant v p n trace cells b none at w long h told_so same =
     let h' : Carries (layout_of s) b (loads t.words.now) = subst (λ (x : List Stretch × W). Carries x.0 b (loads x.1)) (λ i. (sym long i, w i)) h in
     subst (λ (z : W × Behavior × List Stretch). IsBehaviorOf z.2 n b (loads z.0) z.1 (told n b v trace cells)) (λ i. (sym w i, same i, long i)) (behavior_all s t whole v p n b trace cells none at (told_so h'))

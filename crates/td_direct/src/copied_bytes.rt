@@ -8,7 +8,7 @@ ghost use Rattle.td_meaning.specs.Verdicts.{ending_of, IsAt};
 ghost use Rattle.td_stream.specs.Copies.{held_by, rooms_of};
 ghost use Rattle.td_stream.specs.StreamInvariant.{IsStream, Later, loads_of, layout_of, position, end_of};
 ghost use Rattle.td_stream.specs.Loads.{Carries};
-ghost use Rattle.td_direct.specs.Step.{Step};
+ghost use Rattle.td_direct.specs.Validates.{Reads};
 
 use td_core::module::CopyOut;
 use td_core::outcome::{Reason, Verdict};
@@ -47,7 +47,7 @@ pub fn validate_copied<W: Words>(
     ensures held { (b : List ℕ) → Carries (layout_of stream.old) b (loads_of W.loads stream.new)
         → AreHeld b first cells.old (held_by copies.old) → AreHeld b first cells.new (held_by copies.new) }
     ensures step { (b : List ℕ) → Carries (layout_of stream.old) b (loads_of W.loads stream.new)
-        → Step W.loads stream.old stream.new
+        → Reads W.loads stream.old stream.new
         (copied_meaning copy places.now size (end_of stream.old) (position stream.old) cells.old)
         (plain (ending_of result [] cells.new)) }
 {

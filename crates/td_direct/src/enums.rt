@@ -11,7 +11,7 @@ ghost use Rattle.td_meaning.specs.Meaning.{Sense, values_of};
 ghost use Rattle.td_meaning.specs.Verdicts.{ending_of, IsAt};
 ghost use Rattle.td_stream.specs.StreamInvariant.{IsStream, Later, loads_of, layout_of, position, end_of};
 ghost use Rattle.td_stream.specs.Loads.{Carries};
-ghost use Rattle.td_direct.specs.Step.{Step, OnlyRead, rest_meaning};
+ghost use Rattle.td_direct.specs.Validates.{Reads, OnlyRead, rest_meaning};
 
 use crate::counting::Content;
 use std::alloc::AllocError;
@@ -38,7 +38,7 @@ pub fn validate_listed<W: Words>(
     ensures end { end_of stream.new ≡ end_of stream.old }
     ensures at { IsAt result.verdict (position stream.new) [] }
     ensures step { (b cells : List ℕ) → Carries (layout_of stream.old) b (loads_of W.loads stream.new)
-        → Step W.loads stream.old stream.new
+        → Reads W.loads stream.old stream.new
         (listed_meaning base values.now b start (end_of stream.old) (position stream.old) cells)
         (plain (ending_of result.verdict [] cells)) }
     ensures value { (q : ℕ) → result.verdict ≡ Verdict.Accept q
@@ -87,7 +87,7 @@ pub fn validate_listed_field<W: Words>(
     ensures at { IfOk result (λ c. IsAt c.verdict (position stream.new) trace.new) }
     ensures step { IfOk result (λ c. (senses : ℕ → Sense) (later : List Field) (env places b cells : List ℕ)
         → Carries (layout_of stream.old) b (loads_of W.loads stream.new)
-        → Step W.loads stream.old stream.new
+        → Reads W.loads stream.old stream.new
         (fields_meaning listed.now senses ty (field.now ∷ later) env places b (end_of stream.old) (position stream.old) cells)
         (and_then (plain (ending_of c.verdict trace.new cells))
         (rest_meaning listed.now senses ty field.now.parts later env c.value places b (end_of stream.old) (position stream.old)))) }

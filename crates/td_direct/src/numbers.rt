@@ -11,7 +11,7 @@ ghost use Rattle.td_meaning.specs.Naming.{is_needed};
 ghost use Rattle.td_meaning.specs.Verdicts.{ending_of, IsAt};
 ghost use Rattle.td_stream.specs.StreamInvariant.{IsStream, Later, loads_of, layout_of, position, end_of};
 ghost use Rattle.td_stream.specs.Loads.{Carries};
-ghost use Rattle.td_direct.specs.Step.{Step, rest_meaning};
+ghost use Rattle.td_direct.specs.Validates.{Reads, rest_meaning};
 
 use crate::counting::Content;
 use std::alloc::AllocError;
@@ -30,7 +30,7 @@ pub fn pass<W: Words>(count: u32, start: u32, stream: &mut Stream<W>) -> Verdict
     ensures whole { IsStream W.loads W.size stream.new }
     ensures end { end_of stream.new ≡ end_of stream.old }
     ensures at { IsAt result (position stream.new) [] }
-    ensures step { (cells : List ℕ) → Step W.loads stream.old stream.new
+    ensures step { (cells : List ℕ) → Reads W.loads stream.old stream.new
         (taken count start (end_of stream.old) (position stream.old) cells) (plain (ending_of result [] cells)) }
 {
     if !stream.need(count) {
@@ -43,14 +43,12 @@ pub fn pass<W: Words>(count: u32, start: u32, stream: &mut Stream<W>) -> Verdict
     Verdict::Accept { pos: stream.pos() }
 }
 
-/// A number in a field of its own. It is read where it is needed: where it is refined, or named later with the values in
+/// A number in a field of its own, which is read where `read` says so: where it is refined, or named later with the values in
 /// scope. `AllocError`: its bytes don't stand before the end, and there was no memory for the frame.
 pub fn validate_number<W: Words>(
     ty: NameId,
     number_type: NumberType,
     field: &Field,
-    later: &[Field],
-    env: &[u64],
     read: bool,
     trace: &mut Trace,
     stream: &mut Stream<W>,
@@ -59,18 +57,18 @@ pub fn validate_number<W: Words>(
     requires empty_trace { trace.old ≡ [] }
     requires number { field.now.element ≡ element.Number number_type }
     requires once { field.now.extent ≡ extent.Once }
-    requires needed { read ≡ is_needed (length env.now) field.now.parts later.now }
     ensures later { Later W.loads W.reaches stream.old stream.new }
     ensures whole { IsStream W.loads W.size stream.new }
     ensures end { end_of stream.new ≡ end_of stream.old }
     ensures at { IfOk result (λ c. IsAt c.verdict (position stream.new) trace.new) }
     // what is left of the struct decides the whole of it
-    ensures step { IfOk result (λ c. (sets : List (List ℕ)) (senses : ℕ → Sense) (places b cells : List ℕ)
+    ensures step { IfOk result (λ c. (sets : List (List ℕ)) (senses : ℕ → Sense) (later : List Field) (env places b cells : List ℕ)
+        → read ≡ is_needed (length env) field.now.parts later
         → Carries (layout_of stream.old) b (loads_of W.loads stream.new)
-        → Step W.loads stream.old stream.new
-        (fields_meaning sets senses ty (field.now ∷ later.now) env.now places b (end_of stream.old) (position stream.old) cells)
+        → Reads W.loads stream.old stream.new
+        (fields_meaning sets senses ty (field.now ∷ later) env places b (end_of stream.old) (position stream.old) cells)
         (and_then (plain (ending_of c.verdict trace.new cells))
-        (rest_meaning sets senses ty field.now.parts later.now env.now c.value places b (end_of stream.old) (position stream.old)))) }
+        (rest_meaning sets senses ty field.now.parts later env c.value places b (end_of stream.old) (position stream.old)))) }
     // where there was no memory, no word was loaded
     ensures only { OnErr result (stream.new.words.now ≡ stream.old.words.now) }
     // and there are too few bytes

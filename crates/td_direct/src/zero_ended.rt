@@ -7,7 +7,7 @@ ghost use Rattle.td_meaning.specs.Meaning.{up_to_zero, element_up_to_zero};
 ghost use Rattle.td_meaning.specs.Verdicts.{ending_of, IsAt};
 ghost use Rattle.td_stream.specs.StreamInvariant.{IsStream, Later, loads_of, layout_of, position, end_of};
 ghost use Rattle.td_stream.specs.Loads.{Carries};
-ghost use Rattle.td_direct.specs.Step.{Step};
+ghost use Rattle.td_direct.specs.Validates.{Reads};
 
 use td_core::module::Element;
 use td_core::outcome::{Reason, Verdict};
@@ -38,7 +38,7 @@ pub fn validate_up_to_zero<W: Words>(
     ensures end { end_of stream.new ≡ end_of stream.old }
     ensures at { IsAt result (position stream.new) [] }
     ensures step { (b cells : List ℕ) → Carries (layout_of stream.old) b (loads_of W.loads stream.new)
-        → Step W.loads stream.old stream.new
+        → Reads W.loads stream.old stream.new
         (up_to_zero number_type size b (end_of stream.old) (position stream.old) cells)
         (plain (ending_of result [] cells)) }
 {
@@ -68,7 +68,7 @@ pub fn validate_zero_ended<W: Words>(
     ensures end { end_of stream.new ≡ end_of stream.old }
     ensures at { IsAt result (position stream.new) [] }
     ensures step { (b cells : List ℕ) → Carries (layout_of stream.old) b (loads_of W.loads stream.new)
-        → Step W.loads stream.old stream.new
+        → Reads W.loads stream.old stream.new
         (element_up_to_zero element.now size b (end_of stream.old) (position stream.old) cells)
         (plain (ending_of result [] cells)) }
 {

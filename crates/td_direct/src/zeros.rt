@@ -6,7 +6,7 @@ ghost use Rattle.td_meaning.specs.Meaning.{zeros_meaning};
 ghost use Rattle.td_meaning.specs.Verdicts.{ending_of, IsAt};
 ghost use Rattle.td_stream.specs.StreamInvariant.{IsStream, Later, loads_of, layout_of, position, end_of};
 ghost use Rattle.td_stream.specs.Loads.{Carries};
-ghost use Rattle.td_direct.specs.Step.{Step};
+ghost use Rattle.td_direct.specs.Validates.{Reads};
 
 use td_core::outcome::{Reason, Verdict};
 use td_stream::stream::Stream;
@@ -20,7 +20,7 @@ pub fn validate_zeros<W: Words>(stream: &mut Stream<W>) -> Verdict
     ensures end { end_of stream.new ≡ end_of stream.old }
     ensures at { IsAt result (position stream.new) [] }
     ensures step { (b cells : List ℕ) → Carries (layout_of stream.old) b (loads_of W.loads stream.new)
-        → Step W.loads stream.old stream.new
+        → Reads W.loads stream.old stream.new
         (zeros_meaning b (end_of stream.old) (position stream.old) cells)
         (plain (ending_of result [] cells)) }
 {

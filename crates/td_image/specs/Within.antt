@@ -4,9 +4,9 @@ use Rattle.td_num.specs.Lists.{Each}
 use Rattle.td_ir.specs.declared.tables.Routine.{Routine}
 use Rattle.td_ir.specs.declared.tables.Parts.{Parts}
 use Rattle.td_image.specs.declared.limits.TheConstants.{MOST_ROWS, MOST_INSTRUCTIONS, MOST_CELLS, MOST_BUFFERS, MOST_ROOM, MOST_MAPPED, MOST_NUMBERS, MOST_PARAMETERS, MOST_REGISTERS}
-use Rattle.td_image.specs.declared.operands.Fields.{Fields}
+use Rattle.td_ir.specs.declared.fields.Fields.{Fields}
 use Rattle.td_image.specs.Format.{AreBytes}
-use Rattle.td_image.specs.Instructions.{fields_of}
+use Rattle.td_ir.specs.Fields.{fields_of}
 use Rattle.td_image.specs.declared.version.ImageVersion.TheVariants.{Third}
 use Rattle.td_image.specs.Names.{is_image_name}
 

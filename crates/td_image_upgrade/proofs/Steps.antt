@@ -15,7 +15,8 @@ use Rattle.td_ir.specs.State.{State, reg, with_reg, at_pos, left, Way, Returned,
 use Rattle.td_ir.specs.Values.{bit, operated, bits_of, reason_of, order_of, numbers_from, first_where, looked_at, is_zero, is_nonzero}
 use Rattle.td_ir.specs.Flow.{Flow, Goes, Fails, Calls, Effect, plain, where_so, has_bytes, zeros_flow, zeroterm_flow, effect}
 use Rattle.td_ir.specs.Run.{Callees, spot_named, frame, back, back_by, led, follow, pick, goes, exits}
-use Rattle.td_image_upgrade.specs.Turning.{named, renumbered, turned}
+use Rattle.td_ir.specs.Fields.{named}
+use Rattle.td_image_upgrade.specs.Turning.{renumbered, turned}
 use Rattle.td_image_upgrade.proofs.Sites.{OfNamed, IsSame}
 use Rattle.td_ir.proofs.Blocks.{branch_same, turns_same}
 

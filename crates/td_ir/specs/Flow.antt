@@ -1,5 +1,5 @@
 -- What one instruction does on a message that stays: a line for each kind (own rule; docs/language/code.md).
-use Rattle.std.specs.Prelude.{ℕ, suc, ◌+◌, ◌-◌, ◌*◌, ◌/◌, ◌%◌, min, Bool, true, false, cond, List, [], Option, Some, None, slice_index, slice_set, nat_eq, nat_le}
+use Rattle.std.specs.Prelude.{ℕ, suc, ◌+◌, ◌*◌, ◌/◌, ◌%◌, min, Bool, true, false, cond, List, [], Option, Some, None, slice_index, slice_set, nat_eq, nat_le}
 use Rattle.td_num.specs.Numbers.{ordered_at, places_from}
 use Rattle.td_num.specs.Lists.{is_among}
 use Rattle.td_core.specs.declared.outcome.Reason.{Reason}

@@ -117,6 +117,7 @@ const RINGS_WORDS: u32 = 1 << 29;
 fn check_bytes(rings: &Items<RingJob>, words: u32) -> Result<(), JobError>
     ensures ok { OnOk result (0 < length rings.now → 8 * words < 2 ^ 32) }
     ensures err { IfErr result (λ e. e ≡ JobError.NoMemory) }
+    ensures full { OnErr result ((0 < length rings.now) × (2 ^ 32 ≤ 8 * words)) }
 {
     if rings.as_slice().is_empty() || words < RINGS_WORDS {
         Ok(())

@@ -1,9 +1,10 @@
 -- Bytes that are copied, and what buffers hold.
-use Rattle.std.proofs.Common.{◌≡◌, ℕ, zero, suc, ◌+◌, ◌*◌, ◌/◌, ◌-◌, ◌<◌, ◌≤◌, List, [], ◌∷◌, ◌++◌, length, take, drop, map, refl, sym, ap, ◌∙◌, arith, slice_index, replicate, append_assoc}
-use Rattle.std.specs.Prelude.{Result, Ok, Err, IfOk}
-use Rattle.std.proofs.lemmas.List.{drop_more, map-append, length-drop}
+use Rattle.std.proofs.Common.{◌≡◌, ℕ, zero, suc, Bool, true, false, min, ◌+◌, ◌*◌, ◌/◌, ◌-◌, ◌<◌, ◌≤◌, List, [], ◌∷◌, ◌++◌, length, take, drop, map, refl, sym, ap, ◌∙◌, arith, slice_index, replicate, append_assoc}
+use Rattle.std.specs.Prelude.{Result, Ok, Err, IfOk, nat_le}
+use Rattle.std.proofs.lemmas.Bool.{leb-true, leb-false}
+use Rattle.std.proofs.lemmas.List.{drop_more, drop_all, take_all, map-append, length-drop}
 use Rattle.td_num.specs.Numbers.{places_from}
-use Rattle.td_core.specs.Outcome.{Ending, Behavior, bytes_at, copies_by}
+use Rattle.td_core.specs.Outcome.{bytes_at, copies_by}
 use Rattle.td_core.specs.declared.outcome.Verdict.{Verdict}
 use Rattle.td_core.specs.declared.outcome.Verdict.TheVariants.{Accept, Reject}
 use Rattle.td_core.specs.declared.outcome.TraceFrame.{TraceFrame}
@@ -55,6 +56,21 @@ two_more cells all k h =
     ∙ append_assoc (cells ++ zeros (2 * k)) (0 ∷ []) (0 ∷ [])
     ∙ append_assoc cells (zeros (2 * k)) (0 ∷ 0 ∷ [])
     ∙ ap (λ xs. cells ++ xs) (sym (append_assoc (zeros (2 * k)) (0 ∷ []) (0 ∷ [])) ∙ sym (ap zeros n ∙ zeros_more (2 * k + 1) ∙ ap (λ xs. xs ++ 0 ∷ []) (zeros_more (2 * k))))
+
+-- no more of a list than there is
+pub take_least : (n k : ℕ) (xs : List ℕ) → k ≡ min n (length xs) → take k xs ≡ take n xs
+take_least n k xs e = by (nat_le n (length xs)) refl
+  where
+    by : (v : Bool) → nat_le n (length xs) ≡ v → take k xs ≡ take n xs
+    by true h = let few = leb-true n (length xs) h in let same : k ≡ n = omega (arith, e, few) in ap (λ m. take m xs) same
+    by false h = let many = leb-false n (length xs) h in take_all k xs (omega (arith, e, many)) ∙ sym (take_all n xs (omega (arith, many)))
+
+pub drop_least : (n k : ℕ) (xs : List ℕ) → k ≡ min n (length xs) → drop k xs ≡ drop n xs
+drop_least n k xs e = by (nat_le n (length xs)) refl
+  where
+    by : (v : Bool) → nat_le n (length xs) ≡ v → drop k xs ≡ drop n xs
+    by true h = let few = leb-true n (length xs) h in let same : k ≡ n = omega (arith, e, few) in ap (λ m. drop m xs) same
+    by false h = let many = leb-false n (length xs) h in drop_all k xs (omega (arith, e, many)) ∙ sym (drop_all n xs (omega (arith, many)))
 
 pub if_ok_map : {A E : Type 0} (r : Result A E) (P Q : A → Type 0) → IfOk r P → ((x : A) → P x → Q x) → IfOk r Q
 if_ok_map (Ok x) P Q h k = k x h

@@ -1,6 +1,6 @@
 //! The plain program.
 
-ghost use Rattle.std.specs.Prelude.{◌≡◌, ℕ, ◌<◌, ◌≤◌, ◌^◌, [], IfOk, MatchOption, slice_get, Some, None, length, take, drop};
+ghost use Rattle.std.specs.Prelude.{◌≡◌, ℕ, ◌<◌, ◌^◌, [], IfOk, MatchOption, slice_get, Some, None, length, take, drop};
 ghost use Rattle.td_core.specs.Entries.{entry_definition};
 ghost use Rattle.td_core.specs.Outcome.{copies_by};
 ghost use Rattle.td_meaning.specs.Copies.{buffers_at, opened, outcome};
@@ -10,10 +10,11 @@ ghost use Rattle.td_meaning.specs.Meaning.{meaning};
 ghost use Rattle.td_meaning.specs.Throughout.{Throughout};
 
 use crate::copies::copies_by;
+use crate::slate::Slate;
 use crate::types::{Walk, named};
 use std::alloc::{AllocError, Global};
 use td_core::module::{Entry, Module};
-use td_core::outcome::{Outcome, Reason, Trace, Verdict};
+use td_core::outcome::{Outcome, Reason, Verdict};
 use td_meaning::parameters::places_below;
 use td_num::items::Items;
 
@@ -63,14 +64,13 @@ fn verdict_of(
     entry: Entry,
     args: &[u64],
     bytes: &[u8],
-    cells: &mut [u64],
-    trace: &mut Trace,
+    slate: &mut Slate,
 ) -> Result<Verdict, AllocError>
     requires small { length bytes.now < 2 ^ 32 }
-    requires empty_trace { trace.old ≡ [] }
-    ensures ending { IfOk result (λ v. Throughout Sound m.now entry args.now cells.old bytes.now
-        → (meaning m.now entry args.now cells.old bytes.now).ending ≡ ending_of v trace.new cells.new) }
-    ensures empty_trace { IfOk result (λ v. (q : ℕ) → v ≡ Verdict.Accept q → trace.new ≡ []) }
+    requires empty_trace { slate.old.trace ≡ [] }
+    ensures ending { IfOk result (λ v. Throughout Sound m.now entry args.now slate.old.cells.items bytes.now
+        → (meaning m.now entry args.now slate.old.cells.items bytes.now).ending ≡ ending_of v slate.new.trace slate.new.cells.items) }
+    ensures empty_trace { IfOk result (λ v. (q : ℕ) → v ≡ Verdict.Accept q → slate.new.trace ≡ []) }
 {
     let Some(place) = entry_place(m, entry) else {
         return Ok(Verdict::Reject {
@@ -78,30 +78,30 @@ fn verdict_of(
             pos: 0,
         });
     };
-    let places = places_below(alloc, cells.len())?;
+    let places = places_below(alloc, slate.cells.len())?;
     let walk = Walk {
         alloc,
         m,
         bound: m.definitions.len(),
         places: places.as_slice(),
         message: bytes,
+        end: bytes.len() as u32,
     };
-    named(&walk, place, args, bytes.len() as u32, 0, cells, trace)
+    named(&walk, place, args, 0, slate)
 }
 
-// The outcome, of which the first cells are the entry point's.
+// The outcome, of which so many of the first cells are the entry point's.
 fn outcome_from(
     alloc: Global,
     verdict: Verdict,
-    trace: Trace,
-    all: &[u64],
+    slate: Slate,
     count: usize,
     bytes: &[u8],
 ) -> Result<Outcome, AllocError>
-    requires { count ≤ length all.now }
-    ensures { IfOk result (λ o. o ≡ record { verdict = verdict; trace = trace; cells = take count all.now; copies = copies_by bytes.now (drop count all.now) }) }
+    ensures { IfOk result (λ o. o ≡ record { verdict = verdict; trace = slate.trace; cells = take count slate.cells.items; copies = copies_by bytes.now (drop count slate.cells.items) }) }
 {
-    let (own, rest) = all.split_at(count);
+    let Slate { cells, trace } = slate;
+    let (own, rest) = cells.as_slice().split_at(count.min(cells.len()));
     Ok(Outcome {
         verdict,
         trace,
@@ -125,8 +125,10 @@ pub fn meaning(
     ensures { IfOk result (λ o. Throughout Sound m.now entry args.now (opened m.now entry cells.now) bytes.now
         → o ≡ outcome m.now entry args.now cells.now bytes.now) }
 {
-    let mut all = opened(alloc, m, entry, cells)?;
-    let mut trace = Items::new(alloc);
-    let verdict = verdict_of(alloc, m, entry, args, bytes, all.as_mut_slice(), &mut trace)?;
-    Ok(outcome_from(alloc, verdict, trace, all.as_slice(), cells.len(), bytes)?)
+    let mut slate = Slate {
+        cells: opened(alloc, m, entry, cells)?,
+        trace: Items::new(alloc),
+    };
+    let verdict = verdict_of(alloc, m, entry, args, bytes, &mut slate)?;
+    Ok(outcome_from(alloc, verdict, slate, cells.len(), bytes)?)
 }

@@ -11,10 +11,11 @@ use crate::arrays::{unfit, up_to_zero};
 use crate::copies::copied;
 use crate::enums::listed_number;
 use crate::numbers::{field_number, pass, place_after};
+use crate::slate::Slate;
 use crate::zeros::zeros;
 use std::alloc::{AllocError, Global};
 use td_core::module::{Element, Extent, Field, Module, NameId, TypeDef};
-use td_core::outcome::{Reason, Spot, Trace, Verdict};
+use td_core::outcome::{Reason, Spot, Verdict};
 use td_meaning::arrays::{divides, equals};
 use td_meaning::casetypes::body_fields;
 use td_meaning::checking::{check_parts, demand, framed};
@@ -24,8 +25,8 @@ use td_meaning::needed::first_name;
 use td_meaning::parameters::cells_of;
 use td_num::number::byte_count;
 
-/// What a walk goes by: a message, the definitions of a module below a bound, and for each cell of the walk's own definition
-/// its place among all cells.
+/// What a walk goes by: a message, up to which of its bytes the walk may go, the definitions of a module below a bound, and for
+/// each cell of the walk's own definition its place among all cells.
 #[derive(Clone, Copy)]
 pub struct Walk<'m, 'p, 'b> {
     pub alloc: Global,
@@ -33,6 +34,21 @@ pub struct Walk<'m, 'p, 'b> {
     pub bound: usize,
     pub places: &'p [usize],
     pub message: &'b [u8],
+    pub end: u32,
+}
+
+// The same walk, up to an earlier end.
+fn up_to<'m, 'p, 'b>(walk: &Walk<'m, 'p, 'b>, end: u32) -> Walk<'m, 'p, 'b>
+    ensures { result ≡ record walk.now { end = end } }
+{
+    Walk {
+        alloc: walk.alloc,
+        m: walk.m,
+        bound: walk.bound,
+        places: walk.places,
+        message: walk.message,
+        end,
+    }
 }
 
 /// A definition that is named from above, with its value arguments and, in the walk, the places of its cells.
@@ -41,15 +57,13 @@ pub fn named(
     walk: &Walk<'_, '_, '_>,
     place: u32,
     args: &[u64],
-    end: u32,
     pos: u32,
-    cells: &mut [u64],
-    trace: &mut Trace,
+    slate: &mut Slate,
 ) -> Result<Verdict, AllocError>
-    requires empty_trace { trace.old ≡ [] }
-    ensures ending { IfOk result (λ v. (below walk.now.m.now.listed walk.now.m.now.definitions walk.now.bound place args.now walk.now.places.now cells.old walk.now.message.now pos end).ending
-        ≡ ending_of v trace.new cells.new) }
-    ensures empty_trace { IfOk result (λ v. (q : ℕ) → v ≡ Verdict.Accept q → trace.new ≡ []) }
+    requires empty_trace { slate.old.trace ≡ [] }
+    ensures ending { IfOk result (λ v. (below walk.now.m.now.listed walk.now.m.now.definitions walk.now.bound place args.now walk.now.places.now slate.old.cells.items walk.now.message.now pos walk.now.end).ending
+        ≡ ending_of v slate.new.trace slate.new.cells.items) }
+    ensures empty_trace { IfOk result (λ v. (q : ℕ) → v ≡ Verdict.Accept q → slate.new.trace ≡ []) }
 {
     if place as usize >= walk.bound {
         return Ok(Verdict::Reject {
@@ -65,8 +79,9 @@ pub fn named(
                 bound: place as usize,
                 places: walk.places,
                 message: walk.message,
+                end: walk.end,
             };
-            Ok(defined(&below, definition, args, end, pos, cells, trace)?)
+            Ok(defined(&below, definition, args, pos, slate)?)
         }
         None => Ok(Verdict::Reject {
             reason: Reason::Impossible,
@@ -81,15 +96,13 @@ fn defined(
     walk: &Walk<'_, '_, '_>,
     definition: &TypeDef,
     args: &[u64],
-    end: u32,
     pos: u32,
-    cells: &mut [u64],
-    trace: &mut Trace,
+    slate: &mut Slate,
 ) -> Result<Verdict, AllocError>
-    requires empty_trace { trace.old ≡ [] }
-    ensures ending { IfOk result (λ v. (definition_meaning walk.now.m.now.listed (below walk.now.m.now.listed walk.now.m.now.definitions walk.now.bound) (Some definition.now) args.now walk.now.places.now cells.old walk.now.message.now pos end).ending
-        ≡ ending_of v trace.new cells.new) }
-    ensures empty_trace { IfOk result (λ v. (q : ℕ) → v ≡ Verdict.Accept q → trace.new ≡ []) }
+    requires empty_trace { slate.old.trace ≡ [] }
+    ensures ending { IfOk result (λ v. (definition_meaning walk.now.m.now.listed (below walk.now.m.now.listed walk.now.m.now.definitions walk.now.bound) (Some definition.now) args.now walk.now.places.now slate.old.cells.items walk.now.message.now pos walk.now.end).ending
+        ≡ ending_of v slate.new.trace slate.new.cells.items) }
+    ensures empty_trace { IfOk result (λ v. (q : ℕ) → v ≡ Verdict.Accept q → slate.new.trace ≡ []) }
 {
     let guard = demand(
         is_met(&definition.guard, args),
@@ -97,7 +110,7 @@ fn defined(
         pos,
         pos,
     );
-    match framed(guard, definition.name, Spot::Where, pos, trace)? {
+    match framed(guard, definition.name, Spot::Where, pos, &mut slate.trace)? {
         Verdict::Accept { pos: _ } => {}
         Verdict::Reject { reason, pos } => return Ok(Verdict::Reject { reason, pos }),
     }
@@ -107,7 +120,7 @@ fn defined(
                 reason: Reason::Impossible,
                 pos,
             };
-            Ok(framed(none, definition.name, Spot::Switch, pos, trace)?)
+            Ok(framed(none, definition.name, Spot::Switch, pos, &mut slate.trace)?)
         }
         Some(fields) => {
             let mut env = Vec::from_slice(walk.alloc, args)?;
@@ -116,10 +129,8 @@ fn defined(
                 definition.name,
                 fields.as_slice(),
                 &mut env,
-                end,
                 pos,
-                cells,
-                trace,
+                slate,
             )?)
         }
     }
@@ -132,19 +143,17 @@ fn fields_in_order(
     ty: NameId,
     fields: &[Field],
     env: &mut Vec<u64>,
-    end: u32,
     start: u32,
-    cells: &mut [u64],
-    trace: &mut Trace,
+    slate: &mut Slate,
 ) -> Result<Verdict, AllocError>
-    requires empty_trace { trace.old ≡ [] }
-    ensures ending { IfOk result (λ v. (fields_meaning walk.now.m.now.listed (below walk.now.m.now.listed walk.now.m.now.definitions walk.now.bound) ty fields.now env.old.items walk.now.places.now walk.now.message.now end start cells.old).ending
-        ≡ ending_of v trace.new cells.new) }
-    ensures empty_trace { IfOk result (λ v. (q : ℕ) → v ≡ Verdict.Accept q → trace.new ≡ []) }
+    requires empty_trace { slate.old.trace ≡ [] }
+    ensures ending { IfOk result (λ v. (fields_meaning walk.now.m.now.listed (below walk.now.m.now.listed walk.now.m.now.definitions walk.now.bound) ty fields.now env.old.items walk.now.places.now walk.now.message.now walk.now.end start slate.old.cells.items).ending
+        ≡ ending_of v slate.new.trace slate.new.cells.items) }
+    ensures empty_trace { IfOk result (λ v. (q : ℕ) → v ≡ Verdict.Accept q → slate.new.trace ≡ []) }
 {
     let mut position = start;
     for field in fields {
-        match one_field(walk, ty, field, env, end, position, cells, trace)? {
+        match one_field(walk, ty, field, env, position, slate)? {
             Verdict::Accept { pos } => position = pos,
             Verdict::Reject { reason, pos } => return Ok(Verdict::Reject { reason, pos }),
         }
@@ -159,24 +168,38 @@ fn one_field(
     ty: NameId,
     field: &Field,
     env: &mut Vec<u64>,
-    end: u32,
     start: u32,
-    cells: &mut [u64],
-    trace: &mut Trace,
+    slate: &mut Slate,
 ) -> Result<Verdict, AllocError>
-    requires empty_trace { trace.old ≡ [] }
+    requires empty_trace { slate.old.trace ≡ [] }
     // what is left of the struct decides the whole of it
     ensures ending { IfOk result (λ v. (later : List Field)
-        → (fields_meaning walk.now.m.now.listed (below walk.now.m.now.listed walk.now.m.now.definitions walk.now.bound) ty (field.now ∷ later) env.old.items walk.now.places.now walk.now.message.now end start cells.old).ending
-        ≡ (and_then (plain (ending_of v trace.new cells.new)) (fields_meaning walk.now.m.now.listed (below walk.now.m.now.listed walk.now.m.now.definitions walk.now.bound) ty later env.new.items walk.now.places.now walk.now.message.now end)).ending) }
-    ensures empty_trace { IfOk result (λ v. (q : ℕ) → v ≡ Verdict.Accept q → trace.new ≡ []) }
+        → (fields_meaning walk.now.m.now.listed (below walk.now.m.now.listed walk.now.m.now.definitions walk.now.bound) ty (field.now ∷ later) env.old.items walk.now.places.now walk.now.message.now walk.now.end start slate.old.cells.items).ending
+        ≡ (and_then (plain (ending_of v slate.new.trace slate.new.cells.items)) (fields_meaning walk.now.m.now.listed (below walk.now.m.now.listed walk.now.m.now.definitions walk.now.bound) ty later env.new.items walk.now.places.now walk.now.message.now walk.now.end)).ending) }
+    ensures empty_trace { IfOk result (λ v. (q : ℕ) → v ≡ Verdict.Accept q → slate.new.trace ≡ []) }
 {
     let parts = field.parts.as_slice();
-    let verdict = content(walk, field, env.as_slice(), end, start, cells, trace)?;
-    match framed(verdict, ty, Spot::Field(first_name(parts)), start, trace)? {
+    let verdict = content(walk, field, env.as_slice(), start, slate)?;
+    match framed(
+        verdict,
+        ty,
+        Spot::Field(first_name(parts)),
+        start,
+        &mut slate.trace,
+    )? {
         Verdict::Accept { pos } => {
             let value = field_number(&field.element, &field.extent, walk.message, start);
-            Ok(check_parts(ty, parts, value, env, walk.places, cells, start, pos, trace)?)
+            Ok(check_parts(
+                ty,
+                parts,
+                value,
+                env,
+                walk.places,
+                slate.cells.as_mut_slice(),
+                start,
+                pos,
+                &mut slate.trace,
+            )?)
         }
         Verdict::Reject { reason, pos } => Ok(Verdict::Reject { reason, pos }),
     }
@@ -188,31 +211,28 @@ fn content(
     walk: &Walk<'_, '_, '_>,
     field: &Field,
     env: &[u64],
-    end: u32,
     start: u32,
-    cells: &mut [u64],
-    trace: &mut Trace,
+    slate: &mut Slate,
 ) -> Result<Verdict, AllocError>
-    requires empty_trace { trace.old ≡ [] }
-    ensures ending { IfOk result (λ v. (content_meaning walk.now.m.now.listed (below walk.now.m.now.listed walk.now.m.now.definitions walk.now.bound) field.now.element field.now.extent field.now.copy env.now walk.now.places.now walk.now.message.now end start cells.old).ending
-        ≡ ending_of v trace.new cells.new) }
-    ensures empty_trace { IfOk result (λ v. (q : ℕ) → v ≡ Verdict.Accept q → trace.new ≡ []) }
+    requires empty_trace { slate.old.trace ≡ [] }
+    ensures ending { IfOk result (λ v. (content_meaning walk.now.m.now.listed (below walk.now.m.now.listed walk.now.m.now.definitions walk.now.bound) field.now.element field.now.extent field.now.copy env.now walk.now.places.now walk.now.message.now walk.now.end start slate.old.cells.items).ending
+        ≡ ending_of v slate.new.trace slate.new.cells.items) }
+    ensures empty_trace { IfOk result (λ v. (q : ℕ) → v ≡ Verdict.Accept q → slate.new.trace ≡ []) }
 {
     if let Some(copy) = field.copy {
         if let Extent::Filling { size, .. } = &field.extent {
-            return Ok(copied(copy, value_of(size, env), walk.places, end, start, cells));
+            let cells = slate.cells.as_mut_slice();
+            return Ok(copied(
+                copy,
+                value_of(size, env),
+                walk.places,
+                walk.end,
+                start,
+                cells,
+            ));
         }
     }
-    Ok(shape(
-        walk,
-        &field.element,
-        &field.extent,
-        env,
-        end,
-        start,
-        cells,
-        trace,
-    )?)
+    Ok(shape(walk, &field.element, &field.extent, env, start, slate)?)
 }
 
 // An element, or an array of them.
@@ -222,28 +242,24 @@ fn shape(
     element: &Element,
     extent: &Extent,
     env: &[u64],
-    end: u32,
     start: u32,
-    cells: &mut [u64],
-    trace: &mut Trace,
+    slate: &mut Slate,
 ) -> Result<Verdict, AllocError>
-    requires empty_trace { trace.old ≡ [] }
-    ensures ending { IfOk result (λ v. (shape_meaning walk.now.m.now.listed (below walk.now.m.now.listed walk.now.m.now.definitions walk.now.bound) element.now extent.now env.now walk.now.places.now walk.now.message.now end start cells.old).ending
-        ≡ ending_of v trace.new cells.new) }
-    ensures empty_trace { IfOk result (λ v. (q : ℕ) → v ≡ Verdict.Accept q → trace.new ≡ []) }
+    requires empty_trace { slate.old.trace ≡ [] }
+    ensures ending { IfOk result (λ v. (shape_meaning walk.now.m.now.listed (below walk.now.m.now.listed walk.now.m.now.definitions walk.now.bound) element.now extent.now env.now walk.now.places.now walk.now.message.now walk.now.end start slate.old.cells.items).ending
+        ≡ ending_of v slate.new.trace slate.new.cells.items) }
+    ensures empty_trace { IfOk result (λ v. (q : ℕ) → v ≡ Verdict.Accept q → slate.new.trace ≡ []) }
 {
     match extent {
-        Extent::Once => Ok(one_element(walk, element, env, start, end, start, cells, trace)?),
+        Extent::Once => Ok(one_element(walk, element, env, start, start, slate)?),
         Extent::Filling { size, step } => Ok(filling(
             walk,
             element,
             value_of(size, env),
             *step,
             env,
-            end,
             start,
-            cells,
-            trace,
+            slate,
         )?),
         Extent::OnceFilling { size, step } => Ok(once_filling(
             walk,
@@ -251,13 +267,11 @@ fn shape(
             value_of(size, env),
             *step,
             env,
-            end,
             start,
-            cells,
-            trace,
+            slate,
         )?),
         Extent::UpToZero { size } => {
-            Ok(up_to_zero(element, value_of(size, env), walk.message, end, start))
+            Ok(up_to_zero(element, value_of(size, env), walk.message, walk.end, start))
         }
     }
 }
@@ -270,17 +284,15 @@ fn filling(
     size: u64,
     step: Option<u64>,
     env: &[u64],
-    end: u32,
     start: u32,
-    cells: &mut [u64],
-    trace: &mut Trace,
+    slate: &mut Slate,
 ) -> Result<Verdict, AllocError>
-    requires empty_trace { trace.old ≡ [] }
-    ensures ending { IfOk result (λ v. (filled (element_meaning walk.now.m.now.listed (below walk.now.m.now.listed walk.now.m.now.definitions walk.now.bound) element.now env.now walk.now.places.now walk.now.message.now start) step size end start cells.old).ending
-        ≡ ending_of v trace.new cells.new) }
-    ensures empty_trace { IfOk result (λ v. (q : ℕ) → v ≡ Verdict.Accept q → trace.new ≡ []) }
+    requires empty_trace { slate.old.trace ≡ [] }
+    ensures ending { IfOk result (λ v. (filled (element_meaning walk.now.m.now.listed (below walk.now.m.now.listed walk.now.m.now.definitions walk.now.bound) element.now env.now walk.now.places.now walk.now.message.now start) step size walk.now.end start slate.old.cells.items).ending
+        ≡ ending_of v slate.new.trace slate.new.cells.items) }
+    ensures empty_trace { IfOk result (λ v. (q : ℕ) → v ≡ Verdict.Accept q → slate.new.trace ≡ []) }
 {
-    match place_after(start, size, end) {
+    match place_after(start, size, walk.end) {
         None => Ok(Verdict::Reject {
             reason: Reason::NotEnough,
             pos: start,
@@ -289,7 +301,8 @@ fn filling(
             if !divides(step, size) {
                 return Ok(unfit(start));
             }
-            Ok(all_elements(walk, element, env, stop, start, cells, trace)?)
+            let within = up_to(walk, stop);
+            Ok(all_elements(&within, element, env, start, slate)?)
         }
     }
 }
@@ -302,17 +315,15 @@ fn once_filling(
     size: u64,
     step: Option<u64>,
     env: &[u64],
-    end: u32,
     start: u32,
-    cells: &mut [u64],
-    trace: &mut Trace,
+    slate: &mut Slate,
 ) -> Result<Verdict, AllocError>
-    requires empty_trace { trace.old ≡ [] }
-    ensures ending { IfOk result (λ v. (filled_once (element_meaning walk.now.m.now.listed (below walk.now.m.now.listed walk.now.m.now.definitions walk.now.bound) element.now env.now walk.now.places.now walk.now.message.now start) step size end start cells.old).ending
-        ≡ ending_of v trace.new cells.new) }
-    ensures empty_trace { IfOk result (λ v. (q : ℕ) → v ≡ Verdict.Accept q → trace.new ≡ []) }
+    requires empty_trace { slate.old.trace ≡ [] }
+    ensures ending { IfOk result (λ v. (filled_once (element_meaning walk.now.m.now.listed (below walk.now.m.now.listed walk.now.m.now.definitions walk.now.bound) element.now env.now walk.now.places.now walk.now.message.now start) step size walk.now.end start slate.old.cells.items).ending
+        ≡ ending_of v slate.new.trace slate.new.cells.items) }
+    ensures empty_trace { IfOk result (λ v. (q : ℕ) → v ≡ Verdict.Accept q → slate.new.trace ≡ []) }
 {
-    match place_after(start, size, end) {
+    match place_after(start, size, walk.end) {
         None => Ok(Verdict::Reject {
             reason: Reason::NotEnough,
             pos: start,
@@ -321,7 +332,8 @@ fn once_filling(
             if !equals(step, size) {
                 return Ok(unfit(start));
             }
-            match one_element(walk, element, env, start, stop, start, cells, trace)? {
+            let within = up_to(walk, stop);
+            match one_element(&within, element, env, start, start, slate)? {
                 Verdict::Accept { pos } => Ok(demand(pos == stop, Reason::ListSize, start, pos)),
                 Verdict::Reject { reason, pos } => Ok(Verdict::Reject { reason, pos }),
             }
@@ -335,28 +347,26 @@ fn all_elements(
     walk: &Walk<'_, '_, '_>,
     element: &Element,
     env: &[u64],
-    end: u32,
     start: u32,
-    cells: &mut [u64],
-    trace: &mut Trace,
+    slate: &mut Slate,
 ) -> Result<Verdict, AllocError>
-    requires empty_trace { trace.old ≡ [] }
-    ensures ending { IfOk result (λ v. (elements (element_meaning walk.now.m.now.listed (below walk.now.m.now.listed walk.now.m.now.definitions walk.now.bound) element.now env.now walk.now.places.now walk.now.message.now start end) (suc (end - start)) start end start cells.old).ending
-        ≡ ending_of v trace.new cells.new) }
-    ensures empty_trace { IfOk result (λ v. (q : ℕ) → v ≡ Verdict.Accept q → trace.new ≡ []) }
+    requires empty_trace { slate.old.trace ≡ [] }
+    ensures ending { IfOk result (λ v. (elements (element_meaning walk.now.m.now.listed (below walk.now.m.now.listed walk.now.m.now.definitions walk.now.bound) element.now env.now walk.now.places.now walk.now.message.now start walk.now.end) (suc (walk.now.end - start)) start walk.now.end start slate.old.cells.items).ending
+        ≡ ending_of v slate.new.trace slate.new.cells.items) }
+    ensures empty_trace { IfOk result (λ v. (q : ℕ) → v ≡ Verdict.Accept q → slate.new.trace ≡ []) }
 {
-    let size = end.saturating_sub(start) as u64;
+    let size = walk.end.saturating_sub(start) as u64;
     let mut position = start;
     for turn in 0..size + 1 {
-        if position == end {
+        if position == walk.end {
             return Ok(Verdict::Accept { pos: position });
         }
-        match one_element(walk, element, env, start, end, position, cells, trace)? {
+        match one_element(walk, element, env, start, position, slate)? {
             Verdict::Accept { pos } => position = pos,
             Verdict::Reject { reason, pos } => return Ok(Verdict::Reject { reason, pos }),
         }
     }
-    Ok(demand(position == end, Reason::ListSize, start, position))
+    Ok(demand(position == walk.end, Reason::ListSize, start, position))
 }
 
 // An element of a field that began at `start`.
@@ -366,21 +376,21 @@ fn one_element(
     element: &Element,
     env: &[u64],
     start: u32,
-    end: u32,
     pos: u32,
-    cells: &mut [u64],
-    trace: &mut Trace,
+    slate: &mut Slate,
 ) -> Result<Verdict, AllocError>
-    requires empty_trace { trace.old ≡ [] }
-    ensures ending { IfOk result (λ v. (element_meaning walk.now.m.now.listed (below walk.now.m.now.listed walk.now.m.now.definitions walk.now.bound) element.now env.now walk.now.places.now walk.now.message.now start end pos cells.old).ending
-        ≡ ending_of v trace.new cells.new) }
-    ensures empty_trace { IfOk result (λ v. (q : ℕ) → v ≡ Verdict.Accept q → trace.new ≡ []) }
+    requires empty_trace { slate.old.trace ≡ [] }
+    ensures ending { IfOk result (λ v. (element_meaning walk.now.m.now.listed (below walk.now.m.now.listed walk.now.m.now.definitions walk.now.bound) element.now env.now walk.now.places.now walk.now.message.now start walk.now.end pos slate.old.cells.items).ending
+        ≡ ending_of v slate.new.trace slate.new.cells.items) }
+    ensures empty_trace { IfOk result (λ v. (q : ℕ) → v ≡ Verdict.Accept q → slate.new.trace ≡ []) }
 {
     match element {
-        Element::Number(number_type) => Ok(pass(byte_count(number_type.width), start, end, pos)),
+        Element::Number(number_type) => {
+            Ok(pass(byte_count(number_type.width), start, walk.end, pos))
+        }
         Element::Listed { base, values } => {
             let values = values_at(walk.m.listed.as_slice(), *values);
-            Ok(listed_number(*base, values, walk.message, start, end, pos))
+            Ok(listed_number(*base, values, walk.message, start, walk.end, pos))
         }
         Element::Named {
             definition,
@@ -395,19 +405,12 @@ fn one_element(
                 bound: walk.bound,
                 places: own.as_slice(),
                 message: walk.message,
+                end: walk.end,
             };
-            Ok(named(
-                &within,
-                *definition,
-                args.as_slice(),
-                end,
-                pos,
-                cells,
-                trace,
-            )?)
+            Ok(named(&within, *definition, args.as_slice(), pos, slate)?)
         }
         Element::Unit => Ok(Verdict::Accept { pos }),
-        Element::Rest => Ok(Verdict::Accept { pos: end }),
-        Element::Zeros => Ok(zeros(walk.message, end, pos)),
+        Element::Rest => Ok(Verdict::Accept { pos: walk.end }),
+        Element::Zeros => Ok(zeros(walk.message, walk.end, pos)),
     }
 }

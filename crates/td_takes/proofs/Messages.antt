@@ -32,8 +32,8 @@ use Rattle.td_takes.specs.Takes.{message_layout, Describes, IsMessage, IsDescrip
 pub message_by : (job : HostJob) (m : Module) (entry : Entry) (place size : ℕ) (r : Reply) (layout : List Stretch) (loads : List Load) (o : Outcome)
     → IsVersion job 0 m entry → r.guest ≡ 0 → version_in r ≡ 0 → r.layout ≡ Some layout → layout ≡ message_layout place size → r.loads.list ≡ loads → outcome_in r ≡ o
     → IsMeantUnder job m entry layout loads o → IsMessage job place size r
-message_by job m entry place size r layout loads o version guest number lies e f g fetched = record {
-  is = record { guest = guest; number = number; list = lies ∙ ap (λ l. Some l) e };
+message_by job m entry place size r layout loads o version guest first lies e f g fetched = record {
+  is = record { guest = guest; version = first; list = lies ∙ ap (λ l. Some l) e };
   format = m;
   entry = entry;
   version = version;
@@ -74,7 +74,7 @@ described m c room most look frame verdict d code v o =
     let t = subst (λ (x : List Load × Outcome). IsValidated c room most x.0 x.1) (λ i. (sym o.loads i, sym o.outcome i)) v in
     let w = t.validated in
     record {
-      is = record { guest = o.guest; number = o.number; list = o.layout };
+      is = record { guest = o.guest; version = o.version; list = o.layout };
       cells = t.cells;
       fetched = record {
         rising = w.rising;

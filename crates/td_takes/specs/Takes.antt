@@ -1,5 +1,5 @@
 -- Takes from a ring: what each answers, and what its seat loaded (own rule).
-use Rattle.std.specs.Prelude.{◌≡◌, ℕ, ◌+◌, ◌*◌, ◌/◌, ◌<◌, ◌≤◌, ◌^◌, List, [], ◌∷◌, ◌++◌, map, length, vec_capacity, Option, Some, None}
+use Rattle.std.specs.Prelude.{◌≡◌, ℕ, ◌+◌, ◌*◌, ◌/◌, ◌<◌, ◌≤◌, ◌^◌, List, [], ◌∷◌, ◌++◌, map, length, vec_capacity, Option, Some, None, IfSome}
 use Rattle.td_num.specs.Lists.{AreBytes}
 use Rattle.td_core.specs.declared.module.Module.{Module}
 use Rattle.td_core.specs.declared.module.Entry.{Entry}
@@ -46,10 +46,10 @@ pub record Describes (m : Module) (c : Parts) (room most : ℕ) : Type 0 where
   pub sound : (b : List ℕ) → AreBytes b → length b < 2 ^ 32 → IsSoundOn m room most b
 
 -- ---- one take
--- a reply of no guest, whose number of a version is 0, and whose message has this list of stretches or none
+-- a reply of no guest, under version 0, whose message has this list of stretches or none
 pub record IsOfNoGuest (r : Reply) (stretches : Option (List Stretch)) : Type 0 where
   pub guest : r.guest ≡ 0
-  pub number : version_in r ≡ 0
+  pub version : version_in r ≡ 0
   pub list : r.layout ≡ stretches
 
 -- the reply to a message of this place and size: it was validated under version 0
@@ -88,10 +88,16 @@ IsAnswer Lost m room most taken t = (t.next ≡ Overrun t.head) × (t.descr ≡ 
 IsAnswer Waiting m room most taken t =
     (d : Reply) × (t.descr ≡ Some d) × IsDescriptor m room most d × (t.next ≡ answer taken d.verdict d.cells.items)
 
--- a take of a ring of which so many descriptors were taken, by this module of descriptors, in a buffer of `room` bytes
+-- a reply that is there has this number
+abbrev pub HasNumber : ℕ → Option Reply → Type 0
+HasNumber n r = IfSome r (λ x. x.number ≡ n)
+
+-- a take of a ring of which so many descriptors were taken, by this module of descriptors, in a buffer of `room` bytes; its replies have
+-- its number
 pub record IsTake (job : HostJob) (m : Module) (room : ℕ) (ring : RingJob) (taken : ℕ) (t : Take) : Type 0 where
   pub answers : IsAnswer (standing ring.entries taken t.head) m room ring.most taken t
   pub message : HasMessage job t.next t.message
+  pub numbered : HasNumber t.number t.descr × HasNumber t.number t.message
 
 -- ---- its loads
 abbrev pub loads_of : Option Reply → List Load

@@ -6,7 +6,7 @@ ghost use Rattle.td_vm.specs.Frames.{IsArmed};
 ghost use Rattle.td_posts.specs.declared.limits.TheConstants.{MOST_ENTRIES as most_entries};
 ghost use Rattle.td_descr.specs.Ring.{Answers, LiesWithin, ring_words, standing};
 ghost use Rattle.td_takes.specs.Codes.{IsMessageCode};
-ghost use Rattle.td_takes.specs.Takes.{Describes, IsMessageRoom, IsRoom, AreRooms, IsTake, RanRing, HasMessage, IsDescRoom, IfJudged, HasDone, frames_of, message_steps, take_steps, taken_after};
+ghost use Rattle.td_takes.specs.Takes.{Describes, IsMessageRoom, IsRoom, AreRooms, IsTake, RanRing, HasMessage, HasNumber, IsDescRoom, IfJudged, HasDone, frames_of, message_steps, take_steps, taken_after};
 ghost use Rattle.td_takes.specs.Kept.{IsKept};
 ghost use Rattle.td_takes.specs.Memory.{KeepsMemory, KeepsRoom, KeepRooms};
 
@@ -30,6 +30,7 @@ fn desc_reply(descr: &Descr, number: u32, mut room: Reply) -> Option<Reply>
     requires room { IsDescRoom (frames_of descr.now.code) room }
     requires cells { IfJudged descr.now.last.verdict (length descr.now.frame.cells ≡ 3) }
     ensures kept { IsKept descr.now.last descr.now.frame result }
+    ensures number { HasNumber number result }
     ensures memory { IfSome result (KeepsMemory room) }
 {
     let last = descr.last();
@@ -60,6 +61,7 @@ fn message_of(
     ensures table { seat.new.table ≡ seat.old.table }
     ensures armed { IsArmed validator.now.code.now frame.new }
     ensures message { HasMessage validator.now.job.now next result }
+    ensures number { HasNumber number result }
     ensures read { HasDone seat.old seat.new (message_steps next result) }
     ensures memory { IfSome result (KeepsMemory room) }
 {

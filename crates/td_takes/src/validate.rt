@@ -65,6 +65,7 @@ pub fn reply_of(
     requires room { frame.now.trace_room ≤ vec_capacity room.trace }
     requires cells { length room.cells.items ≡ length frame.now.cells }
     ensures guest { result.guest ≡ 0 }
+    ensures number { result.number ≡ number }
     ensures version { result.version ≡ 0 }
     ensures layout { result.layout ≡ layout }
     ensures outcome { outcome_in result ≡ record { verdict = verdict; trace = frame.now.trace; cells = frame.now.cells; copies = held_by room.copies.buffers.items } }
@@ -114,6 +115,7 @@ pub fn validate_message(
     ensures table { seat.new.table ≡ seat.old.table }
     ensures armed { IsArmed validator.now.code.now frame.new }
     ensures message { IsMessage validator.now.job.now place size result }
+    ensures number { result.number ≡ number }
     ensures read { HasLoaded (message_layout place size) seat.old seat.new result.loads.list }
     ensures memory { KeepsMemory room result }
 {

@@ -19,7 +19,7 @@ use td_lower::lower::lower;
 use td_lower_means::laws::arguments_fit;
 use td_meaning_plain::meaning::meaning;
 use td_num::items::Items;
-use td_run::planned::{Memory, Run, run_planned};
+use td_run::planned::{Memory, Run, Start, run_planned};
 use td_sched::planned::Planned;
 use td_stream::laws::message_is_short;
 use td_stream::layout::Layout;
@@ -39,6 +39,11 @@ pub fn run_compiled(alloc: Global, m: &Module, job: &RunJob) -> Result<Run, Allo
     let code = lower(alloc, m)?;
     let args = job.args.as_slice();
     let cells = job.cells.as_slice();
+    let start = Start {
+        entry: job.entry,
+        args,
+        cells,
+    };
     let words = job.words.as_slice();
     let stores = job.stores.as_slice();
     let layout = job.layout.as_ref();
@@ -47,7 +52,7 @@ pub fn run_compiled(alloc: Global, m: &Module, job: &RunJob) -> Result<Run, Allo
         stores,
         layout,
     };
-    run_planned(alloc, &code, job.entry, args, cells, job.length, &memory)
+    run_planned(alloc, &code, &start, job.length, &memory)
 }
 
 // Runs the validator once, without code, on a message that lies so in planned words, of which at most `room` may be loaded.

@@ -1,308 +1,445 @@
 -- The answers of elements and arrays.
-use Rattle.std.proofs.Common.{rules, ◌≡◌, ℕ, suc, ◌+◌, ◌-◌, ◌<◌, ◌≤◌, [], true, false, refl, sym, ap, ◌∙◌, subst, arith}
+use Rattle.std.proofs.Common.{rules, ◌≡◌, ℕ, suc, ◌+◌, ◌-◌, ◌*◌, ◌<◌, ◌≤◌, List, [], length, true, false, refl, sym, ap, ◌∙◌, subst, arith}
 use Rattle.std.specs.Prelude.{slice_index, map, nat_eq, Option, IfSome}
+use Rattle.std.proofs.lemmas.Grind.{common_steps}
 use Rattle.std.proofs.lemmas.Result.{err_from_is_err_and}
 use Rattle.td_core.specs.declared.module.Element.{Element}
 use Rattle.td_core.specs.declared.module.Extent.{Extent}
+use Rattle.td_core.specs.declared.module.TypeDef.{TypeDef}
 use Rattle.td_core.specs.declared.outcome.Reason.TheVariants.{NotEnough, ListSize}
+use Rattle.td_core.specs.declared.outcome.TraceFrame.{TraceFrame}
 use Rattle.td_core.specs.declared.outcome.Verdict.{Verdict}
-use Rattle.td_core.specs.declared.outcome.Verdict.TheVariants.{Accept}
-use Rattle.td_core.specs.Outcome.{Ending, Rejected, plain, and_then, within, accepted}
-use Rattle.td_meaning.specs.Meaning.{elements, filled, filled_once, demanded, divides, equals}
-use Rattle.td_meaning.specs.Machine.{values, below, shape_meaning, element_meaning}
-use Rattle.td_meaning.specs.Verdicts.{ending_of}
-use Rattle.td_stream.proofs.Places.{look_nowhere}
-use Rattle.td_direct.proofs.Stepping.{step_trans, step_still, step_from, step_to, step_then, only_after, only_from, only_then}
-use Rattle.td_stream.proofs.Stages.{later_trans, carried}
+use Rattle.td_core.specs.declared.outcome.Verdict.TheVariants.{Accept, Reject}
+use Rattle.td_core.specs.Outcome.{plain, and_then, accepted}
+use Rattle.td_meaning.specs.Meaning.{values_of, taken, zeros_meaning, elements, element_up_to_zero, filled, filled_once, demanded, divides, equals}
+use Rattle.td_meaning.specs.Machine.{values, below, listed_meaning, shape_meaning, element_meaning}
+use Rattle.td_meaning.specs.Verdicts.{ending_of, IsAt}
+use Rattle.td_stream.specs.Copies.{rooms_of}
+use Rattle.td_stream.specs.StreamInvariant.{Moves, position}
 use Rattle.td_direct.specs.Arrays.{once_rest}
 use Rattle.td_direct.specs.Passing.{IsPassed, passes_all}
-use Rattle.td_direct.proofs.TypeLemmas.{filled_fit, once_short, once_fit, elements_over, elements_done, elements_on, window_pass}
+use Rattle.td_direct.specs.Placing.{IsElementPlaced}
+use Rattle.td_direct.specs.Validates.{senses}
+use Rattle.td_direct.proofs.TypeLemmas.{filled_unfit, filled_fit, once_short, once_unfit, once_fit, elements_over, elements_done, elements_on, window_pass}
+use Rattle.td_direct.proofs.Validations.{lent_self, lent_size, from, to, then, followed, still, rejects, accepts, unwritten, passed, windowed, out_from, out_then, out_after, out_still, out_windowed}
 use Rattle.td_direct.proofs.+types.Goals as goal
 use Rattle.td_meaning.proofs.Filling.{filled_short, accepted_at}
+
+-- Elements of an array
 
 pub arrays::validate_elements-loop-turn-init : goal.arrays::validate_elements-loop-turn-init
 arrays::validate_elements-loop-turn-init g t c =
     let a = c.args in
     let s = a.stream.now in
+    let m = a.walk.now.types.now.module.now in
+    let same : suc (s.end - s.pos) ≡ suc (s.end - s.pos) - 0 = omega arith in
     record {
-      later = search rules;
-      whole = c.requires.whole;
-      end = refl;
-      empty_trace = c.requires.empty_trace;
-      rooms = refl;
-      held = λ b h x. x;
-      step = λ b h.
-          let each = element_meaning a.walk.now.types.now.module.now.listed (below a.walk.now.types.now.module.now.listed a.walk.now.types.now.module.now.definitions a.walk.now.bound) a.element.now a.env.now a.walk.now.places.now b a.start s.end in
-          let same : suc (s.end - s.pos) ≡ suc (s.end - s.pos) - 0 = omega arith in
-          step_to s s _ _ _ (step_still s s (elements each (suc (s.end - s.pos)) a.start s.end s.pos a.cells.now) refl refl) (ap (λ m. elements each m a.start s.end s.pos a.cells.now) same);
+      led = still g.met.W.Words.reaches_itself s (Accept s.pos) _ _ c.requires.whole (lent_self a.slate.now) refl refl (refl, c.requires.empty_trace)
+          (λ b. ap (λ k. elements (element_meaning m.listed (senses m a.walk.now.bound) a.element.now a.env.now a.walk.now.places.now b a.start s.end) k a.start s.end s.pos a.slate.now.cells.now) same);
     }
 
-pub arrays::validate_elements-returns-then-pos-end-clause-step : goal.arrays::validate_elements-returns-then-pos-end-clause-step
-arrays::validate_elements-returns-then-pos-end-clause-step g t c = λ b h.
+pub arrays::validate_elements-validate_element-requires : goal.arrays::validate_elements-validate_element-requires
+arrays::validate_elements-validate_element-requires g t c =
     let a = c.args in
-    let s0 = a.stream.now in
     let l = c.loop-turn in
-    let i = l.invariant in
-    let s = l.stream in
-    let each = element_meaning a.walk.now.types.now.module.now.listed (below a.walk.now.types.now.module.now.listed a.walk.now.types.now.module.now.definitions a.walk.now.bound) a.element.now a.env.now a.walk.now.places.now b a.start s0.end in
-    let full = suc (s0.end - s0.pos) - l.turn in
-    let more = s0.end - s0.pos - l.turn in
-    let is : full ≡ suc more = omega (arith, c.loop-turn-test.true, c.end.ensures, c.pos.ensures) in
-    let at : s.pos ≡ s0.end = sym c.pos-in-loop-turn.ensures ∙ c.if-pos-end.true ∙ c.end-in-loop-turn.ensures ∙ i.end in
-    step_to s0 s _ _ _ (i.step b h) (elements_done each full more a.start s0.end s.pos l.cells is at ∙ (λ k. accepted (sym c.pos-then-pos-end.ensures k) l.cells))
+    let i = l.invariant.led in
+    let ds : List TypeDef = a.walk.now.types.now.module.now.definitions in
+    let whole = i.stream in
+    let empty_trace = i.at.1 in
+    let size : length l.slate.cells.now ≡ a.walk.now.first + 2 * length l.slate.copies.now = lent_size a.slate.now l.slate a.walk.now.first i.lent c.requires.size in
+    let placed : IsElementPlaced ds a.walk.now.places.now a.walk.now.first (rooms_of l.slate.copies.now) a.element.now = subst (λ rooms. IsElementPlaced ds a.walk.now.places.now a.walk.now.first rooms a.element.now) (sym i.lent.rooms) c.requires.placed in
+    first_of (search (rules, whole, empty_trace, size, placed), grind (arith, common_steps, whole, empty_trace, size, placed))
 
-pub arrays::validate_elements-returns-in-Reject-clause-step : goal.arrays::validate_elements-returns-in-Reject-clause-step
-arrays::validate_elements-returns-in-Reject-clause-step g t c = λ b h.
+pub arrays::validate_elements-returns-then-pos-end-clause-decides : goal.arrays::validate_elements-returns-then-pos-end-clause-decides
+arrays::validate_elements-returns-then-pos-end-clause-decides g t c =
     let a = c.args in
     let s0 = a.stream.now in
     let l = c.loop-turn in
-    let i = l.invariant in
+    let i = l.invariant.led in
     let s = l.stream in
-    let each = element_meaning a.walk.now.types.now.module.now.listed (below a.walk.now.types.now.module.now.listed a.walk.now.types.now.module.now.definitions a.walk.now.bound) a.element.now a.env.now a.walk.now.places.now b a.start s0.end in
+    let m = a.walk.now.types.now.module.now in
     let full = suc (s0.end - s0.pos) - l.turn in
     let more = s0.end - s0.pos - l.turn in
     let is : full ≡ suc more = omega (arith, c.loop-turn-test.true, c.end.ensures, c.pos.ensures) in
-    let n = c.validate_element.new.stream in
-    let both = carried s0 s n b i.later c.validate_element.ensures.later h in
-    let apart : s.pos ≡ s0.end → ⊥ = λ e. c.if-pos-end.false (c.pos-in-loop-turn.ensures ∙ e ∙ sym (c.end-in-loop-turn.ensures ∙ i.end)) in
-    let ends = ap (λ e. element_meaning a.walk.now.types.now.module.now.listed (below a.walk.now.types.now.module.now.listed a.walk.now.types.now.module.now.definitions a.walk.now.bound) a.element.now a.env.now a.walk.now.places.now b a.start e s.pos l.cells) (sym i.end) in
-    let on = elements_on each full more a.start s0.end s.pos l.cells is apart in
-    let step = step_from s n _ _ _ ends (c.in_ok-validate_element.ensures.step b both.1) in
-    let o : Ending = ending_of c.in_ok-validate_element.field-0 c.validate_element.new.trace c.validate_element.new.cells in
-    step_to s0 n _ _ _ (step_trans s0 s n _ _ _ (i.step b both.0) (step_from s n _ _ _ on (step_then s n (each s.pos l.cells) o (elements each more a.start s0.end) step)))
-    (ap (λ (v : Verdict). and_then (plain (ending_of v c.validate_element.new.trace c.validate_element.new.cells)) (elements each more a.start s0.end)) c.in-Reject.is)
+    let at : s.pos ≡ s0.end = sym c.pos-in-loop-turn.ensures ∙ c.if-pos-end.true ∙ c.end-in-loop-turn.ensures ∙ i.ends in
+    to (Accept c.pos-then-pos-end.result) _ (c.pos-then-pos-end.ensures, i.at.1)
+    (λ b. elements_done (element_meaning m.listed (senses m a.walk.now.bound) a.element.now a.env.now a.walk.now.places.now b a.start s0.end) full more a.start s0.end s.pos l.slate.cells.now is at ∙ (λ k. accepted (sym c.pos-then-pos-end.ensures k) l.slate.cells.now)) i
 
-pub arrays::validate_elements-returns-in_err-validate_element-clause-only : goal.arrays::validate_elements-returns-in_err-validate_element-clause-only
-arrays::validate_elements-returns-in_err-validate_element-clause-only g t c = let p = err_from_is_err_and c.from_residual.result c.from_residual.ensures.1 in rw p.1 (λ b h.
+pub arrays::validate_elements-returns-in-Reject-clause-decides : goal.arrays::validate_elements-returns-in-Reject-clause-decides
+arrays::validate_elements-returns-in-Reject-clause-decides g t c =
     let a = c.args in
     let s0 = a.stream.now in
     let l = c.loop-turn in
-    let i = l.invariant in
+    let i = l.invariant.led in
     let s = l.stream in
-    let each = element_meaning a.walk.now.types.now.module.now.listed (below a.walk.now.types.now.module.now.listed a.walk.now.types.now.module.now.definitions a.walk.now.bound) a.element.now a.env.now a.walk.now.places.now b a.start s0.end in
+    let m = a.walk.now.types.now.module.now in
+    let y = c.validate_element.new.slate in
+    let each = λ (b : List ℕ). element_meaning m.listed (senses m a.walk.now.bound) a.element.now a.env.now a.walk.now.places.now b a.start s0.end in
     let full = suc (s0.end - s0.pos) - l.turn in
     let more = s0.end - s0.pos - l.turn in
     let is : full ≡ suc more = omega (arith, c.loop-turn-test.true, c.end.ensures, c.pos.ensures) in
-    let n = c.validate_element.new.stream in
-    let both = carried s0 s n b i.later c.validate_element.ensures.later h in
-    let apart : s.pos ≡ s0.end → ⊥ = λ e. c.if-pos-end.false (c.pos-in-loop-turn.ensures ∙ e ∙ sym (c.end-in-loop-turn.ensures ∙ i.end)) in
-    let ends = ap (λ e. element_meaning a.walk.now.types.now.module.now.listed (below a.walk.now.types.now.module.now.listed a.walk.now.types.now.module.now.definitions a.walk.now.bound) a.element.now a.env.now a.walk.now.places.now b a.start e s.pos l.cells) (sym i.end) in
-    let on = elements_on each full more a.start s0.end s.pos l.cells is apart in
-    only_after s0 s n _ _ (i.step b both.0) (only_from g.W.Words.loads s n _ _ on (only_then g.W.Words.loads s n (each s.pos l.cells) (elements each more a.start s0.end) (only_from g.W.Words.loads s n _ _ ends (c.in_err-validate_element.ensures.only b both.1)))))
+    let apart : s.pos ≡ s0.end → ⊥ = λ e. c.if-pos-end.false (c.pos-in-loop-turn.ensures ∙ e ∙ sym (c.end-in-loop-turn.ensures ∙ i.ends)) in
+    to (Reject c.in-Reject.reason c.in-Reject.pos) _ tt (λ b. ap (λ (v : Verdict). and_then (plain (ending_of v y.trace.now y.cells.now)) (elements (each b) more a.start s0.end)) c.in-Reject.is)
+    (then g.met.W.Words.reaches_on i
+    (from _ (λ b. elements_on (each b) full more a.start s0.end s.pos l.slate.cells.now is apart)
+    (followed (λ b. elements (each b) more a.start s0.end)
+    (from _ (λ b. ap (λ e. element_meaning m.listed (senses m a.walk.now.bound) a.element.now a.env.now a.walk.now.places.now b a.start e s.pos l.slate.cells.now) (sym i.ends)) c.in_ok-validate_element.ensures.decides))))
+
+pub arrays::validate_elements-returns-in_err-validate_element-clause-runs_out : goal.arrays::validate_elements-returns-in_err-validate_element-clause-runs_out
+arrays::validate_elements-returns-in_err-validate_element-clause-runs_out g t c = let p = err_from_is_err_and c.from_residual.result c.from_residual.ensures.1 in rw p.1 (
+    let a = c.args in
+    let s0 = a.stream.now in
+    let l = c.loop-turn in
+    let i = l.invariant.led in
+    let s = l.stream in
+    let m = a.walk.now.types.now.module.now in
+    let each = λ (b : List ℕ). element_meaning m.listed (senses m a.walk.now.bound) a.element.now a.env.now a.walk.now.places.now b a.start s0.end in
+    let full = suc (s0.end - s0.pos) - l.turn in
+    let more = s0.end - s0.pos - l.turn in
+    let is : full ≡ suc more = omega (arith, c.loop-turn-test.true, c.end.ensures, c.pos.ensures) in
+    let apart : s.pos ≡ s0.end → ⊥ = λ e. c.if-pos-end.false (c.pos-in-loop-turn.ensures ∙ e ∙ sym (c.end-in-loop-turn.ensures ∙ i.ends)) in
+    out_after g.met.W.Words.reaches_on i
+    (out_from _ (λ b. elements_on (each b) full more a.start s0.end s.pos l.slate.cells.now is apart)
+    (out_then (λ b. elements (each b) more a.start s0.end)
+    (out_from _ (λ b. ap (λ e. element_meaning m.listed (senses m a.walk.now.bound) a.element.now a.env.now a.walk.now.places.now b a.start e s.pos l.slate.cells.now) (sym i.ends)) c.in_err-validate_element.ensures.runs_out))))
 
 pub arrays::validate_elements-loop-turn-preserved : goal.arrays::validate_elements-loop-turn-preserved
 arrays::validate_elements-loop-turn-preserved g t c =
     let a = c.args in
     let s0 = a.stream.now in
     let l = c.loop-turn in
-    let i = l.invariant in
+    let i = l.invariant.led in
     let s = l.stream in
+    let m = a.walk.now.types.now.module.now in
+    let n = c.validate_element.new.stream in
+    let y = c.validate_element.new.slate in
+    let each = λ (b : List ℕ). element_meaning m.listed (senses m a.walk.now.bound) a.element.now a.env.now a.walk.now.places.now b a.start s0.end in
     let full = suc (s0.end - s0.pos) - l.turn in
     let more = s0.end - s0.pos - l.turn in
     let is : full ≡ suc more = omega (arith, c.loop-turn-test.true, c.end.ensures, c.pos.ensures) in
-    let e = c.in_ok-validate_element.ensures in
-    let n = c.validate_element.new.stream in
-    let at = accepted_at c.in_ok-validate_element.field-0 c.in-Accept.pos n.pos c.validate_element.new.trace c.in-Accept.is e.at in
+    let apart : s.pos ≡ s0.end → ⊥ = λ e. c.if-pos-end.false (c.pos-in-loop-turn.ensures ∙ e ∙ sym (c.end-in-loop-turn.ensures ∙ i.ends)) in
+    let e = c.in_ok-validate_element.ensures.decides in
+    let at = accepted_at c.in_ok-validate_element.field-0 c.in-Accept.pos n.pos y.trace.now c.in-Accept.is e.at in
     let fewer : more ≡ suc (s0.end - s0.pos) - (l.turn + 1) = omega arith in
     record {
-      later = later_trans g.met.W.Words.reaches_on s0 s n i.later c.validate_element.ensures.later;
-      whole = c.validate_element.ensures.whole;
-      end = e.end ∙ i.end;
-      empty_trace = at.1;
-      rooms = c.validate_element.ensures.rooms ∙ i.rooms;
-      held = λ b h x. let both = carried s0 s n b i.later c.validate_element.ensures.later h in e.held b both.1 (i.held b both.0 x);
-      step = λ b h.
-          let each = element_meaning a.walk.now.types.now.module.now.listed (below a.walk.now.types.now.module.now.listed a.walk.now.types.now.module.now.definitions a.walk.now.bound) a.element.now a.env.now a.walk.now.places.now b a.start s0.end in
-          let both = carried s0 s n b i.later c.validate_element.ensures.later h in
-          let apart : s.pos ≡ s0.end → ⊥ = λ e. c.if-pos-end.false (c.pos-in-loop-turn.ensures ∙ e ∙ sym (c.end-in-loop-turn.ensures ∙ i.end)) in
-          let ends = ap (λ e. element_meaning a.walk.now.types.now.module.now.listed (below a.walk.now.types.now.module.now.listed a.walk.now.types.now.module.now.definitions a.walk.now.bound) a.element.now a.env.now a.walk.now.places.now b a.start e s.pos l.cells) (sym i.end) in
-          let on = elements_on each full more a.start s0.end s.pos l.cells is apart in
-          let step = step_from s n _ _ _ ends (e.step b both.1) in
-          let o : Ending = ending_of c.in_ok-validate_element.field-0 c.validate_element.new.trace c.validate_element.new.cells in
-          step_to s0 n _ _ _ (step_trans s0 s n _ _ _ (i.step b both.0) (step_from s n _ _ _ on (step_then s n (each s.pos l.cells) o (elements each more a.start s0.end) step)))
-          (ap (λ (v : Verdict). and_then (plain (ending_of v c.validate_element.new.trace c.validate_element.new.cells)) (elements each more a.start s0.end)) c.in-Accept.is
-          ∙ (λ k. elements each (fewer k) a.start s0.end (at.0 k) c.validate_element.new.cells));
+      led =
+          to (Accept n.pos) _ (refl, at.1)
+          (λ b. ap (λ (v : Verdict). and_then (plain (ending_of v y.trace.now y.cells.now)) (elements (each b) more a.start s0.end)) c.in-Accept.is ∙ (λ k. elements (each b) (fewer k) a.start s0.end (at.0 k) y.cells.now))
+          (then g.met.W.Words.reaches_on i
+          (from _ (λ b. elements_on (each b) full more a.start s0.end s.pos l.slate.cells.now is apart)
+          (followed (λ b. elements (each b) more a.start s0.end)
+          (from _ (λ b. ap (λ e. element_meaning m.listed (senses m a.walk.now.bound) a.element.now a.env.now a.walk.now.places.now b a.start e s.pos l.slate.cells.now) (sym i.ends)) e))));
     }
 
-pub elements::validate_element-returns-in-Unit-clause-step : goal.elements::validate_element-returns-in-Unit-clause-step
-elements::validate_element-returns-in-Unit-clause-step g t c = λ b h.
-    let a = c.args in
-    let s = a.stream.now in
-    record { seen = []; looked = look_nowhere s s refl refl; is = ap (λ (x : Element). element_meaning a.walk.now.types.now.module.now.listed (below a.walk.now.types.now.module.now.listed a.walk.now.types.now.module.now.definitions a.walk.now.bound) x a.env.now a.walk.now.places.now b a.start s.end s.pos a.cells.now) c.in-Unit.is ∙ (λ k. plain (ending_of (Accept (sym c.pos.ensures k)) (sym c.requires.empty_trace k) a.cells.now)) }
-
-pub elements::validate_element-returns-in_err-validate_named-in-Named-clause-only : goal.elements::validate_element-returns-in_err-validate_named-in-Named-clause-only
-elements::validate_element-returns-in_err-validate_named-in-Named-clause-only g t c = let p = err_from_is_err_and c.from_residual-in_err-validate_named-in-Named.result c.from_residual-in_err-validate_named-in-Named.ensures.1 in rw p.1 (λ b h.
-    let a = c.args in
-    let s = a.stream.now in
-    let n = c.validate_named.new.stream in
-    let own = c.in-Named.own in
-    let given = values c.in-Named.args a.env.now in
-    let args : given ≡ c.as_slice-in-Named-4.result.now = (λ k. values (sym c.as_slice-in-Named.ensures k) a.env.now) ∙ sym c.in_ok-args-in-Named.ensures.ok ∙ sym c.as_slice-in-Named-4.ensures.value in
-    let cells : map (slice_index a.walk.now.places.now) own ≡ c.as_slice-in-Named-3.result.now = (λ k. map (slice_index a.walk.now.places.now) (sym c.as_slice-in-Named-2.ensures k)) ∙ sym c.in_ok-own-in-Named.ensures.ok ∙ sym c.as_slice-in-Named-3.ensures.value in
-    only_from g.W.Words.loads s n _ _ (ap (λ (x : Element). element_meaning a.walk.now.types.now.module.now.listed (below a.walk.now.types.now.module.now.listed a.walk.now.types.now.module.now.definitions a.walk.now.bound) x a.env.now a.walk.now.places.now b a.start s.end s.pos a.cells.now) c.in-Named.is ∙ (λ k. below a.walk.now.types.now.module.now.listed a.walk.now.types.now.module.now.definitions a.walk.now.bound c.in-Named.definition (args k) (cells k) a.cells.now b s.pos s.end)) (c.in_err-validate_named-in-Named.ensures.only b h))
-
-pub elements::validate_element-returns-in_ok-validate_named-in-Named-clause-step : goal.elements::validate_element-returns-in_ok-validate_named-in-Named-clause-step
-elements::validate_element-returns-in_ok-validate_named-in-Named-clause-step g t c = λ b h.
-    let a = c.args in
-    let s = a.stream.now in
-    let n = c.validate_named.new.stream in
-    let own = c.in-Named.own in
-    let given = values c.in-Named.args a.env.now in
-    let args : given ≡ c.as_slice-in-Named-4.result.now = (λ k. values (sym c.as_slice-in-Named.ensures k) a.env.now) ∙ sym c.in_ok-args-in-Named.ensures.ok ∙ sym c.as_slice-in-Named-4.ensures.value in
-    let cells : map (slice_index a.walk.now.places.now) own ≡ c.as_slice-in-Named-3.result.now = (λ k. map (slice_index a.walk.now.places.now) (sym c.as_slice-in-Named-2.ensures k)) ∙ sym c.in_ok-own-in-Named.ensures.ok ∙ sym c.as_slice-in-Named-3.ensures.value in
-    step_from s n _ _ _ (ap (λ (x : Element). element_meaning a.walk.now.types.now.module.now.listed (below a.walk.now.types.now.module.now.listed a.walk.now.types.now.module.now.definitions a.walk.now.bound) x a.env.now a.walk.now.places.now b a.start s.end s.pos a.cells.now) c.in-Named.is ∙ (λ k. below a.walk.now.types.now.module.now.listed a.walk.now.types.now.module.now.definitions a.walk.now.bound c.in-Named.definition (args k) (cells k) a.cells.now b s.pos s.end)) (c.in_ok-validate_named-in-Named.ensures.step b h)
-
-pub arrays::validate_elements-returns-clause-step : goal.arrays::validate_elements-returns-clause-step
-arrays::validate_elements-returns-clause-step g t c = λ b h.
+pub arrays::validate_elements-returns-clause-decides : goal.arrays::validate_elements-returns-clause-decides
+arrays::validate_elements-returns-clause-decides g t c =
     let a = c.args in
     let s0 = a.stream.now in
     let l = c.loop-turn in
-    let i = l.invariant in
+    let i = l.invariant.led in
     let s = l.stream in
-    let each = element_meaning a.walk.now.types.now.module.now.listed (below a.walk.now.types.now.module.now.listed a.walk.now.types.now.module.now.definitions a.walk.now.bound) a.element.now a.env.now a.walk.now.places.now b a.start s0.end in
+    let m = a.walk.now.types.now.module.now in
+    let each = λ (b : List ℕ). element_meaning m.listed (senses m a.walk.now.bound) a.element.now a.env.now a.walk.now.places.now b a.start s0.end in
     let full = suc (s0.end - s0.pos) - l.turn in
     let none : full ≡ 0 = omega (arith, c.loop-turn-test.false, c.end.ensures, c.pos.ensures) in
-    step_to s0 s _ _ _ (i.step b h) (elements_over each full a.start s0.end s.pos l.cells none ∙ (λ k. demanded ListSize (nat_eq (sym c.pos-pos.ensures k) (sym (c.end-2.ensures ∙ i.end) k)) a.start (sym c.pos-pos.ensures k) l.cells) ∙ c.demand.ensures.ending l.cells ∙ (λ k. plain (ending_of c.demand.result (sym i.empty_trace k) l.cells)))
+    to c.demand.result _ (subst (λ (k : ℕ × List TraceFrame). IsAt c.demand.result k.0 k.1) (λ j. (c.pos-pos.ensures j, sym i.at.1 j)) c.demand.ensures.at)
+    (λ b. elements_over (each b) full a.start s0.end s.pos l.slate.cells.now none
+    ∙ (λ k. demanded ListSize (nat_eq (sym c.pos-pos.ensures k) (sym (c.end-2.ensures ∙ i.ends) k)) a.start (sym c.pos-pos.ensures k) l.slate.cells.now)
+    ∙ c.demand.ensures.ending l.slate.cells.now ∙ (λ k. plain (ending_of c.demand.result (sym i.at.1 k) l.slate.cells.now))) i
 
-pub arrays::validate_single-returns-in_err-pos-clause-only : goal.arrays::validate_single-returns-in_err-pos-clause-only
-arrays::validate_single-returns-in_err-pos-clause-only g t c = let p = err_from_is_err_and c.from_residual.result c.from_residual.ensures.1 in rw p.1 (λ b h.
+-- One element
+
+pub elements::validate_element-returns-in-Number-clause-decides : goal.elements::validate_element-returns-in-Number-clause-decides
+elements::validate_element-returns-in-Number-clause-decides g t c =
+    let a = c.args in
+    let s = a.stream.now in
+    let m = a.walk.now.types.now.module.now in
+    let cells = a.slate.now.cells.now in
+    let e = c.pass.ensures in
+    unwritten _ (λ b. taken c.byte_count.result a.start s.end s.pos cells) c.requires.empty_trace e.later e.whole e.end e.at
+    (λ b. ap (λ (x : Element). element_meaning m.listed (senses m a.walk.now.bound) x a.env.now a.walk.now.places.now b a.start s.end s.pos cells) c.in-Number.is ∙ (λ k. taken (sym c.byte_count.ensures k) a.start s.end s.pos cells)) (λ b h. e.step cells)
+
+pub elements::validate_element-returns-in-Listed-clause-decides : goal.elements::validate_element-returns-in-Listed-clause-decides
+elements::validate_element-returns-in-Listed-clause-decides g t c =
+    let a = c.args in
+    let s = a.stream.now in
+    let m = a.walk.now.types.now.module.now in
+    let cells = a.slate.now.cells.now in
+    let e = c.validate_listed.ensures in
+    unwritten _ (λ b. listed_meaning c.in-Listed.base c.values_at-values.result.now b a.start s.end s.pos cells) c.requires.empty_trace e.later e.whole e.end e.at
+    (λ b. ap (λ (x : Element). element_meaning m.listed (senses m a.walk.now.bound) x a.env.now a.walk.now.places.now b a.start s.end s.pos cells) c.in-Listed.is
+    ∙ (λ k. listed_meaning c.in-Listed.base (values_of (sym c.as_slice.ensures k) c.in-Listed.values) b a.start s.end s.pos cells)
+    ∙ (λ k. listed_meaning c.in-Listed.base (sym c.values_at-values.ensures k) b a.start s.end s.pos cells)) (λ b h. e.step b cells h)
+
+pub elements::validate_element-returns-in_err-args-in-Named-clause-runs_out : goal.elements::validate_element-returns-in_err-args-in-Named-clause-runs_out
+elements::validate_element-returns-in_err-args-in-Named-clause-runs_out g t c = let p = err_from_is_err_and c.from_residual.result c.from_residual.ensures.1 in rw p.1 (
+    out_still g.met.W.Words.reaches_itself c.args.stream.now _ c.requires.whole (lent_self c.args.slate.now))
+
+pub elements::validate_element-returns-in_err-own-in-Named-clause-runs_out : goal.elements::validate_element-returns-in_err-own-in-Named-clause-runs_out
+elements::validate_element-returns-in_err-own-in-Named-clause-runs_out g t c = let p = err_from_is_err_and c.from_residual-in_err-own-in-Named.result c.from_residual-in_err-own-in-Named.ensures.1 in rw p.1 (
+    out_still g.met.W.Words.reaches_itself c.args.stream.now _ c.requires.whole (lent_self c.args.slate.now))
+
+pub elements::validate_element-returns-in_ok-validate_named-in-Named-clause-decides : goal.elements::validate_element-returns-in_ok-validate_named-in-Named-clause-decides
+elements::validate_element-returns-in_ok-validate_named-in-Named-clause-decides g t c =
+    let a = c.args in
+    let s = a.stream.now in
+    let m = a.walk.now.types.now.module.now in
+    let cells = a.slate.now.cells.now in
+    let args : values c.in-Named.args a.env.now ≡ c.as_slice-in-Named-4.result.now = (λ k. values (sym c.as_slice-in-Named.ensures k) a.env.now) ∙ sym c.in_ok-args-in-Named.ensures.ok ∙ sym c.as_slice-in-Named-4.ensures.value in
+    let own : map (slice_index a.walk.now.places.now) c.in-Named.own ≡ c.as_slice-in-Named-3.result.now = (λ k. map (slice_index a.walk.now.places.now) (sym c.as_slice-in-Named-2.ensures k)) ∙ sym c.in_ok-own-in-Named.ensures.ok ∙ sym c.as_slice-in-Named-3.ensures.value in
+    from _ (λ b. ap (λ (x : Element). element_meaning m.listed (senses m a.walk.now.bound) x a.env.now a.walk.now.places.now b a.start s.end s.pos cells) c.in-Named.is ∙ (λ k. senses m a.walk.now.bound c.in-Named.definition (args k) (own k) cells b s.pos s.end)) c.in_ok-validate_named-in-Named.ensures.decides
+
+pub elements::validate_element-returns-in_err-validate_named-in-Named-clause-runs_out : goal.elements::validate_element-returns-in_err-validate_named-in-Named-clause-runs_out
+elements::validate_element-returns-in_err-validate_named-in-Named-clause-runs_out g t c = let p = err_from_is_err_and c.from_residual-in_err-validate_named-in-Named.result c.from_residual-in_err-validate_named-in-Named.ensures.1 in rw p.1 (
+    let a = c.args in
+    let s = a.stream.now in
+    let m = a.walk.now.types.now.module.now in
+    let cells = a.slate.now.cells.now in
+    let args : values c.in-Named.args a.env.now ≡ c.as_slice-in-Named-4.result.now = (λ k. values (sym c.as_slice-in-Named.ensures k) a.env.now) ∙ sym c.in_ok-args-in-Named.ensures.ok ∙ sym c.as_slice-in-Named-4.ensures.value in
+    let own : map (slice_index a.walk.now.places.now) c.in-Named.own ≡ c.as_slice-in-Named-3.result.now = (λ k. map (slice_index a.walk.now.places.now) (sym c.as_slice-in-Named-2.ensures k)) ∙ sym c.in_ok-own-in-Named.ensures.ok ∙ sym c.as_slice-in-Named-3.ensures.value in
+    out_from _ (λ b. ap (λ (x : Element). element_meaning m.listed (senses m a.walk.now.bound) x a.env.now a.walk.now.places.now b a.start s.end s.pos cells) c.in-Named.is ∙ (λ k. senses m a.walk.now.bound c.in-Named.definition (args k) (own k) cells b s.pos s.end)) c.in_err-validate_named-in-Named.ensures.runs_out)
+
+pub elements::validate_element-returns-in-Unit-clause-decides : goal.elements::validate_element-returns-in-Unit-clause-decides
+elements::validate_element-returns-in-Unit-clause-decides g t c =
+    let a = c.args in
+    let s = a.stream.now in
+    let m = a.walk.now.types.now.module.now in
+    accepts g.met.W.Words.reaches_itself s c.pos.result _ c.requires.whole c.requires.empty_trace c.pos.ensures
+    (λ b. ap (λ (x : Element). element_meaning m.listed (senses m a.walk.now.bound) x a.env.now a.walk.now.places.now b a.start s.end s.pos a.slate.now.cells.now) c.in-Unit.is)
+
+pub elements::validate_element-returns-in-Rest-clause-decides : goal.elements::validate_element-returns-in-Rest-clause-decides
+elements::validate_element-returns-in-Rest-clause-decides g t c =
+    let a = c.args in
+    let s = a.stream.now in
+    let m = a.walk.now.types.now.module.now in
+    let last : s.end ≡ s.pos + (c.end.result - c.pos-in-Rest.result) = omega (arith, c.end.ensures, c.pos-in-Rest.ensures, c.requires.whole.within) in
+    passed c.pos-in-Rest-2.result (s.pos + (c.end.result - c.pos-in-Rest.result)) _ c.requires.empty_trace c.skip.ensures.moves c.pos-in-Rest-2.ensures
+    (λ b. ap (λ (x : Element). element_meaning m.listed (senses m a.walk.now.bound) x a.env.now a.walk.now.places.now b a.start s.end s.pos a.slate.now.cells.now) c.in-Rest.is ∙ (λ k. accepted (last k) a.slate.now.cells.now))
+
+pub elements::validate_element-returns-in-Zeros-clause-decides : goal.elements::validate_element-returns-in-Zeros-clause-decides
+elements::validate_element-returns-in-Zeros-clause-decides g t c =
+    let a = c.args in
+    let s = a.stream.now in
+    let m = a.walk.now.types.now.module.now in
+    let cells = a.slate.now.cells.now in
+    let e = c.validate_zeros.ensures in
+    unwritten _ (λ b. zeros_meaning b s.end s.pos cells) c.requires.empty_trace e.later e.whole e.end e.at
+    (λ b. ap (λ (x : Element). element_meaning m.listed (senses m a.walk.now.bound) x a.env.now a.walk.now.places.now b a.start s.end s.pos cells) c.in-Zeros.is) (λ b h. e.step b cells h)
+
+pub arrays::validate_single-returns-in_err-pos-clause-runs_out : goal.arrays::validate_single-returns-in_err-pos-clause-runs_out
+arrays::validate_single-returns-in_err-pos-clause-runs_out g t c = let p = err_from_is_err_and c.from_residual.result c.from_residual.ensures.1 in rw p.1 (out_then (λ b. once_rest c.args.start c.args.stream.now.end) c.in_err-pos.ensures.runs_out)
+
+pub arrays::validate_single-returns-in-Reject-clause-decides : goal.arrays::validate_single-returns-in-Reject-clause-decides
+arrays::validate_single-returns-in-Reject-clause-decides g t c =
+    let a = c.args in
+    let s = a.stream.now in
+    let y = c.validate_element.new.slate in
+    to (Reject c.in-Reject.reason c.in-Reject.pos) _ tt (λ b. ap (λ (v : Verdict). and_then (plain (ending_of v y.trace.now y.cells.now)) (once_rest a.start s.end)) c.in-Reject.is)
+    (followed (λ b. once_rest a.start s.end) c.in_ok-pos.ensures.decides)
+
+pub arrays::validate_single-returns-in-Accept-clause-decides : goal.arrays::validate_single-returns-in-Accept-clause-decides
+arrays::validate_single-returns-in-Accept-clause-decides g t c =
     let a = c.args in
     let s = a.stream.now in
     let n = c.validate_element.new.stream in
-    only_then g.W.Words.loads s n (element_meaning a.walk.now.types.now.module.now.listed (below a.walk.now.types.now.module.now.listed a.walk.now.types.now.module.now.definitions a.walk.now.bound) a.element.now a.env.now a.walk.now.places.now b a.start s.end s.pos a.cells.now) (once_rest a.start s.end) (c.in_err-pos.ensures.only b h))
+    let y = c.validate_element.new.slate in
+    let e = c.in_ok-pos.ensures.decides in
+    let at = accepted_at c.in_ok-pos.field-0 c.in-Accept.pos n.pos y.trace.now c.in-Accept.is e.at in
+    to c.demand.result _ (subst (λ (k : ℕ × List TraceFrame). IsAt c.demand.result k.0 k.1) (λ j. (at.0 j, sym at.1 j)) c.demand.ensures.at)
+    (λ b. ap (λ (v : Verdict). and_then (plain (ending_of v y.trace.now y.cells.now)) (once_rest a.start s.end)) c.in-Accept.is
+    ∙ (λ k. demanded ListSize (nat_eq c.in-Accept.pos (sym (c.end.ensures ∙ e.ends) k)) a.start c.in-Accept.pos y.cells.now)
+    ∙ c.demand.ensures.ending y.cells.now ∙ (λ k. plain (ending_of c.demand.result (sym at.1 k) y.cells.now)))
+    (followed (λ b. once_rest a.start s.end) e)
 
-pub arrays::validate_filling-returns-then-size-end-clause-step : goal.arrays::validate_filling-returns-then-size-end-clause-step
-arrays::validate_filling-returns-then-size-end-clause-step g t c = λ b h.
+-- Elements that fill so many bytes
+
+pub arrays::validate_filling-returns-then-size-end-clause-decides : goal.arrays::validate_filling-returns-then-size-end-clause-decides
+arrays::validate_filling-returns-then-size-end-clause-decides g t c =
     let a = c.args in
     let s = a.stream.now in
-    let each = element_meaning a.walk.now.types.now.module.now.listed (below a.walk.now.types.now.module.now.listed a.walk.now.types.now.module.now.definitions a.walk.now.bound) a.element.now a.env.now a.walk.now.places.now b s.pos in
+    let m = a.walk.now.types.now.module.now in
     let less : s.end < s.pos + a.size = omega (arith, c.if-size-end.true, c.pos-pos.ensures, c.end-end.ensures, c.requires.whole.within) in
-    record { seen = []; looked = look_nowhere s s refl refl; is = filled_short each a.step a.size s.end s.pos a.cells.now less ∙ (λ k. plain (Rejected NotEnough (sym c.pos-pos.ensures k) (sym c.requires.empty_trace k) a.cells.now)) }
+    rejects g.met.W.Words.reaches_itself s NotEnough c.pos-pos.result s.pos _ c.requires.whole c.requires.empty_trace c.pos-pos.ensures
+    (λ b. filled_short (element_meaning m.listed (senses m a.walk.now.bound) a.element.now a.env.now a.walk.now.places.now b s.pos) a.step a.size s.end s.pos a.slate.now.cells.now less)
 
-pub arrays::validate_once-returns-then-size-end-clause-step : goal.arrays::validate_once-returns-then-size-end-clause-step
-arrays::validate_once-returns-then-size-end-clause-step g t c = λ b h.
+pub arrays::validate_filling-returns-then-not-divides-clause-decides : goal.arrays::validate_filling-returns-then-not-divides-clause-decides
+arrays::validate_filling-returns-then-not-divides-clause-decides g t c =
     let a = c.args in
     let s = a.stream.now in
-    let each = element_meaning a.walk.now.types.now.module.now.listed (below a.walk.now.types.now.module.now.listed a.walk.now.types.now.module.now.definitions a.walk.now.bound) a.element.now a.env.now a.walk.now.places.now b s.pos in
-    let less : s.end < s.pos + a.size = omega (arith, c.if-size-end.true, c.pos-pos.ensures, c.end-end.ensures, c.requires.whole.within) in
-    record { seen = []; looked = look_nowhere s s refl refl; is = once_short each a.step a.size s.end s.pos a.cells.now less ∙ (λ k. plain (Rejected NotEnough (sym c.pos-pos.ensures k) (sym c.requires.empty_trace k) a.cells.now)) }
+    let m = a.walk.now.types.now.module.now in
+    let long : s.pos + a.size ≤ s.end = omega (arith, c.if-size-end.false, c.pos-pos.ensures, c.end-end.ensures, c.requires.whole.within) in
+    let bad : divides a.step a.size ≡ false = search rules in
+    rw c.unfit.ensures (rejects g.met.W.Words.reaches_itself s ListSize c.pos-pos.result s.pos _ c.requires.whole c.requires.empty_trace c.pos-pos.ensures
+    (λ b. filled_unfit (element_meaning m.listed (senses m a.walk.now.bound) a.element.now a.env.now a.walk.now.places.now b s.pos) a.step a.size s.end s.pos a.slate.now.cells.now long bad))
 
-pub arrays::validate_filling-returns-then-passes_all-clause-step : goal.arrays::validate_filling-returns-then-passes_all-clause-step
-arrays::validate_filling-returns-then-passes_all-clause-step g t c = λ b h.
+pub arrays::validate_filling-returns-then-passes_all-clause-decides : goal.arrays::validate_filling-returns-then-passes_all-clause-decides
+arrays::validate_filling-returns-then-passes_all-clause-decides g t c =
     let a = c.args in
     let s = a.stream.now in
-    let each = element_meaning a.walk.now.types.now.module.now.listed (below a.walk.now.types.now.module.now.listed a.walk.now.types.now.module.now.definitions a.walk.now.bound) a.element.now a.env.now a.walk.now.places.now b s.pos in
+    let m = a.walk.now.types.now.module.now in
+    let cells = a.slate.now.cells.now in
+    let each = λ (b : List ℕ). element_meaning m.listed (senses m a.walk.now.bound) a.element.now a.env.now a.walk.now.places.now b s.pos in
     let long : s.pos + a.size ≤ s.end = omega (arith, c.if-size-end.false, c.pos-pos.ensures, c.end-end.ensures, c.requires.whole.within) in
     let good : divides a.step a.size ≡ true = search rules in
     let passes : passes_all c.passed_size.result a.size ≡ true = search rules in
-    let over = window_pass (each (s.pos + a.size)) c.passed_size.result a.size s.pos (s.pos + a.size) s.pos a.cells.now (λ w e p r. subst (λ (o : Option ℕ). IfSome o (λ size. IsPassed a.walk.now.types.now.module.now a.walk.now.bound a.element.now size)) e c.passed_size.ensures a.env.now a.walk.now.places.now b s.pos (s.pos + a.size) p a.cells.now r) passes refl in
-    let at : s.pos + a.size ≡ c.pos.result = sym (c.pos.ensures ∙ c.skip.ensures.pos) in
-    record { seen = []; looked = c.skip.ensures.looked; is = filled_fit each a.step a.size s.end s.pos a.cells.now long good ∙ over ∙ (λ k. plain (ending_of (Accept (at k)) (sym c.requires.empty_trace k) a.cells.now)) }
+    passed c.pos.result (s.pos + a.size) _ c.requires.empty_trace c.skip.ensures.moves c.pos.ensures
+    (λ b. filled_fit (each b) a.step a.size s.end s.pos cells long good
+    ∙ window_pass (each b (s.pos + a.size)) c.passed_size.result a.size s.pos (s.pos + a.size) s.pos cells (λ w e p r. subst (λ (o : Option ℕ). IfSome o (λ size. IsPassed m a.walk.now.bound a.element.now size)) e c.passed_size.ensures a.env.now a.walk.now.places.now b s.pos (s.pos + a.size) p cells r) passes refl)
 
-pub arrays::validate_filling-returns-clause-step : goal.arrays::validate_filling-returns-clause-step
-arrays::validate_filling-returns-clause-step g t c = λ b h.
+pub arrays::validate_filling-returns-clause-decides : goal.arrays::validate_filling-returns-clause-decides
+arrays::validate_filling-returns-clause-decides g t c =
     let a = c.args in
     let s = a.stream.now in
-    let each = element_meaning a.walk.now.types.now.module.now.listed (below a.walk.now.types.now.module.now.listed a.walk.now.types.now.module.now.definitions a.walk.now.bound) a.element.now a.env.now a.walk.now.places.now b s.pos in
-    let r = c.narrow.new.self in
+    let m = a.walk.now.types.now.module.now in
+    let cells = a.slate.now.cells.now in
     let n = c.validate_elements.new.stream in
+    let r = c.narrow.new.self in
     let long : s.pos + a.size ≤ s.end = omega (arith, c.if-size-end.false, c.pos-pos.ensures, c.end-end.ensures, c.requires.whole.within) in
     let good : divides a.step a.size ≡ true = search rules in
     let st : s.pos ≡ c.pos-pos.result = sym c.pos-pos.ensures in
-    let ends : s.pos + a.size ≡ r.end = sym c.narrow.ensures.end in
-    let at : s.pos ≡ r.pos = sym c.narrow.ensures.pos in
-    let size : a.size ≡ r.end - r.pos = omega (arith, c.narrow.ensures.end, c.narrow.ensures.pos) in
-    let into = step_from {loads = g.W.Words.loads} s r _ _ _ (filled_fit each a.step a.size s.end s.pos a.cells.now long good ∙ (λ k. elements (element_meaning a.walk.now.types.now.module.now.listed (below a.walk.now.types.now.module.now.listed a.walk.now.types.now.module.now.definitions a.walk.now.bound) a.element.now a.env.now a.walk.now.places.now b (st k) (ends k)) (suc (size k)) (st k) (ends k) (at k) a.cells.now)) (step_still s r _ c.narrow.ensures.later.layout c.narrow.ensures.same_words) in
-    let u = c.widen.new.self in
-    let on = later_trans g.met.W.Words.reaches_on s r n c.narrow.ensures.later c.validate_elements.ensures.later in
-    let first = carried s n u b on c.widen.ensures.later h in
-    let both = carried s r n b c.narrow.ensures.later c.validate_elements.ensures.later first.0 in
-    step_trans s r u _ _ _ into (step_trans r n u _ _ _ (c.in_ok-verdict.ensures.step b both.1) (step_still n u _ c.widen.ensures.later.layout c.widen.ensures.same_words))
+    let ends : s.pos + a.size ≡ r.end = sym c.narrow.ensures.moves.ends in
+    let at : s.pos ≡ r.pos = sym c.narrow.ensures.moves.at in
+    let size : a.size ≡ r.end - r.pos = omega (arith, c.narrow.ensures.moves.ends, c.narrow.ensures.moves.at) in
+    windowed (s.pos + a.size) _ g.met.W.Words.reaches_on c.narrow.ensures.moves c.narrow.ensures.same_words c.in_ok-verdict.ensures.decides
+    (subst (λ q. Moves g.W.Words.loads g.W.Words.size g.W.Words.reaches n c.widen.new.self (position n) q []) c.end-end.ensures c.widen.ensures.moves) c.widen.ensures.same_words
+    (λ b. filled_fit (element_meaning m.listed (senses m a.walk.now.bound) a.element.now a.env.now a.walk.now.places.now b s.pos) a.step a.size s.end s.pos cells long good
+    ∙ (λ k. elements (element_meaning m.listed (senses m a.walk.now.bound) a.element.now a.env.now a.walk.now.places.now b (st k) (ends k)) (suc (size k)) (st k) (ends k) (at k) cells))
 
-pub arrays::validate_filling-returns-in_err-verdict-clause-only : goal.arrays::validate_filling-returns-in_err-verdict-clause-only
-arrays::validate_filling-returns-in_err-verdict-clause-only g t c = let p = err_from_is_err_and c.from_residual.result c.from_residual.ensures.1 in rw p.1 (λ b h.
+pub arrays::validate_filling-returns-in_err-verdict-clause-runs_out : goal.arrays::validate_filling-returns-in_err-verdict-clause-runs_out
+arrays::validate_filling-returns-in_err-verdict-clause-runs_out g t c = let p = err_from_is_err_and c.from_residual.result c.from_residual.ensures.1 in rw p.1 (
     let a = c.args in
     let s = a.stream.now in
-    let each = element_meaning a.walk.now.types.now.module.now.listed (below a.walk.now.types.now.module.now.listed a.walk.now.types.now.module.now.definitions a.walk.now.bound) a.element.now a.env.now a.walk.now.places.now b s.pos in
+    let m = a.walk.now.types.now.module.now in
+    let cells = a.slate.now.cells.now in
     let r = c.narrow.new.self in
-    let n = c.validate_elements.new.stream in
     let long : s.pos + a.size ≤ s.end = omega (arith, c.if-size-end.false, c.pos-pos.ensures, c.end-end.ensures, c.requires.whole.within) in
     let good : divides a.step a.size ≡ true = search rules in
     let st : s.pos ≡ c.pos-pos.result = sym c.pos-pos.ensures in
-    let ends : s.pos + a.size ≡ r.end = sym c.narrow.ensures.end in
-    let at : s.pos ≡ r.pos = sym c.narrow.ensures.pos in
-    let size : a.size ≡ r.end - r.pos = omega (arith, c.narrow.ensures.end, c.narrow.ensures.pos) in
-    let into = step_from {loads = g.W.Words.loads} s r _ _ _ (filled_fit each a.step a.size s.end s.pos a.cells.now long good ∙ (λ k. elements (element_meaning a.walk.now.types.now.module.now.listed (below a.walk.now.types.now.module.now.listed a.walk.now.types.now.module.now.definitions a.walk.now.bound) a.element.now a.env.now a.walk.now.places.now b (st k) (ends k)) (suc (size k)) (st k) (ends k) (at k) a.cells.now)) (step_still s r _ c.narrow.ensures.later.layout c.narrow.ensures.same_words) in
-    let both = carried s r n b c.narrow.ensures.later c.validate_elements.ensures.later h in
-    only_after s r n _ _ into (c.in_err-verdict.ensures.only b both.1))
+    let ends : s.pos + a.size ≡ r.end = sym c.narrow.ensures.moves.ends in
+    let at : s.pos ≡ r.pos = sym c.narrow.ensures.moves.at in
+    let size : a.size ≡ r.end - r.pos = omega (arith, c.narrow.ensures.moves.ends, c.narrow.ensures.moves.at) in
+    out_windowed (s.pos + a.size) _ g.met.W.Words.reaches_on c.narrow.ensures.moves c.narrow.ensures.same_words c.in_err-verdict.ensures.runs_out
+    (λ b. filled_fit (element_meaning m.listed (senses m a.walk.now.bound) a.element.now a.env.now a.walk.now.places.now b s.pos) a.step a.size s.end s.pos cells long good
+    ∙ (λ k. elements (element_meaning m.listed (senses m a.walk.now.bound) a.element.now a.env.now a.walk.now.places.now b (st k) (ends k)) (suc (size k)) (st k) (ends k) (at k) cells)))
 
-pub arrays::validate_once-returns-clause-step : goal.arrays::validate_once-returns-clause-step
-arrays::validate_once-returns-clause-step g t c = λ b h.
+-- One element that fills so many bytes
+
+pub arrays::validate_once-returns-then-size-end-clause-decides : goal.arrays::validate_once-returns-then-size-end-clause-decides
+arrays::validate_once-returns-then-size-end-clause-decides g t c =
     let a = c.args in
     let s = a.stream.now in
-    let each = element_meaning a.walk.now.types.now.module.now.listed (below a.walk.now.types.now.module.now.listed a.walk.now.types.now.module.now.definitions a.walk.now.bound) a.element.now a.env.now a.walk.now.places.now b s.pos in
-    let r = c.narrow.new.self in
+    let m = a.walk.now.types.now.module.now in
+    let less : s.end < s.pos + a.size = omega (arith, c.if-size-end.true, c.pos-pos.ensures, c.end-end.ensures, c.requires.whole.within) in
+    rejects g.met.W.Words.reaches_itself s NotEnough c.pos-pos.result s.pos _ c.requires.whole c.requires.empty_trace c.pos-pos.ensures
+    (λ b. once_short (element_meaning m.listed (senses m a.walk.now.bound) a.element.now a.env.now a.walk.now.places.now b s.pos) a.step a.size s.end s.pos a.slate.now.cells.now less)
+
+pub arrays::validate_once-returns-then-not-equals-clause-decides : goal.arrays::validate_once-returns-then-not-equals-clause-decides
+arrays::validate_once-returns-then-not-equals-clause-decides g t c =
+    let a = c.args in
+    let s = a.stream.now in
+    let m = a.walk.now.types.now.module.now in
+    let long : s.pos + a.size ≤ s.end = omega (arith, c.if-size-end.false, c.pos-pos.ensures, c.end-end.ensures, c.requires.whole.within) in
+    let bad : equals a.step a.size ≡ false = search rules in
+    rw c.unfit.ensures (rejects g.met.W.Words.reaches_itself s ListSize c.pos-pos.result s.pos _ c.requires.whole c.requires.empty_trace c.pos-pos.ensures
+    (λ b. once_unfit (element_meaning m.listed (senses m a.walk.now.bound) a.element.now a.env.now a.walk.now.places.now b s.pos) a.step a.size s.end s.pos a.slate.now.cells.now long bad))
+
+pub arrays::validate_once-returns-clause-decides : goal.arrays::validate_once-returns-clause-decides
+arrays::validate_once-returns-clause-decides g t c =
+    let a = c.args in
+    let s = a.stream.now in
+    let m = a.walk.now.types.now.module.now in
+    let cells = a.slate.now.cells.now in
     let n = c.validate_single.new.stream in
+    let r = c.narrow.new.self in
     let long : s.pos + a.size ≤ s.end = omega (arith, c.if-size-end.false, c.pos-pos.ensures, c.end-end.ensures, c.requires.whole.within) in
     let good : equals a.step a.size ≡ true = search rules in
     let st : s.pos ≡ c.pos-pos.result = sym c.pos-pos.ensures in
-    let ends : s.pos + a.size ≡ r.end = sym c.narrow.ensures.end in
-    let at : s.pos ≡ r.pos = sym c.narrow.ensures.pos in
-    let into = step_from {loads = g.W.Words.loads} s r _ _ _ (once_fit each a.step a.size s.end s.pos a.cells.now long good ∙ (λ k. and_then (element_meaning a.walk.now.types.now.module.now.listed (below a.walk.now.types.now.module.now.listed a.walk.now.types.now.module.now.definitions a.walk.now.bound) a.element.now a.env.now a.walk.now.places.now b (st k) (ends k) (at k) a.cells.now) (once_rest (st k) (ends k)))) (step_still s r _ c.narrow.ensures.later.layout c.narrow.ensures.same_words) in
-    let u = c.widen.new.self in
-    let on = later_trans g.met.W.Words.reaches_on s r n c.narrow.ensures.later c.validate_single.ensures.later in
-    let first = carried s n u b on c.widen.ensures.later h in
-    let both = carried s r n b c.narrow.ensures.later c.validate_single.ensures.later first.0 in
-    step_trans s r u _ _ _ into (step_trans r n u _ _ _ (c.in_ok-verdict.ensures.step b both.1) (step_still n u _ c.widen.ensures.later.layout c.widen.ensures.same_words))
+    let ends : s.pos + a.size ≡ r.end = sym c.narrow.ensures.moves.ends in
+    let at : s.pos ≡ r.pos = sym c.narrow.ensures.moves.at in
+    windowed (s.pos + a.size) _ g.met.W.Words.reaches_on c.narrow.ensures.moves c.narrow.ensures.same_words c.in_ok-verdict.ensures.decides
+    (subst (λ q. Moves g.W.Words.loads g.W.Words.size g.W.Words.reaches n c.widen.new.self (position n) q []) c.end-end.ensures c.widen.ensures.moves) c.widen.ensures.same_words
+    (λ b. once_fit (element_meaning m.listed (senses m a.walk.now.bound) a.element.now a.env.now a.walk.now.places.now b s.pos) a.step a.size s.end s.pos cells long good
+    ∙ (λ k. and_then (element_meaning m.listed (senses m a.walk.now.bound) a.element.now a.env.now a.walk.now.places.now b (st k) (ends k) (at k) cells) (once_rest (st k) (ends k))))
 
-pub arrays::validate_once-returns-in_err-verdict-clause-only : goal.arrays::validate_once-returns-in_err-verdict-clause-only
-arrays::validate_once-returns-in_err-verdict-clause-only g t c = let p = err_from_is_err_and c.from_residual.result c.from_residual.ensures.1 in rw p.1 (λ b h.
+pub arrays::validate_once-returns-in_err-verdict-clause-runs_out : goal.arrays::validate_once-returns-in_err-verdict-clause-runs_out
+arrays::validate_once-returns-in_err-verdict-clause-runs_out g t c = let p = err_from_is_err_and c.from_residual.result c.from_residual.ensures.1 in rw p.1 (
     let a = c.args in
     let s = a.stream.now in
-    let each = element_meaning a.walk.now.types.now.module.now.listed (below a.walk.now.types.now.module.now.listed a.walk.now.types.now.module.now.definitions a.walk.now.bound) a.element.now a.env.now a.walk.now.places.now b s.pos in
+    let m = a.walk.now.types.now.module.now in
+    let cells = a.slate.now.cells.now in
     let r = c.narrow.new.self in
-    let n = c.validate_single.new.stream in
     let long : s.pos + a.size ≤ s.end = omega (arith, c.if-size-end.false, c.pos-pos.ensures, c.end-end.ensures, c.requires.whole.within) in
     let good : equals a.step a.size ≡ true = search rules in
     let st : s.pos ≡ c.pos-pos.result = sym c.pos-pos.ensures in
-    let ends : s.pos + a.size ≡ r.end = sym c.narrow.ensures.end in
-    let at : s.pos ≡ r.pos = sym c.narrow.ensures.pos in
-    let into = step_from {loads = g.W.Words.loads} s r _ _ _ (once_fit each a.step a.size s.end s.pos a.cells.now long good ∙ (λ k. and_then (element_meaning a.walk.now.types.now.module.now.listed (below a.walk.now.types.now.module.now.listed a.walk.now.types.now.module.now.definitions a.walk.now.bound) a.element.now a.env.now a.walk.now.places.now b (st k) (ends k) (at k) a.cells.now) (once_rest (st k) (ends k)))) (step_still s r _ c.narrow.ensures.later.layout c.narrow.ensures.same_words) in
-    let both = carried s r n b c.narrow.ensures.later c.validate_single.ensures.later h in
-    only_after s r n _ _ into (c.in_err-verdict.ensures.only b both.1))
+    let ends : s.pos + a.size ≡ r.end = sym c.narrow.ensures.moves.ends in
+    let at : s.pos ≡ r.pos = sym c.narrow.ensures.moves.at in
+    out_windowed (s.pos + a.size) _ g.met.W.Words.reaches_on c.narrow.ensures.moves c.narrow.ensures.same_words c.in_err-verdict.ensures.runs_out
+    (λ b. once_fit (element_meaning m.listed (senses m a.walk.now.bound) a.element.now a.env.now a.walk.now.places.now b s.pos) a.step a.size s.end s.pos cells long good
+    ∙ (λ k. and_then (element_meaning m.listed (senses m a.walk.now.bound) a.element.now a.env.now a.walk.now.places.now b (st k) (ends k) (at k) cells) (once_rest (st k) (ends k)))))
 
-pub arrays::validate_shape-returns-in_err-validate_element-in-Once-clause-only : goal.arrays::validate_shape-returns-in_err-validate_element-in-Once-clause-only
-arrays::validate_shape-returns-in_err-validate_element-in-Once-clause-only g t c = let p = err_from_is_err_and c.from_residual.result c.from_residual.ensures.1 in rw p.1 (λ b h.
+-- What stands in a field
+
+pub arrays::validate_shape-returns-in_ok-validate_element-in-Once-clause-decides : goal.arrays::validate_shape-returns-in_ok-validate_element-in-Once-clause-decides
+arrays::validate_shape-returns-in_ok-validate_element-in-Once-clause-decides g t c =
     let a = c.args in
     let s = a.stream.now in
-    only_from g.W.Words.loads s c.validate_element.new.stream _ _ (ap (λ (x : Extent). shape_meaning a.walk.now.types.now.module.now.listed (below a.walk.now.types.now.module.now.listed a.walk.now.types.now.module.now.definitions a.walk.now.bound) a.element.now x a.env.now a.walk.now.places.now b s.end s.pos a.cells.now) c.in-Once.is ∙ (λ k. element_meaning a.walk.now.types.now.module.now.listed (below a.walk.now.types.now.module.now.listed a.walk.now.types.now.module.now.definitions a.walk.now.bound) a.element.now a.env.now a.walk.now.places.now b (sym c.pos.ensures k) s.end s.pos a.cells.now)) (c.in_err-validate_element-in-Once.ensures.only b h))
+    let m = a.walk.now.types.now.module.now in
+    let cells = a.slate.now.cells.now in
+    from _ (λ b. ap (λ (x : Extent). shape_meaning m.listed (senses m a.walk.now.bound) a.element.now x a.env.now a.walk.now.places.now b s.end s.pos cells) c.in-Once.is
+    ∙ (λ k. element_meaning m.listed (senses m a.walk.now.bound) a.element.now a.env.now a.walk.now.places.now b (sym c.pos.ensures k) s.end s.pos cells)) c.in_ok-validate_element-in-Once.ensures.decides
 
-pub arrays::validate_shape-returns-in_ok-validate_element-in-Once-clause-step : goal.arrays::validate_shape-returns-in_ok-validate_element-in-Once-clause-step
-arrays::validate_shape-returns-in_ok-validate_element-in-Once-clause-step g t c = λ b h.
+pub arrays::validate_shape-returns-in_err-validate_element-in-Once-clause-runs_out : goal.arrays::validate_shape-returns-in_err-validate_element-in-Once-clause-runs_out
+arrays::validate_shape-returns-in_err-validate_element-in-Once-clause-runs_out g t c = let p = err_from_is_err_and c.from_residual.result c.from_residual.ensures.1 in rw p.1 (
     let a = c.args in
     let s = a.stream.now in
-    step_from s c.validate_element.new.stream _ _ _ (ap (λ (x : Extent). shape_meaning a.walk.now.types.now.module.now.listed (below a.walk.now.types.now.module.now.listed a.walk.now.types.now.module.now.definitions a.walk.now.bound) a.element.now x a.env.now a.walk.now.places.now b s.end s.pos a.cells.now) c.in-Once.is ∙ (λ k. element_meaning a.walk.now.types.now.module.now.listed (below a.walk.now.types.now.module.now.listed a.walk.now.types.now.module.now.definitions a.walk.now.bound) a.element.now a.env.now a.walk.now.places.now b (sym c.pos.ensures k) s.end s.pos a.cells.now)) (c.in_ok-validate_element-in-Once.ensures.step b h)
+    let m = a.walk.now.types.now.module.now in
+    let cells = a.slate.now.cells.now in
+    out_from _ (λ b. ap (λ (x : Extent). shape_meaning m.listed (senses m a.walk.now.bound) a.element.now x a.env.now a.walk.now.places.now b s.end s.pos cells) c.in-Once.is
+    ∙ (λ k. element_meaning m.listed (senses m a.walk.now.bound) a.element.now a.env.now a.walk.now.places.now b (sym c.pos.ensures k) s.end s.pos cells)) c.in_err-validate_element-in-Once.ensures.runs_out)
 
-pub arrays::validate_shape-returns-in_err-validate_filling-in-Filling-clause-only : goal.arrays::validate_shape-returns-in_err-validate_filling-in-Filling-clause-only
-arrays::validate_shape-returns-in_err-validate_filling-in-Filling-clause-only g t c = let p = err_from_is_err_and c.from_residual-in_err-validate_filling-in-Filling.result c.from_residual-in_err-validate_filling-in-Filling.ensures.1 in rw p.1 (λ b h.
+pub arrays::validate_shape-returns-in_ok-validate_filling-in-Filling-clause-decides : goal.arrays::validate_shape-returns-in_ok-validate_filling-in-Filling-clause-decides
+arrays::validate_shape-returns-in_ok-validate_filling-in-Filling-clause-decides g t c =
     let a = c.args in
     let s = a.stream.now in
-    only_from g.W.Words.loads s c.validate_filling.new.stream _ _ (ap (λ (x : Extent). shape_meaning a.walk.now.types.now.module.now.listed (below a.walk.now.types.now.module.now.listed a.walk.now.types.now.module.now.definitions a.walk.now.bound) a.element.now x a.env.now a.walk.now.places.now b s.end s.pos a.cells.now) c.in-Filling.is ∙ (λ k. filled (element_meaning a.walk.now.types.now.module.now.listed (below a.walk.now.types.now.module.now.listed a.walk.now.types.now.module.now.definitions a.walk.now.bound) a.element.now a.env.now a.walk.now.places.now b s.pos) c.in-Filling.step (sym c.value_of.ensures k) s.end s.pos a.cells.now)) (c.in_err-validate_filling-in-Filling.ensures.only b h))
+    let m = a.walk.now.types.now.module.now in
+    let cells = a.slate.now.cells.now in
+    from _ (λ b. ap (λ (x : Extent). shape_meaning m.listed (senses m a.walk.now.bound) a.element.now x a.env.now a.walk.now.places.now b s.end s.pos cells) c.in-Filling.is
+    ∙ (λ k. filled (element_meaning m.listed (senses m a.walk.now.bound) a.element.now a.env.now a.walk.now.places.now b s.pos) c.in-Filling.step (sym c.value_of.ensures k) s.end s.pos cells)) c.in_ok-validate_filling-in-Filling.ensures.decides
 
-pub arrays::validate_shape-returns-in_ok-validate_filling-in-Filling-clause-step : goal.arrays::validate_shape-returns-in_ok-validate_filling-in-Filling-clause-step
-arrays::validate_shape-returns-in_ok-validate_filling-in-Filling-clause-step g t c = λ b h.
+pub arrays::validate_shape-returns-in_err-validate_filling-in-Filling-clause-runs_out : goal.arrays::validate_shape-returns-in_err-validate_filling-in-Filling-clause-runs_out
+arrays::validate_shape-returns-in_err-validate_filling-in-Filling-clause-runs_out g t c = let p = err_from_is_err_and c.from_residual-in_err-validate_filling-in-Filling.result c.from_residual-in_err-validate_filling-in-Filling.ensures.1 in rw p.1 (
     let a = c.args in
     let s = a.stream.now in
-    step_from s c.validate_filling.new.stream _ _ _ (ap (λ (x : Extent). shape_meaning a.walk.now.types.now.module.now.listed (below a.walk.now.types.now.module.now.listed a.walk.now.types.now.module.now.definitions a.walk.now.bound) a.element.now x a.env.now a.walk.now.places.now b s.end s.pos a.cells.now) c.in-Filling.is ∙ (λ k. filled (element_meaning a.walk.now.types.now.module.now.listed (below a.walk.now.types.now.module.now.listed a.walk.now.types.now.module.now.definitions a.walk.now.bound) a.element.now a.env.now a.walk.now.places.now b s.pos) c.in-Filling.step (sym c.value_of.ensures k) s.end s.pos a.cells.now)) (c.in_ok-validate_filling-in-Filling.ensures.step b h)
+    let m = a.walk.now.types.now.module.now in
+    let cells = a.slate.now.cells.now in
+    out_from _ (λ b. ap (λ (x : Extent). shape_meaning m.listed (senses m a.walk.now.bound) a.element.now x a.env.now a.walk.now.places.now b s.end s.pos cells) c.in-Filling.is
+    ∙ (λ k. filled (element_meaning m.listed (senses m a.walk.now.bound) a.element.now a.env.now a.walk.now.places.now b s.pos) c.in-Filling.step (sym c.value_of.ensures k) s.end s.pos cells)) c.in_err-validate_filling-in-Filling.ensures.runs_out)
 
-pub arrays::validate_shape-returns-in_err-validate_once-in-OnceFilling-clause-only : goal.arrays::validate_shape-returns-in_err-validate_once-in-OnceFilling-clause-only
-arrays::validate_shape-returns-in_err-validate_once-in-OnceFilling-clause-only g t c = let p = err_from_is_err_and c.from_residual-in_err-validate_once-in-OnceFilling.result c.from_residual-in_err-validate_once-in-OnceFilling.ensures.1 in rw p.1 (λ b h.
+pub arrays::validate_shape-returns-in_ok-validate_once-in-OnceFilling-clause-decides : goal.arrays::validate_shape-returns-in_ok-validate_once-in-OnceFilling-clause-decides
+arrays::validate_shape-returns-in_ok-validate_once-in-OnceFilling-clause-decides g t c =
     let a = c.args in
     let s = a.stream.now in
-    only_from g.W.Words.loads s c.validate_once.new.stream _ _ (ap (λ (x : Extent). shape_meaning a.walk.now.types.now.module.now.listed (below a.walk.now.types.now.module.now.listed a.walk.now.types.now.module.now.definitions a.walk.now.bound) a.element.now x a.env.now a.walk.now.places.now b s.end s.pos a.cells.now) c.in-OnceFilling.is ∙ (λ k. filled_once (element_meaning a.walk.now.types.now.module.now.listed (below a.walk.now.types.now.module.now.listed a.walk.now.types.now.module.now.definitions a.walk.now.bound) a.element.now a.env.now a.walk.now.places.now b s.pos) c.in-OnceFilling.step (sym c.value_of-in-OnceFilling.ensures k) s.end s.pos a.cells.now)) (c.in_err-validate_once-in-OnceFilling.ensures.only b h))
+    let m = a.walk.now.types.now.module.now in
+    let cells = a.slate.now.cells.now in
+    from _ (λ b. ap (λ (x : Extent). shape_meaning m.listed (senses m a.walk.now.bound) a.element.now x a.env.now a.walk.now.places.now b s.end s.pos cells) c.in-OnceFilling.is
+    ∙ (λ k. filled_once (element_meaning m.listed (senses m a.walk.now.bound) a.element.now a.env.now a.walk.now.places.now b s.pos) c.in-OnceFilling.step (sym c.value_of-in-OnceFilling.ensures k) s.end s.pos cells)) c.in_ok-validate_once-in-OnceFilling.ensures.decides
 
-pub arrays::validate_shape-returns-in_ok-validate_once-in-OnceFilling-clause-step : goal.arrays::validate_shape-returns-in_ok-validate_once-in-OnceFilling-clause-step
-arrays::validate_shape-returns-in_ok-validate_once-in-OnceFilling-clause-step g t c = λ b h.
+pub arrays::validate_shape-returns-in_err-validate_once-in-OnceFilling-clause-runs_out : goal.arrays::validate_shape-returns-in_err-validate_once-in-OnceFilling-clause-runs_out
+arrays::validate_shape-returns-in_err-validate_once-in-OnceFilling-clause-runs_out g t c = let p = err_from_is_err_and c.from_residual-in_err-validate_once-in-OnceFilling.result c.from_residual-in_err-validate_once-in-OnceFilling.ensures.1 in rw p.1 (
     let a = c.args in
     let s = a.stream.now in
-    step_from s c.validate_once.new.stream _ _ _ (ap (λ (x : Extent). shape_meaning a.walk.now.types.now.module.now.listed (below a.walk.now.types.now.module.now.listed a.walk.now.types.now.module.now.definitions a.walk.now.bound) a.element.now x a.env.now a.walk.now.places.now b s.end s.pos a.cells.now) c.in-OnceFilling.is ∙ (λ k. filled_once (element_meaning a.walk.now.types.now.module.now.listed (below a.walk.now.types.now.module.now.listed a.walk.now.types.now.module.now.definitions a.walk.now.bound) a.element.now a.env.now a.walk.now.places.now b s.pos) c.in-OnceFilling.step (sym c.value_of-in-OnceFilling.ensures k) s.end s.pos a.cells.now)) (c.in_ok-validate_once-in-OnceFilling.ensures.step b h)
+    let m = a.walk.now.types.now.module.now in
+    let cells = a.slate.now.cells.now in
+    out_from _ (λ b. ap (λ (x : Extent). shape_meaning m.listed (senses m a.walk.now.bound) a.element.now x a.env.now a.walk.now.places.now b s.end s.pos cells) c.in-OnceFilling.is
+    ∙ (λ k. filled_once (element_meaning m.listed (senses m a.walk.now.bound) a.element.now a.env.now a.walk.now.places.now b s.pos) c.in-OnceFilling.step (sym c.value_of-in-OnceFilling.ensures k) s.end s.pos cells)) c.in_err-validate_once-in-OnceFilling.ensures.runs_out)
+
+pub arrays::validate_shape-returns-in-UpToZero-clause-decides : goal.arrays::validate_shape-returns-in-UpToZero-clause-decides
+arrays::validate_shape-returns-in-UpToZero-clause-decides g t c =
+    let a = c.args in
+    let s = a.stream.now in
+    let m = a.walk.now.types.now.module.now in
+    let cells = a.slate.now.cells.now in
+    let e = c.validate_zero_ended.ensures in
+    unwritten _ (λ b. element_up_to_zero a.element.now c.value_of-in-UpToZero.result b s.end s.pos cells) c.requires.empty_trace e.later e.whole e.end e.at
+    (λ b. ap (λ (x : Extent). shape_meaning m.listed (senses m a.walk.now.bound) a.element.now x a.env.now a.walk.now.places.now b s.end s.pos cells) c.in-UpToZero.is
+    ∙ (λ k. element_up_to_zero a.element.now (sym c.value_of-in-UpToZero.ensures k) b s.end s.pos cells)) (λ b h. e.step b cells h)

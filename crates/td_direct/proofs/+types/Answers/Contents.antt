@@ -1,5 +1,5 @@
 -- The answers of what stands in a field.
-use Rattle.std.proofs.Common.{◌≡◌, ℕ, ◌-◌, ◌<◌, List, ◌∷◌, false, sym, ap, ◌∙◌, subst}
+use Rattle.std.proofs.Common.{◌≡◌, ℕ, ◌-◌, ◌<◌, List, [], ◌∷◌, false, refl, sym, ap, ◌∙◌, subst}
 use Rattle.std.specs.Prelude.{◌⊎◌}
 use Rattle.std.proofs.lemmas.Result.{err_from_is_err_and}
 use Rattle.td_num.specs.Numbers.{bytes_in, number_at}
@@ -9,80 +9,125 @@ use Rattle.td_core.specs.declared.module.Element.TheVariants as element
 use Rattle.td_core.specs.declared.module.Field.{Field as FieldDef}
 use Rattle.td_core.specs.declared.outcome.Spot.TheVariants.{Field}
 use Rattle.td_core.specs.declared.outcome.Verdict.{Verdict}
-use Rattle.td_core.specs.Outcome.{Ending, plain, and_then, within, ending_within}
+use Rattle.td_core.specs.Outcome.{plain, and_then, ending_within}
 use Rattle.td_meaning.specs.Meaning.{values_of as values_in, field_place, first_name}
-use Rattle.td_meaning.specs.Machine.{values, below, fields_meaning, content_meaning}
-use Rattle.td_meaning.specs.Verdicts.{ending_of, frame_place}
+use Rattle.td_meaning.specs.Machine.{fields_meaning, content_meaning, copied_meaning}
+use Rattle.td_meaning.specs.Verdicts.{ending_of, frame_place, IsAt}
+use Rattle.td_stream.specs.StreamInvariant.{position}
 use Rattle.td_direct.specs.declared.counting.Counted.{Counted}
 use Rattle.td_direct.specs.Counting.{IsCounted, IsPlain}
-use Rattle.td_direct.specs.Step.{Step, OnlyRead, rest_meaning}
-use Rattle.td_direct.proofs.Stepping.{step_from, step_to, step_then, step_within, step_only, only_from, only_then}
-use Rattle.td_direct.proofs.FieldLemmas.{plain_by}
 use Rattle.td_direct.specs.Copying.{IsKept}
+use Rattle.td_direct.specs.Validates.{senses, Reads, OnlyRead, rest_meaning}
+use Rattle.td_direct.proofs.Stepping.{step_from, step_to, only_still}
+use Rattle.td_direct.proofs.FieldLemmas.{plain_by}
 use Rattle.td_direct.proofs.TypeLemmas.{number_is, number_not_listed, listed_is, plain_not_number, plain_not_listed}
+use Rattle.td_direct.proofs.Validations.{from, followed, framed, out_from, out_left, out_then, out_within}
 use Rattle.td_direct.proofs.+types.Goals as goal
 
-pub fields::validate_plain-returns-clause-step : goal.fields::validate_plain-returns-clause-step
-fields::validate_plain-returns-clause-step g t c = λ b h.
+pub fields::validate_plain-returns-clause-validates : goal.fields::validate_plain-returns-clause-validates
+fields::validate_plain-returns-clause-validates g t c =
     let a = c.args in
     let s = a.stream.now in
     let n = c.validate_bytes.new.stream in
+    let m = a.walk.now.types.now.module.now in
     let f : FieldDef = a.field.now in
-    let site = field_place a.walk.now.ty (first_name f.parts) s.pos in
-    let shape = content_meaning a.walk.now.types.now.module.now.listed (below a.walk.now.types.now.module.now.listed a.walk.now.types.now.module.now.definitions a.walk.now.bound) f.element f.extent f.copy a.env.now a.walk.now.places.now b s.end s.pos a.cells.now in
-    let rest = rest_meaning a.walk.now.types.now.module.now.listed (below a.walk.now.types.now.module.now.listed a.walk.now.types.now.module.now.definitions a.walk.now.bound) a.walk.now.ty f.parts a.later.now a.env.now 0 a.walk.now.places.now b s.end s.pos in
-    let is = plain_by a.walk.now.types.now.module.now.listed (below a.walk.now.types.now.module.now.listed a.walk.now.types.now.module.now.definitions a.walk.now.bound) a.walk.now.ty f a.later.now a.env.now a.walk.now.places.now b s.end s.pos a.cells.now c.requires.none in
-    let cells = c.validate_bytes.new.cells in
+    let y = c.validate_bytes.new.slate in
+    let cells = y.cells.now in
     let v : Verdict = c.in_ok-verdict.verdict in
     let name : c.first_name-name.result ≡ first_name f.parts = c.first_name-name.ensures ∙ ap first_name c.as_slice.ensures in
-    let framed = c.in_ok-framed.ensures.ending cells ∙ (λ k. ending_within (frame_place a.walk.now.ty (Field (name k)) (c.pos-start.ensures k)) (ending_of v c.validate_bytes.new.trace cells)) in
-    step_from s n _ _ _ is (step_to s n _ _ _ (step_then s n (within site shape) (ending_within site (ending_of v c.validate_bytes.new.trace cells)) rest (step_within s n site shape (ending_of v c.validate_bytes.new.trace cells) (c.in_ok-verdict.ensures.step b h))) (ap (λ (e : Ending). and_then (plain e) rest) (sym framed)))
+    let place = field_place a.walk.now.ty (first_name f.parts) s.pos in
+    let ends = c.in_ok-framed.ensures.ending cells ∙ (λ k. ending_within (frame_place a.walk.now.ty (Field (name k)) (c.pos-start.ensures k)) (ending_of v y.trace.now cells)) in
+    let bytes = c.in_ok-verdict.ensures.decides in
+    from _ (λ b. plain_by m.listed (senses m a.walk.now.bound) a.walk.now.ty f a.later.now a.env.now a.walk.now.places.now b s.end s.pos a.slate.now.cells.now c.requires.none)
+    (followed (λ b. rest_meaning m.listed (senses m a.walk.now.bound) a.walk.now.ty f.parts a.later.now a.env.now 0 a.walk.now.places.now b s.end s.pos)
+    (framed c.in_ok-framed.field-0 place bytes (record { same_cells = refl; same_copies = refl; same_trace = refl; cells = refl; rooms = refl }) refl refl (c.in_ok-framed.ensures.at n.pos bytes.at) ends))
 
-pub fields::validate_plain-returns-in_err-framed-clause-only : goal.fields::validate_plain-returns-in_err-framed-clause-only
-fields::validate_plain-returns-in_err-framed-clause-only g t c = let p = err_from_is_err_and c.from_residual-in_err-framed.result c.from_residual-in_err-framed.ensures.1 in rw p.1 (λ b h.
+pub fields::validate_plain-returns-in_err-framed-clause-runs_out : goal.fields::validate_plain-returns-in_err-framed-clause-runs_out
+fields::validate_plain-returns-in_err-framed-clause-runs_out g t c = let p = err_from_is_err_and c.from_residual-in_err-framed.result c.from_residual-in_err-framed.ensures.1 in rw p.1 (
     let a = c.args in
     let s = a.stream.now in
-    let n = c.validate_bytes.new.stream in
+    let m = a.walk.now.types.now.module.now in
     let f : FieldDef = a.field.now in
-    let site = field_place a.walk.now.ty (first_name f.parts) s.pos in
-    let shape = content_meaning a.walk.now.types.now.module.now.listed (below a.walk.now.types.now.module.now.listed a.walk.now.types.now.module.now.definitions a.walk.now.bound) f.element f.extent f.copy a.env.now a.walk.now.places.now b s.end s.pos a.cells.now in
-    let rest = rest_meaning a.walk.now.types.now.module.now.listed (below a.walk.now.types.now.module.now.listed a.walk.now.types.now.module.now.definitions a.walk.now.bound) a.walk.now.ty f.parts a.later.now a.env.now 0 a.walk.now.places.now b s.end s.pos in
-    let is = plain_by a.walk.now.types.now.module.now.listed (below a.walk.now.types.now.module.now.listed a.walk.now.types.now.module.now.definitions a.walk.now.bound) a.walk.now.ty f a.later.now a.env.now a.walk.now.places.now b s.end s.pos a.cells.now c.requires.none in
-    only_from g.W.Words.loads s n _ _ is (only_then g.W.Words.loads s n (within site shape) rest (step_only s n shape _ (c.in_ok-verdict.ensures.step b h))))
+    out_from _ (λ b. plain_by m.listed (senses m a.walk.now.bound) a.walk.now.ty f a.later.now a.env.now a.walk.now.places.now b s.end s.pos a.slate.now.cells.now c.requires.none)
+    (out_then (λ b. rest_meaning m.listed (senses m a.walk.now.bound) a.walk.now.ty f.parts a.later.now a.env.now 0 a.walk.now.places.now b s.end s.pos)
+    (out_within (λ b. field_place a.walk.now.ty (first_name f.parts) s.pos)
+    (out_left c.in_ok-verdict.ensures.decides (record { same_cells = refl; same_copies = refl; same_trace = refl; cells = refl; rooms = refl })))))
 
-pub fields::validate_plain-returns-in_err-verdict-clause-only : goal.fields::validate_plain-returns-in_err-verdict-clause-only
-fields::validate_plain-returns-in_err-verdict-clause-only g t c = let p = err_from_is_err_and c.from_residual.result c.from_residual.ensures.1 in rw p.1 (λ b h.
+pub fields::validate_plain-returns-in_err-verdict-clause-runs_out : goal.fields::validate_plain-returns-in_err-verdict-clause-runs_out
+fields::validate_plain-returns-in_err-verdict-clause-runs_out g t c = let p = err_from_is_err_and c.from_residual.result c.from_residual.ensures.1 in rw p.1 (
     let a = c.args in
     let s = a.stream.now in
-    let n = c.validate_bytes.new.stream in
+    let m = a.walk.now.types.now.module.now in
     let f : FieldDef = a.field.now in
-    let site = field_place a.walk.now.ty (first_name f.parts) s.pos in
-    let shape = content_meaning a.walk.now.types.now.module.now.listed (below a.walk.now.types.now.module.now.listed a.walk.now.types.now.module.now.definitions a.walk.now.bound) f.element f.extent f.copy a.env.now a.walk.now.places.now b s.end s.pos a.cells.now in
-    let rest = rest_meaning a.walk.now.types.now.module.now.listed (below a.walk.now.types.now.module.now.listed a.walk.now.types.now.module.now.definitions a.walk.now.bound) a.walk.now.ty f.parts a.later.now a.env.now 0 a.walk.now.places.now b s.end s.pos in
-    let is = plain_by a.walk.now.types.now.module.now.listed (below a.walk.now.types.now.module.now.listed a.walk.now.types.now.module.now.definitions a.walk.now.bound) a.walk.now.ty f a.later.now a.env.now a.walk.now.places.now b s.end s.pos a.cells.now c.requires.none in
-    only_from g.W.Words.loads s n _ _ is (only_then g.W.Words.loads s n (within site shape) rest (c.in_err-verdict.ensures.only b h)))
+    out_from _ (λ b. plain_by m.listed (senses m a.walk.now.bound) a.walk.now.ty f a.later.now a.env.now a.walk.now.places.now b s.end s.pos a.slate.now.cells.now c.requires.none)
+    (out_then (λ b. rest_meaning m.listed (senses m a.walk.now.bound) a.walk.now.ty f.parts a.later.now a.env.now 0 a.walk.now.places.now b s.end s.pos)
+    (out_within (λ b. field_place a.walk.now.ty (first_name f.parts) s.pos) c.in_err-verdict.ensures.runs_out)))
 
-pub fields::validate_content-returns-in_ok-validate_number-in-Number-clause-step : goal.fields::validate_content-returns-in_ok-validate_number-in-Number-clause-step
-fields::validate_content-returns-in_ok-validate_number-in-Number-clause-step g t c = λ b h.
+pub fields::validate_content-returns-in_ok-validate_number-in-Number-clause-validates : goal.fields::validate_content-returns-in_ok-validate_number-in-Number-clause-validates
+fields::validate_content-returns-in_ok-validate_number-in-Number-clause-validates g t c =
     let a = c.args in
-    c.in_ok-validate_number-in-Number.ensures.step a.walk.now.types.now.module.now.listed (below a.walk.now.types.now.module.now.listed a.walk.now.types.now.module.now.definitions a.walk.now.bound) a.walk.now.places.now b a.cells.now h
+    let m = a.walk.now.types.now.module.now in
+    let e = c.in_ok-validate_number-in-Number.ensures in
+    record {
+      later = c.validate_number.ensures.later;
+      stream = c.validate_number.ensures.whole;
+      ends = c.validate_number.ensures.end;
+      at = e.at;
+      lent = record { same_cells = refl; same_copies = refl; same_trace = refl; cells = refl; rooms = refl };
+      held = λ b h x. x;
+      step = λ b h. e.step m.listed (senses m a.walk.now.bound) a.later.now a.env.now a.walk.now.places.now b a.slate.now.cells.now c.requires.needed h;
+    }
 
-pub fields::validate_content-returns-in_ok-validate_listed_field-in-Listed-clause-step : goal.fields::validate_content-returns-in_ok-validate_listed_field-in-Listed-clause-step
-fields::validate_content-returns-in_ok-validate_listed_field-in-Listed-clause-step g t c = λ b h.
+pub fields::validate_content-returns-in_err-validate_number-in-Number-clause-runs_out : goal.fields::validate_content-returns-in_err-validate_number-in-Number-clause-runs_out
+fields::validate_content-returns-in_err-validate_number-in-Number-clause-runs_out g t c = let p = err_from_is_err_and c.from_residual.result c.from_residual.ensures.1 in rw p.1 (record {
+  later = c.validate_number.ensures.later;
+  stream = c.validate_number.ensures.whole;
+  lent = record { same_cells = refl; same_copies = refl; same_trace = refl; cells = refl; rooms = refl };
+  only = λ b h. only_still g.W.Words.loads c.args.stream.now c.validate_number.new.stream _ c.in_err-validate_number-in-Number.ensures.only;
+})
+
+pub fields::validate_content-returns-in_ok-validate_listed_field-in-Listed-clause-validates : goal.fields::validate_content-returns-in_ok-validate_listed_field-in-Listed-clause-validates
+fields::validate_content-returns-in_ok-validate_listed_field-in-Listed-clause-validates g t c =
     let a = c.args in
     let s = a.stream.now in
     let n = c.validate_listed_field.new.stream in
+    let m = a.walk.now.types.now.module.now in
     let f : FieldDef = a.field.now in
+    let cells = a.slate.now.cells.now in
+    let e = c.in_ok-validate_listed_field-in-Listed.ensures in
     let v : Verdict = c.in_ok-validate_listed_field-in-Listed.field-0.verdict in
     let value : ℕ = c.in_ok-validate_listed_field-in-Listed.field-0.value in
-    subst (λ (sets : List (List ℕ)). Step g.W.Words.loads s n (fields_meaning sets (below a.walk.now.types.now.module.now.listed a.walk.now.types.now.module.now.definitions a.walk.now.bound) a.walk.now.ty (a.field.now ∷ a.later.now) a.env.now a.walk.now.places.now b s.end s.pos a.cells.now) (and_then (plain (ending_of v c.validate_listed_field.new.trace a.cells.now)) (rest_meaning sets (below a.walk.now.types.now.module.now.listed a.walk.now.types.now.module.now.definitions a.walk.now.bound) a.walk.now.ty f.parts a.later.now a.env.now value a.walk.now.places.now b s.end s.pos))) c.as_slice.ensures (c.in_ok-validate_listed_field-in-Listed.ensures.step (below a.walk.now.types.now.module.now.listed a.walk.now.types.now.module.now.definitions a.walk.now.bound) a.later.now a.env.now a.walk.now.places.now b a.cells.now h)
+    record {
+      later = c.validate_listed_field.ensures.later;
+      stream = c.validate_listed_field.ensures.whole;
+      ends = c.validate_listed_field.ensures.end;
+      at = e.at;
+      lent = record { same_cells = refl; same_copies = refl; same_trace = refl; cells = refl; rooms = refl };
+      held = λ b h x. x;
+      step = λ b h.
+          subst (λ (sets : List (List ℕ)). Reads g.W.Words.loads s n (fields_meaning sets (senses m a.walk.now.bound) a.walk.now.ty (f ∷ a.later.now) a.env.now a.walk.now.places.now b s.end s.pos cells) (and_then (plain (ending_of v c.validate_listed_field.new.trace cells)) (rest_meaning sets (senses m a.walk.now.bound) a.walk.now.ty f.parts a.later.now a.env.now value a.walk.now.places.now b s.end s.pos))) c.as_slice.ensures
+          (e.step (senses m a.walk.now.bound) a.later.now a.env.now a.walk.now.places.now b cells h);
+    }
 
-pub fields::validate_content-returns-in_err-validate_listed_field-in-Listed-clause-only : goal.fields::validate_content-returns-in_err-validate_listed_field-in-Listed-clause-only
-fields::validate_content-returns-in_err-validate_listed_field-in-Listed-clause-only g t c = let p = err_from_is_err_and c.from_residual-in_err-validate_listed_field-in-Listed.result c.from_residual-in_err-validate_listed_field-in-Listed.ensures.1 in rw p.1 (λ b h.
+pub fields::validate_content-returns-in_err-validate_listed_field-in-Listed-clause-runs_out : goal.fields::validate_content-returns-in_err-validate_listed_field-in-Listed-clause-runs_out
+fields::validate_content-returns-in_err-validate_listed_field-in-Listed-clause-runs_out g t c = let p = err_from_is_err_and c.from_residual-in_err-validate_listed_field-in-Listed.result c.from_residual-in_err-validate_listed_field-in-Listed.ensures.1 in rw p.1 (
     let a = c.args in
     let s = a.stream.now in
     let n = c.validate_listed_field.new.stream in
-    subst (λ (sets : List (List ℕ)). OnlyRead g.W.Words.loads s n (fields_meaning sets (below a.walk.now.types.now.module.now.listed a.walk.now.types.now.module.now.definitions a.walk.now.bound) a.walk.now.ty (a.field.now ∷ a.later.now) a.env.now a.walk.now.places.now b s.end s.pos a.cells.now)) c.as_slice.ensures (c.in_err-validate_listed_field-in-Listed.ensures.only (below a.walk.now.types.now.module.now.listed a.walk.now.types.now.module.now.definitions a.walk.now.bound) a.later.now a.env.now a.walk.now.places.now b a.cells.now h))
+    let m = a.walk.now.types.now.module.now in
+    let cells = a.slate.now.cells.now in
+    record {
+      later = c.validate_listed_field.ensures.later;
+      stream = c.validate_listed_field.ensures.whole;
+      lent = record { same_cells = refl; same_copies = refl; same_trace = refl; cells = refl; rooms = refl };
+      only = λ b h. subst (λ (sets : List (List ℕ)). OnlyRead g.W.Words.loads s n (fields_meaning sets (senses m a.walk.now.bound) a.walk.now.ty (a.field.now ∷ a.later.now) a.env.now a.walk.now.places.now b s.end s.pos cells)) c.as_slice.ensures (c.in_err-validate_listed_field-in-Listed.ensures.only (senses m a.walk.now.bound) a.later.now a.env.now a.walk.now.places.now b cells h);
+    })
+
+pub fields::validate_content-returns-in_ok-validate_plain-in-Plain-clause-validates : goal.fields::validate_content-returns-in_ok-validate_plain-in-Plain-clause-validates
+fields::validate_content-returns-in_ok-validate_plain-in-Plain-clause-validates g t c = c.in_ok-validate_plain-in-Plain.ensures.validates
+
+pub fields::validate_content-returns-in_err-validate_plain-in-Plain-clause-runs_out : goal.fields::validate_content-returns-in_err-validate_plain-in-Plain-clause-runs_out
+fields::validate_content-returns-in_err-validate_plain-in-Plain-clause-runs_out g t c = let p = err_from_is_err_and c.from_residual-in_err-validate_plain-in-Plain.result c.from_residual-in_err-validate_plain-in-Plain.ensures.1 in rw p.1 c.in_err-validate_plain-in-Plain.ensures.runs_out
 
 pub fields::validate_content-returns-in_err-validate_number-in-Number-clause-number : goal.fields::validate_content-returns-in_err-validate_number-in-Number-clause-number
 fields::validate_content-returns-in_err-validate_number-in-Number-clause-number g t c = let p = err_from_is_err_and c.from_residual.result c.from_residual.ensures.1 in rw p.1 (λ u is once.
@@ -128,11 +173,41 @@ fields::validate_content-returns-in_err-validate_plain-in-Plain-clause-listed g 
     let here : IsPlain f.extent f.element = subst (λ (k : Counted). IsCounted k f.extent f.element) c.in-Plain.is c.number_in.ensures in
     absurd (plain_not_listed f.extent f.element base values here is once))
 
-pub fields::validate_bytes-returns-in_err-validate_shape-in-None-clause-only : goal.fields::validate_bytes-returns-in_err-validate_shape-in-None-clause-only
-fields::validate_bytes-returns-in_err-validate_shape-in-None-clause-only g t c = let p = err_from_is_err_and c.from_residual.result c.from_residual.ensures.1 in rw p.1 (λ b h.
+pub fields::validate_bytes-returns-in_ok-validate_shape-in-None-clause-decides : goal.fields::validate_bytes-returns-in_ok-validate_shape-in-None-clause-decides
+fields::validate_bytes-returns-in_ok-validate_shape-in-None-clause-decides g t c =
     let a = c.args in
     let s = a.stream.now in
-    let n = c.validate_shape.new.stream in
-    let sets : List (List ℕ) = a.walk.now.types.now.module.now.listed in
+    let m = a.walk.now.types.now.module.now in
     let kept : IsKept a.field.now = c.in-None.ensures in
-    only_from g.W.Words.loads s n _ _ (kept sets (below sets a.walk.now.types.now.module.now.definitions a.walk.now.bound) a.env.now a.walk.now.places.now b s.end s.pos a.cells.now) (c.in_err-validate_shape-in-None.ensures.only b h))
+    from _ (λ b. kept m.listed (senses m a.walk.now.bound) a.env.now a.walk.now.places.now b s.end s.pos a.slate.now.cells.now) c.in_ok-validate_shape-in-None.ensures.decides
+
+pub fields::validate_bytes-returns-in_err-validate_shape-in-None-clause-runs_out : goal.fields::validate_bytes-returns-in_err-validate_shape-in-None-clause-runs_out
+fields::validate_bytes-returns-in_err-validate_shape-in-None-clause-runs_out g t c = let p = err_from_is_err_and c.from_residual.result c.from_residual.ensures.1 in rw p.1 (
+    let a = c.args in
+    let s = a.stream.now in
+    let m = a.walk.now.types.now.module.now in
+    let kept : IsKept a.field.now = c.in-None.ensures in
+    out_from _ (λ b. kept m.listed (senses m a.walk.now.bound) a.env.now a.walk.now.places.now b s.end s.pos a.slate.now.cells.now) c.in_err-validate_shape-in-None.ensures.runs_out)
+
+pub fields::validate_bytes-returns-in-Some-clause-decides : goal.fields::validate_bytes-returns-in-Some-clause-decides
+fields::validate_bytes-returns-in-Some-clause-decides g t c =
+    let a = c.args in
+    let s = a.stream.now in
+    let n = c.validate_copied.new.stream in
+    let m = a.walk.now.types.now.module.now in
+    let f : FieldDef = a.field.now in
+    let e = c.validate_copied.ensures in
+    let v : Verdict = c.validate_copied.result in
+    let copied = c.in-Some.ensures in
+    record {
+      later = e.later;
+      stream = e.whole;
+      ends = e.end;
+      at = subst (IsAt v (position n)) (sym c.requires.empty_trace) e.at;
+      lent = record { same_cells = refl; same_copies = refl; same_trace = refl; cells = c.validate_copied.auto.cells; rooms = e.rooms };
+      held = e.held;
+      step = λ b h.
+          step_from s n _ _ _ ((λ k. content_meaning m.listed (senses m a.walk.now.bound) f.element (copied.extent k) (copied.copy k) a.env.now a.walk.now.places.now b s.end s.pos a.slate.now.cells.now)
+          ∙ (λ k. copied_meaning c.in-Some.copied.copy a.walk.now.places.now (sym c.value_of.ensures k) s.end s.pos a.slate.now.cells.now))
+          (step_to s n _ _ _ (e.step b h) (λ k. plain (ending_of v (sym c.requires.empty_trace k) c.validate_copied.new.cells)));
+    }

@@ -56,10 +56,10 @@ returns-clause-step g c = λ b h.
     let fewest : min a.size a.copy.room ≡ k = omega (arith, c.min-count.ensures, enough, c.requires.whole.within) in
     let from : position s ≡ c.from-2.result = sym (c.from-2.ensures ∙ c.pos-start.ensures) in
     let count : min a.size a.copy.room ≡ c.from-3.result = fewest ∙ sym c.from-3.ensures in
-    let moved : position s + a.size ≡ c.pos.result = omega (arith, c.pos.ensures, c.copy_to.ensures.pos, c.skip.ensures.pos, fewest, enough) in
+    let moved : position s + a.size ≡ c.pos.result = omega (arith, c.pos.ensures, c.copy_to.ensures.moves.at, c.skip.ensures.moves.at, fewest, enough) in
     let last : with_copy a.copy a.places.now (position s) (min a.size a.copy.room) a.cells.now ≡ c.put_copy.new.cells = (λ i. with_copy a.copy a.places.now (from i) (count i) a.cells.now) ∙ sym c.put_copy.ensures in
     record {
       seen = places;
-      looked = subst (λ xs. Looked g.W.Words.loads s t xs) (append-nil places) (look_more s m t places [] c.copy_to.ensures.looked c.skip.ensures.looked);
+      looked = subst (λ xs. Looked g.W.Words.loads s t xs) (append-nil places) (look_more s m t places [] c.copy_to.ensures.moves.looked c.skip.ensures.moves.looked);
       is = copied_long a.copy a.places.now a.size (end_of s) (position s) a.cells.now inside ∙ (λ i. after_reading (places_from (position s) (fewest i)) (accepted (moved i) (last i)));
     }

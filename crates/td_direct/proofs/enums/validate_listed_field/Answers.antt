@@ -9,7 +9,7 @@ use Rattle.td_core.specs.Outcome.{Ending, Behavior, ending_within, plain, and_th
 use Rattle.td_meaning.specs.Meaning.{field_place, first_name, values_of}
 use Rattle.td_meaning.specs.Machine.{listed_meaning}
 use Rattle.td_meaning.specs.Verdicts.{ending_of, frame_place}
-use Rattle.td_direct.specs.Step.{Step, rest_meaning}
+use Rattle.td_direct.specs.Validates.{Reads, rest_meaning}
 use Rattle.td_direct.proofs.Stepping.{step_from, step_to, step_then, step_within, step_only, only_from, only_then, then_verdict}
 use Rattle.td_direct.proofs.FieldLemmas.{listed_by, listed_failed}
 use Rattle.td_direct.proofs.enums.validate_listed_field.Goals as goal
@@ -28,7 +28,7 @@ returns-clause-step g c = λ senses later env places b cells h.
     let e = ending_of k.result.verdict [] cells in
     let name : c.first_name-name.result ≡ first_name f.parts = c.first_name-name.ensures ∙ ap first_name c.as_slice.ensures in
     let framed = c.in_ok-framed.ensures.ending cells ∙ (λ i. ending_within (frame_place a.ty (FieldSpot (name i)) (c.pos-start.ensures i)) (ending_of k.result.verdict (c.requires.empty_trace i) cells)) in
-    let took : Step g.W.Words.loads s t x (plain e) = step_from s t _ _ _ (λ i. listed_meaning a.base (sym c.values_at.ensures i) b (sym c.pos-start.ensures i) s.end s.pos cells) (k.ensures.step b cells h) in
+    let took : Reads g.W.Words.loads s t x (plain e) = step_from s t _ _ _ (λ i. listed_meaning a.base (sym c.values_at.ensures i) b (sym c.pos-start.ensures i) s.end s.pos cells) (k.ensures.step b cells h) in
     step_from s t _ _ _ (listed_by sets senses a.ty f later env places b s.end s.pos cells a.base a.values c.requires.number c.requires.once)
     (step_to s t _ _ _ (step_then s t (within place x) (ending_within place e) (rest (number_at a.base b s.pos)) (step_within s t place x e took))
     (then_verdict k.result.verdict place cells (rest (number_at a.base b s.pos)) (rest k.result.value) (λ q v r more. ap (λ n. rest n r more) (sym (k.ensures.value q v b h)))
@@ -45,7 +45,7 @@ returns-in_err-framed-clause-only g c = let p = err_from_is_err_and c.from_resid
     let sets : List (List ℕ) = a.listed.now in
     let x = listed_meaning a.base (values_of sets a.values) b s.pos s.end s.pos cells in
     let e = ending_of k.result.verdict [] cells in
-    let took : Step g.W.Words.loads s t x (plain e) = step_from s t _ _ _ (λ i. listed_meaning a.base (sym c.values_at.ensures i) b (sym c.pos-start.ensures i) s.end s.pos cells) (k.ensures.step b cells h) in
+    let took : Reads g.W.Words.loads s t x (plain e) = step_from s t _ _ _ (λ i. listed_meaning a.base (sym c.values_at.ensures i) b (sym c.pos-start.ensures i) s.end s.pos cells) (k.ensures.step b cells h) in
     only_from g.W.Words.loads s t _ _ (listed_by sets senses a.ty f later env places b s.end s.pos cells a.base a.values c.requires.number c.requires.once)
     (only_then g.W.Words.loads s t (within place x) (rest_meaning sets senses a.ty f.parts later env (number_at a.base b s.pos) places b s.end s.pos) (step_only s t x (plain e) took)))
 

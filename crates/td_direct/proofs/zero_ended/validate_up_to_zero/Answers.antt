@@ -5,7 +5,7 @@ use Rattle.td_core.specs.declared.outcome.Reason.TheVariants.{Constraint, NotEno
 use Rattle.td_core.specs.Outcome.{rejected, accepted}
 use Rattle.td_stream.proofs.Stages.{later_trans, carried}
 use Rattle.td_meaning.specs.Meaning.{up_to_zero}
-use Rattle.td_direct.specs.Step.{Step}
+use Rattle.td_direct.specs.Validates.{Reads}
 use Rattle.td_direct.proofs.Stepping.{step_trans, step_to, step_from, step_still}
 use Rattle.td_meaning.proofs.Zeros.{zero_turns, turns_none, turns_on, turns_of}
 use Rattle.td_direct.proofs.zero_ended.validate_up_to_zero.Goals as goal
@@ -42,12 +42,12 @@ returns-then-value-eq0-clause-step g c = λ b cells h.
     let bound = c.args.size / c.byte_count-width.result in
     let room = (c.end.result - c.pos-start.result) / c.byte_count-width.result in
     let n = min bound room - l.turn in
-    let both = carried s0 s t b i.later e.later h in
+    let both = carried s0 s t b i.later e.moves.later h in
     let is : n ≡ suc (n - 1) = omega (arith, c.loop-turn-test.true, c.min-turn-end.ensures) in
     let value : nat_eq c.take-value.result 0 ≡ true = search rules in
     let zero : nat_eq (number_at kind b s.pos) 0 ≡ true = ap (λ v. nat_eq v 0) (sym (e.value b both.1)) ∙ value in
-    let step : Step g.W.Words.loads s t (zero_turns kind b reason s0.pos n s.pos cells) (accepted (s.pos + w) cells) = record { seen = places_from s.pos w; looked = e.looked; is = turns_on kind b reason s0.pos n (n - 1) s.pos cells true is zero } in
-    let at : s.pos + w ≡ c.pos.result = sym (c.pos.ensures ∙ e.pos) in
+    let step : Reads g.W.Words.loads s t (zero_turns kind b reason s0.pos n s.pos cells) (accepted (s.pos + w) cells) = record { seen = places_from s.pos w; looked = e.moves.looked; is = turns_on kind b reason s0.pos n (n - 1) s.pos cells true is zero } in
+    let at : s.pos + w ≡ c.pos.result = sym (c.pos.ensures ∙ e.moves.at) in
     let bounds : up_to_zero kind c.args.size b s0.end s0.pos cells ≡ zero_turns kind b reason s0.pos (min bound room) s0.pos cells = turns_of kind c.args.size b s0.end s0.pos cells ∙ (λ k. zero_turns kind b (cond (nat_le (c.args.size / sym c.byte_count-width.ensures k) ((sym c.end.ensures k - sym c.pos-start.ensures k) / sym c.byte_count-width.ensures k)) Constraint NotEnough) s0.pos (min (c.args.size / sym c.byte_count-width.ensures k) ((sym c.end.ensures k - sym c.pos-start.ensures k) / sym c.byte_count-width.ensures k)) s0.pos cells) ∙ ap (λ r. zero_turns kind b r s0.pos (min bound room) s0.pos cells) (sym c.missing-reason.ensures) in
     step_from s0 t _ _ _ bounds (step_to s0 t _ _ _ (step_trans s0 s t _ _ _ (i.step b cells both.0) step) (λ k. accepted (at k) cells))
 
@@ -68,19 +68,19 @@ loop-turn-preserved g c =
     let more : l.turn < min bound room = omega (arith, c.loop-turn-test.true, c.min-turn-end.ensures) in
     let is : n ≡ suc (n - 1) = omega (arith, more) in
     let fewer = one_fewer (min bound room) l.turn (s.end - s.pos) w more i.left in
-    let gone : s.end - s.pos - w ≡ t.end - t.pos = omega (arith, e.pos, e.end) in
+    let gone : s.end - s.pos - w ≡ t.end - t.pos = omega (arith, e.moves.at, e.moves.ends) in
     let next : n - 1 ≡ min bound room - (l.turn + 1) = omega arith in
     record {
-      later = later_trans g.met.W.Words.reaches_on s0 s t i.later e.later;
-      whole = e.whole;
-      end = e.end ∙ i.end;
+      later = later_trans g.met.W.Words.reaches_on s0 s t i.later e.moves.later;
+      whole = e.moves.whole;
+      end = e.moves.ends ∙ i.end;
       left = subst (λ x. (min bound room - (l.turn + 1)) * w ≤ x) gone fewer.1;
       step = λ b cells h.
-          let both = carried s0 s t b i.later e.later h in
+          let both = carried s0 s t b i.later e.moves.later h in
           let value : nat_eq c.take-value.result 0 ≡ false = search rules in
           let other : nat_eq (number_at kind b s.pos) 0 ≡ false = ap (λ v. nat_eq v 0) (sym (e.value b both.1)) ∙ value in
-          let step : Step g.W.Words.loads s t (zero_turns kind b reason s0.pos n s.pos cells) (zero_turns kind b reason s0.pos (n - 1) (s.pos + w) cells) = record { seen = places_from s.pos w; looked = e.looked; is = turns_on kind b reason s0.pos n (n - 1) s.pos cells false is other } in
-          step_to s0 t _ _ _ (step_trans s0 s t _ _ _ (i.step b cells both.0) step) (λ k. zero_turns kind b reason s0.pos (next k) (sym e.pos k) cells);
+          let step : Reads g.W.Words.loads s t (zero_turns kind b reason s0.pos n s.pos cells) (zero_turns kind b reason s0.pos (n - 1) (s.pos + w) cells) = record { seen = places_from s.pos w; looked = e.moves.looked; is = turns_on kind b reason s0.pos n (n - 1) s.pos cells false is other } in
+          step_to s0 t _ _ _ (step_trans s0 s t _ _ _ (i.step b cells both.0) step) (λ k. zero_turns kind b reason s0.pos (next k) (sym e.moves.at k) cells);
     }
 
 pub returns-clause-step : goal.returns-clause-step

@@ -1,4 +1,4 @@
-use Rattle.std.proofs.Common.{◌≡◌, ◌∙◌}
+use Rattle.std.proofs.Common.{◌∙◌}
 use Rattle.td_meaning_plain.proofs.Copied.{bytes_more}
 use Rattle.td_meaning_plain.proofs.copies.bytes_from.Goals as goal
 

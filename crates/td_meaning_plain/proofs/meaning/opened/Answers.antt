@@ -1,4 +1,4 @@
-use Rattle.std.proofs.Common.{◌≡◌, ◌+◌, ◌*◌, ◌++◌, ◌∷◌, [], ap, ◌∙◌}
+use Rattle.std.proofs.Common.{◌++◌, ◌∷◌, [], ap, ◌∙◌}
 use Rattle.td_meaning_plain.proofs.Copied.{two_more}
 use Rattle.td_meaning_plain.proofs.meaning.opened.Goals as goal
 

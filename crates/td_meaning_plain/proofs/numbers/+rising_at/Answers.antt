@@ -1,4 +1,4 @@
-use Rattle.std.proofs.Common.{◌-◌, arith}
+use Rattle.std.proofs.Common.{arith}
 use Rattle.td_meaning_plain.proofs.numbers.+rising_at.Goals as goal
 use Rattle.td_num.proofs.Digits.{power_fits, number_more, sum_top}
 

@@ -36,13 +36,13 @@ decreases-defined l = 20 * l.walk.now.bound + 8
 -- what is left of the fields decides the whole
 abbrev pub invariant-fields_in_order-loop-field : goal.invariant-fields_in_order-loop-field
 invariant-fields_in_order-loop-field l = record {
-  empty_trace : l.trace ≡ [];
-  ending : (fields_meaning l.walk.m.now.listed (below l.walk.m.now.listed l.walk.m.now.definitions l.walk.bound) l.ty l.fields l.fn.env.items l.walk.places.now l.walk.message.now l.end l.start l.fn.cells).ending ≡ (fields_meaning l.walk.m.now.listed (below l.walk.m.now.listed l.walk.m.now.definitions l.walk.bound) l.ty (drop l.field-index l.fields) l.env.items l.walk.places.now l.walk.message.now l.end l.position l.cells).ending;
+  empty_trace : l.slate.trace ≡ [];
+  ending : (fields_meaning l.walk.m.now.listed (below l.walk.m.now.listed l.walk.m.now.definitions l.walk.bound) l.ty l.fields l.fn.env.items l.walk.places.now l.walk.message.now l.walk.end l.start l.fn.slate.cells.items).ending ≡ (fields_meaning l.walk.m.now.listed (below l.walk.m.now.listed l.walk.m.now.definitions l.walk.bound) l.ty (drop l.field-index l.fields) l.env.items l.walk.places.now l.walk.message.now l.walk.end l.position l.slate.cells.items).ending;
 }
 
 -- what is left of the elements decides the whole
 abbrev pub invariant-all_elements-loop-turn : goal.invariant-all_elements-loop-turn
 invariant-all_elements-loop-turn l = record {
-  empty_trace : l.trace ≡ [];
-  ending : (elements (element_meaning l.walk.m.now.listed (below l.walk.m.now.listed l.walk.m.now.definitions l.walk.bound) l.element l.env l.walk.places.now l.walk.message.now l.start l.end) (suc (l.end - l.start)) l.start l.end l.start l.fn.cells).ending ≡ (elements (element_meaning l.walk.m.now.listed (below l.walk.m.now.listed l.walk.m.now.definitions l.walk.bound) l.element l.env l.walk.places.now l.walk.message.now l.start l.end) (suc (l.end - l.start) - l.turn) l.start l.end l.position l.cells).ending;
+  empty_trace : l.slate.trace ≡ [];
+  ending : (elements (element_meaning l.walk.m.now.listed (below l.walk.m.now.listed l.walk.m.now.definitions l.walk.bound) l.element l.env l.walk.places.now l.walk.message.now l.start l.walk.end) (suc (l.walk.end - l.start)) l.start l.walk.end l.start l.fn.slate.cells.items).ending ≡ (elements (element_meaning l.walk.m.now.listed (below l.walk.m.now.listed l.walk.m.now.definitions l.walk.bound) l.element l.env l.walk.places.now l.walk.message.now l.start l.walk.end) (suc (l.walk.end - l.start) - l.turn) l.start l.walk.end l.position l.slate.cells.items).ending;
 }

@@ -19,7 +19,7 @@ returns-in-Some-clause-kept c =
       refl,
       record {
         guest = r.ensures.guest;
-        number = r.ensures.version;
+        version = r.ensures.version;
         layout = r.ensures.layout;
         outcome =
             r.ensures.outcome

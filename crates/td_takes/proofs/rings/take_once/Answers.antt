@@ -21,6 +21,7 @@ returns-clause-take c m code =
     record {
       answers = subst (λ (x : Look). IsAnswer (standing a.ring.now.job.now.entries d.taken x.head) m d.room a.ring.now.job.now.most d.taken (take_of a.ring.now.number a.number x.head l.result c.desc_reply-desc.result c.message_of-message.result)) (sym c.last.ensures) answers;
       message = c.message_of-message.ensures.message;
+      numbered = (c.desc_reply-desc.ensures.number, c.message_of-message.ensures.number);
     }
 
 pub returns-clause-read : goal.returns-clause-read

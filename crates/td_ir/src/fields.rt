@@ -1,96 +1,50 @@
-//! Instructions as an image has them.
+//! An instruction as a row of fields, as an image has it.
 
 ghost use Rattle.std.specs.Prelude.{◌≡◌};
-ghost use Rattle.td_image.specs.Instructions as instructions;
+ghost use Rattle.td_ir.specs.Fields as rows;
 
-use td_ir::instructions::Instr;
+use crate::instructions::Instr;
+use crate::opcodes::{Operand, OperandField, field_of, has};
 
 /// The number of an instruction's kind, and its operands. Those that the kind hasn't are zero.
 #[derive(Clone, Copy)]
 pub struct Fields {
+    /// The number of the kind, from 0 on.
     pub number: u8,
+    /// An operator, an order, a reason, or the lowest bit.
     pub x: u8,
+    /// A register that is written, or the first argument's.
     pub a: u16,
+    /// A register that is read.
     pub b: u16,
+    /// A second one, a width, a count of bits, a cell or a buffer.
     pub c: u16,
+    /// A target, a routine or a set.
     pub t: u32,
+    /// A site.
     pub site: u32,
+    /// A number of 64 bits: a value, a count of bytes, a step or a cell map.
     pub k: u64,
 }
 
-/// Whether the kind of this number has the operand `x`.
-pub(crate) fn has_x(n: u8) -> bool
-    ensures { result ≡ instructions.has_x n }
+/// An operand of these fields, as a number.
+pub fn value_of(fields: Fields, operand: Operand) -> u64
+    ensures { result ≡ rows.value_of fields operand }
 {
-    n == 2 || n == 3 || n == 10 || n == 22
-}
-
-/// Whether the kind of this number has the operand `a`.
-pub(crate) fn has_a(n: u8) -> bool
-    ensures { result ≡ instructions.has_a n }
-{
-    n == 0 || n == 1 || n == 2 || n == 3 || n == 4 || n == 8 || n == 10 || n == 23
-}
-
-/// Whether the kind of this number has the operand `b`.
-pub(crate) fn has_b(n: u8) -> bool
-    ensures { result ≡ instructions.has_b n }
-{
-    n == 1
-        || n == 2
-        || n == 3
-        || n == 6
-        || n == 7
-        || n == 12
-        || n == 15
-        || n == 17
-        || n == 18
-        || n == 24
-        || n == 26
-}
-
-/// Whether the kind of this number has the operand `c`.
-pub(crate) fn has_c(n: u8) -> bool
-    ensures { result ≡ instructions.has_c n }
-{
-    n == 2 || n == 3 || n == 10 || n == 15 || n == 23 || n == 24 || n == 26
-}
-
-/// Whether the kind of this number has the operand `t`.
-pub(crate) fn has_t(n: u8) -> bool
-    ensures { result ≡ instructions.has_t n }
-{
-    n == 1 || n == 5 || n == 6 || n == 7 || n == 8 || n == 19 || n == 20
-}
-
-/// Whether the kind of this number has the operand `site`.
-pub(crate) fn has_site(n: u8) -> bool
-    ensures { result ≡ instructions.has_site n }
-{
-    n == 8
-        || n == 10
-        || n == 11
-        || n == 12
-        || n == 14
-        || n == 15
-        || n == 16
-        || n == 17
-        || n == 18
-        || n == 21
-        || n == 22
-        || n == 26
-}
-
-/// Whether the kind of this number has the operand `k`.
-pub(crate) fn has_k(n: u8) -> bool
-    ensures { result ≡ instructions.has_k n }
-{
-    n == 0 || n == 8 || n == 11 || n == 16 || n == 18
+    match field_of(operand) {
+        OperandField::X => fields.x.into(),
+        OperandField::A => fields.a.into(),
+        OperandField::B => fields.b.into(),
+        OperandField::C => fields.c.into(),
+        OperandField::T => fields.t.into(),
+        OperandField::Site => fields.site.into(),
+        OperandField::K => fields.k,
+    }
 }
 
 /// The instruction of these fields.
-pub(crate) fn instruction_of(f: Fields) -> Instr
-    ensures { result ≡ instructions.instruction_of f }
+pub fn instruction_of(f: Fields) -> Instr
+    ensures { result ≡ rows.instruction_of f }
 {
     match f.number {
         0 => Instr::Const {
@@ -191,8 +145,8 @@ pub(crate) fn instruction_of(f: Fields) -> Instr
 }
 
 /// The fields of an instruction.
-pub(crate) fn fields_of(instruction: Instr) -> Fields
-    ensures { result ≡ instructions.fields_of instruction }
+pub fn fields_of(instruction: Instr) -> Fields
+    ensures { result ≡ rows.fields_of instruction }
 {
     match instruction {
         Instr::Const { into, value } => Fields {
@@ -349,7 +303,7 @@ pub(crate) fn fields_of(instruction: Instr) -> Fields
 
 // The fields of a kind, all operands zero.
 fn no_operands(number: u8) -> Fields
-    ensures { result ≡ instructions.no_operands number }
+    ensures { result ≡ rows.no_operands number }
 {
     Fields {
         number,
@@ -360,5 +314,17 @@ fn no_operands(number: u8) -> Fields
         t: 0,
         site: 0,
         k: 0,
+    }
+}
+
+/// The site that an instruction names.
+pub fn named(instruction: Instr) -> Option<u32>
+    ensures { result ≡ rows.named instruction }
+{
+    let fields = fields_of(instruction);
+    if has(fields.number, OperandField::Site) {
+        Some(fields.site)
+    } else {
+        None
     }
 }

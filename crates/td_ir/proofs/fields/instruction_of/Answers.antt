@@ -2,9 +2,9 @@ use Rattle.std.proofs.Common.{◌≡◌, ◌≤◌, inl, inr, refl, sym, ap, ari
 use Rattle.std.proofs.lemmas.Bool.{cases_lt}
 use Rattle.std.proofs.lemmas.List.{get_or_past}
 use Rattle.td_ir.specs.declared.instructions.Instr.{Instr}
-use Rattle.td_image.specs.declared.operands.Fields.{Fields}
-use Rattle.td_image.specs.Instructions.{makers}
-use Rattle.td_image.proofs.operands.instruction_of.Goals as goal
+use Rattle.td_ir.specs.declared.fields.Fields.{Fields}
+use Rattle.td_ir.specs.Fields.{makers}
+use Rattle.td_ir.proofs.fields.instruction_of.Goals as goal
 
 pub returns-in-0 : goal.returns-in-0
 returns-in-0 c = rw (c.in-0.is) refl

@@ -1,39 +1,13 @@
--- Instructions as an image has them: the kind's number and seven operands, zero where the kind hasn't one (own rule;
--- docs/language/code.md has the table of kinds).
-use Rattle.std.specs.Prelude.{ℕ, Bool, ◌||◌, ◌==◌, List, [], ◌∷◌, slice_index_or}
+-- An instruction as a row of fields, as an image has it: the number of its kind and seven operands, zero where the kind hasn't one
+-- (own rule; docs/language/images.md).
+use Rattle.std.specs.Prelude.{ℕ, List, [], ◌∷◌, Option, Some, None, if◌then◌else◌, slice_index_or}
 use Rattle.td_ir.specs.declared.instructions.Instr.{Instr}
 use Rattle.td_ir.specs.declared.instructions.Instr.TheVariants as i
-use Rattle.td_image.specs.declared.operands.Fields.{Fields}
-
--- which kinds have an operand
-
--- Op, Bits, Fetch, Fail
-abbrev pub has_x : ℕ → Bool
-has_x n = (n == 2) || (n == 3) || (n == 10) || (n == 22)
-
--- Const, Member, Op, Bits, Pos, Call, Fetch, Get
-abbrev pub has_a : ℕ → Bool
-has_a n = (n == 0) || (n == 1) || (n == 2) || (n == 3) || (n == 4) || (n == 8) || (n == 10) || (n == 23)
-
--- Member, Op, Bits, JumpIf, JumpUnless, Skip, Zeroterm, Narrow, Divides, Set, Copy
-abbrev pub has_b : ℕ → Bool
-has_b n = (n == 1) || (n == 2) || (n == 3) || (n == 6) || (n == 7) || (n == 12) || (n == 15) || (n == 17) || (n == 18) || (n == 24) || (n == 26)
-
--- Op, Bits, Fetch, Zeroterm, Get, Set, Copy
-abbrev pub has_c : ℕ → Bool
-has_c n = (n == 2) || (n == 3) || (n == 10) || (n == 15) || (n == 23) || (n == 24) || (n == 26)
-
--- Member, Jump, JumpIf, JumpUnless, Call, While, Again
-abbrev pub has_t : ℕ → Bool
-has_t n = (n == 1) || (n == 5) || (n == 6) || (n == 7) || (n == 8) || (n == 19) || (n == 20)
-
--- Call, Fetch, SkipK, Skip, Zeros, Zeroterm, NarrowK, Narrow, Divides, Widen, Fail, Copy
-abbrev pub has_site : ℕ → Bool
-has_site n = (n == 8) || (n == 10) || (n == 11) || (n == 12) || (n == 14) || (n == 15) || (n == 16) || (n == 17) || (n == 18) || (n == 21) || (n == 22) || (n == 26)
-
--- Const, Call, SkipK, NarrowK, Divides
-abbrev pub has_k : ℕ → Bool
-has_k n = (n == 0) || (n == 8) || (n == 11) || (n == 16) || (n == 18)
+use Rattle.td_ir.specs.declared.fields.Fields.{Fields}
+use Rattle.td_ir.specs.declared.opcodes.Operand.{Operand}
+use Rattle.td_ir.specs.declared.opcodes.OperandField.{OperandField}
+use Rattle.td_ir.specs.declared.opcodes.OperandField.TheVariants as f
+use Rattle.td_ir.specs.Opcodes.{field_of, has}
 
 -- the instructions of all kinds from fields, in order
 abbrev pub makers : List (Fields → Instr)
@@ -106,3 +80,20 @@ fields_of (i.Get into cell) = record { number = 23; x = 0; a = into; b = 0; c = 
 fields_of (i.Set source cell) = record { number = 24; x = 0; a = 0; b = source; c = cell; t = 0; site = 0; k = 0 }
 fields_of i.Mark = record { number = 25; x = 0; a = 0; b = 0; c = 0; t = 0; site = 0; k = 0 }
 fields_of (i.Copy size buffer site) = record { number = 26; x = 0; a = 0; b = size; c = buffer; t = 0; site = site; k = 0 }
+
+abbrev pub in_field : Fields → OperandField → ℕ
+in_field fields f.X = fields.x
+in_field fields f.A = fields.a
+in_field fields f.B = fields.b
+in_field fields f.C = fields.c
+in_field fields f.T = fields.t
+in_field fields f.Site = fields.site
+in_field fields f.K = fields.k
+
+-- an operand of fields
+abbrev pub value_of : Fields → Operand → ℕ
+value_of fields operand = in_field fields (field_of operand)
+
+-- the site that an instruction names
+abbrev pub named : Instr → Option ℕ
+named j = if has (fields_of j).number f.Site then Some (fields_of j).site else None
