@@ -43,9 +43,9 @@ SameQuestion a b = (b.entry ≡ a.entry) × (b.place ≡ a.place) × (b.length �
 
 -- nothing was loaded, and call and rows are as before
 pub record IsUntouched (asked after : TdCall) (made : List Load) (was rows : List TdLoad) : Type 0 where
-  pub call : after ≡ asked
+  pub call_stays : after ≡ asked
   pub unloaded : made ≡ []
-  pub rows : rows ≡ was
+  pub rows_stay : rows ≡ was
 
 -- what is asked can be validated: the message lies within so many words, and arguments and cells fit the entry point
 pub record IsAsked (c : Parts) (asked : TdCall) (layout : List Stretch) (count : ℕ) : Type 0 where

@@ -47,7 +47,7 @@ new_seat codes = swap_state codes.table (new_view (length codes.codes))
 
 -- these are the versions, the first one is published, and nobody has loaded which
 pub record HasBegun (codes : List Parts) (p : Publisher) : Type 0 where
-  pub codes : (arc_value p.codes).codes ≡ codes
+  pub versions : (arc_value p.codes).codes ≡ codes
   pub first : p.seat.view.number ≡ 0
   pub unloaded : p.maker ≡ new_seat (arc_value p.codes)
 

@@ -1,6 +1,6 @@
 //! A validation that C asks for, and its answer.
 
-ghost use Rattle.std.specs.Prelude.{◌≡◌, ◌≤◌, ◌↔◌, [], Some, IsTrue, IfSome, IsSome, IsNone, take, length as size_of};
+ghost use Rattle.std.specs.Prelude.{◌≡◌, ◌≤◌, ◌↔◌, [], Some, IsTrue, IfSome, IsSome, IsNone, take, drop, length as size_of};
 ghost use Rattle.std.specs.Arc.{arc_value};
 ghost use Rattle.td_stream.specs.Layouts.{AreWithin, count_in};
 ghost use Rattle.td_stream.specs.Loads.{buffered};
@@ -116,6 +116,37 @@ fn run_session(
     }
 }
 
+// The same, of the first so many cells.
+fn run_front(
+    session: &mut Session,
+    entry: Entry,
+    args: &[u64],
+    cells: &mut [u64],
+    cell_count: usize,
+    layout: &Layout,
+    words: TdWords,
+    rows: &mut [TdLoad],
+) -> Run
+    requires inside { AreWithin words.count layout.now }
+    requires fresh { words.made ≡ [] }
+    requires cells { cell_count ≤ size_of cells.old }
+    ensures code { arc_value session.new.code ≡ arc_value session.old.code }
+    ensures fits { IsSome result.verdict ↔ Fits (arc_value session.old.code) entry args.now (take cell_count cells.old) }
+    ensures validated { IfSome result.verdict (λ v. IsValidated (arc_value session.old.code) entry args.now (take cell_count cells.old) layout.now result.made
+        (record { verdict = v.0; trace = session.new.frame.trace; cells = take cell_count cells.new; copies = copied_by (arc_value session.old.code) entry session.new.frame }) v.1) }
+    ensures unloaded { IsNone result.verdict → result.made ≡ [] }
+    ensures unchanged { IsNone result.verdict → cells.new ≡ cells.old }
+    ensures kept { IsNone result.verdict → session.new.frame ≡ session.old.frame }
+    ensures loaded { result.words.made ≡ buffered (Some layout.now) result.made }
+    ensures words { result.words.count ≡ words.count }
+    ensures noted { IsNoted layout.now result.made rows.old result.count rows.new }
+    ensures behind { drop cell_count cells.new ≡ drop cell_count cells.old }
+    ensures size { size_of cells.new ≡ size_of cells.old }
+{
+    let (front, _) = cells.split_at_mut(cell_count);
+    run_session(session, entry, args, front, layout, words, rows)
+}
+
 // The same, of the first so many arguments and cells of a call, which has room for them.
 fn run_call(
     session: &mut Session,
@@ -143,9 +174,10 @@ fn run_call(
     let entry = Entry { number: call.entry };
     let arg_count = call.arg_count as usize;
     let cell_count = call.cell_count as usize;
-    let args = &call.args[..arg_count];
-    let cells = &mut call.cells[..cell_count];
-    run_session(session, entry, args, cells, layout, words, rows)
+    let all = &call.args[..];
+    let (args, _) = all.split_at(arg_count);
+    let cells = &mut call.cells[..];
+    run_front(session, entry, args, cells, cell_count, layout, words, rows)
 }
 
 fn told(verdict: Verdict) -> (u32, u32)

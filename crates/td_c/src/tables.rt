@@ -1,7 +1,7 @@
 //! What C calls to find entry points, names, parameters, cells and frames.
 
 ghost use Rattle.std.specs.Prelude.{◌≡◌, pos, true, false};
-ghost use Rattle.td_c.specs.Told.{IsLookup, IsFound, IsLost, HasParam, HasCell, HasBuffer, HasCopy, HasFrame, HasEntry, HasName, LacksParam, LacksCell, LacksBuffer, LacksCopy, LacksFrame, LacksEntry, LacksName, param_told, field_told, kind_told, cell_told};
+ghost use Rattle.td_c.specs.Told.{IsLookup, IsFound, IsLost, HasParam, HasCell, HasBuffer, HasCopy, HasFrame, HasEntry, HasName, IsWritten, LacksParam, LacksCell, LacksBuffer, LacksCopy, LacksFrame, LacksEntry, LacksName, param_told, field_told, kind_told, cell_told};
 
 use crate::answers::{CLOSED, DONE, MISSING, TdFrame, frame_of};
 use crate::handle::{Slot, TdSession};
@@ -318,6 +318,14 @@ pub extern "C" fn td_c_buffer(
     code
 }
 
+// Writes as many bytes of a text as there is room for.
+fn write_front(text: &[u8], bytes: &mut [u8])
+    ensures { IsWritten text.now bytes.old bytes.new }
+{
+    let count = text.len().min(bytes.len());
+    bytes[..count].copy_from_slice(&text[..count]);
+}
+
 fn copy_at(slot: &Slot, place: usize, bytes: &mut [u8], size: &mut u64) -> i32
     ensures answer { IsLookup slot.now result }
     ensures copy { result ≡ pos 0 → HasCopy slot.now place bytes.old bytes.new size.new }
@@ -331,8 +339,7 @@ fn copy_at(slot: &Slot, place: usize, bytes: &mut [u8], size: &mut u64) -> i32
         return MISSING;
     };
     let held = buffer.as_slice();
-    let count = held.len().min(bytes.len());
-    bytes[..count].copy_from_slice(&held[..count]);
+    write_front(held, bytes);
     *size = held.len() as u64;
     DONE
 }

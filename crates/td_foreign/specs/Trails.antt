@@ -1,4 +1,4 @@
--- The loads of a trail, the oldest first.
+-- The loads of a trail, the oldest first (own rule).
 use Rattle.std.specs.Prelude.{List, [], ◌∷◌, ◌++◌}
 use Rattle.td_stream.specs.declared.load.Load.{Load}
 use Rattle.td_foreign.specs.declared.made.Trail.{Trail}
