@@ -200,13 +200,13 @@ windowed {r = r} {s = s} {t = t} {u = u} {y = y} {v = v} {given = given} {rest =
 
 -- within an end that is moved
 pub out_windowed : {W : Type 0} {loads : W → List Load} {size : W → ℕ} {reaches : W → W → Type 0} {r s t : Stream W} {x y : Slate} {given : List ℕ → Behavior} (p : ℕ) (whole : List ℕ → Behavior) → ((u v w : W) → reaches u v → reaches v w → reaches u w) → Moves loads size reaches s r (position s) p [] → r.words.now ≡ s.words.now → RunsOut loads size reaches r t x y given → ((b : List ℕ) → whole b ≡ given b) → RunsOut loads size reaches s t x y whole
-out_windowed {r = r} {s = s} {t = t} {given = given} p whole on m same h e = record {
+out_windowed {loads = loads} {r = r} {s = s} {t = t} {given = given} p whole on m same h e = record {
   later = later_trans on s r t m.later h.later;
   stream = h.stream;
   lent = h.lent;
   only = λ b c.
       let both = carried s r t b m.later h.later c in
-      only_after s r t (whole b) (given b) (step_from s r (whole b) (given b) (given b) (e b) (step_still s r (given b) m.later.layout same)) (h.only b both.1);
+      only_after {loads = loads} s r t (whole b) (given b) (step_from {loads = loads} s r (whole b) (given b) (given b) (e b) (step_still {loads = loads} s r (given b) m.later.layout same)) (h.only b both.1);
 }
 
 -- at most frames were written before it
