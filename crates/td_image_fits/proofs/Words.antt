@@ -6,13 +6,13 @@ use Rattle.std.proofs.lemmas.List.{take_at, drop_at}
 use Rattle.std.proofs.lemmas.Bool.{leb-true, and_parts}
 use Rattle.std.proofs.lemmas.Bool.Decides.{Decides-eqb}
 use Rattle.std.proofs.lemmas.List.Sums.{take_while-cons}
-use Rattle.td_num.specs.Lists.{Each}
+use Rattle.td_num.specs.Lists.{Each, AreApart}
 use Rattle.td_lexer.specs.Bytes.{is_letter, is_digit, is_word_byte, every, first_is}
 use Rattle.td_lexer.specs.Spellings.{is_keyword}
 use Rattle.td_lexer.specs.Splits.{IsName, IsLongName}
 use Rattle.td_image.specs.Format.{AreBytes}
 use Rattle.td_image.specs.Names as names
-use Rattle.td_image.specs.Within.{IsSpelled, AreApart}
+use Rattle.td_image.specs.Within.{IsSpelled}
 use Rattle.td_lower.proofs.Tabling.{no_where, no_switch}
 use Rattle.td_image_fits.proofs.Lists.{get_end}
 use Rattle.td_num.proofs.Lists.{each_at, each_append}

@@ -1,5 +1,5 @@
 -- What is said of lists throughout (own rule).
-use Rattle.std.specs.Prelude.{ℕ, suc, ◌<◌, Bool, false, ◌||◌, cond, List, [], ◌∷◌, Option, Some, None, nat_eq, slice_index}
+use Rattle.std.specs.Prelude.{◌≡◌, ℕ, suc, ◌<◌, Bool, false, ◌||◌, cond, List, [], ◌∷◌, Option, Some, None, nat_eq, slice_get, slice_index}
 
 -- it holds of each
 abbrev pub Each : {A : Type 0} → (A → Type 0) → List A → Type 0
@@ -25,6 +25,10 @@ first_where test (x ∷ xs) = cond (test x) (Some 0) (one_more (first_where test
 abbrev pub looked_at : Option ℕ → ℕ → ℕ
 looked_at None n = n
 looked_at (Some k) n = suc k
+
+-- no two names have the same bytes
+abbrev pub AreApart : List (List ℕ) → Type 0
+AreApart names = (i j : ℕ) (name : List ℕ) → slice_get names i ≡ Some name → slice_get names j ≡ Some name → i ≡ j
 
 -- each is a byte
 abbrev pub AreBytes : List ℕ → Type 0
