@@ -175,7 +175,7 @@ static inline int32_t td_name(td_session *s, uint32_t number, char *bytes, size_
   return td_c_name(s, s->full, number, (uint8_t *)bytes, room, size);
 }
 
-/* Validates the message that begins at byte call->place of `count` words. The words are mapped until this returns; whoever
+/* Validates the message that begins at byte call->place of `count` words. Where the answer isn't 0 or 1, the call is as before. The words are mapped until this returns; whoever
    touches them meanwhile does so by atomic operations, or from another process, device or machine. No pointer to them is
    kept. */
 static inline int32_t td_validate(td_session *s, const uint64_t *words, size_t count, td_call *call) {
@@ -195,7 +195,7 @@ static inline int32_t td_validate_loads(td_session *s, const uint64_t *words, si
 }
 
 /* The same for a message whose bytes are these stretches of the words, one after the other (a scatter list), with the loads that
-   were made; call->place and call->length aren't looked at. Memory for the list of stretches is taken before the first load,
+   were made; call->place and call->length aren't looked at, nor are the stretches where the handle holds no session. Memory for the list of stretches is taken before the first load,
    and given back. */
 static inline int32_t td_validate_parts_loads(td_session *s, const uint64_t *words, size_t count, const td_stretch *parts,
                                               size_t part_count, td_call *call, td_load *loads, size_t room) {
@@ -223,7 +223,8 @@ static inline int32_t td_codes_add(td_codes *c, const void *image, size_t size, 
   return td_c_add(&c->inner, c->inner.full, (const uint8_t *)image, size, fault);
 }
 
-/* From now on code 0 is published, and no code is added any more. TD_MISSING: there is none. TD_NO_MEMORY: the codes are freed. */
+/* From now on code 0 is published, and no code is added any more. TD_MISSING: there is none, and some may be added still. TD_NO_MEMORY: the codes
+   are freed. */
 static inline int32_t td_codes_begin(td_codes *c) {
   if (!c) return TD_POINTER;
   return td_c_begin(&c->inner, c->inner.full);

@@ -2,6 +2,7 @@
 #include "common.h"
 
 static uint64_t words[8];
+static const td_stretch many[65]; /* one more than a message has */
 static int wrong;
 
 static void row(const char *what, int32_t wanted, int32_t found) {
@@ -85,11 +86,25 @@ static void loads(td_session *s, uint32_t entry) {
   row("null loads", TD_POINTER, td_validate_loads(s, words, 8, &call, 0, 1));
 }
 
+/* Each answer of a wrong use leaves the call as it was. */
+static void unchanged(const td_call *call, const td_call *before) { row("and the call is as before", 1, !memcmp(call, before, sizeof *call)); }
+
+static void stretches(td_session *s, uint32_t entry) {
+  static const td_stretch long_ones[2] = {{0, 0xffffffff}, {0, 1}}, far[1] = {{60, 5}};
+  td_call call = asked(entry), before = call;
+  row("more stretches than a message has", TD_TOO_MUCH, td_validate_parts(s, words, 8, many, 65, &call));
+  unchanged(&call, &before);
+  row("stretches of 2^32 bytes", TD_TOO_MUCH, td_validate_parts(s, words, 8, long_ones, 2, &call));
+  row("a stretch that ends after the words", TD_PAST, td_validate_parts(s, words, 8, far, 1, &call));
+  unchanged(&call, &before);
+}
+
 static void wrong_uses(td_session *s, uint32_t entry) {
   td_session none = {0};
   td_call call = asked(entry);
   uint32_t number = 0;
   row("a closed handle", TD_CLOSED, td_validate(&none, words, 8, &call));
+  row("a closed handle, and too many stretches", TD_CLOSED, td_validate_parts(&none, words, 8, many, 65, &call));
   row("no name of a closed handle", TD_CLOSED, td_entry(&none, "A", 1, &number));
   row("no other session of a closed handle", TD_CLOSED, td_again(&none, &(td_session){0}));
   row("no such entry point", TD_MISSING, td_entry(s, "NOWHERE", 7, &number));
@@ -98,6 +113,9 @@ static void wrong_uses(td_session *s, uint32_t entry) {
   call = asked(entry);
   call.arg_count = 0;
   row("too few arguments", TD_UNFIT, td_validate(s, words, 8, &call));
+  td_call before = asked(entry);
+  before.arg_count = 0;
+  unchanged(&call, &before);
   call.arg_count = 17;
   row("more arguments than a call has room for", TD_UNFIT, td_validate(s, words, 8, &call));
   call = asked(entry);
@@ -139,6 +157,8 @@ static void images(uint8_t *bytes, size_t size) {
   td_close(&s);
   td_close(&s);
   row("a handle that was closed twice", TD_CLOSED, td_entry(&s, "RNDIS", 5, &(uint32_t){0}));
+  td_call call = asked(0);
+  row("a handle that was closed, and too many stretches", TD_CLOSED, td_validate_parts(&s, words, 8, many, 65, &call));
   row("a closed handle that is opened again", TD_DONE, td_open(&s, bytes, size, &fault));
   td_close(&s);
 }
@@ -153,6 +173,7 @@ int main(int argc, char **argv) {
   tables(&s, entry);
   validations(&s, entry);
   loads(&s, entry);
+  stretches(&s, entry);
   wrong_uses(&s, entry);
   images(bytes, size);
   td_close(&s);

@@ -5,6 +5,7 @@ numbers (crates/td_try_code/src/numbers.rt).
 """
 
 from codes import NO_FIELD, Tables, image_of, turned
+from instructions import places_of
 from program import answers
 
 NOT_ENOUGH, IMPOSSIBLE, LIST_SIZE, ACTION, CONSTRAINT, PADDING = range(6)
@@ -48,13 +49,15 @@ class Code:
         return image_of(turned(tables)) if any(routine.rooms for routine in self.routines) else image_of(tables, version=1)
 
 
-TARGETS = {"Jump": 1, "JumpIf": 2, "JumpUnless": 2, "While": 1, "Again": 1}
+TARGETS = places_of("target")
 
 
 def placed(instruction, begin):
     """An instruction with its target moved by so many places."""
-    at = TARGETS.get(instruction[0])
-    return instruction if at is None else (*instruction[:at], instruction[at] + begin, *instruction[at + 1 :])
+    kind, *operands = instruction
+    if kind in TARGETS:
+        operands[TARGETS[kind]] += begin
+    return (kind, *operands)
 
 
 def run_numbers(entry, args, cells, length, words, stores=()):

@@ -7,9 +7,13 @@ import os
 import random
 import sys
 
+from instructions import FIELDS, FIELDS_OF, NUMBERS, places_of
+
 sys.dont_write_bytecode = True
 TOP = os.path.dirname(os.path.dirname(os.path.dirname(os.path.abspath(__file__))))
 NO_FIELD = 0xFFFFFFFF
+SITES = places_of("site")
+LIMITS = {field: 256**count for field, count in FIELDS}
 
 
 def loaded_td_image():
@@ -22,8 +26,6 @@ def loaded_td_image():
 
 
 IMAGES = loaded_td_image()
-OPERANDS = dict(IMAGES.KINDS)
-NUMBERS = {kind: number for number, (kind, _) in enumerate(IMAGES.KINDS)}
 
 
 class Tables:
@@ -43,8 +45,8 @@ def u32(*numbers):
 @functools.lru_cache(maxsize=1024)
 def instruction_bytes(instruction):
     kind, *operands = instruction
-    fields = dict(zip(OPERANDS[kind].split(), operands))
-    tail = b"".join(fields.get(field, 0).to_bytes(count, "little") for field, count in IMAGES.FIELDS)
+    fields = dict(zip(FIELDS_OF[kind], operands))
+    tail = b"".join(fields.get(field, 0).to_bytes(count, "little") for field, count in FIELDS)
     return bytes([NUMBERS[kind]]) + tail
 
 
@@ -85,8 +87,8 @@ def turned(code):
     for number, routine in enumerate(code.routines):
         own, length = {}, routine[4]
         for kind, *operands in code.instructions[at : at + length]:
-            if "site" in OPERANDS[kind].split():
-                place = OPERANDS[kind].split().index("site")
+            if kind in SITES:
+                place = SITES[kind]
                 site = operands[place]
                 if site < len(code.sites) and site not in own:
                     own[site] = len(found.sites)
@@ -285,8 +287,7 @@ class CodeMaker:
         kind, *operands = instruction
         if operands and not self.chance(0.2):
             k = self.random.randrange(len(operands))
-            limit = {"x": 2**8, "a": 2**16, "b": 2**16, "c": 2**16, "t": 2**32, "site": 2**32, "k": 2**64}
-            most = limit[OPERANDS[kind].split()[k]] - 1
+            most = LIMITS[FIELDS_OF[kind][k]] - 1
             step = self.pick([-2, -1, 1, 2, most])
             operands[k] = min(max(operands[k] + step, 0), most)
             return (kind, *operands)

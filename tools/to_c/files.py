@@ -1,5 +1,7 @@
 """The two files of C that an image becomes."""
 
+from instructions import places_of
+
 from .entries import entries_of
 from .routines import called_of
 
@@ -154,7 +156,7 @@ static void td_copy(struct td_run *run, uint64_t place, uint64_t count, uint8_t 
 
 def helpers_of(kinds):
     """What the routines call, so that no compiler finds a function that nobody calls."""
-    fails = kinds & set("Fetch SkipK Skip Zeros Zeroterm NarrowK Narrow Divides Widen Fail Copy".split())
+    fails = kinds & (set(places_of("site")) - {"Call"})
     text = FRAMES if fails or "Call" in kinds else ""
     text += FAILURES if fails else ""
     text += LOADS if kinds & {"little", "big"} else ""

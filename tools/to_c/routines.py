@@ -2,6 +2,8 @@
 
 import re
 
+from instructions import places_of
+
 from .names import undotted
 
 REASONS = ("TD_NOT_ENOUGH", "TD_IMPOSSIBLE", "TD_LIST_SIZE", "TD_ACTION", "TD_CONSTRAINT", "TD_PADDING")
@@ -12,7 +14,7 @@ OPERATORS = (
 )  # fmt: skip
 ITSELF = {1: "0", 5: "{a}", 6: "{a}", 7: "0", 10: "1", 11: "0", 12: "0", 13: "1"}
 # Where each kind that jumps has its target.
-TARGETS = {"Jump": 0, "JumpIf": 1, "JumpUnless": 1}
+TARGETS = {kind: place for kind, place in places_of("target").items() if kind.startswith("Jump")}
 MARK = "start = position;"
 # So many cases of a switch, or variables, stand in a line.
 MOST_OF_A_LINE = 8

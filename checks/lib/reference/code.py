@@ -1,20 +1,9 @@
 """A second reading of docs/language/code.md: which code the verifier refuses, and where. Short and slow: each rule is looked
 at for each instruction by itself."""
 
-KINDS = (
-    "Const Member Op Bits Pos Jump JumpIf JumpUnless Call Return Fetch SkipK Skip Rest Zeros Zeroterm NarrowK Narrow Divides"
-    " While Again Widen Fail Get Set Mark Copy"
-).split()
-# What each kind writes or reads by number: registers, a site, a target, as places among its operands.
-REGISTERS = {
-    "Const": [0], "Member": [0, 1], "Op": [0, 2, 3], "Bits": [0, 1], "Pos": [0], "JumpIf": [0], "JumpUnless": [0], "Fetch": [0],
-    "Skip": [0], "Zeroterm": [0], "Narrow": [0], "Divides": [0], "Get": [0], "Set": [0],
-    "Copy": [0],
-}  # fmt: skip
-SITES = {
-    "Call": 3, "Fetch": 3, "SkipK": 1, "Skip": 1, "Zeros": 0, "Zeroterm": 2, "NarrowK": 1, "Narrow": 1, "Divides": 2,
-    "Widen": 0, "Fail": 1, "Copy": 2,
-}  # fmt: skip
+from instructions import OPERANDS, REGISTERS, places_of
+
+SITES = places_of("site")
 OPENS = ("NarrowK", "Narrow")
 MOST_DEPTH = 32
 MOST_WEIGHT = 2**40
@@ -88,7 +77,7 @@ def keeps_registers(routine, place):
         known = routine.code.routines
         params = known[operands[1]][1] if operands[1] < len(known) else 0
         return all(operands[0] + k < routine.registers for k in range(params))
-    return all(operands[k] < routine.registers for k in REGISTERS.get(kind, []))
+    return all(number < routine.registers for operand, number in zip(OPERANDS[kind], operands) if operand in REGISTERS)
 
 
 def keeps_depth(routine, place, lower):

@@ -1,5 +1,5 @@
--- What C asks, and what it is answered.
-use Rattle.std.specs.Prelude.{◌≡◌, ℕ, ◌<◌, ◌≤◌, ◌↔◌, List, [], ◌∷◌, length, take, Some, Result, IfOk, IfErr, IsOk}
+-- What C asks, and what it is answered (own rule; `td_call` of capi/td.h).
+use Rattle.std.specs.Prelude.{◌≡◌, ℕ, ◌<◌, ◌≤◌, ◌↔◌, List, [], ◌∷◌, length, take, drop, Some, Result, IfOk, IfErr, IsOk}
 use Rattle.td_core.specs.declared.module.Entry.{Entry}
 use Rattle.td_core.specs.declared.outcome.TraceFrame.{TraceFrame}
 use Rattle.td_core.specs.declared.outcome.Verdict.{Verdict}
@@ -36,9 +36,16 @@ copied_by c entry frame = held_by (take (buffers_of c entry) frame.copies)
 abbrev pub layout_of : TdCall → List Stretch
 layout_of call = (record { place = call.place; size = call.length }) ∷ []
 
--- what isn't answered is as before
+-- what isn't answered is as before, the room behind the cells too
 abbrev pub SameQuestion : TdCall → TdCall → Type 0
-SameQuestion a b = (b.entry ≡ a.entry) × (b.place ≡ a.place) × (b.length ≡ a.length) × (b.arg_count ≡ a.arg_count) × (b.cell_count ≡ a.cell_count) × (b.args ≡ a.args)
+SameQuestion a b = (b.entry ≡ a.entry) × (b.place ≡ a.place) × (b.length ≡ a.length) × (b.arg_count ≡ a.arg_count) × (b.cell_count ≡ a.cell_count)
+    × (b.unused ≡ a.unused) × (b.args ≡ a.args) × (drop a.cell_count b.cells ≡ drop a.cell_count a.cells)
+
+-- nothing was loaded, and call and rows are as before
+pub record IsUntouched (asked after : TdCall) (made : List Load) (was rows : List TdLoad) : Type 0 where
+  pub call_stays : after ≡ asked
+  pub unloaded : made ≡ []
+  pub rows_stay : rows ≡ was
 
 -- what is asked can be validated: the message lies within so many words, and arguments and cells fit the entry point
 pub record IsAsked (c : Parts) (asked : TdCall) (layout : List Stretch) (count : ℕ) : Type 0 where
@@ -60,8 +67,9 @@ pub record IsTold (v : Verdict) (trace : List TraceFrame) (loads : List Load) (a
   pub frames : after.frame_count ≡ length trace
   pub counted : after.load_count ≡ length loads
 
--- this answer was found, with this room as it was left, these loads of the message's words, these of the memory's, and these rows
-pub record HasAnswered (c : Parts) (frame : FrameView) (answer : Result Verdict Refusal) (loads made : List Load) (rows : List TdLoad)
+-- this answer was found, with this room as it was before and is left, these loads of the message's words, these of the memory's, and
+-- rows that were and are so
+pub record HasAnswered (c : Parts) (before frame : FrameView) (answer : Result Verdict Refusal) (loads made : List Load) (was rows : List TdLoad)
     (asked after : TdCall) (layout : List Stretch) (count : ℕ) : Type 0 where
   -- a verdict is found just where what is asked can be validated
   pub asked_well : IsOk answer ↔ IsAsked c asked layout count
@@ -69,10 +77,13 @@ pub record HasAnswered (c : Parts) (frame : FrameView) (answer : Result Verdict 
   pub validated : IfOk answer (λ v. IsValidated c (entry_asked asked) (args_of asked) (cells_of asked) layout loads
       (record { verdict = v; trace = frame.trace; cells = cells_of after; copies = copied_by c (entry_asked asked) frame }) after.step_count)
   pub told : IfOk answer (λ v. IsTold v frame.trace loads after)
-  -- else nothing was loaded
+  pub same : SameQuestion asked after
+  -- else nothing was loaded, and the call and the room are as before
   pub refused : IfErr answer (λ r. IsCause c asked layout count r)
   pub unloaded : IfErr answer (λ r. loads ≡ [])
+  pub call_stays : IfErr answer (λ r. after ≡ asked)
+  pub room_stays : IfErr answer (λ r. frame ≡ before)
   -- the loads of the memory are those of the message, each by its word of the memory
   pub loaded : made ≡ buffered (Some layout) loads
-  -- the rows begin with these loads, as far as there is room for them
-  pub noted : AreRows layout loads rows
+  -- the rows begin with these loads, as far as there is room for them, and are as before behind them
+  pub noted : AreRows layout loads was rows

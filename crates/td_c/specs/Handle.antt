@@ -1,4 +1,4 @@
--- What C holds.
+-- What C holds (own rule; `td_session` of capi/td.h).
 use Rattle.std.specs.Prelude.{ℕ, [], ◌∷◌, Bool, true, false}
 use mir.Val.{vptr}
 use base.Fml.{Fml, ftrue, ffalse, feq, fsep, fex}

@@ -1,4 +1,4 @@
--- Why bytes are no image, as the numbers that C is given.
+-- Why bytes are no image, as the numbers that C is given (own rule; capi/td.h names them).
 use Rattle.std.specs.Prelude.{◌≡◌, ◌⊎◌, ℕ, ℤ, pos, List}
 use Rattle.td_ir.specs.declared.tables.Parts.{Parts}
 use Rattle.td_verify.specs.declared.rule.Rule.{Rule}
@@ -20,8 +20,12 @@ rule_number rules.Operand = 7
 abbrev pub IsOpening : ℤ → Type 0
 IsOpening code = (code ≡ pos 0) ⊎ ((code ≡ pos 4) ⊎ ((code ≡ pos 11) ⊎ ((code ≡ pos 12) ⊎ ((code ≡ pos 13) ⊎ ((code ≡ pos 14) ⊎ ((code ≡ pos 15) ⊎ (code ≡ pos 16)))))))
 
--- each is answered only where its cause holds of the bytes; want of memory (4) has no cause
-pub record IsFault (code : ℤ) (fault : TdFault) (bytes : List ℕ) : Type 0 where
+-- the numbers that tell no place
+abbrev pub IsPlaceless : ℤ → Type 0
+IsPlaceless code = (code ≡ pos 0) ⊎ ((code ≡ pos 4) ⊎ ((code ≡ pos 11) ⊎ (code ≡ pos 12)))
+
+-- each is answered only where its cause holds of the bytes; want of memory (4) has no cause. What isn't told of the fault is as it was
+pub record IsFault (code : ℤ) (was fault : TdFault) (bytes : List ℕ) : Type 0 where
   pub answer : IsOpening code
   pub magic : code ≡ pos 11 → IsRefused bytes errors.Magic
   pub version : code ≡ pos 12 → IsRefused bytes errors.Version
@@ -29,3 +33,5 @@ pub record IsFault (code : ℤ) (fault : TdFault) (bytes : List ℕ) : Type 0 wh
   pub field : code ≡ pos 14 → IsRefused bytes (errors.Field fault.place)
   pub rest : code ≡ pos 15 → IsRefused bytes (errors.Rest fault.place)
   pub refused : code ≡ pos 16 → (p : Parts) × (rule : Rule) × IsImage p bytes × IsBreach p (record { rule = rule; at = fault.place }) × (fault.rule ≡ rule_number rule)
+  pub no_place : IsPlaceless code → fault.place ≡ was.place
+  pub no_rule : (code ≡ pos 16 → ⊥) → fault.rule ≡ was.rule

@@ -1,5 +1,5 @@
--- Messages that are several stretches of the words.
-use Rattle.std.specs.Prelude.{◌≡◌, ℤ, pos, ◌≤◌, ◌^◌, ◌⊎◌, List, length, map}
+-- Messages that are several stretches of the words (own rule; `td_stretch` of capi/td.h).
+use Rattle.std.specs.Prelude.{◌≡◌, ℤ, pos, ◌<◌, ◌≤◌, ◌^◌, ◌⊎◌, List, length, map}
 use Rattle.td_stream.specs.declared.stretch.Stretch.{Stretch}
 use Rattle.td_stream.specs.Layouts.{length_in}
 use Rattle.td_c.specs.declared.parts.TdStretch.{TdStretch}
@@ -10,7 +10,12 @@ stretch_told s = record { place = s.place; size = s.size }
 abbrev pub stretches_told : List TdStretch → List Stretch
 stretches_told parts = map stretch_told parts
 
--- the number of an answer to stretches that have no layout: they are no message, or there was no memory
+-- stretches that are a message
+pub record AreMessage (parts : List TdStretch) : Type 0 where
+  pub few : length parts ≤ 64
+  pub short : length_in (stretches_told parts) < 2 ^ 32
+
+-- the number of an answer to stretches that have no layout: they are no message (8), or there was no memory, which has no cause (4)
 pub record IsTooMuch (parts : List TdStretch) (code : ℤ) : Type 0 where
   pub which : (code ≡ pos 4) ⊎ (code ≡ pos 8)
-  pub cause : code ≡ pos 8 → length parts ≤ 64 → 2 ^ 32 ≤ length_in (stretches_told parts)
+  pub cause : code ≡ pos 8 → AreMessage parts → ⊥

@@ -1,5 +1,5 @@
--- What C is told of a code's tables, and of the last failure.
-use Rattle.std.specs.Prelude.{◌≡◌, ◌⊎◌, ℕ, ℤ, pos, ◌<◌, ◌≤◌, ◌^◌, List, length, min, take, slice_get, IsSomeAnd, Option, Some, None}
+-- What C is told of a code's tables, and of the last failure (own rule; capi/td.h).
+use Rattle.std.specs.Prelude.{◌≡◌, ◌⊎◌, ℕ, ℤ, pos, ◌<◌, ◌≤◌, ◌^◌, List, length, min, take, drop, slice_get, IsSomeAnd, Option, Some, None}
 use Rattle.std.specs.Arc.{arc_value}
 use Rattle.td_num.specs.Numbers.{bytes_in}
 use Rattle.td_core.specs.declared.module.NameId.{NameId}
@@ -93,10 +93,14 @@ abbrev pub LacksBuffer : Slot → ℕ → ℕ → Type 0
 LacksBuffer slot number place = IsSomeAnd slot.session (λ s. (length (arc_value s.code).entries ≤ number)
     ⊎ (length (entry_of (arc_value s.code) number).buffers ≤ place))
 
+-- bytes that were so begin with this text, as far as there is room for it, and are as before behind it
+pub record IsWritten (text was bytes : List ℕ) : Type 0 where
+  pub front : take (min (length text) (length was)) bytes ≡ take (min (length text) (length was)) text
+  pub behind : drop (min (length text) (length was)) bytes ≡ drop (min (length text) (length was)) was
+
 -- how many bytes the copy buffer at this place holds, and as many of them as there is room for
-abbrev pub HasCopy : Slot → ℕ → List ℕ → ℕ → Type 0
-HasCopy slot place bytes size = IsSomeAnd slot.session (λ s. IsSomeAnd (slice_get s.frame.copies place) (λ b.
-    (size ≡ length b.held) × (take (min (length b.held) (length bytes)) bytes ≡ take (min (length b.held) (length bytes)) b.held)))
+abbrev pub HasCopy : Slot → ℕ → List ℕ → List ℕ → ℕ → Type 0
+HasCopy slot place was bytes size = IsSomeAnd slot.session (λ s. IsSomeAnd (slice_get s.frame.copies place) (λ b. (size ≡ length b.held) × IsWritten b.held was bytes))
 
 -- no entry point of the code has so many buffers
 abbrev pub LacksCopy : Slot → ℕ → Type 0
@@ -109,9 +113,8 @@ abbrev pub LacksFrame : Slot → ℕ → Type 0
 LacksFrame slot place = IsSomeAnd slot.session (λ s. length s.frame.trace ≤ place)
 
 -- a name's size, and as many of its bytes as there is room for
-abbrev pub HasName : Slot → ℕ → List ℕ → ℕ → Type 0
-HasName slot number bytes size = IsSomeAnd slot.session (λ s. IsSomeAnd (slice_get (arc_value s.code).names number) (λ text.
-    (size ≡ length text) × (take (min (length text) (length bytes)) bytes ≡ take (min (length text) (length bytes)) text)))
+abbrev pub HasName : Slot → ℕ → List ℕ → List ℕ → ℕ → Type 0
+HasName slot number was bytes size = IsSomeAnd slot.session (λ s. IsSomeAnd (slice_get (arc_value s.code).names number) (λ text. (size ≡ length text) × IsWritten text was bytes))
 
 -- the code has no such name
 abbrev pub LacksName : Slot → ℕ → Type 0

@@ -1,6 +1,6 @@
 //! A validation that C asks for, and its answer.
 
-ghost use Rattle.std.specs.Prelude.{◌≡◌, ◌≤◌, ◌↔◌, [], Some, IsTrue, IfSome, IsSome, IsNone, take, length as size_of};
+ghost use Rattle.std.specs.Prelude.{◌≡◌, ◌≤◌, ◌↔◌, [], Some, IsTrue, IfSome, IsSome, IsNone, take, drop, length as size_of};
 ghost use Rattle.std.specs.Arc.{arc_value};
 ghost use Rattle.td_stream.specs.Layouts.{AreWithin, count_in};
 ghost use Rattle.td_stream.specs.Loads.{buffered};
@@ -13,9 +13,10 @@ ghost use Rattle.td_c.specs.Numbers.{position_told, reason_told};
 use crate::answers::{Answer, Refusal, reason_of};
 use td_core::module::Entry;
 use td_core::outcome::Verdict;
-use td_foreign::{ForeignWords, Made, NotedWords, TdLoad, TdWords};
+use td_foreign::{ForeignWords, NotedWords, TdLoad, TdWords};
 use td_session::session::Session;
 use td_stream::layout::Layout;
+use td_stream::made::Made;
 use td_stream::words::Words;
 
 /// What is asked, and what is answered.
@@ -71,7 +72,9 @@ fn run_noted<W: Words>(
         (record { verdict = v.0; trace = session.new.frame.trace; cells = cells.new; copies = copied_by (arc_value session.old.code) entry session.new.frame }) v.1) }
     ensures reaches { W.reaches words.old words.new }
     ensures unloaded { IsNone result.0 → W.loads words.new ≡ [] }
-    ensures noted { IsNoted layout.now (W.loads words.new) result.1 rows.new }
+    ensures unchanged { IsNone result.0 → cells.new ≡ cells.old }
+    ensures kept { IsNone result.0 → session.new.frame ≡ session.old.frame }
+    ensures noted { IsNoted layout.now (W.loads words.new) rows.old result.1 rows.new }
     ensures cells { size_of cells.new ≡ size_of cells.old }
 {
     let mut noted = NotedWords::over(words, layout, rows);
@@ -96,8 +99,11 @@ fn run_session(
     ensures validated { IfSome result.verdict (λ v. IsValidated (arc_value session.old.code) entry args.now cells.old layout.now result.made
         (record { verdict = v.0; trace = session.new.frame.trace; cells = cells.new; copies = copied_by (arc_value session.old.code) entry session.new.frame }) v.1) }
     ensures unloaded { IsNone result.verdict → result.made ≡ [] }
+    ensures unchanged { IsNone result.verdict → cells.new ≡ cells.old }
+    ensures kept { IsNone result.verdict → session.new.frame ≡ session.old.frame }
     ensures loaded { result.words.made ≡ buffered (Some layout.now) result.made }
-    ensures noted { IsNoted layout.now result.made result.count rows.new }
+    ensures words { result.words.count ≡ words.count }
+    ensures noted { IsNoted layout.now result.made rows.old result.count rows.new }
     ensures cells { size_of cells.new ≡ size_of cells.old }
 {
     let mut memory = ForeignWords::over(words, layout);
@@ -111,12 +117,11 @@ fn run_session(
     }
 }
 
-// The same, of the first so many arguments and cells.
+// The same, of the first so many cells.
 fn run_front(
     session: &mut Session,
     entry: Entry,
     args: &[u64],
-    arg_count: usize,
     cells: &mut [u64],
     cell_count: usize,
     layout: &Layout,
@@ -125,23 +130,25 @@ fn run_front(
 ) -> Run
     requires inside { AreWithin words.count layout.now }
     requires fresh { words.made ≡ [] }
-    requires args { arg_count ≤ size_of args.now }
     requires cells { cell_count ≤ size_of cells.old }
     ensures code { arc_value session.new.code ≡ arc_value session.old.code }
-    ensures fits { IsSome result.verdict ↔ Fits (arc_value session.old.code) entry (take arg_count args.now) (take cell_count cells.old) }
-    ensures validated { IfSome result.verdict (λ v. IsValidated (arc_value session.old.code) entry (take arg_count args.now) (take cell_count cells.old) layout.now result.made
+    ensures fits { IsSome result.verdict ↔ Fits (arc_value session.old.code) entry args.now (take cell_count cells.old) }
+    ensures validated { IfSome result.verdict (λ v. IsValidated (arc_value session.old.code) entry args.now (take cell_count cells.old) layout.now result.made
         (record { verdict = v.0; trace = session.new.frame.trace; cells = take cell_count cells.new; copies = copied_by (arc_value session.old.code) entry session.new.frame }) v.1) }
     ensures unloaded { IsNone result.verdict → result.made ≡ [] }
+    ensures unchanged { IsNone result.verdict → cells.new ≡ cells.old }
+    ensures kept { IsNone result.verdict → session.new.frame ≡ session.old.frame }
     ensures loaded { result.words.made ≡ buffered (Some layout.now) result.made }
-    ensures noted { IsNoted layout.now result.made result.count rows.new }
+    ensures words { result.words.count ≡ words.count }
+    ensures noted { IsNoted layout.now result.made rows.old result.count rows.new }
+    ensures behind { drop cell_count cells.new ≡ drop cell_count cells.old }
     ensures size { size_of cells.new ≡ size_of cells.old }
 {
-    let (mine, _) = args.split_at(arg_count);
     let (front, _) = cells.split_at_mut(cell_count);
-    run_session(session, entry, mine, front, layout, words, rows)
+    run_session(session, entry, args, front, layout, words, rows)
 }
 
-// The same, of arguments and cells that there is room for in a call.
+// The same, of the first so many arguments and cells of a call, which has room for them.
 fn run_call(
     session: &mut Session,
     call: &mut TdCall,
@@ -158,18 +165,20 @@ fn run_call(
     ensures validated { IfSome result.verdict (λ v. IsValidated (arc_value session.old.code) (entry_asked call.old) (args_of call.old) (cells_of call.old) layout.now result.made
         (record { verdict = v.0; trace = session.new.frame.trace; cells = cells_of call.new; copies = copied_by (arc_value session.old.code) (entry_asked call.old) session.new.frame }) v.1) }
     ensures unloaded { IsNone result.verdict → result.made ≡ [] }
+    ensures unchanged { IsNone result.verdict → call.new ≡ call.old }
+    ensures kept { IsNone result.verdict → session.new.frame ≡ session.old.frame }
     ensures loaded { result.words.made ≡ buffered (Some layout.now) result.made }
-    ensures noted { IsNoted layout.now result.made result.count rows.new }
+    ensures words { result.words.count ≡ words.count }
+    ensures noted { IsNoted layout.now result.made rows.old result.count rows.new }
     ensures same { SameQuestion call.old call.new }
 {
     let entry = Entry { number: call.entry };
-    let args = &call.args[..];
     let arg_count = call.arg_count as usize;
     let cell_count = call.cell_count as usize;
+    let all = &call.args[..];
+    let (args, _) = all.split_at(arg_count);
     let cells = &mut call.cells[..];
-    run_front(
-        session, entry, args, arg_count, cells, cell_count, layout, words, rows,
-    )
+    run_front(session, entry, args, cells, cell_count, layout, words, rows)
 }
 
 fn told(verdict: Verdict) -> (u32, u32)
@@ -192,7 +201,8 @@ pub(crate) fn validate(
     requires inside { AreWithin words.count layout.now }
     requires fresh { words.made ≡ [] }
     ensures code { arc_value session.new.code ≡ arc_value session.old.code }
-    ensures answered { HasAnswered (arc_value session.old.code) session.new.frame result.0 result.1 result.2.made rows.new call.old call.new layout.now words.count }
+    ensures answered { HasAnswered (arc_value session.old.code) session.old.frame session.new.frame result.0 result.1 result.2.made rows.old rows.new call.old call.new layout.now words.count }
+    ensures words { result.2.count ≡ words.count }
 {
     if (call.entry as usize) >= session.entry_count() {
         return (Err(Refusal::NoEntry), Made::new(), words);
@@ -234,7 +244,8 @@ pub(crate) fn validate_within(
     requires count { words.count ≡ count }
     requires fresh { words.made ≡ [] }
     ensures code { arc_value session.new.code ≡ arc_value session.old.code }
-    ensures answered { HasAnswered (arc_value session.old.code) session.new.frame result.0 result.1 result.2.made rows.new call.old call.new layout.now count }
+    ensures answered { HasAnswered (arc_value session.old.code) session.old.frame session.new.frame result.0 result.1 result.2.made rows.old rows.new call.old call.new layout.now count }
+    ensures words { result.2.count ≡ words.count }
 {
     if !inside {
         return (Err(Refusal::Past), Made::new(), words);

@@ -2,9 +2,8 @@
 
 ghost use Rattle.std.specs.Prelude.{◌≡◌, ◌⊎◌, ◌↔◌, [], IsTrue, IfOk, IfErr, pos, true, false};
 ghost use Rattle.td_stream.specs.Layouts.{AreWithin};
-ghost use Rattle.td_c.specs.Kept.{HoldsImage, SameCode, IsAnswered, IsClosed, IsCopy, IsSharing};
+ghost use Rattle.td_c.specs.Kept.{HoldsImage, HoldsCopy, IsAnswered, IsAnsweredInParts, IsClosed, IsCopy, IsSharing};
 ghost use Rattle.td_c.specs.Asked as asked;
-ghost use Rattle.td_c.specs.Parts.{stretches_told, IsTooMuch};
 ghost use Rattle.td_c.specs.Images.{IsFault};
 
 use crate::answers::{CLOSED, DONE, NO_MEMORY, number_of};
@@ -48,10 +47,10 @@ pub extern "C" fn td_c_open(
     fault: &mut TdFault,
 ) -> i32
     requires { handle.old.full ≡ full }
-    // Where it is done, the handle holds the code of which the bytes are the image.
+    // Where it is done, the handle holds a session by the code of which the bytes are the image, and nothing else.
     ensures opened { result ≡ pos 0 → (handle.new.full ≡ true) × HoldsImage handle.new.value image.now }
     // Else the number says why the bytes are no image, or there was no memory, and the handle is as before.
-    ensures refused { IsFault result fault.new image.now }
+    ensures refused { IsFault result fault.old fault.new image.now }
     ensures kept { (result ≡ pos 0 → ⊥) → handle.new ≡ handle.old }
 {
     match Session::read(alloc, image) {
@@ -84,11 +83,11 @@ pub extern "C" fn td_c_again(
 ) -> i32
     requires handle { handle.old.full ≡ full }
     requires other { other.old.full ≡ other_full }
-    ensures closed { full ≡ false → result ≡ pos 3 }
+    ensures closed { full ≡ false → (result ≡ pos 3) × (handle.new ≡ handle.old) }
     ensures answer { full ≡ true → IsSharing handle.old.value result }
     ensures kept { full ≡ true → (handle.new.full ≡ true) × (handle.new.value ≡ handle.old.value) }
     ensures other { (result ≡ pos 0 → ⊥) → other.new ≡ other.old }
-    ensures again { result ≡ pos 0 → (full ≡ true) × (other.new.full ≡ true) × SameCode handle.old.value other.new.value }
+    ensures again { result ≡ pos 0 → (full ≡ true) × (other.new.full ≡ true) × HoldsCopy handle.old.value other.new.value }
 {
     if !full {
         return CLOSED;
@@ -129,7 +128,8 @@ fn validate_in(
     requires inside { IsTrue inside ↔ AreWithin count layout.now }
     requires count { words.count ≡ count }
     requires fresh { words.made ≡ [] }
-    ensures { IsAnswered slot.old slot.new call.old call.new layout.now count result.1.made rows.new result.0 }
+    ensures answered { IsAnswered slot.old slot.new call.old call.new layout.now count result.1.made rows.old rows.new result.0 }
+    ensures words { result.1.count ≡ count }
 {
     let Some(session) = &mut slot.session else {
         return (CLOSED, words);
@@ -154,11 +154,12 @@ pub extern "C" fn td_c_validate(
     requires handle { handle.old.full ≡ full }
     requires words { words.old.count ≡ count }
     requires fresh { words.old.made ≡ [] }
-    ensures closed { full ≡ false → result ≡ pos 3 }
+    ensures closed { full ≡ false → (result ≡ pos 3) × (handle.new ≡ handle.old) × asked.IsUntouched call.old call.new words.new.made rows.old rows.new }
     ensures open { full ≡ true → handle.new.full ≡ true }
-    // The answer is that of the code's run on every byte list that carries the loads, and the loads are all that were made; the rows are
-    // these loads.
-    ensures answered { full ≡ true → IsAnswered handle.old.value handle.new.value call.old call.new (asked.layout_of call.old) count words.new.made rows.new result }
+    // The answer is that of the code's run on every byte list that carries the loads, and the loads are all that were made; the rows begin
+    // with these loads.
+    ensures answered { full ≡ true → IsAnswered handle.old.value handle.new.value call.old call.new (asked.layout_of call.old) count words.new.made rows.old rows.new result }
+    ensures words { words.new.count ≡ count }
 {
     if !full {
         return CLOSED;
@@ -171,6 +172,31 @@ pub extern "C" fn td_c_validate(
     *words = memory;
     handle.put(slot);
     code
+}
+
+// The same of a message that is these stretches, which are looked at only where the slot holds a session.
+fn validate_parts_in(
+    alloc: Global,
+    slot: &mut Slot,
+    call: &mut TdCall,
+    parts: &[TdStretch],
+    words: TdWords,
+    count: usize,
+    rows: &mut [TdLoad],
+) -> (i32, TdWords)
+    requires count { words.count ≡ count }
+    requires fresh { words.made ≡ [] }
+    ensures answered { IsAnsweredInParts slot.old slot.new call.old call.new parts.now count result.1.made rows.old rows.new result.0 }
+    ensures words { result.1.count ≡ count }
+{
+    if slot.session.is_none() {
+        return (CLOSED, words);
+    }
+    let (layout, inside) = match layout_of(alloc, parts, count) {
+        Ok(found) => found,
+        Err(code) => return (code, words),
+    };
+    validate_in(slot, call, &layout, inside, words, count, rows)
 }
 
 /// The same for a message that is these stretches of the words, one after the other; the place and length of the call aren't
@@ -189,22 +215,18 @@ pub extern "C" fn td_c_validate_parts(
     requires handle { handle.old.full ≡ full }
     requires words { words.old.count ≡ count }
     requires fresh { words.old.made ≡ [] }
-    ensures closed { full ≡ false → result ≡ pos 3 }
+    ensures closed { full ≡ false → (result ≡ pos 3) × (handle.new ≡ handle.old) × asked.IsUntouched call.old call.new words.new.made rows.old rows.new }
     ensures open { full ≡ true → handle.new.full ≡ true }
-    // Either the stretches have no layout, and nothing was loaded, or the answer is that of the code's run.
-    ensures answered { full ≡ true → IsTooMuch parts.now result × (words.new.made ≡ []) × (handle.new.value ≡ handle.old.value)
-        ⊎ IsAnswered handle.old.value handle.new.value call.old call.new (stretches_told parts.now) count words.new.made rows.new result }
+    // The slot holds no session, or the stretches have no layout, and all is as before; or the answer is that of the code's run.
+    ensures answered { full ≡ true → IsAnsweredInParts handle.old.value handle.new.value call.old call.new parts.now count words.new.made rows.old rows.new result }
+    ensures words { words.new.count ≡ count }
 {
     if !full {
         return CLOSED;
     }
-    let (layout, inside) = match layout_of(alloc, parts, count) {
-        Ok(found) => found,
-        Err(code) => return code,
-    };
     let slot = handle.take();
     let memory = mem::replace(words, TdWords::none());
-    let (code, memory) = validate_in(slot, call, &layout, inside, memory, count, rows);
+    let (code, memory) = validate_parts_in(alloc, slot, call, parts, memory, count, rows);
     *words = memory;
     handle.put(slot);
     code

@@ -1,15 +1,16 @@
 //! A session as C holds it.
 
-ghost use Rattle.std.specs.Prelude.{◌≡◌, true, false, Some, None};
+ghost use Rattle.std.specs.Prelude.{◌≡◌, true, false, Some};
 ghost use Rattle.td_c.specs.Handle.{handle_owns, slot_coded};
+ghost use Rattle.td_c.specs.Kept.{IsClosed, IsForSession, IsForVersions, IsForSeat};
 ghost use Rattle.td_c.specs.declared.handle.Slot.{Slot as kept};
 
 use crate::answers::{Answer, Refusal};
 use std::marker::Model;
 use std::{mem, ptr};
-use td_foreign::Made;
 use td_session::session::Session;
 use td_session::versions::{Publisher, Reader};
+use td_stream::made::Made;
 use td_verify::verify::Verified;
 
 /// Where a session stands, or none, with what the last validation found: its answer, and the loads that it made; or what a handle has
@@ -29,7 +30,7 @@ pub struct Slot {
 impl Slot {
     /// Nothing.
     pub fn empty() -> Slot
-        ensures { (result.session ≡ None) × (result.waiting ≡ None) × (result.publisher ≡ None) × (result.reader ≡ None) }
+        ensures { IsClosed result }
     {
         Slot {
             session: None,
@@ -43,7 +44,8 @@ impl Slot {
 
     /// A session alone.
     pub fn of_session(session: Session) -> Slot
-        ensures { result.session ≡ Some session }
+        ensures session { result.session ≡ Some session }
+        ensures alone { IsForSession result }
     {
         let mut slot = Slot::empty();
         slot.session = Some(session);
@@ -52,7 +54,8 @@ impl Slot {
 
     /// Versions of which none is published yet.
     pub fn of_versions(versions: Vec<Verified>) -> Slot
-        ensures { result.waiting ≡ Some versions }
+        ensures versions { result.waiting ≡ Some versions }
+        ensures alone { IsForVersions result }
     {
         let mut slot = Slot::empty();
         slot.waiting = Some(versions);
@@ -61,7 +64,8 @@ impl Slot {
 
     /// A seat that loads which version is published.
     pub fn of_reader(reader: Reader) -> Slot
-        ensures { result.reader ≡ Some reader }
+        ensures seat { result.reader ≡ Some reader }
+        ensures alone { IsForSeat result }
     {
         let mut slot = Slot::empty();
         slot.reader = Some(reader);

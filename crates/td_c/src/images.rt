@@ -34,7 +34,7 @@ fn number_of(rule: Rule) -> u32
 /// 11 to 16 for I1 to I6.
 pub(crate) fn code_of(error: ImageError, fault: &mut TdFault) -> i32
     ensures done { result ≡ pos 0 → ⊥ }
-    ensures fault { (bytes : List ℕ) → IsRefused bytes error → IsFault result fault.new bytes }
+    ensures fault { (bytes : List ℕ) → IsRefused bytes error → IsFault result fault.old fault.new bytes }
 {
     match error {
         ImageError::Magic => 11,

@@ -2,7 +2,7 @@
 
 ghost use Rattle.std.specs.Prelude.{◌≡◌, ◌<◌, ◌≤◌, ◌^◌, ◌*◌, ◌+◌, ◌↔◌, [], ◌∷◌, IsTrue, IfOk, IfErr, length, pos};
 ghost use Rattle.td_stream.specs.Layouts.{AreWithin, length_in};
-ghost use Rattle.td_c.specs.Parts.{stretches_told, IsTooMuch};
+ghost use Rattle.td_c.specs.Parts.{stretches_told, AreMessage, IsTooMuch};
 
 use crate::answers::{NO_MEMORY, TOO_MUCH};
 use std::alloc::{AllocError, Global};
@@ -78,6 +78,7 @@ pub(crate) fn layout_of(
     parts: &[TdStretch],
     count: usize,
 ) -> Result<(Layout, bool), i32>
+    ensures message { IfOk result (λ r. AreMessage parts.now) }
     ensures layout { IfOk result (λ r. r.0 ≡ stretches_told parts.now) }
     ensures inside { IfOk result (λ r. IsTrue r.1 ↔ AreWithin count (stretches_told parts.now)) }
     ensures refused { IfErr result (λ code. IsTooMuch parts.now code) }

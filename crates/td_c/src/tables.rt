@@ -1,7 +1,7 @@
 //! What C calls to find entry points, names, parameters, cells and frames.
 
 ghost use Rattle.std.specs.Prelude.{◌≡◌, pos, true, false};
-ghost use Rattle.td_c.specs.Told.{IsLookup, IsFound, IsLost, HasParam, HasCell, HasBuffer, HasCopy, HasFrame, HasEntry, HasName, LacksParam, LacksCell, LacksBuffer, LacksCopy, LacksFrame, LacksEntry, LacksName, param_told, field_told, kind_told, cell_told};
+ghost use Rattle.td_c.specs.Told.{IsLookup, IsFound, IsLost, HasParam, HasCell, HasBuffer, HasCopy, HasFrame, HasEntry, HasName, IsWritten, LacksParam, LacksCell, LacksBuffer, LacksCopy, LacksFrame, LacksEntry, LacksName, param_told, field_told, kind_told, cell_told};
 
 use crate::answers::{CLOSED, DONE, MISSING, TdFrame, frame_of};
 use crate::handle::{Slot, TdSession};
@@ -87,6 +87,7 @@ fn find_entry(slot: &Slot, name: &[u8], number: &mut u32) -> i32
     ensures answer { IsLookup slot.now result }
     ensures found { result ≡ pos 0 → IsFound slot.now name.now number.new }
     ensures missing { result ≡ pos 5 → IsLost slot.now name.now }
+    ensures untold { (result ≡ pos 0 → ⊥) → number.new ≡ number.old }
 {
     let Some(session) = &slot.session else {
         return CLOSED;
@@ -109,11 +110,12 @@ pub extern "C" fn td_c_entry(
     number: &mut u32,
 ) -> i32
     requires { handle.old.full ≡ full }
-    ensures closed { full ≡ false → result ≡ pos 3 }
+    ensures closed { full ≡ false → (result ≡ pos 3) × (handle.new ≡ handle.old) }
     ensures kept { full ≡ true → (handle.new.full ≡ true) × (handle.new.value ≡ handle.old.value) }
     ensures answer { full ≡ true → IsLookup handle.old.value result }
     ensures found { full ≡ true → result ≡ pos 0 → IsFound handle.old.value name.now number.new }
     ensures missing { full ≡ true → result ≡ pos 5 → IsLost handle.old.value name.now }
+    ensures untold { (result ≡ pos 0 → ⊥) → number.new ≡ number.old }
 {
     if !full {
         return CLOSED;
@@ -128,6 +130,7 @@ fn describe(slot: &Slot, number: u32, told: &mut TdEntry) -> i32
     ensures answer { IsLookup slot.now result }
     ensures described { result ≡ pos 0 → HasEntry slot.now number told.new }
     ensures missing { result ≡ pos 5 → LacksEntry slot.now number }
+    ensures untold { (result ≡ pos 0 → ⊥) → told.new ≡ told.old }
 {
     let Some(session) = &slot.session else {
         return CLOSED;
@@ -160,11 +163,12 @@ pub extern "C" fn td_c_describe(
     told: &mut TdEntry,
 ) -> i32
     requires { handle.old.full ≡ full }
-    ensures closed { full ≡ false → result ≡ pos 3 }
+    ensures closed { full ≡ false → (result ≡ pos 3) × (handle.new ≡ handle.old) }
     ensures kept { full ≡ true → (handle.new.full ≡ true) × (handle.new.value ≡ handle.old.value) }
     ensures answer { full ≡ true → IsLookup handle.old.value result }
     ensures described { full ≡ true → result ≡ pos 0 → HasEntry handle.old.value number told.new }
     ensures missing { full ≡ true → result ≡ pos 5 → LacksEntry handle.old.value number }
+    ensures untold { (result ≡ pos 0 → ⊥) → told.new ≡ told.old }
 {
     if !full {
         return CLOSED;
@@ -179,6 +183,7 @@ fn param_at(slot: &Slot, number: u32, place: usize, told: &mut TdPart) -> i32
     ensures answer { IsLookup slot.now result }
     ensures param { result ≡ pos 0 → HasParam slot.now number place told.new }
     ensures missing { result ≡ pos 5 → LacksParam slot.now number place }
+    ensures untold { (result ≡ pos 0 → ⊥) → told.new ≡ told.old }
 {
     let Some(session) = &slot.session else {
         return CLOSED;
@@ -203,11 +208,12 @@ pub extern "C" fn td_c_param(
     told: &mut TdPart,
 ) -> i32
     requires { handle.old.full ≡ full }
-    ensures closed { full ≡ false → result ≡ pos 3 }
+    ensures closed { full ≡ false → (result ≡ pos 3) × (handle.new ≡ handle.old) }
     ensures kept { full ≡ true → (handle.new.full ≡ true) × (handle.new.value ≡ handle.old.value) }
     ensures answer { full ≡ true → IsLookup handle.old.value result }
     ensures param { full ≡ true → result ≡ pos 0 → HasParam handle.old.value number place told.new }
     ensures missing { full ≡ true → result ≡ pos 5 → LacksParam handle.old.value number place }
+    ensures untold { (result ≡ pos 0 → ⊥) → told.new ≡ told.old }
 {
     if !full {
         return CLOSED;
@@ -222,6 +228,7 @@ fn cell_at(slot: &Slot, number: u32, place: usize, told: &mut TdPart) -> i32
     ensures answer { IsLookup slot.now result }
     ensures cell { result ≡ pos 0 → HasCell slot.now number place told.new }
     ensures missing { result ≡ pos 5 → LacksCell slot.now number place }
+    ensures untold { (result ≡ pos 0 → ⊥) → told.new ≡ told.old }
 {
     let Some(session) = &slot.session else {
         return CLOSED;
@@ -246,11 +253,12 @@ pub extern "C" fn td_c_cell(
     told: &mut TdPart,
 ) -> i32
     requires { handle.old.full ≡ full }
-    ensures closed { full ≡ false → result ≡ pos 3 }
+    ensures closed { full ≡ false → (result ≡ pos 3) × (handle.new ≡ handle.old) }
     ensures kept { full ≡ true → (handle.new.full ≡ true) × (handle.new.value ≡ handle.old.value) }
     ensures answer { full ≡ true → IsLookup handle.old.value result }
     ensures cell { full ≡ true → result ≡ pos 0 → HasCell handle.old.value number place told.new }
     ensures missing { full ≡ true → result ≡ pos 5 → LacksCell handle.old.value number place }
+    ensures untold { (result ≡ pos 0 → ⊥) → told.new ≡ told.old }
 {
     if !full {
         return CLOSED;
@@ -265,6 +273,7 @@ fn buffer_at(slot: &Slot, number: u32, place: usize, told: &mut TdBuffer) -> i32
     ensures answer { IsLookup slot.now result }
     ensures buffer { result ≡ pos 0 → HasBuffer slot.now number place told.new }
     ensures missing { result ≡ pos 5 → LacksBuffer slot.now number place }
+    ensures untold { (result ≡ pos 0 → ⊥) → told.new ≡ told.old }
 {
     let Some(session) = &slot.session else {
         return CLOSED;
@@ -293,11 +302,12 @@ pub extern "C" fn td_c_buffer(
     told: &mut TdBuffer,
 ) -> i32
     requires { handle.old.full ≡ full }
-    ensures closed { full ≡ false → result ≡ pos 3 }
+    ensures closed { full ≡ false → (result ≡ pos 3) × (handle.new ≡ handle.old) }
     ensures kept { full ≡ true → (handle.new.full ≡ true) × (handle.new.value ≡ handle.old.value) }
     ensures answer { full ≡ true → IsLookup handle.old.value result }
     ensures buffer { full ≡ true → result ≡ pos 0 → HasBuffer handle.old.value number place told.new }
     ensures missing { full ≡ true → result ≡ pos 5 → LacksBuffer handle.old.value number place }
+    ensures untold { (result ≡ pos 0 → ⊥) → told.new ≡ told.old }
 {
     if !full {
         return CLOSED;
@@ -308,10 +318,19 @@ pub extern "C" fn td_c_buffer(
     code
 }
 
+// Writes as many bytes of a text as there is room for.
+fn write_front(text: &[u8], bytes: &mut [u8])
+    ensures { IsWritten text.now bytes.old bytes.new }
+{
+    let count = text.len().min(bytes.len());
+    bytes[..count].copy_from_slice(&text[..count]);
+}
+
 fn copy_at(slot: &Slot, place: usize, bytes: &mut [u8], size: &mut u64) -> i32
     ensures answer { IsLookup slot.now result }
-    ensures copy { result ≡ pos 0 → HasCopy slot.now place bytes.new size.new }
+    ensures copy { result ≡ pos 0 → HasCopy slot.now place bytes.old bytes.new size.new }
     ensures missing { result ≡ pos 5 → LacksCopy slot.now place }
+    ensures untold { (result ≡ pos 0 → ⊥) → (bytes.new ≡ bytes.old) × (size.new ≡ size.old) }
 {
     let Some(session) = &slot.session else {
         return CLOSED;
@@ -320,8 +339,7 @@ fn copy_at(slot: &Slot, place: usize, bytes: &mut [u8], size: &mut u64) -> i32
         return MISSING;
     };
     let held = buffer.as_slice();
-    let count = held.len().min(bytes.len());
-    bytes[..count].copy_from_slice(&held[..count]);
+    write_front(held, bytes);
     *size = held.len() as u64;
     DONE
 }
@@ -336,11 +354,12 @@ pub extern "C" fn td_c_copy(
     size: &mut u64,
 ) -> i32
     requires { handle.old.full ≡ full }
-    ensures closed { full ≡ false → result ≡ pos 3 }
+    ensures closed { full ≡ false → (result ≡ pos 3) × (handle.new ≡ handle.old) }
     ensures kept { full ≡ true → (handle.new.full ≡ true) × (handle.new.value ≡ handle.old.value) }
     ensures answer { full ≡ true → IsLookup handle.old.value result }
-    ensures copy { full ≡ true → result ≡ pos 0 → HasCopy handle.old.value place bytes.new size.new }
+    ensures copy { full ≡ true → result ≡ pos 0 → HasCopy handle.old.value place bytes.old bytes.new size.new }
     ensures missing { full ≡ true → result ≡ pos 5 → LacksCopy handle.old.value place }
+    ensures untold { (result ≡ pos 0 → ⊥) → (bytes.new ≡ bytes.old) × (size.new ≡ size.old) }
 {
     if !full {
         return CLOSED;
@@ -355,6 +374,7 @@ fn frame_at(slot: &Slot, place: usize, told: &mut TdFrame) -> i32
     ensures answer { IsLookup slot.now result }
     ensures frame { result ≡ pos 0 → HasFrame slot.now place told.new }
     ensures missing { result ≡ pos 5 → LacksFrame slot.now place }
+    ensures untold { (result ≡ pos 0 → ⊥) → told.new ≡ told.old }
 {
     let Some(session) = &slot.session else {
         return CLOSED;
@@ -376,11 +396,12 @@ pub extern "C" fn td_c_frame(
     told: &mut TdFrame,
 ) -> i32
     requires { handle.old.full ≡ full }
-    ensures closed { full ≡ false → result ≡ pos 3 }
+    ensures closed { full ≡ false → (result ≡ pos 3) × (handle.new ≡ handle.old) }
     ensures kept { full ≡ true → (handle.new.full ≡ true) × (handle.new.value ≡ handle.old.value) }
     ensures answer { full ≡ true → IsLookup handle.old.value result }
     ensures frame { full ≡ true → result ≡ pos 0 → HasFrame handle.old.value place told.new }
     ensures missing { full ≡ true → result ≡ pos 5 → LacksFrame handle.old.value place }
+    ensures untold { (result ≡ pos 0 → ⊥) → told.new ≡ told.old }
 {
     if !full {
         return CLOSED;
@@ -393,8 +414,9 @@ pub extern "C" fn td_c_frame(
 
 fn name_of(slot: &Slot, number: u32, bytes: &mut [u8], size: &mut u64) -> i32
     ensures answer { IsLookup slot.now result }
-    ensures name { result ≡ pos 0 → HasName slot.now number bytes.new size.new }
+    ensures name { result ≡ pos 0 → HasName slot.now number bytes.old bytes.new size.new }
     ensures missing { result ≡ pos 5 → LacksName slot.now number }
+    ensures untold { (result ≡ pos 0 → ⊥) → (bytes.new ≡ bytes.old) × (size.new ≡ size.old) }
 {
     let Some(session) = &slot.session else {
         return CLOSED;
@@ -417,11 +439,12 @@ pub extern "C" fn td_c_name(
     size: &mut u64,
 ) -> i32
     requires { handle.old.full ≡ full }
-    ensures closed { full ≡ false → result ≡ pos 3 }
+    ensures closed { full ≡ false → (result ≡ pos 3) × (handle.new ≡ handle.old) }
     ensures kept { full ≡ true → (handle.new.full ≡ true) × (handle.new.value ≡ handle.old.value) }
     ensures answer { full ≡ true → IsLookup handle.old.value result }
-    ensures name { full ≡ true → result ≡ pos 0 → HasName handle.old.value number bytes.new size.new }
+    ensures name { full ≡ true → result ≡ pos 0 → HasName handle.old.value number bytes.old bytes.new size.new }
     ensures missing { full ≡ true → result ≡ pos 5 → LacksName handle.old.value number }
+    ensures untold { (result ≡ pos 0 → ⊥) → (bytes.new ≡ bytes.old) × (size.new ≡ size.old) }
 {
     if !full {
         return CLOSED;

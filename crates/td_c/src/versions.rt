@@ -4,7 +4,8 @@ ghost use Rattle.std.specs.Prelude.{◌≡◌, ◌⊎◌, ◌≤◌, pos, true, 
 ghost use Rattle.std.specs.Arc.{arc_value};
 ghost use Rattle.td_image.specs.Answer.{IsImage};
 ghost use Rattle.td_c.specs.Images.{IsFault};
-ghost use Rattle.td_c.specs.Versions.{IsNew, IsAdding, IsBeginning, IsPublishing, IsSeating, IsLoading, IsVersioning, IsVersion, HasVersion, LacksVersion, HasSeat, publishes_on, HasBegun, IsAddition, IsPublication, IsSeatOf};
+ghost use Rattle.td_c.specs.Versions.{IsNew, IsAdding, IsBeginning, IsPublishing, IsSeating, IsLoading, IsVersioning, IsVersion, HasVersion, LacksVersion, HasSeat, GoesOn, HasBegun, IsAddition, IsPublication, IsSeatOf};
+ghost use Rattle.td_session.specs.Room.{IsFresh};
 
 use crate::answers::{CLOSED, DONE, MISSING, NO_MEMORY, TOO_MUCH};
 use crate::exports::put;
@@ -31,7 +32,8 @@ pub extern "C" fn td_c_codes(alloc: Global, handle: &mut TdSession, full: bool) 
 // The code of an image, or the number that says why there is none.
 fn code_in(alloc: Global, image: &[u8], fault: &mut TdFault) -> Result<Verified, i32>
     ensures found { IfOk result (λ p. IsImage p image.now) }
-    ensures refused { IfErr result (λ code. IsFault code fault.new image.now × (code ≡ pos 0 → ⊥) × (code ≡ pos 8 → ⊥)) }
+    ensures untold { IfOk result (λ p. fault.new ≡ fault.old) }
+    ensures refused { IfErr result (λ code. IsFault code fault.old fault.new image.now × (code ≡ pos 0 → ⊥) × (code ≡ pos 8 → ⊥)) }
 {
     match read_image(alloc, image) {
         Ok(code) => Ok(code),
@@ -41,7 +43,7 @@ fn code_in(alloc: Global, image: &[u8], fault: &mut TdFault) -> Result<Verified,
 
 // A version more.
 fn add_to(alloc: Global, codes: &mut Vec<Verified>, image: &[u8], fault: &mut TdFault) -> i32
-    ensures { IsAddition codes.old.items codes.new.items fault.new image.now result }
+    ensures { IsAddition codes.old.items codes.new.items fault.old fault.new image.now result }
 {
     if codes.len() >= MOST_VERSIONS {
         return TOO_MUCH;
@@ -56,7 +58,7 @@ fn add_to(alloc: Global, codes: &mut Vec<Verified>, image: &[u8], fault: &mut Td
 }
 
 fn add_in(alloc: Global, slot: &mut Slot, image: &[u8], fault: &mut TdFault) -> i32
-    ensures { IsAdding slot.old slot.new fault.new image.now result }
+    ensures { IsAdding slot.old slot.new fault.old fault.new image.now result }
 {
     match &mut slot.waiting {
         Some(codes) => add_to(alloc, codes, image, fault),
@@ -74,9 +76,9 @@ pub extern "C" fn td_c_add(
     fault: &mut TdFault,
 ) -> i32
     requires { handle.old.full ≡ full }
-    ensures closed { full ≡ false → result ≡ pos 3 }
+    ensures closed { full ≡ false → (result ≡ pos 3) × (handle.new ≡ handle.old) × (fault.new ≡ fault.old) }
     ensures open { full ≡ true → handle.new.full ≡ true }
-    ensures added { full ≡ true → IsAdding handle.old.value handle.new.value fault.new image.now result }
+    ensures added { full ≡ true → IsAdding handle.old.value handle.new.value fault.old fault.new image.now result }
 {
     if !full {
         return CLOSED;
@@ -113,7 +115,7 @@ fn begin_in(alloc: Global, slot: &mut Slot) -> i32
 #[unsafe(no_mangle)]
 pub extern "C" fn td_c_begin(alloc: Global, handle: &mut TdSession, full: bool) -> i32
     requires { handle.old.full ≡ full }
-    ensures closed { full ≡ false → result ≡ pos 3 }
+    ensures closed { full ≡ false → (result ≡ pos 3) × (handle.new ≡ handle.old) }
     ensures open { full ≡ true → handle.new.full ≡ true }
     ensures begun { full ≡ true → IsBeginning handle.old.value handle.new.value result }
 {
@@ -127,7 +129,8 @@ pub extern "C" fn td_c_begin(alloc: Global, handle: &mut TdSession, full: bool) 
 }
 
 fn publish_next(publisher: &mut Publisher, number: &mut u32) -> i32
-    ensures { IsPublication publisher.old publisher.new number.new result }
+    ensures published { IsPublication publisher.old publisher.new number.new result }
+    ensures untold { (result ≡ pos 0 → ⊥) → number.new ≡ number.old }
 {
     match publisher.publish() {
         Some(found) => {
@@ -139,7 +142,8 @@ fn publish_next(publisher: &mut Publisher, number: &mut u32) -> i32
 }
 
 fn publish_in(slot: &mut Slot, number: &mut u32) -> i32
-    ensures { IsPublishing slot.old slot.new number.new result }
+    ensures published { IsPublishing slot.old slot.new number.new result }
+    ensures untold { (result ≡ pos 0 → ⊥) → number.new ≡ number.old }
 {
     match &mut slot.publisher {
         Some(publisher) => publish_next(publisher, number),
@@ -151,9 +155,10 @@ fn publish_in(slot: &mut Slot, number: &mut u32) -> i32
 #[unsafe(no_mangle)]
 pub extern "C" fn td_c_publish(handle: &mut TdSession, full: bool, number: &mut u32) -> i32
     requires { handle.old.full ≡ full }
-    ensures closed { full ≡ false → result ≡ pos 3 }
+    ensures closed { full ≡ false → (result ≡ pos 3) × (handle.new ≡ handle.old) }
     ensures open { full ≡ true → handle.new.full ≡ true }
     ensures published { full ≡ true → IsPublishing handle.old.value handle.new.value number.new result }
+    ensures untold { (result ≡ pos 0 → ⊥) → number.new ≡ number.old }
 {
     if !full {
         return CLOSED;
@@ -167,6 +172,7 @@ pub extern "C" fn td_c_publish(handle: &mut TdSession, full: bool, number: &mut 
 fn split(publisher: &mut Publisher) -> Result<Reader, i32>
     ensures codes { arc_value publisher.new.codes ≡ arc_value publisher.old.codes }
     ensures kept { publisher.new.seat ≡ publisher.old.seat }
+    ensures unloaded { publisher.new.maker ≡ publisher.old.maker }
     ensures seat { IfOk result (IsSeatOf publisher.old) }
     ensures code { IfErr result (λ code. code ≡ pos 4) }
 {
@@ -177,7 +183,7 @@ fn split(publisher: &mut Publisher) -> Result<Reader, i32>
 }
 
 fn split_in(slot: &mut Slot) -> Result<Reader, i32>
-    ensures kept { publishes_on slot.old.publisher slot.new.publisher }
+    ensures kept { GoesOn slot.old slot.new }
     ensures seat { IfOk result (λ r. IsSomeAnd slot.old.publisher (λ p. IsSeatOf p r)) }
     ensures code { IfErr result (λ code. IsSeating slot.old code × (code ≡ pos 0 → ⊥)) }
 {
@@ -198,9 +204,9 @@ pub extern "C" fn td_c_seat(
 ) -> i32
     requires handle { handle.old.full ≡ full }
     requires other { other.old.full ≡ other_full }
-    ensures closed { full ≡ false → result ≡ pos 3 }
+    ensures closed { full ≡ false → (result ≡ pos 3) × (handle.new ≡ handle.old) }
     ensures answer { full ≡ true → IsSeating handle.old.value result }
-    ensures kept { full ≡ true → (handle.new.full ≡ true) × publishes_on handle.old.value.publisher handle.new.value.publisher }
+    ensures kept { full ≡ true → (handle.new.full ≡ true) × GoesOn handle.old.value handle.new.value }
     ensures other { (result ≡ pos 0 → ⊥) → other.new ≡ other.old }
     ensures seat { result ≡ pos 0 → (full ≡ true) × (other.new.full ≡ true) × HasSeat handle.old.value other.new.value }
 {
@@ -217,7 +223,8 @@ pub extern "C" fn td_c_seat(
 }
 
 fn current_in(slot: &mut Slot, number: &mut u32) -> i32
-    ensures { IsLoading slot.old slot.new number.new result }
+    ensures loaded { IsLoading slot.old slot.new number.new result }
+    ensures untold { (result ≡ pos 0 → ⊥) → number.new ≡ number.old }
 {
     match &mut slot.reader {
         Some(reader) => {
@@ -232,9 +239,10 @@ fn current_in(slot: &mut Slot, number: &mut u32) -> i32
 #[unsafe(no_mangle)]
 pub extern "C" fn td_c_current(handle: &mut TdSession, full: bool, number: &mut u32) -> i32
     requires { handle.old.full ≡ full }
-    ensures closed { full ≡ false → result ≡ pos 3 }
+    ensures closed { full ≡ false → (result ≡ pos 3) × (handle.new ≡ handle.old) }
     ensures open { full ≡ true → handle.new.full ≡ true }
     ensures loaded { full ≡ true → IsLoading handle.old.value handle.new.value number.new result }
+    ensures untold { (result ≡ pos 0 → ⊥) → number.new ≡ number.old }
 {
     if !full {
         return CLOSED;
@@ -247,6 +255,7 @@ pub extern "C" fn td_c_current(handle: &mut TdSession, full: bool, number: &mut 
 
 fn session_of(alloc: Global, reader: &Reader, number: u32) -> Result<Session, i32>
     ensures session { IfOk result (λ s. slice_get (arc_value reader.now.codes).codes number ≡ Some (arc_value s.code)) }
+    ensures fresh { IfOk result (λ s. IsFresh (arc_value s.code) s.frame) }
     ensures code { IfErr result (λ code. (code ≡ pos 4) ⊎ ((code ≡ pos 5) × (length (arc_value reader.now.codes).codes ≤ number))) }
 {
     if (number as usize) >= reader.count() {
@@ -280,7 +289,7 @@ pub extern "C" fn td_c_version(
 ) -> i32
     requires handle { handle.old.full ≡ full }
     requires other { other.old.full ≡ other_full }
-    ensures closed { full ≡ false → result ≡ pos 3 }
+    ensures closed { full ≡ false → (result ≡ pos 3) × (handle.new ≡ handle.old) }
     ensures answer { full ≡ true → IsVersioning handle.old.value result }
     ensures missing { full ≡ true → result ≡ pos 5 → LacksVersion handle.old.value number }
     ensures kept { full ≡ true → (handle.new.full ≡ true) × (handle.new.value ≡ handle.old.value) }

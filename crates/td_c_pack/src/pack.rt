@@ -1,9 +1,10 @@
 //! What C calls to make an image of a module text.
 
-ghost use Rattle.std.specs.Prelude.{◌≡◌, ◌≤◌, ◌<◌, ◌-◌, ◌^◌, ◌⊎◌, ◌↔◌, length, take, pos, IfOk, IfErr};
+ghost use Rattle.std.specs.Prelude.{◌≡◌, ◌≤◌, ◌<◌, ◌-◌, ◌^◌, ◌⊎◌, ◌↔◌, length, take, drop, pos, IfOk, IfErr};
 ghost use Rattle.td_front.specs.declared.error.FrontError.{FrontError};
 ghost use Rattle.td_front.specs.ModuleText.{RefusedBy};
-ghost use Rattle.td_c_pack.specs.Packed.{IsImageOf, IsPacking};
+ghost use Rattle.td_code.specs.Coding.{IsImageOf};
+ghost use Rattle.td_c_pack.specs.Packed.{IsPacking, TellsSize};
 
 use crate::refusal::{TdPacked, tell_refusal};
 use std::alloc::Global;
@@ -39,8 +40,11 @@ fn image_of(alloc: Global, text: &[u8]) -> Result<Items<u8>, FrontError>
 fn put_image(found: &[u8], image: &mut [u8], told: &mut TdPacked) -> i32
     ensures which { (result ≡ pos 0) ⊎ (result ≡ pos 23) }
     ensures size { told.new.size ≡ length found.now }
+    ensures told { TellsSize told.old told.new }
     ensures done { result ≡ pos 0 → (take (length found.now) image.new ≡ found.now) × (length found.now ≤ length image.new) }
+    ensures behind { result ≡ pos 0 → drop (length found.now) image.new ≡ drop (length found.now) image.old }
     ensures room { result ≡ pos 23 → length image.new < length found.now }
+    ensures unwritten { result ≡ pos 23 → image.new ≡ image.old }
 {
     told.size = found.len() as u64;
     if found.len() > image.len() {
@@ -51,9 +55,9 @@ fn put_image(found: &[u8], image: &mut [u8], told: &mut TdPacked) -> i32
     DONE
 }
 
-/// Checks a module text, and writes the image of its code where there is room. 0: it is written; 21: the text has more bytes than texts have;
-/// 22: it is refused, and what was told says why; 23: the image has more bytes than there is room for, as was told; 4: there was no
-/// memory.
+/// Checks a module text, and writes the image of its code where there is room, and no other byte. 0: it is written; 21: the text has more
+/// bytes than texts have; 22: it is refused, and what was told says why; 23: the image has more bytes than there is room for, as was
+/// told; 4: there was no memory.
 #[unsafe(no_mangle)]
 pub extern "C" fn td_c_pack(
     alloc: Global,
@@ -61,7 +65,7 @@ pub extern "C" fn td_c_pack(
     image: &mut [u8],
     told: &mut TdPacked,
 ) -> i32
-    ensures { IsPacking text.now image.new told.new result }
+    ensures { IsPacking text.now image.old image.new told.old told.new result }
 {
     if text.len() > MOST_TEXT {
         return TOO_LONG;

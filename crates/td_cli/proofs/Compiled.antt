@@ -24,13 +24,12 @@ use Rattle.td_gen.specs.Message.{format_of, IsMessage}
 use Rattle.td_cli.specs.Benching.{HasRun}
 use Rattle.td_cli.proofs.Benches.{message_run}
 use Rattle.td_cli.specs.Run.{IsRunOf}
-use Rattle.td_job.proofs.Writing.{fits_params, fits_cells}
 
 -- a job's values fit its entry point's code
 pub job_fits : ArgumentsFit → (c : Parts) (m : Module) (job : RunJob) → IsCodeOf c m → job.entry.number < length m.entries → HasValues m job → Fits c job.entry job.args job.cells
 job_fits law c m job of inside values =
     let o = entry_definition m job.entry.number in
-    law c m job.entry job.args job.cells of inside (fits_params o job.args values.args) (fits_cells o job.cells values.cells)
+    law c m job.entry job.args job.cells of inside values.args values.cells
 
 abbrev pub input_of : RunJob → Input
 input_of job = record { entry = job.entry; args = job.args; cells = job.cells; length = job.length; layout = job.layout; words = job.words; stores = job.stores }
@@ -38,10 +37,12 @@ input_of job = record { entry = job.entry; args = job.args; cells = job.cells; l
 -- a run by a module's code is a run of the job
 pub run_of : (c : Parts) (m : Module) (job : RunJob) (outcome : Outcome) (loads : List Load) → IsCodeOf c m → IsSoundJob m job → HasRoom job → IsRunBy c (input_of job) outcome loads → IsRunOf m job outcome loads
 run_of c m job outcome loads of sound room run = record {
-  rising = run.rising;
-  inside = run.inside;
+  fetched = record {
+    rising = run.validated.rising;
+    inside = run.validated.inside;
+    holds = λ b carried bytes. (run.validated.holds b carried).meant m of (sound b bytes (carried.size ∙ room.long));
+  };
   held = run.held;
-  meant = λ b bytes carried. run.meant m b of carried (sound b bytes (carried.size ∙ room.long));
 }
 
 -- the same of lists that are the job's

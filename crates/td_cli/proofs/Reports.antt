@@ -31,9 +31,9 @@ pub record Below : Type 0 where
 
 run_told : Below → (m : Module) (job : RunJob) (o : Outcome) (loads : List Load) → IsChecked m → IsSized m job → IsRunOf m job o loads → IsTold m job.entry o
 run_told below m job o loads c s h =
-    let message = below.carry (message_of job) loads h.rising in
+    let message = below.carry (message_of job) loads h.fetched.rising in
     let bytes = bytes_of message.0 message.2 in
-    subst (IsTold m job.entry) (h.meant message.0 bytes message.1).same (below.runs m job message.0 c s bytes (message.1.size ∙ s.long))
+    subst (IsTold m job.entry) (h.fetched.holds message.0 message.1 bytes).same (below.runs m job message.0 c s bytes (message.1.size ∙ s.long))
 
 module _ (below : Below) (input text : List ℕ) (a : IsReport input text) where
   is_checked : IsChecked a.m
@@ -46,7 +46,7 @@ module _ (below : Below) (input text : List ℕ) (a : IsReport input text) where
   told = run_told below a.m a.job a.outcome a.loads is_checked is_sized a.run
 
   shown : All (IsShownLoad a.job.layout) a.loads
-  shown = below.loads a.m a.job a.loads is_sized a.run.inside a.run.held
+  shown = below.loads a.m a.job a.loads is_sized a.run.fetched.inside a.run.held
 
 pub reports_determine_runs : Below → ReportsDetermineRuns
 reports_determine_runs below one other text a b same =

@@ -138,7 +138,7 @@ numbers_of base size (Some layout) ls inside = inside
 
 message_words : (job : HostJob) (p : Mail) (r : Reply) → IsReplyTo job p r → HasMessageWords r
 message_words job p r reply =
-    subst (λ (o : Option (List Stretch)). All (λ (l : Load). IsNumberOf o l.word) r.loads.list) (sym reply.layout) (numbers_of p.base p.length (list_of p) r.loads.list reply.inside)
+    subst (λ (o : Option (List Stretch)). All (λ (l : Load). IsNumberOf o l.word) r.loads.list) (sym reply.under.layout) (numbers_of p.base p.length (list_of p) r.loads.list reply.under.fetched.inside)
 
 pub all_message_words : (job : HostJob) (ps : List Mail) (rs : List Reply) → RepliesTo job ps rs → All HasMessageWords rs
 unfolding RepliesTo
@@ -204,19 +204,19 @@ Sized m = AreSized (list_of m)
 module _ (below : Below) (m : Module) (job : HostJob) (checked : All IsChecked job.formats) (sized : IsHostSized m job) where
   reply_told : (p : Mail) (r : Reply) → (reply : IsReplyTo job p r) → IsShort p → IsTold reply.format reply.entry (outcome_in r)
   reply_told p r reply short =
-      let message = below.carry (layout_of p) r.loads.list reply.rising in
+      let message = below.carry (layout_of p) r.loads.list reply.under.fetched.rising in
       let b = message.0 in
       let bytes : AreBytes b = bytes_of b message.2 in
       let long : length b ≤ 1048576 = (let size = message.1.size in let limit = short.bytes in omega (arith, size, limit)) in
       let own = at_version job.formats r.version reply.format checked reply.version.0 in
       let told : IsTold reply.format reply.entry (outcome reply.format reply.entry job.args (zeros job.cells) b) = below.told m job b r.version reply.format reply.entry reply.version own sized bytes long in
-      subst (IsTold reply.format reply.entry) (reply.meant b bytes message.1).same told
+      subst (IsTold reply.format reply.entry) (reply.under.fetched.holds b message.1 bytes).same told
 
   reportable : (p : Mail) (r : Reply) → IsReplyTo job p r → SmallReply r → Numbered 4096 17 p → IsShort p → Sized p → IsReportable job.formats job.entries r
   reportable p r reply small numbered short sized_mail =
       let told = reply_told p r reply short in
-      let guest : r.guest ≡ p.name.guest = ap (λ (n : PostName). n.guest) reply.name in
-      let number : r.number ≡ p.name.number = ap (λ (n : PostName). n.number) reply.name in
+      let guest : r.guest ≡ p.name.guest = ap (λ (n : PostName). n.guest) reply.under.name in
+      let number : r.number ≡ p.name.number = ap (λ (n : PostName). n.number) reply.under.name in
       let few : p.name.guest < 17 = numbered.0 in
       let low : p.name.number ≤ 4096 = numbered.1 in
       let within = slice_get_within job.formats r.version reply.format reply.version.0 in
@@ -234,7 +234,7 @@ module _ (below : Below) (m : Module) (job : HostJob) (checked : All IsChecked j
           frames = told.frames;
           cells = told.cells;
           copies = told.copies;
-          loads = subst (λ (o : Option (List Stretch)). All (IsShownLoad o) r.loads.list) (sym reply.layout) (shown_of p.base p.length (list_of p) r.loads.list sized_mail short.bytes reply.inside small);
+          loads = subst (λ (o : Option (List Stretch)). All (IsShownLoad o) r.loads.list) (sym reply.under.layout) (shown_of p.base p.length (list_of p) r.loads.list sized_mail short.bytes reply.under.fetched.inside small);
         };
       }
 

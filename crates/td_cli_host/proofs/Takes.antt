@@ -111,12 +111,12 @@ module _ (below : Below) (more : BelowTakes) (top : Module) (job : HostJob) (che
 
   carried : (most : ℕ) (d : Reply) → IsDescriptor m room most d → Carried most d
   carried most d h =
-      let message = below.carry (plain desc_bytes) d.loads.list h.is.rising in
+      let message = below.carry (plain desc_bytes) d.loads.list h.fetched.rising in
       let b = message.0 in
       let bytes : AreBytes b = bytes_of b message.2 in
       let size = message.1.size in
       let short : length b ≤ 1048576 = omega (arith, size) in
-      (b, bytes, short, (h.meant b bytes message.1).same)
+      (b, bytes, short, (h.fetched.holds b message.1 bytes).same)
 
   descr_told : (most : ℕ) (d : Reply) → most ≤ 1048576 → IsDescriptor m room most d → IsTold m desc_entry (outcome_in d)
   descr_told most d low h =
@@ -127,7 +127,7 @@ module _ (below : Below) (more : BelowTakes) (top : Module) (job : HostJob) (che
   descr_loads : (most : ℕ) (d : Reply) → IsDescriptor m room most d → All SmallLoad d.loads.list → All (IsShownLoad d.layout) d.loads.list
   descr_loads most d h small =
       subst (λ (o : Option (List Stretch)). All (IsShownLoad o) d.loads.list) (sym h.is.list)
-      (plainly_shown d.loads.list (of_64_bits (plain desc_bytes) d.loads.list (omega arith) h.is.inside small))
+      (plainly_shown d.loads.list (of_64_bits (plain desc_bytes) d.loads.list (omega arith) h.fetched.inside small))
 
   descr_reportable : (most : ℕ) (d : Reply) → most ≤ 1048576 → IsDescriptor m room most d → All SmallLoad d.loads.list → IsReportableDescr ring_module d
   descr_reportable most d low h small =
@@ -160,14 +160,14 @@ module _ (below : Below) (more : BelowTakes) (top : Module) (job : HostJob) (che
   message_reportable : (place size : ℕ) (r : Reply) → place < 2 ^ 64 → size ≤ 1048576 → IsMessage job place size r → All SmallLoad r.loads.list → IsReportableMessage job.formats job.entries r
   message_reportable place size r low short h small =
       let layout : List Stretch = message_layout place size in
-      let message = below.carry layout r.loads.list h.is.rising in
+      let message = below.carry layout r.loads.list h.fetched.rising in
       let b = message.0 in
       let bytes : AreBytes b = bytes_of b message.2 in
       let length_is = message.1.size in
       let long : length b ≤ 1048576 = omega (arith, length_is, short) in
       let format = at_version job.formats 0 h.format checked h.version.0 in
       let told : IsTold h.format h.entry (outcome h.format h.entry job.args (zeros job.cells) b) = below.told top job b 0 h.format h.entry h.version format sized bytes long in
-      let own_told : IsTold h.format h.entry (outcome_in r) = subst (IsTold h.format h.entry) (h.meant b bytes message.1).same told in
+      let own_told : IsTold h.format h.entry (outcome_in r) = subst (IsTold h.format h.entry) (h.fetched.holds b message.1 bytes).same told in
       let is_sized : IsSizedLayout layout = record { few = omega arith; places = All-cons (λ (s : Stretch). s.place < 2 ^ 64) (record { place = place; size = size }) [] low (All-nil (λ (s : Stretch). s.place < 2 ^ 64)) } in
       let limit : size + 0 ≤ 1048576 = omega (arith, short) in
       record {
@@ -181,7 +181,7 @@ module _ (below : Below) (more : BelowTakes) (top : Module) (job : HostJob) (che
           cells = own_told.cells;
           copies = own_told.copies;
           loads = subst (λ (o : Option (List Stretch)). All (IsShownLoad o) r.loads.list) (sym h.is.list)
-              (shown_by_stretches layout r.loads.list is_sized limit h.is.inside (of_64_bits layout r.loads.list limit h.is.inside small));
+              (shown_by_stretches layout r.loads.list is_sized limit h.fetched.inside (of_64_bits layout r.loads.list limit h.fetched.inside small));
         };
       }
 
@@ -298,7 +298,7 @@ message_named job (Idle made) message h = subst (λ (o : Option Reply). IfSome o
 message_named job (Overrun made) message h = subst (λ (o : Option Reply). IfSome o HasMessageWords) (sym h) tt
 message_named job (Bad reason pos) message h = subst (λ (o : Option Reply). IfSome o HasMessageWords) (sym h) tt
 message_named job (Message number place size id) None h = absurd h
-message_named job (Message number place size id) (Some r) h = of_list r.layout (message_layout place size) r.loads.list h.is.list h.is.inside
+message_named job (Message number place size id) (Some r) h = of_list r.layout (message_layout place size) r.loads.list h.is.list h.fetched.inside
 
 ring_named : (job : HostJob) (m : Module) (room : ℕ) (ring : RingJob) (k n taken : ℕ) (ts : List Take) → AreTakes job m room ring k n taken ts → All HasTakenWords ts
 unfolding AreTakes

@@ -13,11 +13,9 @@ use Rattle.td_stream.specs.declared.stretch.Stretch.{Stretch}
 use Rattle.td_stream.specs.Layouts.{plain}
 use Rattle.td_stream.specs.Loads.{Carries, IsRising}
 use Rattle.td_ir.specs.declared.tables.Parts.{Parts}
-use Rattle.td_meaning.specs.Copies.{opened, IsSoundOn}
+use Rattle.td_meaning.specs.Copies.{opened}
 use Rattle.td_meaning.proofs.Copying.{opened_alone}
-use Rattle.td_stream.specs.Loads.{Inside}
-use Rattle.td_fetch.specs.Outcomes.{IsMeant}
-use Rattle.td_lower_means.specs.CodeRun.{IsCodeOf}
+use Rattle.td_run.specs.Validation.{IsValidation}
 use Rattle.td_descr.specs.Ring.{desc_entry, desc_args, desc_cells, desc_bytes, AreWithin, IsRingCode, IsValidated, IfAccepted}
 use Rattle.td_num.proofs.Digits.{are_bytes as bytes_of}
 
@@ -38,26 +36,20 @@ SomeCarries = (layout : List Stretch) (loads : List Load) → IsRising loads →
 pub accepted_within : (c : Parts) (room most : ℕ) (loads : List Load) (o : Outcome) → SomeCarries → IsRingCode c room most → IsValidated c room most loads o
     → IfAccepted o.verdict (AreWithin room most o.cells)
 accepted_within c room most loads o carry code v =
-    let message = carry (plain desc_bytes) loads v.rising in
+    let message = carry (plain desc_bytes) loads v.validated.rising in
     let b : List ℕ = message.0 in
     let bytes : AreBytes b = bytes_of b message.2 in
     let size : length b < 2 ^ 32 = (let e = message.1.size in omega (arith, e)) in
-    let is = v.meant code.format b code.code message.1 (code.ring.sound b bytes size) in
+    let is = (v.validated.holds b message.1).meant code.format code.code (code.ring.sound b bytes size) in
     let alone = opened_alone code.format desc_entry desc_cells code.ring.bare in
     let end : List ℕ → Ending = λ cells. (meaning code.format desc_entry (desc_args room most) cells b).ending in
     let within : OnEnding (end (opened code.format desc_entry desc_cells)) (λ q cells. AreWithin room most cells) =
     subst (λ cells. OnEnding (end cells) (λ q cells. AreWithin room most cells)) (sym alone) (code.ring.within b bytes) in
     at_outcome 3 b (end (opened code.format desc_entry desc_cells)) o (AreWithin room most) is.same (first_three room most (end (opened code.format desc_entry desc_cells)) within)
 
--- what a validation from these cells of a message that lies so says of its loads
-abbrev pub Says : Parts → ℕ → ℕ → List Load → Outcome → List Stretch → List ℕ → Type 0
-Says c room most loads o layout cells =
-    IsRising loads × Inside layout loads
-    × ((m : Module) (b : List ℕ) → IsCodeOf c m → Carries layout b loads → IsSoundOn m desc_entry (desc_args room most) cells b
-    → IsMeant layout m desc_entry (desc_args room most) cells b loads o)
-
 pub validated_by : (c : Parts) (room most : ℕ) (loads : List Load) (o : Outcome) (layout : List Stretch) (cells : List ℕ) → layout ≡ plain desc_bytes → cells ≡ desc_cells
-    → length o.cells ≡ 3 → Says c room most loads o layout cells → IsValidated c room most loads o
-validated_by c room most loads o layout cells e f n s =
-    let t = subst (λ l. Says c room most loads o l desc_cells) e (subst (Says c room most loads o layout) f s) in
-    record { rising = t.0; inside = t.1; cells = n; meant = t.2 }
+    → length o.cells ≡ 3 → IsValidation c desc_entry (desc_args room most) cells layout loads o → IsValidated c room most loads o
+validated_by c room most loads o layout cells e f n v = record {
+  validated = subst (λ (x : List Stretch × List ℕ). IsValidation c desc_entry (desc_args room most) x.1 x.0 loads o) (λ i. (e i, f i)) v;
+  cells = n;
+}

@@ -39,4 +39,4 @@ next_behind base head i loads lt n = record {
 
 -- all loads of a look rise
 pub rises_by : (c : Parts) (room most base head : ℕ) (loads descriptor : List Load) (o : Outcome) → loads ≡ load_of 0 head ∷ raised base descriptor → IsValidated c room most descriptor o → 0 < base → IsRising loads
-rises_by c room most base head loads descriptor o e v lt = subst IsRising (sym e) (all_rise base head descriptor lt v.rising)
+rises_by c room most base head loads descriptor o e v lt = subst IsRising (sym e) (all_rise base head descriptor lt v.validated.rising)

@@ -13,12 +13,12 @@ use Rattle.td_meaning.specs.Copies.{buffers_at, IsSoundOn as IsSound}
 use Rattle.td_meaning.specs.Throughout.{OnEnding}
 use Rattle.td_stream.specs.declared.load.Load.{Load}
 use Rattle.td_stream.specs.Layouts.{plain}
-use Rattle.td_stream.specs.Loads.{IsRising, Inside, Carries}
 use Rattle.td_fetch.specs.Outcomes.{IsMeant}
 use Rattle.td_ir.specs.declared.tables.Parts.{Parts}
 use Rattle.td_ir.specs.Entries.{Fits}
 use Rattle.td_lower_means.specs.CodeRun.{IsCodeOf}
 use Rattle.td_vm.specs.Frames.{FrameView, IsArmed}
+use Rattle.td_run.specs.Validation.{IsValidation}
 use Rattle.td_descr.specs.declared.next.Standing.{Standing}
 use Rattle.td_descr.specs.declared.next.Standing.TheVariants.{Nothing, Lost, Waiting}
 use Rattle.td_descr.specs.declared.next.Next.{Next}
@@ -117,13 +117,10 @@ abbrev pub frame_outcome : FrameView → Verdict → Outcome
 frame_outcome frame verdict = record { verdict = verdict; trace = frame.trace; cells = frame.cells; copies = [] }
 
 -- ---- the next descriptor
--- a descriptor's loads rise and lie in its bytes, and on every list of bytes that carries them its outcome is the meaning of each module
--- of which this is the code
+-- a descriptor was validated by this code, with these loads and this outcome, which has three cells
 pub record IsValidated (c : Parts) (room most : ℕ) (loads : List Load) (outcome : Outcome) : Type 0 where
-  pub rising : IsRising loads
-  pub inside : Inside (plain desc_bytes) loads
+  pub validated : IsValidation c desc_entry (desc_args room most) desc_cells (plain desc_bytes) loads outcome
   pub cells : length outcome.cells ≡ 3
-  pub meant : (m : Module) (b : List ℕ) → IsCodeOf c m → Carries (plain desc_bytes) b loads → IsSoundOn m room most b → IsDescribed m room most b loads outcome
 
 -- a fact for where it accepts
 abbrev pub IfAccepted : Verdict → Type 0 → Type 0

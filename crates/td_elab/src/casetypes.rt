@@ -1,6 +1,6 @@
 //! Casetypes.
 
-ghost use Rattle.std.specs.Prelude.{◌≡◌, [], IfOk, OnOk};
+ghost use Rattle.std.specs.Prelude.{◌≡◌, ◌++◌, [], IfOk, OnOk};
 ghost use Rattle.td_elab_rules.specs.Breach.{first_of};
 ghost use Rattle.td_elab_rules.specs.Known.{next_case};
 ghost use Rattle.td_elab_rules.specs.Constants.{is_value_among};
@@ -13,6 +13,7 @@ use td_ast::fields::FieldTree;
 use td_ast::names::ConstTree;
 use td_core::expressions::Scalar;
 use td_core::module::{Body, Case, Field};
+use td_elab_actions::scopes::Bindings;
 use td_elab_defs::constants::{
     check_constant, constant_span, constant_value, is_past, number_or_zero,
 };
@@ -22,7 +23,7 @@ use td_elab_exprs::findings::Findings;
 use td_elab_exprs::sorts::type_alone;
 use td_elab_fields::fields::fields;
 use td_elab_rules::breach::Rule;
-use td_elab_rules::known::{Known, Scope, Taken};
+use td_elab_rules::known::{Known, Scope};
 use td_names::names::Names;
 use td_names::numbers::Numbers;
 use td_num::items::Items;
@@ -62,18 +63,17 @@ fn case_fields(
     alloc: Global,
     names: &Names,
     known: &Known,
-    scope: &mut Scope,
-    taken: &mut Taken,
+    bindings: &mut Bindings,
     trees: &[FieldTree],
     findings: &mut Findings,
 ) -> Result<Items<Field>, AllocError>
-    ensures core { IfOk result (λ fs. fs ≡ fields_core names.now known.now scope.old trees.now) }
-    ensures first { OnOk result (findings.new.first ≡ first_of findings.old.first (fields_breaches known.now (next_case taken.old) scope.old trees.now)) }
-    ensures taken { OnOk result (taken.new ≡ case_taken taken.old trees.now) }
-    ensures scope { OnOk result (scope.new ≡ scope.old) }
+    ensures core { IfOk result (λ fs. fs ≡ fields_core names.now known.now bindings.old.scope trees.now) }
+    ensures first { OnOk result (findings.new.first ≡ first_of findings.old.first (fields_breaches known.now (next_case bindings.old.taken) bindings.old.scope trees.now)) }
+    ensures taken { OnOk result (bindings.new.taken ≡ case_taken bindings.old.taken trees.now) }
+    ensures scope { OnOk result (bindings.new.scope ≡ bindings.old.scope) }
 {
-    taken.fields = Names::new(alloc);
-    fields(alloc, names, known, scope, taken, trees, findings)
+    bindings.taken.fields = Names::new(alloc);
+    fields(alloc, names, known, bindings, trees, findings)
 }
 
 /// The cases; their breaches are noted. `AllocError`: out of memory.
@@ -81,24 +81,30 @@ fn cases(
     alloc: Global,
     names: &Names,
     known: &Known,
-    scope: &mut Scope,
-    taken: &mut Taken,
+    bindings: &mut Bindings,
     switch: Option<Scalar>,
     trees: &[CaseTree],
     findings: &mut Findings,
 ) -> Result<Items<Case>, AllocError>
-    ensures core { IfOk result (λ cs. cs ≡ cases_core names.now known.now scope.old trees.now) }
-    ensures first { OnOk result (findings.new.first ≡ first_of findings.old.first (cases_breaches known.now taken.old scope.old switch [] trees.now)) }
-    ensures taken { OnOk result (taken.new ≡ cases_taken taken.old trees.now) }
-    ensures scope { OnOk result (scope.new ≡ scope.old) }
+    ensures core { IfOk result (λ cs. cs ≡ cases_core names.now known.now bindings.old.scope trees.now) }
+    ensures first { OnOk result (findings.new.first ≡ first_of findings.old.first (cases_breaches known.now bindings.old.taken bindings.old.scope switch [] trees.now)) }
+    ensures taken { OnOk result (bindings.new.taken ≡ cases_taken bindings.old.taken trees.now) }
+    ensures scope { OnOk result (bindings.new.scope ≡ bindings.old.scope) }
 {
     let mut before = Numbers::new(alloc);
     let mut cases = Items::new(alloc);
     for tree in trees {
-        check_case(known, scope, switch, &before, &tree.constant, findings);
-        let value = constant_value(known, scope, &tree.constant);
+        check_case(
+            known,
+            &bindings.scope,
+            switch,
+            &before,
+            &tree.constant,
+            findings,
+        );
+        let value = constant_value(known, &bindings.scope, &tree.constant);
         let inner = tree.fields.as_slice();
-        let fields = case_fields(alloc, names, known, scope, taken, inner, findings)?;
+        let fields = case_fields(alloc, names, known, bindings, inner, findings)?;
         add_value(&mut before, value)?;
         cases.push(Case {
             value: number_or_zero(value),
@@ -113,24 +119,47 @@ fn default_fields(
     alloc: Global,
     names: &Names,
     known: &Known,
-    scope: &mut Scope,
-    taken: &mut Taken,
+    bindings: &mut Bindings,
     tree: &Option<Items<FieldTree>>,
     findings: &mut Findings,
 ) -> Result<Option<Items<Field>>, AllocError>
-    ensures core { IfOk result (λ fs. fs ≡ default_core names.now known.now scope.old tree.now) }
-    ensures first { OnOk result (findings.new.first ≡ first_of findings.old.first (default_breaches known.now taken.old scope.old tree.now)) }
-    ensures taken { OnOk result (taken.new ≡ default_taken taken.old tree.now) }
-    ensures scope { OnOk result (scope.new ≡ scope.old) }
+    ensures core { IfOk result (λ fs. fs ≡ default_core names.now known.now bindings.old.scope tree.now) }
+    ensures first { OnOk result (findings.new.first ≡ first_of findings.old.first (default_breaches known.now bindings.old.taken bindings.old.scope tree.now)) }
+    ensures taken { OnOk result (bindings.new.taken ≡ default_taken bindings.old.taken tree.now) }
+    ensures scope { OnOk result (bindings.new.scope ≡ bindings.old.scope) }
 {
     match tree {
         None => Ok(None),
         Some(trees) => {
             let trees = trees.as_slice();
-            let fields = case_fields(alloc, names, known, scope, taken, trees, findings)?;
+            let fields = case_fields(alloc, names, known, bindings, trees, findings)?;
             Ok(Some(fields))
         }
     }
+}
+
+/// The cases, and the fields of `default`; their breaches are noted. `AllocError`: out of memory.
+#[tactic(auto, using(td_elab_exprs::proofs::Steps::first_append))]
+fn all_cases(
+    alloc: Global,
+    names: &Names,
+    known: &Known,
+    bindings: &mut Bindings,
+    switch: Option<Scalar>,
+    tree: &CasetypeTree,
+    findings: &mut Findings,
+) -> Result<(Items<Case>, Option<Items<Field>>), AllocError>
+    ensures core { IfOk result (λ c. (c.0 ≡ cases_core names.now known.now bindings.old.scope tree.now.cases) × (c.1 ≡ default_core names.now known.now bindings.old.scope tree.now.default)) }
+    ensures first { OnOk result (findings.new.first ≡ first_of findings.old.first
+        (cases_breaches known.now bindings.old.taken bindings.old.scope switch [] tree.now.cases
+        ++ default_breaches known.now (cases_taken bindings.old.taken tree.now.cases) bindings.old.scope tree.now.default)) }
+    ensures taken { OnOk result (bindings.new.taken ≡ switch_taken bindings.old.taken tree.now) }
+    ensures scope { OnOk result (bindings.new.scope ≡ bindings.old.scope) }
+{
+    let trees = tree.cases.as_slice();
+    let cases = cases(alloc, names, known, bindings, switch, trees, findings)?;
+    let default = default_fields(alloc, names, known, bindings, &tree.default, findings)?;
+    Ok((cases, default))
 }
 
 /// The body of a casetype; its breaches are noted. `AllocError`: out of memory.
@@ -139,24 +168,27 @@ pub fn switch(
     alloc: Global,
     names: &Names,
     known: &Known,
-    scope: &mut Scope,
-    taken: &mut Taken,
+    bindings: &mut Bindings,
     tree: &CasetypeTree,
     findings: &mut Findings,
 ) -> Result<Body, AllocError>
-    ensures core { IfOk result (λ b. b ≡ switch_core names.now known.now scope.old tree.now) }
-    ensures first { OnOk result (findings.new.first ≡ first_of findings.old.first (switch_breaches known.now taken.old scope.old tree.now)) }
-    ensures taken { OnOk result (taken.new ≡ switch_taken taken.old tree.now) }
-    ensures scope { OnOk result (scope.new ≡ scope.old) }
+    ensures core { IfOk result (λ b. b ≡ switch_core names.now known.now bindings.old.scope tree.now) }
+    ensures first { OnOk result (findings.new.first ≡ first_of findings.old.first (switch_breaches known.now bindings.old.taken bindings.old.scope tree.now)) }
+    ensures taken { OnOk result (bindings.new.taken ≡ switch_taken bindings.old.taken tree.now) }
+    ensures scope { OnOk result (bindings.new.scope ≡ bindings.old.scope) }
 {
-    let subject = number(alloc, known, scope, &tree.subject, findings)?;
+    let subject = number(alloc, known, &bindings.scope, &tree.subject, findings)?;
     let width = type_alone(subject.sort);
-    let trees = tree.cases.as_slice();
-    let cases = cases(alloc, names, known, scope, taken, width, trees, findings)?;
-    let default = default_fields(alloc, names, known, scope, taken, &tree.default, findings)?;
-    Ok(Body::Casetype {
-        switch: subject.core,
-        cases,
-        default,
-    })
+    match all_cases(alloc, names, known, bindings, width, tree, findings) {
+        Ok((cases, default)) => Ok(Body::Casetype {
+            switch: subject.core,
+            cases,
+            default,
+        }),
+        // by a call, as each way through its variants, where it is let go, is a way through the function
+        Err(error) => {
+            drop(subject);
+            Err(error)
+        }
+    }
 }

@@ -19,6 +19,7 @@ use std::alloc::{AllocError, Global};
 use td_ast::definitions::{CasetypeTree, Def, OutputTree, StructTree};
 use td_core::expressions::CoreExpr;
 use td_core::module::{Body, NameId, TypeDef};
+use td_elab_actions::scopes::Bindings;
 use td_elab_defs::aliases::alias;
 use td_elab_defs::constants::{check_global, check_literal, declare, define};
 use td_elab_defs::enums::enumerate;
@@ -31,10 +32,12 @@ use td_elab_exprs::expressions::test;
 use td_elab_exprs::findings::Findings;
 use td_elab_fields::fields::fields;
 use td_elab_fields::leading::leading_size;
-use td_elab_rules::known::{Known, Meaning, Parameter, Scope, Taken};
+use td_elab_rules::known::{Known, Meaning, Parameter};
 use td_kinds::casetypes::body_kind;
 use td_names::names::Names;
 use td_num::items::Items;
+
+// Where a value is let go, each way through its variants is a way through the function. So what has many is let go by a call.
 
 /// More names, beside others. `AllocError`: out of memory.
 fn see_names(alloc: Global, names: &mut Names, given: &Names) -> Result<(), AllocError>
@@ -90,8 +93,13 @@ fn add_type(
 ) -> Result<(), AllocError>
     ensures { OnOk result (known.new ≡ with_type known.old is_entry name.now parameters given.now definition) }
 {
-    announce(alloc, known, is_entry, name, given)?;
-    push_type(known, parameters, definition)
+    match announce(alloc, known, is_entry, name, given) {
+        Ok(()) => push_type(known, parameters, definition),
+        Err(error) => {
+            drop(definition);
+            Err(error)
+        }
+    }
 }
 
 /// The struct or casetype itself, with its parameters and its kind. `AllocError`: out of memory.
@@ -103,9 +111,9 @@ fn push_type(
     ensures { OnOk result (known.new ≡ with_definition known.old parameters definition) }
 {
     let kind = body_kind(known.kinds.as_slice(), &definition.body);
-    known.signatures.push(parameters)?;
+    known.definitions.push(definition)?;
     known.kinds.push(kind)?;
-    known.definitions.push(definition)
+    known.signatures.push(parameters)
 }
 
 /// `where` and the body of a struct or casetype.
@@ -121,25 +129,35 @@ fn struct_inner(
     alloc: Global,
     names: &Names,
     known: &Known,
-    scope: &mut Scope,
-    taken: &mut Taken,
+    bindings: &mut Bindings,
     tree: &StructTree,
     findings: &mut Findings,
 ) -> Result<Inner, AllocError>
-    ensures guard { IfOk result (λ i. i.guard ≡ option_core known.now (struct_scope known.now scope.old tree.now.fields) tree.now.head.condition) }
-    ensures body { IfOk result (λ i. i.body ≡ StructBody (fields_core names.now known.now (struct_scope known.now scope.old tree.now.fields) tree.now.fields)) }
-    ensures first { OnOk result (findings.new.first ≡ first_of findings.old.first (test_breaches known.now (struct_scope known.now scope.old tree.now.fields) tree.now.head.condition ++ fields_breaches known.now taken.old (struct_scope known.now scope.old tree.now.fields) tree.now.fields)) }
-    ensures taken { OnOk result (taken.new ≡ fields_taken taken.old tree.now.fields) }
+    ensures guard { IfOk result (λ i. i.guard ≡ option_core known.now (struct_scope known.now bindings.old.scope tree.now.fields) tree.now.head.condition) }
+    ensures body { IfOk result (λ i. i.body ≡ StructBody (fields_core names.now known.now (struct_scope known.now bindings.old.scope tree.now.fields) tree.now.fields)) }
+    ensures first { OnOk result (findings.new.first ≡ first_of findings.old.first (test_breaches known.now (struct_scope known.now bindings.old.scope tree.now.fields) tree.now.head.condition ++ fields_breaches known.now bindings.old.taken (struct_scope known.now bindings.old.scope tree.now.fields) tree.now.fields)) }
+    ensures taken { OnOk result (bindings.new.taken ≡ fields_taken bindings.old.taken tree.now.fields) }
 {
     let trees = tree.fields.as_slice();
-    let this = leading_size(alloc, known, scope, trees)?;
-    scope.this = Some(this);
-    let guard = test(alloc, known, scope, &tree.head.condition, findings)?;
-    let fields = fields(alloc, names, known, scope, taken, trees, findings)?;
-    Ok(Inner {
-        guard,
-        body: Body::Struct(fields),
-    })
+    let this = leading_size(alloc, known, &mut bindings.scope, trees)?;
+    bindings.scope.this = Some(this);
+    let guard = test(
+        alloc,
+        known,
+        &bindings.scope,
+        &tree.head.condition,
+        findings,
+    )?;
+    match fields(alloc, names, known, bindings, trees, findings) {
+        Ok(fields) => Ok(Inner {
+            guard,
+            body: Body::Struct(fields),
+        }),
+        Err(error) => {
+            drop(guard);
+            Err(error)
+        }
+    }
 }
 
 /// What is known after a struct. `AllocError`: out of memory.
@@ -164,8 +182,9 @@ fn structure(
         tree.head.params.as_slice(),
         findings,
     )?;
-    let (mut scope, mut taken) = (head.scope, head.taken);
-    let inner = struct_inner(alloc, names, known, &mut scope, &mut taken, tree, findings)?;
+    let (scope, taken) = (head.scope, head.taken);
+    let mut bindings = Bindings { scope, taken };
+    let inner = struct_inner(alloc, names, known, &mut bindings, tree, findings)?;
     check_global(known, &tree.name, findings);
     let name = tree.name.text.as_slice();
     let number = names.number(name);
@@ -183,7 +202,7 @@ fn structure(
         tree.entry,
         name,
         head.parameters,
-        &taken.all,
+        &bindings.taken.all,
         definition,
     )
 }
@@ -194,19 +213,29 @@ fn casetype_inner(
     alloc: Global,
     names: &Names,
     known: &Known,
-    scope: &mut Scope,
-    taken: &mut Taken,
+    bindings: &mut Bindings,
     tree: &CasetypeTree,
     findings: &mut Findings,
 ) -> Result<Inner, AllocError>
-    ensures guard { IfOk result (λ i. i.guard ≡ option_core known.now scope.old tree.now.head.condition) }
-    ensures body { IfOk result (λ i. i.body ≡ switch_core names.now known.now scope.old tree.now) }
-    ensures first { OnOk result (findings.new.first ≡ first_of findings.old.first (test_breaches known.now scope.old tree.now.head.condition ++ switch_breaches known.now taken.old scope.old tree.now)) }
-    ensures taken { OnOk result (taken.new ≡ switch_taken taken.old tree.now) }
+    ensures guard { IfOk result (λ i. i.guard ≡ option_core known.now bindings.old.scope tree.now.head.condition) }
+    ensures body { IfOk result (λ i. i.body ≡ switch_core names.now known.now bindings.old.scope tree.now) }
+    ensures first { OnOk result (findings.new.first ≡ first_of findings.old.first (test_breaches known.now bindings.old.scope tree.now.head.condition ++ switch_breaches known.now bindings.old.taken bindings.old.scope tree.now)) }
+    ensures taken { OnOk result (bindings.new.taken ≡ switch_taken bindings.old.taken tree.now) }
 {
-    let guard = test(alloc, known, scope, &tree.head.condition, findings)?;
-    let body = switch(alloc, names, known, scope, taken, tree, findings)?;
-    Ok(Inner { guard, body })
+    let guard = test(
+        alloc,
+        known,
+        &bindings.scope,
+        &tree.head.condition,
+        findings,
+    )?;
+    match switch(alloc, names, known, bindings, tree, findings) {
+        Ok(body) => Ok(Inner { guard, body }),
+        Err(error) => {
+            drop(guard);
+            Err(error)
+        }
+    }
 }
 
 /// What is known after a casetype. `AllocError`: out of memory.
@@ -231,8 +260,9 @@ fn casetype(
         tree.head.params.as_slice(),
         findings,
     )?;
-    let (mut scope, mut taken) = (head.scope, head.taken);
-    let inner = casetype_inner(alloc, names, known, &mut scope, &mut taken, tree, findings)?;
+    let (scope, taken) = (head.scope, head.taken);
+    let mut bindings = Bindings { scope, taken };
+    let inner = casetype_inner(alloc, names, known, &mut bindings, tree, findings)?;
     check_global(known, &tree.name, findings);
     let name = tree.name.text.as_slice();
     let number = names.number(name);
@@ -250,7 +280,7 @@ fn casetype(
         tree.entry,
         name,
         head.parameters,
-        &taken.all,
+        &bindings.taken.all,
         definition,
     )
 }

@@ -12,7 +12,7 @@ ghost use Rattle.td_elab_actions.specs.declared.pieces.Piece.TheVariants as piec
 ghost use Rattle.td_elab_actions.specs.Pieces.{piece_of, pieces_of, block_scope, followed, chained};
 
 use crate::pieces::{Piece, store_cell, store_slot, var};
-use crate::scopes::{add_level, cut_back};
+use crate::scopes::{Bindings, add_level, cut_back};
 use crate::steps::{fork, last, read, set};
 use crate::ways::{block_ways, is_shaped};
 use std::alloc::{AllocError, Global};
@@ -23,7 +23,9 @@ use td_core::actions::{Action, Step};
 use td_elab_exprs::expressions::truth_value;
 use td_elab_exprs::findings::Findings;
 use td_elab_rules::breach::Rule;
-use td_elab_rules::known::{Known, Scope, Taken};
+use td_elab_rules::known::{Known, Scope};
+
+// Where a value is let go, each way through its variants is a way through the function. So what has many is let go by a call.
 
 /// A statement, apart from what follows it. `AllocError`: out of memory.
 #[cycle(block)]
@@ -31,27 +33,33 @@ use td_elab_rules::known::{Known, Scope, Taken};
 fn piece(
     alloc: Global,
     known: &Known,
-    scope: &mut Scope,
-    taken: &mut Taken,
+    bindings: &mut Bindings,
     statement: &Stmt,
     findings: &mut Findings,
 ) -> Result<Piece, AllocError>
-    ensures core { IfOk result (λ p. p ≡ piece_of known.now scope.old statement.now) }
-    ensures first { OnOk result (findings.new.first ≡ first_of findings.old.first (statement_breaches known.now taken.old scope.old statement.now)) }
-    ensures taken { OnOk result (taken.new ≡ vars_after taken.old statement.now) }
-    ensures scope { OnOk result (scope.new ≡ scope_after known.now scope.old statement.now) }
+    ensures core { IfOk result (λ p. p ≡ piece_of known.now bindings.old.scope statement.now) }
+    ensures first { OnOk result (findings.new.first ≡ first_of findings.old.first (statement_breaches known.now bindings.old.taken bindings.old.scope statement.now)) }
+    ensures taken { OnOk result (bindings.new.taken ≡ vars_after bindings.old.taken statement.now) }
+    ensures scope { OnOk result (bindings.new.scope ≡ scope_after known.now bindings.old.scope statement.now) }
 {
     match &statement.kind {
-        StmtKind::Store(p, assigned) => store_cell(alloc, known, scope, p, assigned, findings),
+        StmtKind::Store(p, assigned) => store_cell(
+            alloc,
+            known,
+            &bindings.scope,
+            p,
+            assigned,
+            findings,
+        ),
         StmtKind::StoreField(p, f, assigned) => {
-            store_slot(alloc, known, scope, p, f, assigned, findings)
+            store_slot(alloc, known, &bindings.scope, p, f, assigned, findings)
         }
-        StmtKind::Var(x, star, p) => var(alloc, known, scope, taken, x, *star, p, findings),
-        StmtKind::If(e, one) => if_piece(alloc, known, scope, taken, e, one, findings),
+        StmtKind::Var(x, star, p) => var(alloc, known, bindings, x, *star, p, findings),
+        StmtKind::If(e, one) => if_piece(alloc, known, bindings, e, one, findings),
         StmtKind::IfElse(e, one, other) => {
-            if_else_piece(alloc, known, scope, taken, e, one, other, findings)
+            if_else_piece(alloc, known, bindings, e, one, other, findings)
         }
-        StmtKind::Return(e) => returned(alloc, known, scope, e, findings),
+        StmtKind::Return(e) => returned(alloc, known, &bindings.scope, e, findings),
         StmtKind::Abort => Ok(Piece::Abort),
     }
 }
@@ -62,21 +70,25 @@ fn piece(
 fn if_piece(
     alloc: Global,
     known: &Known,
-    scope: &mut Scope,
-    taken: &mut Taken,
+    bindings: &mut Bindings,
     e: &Expr,
     one: &Block,
     findings: &mut Findings,
 ) -> Result<Piece, AllocError>
-    ensures core { IfOk result (λ p. p ≡ pieces.If (core_of known.now scope.old e.now) (block_core known.now scope.old (block_of one.now)) done) }
+    ensures core { IfOk result (λ p. p ≡ pieces.If (core_of known.now bindings.old.scope e.now) (block_core known.now bindings.old.scope (block_of one.now)) done) }
     ensures first { OnOk result (findings.new.first ≡ first_of findings.old.first
-        (truth_breaches known.now scope.old e.now ++ block_breaches known.now taken.old scope.old (block_of one.now))) }
-    ensures taken { OnOk result (taken.new ≡ block_vars taken.old (block_of one.now)) }
-    ensures scope { OnOk result (scope.new ≡ scope.old) }
+        (truth_breaches known.now bindings.old.scope e.now ++ block_breaches known.now bindings.old.taken bindings.old.scope (block_of one.now))) }
+    ensures taken { OnOk result (bindings.new.taken ≡ block_vars bindings.old.taken (block_of one.now)) }
+    ensures scope { OnOk result (bindings.new.scope ≡ bindings.old.scope) }
 {
-    let condition = truth_value(alloc, known, scope, e, findings)?;
-    let one = block(alloc, known, scope, taken, one, findings)?;
-    Ok(Piece::If(condition, one, Action { step: Step::Done }))
+    let condition = truth_value(alloc, known, &bindings.scope, e, findings)?;
+    match block(alloc, known, bindings, one, findings) {
+        Ok(one) => Ok(Piece::If(condition, one, Action { step: Step::Done })),
+        Err(error) => {
+            drop(condition);
+            Err(error)
+        }
+    }
 }
 
 /// `if (e) { .. } else { .. }`. `AllocError`: out of memory.
@@ -85,24 +97,28 @@ fn if_piece(
 fn if_else_piece(
     alloc: Global,
     known: &Known,
-    scope: &mut Scope,
-    taken: &mut Taken,
+    bindings: &mut Bindings,
     e: &Expr,
     one: &Block,
     other: &Block,
     findings: &mut Findings,
 ) -> Result<Piece, AllocError>
-    ensures core { IfOk result (λ p. p ≡ pieces.If (core_of known.now scope.old e.now)
-        (block_core known.now scope.old (block_of one.now)) (block_core known.now scope.old (block_of other.now))) }
+    ensures core { IfOk result (λ p. p ≡ pieces.If (core_of known.now bindings.old.scope e.now)
+        (block_core known.now bindings.old.scope (block_of one.now)) (block_core known.now bindings.old.scope (block_of other.now))) }
     ensures first { OnOk result (findings.new.first ≡ first_of findings.old.first
-        (truth_breaches known.now scope.old e.now ++ (block_breaches known.now taken.old scope.old (block_of one.now)
-        ++ block_breaches known.now (block_vars taken.old (block_of one.now)) scope.old (block_of other.now)))) }
-    ensures taken { OnOk result (taken.new ≡ block_vars (block_vars taken.old (block_of one.now)) (block_of other.now)) }
-    ensures scope { OnOk result (scope.new ≡ scope.old) }
+        (truth_breaches known.now bindings.old.scope e.now ++ (block_breaches known.now bindings.old.taken bindings.old.scope (block_of one.now)
+        ++ block_breaches known.now (block_vars bindings.old.taken (block_of one.now)) bindings.old.scope (block_of other.now)))) }
+    ensures taken { OnOk result (bindings.new.taken ≡ block_vars (block_vars bindings.old.taken (block_of one.now)) (block_of other.now)) }
+    ensures scope { OnOk result (bindings.new.scope ≡ bindings.old.scope) }
 {
-    let condition = truth_value(alloc, known, scope, e, findings)?;
-    let (one, other) = branches(alloc, known, scope, taken, one, other, findings)?;
-    Ok(Piece::If(condition, one, other))
+    let condition = truth_value(alloc, known, &bindings.scope, e, findings)?;
+    match branches(alloc, known, bindings, one, other, findings) {
+        Ok((one, other)) => Ok(Piece::If(condition, one, other)),
+        Err(error) => {
+            drop(condition);
+            Err(error)
+        }
+    }
 }
 
 /// The branches of an `if` with an `else`. `AllocError`: out of memory.
@@ -111,22 +127,26 @@ fn if_else_piece(
 fn branches(
     alloc: Global,
     known: &Known,
-    scope: &mut Scope,
-    taken: &mut Taken,
+    bindings: &mut Bindings,
     one: &Block,
     other: &Block,
     findings: &mut Findings,
 ) -> Result<(Action, Action), AllocError>
-    ensures core { IfOk result (λ b. (b.0 ≡ block_core known.now scope.old (block_of one.now)) × (b.1 ≡ block_core known.now scope.old (block_of other.now))) }
+    ensures core { IfOk result (λ b. (b.0 ≡ block_core known.now bindings.old.scope (block_of one.now)) × (b.1 ≡ block_core known.now bindings.old.scope (block_of other.now))) }
     ensures first { OnOk result (findings.new.first ≡ first_of findings.old.first
-        (block_breaches known.now taken.old scope.old (block_of one.now)
-        ++ block_breaches known.now (block_vars taken.old (block_of one.now)) scope.old (block_of other.now))) }
-    ensures taken { OnOk result (taken.new ≡ block_vars (block_vars taken.old (block_of one.now)) (block_of other.now)) }
-    ensures scope { OnOk result (scope.new ≡ scope.old) }
+        (block_breaches known.now bindings.old.taken bindings.old.scope (block_of one.now)
+        ++ block_breaches known.now (block_vars bindings.old.taken (block_of one.now)) bindings.old.scope (block_of other.now))) }
+    ensures taken { OnOk result (bindings.new.taken ≡ block_vars (block_vars bindings.old.taken (block_of one.now)) (block_of other.now)) }
+    ensures scope { OnOk result (bindings.new.scope ≡ bindings.old.scope) }
 {
-    let one = block(alloc, known, scope, taken, one, findings)?;
-    let other = block(alloc, known, scope, taken, other, findings)?;
-    Ok((one, other))
+    let one = block(alloc, known, bindings, one, findings)?;
+    match block(alloc, known, bindings, other, findings) {
+        Ok(other) => Ok((one, other)),
+        Err(error) => {
+            drop(one);
+            Err(error)
+        }
+    }
 }
 
 /// `return e;`. `AllocError`: e has an operator or is `is_range_okay`, and out of memory.
@@ -150,19 +170,18 @@ fn returned(
 fn pieces(
     alloc: Global,
     known: &Known,
-    scope: &mut Scope,
-    taken: &mut Taken,
+    bindings: &mut Bindings,
     statements: &[Stmt],
     findings: &mut Findings,
 ) -> Result<Vec<Piece>, AllocError>
-    ensures core { IfOk result (λ ps. ps.items ≡ pieces_of known.now scope.old (block_of statements.now)) }
-    ensures first { OnOk result (findings.new.first ≡ first_of findings.old.first (block_breaches known.now taken.old scope.old (block_of statements.now))) }
-    ensures taken { OnOk result (taken.new ≡ block_vars taken.old (block_of statements.now)) }
-    ensures scope { OnOk result (scope.new ≡ block_scope known.now scope.old (block_of statements.now)) }
+    ensures core { IfOk result (λ ps. ps.items ≡ pieces_of known.now bindings.old.scope (block_of statements.now)) }
+    ensures first { OnOk result (findings.new.first ≡ first_of findings.old.first (block_breaches known.now bindings.old.taken bindings.old.scope (block_of statements.now))) }
+    ensures taken { OnOk result (bindings.new.taken ≡ block_vars bindings.old.taken (block_of statements.now)) }
+    ensures scope { OnOk result (bindings.new.scope ≡ block_scope known.now bindings.old.scope (block_of statements.now)) }
 {
     let mut pieces = Vec::new(alloc);
     for statement in statements {
-        pieces.push(piece(alloc, known, scope, taken, statement, findings)?)?;
+        pieces.push(piece(alloc, known, bindings, statement, findings)?)?;
     }
     Ok(pieces)
 }
@@ -172,19 +191,18 @@ fn pieces(
 fn block(
     alloc: Global,
     known: &Known,
-    scope: &mut Scope,
-    taken: &mut Taken,
+    bindings: &mut Bindings,
     block: &Block,
     findings: &mut Findings,
 ) -> Result<Action, AllocError>
-    ensures core { IfOk result (λ a. a ≡ block_core known.now scope.old (block_of block.now)) }
-    ensures first { OnOk result (findings.new.first ≡ first_of findings.old.first (block_breaches known.now taken.old scope.old (block_of block.now))) }
-    ensures taken { OnOk result (taken.new ≡ block_vars taken.old (block_of block.now)) }
-    ensures scope { OnOk result (scope.new ≡ scope.old) }
+    ensures core { IfOk result (λ a. a ≡ block_core known.now bindings.old.scope (block_of block.now)) }
+    ensures first { OnOk result (findings.new.first ≡ first_of findings.old.first (block_breaches known.now bindings.old.taken bindings.old.scope (block_of block.now))) }
+    ensures taken { OnOk result (bindings.new.taken ≡ block_vars bindings.old.taken (block_of block.now)) }
+    ensures scope { OnOk result (bindings.new.scope ≡ bindings.old.scope) }
 {
-    let (names, levels) = (scope.locals.len(), scope.levels);
-    let pieces = pieces(alloc, known, scope, taken, block.as_slice(), findings)?;
-    cut_back(scope, names, levels);
+    let (names, levels) = (bindings.scope.locals.len(), bindings.scope.levels);
+    let pieces = pieces(alloc, known, bindings, block.as_slice(), findings)?;
+    cut_back(&mut bindings.scope, names, levels);
     chained(alloc, pieces)
 }
 
@@ -227,22 +245,21 @@ fn check_shape(kind: ActionKind, at: Span, statements: &Block, findings: &mut Fi
 fn statements(
     alloc: Global,
     known: &Known,
-    scope: &mut Scope,
-    taken: &mut Taken,
+    bindings: &mut Bindings,
     statements: &Block,
     findings: &mut Findings,
 ) -> Result<Action, AllocError>
-    ensures core { IfOk result (λ a. a ≡ block_core known.now (inside scope.old) (block_of statements.now)) }
-    ensures first { OnOk result (findings.new.first ≡ first_of findings.old.first (block_breaches known.now taken.old (inside scope.old) (block_of statements.now))) }
-    ensures taken { OnOk result (taken.new ≡ block_vars taken.old (block_of statements.now)) }
-    ensures scope { OnOk result (scope.new ≡ scope.old) }
+    ensures core { IfOk result (λ a. a ≡ block_core known.now (inside bindings.old.scope) (block_of statements.now)) }
+    ensures first { OnOk result (findings.new.first ≡ first_of findings.old.first (block_breaches known.now bindings.old.taken (inside bindings.old.scope) (block_of statements.now))) }
+    ensures taken { OnOk result (bindings.new.taken ≡ block_vars bindings.old.taken (block_of statements.now)) }
+    ensures scope { OnOk result (bindings.new.scope ≡ bindings.old.scope) }
 {
-    let (levels, start) = (scope.levels, scope.start);
-    add_level(scope)?;
-    scope.start = Some(levels);
-    let action = block(alloc, known, scope, taken, statements, findings)?;
-    scope.levels = levels;
-    scope.start = start;
+    let (levels, start) = (bindings.scope.levels, bindings.scope.start);
+    add_level(&mut bindings.scope)?;
+    bindings.scope.start = Some(levels);
+    let action = block(alloc, known, bindings, statements, findings)?;
+    bindings.scope.levels = levels;
+    bindings.scope.start = start;
     Ok(action)
 }
 
@@ -252,16 +269,15 @@ fn statements(
 pub fn action(
     alloc: Global,
     known: &Known,
-    scope: &mut Scope,
-    taken: &mut Taken,
+    bindings: &mut Bindings,
     tree: &Option<ActionTree>,
     findings: &mut Findings,
 ) -> Result<Option<Action>, AllocError>
     ensures memory { OnErr result (tree.now ≢ None) }
-    ensures core { IfOk result (λ a. a ≡ action_core known.now scope.old tree.now) }
-    ensures first { OnOk result (findings.new.first ≡ first_of findings.old.first (action_breaches known.now taken.old scope.old tree.now)) }
-    ensures taken { OnOk result (taken.new ≡ action_vars taken.old tree.now) }
-    ensures scope { OnOk result (scope.new ≡ scope.old) }
+    ensures core { IfOk result (λ a. a ≡ action_core known.now bindings.old.scope tree.now) }
+    ensures first { OnOk result (findings.new.first ≡ first_of findings.old.first (action_breaches known.now bindings.old.taken bindings.old.scope tree.now)) }
+    ensures taken { OnOk result (bindings.new.taken ≡ action_vars bindings.old.taken tree.now) }
+    ensures scope { OnOk result (bindings.new.scope ≡ bindings.old.scope) }
 {
     match tree {
         None => Ok(None),
@@ -274,7 +290,7 @@ pub fn action(
             },
         ) => {
             check_shape(*kind, *span, block, findings);
-            let action = statements(alloc, known, scope, taken, block, findings)?;
+            let action = statements(alloc, known, bindings, block, findings)?;
             Ok(Some(action))
         }
     }

@@ -12,7 +12,7 @@ ghost use Rattle.td_elab_actions.specs.Pieces.{set_piece, read_piece};
 ghost use Rattle.td_elab_actions.specs.Memory.{StoresOperator};
 
 use crate::cells::{cell_of, check_read, check_target, row_cell};
-use crate::scopes::{add_local, add_value, scalar_of, take_name};
+use crate::scopes::{Bindings, add_local, add_value, scalar_of, take_name};
 use std::alloc::{AllocError, Global};
 use td_ast::actions::Assigned;
 use td_ast::expressions::Expr;
@@ -214,21 +214,20 @@ fn check_var(
 pub fn var(
     alloc: Global,
     known: &Known,
-    scope: &mut Scope,
-    taken: &mut Taken,
+    bindings: &mut Bindings,
     x: &Name,
     star: Span,
     p: &Name,
     findings: &mut Findings,
 ) -> Result<Piece, AllocError>
-    ensures core { IfOk result (λ r. r ≡ read_piece (stored_cell known.now scope.old p.now)) }
-    ensures first { OnOk result (findings.new.first ≡ first_of findings.old.first (statement_breaches known.now taken.old scope.old (Var star x.now star p.now))) }
-    ensures taken { OnOk result (taken.new ≡ with_outer taken.old x.now.text) }
-    ensures scope { OnOk result (scope.new ≡ scope_after known.now scope.old (Var star x.now star p.now)) }
+    ensures core { IfOk result (λ r. r ≡ read_piece (stored_cell known.now bindings.old.scope p.now)) }
+    ensures first { OnOk result (findings.new.first ≡ first_of findings.old.first (statement_breaches known.now bindings.old.taken bindings.old.scope (Var star x.now star p.now))) }
+    ensures taken { OnOk result (bindings.new.taken ≡ with_outer bindings.old.taken x.now.text) }
+    ensures scope { OnOk result (bindings.new.scope ≡ scope_after known.now bindings.old.scope (Var star x.now star p.now)) }
 {
-    let target = cell_of(look_up(known, scope, p.text.as_slice()));
-    check_var(known, taken, x, star, p, target, findings);
-    take_name(alloc, taken, x.text.as_slice())?;
-    add_read(alloc, scope, x.text.as_slice(), target)?;
+    let target = cell_of(look_up(known, &bindings.scope, p.text.as_slice()));
+    check_var(known, &bindings.taken, x, star, p, target, findings);
+    take_name(alloc, &mut bindings.taken, x.text.as_slice())?;
+    add_read(alloc, &mut bindings.scope, x.text.as_slice(), target)?;
     Ok(read(target))
 }

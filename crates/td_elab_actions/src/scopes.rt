@@ -11,6 +11,15 @@ use td_core::expressions::Scalar;
 use td_elab_rules::known::{Local, Scope, Taken};
 use td_num::number::Width;
 
+/// The bindings of a definition, as its body is elaborated.
+#[derive(Drop)]
+pub struct Bindings {
+    /// What is known inside the definition, where the next part of its body stands.
+    pub scope: Scope,
+    /// The names that it has given so far.
+    pub taken: Taken,
+}
+
 /// The type of a number of a width.
 pub fn scalar_of(width: Width) -> Scalar
     ensures { result ≡ scalar_of width }

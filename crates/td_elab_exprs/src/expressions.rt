@@ -1,6 +1,6 @@
 //! Expressions: their sorts, the core expressions that they stand for, and what they break, all in one walk.
 
-ghost use Rattle.std.specs.Prelude.{◌≡◌, IfOk, OnErr, OnOk, IsSomeAnd, is_none};
+ghost use Rattle.std.specs.Prelude.{◌≡◌, ◌++◌, IfOk, OnErr, OnOk, IsSomeAnd, is_none};
 ghost use Rattle.td_ast.specs.Trees as tree;
 ghost use Rattle.td_ast.specs.Trees.{span_of};
 ghost use Rattle.td_core.specs.Term.{choice};
@@ -36,6 +36,15 @@ pub struct Typing {
     pub core: CoreExpr,
 }
 
+/// Where an expression stands.
+#[derive(Clone, Copy)]
+struct Context<'a> {
+    /// What is known before the definition that it stands in.
+    known: &'a Known,
+    /// What is known inside that definition, where it stands.
+    scope: &'a Scope,
+}
+
 /// The span of an expression, parentheses included.
 pub fn span_of(e: &Expr) -> Span
     ensures { result ≡ span_of e.now }
@@ -59,42 +68,44 @@ fn check_name(found: Found, at: Span, findings: &mut Findings)
 /// What `sizeof` breaks: the word stands at `own`, what is asked for at `place`.
 #[tactic(auto, using(crate::proofs::Steps::first_append))]
 fn check_size(
-    known: &Known,
-    scope: &Scope,
+    context: &Context<'_>,
     own: Span,
     operand: &SizeofOperand,
     place: Span,
     findings: &mut Findings,
 )
-    ensures { findings.new.first ≡ first_of findings.old.first (size_breaches known.now scope.now own operand.now place) }
+    ensures { findings.new.first ≡ first_of findings.old.first (size_breaches context.now.known.now context.now.scope.now own operand.now place) }
 {
     match operand {
         SizeofOperand::Number(_) => {}
         SizeofOperand::Name(name) => {
-            let found = look_up(known, scope, name.as_slice());
+            let found = look_up(context.known, context.scope, name.as_slice());
             findings.note_if(is_nothing(found), Rule::Unknown, place);
             findings.note_if(!is_nothing(found) && !is_type(found), Rule::Mismatch, place);
-            let is_sized = size_found(known, found).is_some();
+            let is_sized = size_found(context.known, found).is_some();
             findings.note_if(is_type(found) && !is_sized, Rule::NotConstant, own);
         }
-        SizeofOperand::This => findings.note_if(scope.this.is_none(), Rule::NotConstant, own),
+        SizeofOperand::This => findings.note_if(
+            context.scope.this.is_none(),
+            Rule::NotConstant,
+            own,
+        ),
     }
 }
 
 /// An expression: its sort and its core expression, and its breaches noted. `AllocError`: it has an operator or is
 /// `is_range_okay`, and there was no memory for its operands.
 #[cycle(expression)]
-pub fn expression(
+fn expression(
     alloc: Global,
-    known: &Known,
-    scope: &Scope,
+    context: &Context<'_>,
     e: &Expr,
     findings: &mut Findings,
 ) -> Result<Typing, AllocError>
     ensures memory { OnErr result (HasOperator e.now) }
-    ensures sort { IfOk result (λ t. t.sort ≡ sort_of known.now scope.now e.now) }
-    ensures core { IfOk result (λ t. t.core ≡ core_of known.now scope.now e.now) }
-    ensures first { OnOk result (findings.new.first ≡ first_of findings.old.first (expr_breaches known.now scope.now e.now)) }
+    ensures sort { IfOk result (λ t. t.sort ≡ sort_of context.now.known.now context.now.scope.now e.now) }
+    ensures core { IfOk result (λ t. t.core ≡ core_of context.now.known.now context.now.scope.now e.now) }
+    ensures first { OnOk result (findings.new.first ≡ first_of findings.old.first (expr_breaches context.now.known.now context.now.scope.now e.now)) }
 {
     match &e.kind {
         ExprKind::Number(n, _) => Ok(Typing {
@@ -105,40 +116,29 @@ pub fn expression(
             sort: Sort::Truth,
             core: truth(*b),
         }),
-        ExprKind::Name(n) => Ok(named_value(known, scope, n, findings)),
-        ExprKind::FieldPos(own) => Ok(field_pos(scope, *own, findings)),
+        ExprKind::Name(n) => Ok(named_value(context, n, findings)),
+        ExprKind::FieldPos(own) => Ok(field_pos(context, *own, findings)),
         ExprKind::Sizeof(own, operand, place) => {
-            Ok(size_of(known, scope, *own, operand, *place, findings))
+            Ok(size_of(context, *own, operand, *place, findings))
         }
         ExprKind::RangeOkay(size, offset, access) => {
-            range_okay(
-                alloc,
-                known,
-                scope,
-                span_of(e),
-                size,
-                offset,
-                access,
-                findings,
-            )
+            range_okay(alloc, context, span_of(e), size, offset, access, findings)
         }
-        ExprKind::Unary(operator, own, a) => {
-            unary(alloc, known, scope, *operator, *own, a, findings)
-        }
+        ExprKind::Unary(operator, own, a) => { unary(alloc, context, *operator, *own, a, findings) }
         ExprKind::Binary(operator, own, a, b) => {
-            binary(alloc, known, scope, *operator, *own, a, b, findings)
+            binary(alloc, context, *operator, *own, a, b, findings)
         }
-        ExprKind::Choice(own, c, a, b) => choice(alloc, known, scope, *own, c, a, b, findings),
+        ExprKind::Choice(own, c, a, b) => choice(alloc, context, *own, c, a, b, findings),
     }
 }
 
 /// The name of a value.
-fn named_value(known: &Known, scope: &Scope, n: &Name, findings: &mut Findings) -> Typing
-    ensures sort { result.sort ≡ sort_of known.now scope.now (tree.Name n.now.span n.now) }
-    ensures core { result.core ≡ core_of known.now scope.now (tree.Name n.now.span n.now) }
-    ensures first { findings.new.first ≡ first_of findings.old.first (expr_breaches known.now scope.now (tree.Name n.now.span n.now)) }
+fn named_value(context: &Context<'_>, n: &Name, findings: &mut Findings) -> Typing
+    ensures sort { result.sort ≡ sort_of context.now.known.now context.now.scope.now (tree.Name n.now.span n.now) }
+    ensures core { result.core ≡ core_of context.now.known.now context.now.scope.now (tree.Name n.now.span n.now) }
+    ensures first { findings.new.first ≡ first_of findings.old.first (expr_breaches context.now.known.now context.now.scope.now (tree.Name n.now.span n.now)) }
 {
-    let found = look_up(known, scope, n.text.as_slice());
+    let found = look_up(context.known, context.scope, n.text.as_slice());
     check_name(found, n.span, findings);
     Typing {
         sort: found_sort(found),
@@ -147,36 +147,60 @@ fn named_value(known: &Known, scope: &Scope, n: &Name, findings: &mut Findings) 
 }
 
 /// `field_pos`, which stands at `own`.
-fn field_pos(scope: &Scope, own: Span, findings: &mut Findings) -> Typing
-    ensures sort { result.sort ≡ start_sort scope.now.start }
-    ensures core { result.core ≡ start_core scope.now.start }
-    ensures first { findings.new.first ≡ first_of findings.old.first (when (is_none scope.now.start) BadAction own) }
+fn field_pos(context: &Context<'_>, own: Span, findings: &mut Findings) -> Typing
+    ensures sort { result.sort ≡ start_sort context.now.scope.now.start }
+    ensures core { result.core ≡ start_core context.now.scope.now.start }
+    ensures first { findings.new.first ≡ first_of findings.old.first (when (is_none context.now.scope.now.start) BadAction own) }
 {
-    findings.note_if(scope.start.is_none(), Rule::BadAction, own);
+    findings.note_if(context.scope.start.is_none(), Rule::BadAction, own);
     Typing {
-        sort: start_sort(scope.start),
-        core: start_core(scope.start),
+        sort: start_sort(context.scope.start),
+        core: start_core(context.scope.start),
     }
 }
 
 /// `sizeof`, which stands at `own`, of what stands at `place`.
 fn size_of(
-    known: &Known,
-    scope: &Scope,
+    context: &Context<'_>,
     own: Span,
     operand: &SizeofOperand,
     place: Span,
     findings: &mut Findings,
 ) -> Typing
-    ensures sort { result.sort ≡ sort_of known.now scope.now (tree.Sizeof own own operand.now place) }
-    ensures core { result.core ≡ core_of known.now scope.now (tree.Sizeof own own operand.now place) }
-    ensures first { findings.new.first ≡ first_of findings.old.first (expr_breaches known.now scope.now (tree.Sizeof own own operand.now place)) }
+    ensures sort { result.sort ≡ sort_of context.now.known.now context.now.scope.now (tree.Sizeof own own operand.now place) }
+    ensures core { result.core ≡ core_of context.now.known.now context.now.scope.now (tree.Sizeof own own operand.now place) }
+    ensures first { findings.new.first ≡ first_of findings.old.first (expr_breaches context.now.known.now context.now.scope.now (tree.Sizeof own own operand.now place)) }
 {
-    check_size(known, scope, own, operand, place, findings);
-    let size = size_named(known, scope, operand);
+    check_size(context, own, operand, place, findings);
+    let size = size_named(context.known, context.scope, operand);
     Typing {
         sort: size_sort(size),
         core: size_core(size),
+    }
+}
+
+/// Two operands, from the left to the right. The first is let go by a call where there is no second, as each way through its
+/// variants is a way through the function.
+#[cycle(expression)]
+#[tactic(auto, using(crate::proofs::Steps::first_append))]
+fn operands(
+    alloc: Global,
+    context: &Context<'_>,
+    a: &Expr,
+    b: &Expr,
+    findings: &mut Findings,
+) -> Result<(Typing, Typing), AllocError>
+    ensures left { IfOk result (λ o. (o.0.sort ≡ sort_of context.now.known.now context.now.scope.now a.now) × (o.0.core ≡ core_of context.now.known.now context.now.scope.now a.now)) }
+    ensures right { IfOk result (λ o. (o.1.sort ≡ sort_of context.now.known.now context.now.scope.now b.now) × (o.1.core ≡ core_of context.now.known.now context.now.scope.now b.now)) }
+    ensures first { OnOk result (findings.new.first ≡ first_of findings.old.first (expr_breaches context.now.known.now context.now.scope.now a.now ++ expr_breaches context.now.known.now context.now.scope.now b.now)) }
+{
+    let left = expression(alloc, context, a, findings)?;
+    match expression(alloc, context, b, findings) {
+        Ok(right) => Ok((left, right)),
+        Err(error) => {
+            drop(left);
+            Err(error)
+        }
     }
 }
 
@@ -185,21 +209,25 @@ fn size_of(
 #[tactic(auto, using(crate::proofs::Steps::first_append))]
 fn range_okay(
     alloc: Global,
-    known: &Known,
-    scope: &Scope,
+    context: &Context<'_>,
     at: Span,
     z: &Expr,
     o: &Expr,
     a: &Expr,
     findings: &mut Findings,
 ) -> Result<Typing, AllocError>
-    ensures sort { IfOk result (λ t. t.sort ≡ sort_of known.now scope.now (tree.RangeOkay at z.now o.now a.now)) }
-    ensures core { IfOk result (λ t. t.core ≡ core_of known.now scope.now (tree.RangeOkay at z.now o.now a.now)) }
-    ensures first { OnOk result (findings.new.first ≡ first_of findings.old.first (expr_breaches known.now scope.now (tree.RangeOkay at z.now o.now a.now))) }
+    ensures sort { IfOk result (λ t. t.sort ≡ sort_of context.now.known.now context.now.scope.now (tree.RangeOkay at z.now o.now a.now)) }
+    ensures core { IfOk result (λ t. t.core ≡ core_of context.now.known.now context.now.scope.now (tree.RangeOkay at z.now o.now a.now)) }
+    ensures first { OnOk result (findings.new.first ≡ first_of findings.old.first (expr_breaches context.now.known.now context.now.scope.now (tree.RangeOkay at z.now o.now a.now))) }
 {
-    let size = expression(alloc, known, scope, z, findings)?;
-    let offset = expression(alloc, known, scope, o, findings)?;
-    let access = expression(alloc, known, scope, a, findings)?;
+    let (size, offset) = operands(alloc, context, z, o, findings)?;
+    let access = match expression(alloc, context, a, findings) {
+        Ok(access) => access,
+        Err(error) => {
+            drop((size, offset));
+            return Err(error);
+        }
+    };
     findings.note_if(is_truth(size.sort), Rule::Mismatch, span_of(z));
     findings.note_if(is_truth(offset.sort), Rule::Mismatch, span_of(o));
     findings.note_if(is_truth(access.sort), Rule::Mismatch, span_of(a));
@@ -214,18 +242,17 @@ fn range_okay(
 #[tactic(auto, using(crate::proofs::Steps::first_append))]
 fn unary(
     alloc: Global,
-    known: &Known,
-    scope: &Scope,
+    context: &Context<'_>,
     operator: UnaryOperator,
     own: Span,
     a: &Expr,
     findings: &mut Findings,
 ) -> Result<Typing, AllocError>
-    ensures sort { IfOk result (λ t. t.sort ≡ sort_of known.now scope.now (tree.Unary own operator own a.now)) }
-    ensures core { IfOk result (λ t. t.core ≡ core_of known.now scope.now (tree.Unary own operator own a.now)) }
-    ensures first { OnOk result (findings.new.first ≡ first_of findings.old.first (expr_breaches known.now scope.now (tree.Unary own operator own a.now))) }
+    ensures sort { IfOk result (λ t. t.sort ≡ sort_of context.now.known.now context.now.scope.now (tree.Unary own operator own a.now)) }
+    ensures core { IfOk result (λ t. t.core ≡ core_of context.now.known.now context.now.scope.now (tree.Unary own operator own a.now)) }
+    ensures first { OnOk result (findings.new.first ≡ first_of findings.old.first (expr_breaches context.now.known.now context.now.scope.now (tree.Unary own operator own a.now))) }
 {
-    let operand = expression(alloc, known, scope, a, findings)?;
+    let operand = expression(alloc, context, a, findings)?;
     findings.note_if(
         is_wrong_operand(operator, operand.sort),
         Rule::Mismatch,
@@ -242,21 +269,19 @@ fn unary(
 #[tactic(auto, using(crate::proofs::Steps::first_append))]
 fn binary(
     alloc: Global,
-    known: &Known,
-    scope: &Scope,
+    context: &Context<'_>,
     operator: BinaryOperator,
     own: Span,
     a: &Expr,
     b: &Expr,
     findings: &mut Findings,
 ) -> Result<Typing, AllocError>
-    ensures sort { IfOk result (λ t. t.sort ≡ sort_of known.now scope.now (tree.Binary own operator own a.now b.now)) }
-    ensures core { IfOk result (λ t. t.core ≡ core_of known.now scope.now (tree.Binary own operator own a.now b.now)) }
-    ensures first { OnOk result (findings.new.first ≡ first_of findings.old.first (expr_breaches known.now scope.now (tree.Binary own operator own a.now b.now))) }
+    ensures sort { IfOk result (λ t. t.sort ≡ sort_of context.now.known.now context.now.scope.now (tree.Binary own operator own a.now b.now)) }
+    ensures core { IfOk result (λ t. t.core ≡ core_of context.now.known.now context.now.scope.now (tree.Binary own operator own a.now b.now)) }
+    ensures first { OnOk result (findings.new.first ≡ first_of findings.old.first (expr_breaches context.now.known.now context.now.scope.now (tree.Binary own operator own a.now b.now))) }
 {
     let operation = operation(operator);
-    let left = expression(alloc, known, scope, a, findings)?;
-    let right = expression(alloc, known, scope, b, findings)?;
+    let (left, right) = operands(alloc, context, a, b, findings)?;
     findings.note_if(
         are_wrong_operands(operation, left.sort, right.sort),
         Rule::Mismatch,
@@ -273,21 +298,25 @@ fn binary(
 #[tactic(auto, using(crate::proofs::Steps::first_append))]
 fn choice(
     alloc: Global,
-    known: &Known,
-    scope: &Scope,
+    context: &Context<'_>,
     own: Span,
     c: &Expr,
     a: &Expr,
     b: &Expr,
     findings: &mut Findings,
 ) -> Result<Typing, AllocError>
-    ensures sort { IfOk result (λ t. t.sort ≡ sort_of known.now scope.now (tree.Choice own own c.now a.now b.now)) }
-    ensures core { IfOk result (λ t. t.core ≡ core_of known.now scope.now (tree.Choice own own c.now a.now b.now)) }
-    ensures first { OnOk result (findings.new.first ≡ first_of findings.old.first (expr_breaches known.now scope.now (tree.Choice own own c.now a.now b.now))) }
+    ensures sort { IfOk result (λ t. t.sort ≡ sort_of context.now.known.now context.now.scope.now (tree.Choice own own c.now a.now b.now)) }
+    ensures core { IfOk result (λ t. t.core ≡ core_of context.now.known.now context.now.scope.now (tree.Choice own own c.now a.now b.now)) }
+    ensures first { OnOk result (findings.new.first ≡ first_of findings.old.first (expr_breaches context.now.known.now context.now.scope.now (tree.Choice own own c.now a.now b.now))) }
 {
-    let condition = expression(alloc, known, scope, c, findings)?;
-    let first = expression(alloc, known, scope, a, findings)?;
-    let second = expression(alloc, known, scope, b, findings)?;
+    let (condition, first) = operands(alloc, context, c, a, findings)?;
+    let second = match expression(alloc, context, b, findings) {
+        Ok(second) => second,
+        Err(error) => {
+            drop((condition, first));
+            return Err(error);
+        }
+    };
     findings.note_if(
         is_wrong_choice(condition.sort, first.sort, second.sort),
         Rule::Mismatch,
@@ -313,7 +342,8 @@ pub fn number(
     ensures core { IfOk result (λ t. t.core ≡ core_of known.now scope.now e.now) }
     ensures first { OnOk result (findings.new.first ≡ first_of findings.old.first (number_breaches known.now scope.now e.now)) }
 {
-    let typing = expression(alloc, known, scope, e, findings)?;
+    let context = Context { known, scope };
+    let typing = expression(alloc, &context, e, findings)?;
     findings.note_if(is_truth(typing.sort), Rule::Mismatch, span_of(e));
     Ok(typing)
 }
@@ -355,7 +385,8 @@ pub fn truth_value(
     ensures core { IfOk result (λ c. c ≡ core_of known.now scope.now e.now) }
     ensures first { OnOk result (findings.new.first ≡ first_of findings.old.first (truth_breaches known.now scope.now e.now)) }
 {
-    let typing = expression(alloc, known, scope, e, findings)?;
+    let context = Context { known, scope };
+    let typing = expression(alloc, &context, e, findings)?;
     findings.note_if(is_number(typing.sort), Rule::Mismatch, span_of(e));
     Ok(typing.core)
 }

@@ -1,6 +1,6 @@
 //! Copied fields.
 
-ghost use Rattle.std.specs.Prelude.{◌≡◌, ◌≢◌, IfOk, None, OnErr};
+ghost use Rattle.std.specs.Prelude.{◌≡◌, ◌≤◌, ◌+◌, ◌^◌, IfOk, OnErr, IsSomeAnd};
 ghost use Rattle.td_elab_rules.specs.Breach.{first_of};
 ghost use Rattle.td_elab_rules.specs.Copies.{are_bytes, buffer_breaches, copied_breaches, copy_to, found_copy, copied_core};
 
@@ -41,7 +41,8 @@ fn check_buffer(found: Found, at: Span, findings: &mut Findings)
 
 /// Where the bytes of a field go, to the copy buffer at a place. `AllocError`: its cells are at 2^32 or further.
 fn copy_to(scope: &Scope, at: Span, place: u32) -> Result<Option<CopyOut>, AllocError>
-    ensures { IfOk result (λ c. c ≡ copy_to scope.now at place) }
+    ensures core { IfOk result (λ c. c ≡ copy_to scope.now at place) }
+    ensures full { OnErr result (IsSomeAnd (copy_to scope.now at place) (λ c. 2 ^ 32 ≤ c.cell + 1)) }
 {
     let Some(room) = scope.buffers.as_slice().get(place as usize) else {
         return Ok(None);
@@ -57,7 +58,8 @@ fn copy_to(scope: &Scope, at: Span, place: u32) -> Result<Option<CopyOut>, Alloc
 
 /// Where the bytes of a field go, to the copy buffer that was found. `AllocError`: its cells are at 2^32 or further.
 fn found_copy(scope: &Scope, at: Span, found: Found) -> Result<Option<CopyOut>, AllocError>
-    ensures { IfOk result (λ c. c ≡ found_copy scope.now at found) }
+    ensures core { IfOk result (λ c. c ≡ found_copy scope.now at found) }
+    ensures full { OnErr result (IsSomeAnd (found_copy scope.now at found) (λ c. 2 ^ 32 ≤ c.cell + 1)) }
 {
     match found {
         Found::Local(Local::Buffer(place)) => copy_to(scope, at, place),
@@ -75,8 +77,8 @@ pub fn copy(
     action: &Option<ActionTree>,
     findings: &mut Findings,
 ) -> Result<Option<CopyOut>, AllocError>
-    ensures memory { OnErr result (action.now ≢ None) }
     ensures core { IfOk result (λ c. c ≡ copied_core known.now scope.now bytes action.now) }
+    ensures full { OnErr result (IsSomeAnd (copied_core known.now scope.now bytes action.now) (λ c. 2 ^ 32 ≤ c.cell + 1)) }
     ensures first { findings.new.first ≡ first_of findings.old.first (copied_breaches known.now scope.now bytes action.now) }
 {
     match action {

@@ -8,7 +8,7 @@ ghost use Rattle.td_elab_rules.specs.ExprRules.{test_breaches};
 ghost use Rattle.td_elab_rules.specs.Actions.{action_breaches, action_vars, action_core};
 ghost use Rattle.td_elab_rules.specs.Types.{type_breaches, element_of};
 ghost use Rattle.td_elab_rules.specs.Extents.{extent_breaches, extent_core};
-ghost use Rattle.td_elab_rules.specs.Copies.{copy_breaches, copy_core};
+ghost use Rattle.td_elab_rules.specs.Copies.{copied_breaches, copied_core};
 ghost use Rattle.td_elab_rules.specs.Fields.{readable_of, with_field, field_name_breaches, field_breaches, field_taken, flat_of, fields_breaches, fields_taken, fields_core};
 ghost use Rattle.td_elab_fields.specs.Narrow.{IsNarrow};
 ghost use Rattle.td_elab_fields.specs.Scopes.{fields_scope};
@@ -21,16 +21,18 @@ use std::alloc::{AllocError, Global};
 use td_ast::fields::FieldTree;
 use td_core::actions::Action;
 use td_core::expressions::CoreExpr;
-use td_core::module::{Element, Extent, Field, NameId};
+use td_core::module::{CopyOut, Element, Extent, Field, NameId};
 use td_elab_actions::actions::action;
-use td_elab_actions::scopes::{cut_back, take_field_name};
+use td_elab_actions::scopes::{Bindings, cut_back, take_field_name};
 use td_elab_exprs::expressions::test;
 use td_elab_exprs::findings::Findings;
 use td_elab_rules::fields::{FlatField, Readable};
-use td_elab_rules::known::{Known, Scope, Taken};
+use td_elab_rules::known::Known;
 use td_elab_types::types::element;
 use td_names::names::Names;
 use td_num::items::Items;
+
+// Where a value is let go, each way through its variants is a way through the function. So what has many is let go by a call.
 
 /// The type of a field and how often it stands there; their breaches and that of its name are noted. `AllocError`: out of
 /// memory.
@@ -38,23 +40,22 @@ use td_num::items::Items;
 fn shape(
     alloc: Global,
     known: &Known,
-    scope: &Scope,
-    taken: &Taken,
+    bindings: &Bindings,
     tree: &FieldTree,
     findings: &mut Findings,
 ) -> Result<(Element, Extent), AllocError>
-    ensures element { IfOk result (λ s. s.0 ≡ element_of known.now scope.now tree.now.type_tree) }
-    ensures extent { IfOk result (λ s. s.1 ≡ extent_core known.now scope.now (element_of known.now scope.now tree.now.type_tree) tree.now.extent) }
+    ensures element { IfOk result (λ s. s.0 ≡ element_of known.now bindings.now.scope tree.now.type_tree) }
+    ensures extent { IfOk result (λ s. s.1 ≡ extent_core known.now bindings.now.scope (element_of known.now bindings.now.scope tree.now.type_tree) tree.now.extent) }
     ensures first { OnOk result (findings.new.first ≡ first_of findings.old.first
-        (type_breaches known.now scope.now tree.now.type_tree ++ (field_name_breaches known.now taken.now tree.now
-        ++ extent_breaches known.now scope.now tree.now.type_tree tree.now.extent))) }
+        (type_breaches known.now bindings.now.scope tree.now.type_tree ++ (field_name_breaches known.now bindings.now.taken tree.now
+        ++ extent_breaches known.now bindings.now.scope tree.now.type_tree tree.now.extent))) }
 {
-    let element = element(alloc, known, scope, &tree.type_tree, findings)?;
-    check_name(known, taken, tree, findings);
+    let element = element(alloc, known, &bindings.scope, &tree.type_tree, findings)?;
+    check_name(known, &bindings.taken, tree, findings);
     let extent = extent(
         alloc,
         known,
-        scope,
+        &bindings.scope,
         &tree.type_tree,
         &element,
         &tree.extent,
@@ -68,16 +69,15 @@ fn shape(
 fn bring(
     alloc: Global,
     known: &Known,
-    scope: &mut Scope,
-    taken: &mut Taken,
+    bindings: &mut Bindings,
     tree: &FieldTree,
 ) -> Result<Option<Readable>, AllocError>
-    ensures readable { IfOk result (λ r. r ≡ readable_of known.now scope.old tree.now) }
-    ensures scope { OnOk result (scope.new ≡ with_field known.now scope.old tree.now) }
-    ensures taken { OnOk result (taken.new ≡ with_field_name taken.old tree.now.name.text) }
+    ensures readable { IfOk result (λ r. r ≡ readable_of known.now bindings.old.scope tree.now) }
+    ensures scope { OnOk result (bindings.new.scope ≡ with_field known.now bindings.old.scope tree.now) }
+    ensures taken { OnOk result (bindings.new.taken ≡ with_field_name bindings.old.taken tree.now.name.text) }
 {
-    let readable = add_field(alloc, known, scope, tree)?;
-    take_field_name(alloc, taken, tree.name.text.as_slice())?;
+    let readable = add_field(alloc, known, &mut bindings.scope, tree)?;
+    take_field_name(alloc, &mut bindings.taken, tree.name.text.as_slice())?;
     Ok(readable)
 }
 
@@ -86,21 +86,71 @@ fn bring(
 fn tests(
     alloc: Global,
     known: &Known,
-    scope: &mut Scope,
-    taken: &mut Taken,
+    bindings: &mut Bindings,
     tree: &FieldTree,
     findings: &mut Findings,
 ) -> Result<(Option<CoreExpr>, Option<Action>), AllocError>
-    ensures refinement { IfOk result (λ t. t.0 ≡ option_core known.now scope.old tree.now.refinement) }
-    ensures action { IfOk result (λ t. t.1 ≡ action_core known.now scope.old tree.now.action) }
+    ensures refinement { IfOk result (λ t. t.0 ≡ option_core known.now bindings.old.scope tree.now.refinement) }
+    ensures action { IfOk result (λ t. t.1 ≡ action_core known.now bindings.old.scope tree.now.action) }
     ensures first { OnOk result (findings.new.first ≡ first_of findings.old.first
-        (test_breaches known.now scope.old tree.now.refinement ++ action_breaches known.now taken.old scope.old tree.now.action)) }
-    ensures taken { OnOk result (taken.new ≡ action_vars taken.old tree.now.action) }
-    ensures scope { OnOk result (scope.new ≡ scope.old) }
+        (test_breaches known.now bindings.old.scope tree.now.refinement ++ action_breaches known.now bindings.old.taken bindings.old.scope tree.now.action)) }
+    ensures taken { OnOk result (bindings.new.taken ≡ action_vars bindings.old.taken tree.now.action) }
+    ensures scope { OnOk result (bindings.new.scope ≡ bindings.old.scope) }
 {
-    let refinement = test(alloc, known, scope, &tree.refinement, findings)?;
-    let action = action(alloc, known, scope, taken, &tree.action, findings)?;
-    Ok((refinement, action))
+    let refinement = test(alloc, known, &bindings.scope, &tree.refinement, findings)?;
+    match action(alloc, known, bindings, &tree.action, findings) {
+        Ok(action) => Ok((refinement, action)),
+        Err(error) => {
+            drop(refinement);
+            Err(error)
+        }
+    }
+}
+
+/// What a field says behind its type and its size: the number that it gives, its refinement and its action, and where its bytes
+/// are copied to.
+#[derive(Drop)]
+struct Rest {
+    readable: Option<Readable>,
+    tests: (Option<CoreExpr>, Option<Action>),
+    copy: Option<CopyOut>,
+}
+
+/// What a field says behind its type and its size, where it is a byte-sized array of `UINT8`, or isn't; its breaches are noted. The
+/// field is then in scope. `AllocError`: out of memory.
+#[tactic(auto, using(td_elab_exprs::proofs::Steps::first_append))]
+fn behind(
+    alloc: Global,
+    known: &Known,
+    bindings: &mut Bindings,
+    bytes: bool,
+    tree: &FieldTree,
+    findings: &mut Findings,
+) -> Result<Rest, AllocError>
+    ensures readable { IfOk result (λ b. b.readable ≡ readable_of known.now bindings.old.scope tree.now) }
+    ensures refinement { IfOk result (λ b. b.tests.0 ≡ option_core known.now (with_field known.now bindings.old.scope tree.now) tree.now.refinement) }
+    ensures action { IfOk result (λ b. b.tests.1 ≡ action_core known.now (with_field known.now bindings.old.scope tree.now) tree.now.action) }
+    ensures copy { IfOk result (λ b. b.copy ≡ copied_core known.now (with_field known.now bindings.old.scope tree.now) bytes tree.now.action) }
+    ensures first { OnOk result (findings.new.first ≡ first_of findings.old.first
+        (test_breaches known.now (with_field known.now bindings.old.scope tree.now) tree.now.refinement
+        ++ (action_breaches known.now (with_field_name bindings.old.taken tree.now.name.text) (with_field known.now bindings.old.scope tree.now) tree.now.action
+        ++ copied_breaches known.now (with_field known.now bindings.old.scope tree.now) bytes tree.now.action))) }
+    ensures taken { OnOk result (bindings.new.taken ≡ field_taken bindings.old.taken tree.now) }
+    ensures scope { OnOk result (bindings.new.scope ≡ with_field known.now bindings.old.scope tree.now) }
+{
+    let readable = bring(alloc, known, bindings, tree)?;
+    let tests = tests(alloc, known, bindings, tree, findings)?;
+    match copy(known, &bindings.scope, bytes, &tree.action, findings) {
+        Ok(copy) => Ok(Rest {
+            readable,
+            tests,
+            copy,
+        }),
+        Err(error) => {
+            drop(tests);
+            Err(error)
+        }
+    }
 }
 
 /// A field, which is in scope after it; its breaches are noted. `AllocError`: out of memory.
@@ -109,38 +159,42 @@ fn field(
     alloc: Global,
     names: &Names,
     known: &Known,
-    scope: &mut Scope,
-    taken: &mut Taken,
+    bindings: &mut Bindings,
     tree: &FieldTree,
     findings: &mut Findings,
 ) -> Result<FlatField, AllocError>
     ensures narrow { IfOk result (λ f. IsNarrow f) }
-    ensures core { IfOk result (λ f. f ≡ flat_of names.now known.now scope.old tree.now) }
-    ensures first { OnOk result (findings.new.first ≡ first_of findings.old.first (field_breaches known.now taken.old scope.old tree.now)) }
-    ensures taken { OnOk result (taken.new ≡ field_taken taken.old tree.now) }
-    ensures scope { OnOk result (scope.new ≡ with_field known.now scope.old tree.now) }
+    ensures core { IfOk result (λ f. f ≡ flat_of names.now known.now bindings.old.scope tree.now) }
+    ensures first { OnOk result (findings.new.first ≡ first_of findings.old.first (field_breaches known.now bindings.old.taken bindings.old.scope tree.now)) }
+    ensures taken { OnOk result (bindings.new.taken ≡ field_taken bindings.old.taken tree.now) }
+    ensures scope { OnOk result (bindings.new.scope ≡ with_field known.now bindings.old.scope tree.now) }
 {
-    let shape = shape(alloc, known, scope, taken, tree, findings)?;
-    check_refined(known, scope, tree, findings);
-    let width = bit_width(known, scope, &tree.type_tree, &tree.extent);
-    let bytes = are_bytes(known, scope, &tree.type_tree, &tree.extent);
-    let readable = bring(alloc, known, scope, taken, tree)?;
-    let tests = tests(alloc, known, scope, taken, tree, findings)?;
-    let copy = copy(known, scope, bytes, &tree.action, findings)?;
-    let (element, extent) = shape;
-    let (refinement, action) = tests;
-    Ok(FlatField {
-        element,
-        extent,
-        copy,
-        width,
-        name: NameId {
-            number: names.number(tree.name.text.as_slice()),
-        },
-        refinement: refinement_of(readable, refinement),
-        action,
-        place: tree.name.span,
-    })
+    let shape = shape(alloc, known, bindings, tree, findings)?;
+    check_refined(known, &bindings.scope, tree, findings);
+    let width = bit_width(known, &bindings.scope, &tree.type_tree, &tree.extent);
+    let bytes = are_bytes(known, &bindings.scope, &tree.type_tree, &tree.extent);
+    match behind(alloc, known, bindings, bytes, tree, findings) {
+        Ok(behind) => {
+            let (element, extent) = shape;
+            let (refinement, action) = behind.tests;
+            Ok(FlatField {
+                element,
+                extent,
+                copy: behind.copy,
+                width,
+                name: NameId {
+                    number: names.number(tree.name.text.as_slice()),
+                },
+                refinement: refinement_of(behind.readable, refinement),
+                action,
+                place: tree.name.span,
+            })
+        }
+        Err(error) => {
+            drop(shape);
+            Err(error)
+        }
+    }
 }
 
 /// The fields, which are then in scope. `AllocError`: there is a field, and out of memory.
@@ -148,20 +202,19 @@ fn gathered(
     alloc: Global,
     names: &Names,
     known: &Known,
-    scope: &mut Scope,
-    taken: &mut Taken,
+    bindings: &mut Bindings,
     trees: &[FieldTree],
     findings: &mut Findings,
 ) -> Result<Items<Field>, AllocError>
-    ensures core { IfOk result (λ fs. fs ≡ fields_core names.now known.now scope.old trees.now) }
-    ensures first { OnOk result (findings.new.first ≡ first_of findings.old.first (fields_breaches known.now taken.old scope.old trees.now)) }
-    ensures taken { OnOk result (taken.new ≡ fields_taken taken.old trees.now) }
-    ensures scope { OnOk result (scope.new ≡ fields_scope known.now scope.old trees.now) }
+    ensures core { IfOk result (λ fs. fs ≡ fields_core names.now known.now bindings.old.scope trees.now) }
+    ensures first { OnOk result (findings.new.first ≡ first_of findings.old.first (fields_breaches known.now bindings.old.taken bindings.old.scope trees.now)) }
+    ensures taken { OnOk result (bindings.new.taken ≡ fields_taken bindings.old.taken trees.now) }
+    ensures scope { OnOk result (bindings.new.scope ≡ fields_scope known.now bindings.old.scope trees.now) }
     ensures memory { OnErr result (0 < length trees.now) }
 {
     let mut gathering = Gathering::new(alloc);
     for tree in trees {
-        let flat = field(alloc, names, known, scope, taken, tree, findings)?;
+        let flat = field(alloc, names, known, bindings, tree, findings)?;
         gathering.gather(alloc, flat)?;
     }
     gathering.close()?;
@@ -174,19 +227,18 @@ pub fn fields(
     alloc: Global,
     names: &Names,
     known: &Known,
-    scope: &mut Scope,
-    taken: &mut Taken,
+    bindings: &mut Bindings,
     trees: &[FieldTree],
     findings: &mut Findings,
 ) -> Result<Items<Field>, AllocError>
-    ensures core { IfOk result (λ fs. fs ≡ fields_core names.now known.now scope.old trees.now) }
-    ensures first { OnOk result (findings.new.first ≡ first_of findings.old.first (fields_breaches known.now taken.old scope.old trees.now)) }
-    ensures taken { OnOk result (taken.new ≡ fields_taken taken.old trees.now) }
-    ensures scope { OnOk result (scope.new ≡ scope.old) }
+    ensures core { IfOk result (λ fs. fs ≡ fields_core names.now known.now bindings.old.scope trees.now) }
+    ensures first { OnOk result (findings.new.first ≡ first_of findings.old.first (fields_breaches known.now bindings.old.taken bindings.old.scope trees.now)) }
+    ensures taken { OnOk result (bindings.new.taken ≡ fields_taken bindings.old.taken trees.now) }
+    ensures scope { OnOk result (bindings.new.scope ≡ bindings.old.scope) }
     ensures memory { OnErr result (0 < length trees.now) }
 {
-    let (locals, levels) = (scope.locals.len(), scope.levels);
-    let fields = gathered(alloc, names, known, scope, taken, trees, findings)?;
-    cut_back(scope, locals, levels);
+    let (locals, levels) = (bindings.scope.locals.len(), bindings.scope.levels);
+    let fields = gathered(alloc, names, known, bindings, trees, findings)?;
+    cut_back(&mut bindings.scope, locals, levels);
     Ok(fields)
 }

@@ -1,4 +1,4 @@
--- The words of a message, as C hands them over.
+-- The words of a message, as C hands them over (own rule; `td_words` of capi/td.h).
 use Rattle.std.specs.Prelude.{ℕ, zero, suc, List, [], ◌∷◌, length}
 use mir.Syntax.{named}
 use base.Fml.{Lft, Share, Fml, ftrue, ffalse, feq, fsep, fex, flft}

@@ -1,5 +1,5 @@
 -- Loads as rows that a C program has room for (own rule).
-use Rattle.std.specs.Prelude.{◌≡◌, ℕ, List, length, map, take}
+use Rattle.std.specs.Prelude.{◌≡◌, ℕ, List, ◌++◌, length, map, take, drop}
 use Rattle.td_stream.specs.declared.load.Load.{Load}
 use Rattle.td_stream.specs.declared.stretch.Stretch.{Stretch}
 use Rattle.td_stream.specs.Layouts.{pair_at}
@@ -9,14 +9,14 @@ use Rattle.td_foreign.specs.declared.noted.TdLoad.{TdLoad}
 abbrev pub row_of : List Stretch → Load → TdLoad
 row_of layout l = record { stretch = (pair_at layout l.word).0; word = (pair_at layout l.word).1; value = l.value }
 
--- the rows begin with these loads, as far as there is room for them
-abbrev pub AreRows : List Stretch → List Load → List TdLoad → Type 0
-AreRows layout loads rows = take (length loads) rows ≡ take (length rows) (map (row_of layout) loads)
+-- rows that were so begin with these loads, as far as there is room for them, and are as before behind them
+abbrev pub AreRows : List Stretch → List Load → List TdLoad → List TdLoad → Type 0
+AreRows layout loads was rows = rows ≡ take (length was) (map (row_of layout) loads ++ drop (length loads) was)
 
 -- these loads are counted, and stand in the rows, as far as there is room for them
-pub record IsNoted (layout : List Stretch) (loads : List Load) (count : ℕ) (rows : List TdLoad) : Type 0 where
+pub record IsNoted (layout : List Stretch) (loads : List Load) (was : List TdLoad) (count : ℕ) (rows : List TdLoad) : Type 0 where
   pub counted : count ≡ length loads
-  pub listed : AreRows layout loads rows
+  pub listed : AreRows layout loads was rows
 
 -- the loans of the words and of the rows, the layout, and the words
 abbrev pub Noted : Type 0 → Type 0

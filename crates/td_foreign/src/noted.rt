@@ -16,7 +16,7 @@ pub struct TdLoad {
     pub value: u64,
 }
 
-/// The words of a message that lies so, of which each load is written into rows, as far as there is room.
+/// The words of a message that lies so, of which each load is written into rows, as far as there is room; no other row is touched.
 #[derive(Drop)]
 pub struct NotedWords<'a, W: Words> {
     words: &'a mut W,
@@ -47,7 +47,7 @@ impl<'a, W: Words> NotedWords<'a, W> {
         ensures same_words { result.words.ghost_name ≡ words.entry.ghost_name }
         ensures layout { result.layout.now ≡ layout.now }
         ensures same_rows { result.rows.ghost_name ≡ rows.entry.ghost_name }
-        ensures noted { IsNoted layout.now [] result.count result.rows.now }
+        ensures noted { IsNoted layout.now [] rows.old result.count result.rows.now }
     {
         NotedWords {
             words,
@@ -67,7 +67,8 @@ impl<'a, W: Words> NotedWords<'a, W> {
 }
 
 impl<'a, W: Words> Words for NotedWords<'a, W> {
-    ghost use Rattle.std.proofs.Common.{refl, ◌∙◌};
+    ghost use Rattle.std.proofs.Common.{List, refl, ◌∙◌};
+    ghost use Rattle.td_foreign.specs.declared.noted.TdLoad.{TdLoad};
     ghost use Rattle.td_foreign.specs.Noted.{Noting, IsNoted};
 
     ghost loads = { λ n. W.loads n.words.now };
@@ -78,13 +79,13 @@ impl<'a, W: Words> Words for NotedWords<'a, W> {
     ghost reaches = { λ v w. Noting W.reaches
         (v.words.ghost_name, v.rows.ghost_name, v.layout.now, v.words.now)
         (w.words.ghost_name, w.rows.ghost_name, w.layout.now, w.words.now)
-        × (IsNoted v.layout.now (W.loads v.words.now) v.count v.rows.now → IsNoted w.layout.now (W.loads w.words.now) w.count w.rows.now) };
+        × ((was : List TdLoad) → IsNoted v.layout.now (W.loads v.words.now) was v.count v.rows.now → IsNoted w.layout.now (W.loads w.words.now) was w.count w.rows.now) };
 
-    ghost reaches_itself = { λ w. ((refl, refl, refl, W.reaches_itself w.words.now), λ h. h) };
+    ghost reaches_itself = { λ w. ((refl, refl, refl, W.reaches_itself w.words.now), λ was h. h) };
 
     ghost reaches_on = { λ u v w p q. (
       (q.0.0 ∙ p.0.0, q.0.1 ∙ p.0.1, q.0.2 ∙ p.0.2, W.reaches_on u.words.now v.words.now w.words.now p.0.3 q.0.3),
-      λ h. q.1 (p.1 h),
+      λ was h. q.1 was (p.1 was h),
     ) };
 
     ghost same_size = { λ v w p. W.same_size v.words.now w.words.now p.0.3 };

@@ -1,8 +1,8 @@
 //! Names of the one tree of parts, as they are spelled.
 
-ghost use Rattle.std.specs.Prelude.{◌≡◌, ◌++◌, [], ◌∷◌, map, drop, get_or, IfOk};
-ghost use Rattle.td_num.specs.Numbers.{rising_at};
-ghost use Rattle.td_front_flat.specs.Names.{is_numbered, spelled};
+ghost use Rattle.std.specs.Prelude.{◌≡◌, ◌++◌, [], ◌∷◌, map, get_or, IfOk};
+ghost use Rattle.td_num.specs.declared.text.TheConstants.{DOT};
+ghost use Rattle.td_front_flat.specs.Names.{spelled};
 ghost use Rattle.td_front_flat.specs.Order.{names_of};
 ghost use Rattle.td_front.specs.Inputs.{with_names};
 
@@ -12,9 +12,9 @@ use std::sync::Arc;
 use td_ast::parts::PartTree;
 use td_core::full_name::FullName;
 use td_core::module::Module;
-use td_num::bytes::byte_or_zero;
+use td_front_flat::marks::{is_numbered, number_in, own_name};
 use td_num::items::Items;
-use td_num::text::Text;
+use td_num::text::{DOT, Text};
 
 // A part's name, which the names in the part share. A contract sees the list of its bytes.
 #[derive(Drop)]
@@ -42,7 +42,7 @@ impl PartName {
 
     // A name in the part.
     fn with(&self, alloc: Global, own: &[u8]) -> Result<FullName, AllocError>
-        ensures { IfOk result (λ name. name ≡ self.now ++ 46 ∷ own.now) }
+        ensures { IfOk result (λ name. name ≡ self.now ++ DOT ∷ own.now) }
     {
         let own = Text::copy_of(alloc, own)?;
         let part = Arc::try_clone(&self.text)?;
@@ -61,36 +61,11 @@ fn part_names(alloc: Global, parts: &[PartTree]) -> Result<Items<PartName>, Allo
     Ok(names)
 }
 
-// Whether a name begins with a part's number.
-fn is_numbered(name: &[u8]) -> bool
-    ensures { result ≡ is_numbered name.now }
-{
-    byte_or_zero(name, 0) == b'.'
-}
-
-// The number in the four bytes behind the first.
-fn number_in(name: &[u8]) -> u64
-    ensures { result ≡ rising_at name.now 1 4 }
-{
-    let a = byte_or_zero(name, 1) as u64;
-    let b = byte_or_zero(name, 2) as u64;
-    let c = byte_or_zero(name, 3) as u64;
-    let d = byte_or_zero(name, 4) as u64;
-    256 * (256 * (256 * d + c) + b) + a
-}
-
-// The bytes of a name behind its number.
-fn own_name(name: &[u8]) -> &[u8]
-    ensures { result.now ≡ drop 5 name.now }
-{
-    if name.len() < 5 { &[] } else { &name[5..] }
-}
-
 // A name behind a dot, as that of a part without a name.
 fn dotted(alloc: Global, own: &[u8]) -> Result<FullName, AllocError>
-    ensures { IfOk result (λ name. name ≡ 46 ∷ own.now) }
+    ensures { IfOk result (λ name. name ≡ DOT ∷ own.now) }
 {
-    let mut bytes = Vec::from_slice(alloc, b".")?;
+    let mut bytes = Vec::from_slice(alloc, &[DOT])?;
     bytes.extend_from_slice(own)?;
     Ok(FullName::alone(Text::of(bytes)))
 }
@@ -102,7 +77,7 @@ fn joined(
     number: u64,
     own: &[u8],
 ) -> Result<FullName, AllocError>
-    ensures { IfOk result (λ name. name ≡ get_or names.now number [] ++ 46 ∷ own.now) }
+    ensures { IfOk result (λ name. name ≡ get_or names.now number [] ++ DOT ∷ own.now) }
 {
     match names.get(number as usize) {
         None => dotted(alloc, own),

@@ -1,5 +1,5 @@
 -- What the lists of names, uses and numbers say of the parts. Cited by other crates.
-use Rattle.std.proofs.Common.{◌≡◌, ℕ, zero, suc, ◌<◌, Bool, true, false, cond, ◌||◌, List, [], ◌∷◌, ◌++◌, length, take, drop, map, Option, Some, None, nat_eq, refl, sym, ap, subst, ◌∙◌, arith}
+use Rattle.std.proofs.Common.{◌≡◌, ℕ, zero, suc, ◌<◌, inl, inr, Bool, true, false, cond, ◌||◌, List, [], ◌∷◌, ◌++◌, length, take, drop, map, Option, Some, None, nat_eq, refl, sym, ap, subst, ◌∙◌, arith}
 use Rattle.std.specs.Prelude.{slice_get}
 use Rattle.std.proofs.lemmas.Bool.Decides.{nat_tests}
 use Rattle.std.proofs.lemmas.List.{length-map}
@@ -11,8 +11,11 @@ use Rattle.td_names.specs.Names.{is_seen, number_of}
 use Rattle.td_names.proofs.Naming.{number_below}
 use Rattle.td_front_flat.specs.Uses.{part_uses}
 use Rattle.td_front_order.specs.Order.{used_by, IsWithin}
-use Rattle.td_front_flat.specs.Order.{names_of, numbers_of, graph_of, NoneCyclicIn, NoCycle, IsFirstCyclic, uses_at}
-use Rattle.td_front_flat.specs.Firsts.{IsFirstPlace, listed_at}
+use Rattle.td_front_flat.specs.Order.{names_of, numbers_of, graph_of, NoneCyclicIn, NoCycle, IsFirstCyclic, uses_at, first_twice}
+use Rattle.td_front_flat.specs.Firsts.{IsFirstPlace, IsCycleFault, listed_at}
+use Rattle.td_front_flat.specs.declared.error.FlatError.{FlatError}
+use Rattle.td_ast.specs.declared.parts.InputTree.TheVariants.{Parts}
+use Rattle.td_front_flat.specs.Flat.{IsFault}
 
 graph_by : (names : List (List ℕ)) (parts : List PartTree) → map (numbers_of names) (map part_uses parts) ≡ map (λ p. numbers_of names (part_uses p)) parts
 graph_by names [] = refl
@@ -53,6 +56,15 @@ first_cyclic parts at h =
 pub moved : (n m g h : List (List ℕ)) (a b : List (List Name)) (o p : Option Span) → n ≡ m → g ≡ h → a ≡ b → o ≡ p → IsFirstPlace n g a o → IsFirstPlace m h b p
 moved n m g h a b o p e f k l place =
     subst (λ x. IsFirstPlace m h b x) l (subst (λ x. IsFirstPlace m h x o) k (subst (λ x. IsFirstPlace m x a o) f (subst (λ x. IsFirstPlace x g a o) e place)))
+
+-- an error that comes of the lists is one of the parts, where no name is twice
+pub cycle_fault : (parts : List PartTree) (e : FlatError) → first_twice [] parts ≡ None → IsCycleFault (names_of parts) (graph_of parts) (map part_uses parts) e → IsFault (Parts parts) e
+cycle_fault parts e none (inl h) = subst (λ x. IsFault (Parts parts) x) (sym h) tt
+cycle_fault parts e none (inr (at, is, place)) = subst (λ x. IsFault (Parts parts) x) (sym is) (none, first_cyclic parts at place)
+
+pub moved_fault : (n m g h : List (List ℕ)) (a b : List (List Name)) (e : FlatError) → n ≡ m → g ≡ h → a ≡ b → IsCycleFault n g a e → IsCycleFault m h b e
+moved_fault n m g h a b e x y z (inl none) = inl none
+moved_fault n m g h a b e x y z (inr (at, is, place)) = inr (at, is, moved n m g h a b (Some at) (Some at) x y z refl place)
 
 -- ---- numbers
 

@@ -1,7 +1,9 @@
 -- The first use of a part that reaches the part in which it is used, by the lists of uses.
-use Rattle.std.specs.Prelude.{◌≡◌, ◌<◌, ℕ, List, [], take, Option, Some, None, slice_get}
+use Rattle.std.specs.Prelude.{◌≡◌, ◌<◌, ◌⊎◌, ℕ, List, [], take, Option, Some, None, slice_get}
 use Rattle.td_ast.specs.declared.token.Span.{Span}
 use Rattle.td_ast.specs.declared.names.Name.{Name}
+use Rattle.td_front_flat.specs.declared.error.FlatError.{FlatError}
+use Rattle.td_front_flat.specs.declared.error.FlatError.TheVariants.{Cycle, NoMemory}
 use Rattle.td_front_flat.specs.Order.{IsCyclicIn, NoneCyclicIn}
 
 -- none, or the one at this place and none before it
@@ -30,3 +32,7 @@ pub record IsPlace (names graph : List (List ℕ)) (all : List (List Name)) (at 
 abbrev pub IsFirstPlace : List (List ℕ) → List (List ℕ) → List (List Name) → Option Span → Type 0
 IsFirstPlace names graph all None = (i : ℕ) → NoneCyclicIn names graph i (listed_at all i)
 IsFirstPlace names graph all (Some at) = IsPlace names graph all at
+
+-- out of memory, or the first of all at its place
+abbrev pub IsCycleFault : List (List ℕ) → List (List ℕ) → List (List Name) → FlatError → Type 0
+IsCycleFault names graph all e = (e ≡ NoMemory) ⊎ ((at : Span) × (e ≡ Cycle at) × IsPlace names graph all at)

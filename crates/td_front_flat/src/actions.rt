@@ -1,6 +1,7 @@
 //! Actions as they stand in the whole text.
 
 ghost use Rattle.std.specs.Prelude.{◌≡◌, IfOk, OnOk};
+ghost use Rattle.td_ast.specs.Statements as statements;
 ghost use Rattle.td_front_flat.specs.Expressions as specs;
 
 use crate::expressions::flat_tree;
@@ -10,6 +11,7 @@ use std::alloc::{AllocError, Global};
 use td_ast::actions::{ActionTree, Assigned, Block, Stmt, StmtKind};
 use td_ast::names::Name;
 use td_ast::parameters::{ParamTree, TargetTree};
+use td_ast::token::Span;
 use td_names::names::Names;
 
 fn is_own_record(target: &TargetTree) -> bool
@@ -78,6 +80,65 @@ fn flat_assigned(
     }
 }
 
+/// `*p = rhs;`
+fn flat_store(
+    alloc: Global,
+    own: &Own,
+    scope: &Names,
+    span: Span,
+    p: &Name,
+    rhs: &Assigned,
+) -> Result<Stmt, AllocError>
+    ensures { IfOk result (λ s. s ≡ statements.Store span (specs.used_name own.now scope.now p.now) (specs.flat_assigned own.now scope.now rhs.now)) }
+{
+    let p = used_name(alloc, own, scope, p)?;
+    let rhs = flat_assigned(alloc, own, scope, rhs)?;
+    Ok(Stmt {
+        span,
+        kind: StmtKind::Store(p, rhs),
+    })
+}
+
+/// `p->f = rhs;`, where the slot has its name in the whole text.
+fn flat_store_field(
+    alloc: Global,
+    own: &Own,
+    scope: &Names,
+    span: Span,
+    p: &Name,
+    f: Name,
+    rhs: &Assigned,
+) -> Result<Stmt, AllocError>
+    ensures { IfOk result (λ s. s ≡ statements.StoreField span (specs.used_name own.now scope.now p.now) f (specs.flat_assigned own.now scope.now rhs.now)) }
+{
+    let p = used_name(alloc, own, scope, p)?;
+    let rhs = flat_assigned(alloc, own, scope, rhs)?;
+    Ok(Stmt {
+        span,
+        kind: StmtKind::StoreField(p, f, rhs),
+    })
+}
+
+/// `var x = *p;`
+fn flat_var(
+    alloc: Global,
+    own: &Own,
+    scope: &Names,
+    span: Span,
+    x: &Name,
+    star: Span,
+    p: &Name,
+) -> Result<Stmt, AllocError>
+    ensures { IfOk result (λ s. s ≡ statements.Var span (specs.given_name own.now x.now) star (specs.used_name own.now scope.now p.now)) }
+{
+    let x = given_name(alloc, own, x)?;
+    let p = used_name(alloc, own, scope, p)?;
+    Ok(Stmt {
+        span,
+        kind: StmtKind::Var(x, star, p),
+    })
+}
+
 /// The locals in scope after a statement.
 fn see_var(alloc: Global, scope: &mut Names, statement: &Stmt) -> Result<(), AllocError>
     ensures { OnOk result (scope.new ≡ specs.scope_after scope.old statement.now) }
@@ -88,6 +149,7 @@ fn see_var(alloc: Global, scope: &mut Names, statement: &Stmt) -> Result<(), All
     }
 }
 
+/// A statement. An expression comes last, as each way through its variants, where it is let go, is a way through the function.
 #[cycle(statement)]
 #[tactic(auto, using(crate::proofs::Scopes::block_is))]
 fn flat_statement(
@@ -102,43 +164,24 @@ fn flat_statement(
 {
     let span = statement.span;
     match &statement.kind {
-        StmtKind::Store(p, rhs) => {
-            let p = used_name(alloc, own, scope, p)?;
-            let rhs = flat_assigned(alloc, own, scope, rhs)?;
-            Ok(Stmt {
-                span,
-                kind: StmtKind::Store(p, rhs),
-            })
-        }
+        StmtKind::Store(p, rhs) => flat_store(alloc, own, scope, span, p, rhs),
         StmtKind::StoreField(p, f, rhs) => {
             let f = slot_name(alloc, own, params, p, f)?;
-            let p = used_name(alloc, own, scope, p)?;
-            let rhs = flat_assigned(alloc, own, scope, rhs)?;
-            Ok(Stmt {
-                span,
-                kind: StmtKind::StoreField(p, f, rhs),
-            })
+            flat_store_field(alloc, own, scope, span, p, f, rhs)
         }
-        StmtKind::Var(x, star, p) => {
-            let x = given_name(alloc, own, x)?;
-            let p = used_name(alloc, own, scope, p)?;
-            Ok(Stmt {
-                span,
-                kind: StmtKind::Var(x, *star, p),
-            })
-        }
+        StmtKind::Var(x, star, p) => flat_var(alloc, own, scope, span, x, *star, p),
         StmtKind::If(e, one) => {
-            let e = flat_tree(alloc, own, scope, e)?;
             let one = flat_block(alloc, own, params, scope, one)?;
+            let e = flat_tree(alloc, own, scope, e)?;
             Ok(Stmt {
                 span,
                 kind: StmtKind::If(e, one),
             })
         }
         StmtKind::IfElse(e, one, other) => {
-            let e = flat_tree(alloc, own, scope, e)?;
             let one = flat_block(alloc, own, params, scope, one)?;
             let other = flat_block(alloc, own, params, scope, other)?;
+            let e = flat_tree(alloc, own, scope, e)?;
             Ok(Stmt {
                 span,
                 kind: StmtKind::IfElse(e, one, other),
@@ -191,9 +234,8 @@ fn flat_statements(
 {
     let mut flat = Block::new(alloc);
     for statement in statements {
-        let next = flat_statement(alloc, own, params, scope, statement)?;
+        flat.push(flat_statement(alloc, own, params, scope, statement)?)?;
         see_var(alloc, scope, statement)?;
-        flat.push(next)?;
     }
     Ok(flat)
 }

@@ -81,26 +81,49 @@ fn flat_define(alloc: Global, own: &Own, tree: &DefineTree) -> Result<Def, Alloc
 fn flat_alias(alloc: Global, own: &Own, tree: &AliasTree) -> Result<Def, AllocError>
     ensures { IfOk result (λ d. d ≡ specs.flat_definition own.now (Def.Alias tree.now)) }
 {
+    let name = defined_name(alloc, own, &tree.name)?;
     let nothing = Names::new(alloc);
     let target = flat_plain(alloc, own, &nothing, &tree.target)?;
-    let name = defined_name(alloc, own, &tree.name)?;
     Ok(Def::Alias(AliasTree { target, name }))
+}
+
+// Where a value is let go, each way through its variants is a way through the function. So what has the most comes last, or is let
+// go by a call.
+
+// A struct but for its names.
+#[derive(Drop)]
+struct Inner {
+    head: HeadTree,
+    fields: Items<FieldTree>,
+}
+
+fn struct_inner(alloc: Global, own: &Own, tree: &StructTree) -> Result<Inner, AllocError>
+    ensures head { IfOk result (λ i. i.head ≡ specs.flat_head own.now tree.now.head) }
+    ensures fields { IfOk result (λ i. i.fields ≡ specs.flat_fields own.now tree.now.head.params (specs.head_scope tree.now.head) tree.now.fields) }
+{
+    let mut scope = Names::new(alloc);
+    let head = flat_head(alloc, own, &mut scope, &tree.head)?;
+    let params = tree.head.params.as_slice();
+    match flat_fields(alloc, own, params, &mut scope, tree.fields.as_slice()) {
+        Ok(fields) => Ok(Inner { head, fields }),
+        Err(error) => {
+            drop(head);
+            Err(error)
+        }
+    }
 }
 
 fn flat_struct(alloc: Global, own: &Own, tree: &StructTree) -> Result<Def, AllocError>
     ensures { IfOk result (λ d. d ≡ specs.flat_definition own.now (Def.Struct tree.now)) }
 {
-    let mut scope = Names::new(alloc);
-    let tag = copied_name(alloc, &tree.tag)?;
-    let head = flat_head(alloc, own, &mut scope, &tree.head)?;
-    let params = tree.head.params.as_slice();
-    let fields = flat_fields(alloc, own, params, &mut scope, tree.fields.as_slice())?;
     let name = defined_name(alloc, own, &tree.name)?;
+    let tag = copied_name(alloc, &tree.tag)?;
+    let inner = struct_inner(alloc, own, tree)?;
     Ok(Def::Struct(StructTree {
         entry: tree.entry,
         tag,
-        head,
-        fields,
+        head: inner.head,
+        fields: inner.fields,
         name,
     }))
 }
@@ -115,8 +138,8 @@ fn flat_case(
     ensures flat { IfOk result (λ c. c ≡ specs.flat_case own.now params.now scope.old tree.now) }
     ensures scope { OnOk result (scope.new ≡ scope.old) }
 {
-    let constant = flat_constant(alloc, own, scope, &tree.constant)?;
     let fields = flat_fields(alloc, own, params, scope, tree.fields.as_slice())?;
+    let constant = flat_constant(alloc, own, scope, &tree.constant)?;
     Ok(CaseTree { constant, fields })
 }
 
@@ -184,8 +207,13 @@ fn flat_front(
 {
     let tag = copied_name(alloc, &tree.tag)?;
     let head = flat_head(alloc, own, scope, &tree.head)?;
-    let subject = flat_tree(alloc, own, scope, &tree.subject)?;
-    Ok(Front { tag, head, subject })
+    match flat_tree(alloc, own, scope, &tree.subject) {
+        Ok(subject) => Ok(Front { tag, head, subject }),
+        Err(error) => {
+            drop(head);
+            Err(error)
+        }
+    }
 }
 
 fn all_cases(
@@ -206,19 +234,24 @@ fn all_cases(
 fn flat_casetype(alloc: Global, own: &Own, tree: &CasetypeTree) -> Result<Def, AllocError>
     ensures { IfOk result (λ d. d ≡ specs.flat_definition own.now (Def.Casetype tree.now)) }
 {
+    let name = defined_name(alloc, own, &tree.name)?;
     let mut scope = Names::new(alloc);
     let front = flat_front(alloc, own, &mut scope, tree)?;
-    let body = all_cases(alloc, own, &mut scope, tree)?;
-    let name = defined_name(alloc, own, &tree.name)?;
-    Ok(Def::Casetype(CasetypeTree {
-        entry: tree.entry,
-        tag: front.tag,
-        head: front.head,
-        subject: front.subject,
-        cases: body.cases,
-        default: body.default,
-        name,
-    }))
+    match all_cases(alloc, own, &mut scope, tree) {
+        Ok(body) => Ok(Def::Casetype(CasetypeTree {
+            entry: tree.entry,
+            tag: front.tag,
+            head: front.head,
+            subject: front.subject,
+            cases: body.cases,
+            default: body.default,
+            name,
+        })),
+        Err(error) => {
+            drop(front);
+            Err(error)
+        }
+    }
 }
 
 fn copied_kind(kind: &SlotKind) -> SlotKind

@@ -37,6 +37,39 @@ fn flat_boxed(alloc: Global, own: &Own, scope: &Names, e: &Expr) -> Result<Box<E
     Ok(Box::new(alloc, flat)?)
 }
 
+// Two such boxes.
+#[cycle(expression)]
+fn flat_two(
+    alloc: Global,
+    own: &Own,
+    scope: &Names,
+    a: &Expr,
+    b: &Expr,
+) -> Result<(Box<Expr>, Box<Expr>), AllocError>
+    ensures { IfOk result (λ two. (two.0.value ≡ specs.flat_tree own.now scope.now a.now) × (two.1.value ≡ specs.flat_tree own.now scope.now b.now)) }
+{
+    let a = flat_boxed(alloc, own, scope, a)?;
+    let b = flat_boxed(alloc, own, scope, b)?;
+    Ok((a, b))
+}
+
+// Three such boxes.
+#[cycle(expression)]
+fn flat_three(
+    alloc: Global,
+    own: &Own,
+    scope: &Names,
+    a: &Expr,
+    b: &Expr,
+    c: &Expr,
+) -> Result<(Box<Expr>, Box<Expr>, Box<Expr>), AllocError>
+    ensures { IfOk result (λ three. (three.0.value ≡ specs.flat_tree own.now scope.now a.now) × (three.1.value ≡ specs.flat_tree own.now scope.now b.now) × (three.2.value ≡ specs.flat_tree own.now scope.now c.now)) }
+{
+    let (a, b) = flat_two(alloc, own, scope, a, b)?;
+    let c = flat_boxed(alloc, own, scope, c)?;
+    Ok((a, b, c))
+}
+
 /// An expression as it stands in the whole text, where these locals are in scope. `AllocError`: out of memory.
 #[cycle(expression)]
 pub(crate) fn flat_tree(
@@ -55,26 +88,21 @@ pub(crate) fn flat_tree(
         ExprKind::Sizeof(at, operand, place) => {
             ExprKind::Sizeof(*at, flat_operand(alloc, own, scope, operand)?, *place)
         }
-        ExprKind::RangeOkay(a, b, c) => ExprKind::RangeOkay(
-            flat_boxed(alloc, own, scope, a)?,
-            flat_boxed(alloc, own, scope, b)?,
-            flat_boxed(alloc, own, scope, c)?,
-        ),
+        ExprKind::RangeOkay(a, b, c) => {
+            let (a, b, c) = flat_three(alloc, own, scope, a, b, c)?;
+            ExprKind::RangeOkay(a, b, c)
+        }
         ExprKind::Unary(operator, at, a) => {
             ExprKind::Unary(*operator, *at, flat_boxed(alloc, own, scope, a)?)
         }
-        ExprKind::Binary(operator, at, a, b) => ExprKind::Binary(
-            *operator,
-            *at,
-            flat_boxed(alloc, own, scope, a)?,
-            flat_boxed(alloc, own, scope, b)?,
-        ),
-        ExprKind::Choice(at, a, b, c) => ExprKind::Choice(
-            *at,
-            flat_boxed(alloc, own, scope, a)?,
-            flat_boxed(alloc, own, scope, b)?,
-            flat_boxed(alloc, own, scope, c)?,
-        ),
+        ExprKind::Binary(operator, at, a, b) => {
+            let (a, b) = flat_two(alloc, own, scope, a, b)?;
+            ExprKind::Binary(*operator, *at, a, b)
+        }
+        ExprKind::Choice(at, a, b, c) => {
+            let (a, b, c) = flat_three(alloc, own, scope, a, b, c)?;
+            ExprKind::Choice(*at, a, b, c)
+        }
     };
     Ok(Expr { span: e.span, kind })
 }

@@ -89,6 +89,9 @@ fn flat_extent(
     }
 }
 
+// Where a value is let go, each way through its variants is a way through the function. So what has the most comes last, or is let
+// go by a call.
+
 // What stands up to a field's size, where the field isn't in scope.
 #[derive(Drop)]
 struct Front {
@@ -114,9 +117,9 @@ fn flat_front(
     ensures name { IfOk result (λ f. f.name ≡ expressions.given_name own.now field.now.name) }
     ensures extent { IfOk result (λ f. f.extent ≡ specs.flat_extent own.now scope.now field.now.extent) }
 {
+    let name = given_name(alloc, own, &field.name)?;
     let type_tree = flat_type(alloc, own, scope, &field.type_tree)?;
     let extent = flat_extent(alloc, own, scope, &field.extent)?;
-    let name = given_name(alloc, own, &field.name)?;
     Ok(Front {
         type_tree,
         name,
@@ -131,12 +134,13 @@ fn flat_back(
     scope: &mut Names,
     field: &FieldTree,
 ) -> Result<Back, AllocError>
-    ensures refinement { IfOk result (λ b. b.refinement ≡ expressions.flat_option own.now scope.old field.now.refinement) }
-    ensures action { IfOk result (λ b. b.action ≡ expressions.flat_action own.now params.now scope.old field.now.action) }
-    ensures scope { OnOk result (scope.new ≡ scope.old) }
+    ensures refinement { IfOk result (λ b. b.refinement ≡ expressions.flat_option own.now (specs.with_field scope.old field.now) field.now.refinement) }
+    ensures action { IfOk result (λ b. b.action ≡ expressions.flat_action own.now params.now (specs.with_field scope.old field.now) field.now.action) }
+    ensures scope { OnOk result (scope.new ≡ specs.with_field scope.old field.now) }
 {
-    let refinement = flat_option(alloc, own, scope, &field.refinement)?;
+    scope.see(alloc, field.name.text.as_slice())?;
     let action = flat_action(alloc, own, params, scope, &field.action)?;
+    let refinement = flat_option(alloc, own, scope, &field.refinement)?;
     Ok(Back { refinement, action })
 }
 
@@ -152,15 +156,19 @@ fn flat_field(
     ensures scope { OnOk result (scope.new ≡ specs.with_field scope.old field.now) }
 {
     let front = flat_front(alloc, own, scope, field)?;
-    scope.see(alloc, field.name.text.as_slice())?;
-    let back = flat_back(alloc, own, params, scope, field)?;
-    Ok(FieldTree {
-        type_tree: front.type_tree,
-        name: front.name,
-        extent: front.extent,
-        refinement: back.refinement,
-        action: back.action,
-    })
+    match flat_back(alloc, own, params, scope, field) {
+        Ok(back) => Ok(FieldTree {
+            type_tree: front.type_tree,
+            name: front.name,
+            extent: front.extent,
+            refinement: back.refinement,
+            action: back.action,
+        }),
+        Err(error) => {
+            drop(front);
+            Err(error)
+        }
+    }
 }
 
 // Fields, and then they are in scope.

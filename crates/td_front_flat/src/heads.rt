@@ -75,18 +75,18 @@ fn flat_param(
 {
     match param {
         ParamTree::Value(plain, name) => {
-            let plain = flat_plain(alloc, own, scope, plain)?;
             let name = given_name(alloc, own, name)?;
+            let plain = flat_plain(alloc, own, scope, plain)?;
             Ok(ParamTree::Value(plain, name))
         }
         ParamTree::Mutable(target, name) => {
-            let target = flat_target(alloc, own, scope, target)?;
             let name = given_name(alloc, own, name)?;
+            let target = flat_target(alloc, own, scope, target)?;
             Ok(ParamTree::Mutable(target, name))
         }
         ParamTree::Bytes { name, room } => {
-            let room = flat_constant(alloc, own, scope, room)?;
             let name = given_name(alloc, own, name)?;
+            let room = flat_constant(alloc, own, scope, room)?;
             Ok(ParamTree::Bytes { name, room })
         }
     }

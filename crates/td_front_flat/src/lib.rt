@@ -13,6 +13,7 @@ pub mod flatten;
 mod graph;
 mod heads;
 pub mod laws;
+pub mod marks;
 mod names;
 pub mod own;
 mod parts;

@@ -1,23 +1,22 @@
 //! Names as they stand in the whole text.
 
 ghost use Rattle.std.specs.Prelude.{◌≡◌, ◌≤◌, [], ◌∷◌, None, Some, IfOk, MatchOption, length, take};
-ghost use Rattle.td_num.specs.Numbers.{byte_of};
 ghost use Rattle.td_names.specs.Names.{number_of};
 ghost use Rattle.td_front_flat.specs.Names as names;
 ghost use Rattle.td_front_flat.specs.Expressions as specs;
 ghost use Rattle.td_front_flat.specs.Definitions as definitions;
 
+use crate::marks::part_mark;
 use crate::own::Own;
 use std::alloc::{AllocError, Global};
 use td_ast::names::Name;
 use td_names::names::Names;
-use td_num::bytes::byte_of;
-use td_num::text::Text;
+use td_num::text::{DOT, Text};
 
 fn is_plain(b: u8) -> bool
     ensures { result ≡ names.is_plain b }
 {
-    b != b'.'
+    b != DOT
 }
 
 /// How many bytes stand before the first dot.
@@ -42,7 +41,7 @@ pub(crate) fn part_named(name: &[u8]) -> Option<&[u8]>
 pub(crate) fn is_qualified(name: &[u8]) -> bool
     ensures { result ≡ names.is_qualified name.now }
 {
-    name.contains(&b'.')
+    name.contains(&DOT)
 }
 
 /// The bytes of a name after its first dot.
@@ -55,20 +54,6 @@ fn after_dot(name: &[u8]) -> &[u8]
     } else {
         &[]
     }
-}
-
-// A dot, and a part's number in four bytes.
-fn part_mark(part: u32) -> [u8; 5]
-    ensures { result ≡ 46 ∷ byte_of part 0 ∷ byte_of part 1 ∷ byte_of part 2 ∷ byte_of part 3 ∷ [] }
-{
-    let k = part as u64;
-    [
-        b'.',
-        byte_of(k, 0),
-        byte_of(k, 1),
-        byte_of(k, 2),
-        byte_of(k, 3),
-    ]
 }
 
 /// The name that a definition of the part with this number has in the one tree.

@@ -55,6 +55,29 @@ fn add_operand(
     }
 }
 
+#[cycle(tree)]
+fn add_two(alloc: Global, uses: &mut Items<Name>, a: &Expr, b: &Expr) -> Result<(), AllocError>
+    ensures { OnOk result (uses.new ≡ uses.old ++ (specs.tree_uses a.now ++ specs.tree_uses b.now)) }
+{
+    add_tree(alloc, uses, a)?;
+    add_tree(alloc, uses, b)
+}
+
+#[cycle(tree)]
+fn add_three(
+    alloc: Global,
+    uses: &mut Items<Name>,
+    a: &Expr,
+    b: &Expr,
+    c: &Expr,
+) -> Result<(), AllocError>
+    ensures { OnOk result (uses.new ≡ uses.old ++ (specs.tree_uses a.now ++ (specs.tree_uses b.now ++ specs.tree_uses c.now))) }
+{
+    add_two(alloc, uses, a, b)?;
+    add_tree(alloc, uses, c)
+}
+
+#[cycle(tree)]
 fn add_tree(alloc: Global, uses: &mut Items<Name>, e: &Expr) -> Result<(), AllocError>
     ensures { OnOk result (uses.new ≡ uses.old ++ specs.tree_uses e.now) }
 {
@@ -64,21 +87,10 @@ fn add_tree(alloc: Global, uses: &mut Items<Name>, e: &Expr) -> Result<(), Alloc
         ExprKind::Name(name) => add_name(alloc, uses, name),
         ExprKind::FieldPos(_) => Ok(()),
         ExprKind::Sizeof(_, operand, place) => add_operand(alloc, uses, operand, *place),
-        ExprKind::RangeOkay(a, b, c) => {
-            add_tree(alloc, uses, a)?;
-            add_tree(alloc, uses, b)?;
-            add_tree(alloc, uses, c)
-        }
+        ExprKind::RangeOkay(a, b, c) => add_three(alloc, uses, a, b, c),
         ExprKind::Unary(_, _, a) => add_tree(alloc, uses, a),
-        ExprKind::Binary(_, _, a, b) => {
-            add_tree(alloc, uses, a)?;
-            add_tree(alloc, uses, b)
-        }
-        ExprKind::Choice(_, a, b, c) => {
-            add_tree(alloc, uses, a)?;
-            add_tree(alloc, uses, b)?;
-            add_tree(alloc, uses, c)
-        }
+        ExprKind::Binary(_, _, a, b) => add_two(alloc, uses, a, b),
+        ExprKind::Choice(_, a, b, c) => add_three(alloc, uses, a, b, c),
     }
 }
 

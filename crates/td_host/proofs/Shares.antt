@@ -27,11 +27,11 @@ others_own : {A : Type 0} (log : List (Entry A)) (h : Head A) (p : Part A) → A
 unfolding owned
 others_own log h p t none whole = subst (λ l. IsPermutation (all_entries log) (l ++ owned h.ended)) none (all_owned log h p t whole)
 
--- where as many were taken as were posted, what was taken is what was posted
+-- where as many were taken as were posted, what was taken is what was posted, and nothing is left
 pub all_taken : (v : RingView) (items : List Post) (posts takes : Head Post) (p t : Part Post) → Settled v items
     → v.put_head ≡ Some posts → v.put ≡ Some p → v.take_head ≡ Some takes → v.take ≡ Some t → p.own ≡ [] → t.own ≡ []
     → length posts.ended + 1 ≡ posts.made → length takes.ended + 1 ≡ takes.made → length (owned posts.ended) ≤ length (owned takes.ended)
-    → IsPermutation (owned takes.ended) (owned posts.ended)
+    → IsPermutation (owned takes.ended) (owned posts.ended) × Settled v []
 all_taken v items posts takes p t s a b c d none none' whole whole' many =
     let x = others_own s.posted posts p (s.puts posts p a b) none whole in
     let y = others_own s.taken takes t (s.takes takes t c d) none' whole' in
@@ -40,9 +40,10 @@ all_taken v items posts takes p t s a b c d none none' whole whole' many =
     let k : length (all_entries s.posted) ≡ length (all_entries s.taken) + length items = ap length s.queue ∙ length-append (all_entries s.taken) items in
     let z : items ≡ [] = nil_from_length items (omega arith) in
     let same : all_entries s.posted ≡ all_entries s.taken = s.queue ∙ (ap (λ i. all_entries s.taken ++ i) z ∙ append-nil (all_entries s.taken)) in
-    IsPermutation-trans (owned takes.ended) (all_entries s.taken) (owned posts.ended)
+    let each = IsPermutation-trans (owned takes.ended) (all_entries s.taken) (owned posts.ended)
     (IsPermutation-sym (all_entries s.taken) (owned takes.ended) y)
-    (subst (λ q. IsPermutation q (owned posts.ended)) same x)
+    (subst (λ q. IsPermutation q (owned posts.ended)) same x) in
+    (each, subst (Settled v) z s)
 
 -- ---- the tickets
 pub drawn_all : (v : TicketView) (log : List (Entry ℕ)) (h : Head ℕ) (p : Part ℕ) → Drawn v log → v.head ≡ Some h → v.draws ≡ Some p → p.own ≡ [] → length h.ended + 1 ≡ h.made

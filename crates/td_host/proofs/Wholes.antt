@@ -224,10 +224,10 @@ module _ {G : Type 0} where
       labels : map label (owned (put_parts h.guests)) ≡ map mail_label (all_mails 1 job.guests)
       labels = labels_all 1 0 job.guests (put_parts h.guests) h.stored_by.posted
 
-      -- what was taken is what was posted
+      -- what was taken is what was posted, and nothing is left
       pub taken : (v : RingView) (items : List Post) → v ≡ with_takes (puts_all posts.view news) (takes_all takes.view news) → Settled v items
           → (w : TicketView) (log : List (Entry ℕ)) → w ≡ draws_all drawer.view news → Drawn w log → mails ≡ all_mails 1 job.guests → length mails < 2 ^ 64
-          → IsPermutation (owned (take_parts h.workers)) (owned (put_parts h.guests))
+          → IsPermutation (owned (take_parts h.workers)) (owned (put_parts h.guests)) × Settled v []
       taken v items v_is settled w log w_is drawn is few =
           let r = v_is ∙ ring_is in
           let t = w_is ∙ tickets_are in
@@ -266,11 +266,11 @@ module _ {G : Type 0} where
           a ∙ (b ∙ (sym c ∙ ap (sum_by f) d))
 
       pub served : (m : Module) → All (IsDescribedBy m) olds → IsPermutation (owned (take_parts h.workers)) (owned (put_parts h.guests)) → mails ≡ all_mails 1 job.guests
-          → (v : RingView) → v ≡ with_takes (puts_all posts.view news) (takes_all takes.view news)
+          → (v : RingView) → v ≡ with_takes (puts_all posts.view news) (takes_all takes.view news) → Settled v []
           → (k : HostView) → k ≡ seats_all seat.view news → (length k.ended ≡ k.made → Fetched k) → (log : List HistoryEntry) → Told k log
           → (replies : List Reply) → map reply_name replies ≡ map (λ (m : Mail). m.name) mails → IsPermutation (all_replies news) replies
           → (made : List Take) → made ≡ takes_of_all news → Served m job replies made k v
-      served m described perm is v v_is k k_is fetched log told replies named order made made_is =
+      served m described perm is v v_is settled k k_is fetched log told replies named order made made_is =
           let r = v_is ∙ ring_is in
           let e = k_is ∙ seats_are_both in
           let order' = subst (λ l. IsPermutation l replies) replies_left order in
@@ -318,6 +318,7 @@ module _ {G : Type 0} where
               posted = h.stored_by.posted;
               as_many = h.worked.as_many_takes ∙ h.as_many;
               taken = perm;
+              settled = settled;
             };
             answered = h.worked.of_takes;
             takes_are = record { shares = h.taken_by.shares; are = h.taken_by.are m (h.described m described); takes_are = made_is ∙ (takings_last ∙ h.taken_by.made) };
@@ -348,14 +349,14 @@ module _ {G : Type 0} where
           }
 
       pub served_versions : (m : Module) → All (IsDescribedBy m) olds → (perm : IsPermutation (owned (take_parts h.workers)) (owned (put_parts h.guests))) → mails ≡ all_mails 1 job.guests
-          → (v : RingView) → v ≡ with_takes (puts_all posts.view news) (takes_all takes.view news)
+          → (v : RingView) → v ≡ with_takes (puts_all posts.view news) (takes_all takes.view news) → Settled v []
           → (k : HostView) → k ≡ seats_all seat.view news → (length k.ended ≡ k.made → Fetched k) → (log : List HistoryEntry) → Told k log
           → (replies : List Reply) → map reply_name replies ≡ map (λ (m : Mail). m.name) mails → IsPermutation (all_replies news) replies
           → (count : ℕ) → count ≡ length job.formats → (w : SwapView) → w ≡ swaps_all (new_view count) news → AreVersions w
           → (q : PublisherView) → q ≡ publisher_view count (count - 1) → (made : List Take) → made ≡ takes_of_all news → ServedVersions m job replies made k v w q
       unfolding served
-      served_versions m described perm is v v_is k k_is fetched log told replies named order count counted w w_is runs q q_is made made_is = record {
-        served = served m described perm is v v_is k k_is fetched log told replies named order made made_is;
+      served_versions m described perm is v v_is settled k k_is fetched log told replies named order count counted w w_is runs q q_is made made_is = record {
+        served = served m described perm is v v_is settled k k_is fetched log told replies named order made made_is;
         versioned = versioned count counted w w_is runs q q_is replies order;
       }
 

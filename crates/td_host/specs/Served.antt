@@ -11,6 +11,7 @@ use Rattle.td_ring.specs.declared.roll.Head.{Head}
 use Rattle.td_ring.specs.Roll.{part_of, owned}
 use Rattle.td_ring.specs.declared.post.Post.{Post}
 use Rattle.td_ring.specs.declared.view.RingView.{RingView}
+use Rattle.td_ring.specs.Ring.{Settled}
 use Rattle.td_posts.specs.declared.job.Step.{Step}
 use Rattle.td_posts.specs.declared.mail.Mail.{Mail}
 use Rattle.td_posts.specs.declared.reply.Reply.{Reply}
@@ -96,7 +97,8 @@ ArePosted g n (s ∷ ss) (p ∷ ps) = (n ≤ p.number) × (map label p.own ≡ m
 
 -- what the ring's two first passes know, the one that posts and the one that takes: they posted and took nothing themselves,
 -- they gathered each pass that was made, one that posts for each script and one that takes for each worker, and what was
--- taken is what was posted, each once
+-- taken is what was posted, each once; posts and takes stand in one list, each pass's in its own order, so what was posted first was
+-- taken first
 pub record PassesServed (job : HostJob) (passes : RingView) : Type 0 where
   pub posts : Head Post
   pub takes : Head Post
@@ -109,6 +111,7 @@ pub record PassesServed (job : HostJob) (passes : RingView) : Type 0 where
   pub posted : ArePosted 1 0 job.guests posts.ended
   pub as_many : length takes.ended ≡ job.workers
   pub taken : IsPermutation (owned takes.ended) (owned posts.ended)
+  pub settled : Settled passes []
 
 -- the replies of each share are to the posts that one of these passes took, in turn
 unfoldable pub AnswerTakes : List (Part Post) → List (List Reply) → Type 0

@@ -14,10 +14,9 @@ use Rattle.td_vm.specs.Frames.{FrameView, IsArmed}
 use Rattle.td_swap.specs.declared.version.Version.{Version}
 use Rattle.td_swap.specs.Versions.{version_code}
 use Rattle.td_posts.specs.declared.job.HostJob.{HostJob}
-use Rattle.td_posts.specs.Posts.{layout_of, zeros, version_in, outcome_in}
-use Rattle.td_fetch.specs.Outcomes.{IsMeant}
+use Rattle.td_posts.specs.Posts.{version_in}
 use Rattle.td_takes.specs.Codes.{IsCodeAt, IsMessageCode}
-use Rattle.td_host_actors.specs.Replies.{IsJobCode, JobCode, OneVersion}
+use Rattle.td_host_actors.specs.Replies.{IsJobCode, JobCode, IsReplyUnder, OneVersion}
 use Rattle.td_host_actors.specs.Acting.{most_frames, AreArmed}
 
 -- no code needs more frames than there are at most
@@ -78,12 +77,5 @@ one_version job format entry m r one begins h =
     let f = at_one format h.format (version_in r) (ap (λ l. slice_get l (version_in r)) (sym one) ∙ h.version.0) in
     let g = at_one entry h.entry (version_in r) (ap (λ l. slice_get l (version_in r)) (sym begins) ∙ h.version.1) in (
       f.0,
-      record {
-        name = h.name;
-        layout = h.layout;
-        rising = h.rising;
-        inside = h.inside;
-        meant = λ b bytes carries.
-            subst (λ (x : Module × Entry). IsMeant (layout_of m) x.0 x.1 job.args (zeros job.cells) b r.loads.list (outcome_in r)) (λ i. (sym f.1 i, sym g.1 i)) (h.meant b bytes carries);
-      },
+      subst (λ (x : Module × Entry). IsReplyUnder job x.0 x.1 m r) (λ i. (sym f.1 i, sym g.1 i)) h.under,
     )

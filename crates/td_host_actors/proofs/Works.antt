@@ -23,7 +23,8 @@ use Rattle.td_swap.specs.Views.{swap_view, new_view}
 use Rattle.td_swap.specs.Seats.{SwapState, swap_state, then_loaded}
 use Rattle.td_live.specs.Live.{steps_for, HasLoaded}
 use Rattle.td_host_actors.specs.Replies.{pieces, placed, layout_in, layout_or}
-use Rattle.td_host_actors.specs.Acting.{Answered, read_seat, take_pass, ticket_seat, RanWorker}
+use Rattle.td_takes.specs.Memory.{KeepsMemory}
+use Rattle.td_host_actors.specs.Acting.{HasMemory, Answered, read_seat, take_pass, ticket_seat, RanWorker}
 
 loads-append : (xs ys : List Access) → loads (xs ++ ys) ≡ loads xs ++ loads ys
 loads-append [] ys = refl
@@ -52,6 +53,10 @@ pieces-push mails (s ∷ rs) r = ap (λ l. placed (layout_in mails s) s.loads.li
 
 pub layout_is : (mails : List Mail) (name : PostName) (m : Mail) (r : Reply) → reply_name r ≡ name → mail_named name mails ≡ Some m → layout_in mails r ≡ layout_of m
 layout_is mails name m r e f = ap layout_or (ap (λ n. mail_named n mails) e ∙ f)
+
+-- a reply in the memory of a room has memory for what the room has
+pub in_room : (frames cells : ℕ) (rooms : List ℕ) (room r : Reply) → KeepsMemory room r → HasMemory frames cells rooms room → HasMemory frames cells rooms r
+in_room frames cells rooms room r k m = record { trace_room = k.trace ∙ m.trace_room; cell_room = k.cells ∙ m.cell_room; buffer_room = k.buffers ∙ m.buffer_room; copy_rooms = k.rooms ∙ m.copy_rooms }
 
 pub record RunningWorker (job : HostJob) (count : ℕ) (seat0 seat : SeatState) (pass0 pass : PassState) (drawer0 drawer : DrawerState) (swap0 swap : SwapState) (replies : List Reply) : Type 0 where
   pub steps : List Access

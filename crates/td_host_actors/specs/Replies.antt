@@ -2,20 +2,17 @@
 use Rattle.std.specs.Prelude.{◌≡◌, ℕ, List, [], ◌∷◌, ◌++◌, length, Option, Some, None, slice_get}
 use Rattle.td_core.specs.declared.module.Module.{Module}
 use Rattle.td_core.specs.declared.module.Entry.{Entry}
-use Rattle.td_num.specs.Lists.{AreBytes}
 use Rattle.td_stream.specs.declared.load.Load.{Load}
 use Rattle.td_stream.specs.declared.stretch.Stretch.{Stretch}
 use Rattle.td_stream.specs.Layouts.{buffer_word}
-use Rattle.td_stream.specs.Loads.{IsRising, Inside, Carries}
 use Rattle.td_posts.specs.declared.name.PostName.{PostName}
-use Rattle.td_fetch.specs.Outcomes.{IsMeant}
 use Rattle.td_ir.specs.declared.tables.Parts.{Parts}
 use Rattle.td_ring.specs.declared.post.Post.{Post}
 use Rattle.td_posts.specs.declared.mail.Mail.{Mail}
 use Rattle.td_posts.specs.declared.reply.Reply.{Reply}
 use Rattle.td_posts.specs.declared.job.HostJob.{HostJob}
-use Rattle.td_takes.specs.Codes.{VersionCode}
-use Rattle.td_posts.specs.Posts.{IsVersion, list_of, layout_of, mail_named, zeros, reply_name, version_in, outcome_in}
+use Rattle.td_takes.specs.Codes.{VersionCode, IsMeantUnder}
+use Rattle.td_posts.specs.Posts.{IsVersion, list_of, layout_of, mail_named, reply_name, version_in, outcome_in}
 
 -- there are as many codes as versions, each with a module and an entry point, and the job can be done by each under its version
 pub record JobCode (cs : List Parts) (job : HostJob) : Type 0 where
@@ -26,26 +23,19 @@ pub record JobCode (cs : List Parts) (job : HostJob) : Type 0 where
 unfoldable pub IsJobCode : List Parts → HostJob → Type 0
 IsJobCode cs job = JobCode cs job
 
--- the reply to a post: it has the post's list of stretches, its words rise and lie in the message, and its outcome is the meaning of
--- its version's module, from cells of zeros, on every list of bytes that carries its loads, which are of exactly the words that this
--- meaning reads
-pub record IsReplyTo (job : HostJob) (m : Mail) (r : Reply) : Type 0 where
-  pub name : reply_name r ≡ m.name
-  pub layout : r.layout ≡ list_of m
-  pub format : Module
-  pub entry : Entry
-  pub version : IsVersion job (version_in r) format entry
-  pub rising : IsRising r.loads.list
-  pub inside : Inside (layout_of m) r.loads.list
-  pub meant : (b : List ℕ) → AreBytes b → Carries (layout_of m) b r.loads.list → IsMeant (layout_of m) format entry job.args (zeros job.cells) b r.loads.list (outcome_in r)
-
--- the same under a version that is known: of this module and this entry point
+-- the reply to a post under a version that is known, of this module and this entry point: it has the post's list of stretches, and its
+-- message was validated under that version
 pub record IsReplyUnder (job : HostJob) (format : Module) (entry : Entry) (m : Mail) (r : Reply) : Type 0 where
   pub name : reply_name r ≡ m.name
   pub layout : r.layout ≡ list_of m
-  pub rising : IsRising r.loads.list
-  pub inside : Inside (layout_of m) r.loads.list
-  pub meant : (b : List ℕ) → AreBytes b → Carries (layout_of m) b r.loads.list → IsMeant (layout_of m) format entry job.args (zeros job.cells) b r.loads.list (outcome_in r)
+  pub fetched : IsMeantUnder job format entry (layout_of m) r.loads.list (outcome_in r)
+
+-- the reply to a post, under the version that it names
+pub record IsReplyTo (job : HostJob) (m : Mail) (r : Reply) : Type 0 where
+  pub format : Module
+  pub entry : Entry
+  pub version : IsVersion job (version_in r) format entry
+  pub under : IsReplyUnder job format entry m r
 
 -- the replies of a job of one version are those under this version, whose number is 0
 abbrev pub OneVersion : Type 0

@@ -11,19 +11,18 @@ ghost use Rattle.td_live.specs.Live.{HasLoaded};
 ghost use Rattle.td_vm.specs.Frames.{IsArmed};
 ghost use Rattle.td_swap.specs.Seats.{IsOwn, then_loaded};
 ghost use Rattle.td_takes.specs.Codes.{IsCodeAt};
+ghost use Rattle.td_takes.specs.Memory.{KeepsMemory};
 ghost use Rattle.td_host_actors.specs.Replies.{IsJobCode, layout_in};
-ghost use Rattle.td_host_actors.specs.Acting.{AreArmed, Fits, HasMemory, IsInRoom, most_frames, Answered, RanWorker};
+ghost use Rattle.td_host_actors.specs.Acting.{AreArmed, Fits, IsInRoom, most_frames, Answered, RanWorker};
 
 use crate::actor::{Desk, Worker};
 use std::sync::Wait;
 use std::thread;
 use td_core::module::Entry;
-use td_core::outcome::TraceFrame;
 use td_live::gate::Gate;
 use td_live::message::LiveMessage;
 use td_live::slot::validate_slot;
 use td_posts::copies::keep_copies;
-use td_posts::job::HostJob;
 use td_posts::laws::each_mail_is_named;
 use td_posts::mail::{Mail, mail_of};
 use td_posts::reply::Reply;
@@ -33,9 +32,9 @@ use td_ring::post::Post;
 use td_ring::ring::Ring;
 use td_stream::laws::message_is_short;
 use td_stream::layout::Layout;
-use td_swap::codes::Codes;
 use td_swap::seats::SwapSeat;
 use td_swap::version::Version;
+use td_takes::keep;
 use td_vm::laws::fitting_cells_have_room;
 use td_vm::validate::Frame;
 use td_words::seats::ReadSeat;
@@ -54,22 +53,6 @@ fn take<J: Naming, R: Wait>(rt: &R, ring: &Ring<J>, pass: &mut TakePass) -> Post
         thread::yield_now();
     }
     unreachable!()
-}
-
-/// Puts what the last validation left in a frame into room that was taken for it, of which no list is let grow.
-fn keep(frame: &Frame, trace: &mut Vec<TraceFrame>, cells: &mut [u64])
-    requires empty { trace.old.items ≡ [] }
-    requires room { frame.now.trace_room ≤ vec_capacity trace.old }
-    requires cells { length cells.old ≡ length frame.now.cells }
-    ensures trace { trace.new.items ≡ frame.now.trace }
-    ensures cells { cells.new ≡ frame.now.cells }
-    ensures memory { vec_capacity trace.new ≡ vec_capacity trace.old }
-{
-    cells.copy_from_slice(frame.cells());
-    let lines = frame.trace();
-    for line in lines {
-        trace.push_reserved(*line);
-    }
 }
 
 /// How the message of a post lies that has no list of stretches. Takes no memory.
@@ -98,30 +81,28 @@ fn list_or<'a>(list: &'a Option<Layout>, otherwise: &'a Layout) -> &'a Layout
 /// Answers a post under a version of this entry point by a validation from the worker's own seat, in the worker's frame for it and
 /// the post's room. It takes no memory, and no list of the room is let grow (that of loads can't: it only takes what it has room
 /// for).
-fn answer<G: Gate>(
+fn answer<J: Naming, G: Gate>(
     version: &Version,
     entry: Entry,
-    job: &HostJob,
-    mails: &[Mail],
-    shared: &Shared,
+    desk: &Desk<J>,
     seat: &mut ReadSeat,
     frame: &mut Frame,
     post: Post,
     gate: &mut G,
 ) -> Reply
-    requires own { seat.old.table ≡ shared.now.table }
-    requires mails { mails.now ≡ all_mails 1 job.now.guests }
-    requires inside { All (λ m. AreWithin shared.now.count (layout_of m)) mails.now }
-    requires code { IsCodeAt version.now.code job.now version.now.number entry }
+    requires own { seat.old.table ≡ desk.now.shared.table }
+    requires mails { desk.now.mails.items ≡ all_mails 1 desk.now.job.guests }
+    requires inside { All (λ m. AreWithin desk.now.shared.count (layout_of m)) desk.now.mails.items }
+    requires code { IsCodeAt version.now.code desk.now.job version.now.number entry }
     requires armed { IsArmed version.now.code frame.old }
-    requires fits { (frames : ℕ) × (frame.old.trace_room ≤ frames) × Fits frames job.now post }
+    requires fits { (frames : ℕ) × (frame.old.trace_room ≤ frames) × Fits frames desk.now.job post }
     ensures table { seat.new.table ≡ seat.old.table }
     ensures armed { IsArmed version.now.code frame.new }
     ensures name { reply_name result ≡ post.name }
     ensures version { result.version ≡ version.now.number }
-    ensures answered { Answered job.now result }
-    ensures read { HasLoaded (layout_in mails.now result) seat.old seat.new result.loads.list }
-    ensures memory { (frames : ℕ) → HasMemory frames job.now.cells job.now.rooms post.room → HasMemory frames job.now.cells job.now.rooms result }
+    ensures answered { Answered desk.now.job result }
+    ensures read { HasLoaded (layout_in desk.now.mails.items result) seat.old seat.new result.loads.list }
+    ensures memory { KeepsMemory post.room result }
 {
     each_mail_is_named();
     fitting_cells_have_room();
@@ -141,19 +122,20 @@ fn answer<G: Gate>(
         mut copies,
         mut loads,
     } = room;
+    let mails = desk.mails.as_slice();
     let Some(mail) = mail_of(mails, name) else {
         unreachable!()
     };
-    let single = at_word(shared, mail);
+    let single = at_word(&desk.shared, mail);
     let laid = list_or(&layout, &single);
     message_is_short(laid);
     frame.set_cells(cells.as_slice());
     let message = LiveMessage {
-        shared,
+        shared: &desk.shared,
         layout: laid,
         name,
     };
-    let args = job.args.as_slice();
+    let args = desk.job.args.as_slice();
     let verdict = validate_slot(
         &version.code,
         entry,
@@ -181,45 +163,32 @@ fn answer<G: Gate>(
 
 /// Looks once which version is published, and answers a post under it. It takes no memory, and no list of the post's room is let
 /// grow.
-fn answer_now<G: Gate>(
-    codes: &Codes,
-    job: &HostJob,
-    mails: &[Mail],
-    shared: &Shared,
+fn answer_now<J: Naming, G: Gate>(
+    desk: &Desk<J>,
     seat: &mut ReadSeat,
     swap: &mut SwapSeat,
     frames: &mut [Frame],
     post: Post,
     gate: &mut G,
 ) -> Reply
-    requires own { (seat.old.table ≡ shared.now.table) × IsOwn codes.now swap.old }
-    requires mails { mails.now ≡ all_mails 1 job.now.guests }
-    requires inside { All (λ m. AreWithin shared.now.count (layout_of m)) mails.now }
-    requires code { IsJobCode codes.now.codes job.now }
-    requires armed { AreArmed codes.now.codes frames.old }
-    requires fits { Fits (most_frames codes.now.codes) job.now post }
+    requires own { (seat.old.table ≡ desk.now.shared.table) × IsOwn desk.now.codes swap.old }
+    requires mails { desk.now.mails.items ≡ all_mails 1 desk.now.job.guests }
+    requires inside { All (λ m. AreWithin desk.now.shared.count (layout_of m)) desk.now.mails.items }
+    requires code { IsJobCode desk.now.codes.codes desk.now.job }
+    requires armed { AreArmed desk.now.codes.codes frames.old }
+    requires fits { Fits (most_frames desk.now.codes.codes) desk.now.job post }
     ensures table { seat.new.table ≡ seat.old.table }
-    ensures armed { AreArmed codes.now.codes frames.new }
+    ensures armed { AreArmed desk.now.codes.codes frames.new }
     ensures swap { swap.new ≡ then_loaded swap.old result.version }
     ensures name { reply_name result ≡ post.name }
-    ensures answered { Answered job.now result }
-    ensures read { HasLoaded (layout_in mails.now result) seat.old seat.new result.loads.list }
-    ensures memory { (frames : ℕ) → HasMemory frames job.now.cells job.now.rooms post.room → HasMemory frames job.now.cells job.now.rooms result }
+    ensures answered { Answered desk.now.job result }
+    ensures read { HasLoaded (layout_in desk.now.mails.items result) seat.old seat.new result.loads.list }
+    ensures memory { KeepsMemory post.room result }
 {
-    let version = codes.current(swap);
+    let version = desk.codes.current(swap);
     let number = version.number as usize;
-    let entry = job.entries.as_slice()[number];
-    answer(
-        version,
-        entry,
-        job,
-        mails,
-        shared,
-        seat,
-        &mut frames[number],
-        post,
-        gate,
-    )
+    let entry = desk.job.entries.as_slice()[number];
+    answer(version, entry, desk, seat, &mut frames[number], post, gate)
 }
 
 /// Draws tickets, and for each that is below the count of posts takes a post and answers it; the first that isn't ends it, and
@@ -236,6 +205,7 @@ pub fn run_worker<J: Naming, R: Wait, G: Gate>(rt: &R, desk: &Desk<J>, worker: &
     requires room { length desk.now.mails.items ≤ vec_capacity worker.old.replies }
     ensures ran { RanWorker desk.now.job (length desk.now.mails.items) worker.old.seat worker.new.seat worker.old.pass worker.new.pass worker.old.drawer worker.new.drawer worker.old.swap worker.new.swap worker.new.replies.items }
     ensures memory { All (IsInRoom desk.now.codes.codes desk.now.job) worker.new.replies.items }
+    ensures armed { AreArmed desk.now.codes.codes worker.new.frames.items }
 {
     let Worker {
         seat,
@@ -255,17 +225,7 @@ pub fn run_worker<J: Naming, R: Wait, G: Gate>(rt: &R, desk: &Desk<J>, worker: &
         }
         let post = take(rt, &desk.ring, pass);
         let name = post.name;
-        let reply = answer_now(
-            &desk.codes,
-            &desk.job,
-            mails,
-            &desk.shared,
-            seat,
-            swap,
-            frames,
-            post,
-            gate,
-        );
+        let reply = answer_now(desk, seat, swap, frames, post, gate);
         replies.push_reserved(reply);
         gate.after_reply(name);
     }

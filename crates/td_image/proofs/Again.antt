@@ -27,7 +27,7 @@ use Rattle.td_image.specs.declared.routines.Room.{Room}
 use Rattle.td_image.specs.Format.{Format, all_fit}
 use Rattle.td_names.specs.Names.{is_seen, with_name}
 use Rattle.td_image.specs.Names.{is_name, are_two_names}
-use Rattle.td_image.specs.Instructions.{fields_of}
+use Rattle.td_ir.specs.Fields.{fields_of}
 use Rattle.td_image.specs.Image as format
 use Rattle.td_image.specs.Within.{HasSmallOperands}
 use Rattle.td_image.specs.Answer.{written, code_of, code_in}

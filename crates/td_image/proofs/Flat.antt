@@ -8,7 +8,7 @@ use Rattle.td_image.specs.declared.limits.TheConstants.{MAGIC, VERSION, MOST_NUM
 use Rattle.td_names.specs.Names.{with_name}
 use Rattle.td_image.specs.declared.version.ImageVersion.TheVariants.{Third}
 use Rattle.td_image.specs.Answer.{written}
-use Rattle.td_image.specs.declared.operands.Fields.{Fields}
+use Rattle.td_ir.specs.declared.fields.Fields.{Fields}
 use Rattle.td_ir.specs.declared.tables.Site.{Site}
 use Rattle.td_ir.specs.declared.tables.Routine.{Routine}
 use Rattle.td_core.specs.declared.module.NameId.{NameId}

@@ -2,8 +2,10 @@
 use Rattle.std.proofs.Common.{◌≡◌, ℕ, zero, suc, ◌≤◌, Bool, cond, refl, arith}
 use Rattle.td_ir.specs.declared.instructions.Instr.{Instr}
 use Rattle.td_ir.specs.declared.instructions.Instr.TheVariants as i
-use Rattle.td_image.specs.declared.operands.Fields.{Fields}
-use Rattle.td_image.specs.Instructions.{has_x, has_a, has_b, has_c, has_t, has_site, has_k, instruction_by, instruction_of, fields_of}
+use Rattle.td_ir.specs.declared.fields.Fields.{Fields}
+use Rattle.td_ir.specs.declared.opcodes.OperandField.TheVariants as field
+use Rattle.td_ir.specs.Opcodes.{has}
+use Rattle.td_ir.specs.Fields.{instruction_by, instruction_of, fields_of}
 
 pub given_back : (i : Instr) → instruction_of (fields_of i) ≡ i
 given_back (i.Const into value) = refl
@@ -40,7 +42,7 @@ keep used n = cond used n 0
 -- without what the kind hasn't
 abbrev pub kept : ℕ → Fields → Fields
 kept n f =
-    record { number = n; x = keep (has_x n) f.x; a = keep (has_a n) f.a; b = keep (has_b n) f.b; c = keep (has_c n) f.c; t = keep (has_t n) f.t; site = keep (has_site n) f.site; k = keep (has_k n) f.k }
+    record { number = n; x = keep (has n field.X) f.x; a = keep (has n field.A) f.a; b = keep (has n field.B) f.b; c = keep (has n field.C) f.c; t = keep (has n field.T) f.t; site = keep (has n field.Site) f.site; k = keep (has n field.K) f.k }
 
 pub kept_by : (number : ℕ) (f : Fields) → number ≤ 26 → fields_of (instruction_by number f) ≡ kept number f
 kept_by zero f le = refl

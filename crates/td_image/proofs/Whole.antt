@@ -18,9 +18,11 @@ use Rattle.td_image.specs.declared.version.ImageVersion.{ImageVersion}
 use Rattle.td_image.specs.declared.version.ImageVersion.TheVariants.{First, Second, Third}
 use Rattle.td_image.specs.Versions.{number_of, is_version, version_of, most_rows, most_numbers, most_instructions, most_mapped, last_kind, has_owners, has_buffers}
 use Rattle.td_image.specs.declared.routines.Room.{Room}
-use Rattle.td_image.specs.declared.operands.Fields.{Fields}
+use Rattle.td_ir.specs.declared.fields.Fields.{Fields}
 use Rattle.td_image.specs.Format.{Format, number, text, allowed, ◌then◌, times}
-use Rattle.td_image.specs.Instructions.{has_x, has_a, has_b, has_c, has_t, has_site, has_k, instruction_of, fields_of}
+use Rattle.td_ir.specs.declared.opcodes.OperandField.TheVariants as field
+use Rattle.td_ir.specs.Opcodes.{has}
+use Rattle.td_ir.specs.Fields.{instruction_of, fields_of}
 use Rattle.td_image.specs.Names.{is_image_name}
 use Rattle.td_image.specs.Image.{constant, up_to, place, counted, version, count, site_routine, header, name, names, name_place, site, map_format, rises, element, elements, set, sets, is_length, after_routine, buffer_room, rooms, buffers, routine, routines, is_width, bits_of, width_of, width, param, field_of, field_number, cell_field, kind_of, kind_bits, cell_kind, cell, routine_of, entry, operand, fields, instruction, counts_of, image}
 use Rattle.td_image.proofs.Exact.{IsExact, IsWide, wide8, wide16, wide32, wide64, number_exact, since_exact, text_exact, allowed_exact, then_exact, made_exact, within_exact, each_exact}
@@ -174,9 +176,9 @@ operand_exact w wide used = choice_exact w wide (λ n. used || (n == 0))
 pub fields_exact : (v : ImageVersion) → IsExact (fields v)
 unfolding fields
 fields_exact v =
-    made_exact _ _ _ (then_exact _ _ (choice_exact w8 wide8 (λ n. nat_le n (last_kind v))) (λ n. then_exact _ _ (operand_exact w8 wide8 (has_x n)) (λ x. then_exact _ _ (operand_exact w16 wide16 (has_a n)) (λ a.
-    then_exact _ _ (operand_exact w16 wide16 (has_b n)) (λ b. then_exact _ _ (operand_exact w16 wide16 (has_c n)) (λ c. then_exact _ _ (operand_exact w32 wide32 (has_t n)) (λ t.
-    then_exact _ _ (operand_exact w32 wide32 (has_site n)) (λ site. operand_exact w64 wide64 (has_k n)))))))))
+    made_exact _ _ _ (then_exact _ _ (choice_exact w8 wide8 (λ n. nat_le n (last_kind v))) (λ n. then_exact _ _ (operand_exact w8 wide8 (has n field.X)) (λ x. then_exact _ _ (operand_exact w16 wide16 (has n field.A)) (λ a.
+    then_exact _ _ (operand_exact w16 wide16 (has n field.B)) (λ b. then_exact _ _ (operand_exact w16 wide16 (has n field.C)) (λ c. then_exact _ _ (operand_exact w32 wide32 (has n field.T)) (λ t.
+    then_exact _ _ (operand_exact w32 wide32 (has n field.Site)) (λ site. operand_exact w64 wide64 (has n field.K)))))))))
     (λ a fits. refl) (λ b. refl)
 
 keeps : (used : Bool) (n : ℕ) → (used || (n == 0)) ≡ true → keep used n ≡ n
@@ -194,7 +196,7 @@ unfolding fields
 fields_back v f (number, (x, (a, (b, (c, (t, (s, k))))))) =
     let n = f.number in
     kept_by n f (no_greater v n (leb-true _ _ number.1))
-    ∙ rw (keeps (has_x n) f.x x.1, keeps (has_a n) f.a a.1, keeps (has_b n) f.b b.1, keeps (has_c n) f.c c.1, keeps (has_t n) f.t t.1, keeps (has_site n) f.site s.1, keeps (has_k n) f.k k.1) refl
+    ∙ rw (keeps (has n field.X) f.x x.1, keeps (has n field.A) f.a a.1, keeps (has n field.B) f.b b.1, keeps (has n field.C) f.c c.1, keeps (has n field.T) f.t t.1, keeps (has n field.Site) f.site s.1, keeps (has n field.K) f.k k.1) refl
 
 pub instruction_exact : (v : ImageVersion) → IsExact (instruction v)
 instruction_exact v = made_exact instruction_of fields_of (fields v) (fields_exact v) (fields_back v) given_back

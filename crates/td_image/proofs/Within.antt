@@ -9,7 +9,7 @@ use Rattle.std.proofs.lemmas.List.Folds.{list_any-append}
 use Rattle.std.proofs.lemmas.Slice.Eq.{bytes_eq-Decides}
 use Rattle.td_num.specs.declared.number.Width.{Width}
 use Rattle.td_num.specs.declared.number.Width.TheVariants.{One, Two, Four, Eight}
-use Rattle.td_num.specs.Lists.{Each}
+use Rattle.td_num.specs.Lists.{Each, AreApart}
 use Rattle.td_core.specs.declared.module.NameId.{NameId}
 use Rattle.td_core.specs.declared.module.Param.{Param}
 use Rattle.td_core.specs.declared.module.Cell.{Cell}
@@ -26,14 +26,16 @@ use Rattle.td_ir.specs.Tables.{site_of, entry_of, param_of, cell_of, buffer_of}
 use Rattle.td_ir.specs.WellFormed.{IsName, IsField, IsSite, IsRoutine, IsCellNamed, IsEntry, Rises, IsCode}
 use Rattle.td_image.specs.declared.routines.Room.{Room}
 use Rattle.td_image.specs.declared.limits.TheConstants.{MOST_ROWS, MOST_INSTRUCTIONS, MOST_CELLS, MOST_BUFFERS, MOST_ROOM, MOST_MAPPED, MOST_NUMBERS, MOST_PARAMETERS, MOST_REGISTERS, NO_FIELD}
-use Rattle.td_image.specs.declared.operands.Fields.{Fields}
+use Rattle.td_ir.specs.declared.fields.Fields.{Fields}
 use Rattle.td_image.specs.Format.{Format, number, all_fit}
-use Rattle.td_image.specs.Instructions.{has_x, has_a, has_b, has_c, has_t, has_site, has_k, fields_of}
+use Rattle.td_ir.specs.declared.opcodes.OperandField.TheVariants as field
+use Rattle.td_ir.specs.Opcodes.{has}
+use Rattle.td_ir.specs.Fields.{fields_of}
 use Rattle.td_image.specs.Names.{is_image_name}
 use Rattle.td_image.specs.declared.version.ImageVersion.TheVariants.{Third}
 use Rattle.td_image.specs.Answer.{written}
 use Rattle.td_image.specs.Image as format
-use Rattle.td_image.specs.Within.{IsSpelled, AreApart, IsSmallMap, total, IsRoom, IsSmallRoutine, HasSmallOperands, IsWithinFormat}
+use Rattle.td_image.specs.Within.{IsSpelled, IsSmallMap, total, IsRoom, IsSmallRoutine, HasSmallOperands, IsWithinFormat}
 use Rattle.td_image.proofs.Fitting.{sum_of, begin_whole}
 use Rattle.td_num.proofs.Truths.{or_right, or_left, false_by}
 use Rattle.td_num.proofs.Lists.{each_by as each_at, each_map}
@@ -226,8 +228,8 @@ IsUsed used n = (used || (n == 0)) ≡ true
 
 abbrev AreUsed : Fields → Type 0
 AreUsed f =
-    IsUsed (has_x f.number) f.x × IsUsed (has_a f.number) f.a × IsUsed (has_b f.number) f.b × IsUsed (has_c f.number) f.c × IsUsed (has_t f.number) f.t × IsUsed (has_site f.number) f.site
-    × IsUsed (has_k f.number) f.k
+    IsUsed (has f.number field.X) f.x × IsUsed (has f.number field.A) f.a × IsUsed (has f.number field.B) f.b × IsUsed (has f.number field.C) f.c × IsUsed (has f.number field.T) f.t × IsUsed (has f.number field.Site) f.site
+    × IsUsed (has f.number field.K) f.k
 
 unused : (j : Instr) → AreUsed (fields_of j)
 unused (i.Const into value) = (refl, refl, refl, refl, refl, refl, refl)

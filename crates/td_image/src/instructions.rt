@@ -8,10 +8,11 @@ ghost use Rattle.td_image.specs.Reading.{Reads, IsDecided, RanOutOnlyIf};
 
 use crate::fault::{Cause, ReadError};
 use crate::fields::{u8_at, u16_at, u32_at, u64_at, wrong};
-use crate::operands::{Fields, has_a, has_b, has_c, has_k, has_site, has_t, has_x, instruction_of};
 use crate::version::{ImageVersion, last_kind};
 use std::alloc::Global;
+use td_ir::fields::{Fields, instruction_of};
 use td_ir::instructions::Instr;
+use td_ir::opcodes::{OperandField, has};
 use td_num::items::Items;
 
 fn kind_at(version: ImageVersion, bytes: &[u8]) -> Result<(u8, &[u8]), ReadError>
@@ -81,13 +82,13 @@ fn fields_at(version: ImageVersion, bytes: &[u8]) -> Result<(Fields, &[u8]), Rea
     ensures decided { IsDecided result }
 {
     let (number, rest) = kind_at(version, bytes)?;
-    let (x, rest) = u8_operand(has_x(number), rest)?;
-    let (a, rest) = u16_operand(has_a(number), rest)?;
-    let (b, rest) = u16_operand(has_b(number), rest)?;
-    let (c, rest) = u16_operand(has_c(number), rest)?;
-    let (t, rest) = u32_operand(has_t(number), rest)?;
-    let (site, rest) = u32_operand(has_site(number), rest)?;
-    let (k, rest) = u64_operand(has_k(number), rest)?;
+    let (x, rest) = u8_operand(has(number, OperandField::X), rest)?;
+    let (a, rest) = u16_operand(has(number, OperandField::A), rest)?;
+    let (b, rest) = u16_operand(has(number, OperandField::B), rest)?;
+    let (c, rest) = u16_operand(has(number, OperandField::C), rest)?;
+    let (t, rest) = u32_operand(has(number, OperandField::T), rest)?;
+    let (site, rest) = u32_operand(has(number, OperandField::Site), rest)?;
+    let (k, rest) = u64_operand(has(number, OperandField::K), rest)?;
     let fields = Fields {
         number,
         x,

@@ -10,7 +10,7 @@ use Rattle.td_ir.specs.WellFormed.{IsCode}
 use Rattle.td_verify.specs.Operands.{HasRegisters, HasTables, HasOperands, IsWidth, callee_params}
 use Rattle.td_verify.specs.Verify.{IsIn, IsSound}
 use Rattle.td_verify.specs.declared.rule.Rule.TheVariants as rules
-use Rattle.td_image.specs.Instructions.{fields_of}
+use Rattle.td_ir.specs.Fields.{fields_of}
 use Rattle.td_image.specs.declared.limits.TheConstants.{MOST_ROWS}
 use Rattle.td_image.specs.Within.{IsSmallRoutine, HasSmallOperands}
 use Rattle.td_image_fits.proofs.Blocks.{IsRoomy}

@@ -11,7 +11,8 @@ use Rattle.td_ir.specs.declared.tables.Parts.{Parts}
 use Rattle.td_ir.specs.declared.tables.EntryPoint.{EntryPoint}
 use Rattle.td_ir.specs.Tables.{entry_of}
 use Rattle.td_ir.specs.WellFormed.{IsSite, IsEntry}
-use Rattle.td_image_upgrade.specs.Turning.{named, with_used, used_in, used_by, routine_code, own_site, own_sites, sites_below, turned}
+use Rattle.td_ir.specs.Fields.{named}
+use Rattle.td_image_upgrade.specs.Turning.{with_used, used_in, used_by, routine_code, own_site, own_sites, sites_below, turned}
 use Rattle.td_image_upgrade.specs.Laws.{IsOldCode, TurnedIsCode}
 use Rattle.td_image_upgrade.proofs.Sites.{code_long}
 use Rattle.td_num.proofs.Lists.{each_append, each_index}

@@ -4,7 +4,8 @@ use Rattle.std.proofs.Common.{◌≡◌, ℕ, ◌≤◌, Bool, true, false, List
 use Rattle.std.specs.Prelude.{nat_eq}
 use Rattle.std.specs.List.{position_or_len}
 use Rattle.td_ir.specs.declared.instructions.Instr.{Instr}
-use Rattle.td_image_upgrade.specs.Turning.{named, with_used, used_in}
+use Rattle.td_ir.specs.Fields.{named}
+use Rattle.td_image_upgrade.specs.Turning.{with_used, used_in}
 
 pub used_more : (old : ℕ) (used : List ℕ) (js : List Instr) (j : Instr) → used_in old used (js ++ j ∷ []) ≡ with_used old (used_in old used js) (named j)
 used_more old used [] j = refl

@@ -16,7 +16,8 @@ use Rattle.td_ir.specs.declared.tables.Parts.{Parts}
 use Rattle.td_ir.specs.Tables.{routine_of, site_of, lengths_of, begin, first_of, end_of, no_routine}
 use Rattle.td_ir.proofs.Begins.{begin_next, begin_up}
 use Rattle.td_image_upgrade.specs.declared.turning.TheConstants.{NO_SITE}
-use Rattle.td_image_upgrade.specs.Turning.{named, renumbered, with_used, used_in, routine_code, used_by, own_site, own_sites, sites_below, number_in, own_code, code_below, turned}
+use Rattle.td_ir.specs.Fields.{named}
+use Rattle.td_image_upgrade.specs.Turning.{renumbered, with_used, used_in, routine_code, used_by, own_site, own_sites, sites_below, number_in, own_code, code_below, turned}
 use Rattle.td_image_upgrade.specs.Laws.{IsDivided}
 use Rattle.td_num.proofs.Equals.{equal_itself as same_number}
 

@@ -7,24 +7,9 @@ use Rattle.td_ir.specs.declared.instructions.Instr.{Instr}
 use Rattle.td_ir.specs.declared.instructions.Instr.TheVariants as i
 use Rattle.td_ir.specs.declared.tables.Site.{Site}
 use Rattle.td_ir.specs.declared.tables.Parts.{Parts}
+use Rattle.td_ir.specs.Fields.{named}
 use Rattle.td_ir.specs.Tables.{site_of, first_of, end_of}
 use Rattle.td_image_upgrade.specs.declared.turning.TheConstants.{NO_SITE}
-
--- the site that an instruction names
-abbrev pub named : Instr → Option ℕ
-named (i.Call first routine map site) = Some site
-named (i.Fetch into order width site) = Some site
-named (i.SkipK bytes site) = Some site
-named (i.Skip size site) = Some site
-named (i.Zeros site) = Some site
-named (i.Zeroterm bound width site) = Some site
-named (i.NarrowK bytes site) = Some site
-named (i.Narrow size site) = Some site
-named (i.Divides size step site) = Some site
-named (i.Widen site) = Some site
-named (i.Fail reason site) = Some site
-named (i.Copy size buffer site) = Some site
-named j = None
 
 -- an instruction whose site has another number
 abbrev pub renumbered : (ℕ → ℕ) → Instr → Instr

@@ -3,40 +3,20 @@
 ghost use Rattle.std.specs.Prelude.{◌≡◌, suc, ◌++◌, ◌+◌, ◌<◌, ◌≤◌, List, [], length, map, slice_range, OnOk, IfOk};
 ghost use Rattle.td_ir.specs.Tables.{site_of, routine_of, begin, lengths_of};
 ghost use Rattle.td_image_upgrade.specs.Turning as turning;
-ghost use Rattle.td_image_upgrade.specs.Turning.{named, with_used, used_in, used_by, own_site, sites_below, number_in, new_number, own_code, code_below, turned};
+ghost use Rattle.td_image_upgrade.specs.Turning.{with_used, used_in, used_by, own_site, sites_below, number_in, new_number, own_code, code_below, turned};
 ghost use Rattle.td_image_upgrade.specs.Laws.{IsDivided};
 ghost use Rattle.td_image_upgrade.specs.declared.turning.TheConstants.{NO_SITE};
 ghost use Rattle.td_ir.specs.declared.tables.Site.{Site};
 
 use crate::used::Used;
 use std::alloc::{AllocError, Global};
+use td_ir::fields::named;
 use td_ir::instructions::Instr;
 use td_ir::tables::{Parts, Site};
 use td_num::items::Items;
 
 /// The number of a site that no table has.
 pub const NO_SITE: u32 = 4_294_967_295;
-
-// The site that an instruction names.
-fn named(instruction: Instr) -> Option<u32>
-    ensures { result ≡ named instruction }
-{
-    match instruction {
-        Instr::Call { site, .. } => Some(site),
-        Instr::Fetch { site, .. } => Some(site),
-        Instr::SkipK { site, .. } => Some(site),
-        Instr::Skip { site, .. } => Some(site),
-        Instr::Zeros { site } => Some(site),
-        Instr::Zeroterm { site, .. } => Some(site),
-        Instr::NarrowK { site, .. } => Some(site),
-        Instr::Narrow { site, .. } => Some(site),
-        Instr::Divides { site, .. } => Some(site),
-        Instr::Widen { site } => Some(site),
-        Instr::Fail { site, .. } => Some(site),
-        Instr::Copy { site, .. } => Some(site),
-        _ => None,
-    }
-}
 
 // The instruction with another site.
 fn with_site(instruction: Instr, site: u32) -> Instr

@@ -1,5 +1,7 @@
 pub mod Tables
 pub mod WellFormed
+pub mod Opcodes
+pub mod Fields
 pub mod Listing
 pub mod Entries
 pub mod State

@@ -1,5 +1,5 @@
 -- What code does on a message that stays (own rule; docs/language/code.md). It is a recursion on the code and not a machine: a routine is a function from its state to its exit, a call is that function, and a loop is its turns.
-use Rattle.std.specs.Prelude.{ℕ, zero, suc, ◌+◌, ◌-◌, Bool, cond, List, [], ◌∷◌, ◌++◌, length, map, replicate, slice_index, slice_index_or, slice_range, nat_eq, nat_lt, codes}
+use Rattle.std.specs.Prelude.{ℕ, zero, suc, ◌+◌, ◌-◌, cond, List, [], ◌∷◌, ◌++◌, length, map, replicate, slice_index, slice_index_or, slice_range, nat_eq, nat_lt, codes}
 use Rattle.std.specs.Str.{bytes_eq}
 use Rattle.td_num.specs.Numbers.{places_from}
 use Rattle.td_core.specs.declared.module.NameId.{NameId}

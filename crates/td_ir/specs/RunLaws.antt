@@ -5,7 +5,7 @@ use Rattle.td_ir.specs.declared.instructions.Instr.{Instr}
 use Rattle.td_ir.specs.declared.tables.Parts.{Parts}
 use Rattle.td_ir.specs.Tables.{routine_of, cells_by, first_of, end_of}
 use Rattle.td_ir.specs.State.{State, left, registers_from, Returned, Turned, Failed, Exit, at_once, after}
-use Rattle.td_ir.specs.Flow.{Flow, Goes, Fails, Calls, Returns, Loops, Turns, Effect, effect}
+use Rattle.td_ir.specs.Flow.{Flow, Goes, Fails, Calls, Returns, Loops, Turns, effect}
 use Rattle.td_ir.specs.Run.{frame, back, turns, places_by, entered, block}
 
 -- instruction pc of code, in routine n, has an effect

@@ -4,11 +4,14 @@
 #![tactic(auto)]
 
 pub mod code;
+pub mod constants;
 pub mod entries;
+pub mod fields;
 mod fitting;
 pub mod instructions;
 pub mod laws;
 pub mod listing;
+pub mod opcodes;
 pub mod tables;
 
 pub use code::{BadTable, Code};

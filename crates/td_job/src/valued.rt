@@ -79,9 +79,11 @@ fn fault_at(places: Items<usize>, rule: WriteRule) -> JobError
     JobRule::Written.at(Path::Written(ValueFault { places, rule }))
 }
 
-/// The cause of an error of writing. J8: the bytes are too many. J10: the value is refused.
+/// The cause of an error of writing. J8: the bytes are too many. J10: the value is refused. `NoMemory` exactly where it was that. Takes
+/// no memory.
 fn fault_of(error: WriteError) -> JobError
-    ensures { (w : Written) → IsRefusal w error → (result ≡ JobError.NoMemory) ⊎ IsFirst (write_faults w) result }
+    ensures refused { (w : Written) → IsRefusal w error → (result ≡ JobError.NoMemory) ⊎ IsFirst (write_faults w) result }
+    ensures memory { result ≡ JobError.NoMemory → error ≡ WriteError.NoMemory }
 {
     match error {
         WriteError::Shape { path } => fault_at(path, WriteRule::Shape),

@@ -1,6 +1,6 @@
 //! Posts of messages that are lists of stretches.
 
-ghost use Rattle.std.specs.Prelude.{◌≡◌, ◌≢◌, ◌-◌, ◌^◌, ◌||◌, [], ◌∷◌, ◌⊎◌, min, nat_lt, length, Err, OnOk, IfOk, IfErr};
+ghost use Rattle.std.specs.Prelude.{◌≡◌, ◌≢◌, ◌-◌, ◌^◌, ◌≤◌, ◌||◌, [], ◌∷◌, ◌⊎◌, min, nat_lt, length, Err, OnOk, OnErr, IfOk, IfErr};
 ghost use Rattle.serde_json.specs.View.{view, items_view};
 ghost use Rattle.td_job.specs.Fields.{IsFirst};
 ghost use Rattle.td_stream.specs.Layouts.{words_in, length_in};
@@ -125,6 +125,7 @@ pub(crate) fn check_scatter(values: &[Value], place: Path, words: u32) -> Result
 fn small(number: u64) -> Result<u32, JobError>
     ensures ok { IfOk result (λ n. n ≡ number) }
     ensures err { IfErr result (λ e. e ≡ JobError.NoMemory) }
+    ensures full { OnErr result (2 ^ 32 ≤ number) }
 {
     if number > u64::from(u32::MAX) {
         return Err(JobError::NoMemory);

@@ -6,8 +6,8 @@ use Rattle.td_core.specs.declared.expressions.Binary.{Binary}
 use Rattle.td_core.specs.declared.expressions.Binary.TheVariants.{Plus, Minus, Times, Over, Modulo, BitAnd, BitOr, BitXor, ShiftLeft, ShiftRight}
 use Rattle.td_core.specs.declared.expressions.Relation.{Relation}
 use Rattle.td_core.specs.declared.expressions.Relation.TheVariants.{Equal, NotEqual, Less, LessEqual, Greater, GreaterEqual}
-use Rattle.td_lower_blocks.specs.Block.{Block, Done, Then, code}
-use Rattle.td_lower_blocks.specs.Constructs.{Inner, inner, Steps, steps}
+use Rattle.td_lower_blocks.specs.Block.{Block, Done, Then, Guard, code}
+use Rattle.td_lower_blocks.specs.Constructs.{Expr, value, Inner, inner, Steps, steps}
 
 -- code so far, and a block laid out behind it; the block leaves to x
 unfoldable pub laid : List Instr → ℕ → Block → List Instr
@@ -52,6 +52,13 @@ operator_number BitXor = 7
 operator_number ShiftLeft = 8
 operator_number ShiftRight = 9
 
+-- an operator on registers t and t + 1, and one on register t and a number
+abbrev pub operation_then : (operator t : ℕ) → Block → Block
+operation_then operator t k = Then (i.Op t operator t (t + 1)) k
+
+abbrev pub by_number_then : (operator number t : ℕ) → Block → Block
+by_number_then operator number t k = Then (i.Const (t + 1) number) (operation_then operator t k)
+
 -- what is shifted to the left keeps the bits of its type
 abbrev pub masked_then : Binary → (mask t : ℕ) → Block → Block
 masked_then ShiftLeft mask t k = Then (i.Const (t + 1) mask) (Then (i.Op t 5 t (t + 1)) k)
@@ -81,3 +88,7 @@ is_turned GreaterEqual = true
 -- whether so many bytes from an offset on lie in a size, these in registers t + 2, t + 1 and t
 abbrev pub range_then : ℕ → Block → Block
 range_then t k = Then (i.Op (t + 3) 13 (t + 2) t) (Then (i.Op t 1 t (t + 2)) (Then (i.Op t 13 (t + 1) t) (Then (i.Op t 5 t (t + 3)) k)))
+
+-- the first side of `&&` (false) or `||` (true), and the second only where the first is that it counts
+abbrev pub both_then : Bool → ℕ → (a b : Expr) → Block → Block
+both_then when t a b k = value t a (Guard when t (value t b Done) k)

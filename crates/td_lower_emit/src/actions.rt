@@ -13,6 +13,7 @@ use crate::writer::Writer;
 use std::alloc::AllocError;
 use td_core::actions::{Action, Step};
 use td_core::expressions::CoreExpr;
+use td_ir::constants::ACTION;
 use td_ir::instructions::Instr;
 
 /// Writes a test: goes on where an expression's value isn't 0, else fails. Register `t` and those above it are used.
@@ -81,12 +82,15 @@ fn write_statements(
             Ok(())
         }
         Step::Return(e) => {
-            write_test(code, t, e, 3, site)?;
+            write_test(code, t, e, ACTION, site)?;
             code.write(Instr::Jump { target: leave })?;
             Ok(())
         }
         Step::Abort => {
-            code.write(Instr::Fail { reason: 3, site })?;
+            code.write(Instr::Fail {
+                reason: ACTION,
+                site,
+            })?;
             Ok(())
         }
     }

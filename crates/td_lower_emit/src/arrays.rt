@@ -18,8 +18,9 @@ use crate::fields::{terms_of, write_once, write_values};
 use crate::writer::Writer;
 use std::alloc::AllocError;
 use td_core::expressions::CoreExpr;
-use td_core::module::{CopyOut, Element, Extent};
+use td_core::module::{Element, Extent, Field};
 use td_expr::constant::constant_of;
+use td_ir::constants::NOT_ENOUGH;
 use td_ir::instructions::Instr;
 use td_meaning::arrays::{divides, equals};
 use td_num::number::byte_count;
@@ -39,7 +40,10 @@ fn write_filling_constant(
         (constant_step t size site (cond (divides step size) (each_inner t element.now u site) (Uneven site)))) }
 {
     if size >= 1 << 32 {
-        code.write(Instr::Fail { reason: 0, site })?;
+        code.write(Instr::Fail {
+            reason: NOT_ENOUGH,
+            site,
+        })?;
         return Ok(false);
     }
     code.write(Instr::NarrowK { bytes: size, site })?;
@@ -63,7 +67,10 @@ fn write_once_filling_constant(
         (constant_step t size site (cond (equals step size) (one_inner t element.now u site) (Uneven site)))) }
 {
     if size >= 1 << 32 {
-        code.write(Instr::Fail { reason: 0, site })?;
+        code.write(Instr::Fail {
+            reason: NOT_ENOUGH,
+            site,
+        })?;
         return Ok(false);
     }
     code.write(Instr::NarrowK { bytes: size, site })?;
@@ -205,7 +212,10 @@ fn write_up_to_zero(
         | Element::Unit
         | Element::Rest
         | Element::Zeros => {
-            code.write(Instr::Fail { reason: 0, site })?;
+            code.write(Instr::Fail {
+                reason: NOT_ENOUGH,
+                site,
+            })?;
             Ok(false)
         }
     }
@@ -238,23 +248,23 @@ pub fn write_shape(
     }
 }
 
-/// The same of a field whose bytes may be copied.
+/// The same of a field, whose bytes may be copied.
 pub fn write_content(
     code: &mut Writer,
     t: u16,
     needed: bool,
     slot: u16,
     site: u32,
-    element: &Element,
-    extent: &Extent,
-    copy: Option<CopyOut>,
+    field: &Field,
 ) -> Result<bool, AllocError>
-    requires registers { content_top t element.now extent.now copy ≤ 2 ^ 16 }
-    requires cells { copy_cells copy ≤ 2 ^ 16 }
+    requires registers { content_top t field.now.element field.now.extent field.now.copy ≤ 2 ^ 16 }
+    requires cells { copy_cells field.now.copy ≤ 2 ^ 16 }
     ensures { IfOk result (λ on. GoesOn on code.old code.new
-        (content_step t element.now extent.now copy needed slot site)) }
+        (content_step t field.now.element field.now.extent field.now.copy needed slot site)) }
 {
-    let Some(c) = copy else {
+    let element = &field.element;
+    let extent = &field.extent;
+    let Some(c) = field.copy else {
         return write_shape(code, t, needed, slot, site, element, extent);
     };
     match extent {

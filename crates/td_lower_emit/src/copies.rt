@@ -14,6 +14,7 @@ use std::alloc::AllocError;
 use td_core::expressions::CoreExpr;
 use td_core::module::CopyOut;
 use td_expr::constant::constant_of;
+use td_ir::constants::NOT_ENOUGH;
 use td_ir::instructions::Instr;
 
 // Writes a copy of a constant number of bytes; false where no message has so many, so that nothing behind it is reached.
@@ -28,7 +29,10 @@ fn write_copied_constant(
     ensures { IfOk result (λ on. GoesOn on code.old code.new (constant_step t size site (CopyAll (suc t) buffer size site))) }
 {
     if size >= 1 << 32 {
-        code.write(Instr::Fail { reason: 0, site })?;
+        code.write(Instr::Fail {
+            reason: NOT_ENOUGH,
+            site,
+        })?;
         return Ok(false);
     }
     code.write(Instr::NarrowK { bytes: size, site })?;

@@ -16,6 +16,7 @@ use crate::fields::{is_read, number_slot, write_parts};
 use crate::writer::Writer;
 use std::alloc::{AllocError, Global};
 use td_core::module::{Body, Case, Field, TypeDef};
+use td_ir::constants::{CONSTRAINT, EQ, IMPOSSIBLE};
 use td_ir::instructions::Instr;
 use td_meaning_needed::flags::needed_of;
 use td_num::items::Items;
@@ -48,16 +49,7 @@ fn write_fields(
     code.write(Instr::Mark)?;
     let slot = number_slot(level, t, parts);
     let read = is_read(&field.element, &field.extent, *need);
-    if !write_content(
-        code,
-        t,
-        *need,
-        slot as u16,
-        site,
-        &field.element,
-        &field.extent,
-        field.copy,
-    )? {
+    if !write_content(code, t, *need, slot as u16, site, field)? {
         return Ok(());
     }
     write_parts(code, t, read, site, level, parts)?;
@@ -88,78 +80,93 @@ fn write_field_list(
     Ok(())
 }
 
-// Writes what follows the cases: the fields of `default`, or a failure.
+// What all cases of a switch value have in common.
+#[derive(Clone, Copy)]
+struct Switch {
+    // The register of a unit; the switch value stands in the next.
+    unit: u16,
+    // The site of the switch value.
+    site: u32,
+    // How many values are in scope.
+    level: u32,
+}
+
+// Writes what follows the cases, whose sites begin at one: the fields of `default`, or a failure.
 fn write_default(
     alloc: Global,
     code: &mut Writer,
-    t: u16,
-    switch: u32,
+    switch: Switch,
     site: u32,
-    level: u32,
     default: &Option<Items<Field>>,
 ) -> Result<(), AllocError>
-    requires registers { default_top level t default.now ≤ 2 ^ 16 }
+    requires registers { default_top switch.level switch.unit default.now ≤ 2 ^ 16 }
     requires cells { default_cells default.now ≤ 2 ^ 16 }
     requires bits { default_bits default.now ≤ 64 }
     requires sites { site + default_parts default.now < 2 ^ 32 }
-    requires levels { level + default_parts default.now < 2 ^ 32 }
-    ensures { OnOk result ((x : ℕ) → Finishes x code.old code.new (cases (suc t) (last_case t switch site level default.now))) }
+    requires levels { switch.level + default_parts default.now < 2 ^ 32 }
+    ensures { OnOk result ((x : ℕ) → Finishes x code.old code.new (cases (suc switch.unit) (last_case switch.unit switch.site site switch.level default.now))) }
 {
     match default {
         None => {
             code.write(Instr::Fail {
-                reason: 1,
-                site: switch,
+                reason: IMPOSSIBLE,
+                site: switch.site,
             })?;
             Ok(())
         }
         Some(fields) => {
-            write_field_list(alloc, code, t, site, level, fields.as_slice())?;
+            write_field_list(
+                alloc,
+                code,
+                switch.unit,
+                site,
+                switch.level,
+                fields.as_slice(),
+            )?;
             Ok(())
         }
     }
 }
 
-// Writes the cases of a switch value in register `t + 1`, one behind the other, and what follows them.
+// Writes the cases of a switch value, one behind the other, and what follows them; their sites begin at one.
 fn write_cases(
     alloc: Global,
     code: &mut Writer,
-    t: u16,
-    switch: u32,
+    switch: Switch,
     site: u32,
-    level: u32,
     all: &[Case],
     default: &Option<Items<Field>>,
 ) -> Result<(), AllocError>
-    requires room { t + 2 < 2 ^ 16 }
-    requires registers { max (cases_top level t all.now) (default_top level t default.now) ≤ 2 ^ 16 }
+    requires room { switch.unit + 2 < 2 ^ 16 }
+    requires registers { max (cases_top switch.level switch.unit all.now) (default_top switch.level switch.unit default.now) ≤ 2 ^ 16 }
     requires cells { max (cases_cells all.now) (default_cells default.now) ≤ 2 ^ 16 }
     requires bits { max (cases_bits all.now) (default_bits default.now) ≤ 64 }
     requires sites { site + (cases_parts all.now + default_parts default.now) < 2 ^ 32 }
-    requires levels { level + (cases_parts all.now + default_parts default.now) < 2 ^ 32 }
-    ensures { OnOk result ((x : ℕ) → Finishes x code.old code.new (cases (suc t) (cases_of t switch site level all.now default.now))) }
+    requires levels { switch.level + (cases_parts all.now + default_parts default.now) < 2 ^ 32 }
+    ensures { OnOk result ((x : ℕ) → Finishes x code.old code.new (cases (suc switch.unit) (cases_of switch.unit switch.site site switch.level all.now default.now))) }
 {
     let Some((case, rest)) = all.split_first() else {
-        write_default(alloc, code, t, switch, site, level, default)?;
+        write_default(alloc, code, switch, site, default)?;
         return Ok(());
     };
+    let t = switch.unit;
     code.write(Instr::Const {
         into: t + 2,
         value: case.value,
     })?;
     code.write(Instr::Op {
         into: t + 2,
-        operator: 10,
+        operator: EQ,
         left: t + 1,
         right: t + 2,
     })?;
     let place = code.place();
     code.write(Instr::Mark)?;
     let fields = case.fields.as_slice();
-    write_field_list(alloc, code, t, site, level, fields)?;
+    write_field_list(alloc, code, t, site, switch.level, fields)?;
     land(code, place, false, t + 2);
     let next = count_parts(fields) + site;
-    write_cases(alloc, code, t, switch, next, level, rest, default)?;
+    write_cases(alloc, code, switch, next, rest, default)?;
     Ok(())
 }
 
@@ -191,16 +198,12 @@ fn write_body(
             default,
         } => {
             write_value(code, t + 1, value)?;
-            write_cases(
-                alloc,
-                code,
-                t,
-                switch,
-                site,
+            let switch = Switch {
+                unit: t,
+                site: switch,
                 level,
-                cases.as_slice(),
-                default,
-            )?;
+            };
+            write_cases(alloc, code, switch, site, cases.as_slice(), default)?;
             Ok(())
         }
     }
@@ -229,7 +232,7 @@ pub fn write_definition(
             Ok(())
         }
         Some(e) => {
-            write_test(code, t + 1, e, 4, first)?;
+            write_test(code, t + 1, e, CONSTRAINT, first)?;
             write_body(alloc, code, t, first + 1, first + 2, level, &d.body)?;
             Ok(())
         }

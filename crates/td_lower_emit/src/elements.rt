@@ -14,6 +14,7 @@ use crate::fields::write_listed;
 use crate::writer::Writer;
 use std::alloc::AllocError;
 use td_core::module::Element;
+use td_ir::constants::{EQ, LIST_SIZE};
 use td_ir::instructions::Instr;
 use td_num::number::NumberType;
 
@@ -63,13 +64,16 @@ pub fn write_exactly(
             })?;
             code.write(Instr::Op {
                 into: u + 1,
-                operator: 10,
+                operator: EQ,
                 left: u,
                 right: u + 1,
             })?;
             let place = code.place();
             code.write(Instr::Mark)?;
-            code.write(Instr::Fail { reason: 2, site })?;
+            code.write(Instr::Fail {
+                reason: LIST_SIZE,
+                site,
+            })?;
             land(code, place, true, u + 1);
             Ok(())
         }
@@ -140,7 +144,10 @@ pub fn write_each(
             Ok(())
         }
         Element::Unit | Element::Rest | Element::Zeros => {
-            code.write(Instr::Fail { reason: 2, site })?;
+            code.write(Instr::Fail {
+                reason: LIST_SIZE,
+                site,
+            })?;
             Ok(())
         }
     }
@@ -199,7 +206,10 @@ pub fn write_each_if(
         write_each(code, t, u, site, element)?;
         return Ok(());
     }
-    code.write(Instr::Fail { reason: 2, site })?;
+    code.write(Instr::Fail {
+        reason: LIST_SIZE,
+        site,
+    })?;
     Ok(())
 }
 
@@ -219,6 +229,9 @@ pub fn write_one_if(
         write_one(code, t, u, site, element)?;
         return Ok(());
     }
-    code.write(Instr::Fail { reason: 2, site })?;
+    code.write(Instr::Fail {
+        reason: LIST_SIZE,
+        site,
+    })?;
     Ok(())
 }

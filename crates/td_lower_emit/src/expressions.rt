@@ -3,15 +3,16 @@
 
 ghost use Rattle.std.specs.Prelude.{◌≡◌, ℕ, ◌≤◌, ◌^◌, ◌<◌, ◌+◌, OnOk, length, slice_set};
 ghost use Rattle.td_lower_blocks.specs.Block.{guard};
-ghost use Rattle.td_lower_blocks.specs.Constructs.{value};
+ghost use Rattle.td_lower_blocks.specs.Constructs.{value, Choice};
 ghost use Rattle.td_lower_blocks.specs.Lowered.{expr_of};
 ghost use Rattle.td_lower_blocks.specs.Tops.{term_top};
-ghost use Rattle.td_lower_emit.specs.Emission.{Writes, operator_number, masked_then, operator_then, relation_number, is_turned, range_then};
+ghost use Rattle.td_lower_emit.specs.Emission.{Writes, operator_number, operation_then, by_number_then, masked_then, operator_then, relation_number, is_turned, range_then, both_then};
 
 use crate::writer::Writer;
 use std::alloc::AllocError;
 use td_core::expressions::{Binary, CoreExpr, Node, Relation};
 use td_expr::types::{greatest_of, type_of};
+use td_ir::constants::{ADD, AND, DIV, EQ, LE, LT, MUL, NE, OR, REM, SHL, SHR, SUB, XOR};
 use td_ir::instructions::Instr;
 
 // The number of an operator in code.
@@ -19,17 +20,44 @@ fn operator_code(op: Binary) -> u8
     ensures { result ≡ operator_number op }
 {
     match op {
-        Binary::Plus => 0,
-        Binary::Minus => 1,
-        Binary::Times => 2,
-        Binary::Over => 3,
-        Binary::Modulo => 4,
-        Binary::BitAnd => 5,
-        Binary::BitOr => 6,
-        Binary::BitXor => 7,
-        Binary::ShiftLeft => 8,
-        Binary::ShiftRight => 9,
+        Binary::Plus => ADD,
+        Binary::Minus => SUB,
+        Binary::Times => MUL,
+        Binary::Over => DIV,
+        Binary::Modulo => REM,
+        Binary::BitAnd => AND,
+        Binary::BitOr => OR,
+        Binary::BitXor => XOR,
+        Binary::ShiftLeft => SHL,
+        Binary::ShiftRight => SHR,
     }
+}
+
+// Writes an operator on registers `t` and the next, into the first.
+fn write_operation(code: &mut Writer, t: u16, operator: u8) -> Result<(), AllocError>
+    requires { t + 1 < 2 ^ 16 }
+    ensures { OnOk result (Writes code.old code.new (operation_then operator t)) }
+{
+    code.write(Instr::Op {
+        into: t,
+        operator,
+        left: t,
+        right: t + 1,
+    })?;
+    Ok(())
+}
+
+// Writes an operator on register `t` and a number, which comes into the next.
+fn write_by_number(code: &mut Writer, t: u16, operator: u8, number: u64) -> Result<(), AllocError>
+    requires { t + 1 < 2 ^ 16 }
+    ensures { OnOk result (Writes code.old code.new (by_number_then operator number t)) }
+{
+    code.write(Instr::Const {
+        into: t + 1,
+        value: number,
+    })?;
+    write_operation(code, t, operator)?;
+    Ok(())
 }
 
 // Masks what is shifted to the left to the bits of its type.
@@ -39,16 +67,7 @@ fn write_mask(code: &mut Writer, t: u16, op: Binary, mask: u64) -> Result<(), Al
 {
     match op {
         Binary::ShiftLeft => {
-            code.write(Instr::Const {
-                into: t + 1,
-                value: mask,
-            })?;
-            code.write(Instr::Op {
-                into: t,
-                operator: 5,
-                left: t,
-                right: t + 1,
-            })?;
+            write_by_number(code, t, AND, mask)?;
             Ok(())
         }
         _ => Ok(()),
@@ -60,12 +79,7 @@ fn write_operator(code: &mut Writer, t: u16, op: Binary, mask: u64) -> Result<()
     requires { t + 1 < 2 ^ 16 }
     ensures { OnOk result (Writes code.old code.new (operator_then op mask t)) }
 {
-    code.write(Instr::Op {
-        into: t,
-        operator: operator_code(op),
-        left: t,
-        right: t + 1,
-    })?;
+    write_operation(code, t, operator_code(op))?;
     write_mask(code, t, op, mask)?;
     Ok(())
 }
@@ -75,10 +89,10 @@ fn relation_code(relation: Relation) -> u8
     ensures { result ≡ relation_number relation }
 {
     match relation {
-        Relation::Equal => 10,
-        Relation::NotEqual => 11,
-        Relation::Less | Relation::Greater => 12,
-        Relation::LessEqual | Relation::GreaterEqual => 13,
+        Relation::Equal => EQ,
+        Relation::NotEqual => NE,
+        Relation::Less | Relation::Greater => LT,
+        Relation::LessEqual | Relation::GreaterEqual => LE,
     }
 }
 
@@ -103,8 +117,57 @@ pub fn land(code: &mut Writer, place: u32, when: bool, test: u16)
     code.set(place, jump);
 }
 
+// Writes `&&` (false) or `||` (true): the first side, and the second only where the first is that it counts.
+#[cycle(value)]
+fn write_both(
+    code: &mut Writer,
+    t: u16,
+    a: &CoreExpr,
+    b: &CoreExpr,
+    when: bool,
+) -> Result<(), AllocError>
+    requires first { term_top t a.now ≤ 2 ^ 16 }
+    requires second { term_top t b.now ≤ 2 ^ 16 }
+    ensures { OnOk result (Writes code.old code.new (both_then when t (expr_of a.now) (expr_of b.now))) }
+{
+    write_value(code, t, a)?;
+    let place = code.place();
+    code.write(Instr::Mark)?;
+    write_value(code, t, b)?;
+    land(code, place, when, t);
+    Ok(())
+}
+
+// Writes a choice between two expressions by a third one.
+#[cycle(value)]
+fn write_choice(
+    code: &mut Writer,
+    t: u16,
+    c: &CoreExpr,
+    a: &CoreExpr,
+    b: &CoreExpr,
+) -> Result<(), AllocError>
+    requires test { term_top t c.now ≤ 2 ^ 16 }
+    requires first { term_top t a.now ≤ 2 ^ 16 }
+    requires second { term_top t b.now ≤ 2 ^ 16 }
+    ensures { OnOk result (Writes code.old code.new (value t (Choice (expr_of c.now) (expr_of a.now) (expr_of b.now)))) }
+{
+    write_value(code, t, c)?;
+    let place = code.place();
+    code.write(Instr::Mark)?;
+    write_value(code, t, a)?;
+    let last = code.place();
+    code.write(Instr::Mark)?;
+    land(code, place, false, t);
+    write_value(code, t, b)?;
+    let end = code.place();
+    code.set(last, Instr::Jump { target: end });
+    Ok(())
+}
+
 /// Writes the code that puts an expression's value into register `t`, with the registers above it. `AllocError`: there was
 /// no memory for it.
+#[cycle(value)]
 #[tactic(auto, using(crate::proofs::Writing::laid_then, td_lower_blocks::proofs::Heights::computed_top, crate::proofs::Values::computed_value, crate::proofs::Values::turned_top, crate::proofs::Values::straight_top, crate::proofs::Values::turned_value, crate::proofs::Values::straight_value, crate::proofs::Values::some_top))]
 pub fn write_value(code: &mut Writer, t: u16, e: &CoreExpr) -> Result<(), AllocError>
     requires { term_top t e.now ≤ 2 ^ 16 }
@@ -122,7 +185,7 @@ pub fn write_value(code: &mut Writer, t: u16, e: &CoreExpr) -> Result<(), AllocE
             let place = *level as u16;
             code.write(Instr::Op {
                 into: t,
-                operator: 6,
+                operator: OR,
                 left: place,
                 right: place,
             })?;
@@ -130,30 +193,12 @@ pub fn write_value(code: &mut Writer, t: u16, e: &CoreExpr) -> Result<(), AllocE
         }
         Node::Complement(a) => {
             write_value(code, t, a)?;
-            code.write(Instr::Const {
-                into: t + 1,
-                value: greatest_of(type_of(a)),
-            })?;
-            code.write(Instr::Op {
-                into: t,
-                operator: 7,
-                left: t,
-                right: t + 1,
-            })?;
+            write_by_number(code, t, XOR, greatest_of(type_of(a)))?;
             Ok(())
         }
         Node::Not(a) => {
             write_value(code, t, a)?;
-            code.write(Instr::Const {
-                into: t + 1,
-                value: 0,
-            })?;
-            code.write(Instr::Op {
-                into: t,
-                operator: 10,
-                left: t,
-                right: t + 1,
-            })?;
+            write_by_number(code, t, EQ, 0)?;
             Ok(())
         }
         Node::Compute(op, _, a, b) => {
@@ -166,51 +211,24 @@ pub fn write_value(code: &mut Writer, t: u16, e: &CoreExpr) -> Result<(), AllocE
             if is_turned(*relation) {
                 write_value(code, t, b)?;
                 write_value(code, t + 1, a)?;
-                code.write(Instr::Op {
-                    into: t,
-                    operator: relation_code(*relation),
-                    left: t,
-                    right: t + 1,
-                })?;
+                write_operation(code, t, relation_code(*relation))?;
                 return Ok(());
             }
             write_value(code, t, a)?;
             write_value(code, t + 1, b)?;
-            code.write(Instr::Op {
-                into: t,
-                operator: relation_code(*relation),
-                left: t,
-                right: t + 1,
-            })?;
+            write_operation(code, t, relation_code(*relation))?;
             Ok(())
         }
         Node::Both(a, b) => {
-            write_value(code, t, a)?;
-            let place = code.place();
-            code.write(Instr::Mark)?;
-            write_value(code, t, b)?;
-            land(code, place, false, t);
+            write_both(code, t, a, b, false)?;
             Ok(())
         }
         Node::Either(a, b) => {
-            write_value(code, t, a)?;
-            let place = code.place();
-            code.write(Instr::Mark)?;
-            write_value(code, t, b)?;
-            land(code, place, true, t);
+            write_both(code, t, a, b, true)?;
             Ok(())
         }
         Node::Choice(c, a, b) => {
-            write_value(code, t, c)?;
-            let place = code.place();
-            code.write(Instr::Mark)?;
-            write_value(code, t, a)?;
-            let last = code.place();
-            code.write(Instr::Mark)?;
-            land(code, place, false, t);
-            write_value(code, t, b)?;
-            let end = code.place();
-            code.set(last, Instr::Jump { target: end });
+            write_choice(code, t, c, a, b)?;
             Ok(())
         }
         Node::RangeOkay(size, offset, access) => {
@@ -230,25 +248,25 @@ fn write_range(code: &mut Writer, t: u16) -> Result<(), AllocError>
 {
     code.write(Instr::Op {
         into: t + 3,
-        operator: 13,
+        operator: LE,
         left: t + 2,
         right: t,
     })?;
     code.write(Instr::Op {
         into: t,
-        operator: 1,
+        operator: SUB,
         left: t,
         right: t + 2,
     })?;
     code.write(Instr::Op {
         into: t,
-        operator: 13,
+        operator: LE,
         left: t + 1,
         right: t,
     })?;
     code.write(Instr::Op {
         into: t,
-        operator: 5,
+        operator: AND,
         left: t,
         right: t + 3,
     })?;

@@ -15,6 +15,7 @@ use std::alloc::AllocError;
 use td_core::actions::Action;
 use td_core::expressions::CoreExpr;
 use td_core::module::{Bits, Element, Extent, Part};
+use td_ir::constants::CONSTRAINT;
 use td_ir::instructions::Instr;
 use td_num::number::{ByteOrder, NumberType, byte_count};
 
@@ -77,7 +78,10 @@ pub fn write_listed(
     })?;
     let place = code.place();
     code.write(Instr::Mark)?;
-    code.write(Instr::Fail { reason: 4, site })?;
+    code.write(Instr::Fail {
+        reason: CONSTRAINT,
+        site,
+    })?;
     land(code, place, true, t);
     Ok(())
 }
@@ -177,7 +181,7 @@ fn write_refinement(
     match test {
         None => Ok(()),
         Some(e) => {
-            write_test(code, t + 1, e, 4, site)?;
+            write_test(code, t + 1, e, CONSTRAINT, site)?;
             Ok(())
         }
     }

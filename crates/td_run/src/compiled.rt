@@ -1,16 +1,12 @@
 //! Validations by code.
 
 ghost use Rattle.std.specs.Prelude.{◌≡◌, ℕ, ◌-◌, ◌^◌, ◌≤◌, ◌<◌, List, [], length as size_of, min};
-ghost use Rattle.td_core.specs.declared.module.Module.{Module};
-ghost use Rattle.td_meaning.specs.Copies.{IsSoundOn};
 ghost use Rattle.td_stream.specs.Layouts.{count_in};
-ghost use Rattle.td_stream.specs.Loads.{Carries, Inside, IsRising};
-ghost use Rattle.td_fetch.specs.Outcomes.{IsMeant};
+ghost use Rattle.td_stream.specs.Loads.{Carries};
 ghost use Rattle.td_ir.specs.Entries.{Fits, buffers_of, opened_by};
 ghost use Rattle.td_ir.specs.Run.{run};
-ghost use Rattle.td_lower_means.specs.CodeRun.{IsCodeOf};
 ghost use Rattle.td_vm.specs.Frames.{IsArmed, outcome_in};
-ghost use Rattle.td_vm.specs.Outcomes.{IsRun};
+ghost use Rattle.td_run.specs.Validation.{IsValidation};
 
 use std::marker::Brand;
 use std::sync::ledger::{Blank, Ledger};
@@ -26,7 +22,13 @@ use td_verify::verify::Verified;
 use td_vm::validate::{Frame, validate};
 use td_vm_step::steps::{Counter, Steps, Told, Untold};
 
-// Validates, with a ledger of its own for the steps, and a counter that they are told to, which is given back.
+// Where steps are counted: the blank of a ledger, and the counter that they are told to.
+struct Tally<C: Counter> {
+    blank: Blank,
+    counter: C,
+}
+
+// Validates, and counts the steps in a ledger of its own. The counter is given back.
 fn validate_counted<W: Words, L: Ledger, C: Counter>(
     code: &Verified,
     entry: Entry,
@@ -34,35 +36,26 @@ fn validate_counted<W: Words, L: Ledger, C: Counter>(
     layout: &Layout,
     frame: &mut Frame,
     words: &mut W,
-    blank: Blank,
-    counter: C,
+    tally: Tally<C>,
 ) -> (Verdict, C)
     requires armed { IsArmed code.now frame.old }
     requires fits { Fits code.now entry args.now frame.old.cells }
     requires message { count_in layout.now ≤ W.size words.old }
     requires fresh { W.loads words.old ≡ [] }
-    requires name { blank.name ≡ L.name }
-    requires parts { blank.parts ≡ L.parts }
-    requires some { 0 < blank.parts }
-    requires counter { C.tells counter 0 }
+    requires name { tally.blank.name ≡ L.name }
+    requires parts { tally.blank.parts ≡ L.parts }
+    requires some { 0 < tally.blank.parts }
+    requires counter { C.tells tally.counter 0 }
     ensures reaches { W.reaches words.old words.new }
-    ensures rising { IsRising (W.loads words.new) }
-    ensures inside { Inside layout.now (W.loads words.new) }
-    ensures run { (b : List ℕ) → Carries layout.now b (W.loads words.new)
-        → IsRun layout.now (size_of frame.old.cells) b (W.loads words.new) (run code.now entry args.now (opened_by code.now entry frame.old.cells) b)
-        (outcome_in frame.new (buffers_of code.now entry) result.0)
-        0 (run code.now entry args.now (opened_by code.now entry frame.old.cells) b).steps }
+    ensures validated { IsValidation code.now entry args.now frame.old.cells layout.now (W.loads words.new) (outcome_in frame.new (buffers_of code.now entry) result.0) }
     ensures told { (b : List ℕ) → Carries layout.now b (W.loads words.new)
         → C.tells result.1 (run code.now entry args.now (opened_by code.now entry frame.old.cells) b).steps }
-    ensures behavior { (m : Module) (b : List ℕ) → IsCodeOf code.now m → Carries layout.now b (W.loads words.new)
-        → IsSoundOn m entry args.now frame.old.cells b
-        → IsMeant layout.now m entry args.now frame.old.cells b (W.loads words.new)
-        (outcome_in frame.new (buffers_of code.now entry) result.0) }
     ensures cell_count { size_of frame.new.cells ≡ size_of frame.old.cells }
     ensures armed { IsArmed code.now frame.new }
 {
     code_means();
     message_is_short(layout);
+    let Tally { blank, counter } = tally;
     let mut steps = Steps::<L, C>::none(blank, counter);
     let verdict = validate(code, entry, args, layout, frame, words, &mut steps);
     (verdict, steps.end())
@@ -87,16 +80,7 @@ pub fn validate_compiled<W: Words>(
     requires message { count_in layout.now ≤ W.size words.old }
     requires fresh { W.loads words.old ≡ [] }
     ensures reaches { W.reaches words.old words.new }
-    ensures rising { IsRising (W.loads words.new) }
-    ensures inside { Inside layout.now (W.loads words.new) }
-    ensures run { (b : List ℕ) → Carries layout.now b (W.loads words.new)
-        → IsRun layout.now (size_of frame.old.cells) b (W.loads words.new) (run code.now entry args.now (opened_by code.now entry frame.old.cells) b)
-        (outcome_in frame.new (buffers_of code.now entry) result)
-        0 (run code.now entry args.now (opened_by code.now entry frame.old.cells) b).steps }
-    ensures behavior { (m : Module) (b : List ℕ) → IsCodeOf code.now m → Carries layout.now b (W.loads words.new)
-        → IsSoundOn m entry args.now frame.old.cells b
-        → IsMeant layout.now m entry args.now frame.old.cells b (W.loads words.new)
-        (outcome_in frame.new (buffers_of code.now entry) result) }
+    ensures validated { IsValidation code.now entry args.now frame.old.cells layout.now (W.loads words.new) (outcome_in frame.new (buffers_of code.now entry) result) }
     ensures cell_count { size_of frame.new.cells ≡ size_of frame.old.cells }
     ensures armed { IsArmed code.now frame.new }
 {
@@ -107,8 +91,10 @@ pub fn validate_compiled<W: Words>(
         layout,
         frame,
         words,
-        Blank::new(1),
-        Untold,
+        Tally {
+            blank: Blank::new(1),
+            counter: Untold,
+        },
     );
     verdict
 }
@@ -127,18 +113,9 @@ pub fn validate_told<W: Words>(
     requires message { count_in layout.now ≤ W.size words.old }
     requires fresh { W.loads words.old ≡ [] }
     ensures reaches { W.reaches words.old words.new }
-    ensures rising { IsRising (W.loads words.new) }
-    ensures inside { Inside layout.now (W.loads words.new) }
-    ensures run { (b : List ℕ) → Carries layout.now b (W.loads words.new)
-        → IsRun layout.now (size_of frame.old.cells) b (W.loads words.new) (run code.now entry args.now (opened_by code.now entry frame.old.cells) b)
-        (outcome_in frame.new (buffers_of code.now entry) result.0)
-        0 (run code.now entry args.now (opened_by code.now entry frame.old.cells) b).steps }
+    ensures validated { IsValidation code.now entry args.now frame.old.cells layout.now (W.loads words.new) (outcome_in frame.new (buffers_of code.now entry) result.0) }
     ensures told { (b : List ℕ) → Carries layout.now b (W.loads words.new)
         → result.1 ≡ min (run code.now entry args.now (opened_by code.now entry frame.old.cells) b).steps (2 ^ 64 - 1) }
-    ensures behavior { (m : Module) (b : List ℕ) → IsCodeOf code.now m → Carries layout.now b (W.loads words.new)
-        → IsSoundOn m entry args.now frame.old.cells b
-        → IsMeant layout.now m entry args.now frame.old.cells b (W.loads words.new)
-        (outcome_in frame.new (buffers_of code.now entry) result.0) }
     ensures cell_count { size_of frame.new.cells ≡ size_of frame.old.cells }
     ensures armed { IsArmed code.now frame.new }
 {
@@ -149,8 +126,10 @@ pub fn validate_told<W: Words>(
         layout,
         frame,
         words,
-        Blank::new(1),
-        Told { count: 0 },
+        Tally {
+            blank: Blank::new(1),
+            counter: Told { count: 0 },
+        },
     );
     (verdict, told.count)
 }
@@ -173,19 +152,22 @@ pub fn validate_recorded<W: Words>(
     requires room { W.size words.old ≤ loads.old.room }
     ensures reaches { W.reaches words.old words.new }
     ensures loads { W.loads words.new ≡ loads.new.list }
-    ensures rising { IsRising loads.new.list }
-    ensures inside { Inside layout.now loads.new.list }
-    ensures run { (b : List ℕ) → Carries layout.now b loads.new.list
-        → IsRun layout.now (size_of frame.old.cells) b loads.new.list (run code.now entry args.now (opened_by code.now entry frame.old.cells) b)
-        (outcome_in frame.new (buffers_of code.now entry) result)
-        0 (run code.now entry args.now (opened_by code.now entry frame.old.cells) b).steps }
-    ensures behavior { (m : Module) (b : List ℕ) → IsCodeOf code.now m → Carries layout.now b loads.new.list
-        → IsSoundOn m entry args.now frame.old.cells b
-        → IsMeant layout.now m entry args.now frame.old.cells b loads.new.list
-        (outcome_in frame.new (buffers_of code.now entry) result) }
+    ensures validated { IsValidation code.now entry args.now frame.old.cells layout.now loads.new.list (outcome_in frame.new (buffers_of code.now entry) result) }
     ensures cell_count { size_of frame.new.cells ≡ size_of frame.old.cells }
     ensures armed { IsArmed code.now frame.new }
 {
     let mut recorder = Recorder::over(words, loads);
-    validate_compiled(code, entry, args, layout, frame, &mut recorder)
+    let (verdict, _) = validate_counted::<Recorder<'_, W>, Brand, Untold>(
+        code,
+        entry,
+        args,
+        layout,
+        frame,
+        &mut recorder,
+        Tally {
+            blank: Blank::new(1),
+            counter: Untold,
+        },
+    );
+    verdict
 }

@@ -14,11 +14,19 @@ use td_core::module::Entry;
 use td_core::outcome::{Outcome, Verdict};
 use td_sched::planned::Planned;
 use td_sched::store::PlannedStore;
-use td_stream::layout::Layout;
+use td_stream::layout::{Layout, word_count};
 use td_stream::loads::Loads;
 use td_verify::verify::Verified;
 use td_vm::laws::fitting_cells_have_room;
 use td_vm::validate::Frame;
+
+/// What a run begins with: an entry point of code, a value for each of its parameters, and cells.
+#[derive(Clone, Copy)]
+pub struct Start<'a> {
+    pub entry: Entry,
+    pub args: &'a [u64],
+    pub cells: &'a [u64],
+}
 
 /// Memory to which others store by a plan: its words, the stores, and how the message lies in the words, where it isn't at their front.
 #[derive(Clone, Copy)]
@@ -52,16 +60,6 @@ pub struct Prepared<'a> {
     pub ghost room: { counted words.layout (size_of words.opening) ≤ loads.room },
 }
 
-// How many words may be loaded.
-fn words_of(layout: Option<&Layout>, all: u32) -> u32
-    ensures { result ≡ counted (option_map (λ l. l.now) layout.entry) all }
-{
-    match layout {
-        None => all,
-        Some(layout) => layout.count(),
-    }
-}
-
 // Memory with a layout or without one.
 fn opened<'a>(alloc: Global, memory: &Memory<'a>) -> Result<Planned<'a>, AllocError>
     requires few { size_of memory.now.words.now < 2 ^ 32 }
@@ -88,7 +86,7 @@ pub fn prepare<'a>(alloc: Global, memory: &Memory<'a>) -> Result<Prepared<'a>, A
     ensures layout { IfOk result (λ p. p.words.layout ≡ option_map (λ l. l.now) memory.now.layout) }
     ensures memory { memory.now.words.now ≡ [] → memory.now.stores.now ≡ [] → option_map (λ l. l.now) memory.now.layout ≡ None → IsOk result }
 {
-    let count = words_of(memory.layout, memory.words.len() as u32);
+    let count = word_count(memory.layout, memory.words.len() as u32);
     let loads = Loads::with_room(alloc, count)?;
     let words = opened(alloc, memory)?;
     Ok(Prepared { words, loads })
@@ -100,18 +98,16 @@ pub fn prepare<'a>(alloc: Global, memory: &Memory<'a>) -> Result<Prepared<'a>, A
 pub fn run_prepared(
     code: &Verified,
     frame: &mut Frame,
-    entry: Entry,
-    args: &[u64],
-    cells: &[u64],
+    start: &Start<'_>,
     message: &Layout,
     prepared: Prepared<'_>,
 ) -> Ran
     requires armed { IsArmed code.now frame.old }
-    requires fits { Fits code.now entry args.now cells.now }
+    requires fits { Fits code.now start.now.entry start.now.args.now start.now.cells.now }
     requires room { count_in message.now ≤ counted prepared.words.layout (size_of prepared.words.opening) }
     ensures run { (n : ℕ) → message.now ≡ laid n prepared.entry.words.layout → IsRunBy code.now
-        (record { entry = entry; args = args.now; cells = cells.now; length = n; layout = prepared.entry.words.layout; words = prepared.entry.words.opening; stores = prepared.entry.words.stores })
-        (outcome_in frame.new (buffers_of code.now entry) result.verdict) result.loads.list }
+        (record { entry = start.now.entry; args = start.now.args.now; cells = start.now.cells.now; length = n; layout = prepared.entry.words.layout; words = prepared.entry.words.opening; stores = prepared.entry.words.stores })
+        (outcome_in frame.new (buffers_of code.now start.now.entry) result.verdict) result.loads.list }
     ensures armed { IsArmed code.now frame.new }
 {
     fitting_cells_have_room();
@@ -119,37 +115,20 @@ pub fn run_prepared(
         mut words,
         mut loads,
     } = prepared;
-    frame.set_cells(cells);
+    let entry = start.entry;
+    let args = start.args;
+    frame.set_cells(start.cells);
     let verdict = validate_recorded(code, entry, args, message, frame, &mut words, &mut loads);
     Ran { verdict, loads }
 }
 
-// Runs code over prepared words on a message of `length` bytes that has a layout or none.
-fn run_laid(
-    code: &Verified,
-    frame: &mut Frame,
-    entry: Entry,
-    args: &[u64],
-    cells: &[u64],
-    length: u32,
-    layout: Option<&Layout>,
-    prepared: Prepared<'_>,
-) -> Ran
-    requires armed { IsArmed code.now frame.old }
-    requires fits { Fits code.now entry args.now cells.now }
-    requires same { prepared.words.layout ≡ option_map (λ l. l.now) layout }
-    requires room { count_in (laid length (option_map (λ l. l.now) layout)) ≤ counted prepared.words.layout (size_of prepared.words.opening) }
-    ensures run { IsRunBy code.now
-        (record { entry = entry; args = args.now; cells = cells.now; length = length; layout = prepared.entry.words.layout; words = prepared.entry.words.opening; stores = prepared.entry.words.stores })
-        (outcome_in frame.new (buffers_of code.now entry) result.verdict) result.loads.list }
-    ensures armed { IsArmed code.now frame.new }
+// How a message lies that has a layout, or is plain.
+fn message_in<'a>(layout: Option<&'a Layout>, plain: &'a Layout) -> &'a Layout
+    ensures { (n : ℕ) → plain.now ≡ laid n None → result.now ≡ laid n (option_map (λ l. l.now) layout.entry) }
 {
     match layout {
-        None => {
-            let message = Layout::plain(length);
-            run_prepared(code, frame, entry, args, cells, &message, prepared)
-        }
-        Some(message) => run_prepared(code, frame, entry, args, cells, message, prepared),
+        None => plain,
+        Some(message) => message,
     }
 }
 
@@ -158,25 +137,25 @@ fn run_laid(
 pub fn run_counted<L: Ledger>(
     code: &Verified,
     frame: &mut Frame,
-    entry: Entry,
-    args: &[u64],
-    cells: &[u64],
+    start: &Start<'_>,
     length: u32,
     layout: Option<&Layout>,
     prepared: Prepared<'_>,
     looks: &mut Looks<L>,
 ) -> Ran
     requires armed { IsArmed code.now frame.old }
-    requires fits { Fits code.now entry args.now cells.now }
+    requires fits { Fits code.now start.now.entry start.now.args.now start.now.cells.now }
     requires same { prepared.words.layout ≡ option_map (λ l. l.now) layout }
     requires room { count_in (laid length (option_map (λ l. l.now) layout)) ≤ counted prepared.words.layout (size_of prepared.words.opening) }
     ensures run { IsRunBy code.now
-        (record { entry = entry; args = args.now; cells = cells.now; length = length; layout = prepared.entry.words.layout; words = prepared.entry.words.opening; stores = prepared.entry.words.stores })
-        (outcome_in frame.new (buffers_of code.now entry) result.verdict) result.loads.list }
+        (record { entry = start.now.entry; args = start.now.args.now; cells = start.now.cells.now; length = length; layout = prepared.entry.words.layout; words = prepared.entry.words.opening; stores = prepared.entry.words.stores })
+        (outcome_in frame.new (buffers_of code.now start.now.entry) result.verdict) result.loads.list }
     ensures armed { IsArmed code.now frame.new }
     ensures counted { looks.new ≡ looks.old + size_of result.loads.list }
 {
-    let ran = run_laid(code, frame, entry, args, cells, length, layout, prepared);
+    let plain = Layout::plain(length);
+    let message = message_in(layout, &plain);
+    let ran = run_prepared(code, frame, start, message, prepared);
     looks.add(&ran.loads);
     ran
 }
@@ -190,51 +169,48 @@ pub fn run_in_frame(
     alloc: Global,
     code: &Verified,
     frame: &mut Frame,
-    entry: Entry,
-    args: &[u64],
-    cells: &[u64],
+    start: &Start<'_>,
     length: u32,
     memory: &Memory<'_>,
 ) -> Result<Ran, AllocError>
     requires armed { IsArmed code.now frame.old }
-    requires fits { Fits code.now entry args.now cells.now }
+    requires fits { Fits code.now start.now.entry start.now.args.now start.now.cells.now }
     requires many { size_of memory.now.words.now < 2 ^ 32 }
     requires room { count_in (laid length (option_map (λ l. l.now) memory.now.layout)) ≤ counted (option_map (λ l. l.now) memory.now.layout) (size_of memory.now.words.now) }
     requires over { IsOver (size_of memory.now.words.now) (option_map (λ l. l.now) memory.now.layout) }
     ensures run { IfOk result (λ ran. IsRunBy code.now
-        (record { entry = entry; args = args.now; cells = cells.now; length = length; layout = option_map (λ l. l.now) memory.now.layout; words = memory.now.words.now; stores = memory.now.stores.now })
-        (outcome_in frame.new (buffers_of code.now entry) ran.verdict) ran.loads.list) }
+        (record { entry = start.now.entry; args = start.now.args.now; cells = start.now.cells.now; length = length; layout = option_map (λ l. l.now) memory.now.layout; words = memory.now.words.now; stores = memory.now.stores.now })
+        (outcome_in frame.new (buffers_of code.now start.now.entry) ran.verdict) ran.loads.list) }
     ensures armed { IsArmed code.now frame.new }
     ensures untouched { IsErr result → frame.new ≡ frame.old }
     ensures memory { memory.now.words.now ≡ [] → memory.now.stores.now ≡ [] → option_map (λ l. l.now) memory.now.layout ≡ None → IsOk result }
 {
-    let layout = memory.layout;
     let prepared = prepare(alloc, memory)?;
-    Ok(run_laid(code, frame, entry, args, cells, length, layout, prepared))
+    let plain = Layout::plain(length);
+    let message = message_in(memory.layout, &plain);
+    Ok(run_prepared(code, frame, start, message, prepared))
 }
 
 /// Runs code once as `run_in_frame` does, in a frame of its own.
 pub fn run_planned(
     alloc: Global,
     code: &Verified,
-    entry: Entry,
-    args: &[u64],
-    cells: &[u64],
+    start: &Start<'_>,
     length: u32,
     memory: &Memory<'_>,
 ) -> Result<Run, AllocError>
-    requires fits { Fits code.now entry args.now cells.now }
+    requires fits { Fits code.now start.now.entry start.now.args.now start.now.cells.now }
     requires many { size_of memory.now.words.now < 2 ^ 32 }
     requires room { count_in (laid length (option_map (λ l. l.now) memory.now.layout)) ≤ counted (option_map (λ l. l.now) memory.now.layout) (size_of memory.now.words.now) }
     requires over { IsOver (size_of memory.now.words.now) (option_map (λ l. l.now) memory.now.layout) }
     ensures { IfOk result (λ run. IsRunBy code.now
-        (record { entry = entry; args = args.now; cells = cells.now; length = length; layout = option_map (λ l. l.now) memory.now.layout; words = memory.now.words.now; stores = memory.now.stores.now })
+        (record { entry = start.now.entry; args = start.now.args.now; cells = start.now.cells.now; length = length; layout = option_map (λ l. l.now) memory.now.layout; words = memory.now.words.now; stores = memory.now.stores.now })
         run.outcome run.loads.list) }
 {
     let mut frame = Frame::arm(alloc, code)?;
-    let ran = run_in_frame(alloc, code, &mut frame, entry, args, cells, length, memory)?;
+    let ran = run_in_frame(alloc, code, &mut frame, start, length, memory)?;
     Ok(Run {
-        outcome: frame.into_outcome(code, entry, ran.verdict),
+        outcome: frame.into_outcome(code, start.entry, ran.verdict),
         loads: ran.loads,
     })
 }

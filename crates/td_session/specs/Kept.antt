@@ -1,4 +1,4 @@
--- The code that a session has.
+-- The code that a session has (own rule).
 use Rattle.std.specs.Prelude.{ℕ, List, [], slice_index_or}
 use Rattle.std.specs.Arc.{arc_value}
 use Rattle.td_ir.specs.declared.tables.Parts.{Parts}

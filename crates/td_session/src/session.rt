@@ -8,6 +8,7 @@ ghost use Rattle.td_ir.specs.Entries.{Fits, IsEntryNamed, IsFirstNamed, buffers_
 ghost use Rattle.td_stream.specs.Copies.{held_by};
 ghost use Rattle.td_ir.specs.WellFormed.{IsCode};
 ghost use Rattle.td_vm.specs.Frames.{IsArmed};
+ghost use Rattle.td_session.specs.Room.{IsFresh};
 ghost use Rattle.td_session.specs.Validated.{IsValidated};
 
 use crate::kept::Kept;
@@ -38,8 +39,7 @@ impl Session {
     // A session by this code. `AllocError`: there was no memory for its room.
     fn over(alloc: Global, code: Kept) -> Result<Session, AllocError>
         ensures code { IfOk result (λ s. arc_value s.code ≡ code) }
-        ensures cells { IfOk result (λ s. s.frame.cells ≡ []) }
-        ensures trace { IfOk result (λ s. s.frame.trace ≡ []) }
+        ensures fresh { IfOk result (λ s. IsFresh (arc_value s.code) s.frame) }
     {
         Session::by(alloc, Arc::new(alloc, code)?)
     }
@@ -47,8 +47,7 @@ impl Session {
     // The same, of a code that may be shared already.
     fn by(alloc: Global, code: Arc<Kept, Global>) -> Result<Session, AllocError>
         ensures code { IfOk result (λ s. arc_value s.code ≡ arc_value code) }
-        ensures cells { IfOk result (λ s. s.frame.cells ≡ []) }
-        ensures trace { IfOk result (λ s. s.frame.trace ≡ []) }
+        ensures fresh { IfOk result (λ s. IsFresh (arc_value s.code) s.frame) }
     {
         let frame = Frame::arm(alloc, code.verified())?;
         Ok(Session { code, frame })
@@ -58,6 +57,7 @@ impl Session {
     /// comes also where there was none for the room.
     pub fn read(alloc: Global, image: &[u8]) -> Result<Session, ImageError>
         ensures found { IfOk result (λ s. IsImage (arc_value s.code) image.now) }
+        ensures fresh { IfOk result (λ s. IsFresh (arc_value s.code) s.frame) }
         ensures refused { IfErr result (λ e. IsRefused image.now e) }
     {
         let code = read_image(alloc, image)?;
@@ -74,14 +74,16 @@ impl Session {
         number: u32,
     ) -> Result<Session, AllocError>
         requires { number < size_of (arc_value codes).codes }
-        ensures { IfOk result (λ s. slice_get (arc_value codes).codes number ≡ Some (arc_value s.code)) }
+        ensures code { IfOk result (λ s. slice_get (arc_value codes).codes number ≡ Some (arc_value s.code)) }
+        ensures fresh { IfOk result (λ s. IsFresh (arc_value s.code) s.frame) }
     {
         Session::over(alloc, Kept::listed(codes, number as usize))
     }
 
     /// Another session by the same code, with room of its own. `AllocError`: there was no memory for it.
     pub fn again(&self, alloc: Global) -> Result<Session, AllocError>
-        ensures { IfOk result (λ s. arc_value s.code ≡ arc_value self.now.code) }
+        ensures code { IfOk result (λ s. arc_value s.code ≡ arc_value self.now.code) }
+        ensures fresh { IfOk result (λ s. IsFresh (arc_value s.code) s.frame) }
     {
         let code = Arc::try_clone(&self.code)?;
         Session::by(alloc, code)
@@ -117,9 +119,10 @@ impl Session {
         self.frame.copies()
     }
 
-    /// Validates a message that lies so in the words, of which none was loaded yet. None: arguments and cells don't fit the entry point, and
-    /// nothing was loaded. The cells begin as they are, and are left as the validation left them. Beside the verdict it tells how many
-    /// steps the code's run took (docs/language/code.md), 2^64 - 1 where they are more. Takes no memory and waits for nobody.
+    /// Validates a message that lies so in the words, of which none was loaded yet. None: arguments and cells don't fit the entry point;
+    /// nothing was loaded, and the session is as before. The cells begin as they are, and are left as the validation left them. Beside
+    /// the verdict it tells how many steps the code's run took (docs/language/code.md), 2^64 - 1 where they are more. Takes no memory and
+    /// waits for nobody.
     pub fn validate<W: Words>(
         &mut self,
         entry: Entry,
@@ -139,9 +142,10 @@ impl Session {
         ensures validated { IfSome result (λ v. IsValidated (arc_value self.old.code) entry args.now cells.old layout.now (W.loads words.new)
             (record { verdict = v.0; trace = self.new.frame.trace; cells = cells.new; copies = held_by (take (buffers_of (arc_value self.old.code) entry) self.new.frame.copies) }) v.1) }
         ensures reaches { W.reaches words.old words.new }
-        // Else nothing was loaded, and the cells are as they were.
+        // Else nothing was loaded, and the cells and the session's room are as they were.
         ensures unloaded { IsNone result → W.loads words.new ≡ [] }
         ensures unchanged { IsNone result → cells.new ≡ cells.old }
+        ensures kept { IsNone result → self.new.frame ≡ self.old.frame }
         ensures cells { size_of cells.new ≡ size_of cells.old }
     {
         if !fits(self.code.verified().code(), entry, args, cells) {

@@ -6,6 +6,7 @@ ghost use Rattle.std.specs.Arc.{arc_value};
 ghost use Rattle.td_swap.specs.declared.version.TheConstants.{MOST_VERSIONS};
 ghost use Rattle.td_swap.specs.Views.{new_view, AreVersions};
 ghost use Rattle.td_swap.specs.Seats.{IsPublishers, IsOwn, swap_state, then_published, then_loaded};
+ghost use Rattle.td_session.specs.Room.{IsFresh};
 
 use crate::session::Session;
 use std::alloc::{AllocError, Global};
@@ -31,6 +32,8 @@ impl Publisher {
         requires few { length codes.items ≤ MOST_VERSIONS }
         ensures codes { IfOk result (λ p. (arc_value p.codes).codes ≡ codes.items) }
         ensures first { IfOk result (λ p. p.seat.view.number ≡ 0) }
+        // The seat that makes others loaded nothing yet, and never does.
+        ensures maker { IfOk result (λ p. p.maker ≡ swap_state (arc_value p.codes).table (new_view (length codes.items))) }
     {
         let (codes, seat, maker) = Codes::open(alloc, codes)?;
         let codes = Arc::new(alloc, codes)?;
@@ -44,6 +47,7 @@ impl Publisher {
         ensures number { IfSome result (λ n. n ≡ self.old.seat.view.number + 1) }
         ensures seat { IsSome result → self.new.seat ≡ then_published self.old.seat }
         ensures kept { IsNone result → self.new.seat ≡ self.old.seat }
+        ensures unloaded { self.new.maker ≡ self.old.maker }
     {
         if (self.seat.number() as usize).saturating_add(1) >= self.codes.versions().len() {
             return None;
@@ -55,6 +59,7 @@ impl Publisher {
     pub fn split(&mut self) -> Result<Reader, AllocError>
         ensures codes { arc_value self.new.codes ≡ arc_value self.old.codes }
         ensures seat { self.new.seat ≡ self.old.seat }
+        ensures unloaded { self.new.maker ≡ self.old.maker }
         ensures shared { IfOk result (λ r. arc_value r.codes ≡ arc_value self.old.codes) }
         ensures fresh { IfOk result (λ r. r.seat ≡ swap_state (arc_value self.old.codes).table (new_view (length (arc_value self.old.codes).codes))) }
     {
@@ -93,7 +98,8 @@ impl Reader {
     /// A session by the version of this number, with room of its own. `AllocError`: there was no memory for it.
     pub fn session(&self, alloc: Global, number: u32) -> Result<Session, AllocError>
         requires { number < length (arc_value self.now.codes).codes }
-        ensures { IfOk result (λ s. slice_get (arc_value self.now.codes).codes number ≡ Some (arc_value s.code)) }
+        ensures code { IfOk result (λ s. slice_get (arc_value self.now.codes).codes number ≡ Some (arc_value s.code)) }
+        ensures fresh { IfOk result (λ s. IsFresh (arc_value s.code) s.frame) }
     {
         let codes = Arc::try_clone(&self.codes)?;
         Session::listed(alloc, codes, number)

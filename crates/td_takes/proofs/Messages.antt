@@ -2,17 +2,14 @@
 use Rattle.std.proofs.Common.{◌≡◌, ℕ, ◌+◌, List, [], ◌++◌, Option, Some, None, length, refl, sym, ap, ◌∙◌, subst, append_assoc, arith}
 use Rattle.std.specs.Prelude.{slice_get, slice_index_or}
 use Rattle.std.proofs.lemmas.Option.{same_Some, slice_get_within, slice_get-get_or}
-use Rattle.td_num.specs.Lists.{AreBytes}
 use Rattle.td_core.specs.declared.module.Module.{Module}
 use Rattle.td_core.specs.declared.module.Entry.{Entry}
 use Rattle.td_core.specs.declared.outcome.Outcome.{Outcome}
 use Rattle.td_core.specs.declared.outcome.Verdict.{Verdict}
 use Rattle.td_core.specs.declared.outcome.Verdict.TheVariants.{Accept, Reject}
-use Rattle.td_fetch.specs.Outcomes.{IsMeant}
 use Rattle.td_stream.specs.declared.load.Load.{Load}
 use Rattle.std.proofs.Common.{append-nil as append_nil}
 use Rattle.td_stream.specs.declared.stretch.Stretch.{Stretch}
-use Rattle.td_stream.specs.Loads.{IsRising, Inside, Carries}
 use Rattle.td_ir.specs.declared.tables.Parts.{Parts}
 use Rattle.td_vm.specs.Frames.{FrameView}
 use Rattle.td_words.specs.declared.view.Access.{Access}
@@ -20,27 +17,28 @@ use Rattle.td_words.specs.Views.{seat_view}
 use Rattle.td_words.specs.Seats.{SeatState, seat_state}
 use Rattle.td_posts.specs.declared.job.HostJob.{HostJob}
 use Rattle.td_posts.specs.declared.reply.Reply.{Reply}
-use Rattle.td_posts.specs.Posts.{IsVersion, zeros, version_in, outcome_in}
+use Rattle.td_posts.specs.Posts.{IsVersion, version_in, outcome_in}
 use Rattle.td_descr.specs.declared.next.Next.{Next}
 use Rattle.td_descr.specs.declared.next.Look.{Look}
 use Rattle.td_descr.specs.declared.next.Standing.{Standing}
 use Rattle.td_descr.specs.declared.next.Standing.TheVariants.{Nothing, Lost, Waiting}
 use Rattle.td_descr.specs.Ring.{ReaderView, Answers, IsValidated, answer, frame_outcome}
 use Rattle.td_takes.specs.declared.take.Take.{Take}
+use Rattle.td_takes.specs.Codes.{IsMeantUnder}
 use Rattle.td_takes.specs.Kept.{IsOutcome, KeptBy, IsKept}
 use Rattle.td_takes.specs.Takes.{message_layout, Describes, IsMessage, IsDescriptor, IsAnswer, HasDone, loads_of, taken_after, IfJudged}
 
 -- ---- the message
-abbrev Said : HostJob → Module → Entry → List Stretch × List Load × Outcome → Type 0
-Said job m entry x = IsRising x.1 × Inside x.0 x.1 × ((b : List ℕ) → AreBytes b → Carries x.0 b x.1 → IsMeant x.0 m entry job.args (zeros job.cells) b x.1 x.2)
-
 pub message_by : (job : HostJob) (m : Module) (entry : Entry) (place size : ℕ) (r : Reply) (layout : List Stretch) (loads : List Load) (o : Outcome)
-    → IsVersion job 0 m entry → r.guest ≡ 0 → version_in r ≡ 0 → r.layout ≡ Some layout → layout ≡ message_layout place size → r.loads.list ≡ loads → outcome_in r ≡ o → IsRising loads → Inside layout loads
-    → ((b : List ℕ) → AreBytes b → Carries layout b loads → IsMeant layout m entry job.args (zeros job.cells) b loads o)
-    → IsMessage job place size r
-message_by job m entry place size r layout loads o version guest number lies e f g rising inside meant =
-    let t = subst (Said job m entry) (λ i. (e i, sym f i, sym g i)) (rising, inside, meant) in
-    record { is = record { guest = guest; number = number; list = lies ∙ ap (λ l. Some l) e; rising = t.0; inside = t.1 }; format = m; entry = entry; version = version; meant = t.2 }
+    → IsVersion job 0 m entry → r.guest ≡ 0 → version_in r ≡ 0 → r.layout ≡ Some layout → layout ≡ message_layout place size → r.loads.list ≡ loads → outcome_in r ≡ o
+    → IsMeantUnder job m entry layout loads o → IsMessage job place size r
+message_by job m entry place size r layout loads o version guest first lies e f g fetched = record {
+  is = record { guest = guest; version = first; list = lies ∙ ap (λ l. Some l) e };
+  format = m;
+  entry = entry;
+  version = version;
+  fetched = subst (λ (x : List Stretch × List Load × Outcome). IsMeantUnder job m entry x.0 x.1 x.2) (λ i. (e i, sym f i, sym g i)) fetched;
+}
 
 -- an entry point that a list has at a place stands there
 pub entry_at : (entries lent : List Entry) (n : ℕ) (entry d : Entry) → lent ≡ entries → slice_get entries n ≡ Some entry → slice_index_or lent n d ≡ entry
@@ -74,10 +72,15 @@ described : (m : Module) (c : Parts) (room most : ℕ) (look : Look) (frame : Fr
     → Describes m c room most → IsValidated c room most look.loads (frame_outcome frame verdict) → IsOutcome d look frame verdict → IsDescriptor m room most d
 described m c room most look frame verdict d code v o =
     let t = subst (λ (x : List Load × Outcome). IsValidated c room most x.0 x.1) (λ i. (sym o.loads i, sym o.outcome i)) v in
+    let w = t.validated in
     record {
-      is = record { guest = o.guest; number = o.number; list = o.layout; rising = t.rising; inside = t.inside };
+      is = record { guest = o.guest; version = o.version; list = o.layout };
       cells = t.cells;
-      meant = λ b bytes h. t.meant m b code.code h (code.sound b bytes (let e = h.size in omega (arith, e)));
+      fetched = record {
+        rising = w.rising;
+        inside = w.inside;
+        holds = λ b h bytes. let e = h.size in (w.holds b h).meant m code.code (code.sound b bytes (omega (arith, e)));
+      };
     }
 
 pub answered_by : (m : Module) (most k number : ℕ) (message : Option Reply) (st : Standing) (r s : ReaderView) (next : Next) (d : Option Reply)

@@ -5,41 +5,39 @@ use Rattle.td_num.proofs.Digits.{are_bytes}
 use Rattle.td_core.specs.declared.module.Module.{Module}
 use Rattle.td_core.specs.declared.module.Entry.{Entry}
 use Rattle.td_core.specs.declared.outcome.Outcome.{Outcome}
-use Rattle.td_meaning.specs.Copies.{IsSoundOn}
 use Rattle.td_stream.specs.declared.load.Load.{Load}
 use Rattle.td_stream.specs.declared.stretch.Stretch.{Stretch}
 use Rattle.td_stream.specs.Copies.{BufferView, empty_with, held_by, rooms_of}
 use Rattle.td_stream.specs.Layouts.{length_in}
-use Rattle.td_stream.specs.Loads.{IsRising, Carries}
 use Rattle.td_stream.proofs.Carrying.{carried}
 use Rattle.td_stream.proofs.Rooms.{rooms_again}
-use Rattle.td_fetch.specs.Outcomes.{IsMeant}
 use Rattle.td_ir.specs.declared.tables.Parts.{Parts}
-use Rattle.td_lower_means.specs.CodeRun.{IsCodeOf}
+use Rattle.td_run.specs.Validation.{IsValidation}
 use Rattle.td_posts.specs.declared.job.HostJob.{HostJob}
 use Rattle.td_posts.specs.Posts.{zeros, HaveRoom}
 use Rattle.td_posts.proofs.Refilled.{first_fits, first_same}
-use Rattle.td_takes.specs.Codes.{HasRoomVersion, VersionCode}
+use Rattle.td_takes.specs.Codes.{HasRoomVersion, VersionCode, IsMeantUnder}
 
 -- what a validation by a version's code says, in the job's words
 pub meant_of : (job : HostJob) (c : Parts) (m : Module) (entry used : Entry) (layout : List Stretch) (loads : List Load) (args cells : List ℕ) (o : Outcome) → VersionCode c job m entry
-    → used ≡ entry → args ≡ job.args → cells ≡ zeros job.cells → length_in layout < 2 ^ 32
-    → ((m : Module) (b : List ℕ) → IsCodeOf c m → Carries layout b loads → IsSoundOn m used args cells b → IsMeant layout m used args cells b loads o)
-    → (b : List ℕ) → AreBytes b → Carries layout b loads → IsMeant layout m entry job.args (zeros job.cells) b loads o
-meant_of job c m entry used layout loads args cells o can begins a z short behavior b bytes h =
-    let size = h.size in
-    let meant = subst (λ (x : Entry × List ℕ × List ℕ). IsSoundOn m x.0 x.1 x.2 b → IsMeant layout m x.0 x.1 x.2 b loads o) (λ i. (begins i, a i, z i)) (behavior m b can.code h) in
-    meant (can.sound b bytes (omega (arith, size, short)))
+    → used ≡ entry → args ≡ job.args → cells ≡ zeros job.cells → length_in layout < 2 ^ 32 → IsValidation c used args cells layout loads o → IsMeantUnder job m entry layout loads o
+meant_of job c m entry used layout loads args cells o can begins a z short validated =
+    let v = subst (λ (x : Entry × List ℕ × List ℕ). IsValidation c x.0 x.1 x.2 layout loads o) (λ i. (begins i, a i, z i)) validated in
+    record {
+      rising = v.rising;
+      inside = v.inside;
+      holds = λ b h bytes. let size = h.size in (v.holds b h).meant m can.code (can.sound b bytes (omega (arith, size, short)));
+    }
 
 -- some message carries the loads, and this is the outcome that is meant of it
-pub copies_fit : (job : HostJob) (m : Module) (entry : Entry) (layout : List Stretch) (loads : List Load) (o : Outcome) → HasRoomVersion job m entry → IsRising loads → length_in layout < 2 ^ 32
-    → ((b : List ℕ) → AreBytes b → Carries layout b loads → IsMeant layout m entry job.args (zeros job.cells) b loads o) → HaveRoom job.rooms o.copies
-copies_fit job m entry layout loads o roomy rising short meant =
-    let message = carried layout loads rising in
+pub copies_fit : (job : HostJob) (m : Module) (entry : Entry) (layout : List Stretch) (loads : List Load) (o : Outcome) → HasRoomVersion job m entry → length_in layout < 2 ^ 32
+    → IsMeantUnder job m entry layout loads o → HaveRoom job.rooms o.copies
+copies_fit job m entry layout loads o roomy short fetched =
+    let message = carried layout loads fetched.rising in
     let b : List ℕ = message.0 in
     let bytes : AreBytes b = are_bytes b message.2 in
     let size = message.1.size in
-    subst (λ (x : Outcome). HaveRoom job.rooms x.copies) (meant b bytes message.1).same (roomy b bytes (omega (arith, size, short)))
+    subst (λ (x : Outcome). HaveRoom job.rooms x.copies) (fetched.holds b message.1 bytes).same (roomy b bytes (omega (arith, size, short)))
 
 -- copies with just these rooms have room for what the first k of some buffers hold, where that fits the rooms
 pub kept_fits : (rooms : List ℕ) (k : ℕ) (others buffers copies : List BufferView) → copies ≡ map empty_with rooms → others ≡ buffers → HaveRoom rooms (held_by (take k buffers))

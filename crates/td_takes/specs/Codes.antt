@@ -3,7 +3,12 @@ use Rattle.std.specs.Prelude.{ℕ, ◌<◌, ◌^◌, List, length}
 use Rattle.td_num.specs.Lists.{AreBytes}
 use Rattle.td_core.specs.declared.module.Module.{Module}
 use Rattle.td_core.specs.declared.module.Entry.{Entry}
+use Rattle.td_core.specs.declared.outcome.Outcome.{Outcome}
 use Rattle.td_meaning.specs.Copies.{outcome, IsSoundFrom}
+use Rattle.td_stream.specs.declared.load.Load.{Load}
+use Rattle.td_stream.specs.declared.stretch.Stretch.{Stretch}
+use Rattle.td_stream.specs.Loads.{IsFetchedOnce}
+use Rattle.td_fetch.specs.Outcomes.{IsMeant}
 use Rattle.td_ir.specs.declared.tables.Parts.{Parts}
 use Rattle.td_ir.specs.Entries.{Fits}
 use Rattle.td_lower_means.specs.CodeRun.{IsCodeOf}
@@ -25,6 +30,12 @@ pub record VersionCode (c : Parts) (job : HostJob) (m : Module) (entry : Entry) 
   pub fits : Fits c entry job.args (zeros job.cells)
   pub sound : IsSoundVersion job m entry
   pub roomy : HasRoomVersion job m entry
+
+-- a message of the job that lies so was validated under this version, with these loads and this outcome: each word was loaded at most
+-- once, in rising order, and on every list of bytes that carries the loads the outcome is the meaning's, from cells of zeros, and exactly
+-- the words that this meaning reads were loaded
+abbrev pub IsMeantUnder : HostJob → Module → Entry → List Stretch → List Load → Outcome → Type 0
+IsMeantUnder job m entry layout loads o = IsFetchedOnce layout loads (λ b. AreBytes b → IsMeant layout m entry job.args (zeros job.cells) b loads o)
 
 -- this code and this entry point are those of the version of this number
 pub record IsCodeAt (c : Parts) (job : HostJob) (n : ℕ) (entry : Entry) : Type 0 where

@@ -10,7 +10,7 @@ use Rattle.td_descr.specs.Ring.{frame_outcome}
 -- the reply of a validation that left its trace and cells in this frame, with these loads
 pub record IsOutcome (r : Reply) (look : Look) (frame : FrameView) (verdict : Verdict) : Type 0 where
   pub guest : r.guest ≡ 0
-  pub number : version_in r ≡ 0
+  pub version : version_in r ≡ 0
   pub layout : r.layout ≡ None
   pub outcome : outcome_in r ≡ frame_outcome frame verdict
   pub loads : r.loads.list ≡ look.loads

@@ -1,4 +1,5 @@
 pub mod Codes
 pub mod Takes
 pub mod Kept
+pub mod Memory
 pub mod TakesServed

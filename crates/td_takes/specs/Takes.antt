@@ -1,5 +1,5 @@
 -- Takes from a ring: what each answers, and what its seat loaded (own rule).
-use Rattle.std.specs.Prelude.{◌≡◌, ℕ, ◌+◌, ◌*◌, ◌/◌, ◌<◌, ◌≤◌, ◌^◌, List, [], ◌∷◌, ◌++◌, map, length, vec_capacity, Option, Some, None}
+use Rattle.std.specs.Prelude.{◌≡◌, ℕ, ◌+◌, ◌*◌, ◌/◌, ◌<◌, ◌≤◌, ◌^◌, List, [], ◌∷◌, ◌++◌, map, length, vec_capacity, Option, Some, None, IfSome}
 use Rattle.td_num.specs.Lists.{AreBytes}
 use Rattle.td_core.specs.declared.module.Module.{Module}
 use Rattle.td_core.specs.declared.module.Entry.{Entry}
@@ -8,8 +8,7 @@ use Rattle.td_stream.specs.declared.load.Load.{Load}
 use Rattle.td_stream.specs.declared.stretch.Stretch.{Stretch}
 use Rattle.td_stream.specs.Layouts.{plain}
 use Rattle.td_stream.specs.Copies.{empty_with}
-use Rattle.td_stream.specs.Loads.{IsRising, Inside, Carries}
-use Rattle.td_fetch.specs.Outcomes.{IsMeant}
+use Rattle.td_stream.specs.Loads.{IsFetchedOnce}
 use Rattle.td_ir.specs.declared.tables.Parts.{Parts}
 use Rattle.td_lower_means.specs.CodeRun.{IsCodeOf}
 use Rattle.td_vm.specs.Need.{most_need, level}
@@ -29,6 +28,7 @@ use Rattle.td_descr.specs.Words.{load_of, raised}
 use Rattle.td_descr.specs.Ring.{standing, ring_words, desc_word, desc_bytes, answer, IsDescribed, IsSoundOn}
 use Rattle.td_takes.specs.declared.take.Take.{Take}
 use Rattle.td_takes.specs.declared.take.Room.{Room}
+use Rattle.td_takes.specs.Codes.{IsMeantUnder}
 
 -- ---- where things lie
 -- a ring's words in the buffer
@@ -46,30 +46,25 @@ pub record Describes (m : Module) (c : Parts) (room most : ℕ) : Type 0 where
   pub sound : (b : List ℕ) → AreBytes b → length b < 2 ^ 32 → IsSoundOn m room most b
 
 -- ---- one take
--- a reply of no guest, whose number of a version is 0, whose message has this list of stretches or none, and its loads rise and lie in
--- the message
-pub record IsOfNoGuest (r : Reply) (stretches : Option (List Stretch)) (layout : List Stretch) : Type 0 where
+-- a reply of no guest, under version 0, whose message has this list of stretches or none
+pub record IsOfNoGuest (r : Reply) (stretches : Option (List Stretch)) : Type 0 where
   pub guest : r.guest ≡ 0
-  pub number : version_in r ≡ 0
+  pub version : version_in r ≡ 0
   pub list : r.layout ≡ stretches
-  pub rising : IsRising r.loads.list
-  pub inside : Inside layout r.loads.list
 
--- the reply to a message of this place and size: its outcome is what version 0's module means, from cells of zeros, on every list of
--- bytes that carries its loads, which are of exactly the words that the meaning reads
+-- the reply to a message of this place and size: it was validated under version 0
 pub record IsMessage (job : HostJob) (place size : ℕ) (r : Reply) : Type 0 where
-  pub is : IsOfNoGuest r (Some (message_layout place size)) (message_layout place size)
+  pub is : IsOfNoGuest r (Some (message_layout place size))
   pub format : Module
   pub entry : Entry
   pub version : IsVersion job 0 format entry
-  pub meant : (b : List ℕ) → AreBytes b → Carries (message_layout place size) b r.loads.list
-      → IsMeant (message_layout place size) format entry job.args (zeros job.cells) b r.loads.list (outcome_in r)
+  pub fetched : IsMeantUnder job format entry (message_layout place size) r.loads.list (outcome_in r)
 
--- the reply of a descriptor, by this module: its outcome is the module's in the same way, on lists of its sixteen bytes
+-- the reply of a descriptor, by this module: its outcome is what the module means in the same way, on lists of its sixteen bytes
 pub record IsDescriptor (m : Module) (room most : ℕ) (d : Reply) : Type 0 where
-  pub is : IsOfNoGuest d None (plain desc_bytes)
+  pub is : IsOfNoGuest d None
   pub cells : length d.cells.items ≡ 3
-  pub meant : (b : List ℕ) → AreBytes b → Carries (plain desc_bytes) b d.loads.list → IsDescribed m room most b d.loads.list (outcome_in d)
+  pub fetched : IsFetchedOnce (plain desc_bytes) d.loads.list (λ b. AreBytes b → IsDescribed m room most b d.loads.list (outcome_in d))
 
 -- a message is there exactly where a take has one, and it is validated at the place and size that were loaded
 abbrev pub HasMessage : HostJob → Next → Option Reply → Type 0
@@ -93,10 +88,16 @@ IsAnswer Lost m room most taken t = (t.next ≡ Overrun t.head) × (t.descr ≡ 
 IsAnswer Waiting m room most taken t =
     (d : Reply) × (t.descr ≡ Some d) × IsDescriptor m room most d × (t.next ≡ answer taken d.verdict d.cells.items)
 
--- a take of a ring of which so many descriptors were taken, by this module of descriptors, in a buffer of `room` bytes
+-- a reply that is there has this number
+abbrev pub HasNumber : ℕ → Option Reply → Type 0
+HasNumber n r = IfSome r (λ x. x.number ≡ n)
+
+-- a take of a ring of which so many descriptors were taken, by this module of descriptors, in a buffer of `room` bytes; its replies have
+-- its number
 pub record IsTake (job : HostJob) (m : Module) (room : ℕ) (ring : RingJob) (taken : ℕ) (t : Take) : Type 0 where
   pub answers : IsAnswer (standing ring.entries taken t.head) m room ring.most taken t
   pub message : HasMessage job t.next t.message
+  pub numbered : HasNumber t.number t.descr × HasNumber t.number t.message
 
 -- ---- its loads
 abbrev pub loads_of : Option Reply → List Load

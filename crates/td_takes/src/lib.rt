@@ -9,3 +9,4 @@ mod validate;
 
 pub use rings::{RingAt, run_ring, take_once};
 pub use take::{Room, Take};
+pub use validate::{Validator, keep};

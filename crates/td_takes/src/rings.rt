@@ -1,23 +1,22 @@
 //! The takes of one ring.
 
-ghost use Rattle.std.specs.Prelude.{◌≡◌, ℕ, ◌+◌, ◌*◌, ◌≤◌, ◌<◌, ◌^◌, [], length, vec_capacity};
+ghost use Rattle.std.specs.Prelude.{◌≡◌, ℕ, ◌+◌, ◌*◌, ◌≤◌, ◌<◌, ◌^◌, [], length, vec_capacity, IfSome};
 ghost use Rattle.td_core.specs.declared.module.Module.{Module};
 ghost use Rattle.td_vm.specs.Frames.{IsArmed};
 ghost use Rattle.td_posts.specs.declared.limits.TheConstants.{MOST_ENTRIES as most_entries};
 ghost use Rattle.td_descr.specs.Ring.{Answers, LiesWithin, ring_words, standing};
 ghost use Rattle.td_takes.specs.Codes.{IsMessageCode};
-ghost use Rattle.td_takes.specs.Takes.{Describes, IsMessageRoom, IsRoom, AreRooms, IsTake, RanRing, HasMessage, IsDescRoom, IfJudged, HasDone, frames_of, message_steps, take_steps, taken_after};
+ghost use Rattle.td_takes.specs.Takes.{Describes, IsMessageRoom, IsRoom, AreRooms, IsTake, RanRing, HasMessage, HasNumber, IsDescRoom, IfJudged, HasDone, frames_of, message_steps, take_steps, taken_after};
 ghost use Rattle.td_takes.specs.Kept.{IsKept};
+ghost use Rattle.td_takes.specs.Memory.{KeepsMemory, KeepsRoom, KeepRooms};
 
 use crate::take::{Room, Take};
-use crate::validate::{look_ring, reply_of, validate_message};
+use crate::validate::{Validator, look_ring, reply_of, validate_message};
 use std::collections::VecDeque;
 use td_descr::{Descr, Next};
-use td_posts::{HostJob, Reply, RingJob};
-use td_verify::verify::Verified;
+use td_posts::{Reply, RingJob};
 use td_vm::validate::Frame;
 use td_words::seats::ReadSeat;
-use td_words::shared::Shared;
 
 /// A ring of a job, and its number in the job, from 1.
 #[derive(Clone, Copy)]
@@ -27,46 +26,26 @@ pub struct RingAt<'a> {
 }
 
 /// The reply of the last descriptor's validation, where one waited.
-fn desc_reply(descr: &Descr, number: u32, room: Reply) -> Option<Reply>
+fn desc_reply(descr: &Descr, number: u32, mut room: Reply) -> Option<Reply>
     requires room { IsDescRoom (frames_of descr.now.code) room }
     requires cells { IfJudged descr.now.last.verdict (length descr.now.frame.cells ≡ 3) }
-    ensures { IsKept descr.now.last descr.now.frame result }
+    ensures kept { IsKept descr.now.last descr.now.frame result }
+    ensures number { HasNumber number result }
+    ensures memory { IfSome result (KeepsMemory room) }
 {
     let last = descr.last();
     match last.verdict {
         None => None,
         Some(verdict) => {
-            let Reply {
-                guest: _,
-                number: _,
-                version: _,
-                layout: _,
-                verdict: _,
-                trace,
-                cells,
-                copies,
-                mut loads,
-            } = room;
-            last.loads.put(&mut loads);
-            Some(reply_of(
-                descr.frame(),
-                number,
-                None,
-                verdict,
-                trace,
-                cells,
-                copies,
-                loads,
-            ))
+            last.loads.put(&mut room.loads);
+            Some(reply_of(descr.frame(), number, None, verdict, room))
         }
     }
 }
 
 /// The reply to the message that a look found, where it found one.
 fn message_of(
-    code: &Verified,
-    job: &HostJob,
-    shared: &Shared,
+    validator: &Validator<'_>,
     seat: &mut ReadSeat,
     frame: &mut Frame,
     next: Next,
@@ -74,15 +53,17 @@ fn message_of(
     most: u32,
     room: Reply,
 ) -> Option<Reply>
-    requires own { seat.old.table ≡ shared.now.table }
-    requires inside { LiesWithin (8 * shared.now.count) most next }
-    requires code { IsMessageCode code.now job.now }
-    requires armed { IsArmed code.now frame.old }
-    requires room { IsMessageRoom job.now (frames_of code.now) most room }
+    requires own { seat.old.table ≡ validator.now.shared.now.table }
+    requires inside { LiesWithin (8 * validator.now.shared.now.count) most next }
+    requires code { IsMessageCode validator.now.code.now validator.now.job.now }
+    requires armed { IsArmed validator.now.code.now frame.old }
+    requires room { IsMessageRoom validator.now.job.now (frames_of validator.now.code.now) most room }
     ensures table { seat.new.table ≡ seat.old.table }
-    ensures armed { IsArmed code.now frame.new }
-    ensures message { HasMessage job.now next result }
+    ensures armed { IsArmed validator.now.code.now frame.new }
+    ensures message { HasMessage validator.now.job.now next result }
+    ensures number { HasNumber number result }
     ensures read { HasDone seat.old seat.new (message_steps next result) }
+    ensures memory { IfSome result (KeepsMemory room) }
 {
     match next {
         Next::Idle { made: _ } => None,
@@ -93,16 +74,14 @@ fn message_of(
             place,
             size,
             id: _,
-        } => Some(validate_message(code, job, shared, seat, frame, place, size, number, room)),
+        } => Some(validate_message(validator, seat, frame, place, size, number, room)),
     }
 }
 
 /// One take from a ring of the job: looks at it once, and validates the message of the descriptor where that is accepted, at the place and
 /// size that were loaded. It takes no memory and waits for nobody.
 pub fn take_once(
-    code: &Verified,
-    job: &HostJob,
-    shared: &Shared,
+    validator: &Validator<'_>,
     ring: &RingAt<'_>,
     number: u32,
     descr: &mut Descr,
@@ -110,33 +89,32 @@ pub fn take_once(
     frame: &mut Frame,
     room: Room,
 ) -> Take
-    requires own { seat.old.table ≡ shared.now.table }
+    requires own { seat.old.table ≡ validator.now.shared.now.table }
     requires entries { descr.old.entries ≡ ring.now.job.now.entries }
     requires most { descr.old.most ≡ ring.now.job.now.most }
     requires few { ring.now.job.now.entries ≤ most_entries }
-    requires inside { ring.now.job.now.base + ring_words ring.now.job.now.entries ≤ shared.now.count }
-    requires bytes { descr.old.room ≤ 8 * shared.now.count }
-    requires code { IsMessageCode code.now job.now }
-    requires armed { IsArmed code.now frame.old }
-    requires rooms { IsRoom job.now (frames_of code.now) (frames_of descr.old.code) ring.now.job.now.most room }
+    requires inside { ring.now.job.now.base + ring_words ring.now.job.now.entries ≤ validator.now.shared.now.count }
+    requires bytes { descr.old.room ≤ 8 * validator.now.shared.now.count }
+    requires code { IsMessageCode validator.now.code.now validator.now.job.now }
+    requires armed { IsArmed validator.now.code.now frame.old }
+    requires rooms { IsRoom validator.now.job.now (frames_of validator.now.code.now) (frames_of descr.old.code) ring.now.job.now.most room }
     ensures table { seat.new.table ≡ seat.old.table }
-    ensures armed { IsArmed code.now frame.new }
+    ensures armed { IsArmed validator.now.code.now frame.new }
     ensures ring { result.ring ≡ ring.now.number }
     ensures number { result.number ≡ number }
     ensures descr { descr.new ≡ record descr.old { taken = taken_after descr.old.taken result.next; frame = descr.new.frame; last = descr.new.last } }
-    ensures take { (m : Module) → Describes m descr.old.code descr.old.room ring.now.job.now.most → IsTake job.now m descr.old.room ring.now.job.now descr.old.taken result }
+    ensures take { (m : Module) → Describes m descr.old.code descr.old.room ring.now.job.now.most → IsTake validator.now.job.now m descr.old.room ring.now.job.now descr.old.taken result }
     ensures read { HasDone seat.old seat.new (take_steps ring.now.job.now descr.old.taken result) }
+    ensures memory { KeepsRoom room result }
 {
     let Room {
         descr: desc_room,
         message: message_room,
     } = room;
-    let next = look_ring(shared, seat, ring.job, number, descr);
+    let next = look_ring(validator.shared, seat, ring.job, number, descr);
     let desc = desc_reply(descr, number, desc_room);
     let message = message_of(
-        code,
-        job,
-        shared,
+        validator,
         seat,
         frame,
         next,
@@ -156,9 +134,7 @@ pub fn take_once(
 
 /// Makes all takes from a ring of the job, each with the next of the rooms. It takes no memory and waits for nobody.
 pub fn run_ring(
-    code: &Verified,
-    job: &HostJob,
-    shared: &Shared,
+    validator: &Validator<'_>,
     ring: &RingAt<'_>,
     descr: &mut Descr,
     seat: &mut ReadSeat,
@@ -166,26 +142,27 @@ pub fn run_ring(
     rooms: &mut VecDeque<Room>,
     takes: &mut Vec<Take>,
 )
-    requires own { seat.old.table ≡ shared.now.table }
+    requires own { seat.old.table ≡ validator.now.shared.now.table }
     requires entries { descr.old.entries ≡ ring.now.job.now.entries }
     requires most { descr.old.most ≡ ring.now.job.now.most }
     requires few { ring.now.job.now.entries ≤ most_entries }
-    requires inside { ring.now.job.now.base + ring_words ring.now.job.now.entries ≤ shared.now.count }
-    requires bytes { descr.old.room ≤ 8 * shared.now.count }
+    requires inside { ring.now.job.now.base + ring_words ring.now.job.now.entries ≤ validator.now.shared.now.count }
+    requires bytes { descr.old.room ≤ 8 * validator.now.shared.now.count }
     requires none { descr.old.taken ≡ 0 }
-    requires code { IsMessageCode code.now job.now }
-    requires armed { IsArmed code.now frame.old }
-    requires rooms { AreRooms job.now (frames_of code.now) (frames_of descr.old.code) ring.now.job.now.most rooms.old.items }
+    requires code { IsMessageCode validator.now.code.now validator.now.job.now }
+    requires armed { IsArmed validator.now.code.now frame.old }
+    requires rooms { AreRooms validator.now.job.now (frames_of validator.now.code.now) (frames_of descr.old.code) ring.now.job.now.most rooms.old.items }
     requires as_many { length rooms.old.items ≡ ring.now.job.now.takes }
     requires empty { takes.old.items ≡ [] }
     requires space { ring.now.job.now.takes ≤ vec_capacity takes.old }
-    ensures { RanRing job.now descr.old.code descr.old.room ring.now.job.now ring.now.number seat.old seat.new takes.new.items }
+    ensures ran { RanRing validator.now.job.now descr.old.code descr.old.room ring.now.job.now ring.now.number seat.old seat.new takes.new.items }
+    ensures memory { KeepRooms rooms.old.items takes.new.items }
 {
     for i in 0..ring.job.takes {
         let Some(room) = rooms.pop_front() else {
             unreachable!()
         };
-        let take = take_once(code, job, shared, ring, i + 1, descr, seat, frame, room);
+        let take = take_once(validator, ring, i + 1, descr, seat, frame, room);
         takes.push_reserved(take);
     }
 }

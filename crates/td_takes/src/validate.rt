@@ -9,6 +9,7 @@ ghost use Rattle.td_live.specs.Live.{HasLoaded};
 ghost use Rattle.td_descr.specs.Words.{load_of, raised};
 ghost use Rattle.td_descr.specs.Ring.{Answers, LiesWithin, standing, ring_words, desc_word};
 ghost use Rattle.td_takes.specs.Codes.{IsMessageCode};
+ghost use Rattle.td_takes.specs.Memory.{KeepsMemory};
 ghost use Rattle.td_takes.specs.Takes.{IsMessage, IsMessageRoom, frames_of, message_layout, ring_layout};
 
 use td_core::outcome::{TraceFrame, Verdict};
@@ -19,51 +20,69 @@ use td_live::message::LiveMessage;
 use td_live::slot::validate_slot;
 use td_posts::copies::keep_copies;
 use td_posts::{HostJob, Reply, RingJob};
-use td_stream::copies::Copies;
 use td_stream::laws::message_is_short;
 use td_stream::layout::Layout;
-use td_stream::loads::Loads;
 use td_verify::verify::Verified;
 use td_vm::laws::fitting_cells_have_room;
 use td_vm::validate::Frame;
 use td_words::seats::ReadSeat;
 use td_words::shared::Shared;
 
-/// Puts what the last validation left in a frame into room that was taken for it.
-fn keep(frame: &Frame, trace: &mut Vec<TraceFrame>, cells: &mut [u64])
+/// What validates the messages that rings name: the code of version 0, the job, which has its entry point and arguments, and the buffer.
+#[derive(Clone, Copy)]
+pub struct Validator<'a> {
+    pub code: &'a Verified,
+    pub job: &'a HostJob,
+    pub shared: &'a Shared,
+}
+
+/// Puts what the last validation left in a frame into room that was taken for it, of which no list is let grow.
+pub fn keep(frame: &Frame, trace: &mut Vec<TraceFrame>, cells: &mut [u64])
     requires empty { trace.old.items ≡ [] }
     requires room { frame.now.trace_room ≤ vec_capacity trace.old }
     requires cells { length cells.old ≡ length frame.now.cells }
     ensures trace { trace.new.items ≡ frame.now.trace }
     ensures cells { cells.new ≡ frame.now.cells }
+    ensures memory { vec_capacity trace.new ≡ vec_capacity trace.old }
 {
     cells.copy_from_slice(frame.cells());
-    let Ok(()) = trace.extend_from_slice(frame.trace()) else {
-        unreachable!()
-    };
+    let lines = frame.trace();
+    for line in lines {
+        trace.push_reserved(*line);
+    }
 }
 
-/// The reply of a validation that left its trace and cells in a frame, in room that was taken for it, with these copies; of no guest, and
-/// with version 0.
+/// The reply of a validation that left its trace and cells in a frame, in room that was taken for it and has the loads and the copies
+/// already; of no guest, and with version 0.
 pub fn reply_of(
     frame: &Frame,
     number: u32,
     layout: Option<Layout>,
     verdict: Verdict,
-    mut trace: Vec<TraceFrame>,
-    mut cells: Vec<u64>,
-    copies: Copies,
-    loads: Loads,
+    room: Reply,
 ) -> Reply
-    requires empty { trace.items ≡ [] }
-    requires room { frame.now.trace_room ≤ vec_capacity trace }
-    requires cells { length cells.items ≡ length frame.now.cells }
+    requires empty { room.trace.items ≡ [] }
+    requires room { frame.now.trace_room ≤ vec_capacity room.trace }
+    requires cells { length room.cells.items ≡ length frame.now.cells }
     ensures guest { result.guest ≡ 0 }
+    ensures number { result.number ≡ number }
     ensures version { result.version ≡ 0 }
     ensures layout { result.layout ≡ layout }
-    ensures outcome { outcome_in result ≡ record { verdict = verdict; trace = frame.now.trace; cells = frame.now.cells; copies = held_by copies.buffers.items } }
-    ensures loads { result.loads ≡ loads }
+    ensures outcome { outcome_in result ≡ record { verdict = verdict; trace = frame.now.trace; cells = frame.now.cells; copies = held_by room.copies.buffers.items } }
+    ensures loads { result.loads ≡ room.loads }
+    ensures memory { KeepsMemory room result }
 {
+    let Reply {
+        guest: _,
+        number: _,
+        version: _,
+        layout: _,
+        verdict: _,
+        mut trace,
+        mut cells,
+        copies,
+        loads,
+    } = room;
     keep(frame, &mut trace, cells.as_mut_slice());
     Reply {
         guest: 0,
@@ -80,63 +99,50 @@ pub fn reply_of(
 
 /// Validates the message of this place and size by version 0's entry point, from the ring's seat.
 pub fn validate_message(
-    code: &Verified,
-    job: &HostJob,
-    shared: &Shared,
+    validator: &Validator<'_>,
     seat: &mut ReadSeat,
     frame: &mut Frame,
     place: u32,
     size: u32,
     number: u32,
-    room: Reply,
+    mut room: Reply,
 ) -> Reply
-    requires own { seat.old.table ≡ shared.now.table }
-    requires inside { place + size ≤ 8 * shared.now.count }
-    requires code { IsMessageCode code.now job.now }
-    requires armed { IsArmed code.now frame.old }
-    requires room { IsMessageRoom job.now (frames_of code.now) size room }
+    requires own { seat.old.table ≡ validator.now.shared.now.table }
+    requires inside { place + size ≤ 8 * validator.now.shared.now.count }
+    requires code { IsMessageCode validator.now.code.now validator.now.job.now }
+    requires armed { IsArmed validator.now.code.now frame.old }
+    requires room { IsMessageRoom validator.now.job.now (frames_of validator.now.code.now) size room }
     ensures table { seat.new.table ≡ seat.old.table }
-    ensures armed { IsArmed code.now frame.new }
-    ensures message { IsMessage job.now place size result }
+    ensures armed { IsArmed validator.now.code.now frame.new }
+    ensures message { IsMessage validator.now.job.now place size result }
+    ensures number { result.number ≡ number }
     ensures read { HasLoaded (message_layout place size) seat.old seat.new result.loads.list }
+    ensures memory { KeepsMemory room result }
 {
     fitting_cells_have_room();
-    let Reply {
-        guest: _,
-        number: _,
-        version: _,
-        layout: _,
-        verdict: _,
-        trace,
-        cells,
-        mut copies,
-        mut loads,
-    } = room;
     let layout = Layout::one(place, size);
     message_is_short(&layout);
-    frame.set_cells(cells.as_slice());
+    frame.set_cells(room.cells.as_slice());
     let message = LiveMessage {
-        shared,
+        shared: validator.shared,
         layout: &layout,
         name: PostName { guest: 0, number },
     };
-    let args = job.args.as_slice();
-    let entries = job.entries.as_slice();
+    let args = validator.job.args.as_slice();
+    let entries = validator.job.entries.as_slice();
     let mut gate = OpenGate;
     let verdict = validate_slot(
-        code, entries[0], args, &message, seat, frame, &mut loads, &mut gate,
-    );
-    keep_copies(frame.copies(), copies.buffers.as_mut_slice());
-    reply_of(
+        validator.code,
+        entries[0],
+        args,
+        &message,
+        seat,
         frame,
-        number,
-        Some(layout),
-        verdict,
-        trace,
-        cells,
-        copies,
-        loads,
-    )
+        &mut room.loads,
+        &mut gate,
+    );
+    keep_copies(frame.copies(), room.copies.buffers.as_mut_slice());
+    reply_of(frame, number, Some(layout), verdict, room)
 }
 
 /// Looks at the ring once, from its seat.

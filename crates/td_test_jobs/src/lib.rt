@@ -1,4 +1,4 @@
-//! Tests of what no clause of the crates on bytes, jobs and reports says: that memory which is there suffices, that a
+//! Tests of what no clause of the crates on bytes, jobs, reports and formats says: that memory which is there suffices, that a
 //! read or a write which fails is answered as that, and how values and errors print. Nothing stands on this crate.
 #![tactic(auto)]
 
@@ -10,3 +10,5 @@ mod jobs;
 mod messages;
 #[cfg(test)]
 mod reports;
+#[cfg(test)]
+mod values;

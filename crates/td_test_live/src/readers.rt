@@ -9,6 +9,7 @@ use std::test::Fail;
 use std::thread;
 use td_core::module::Module;
 use td_live::gate::{OpenGate, PostName};
+use td_live::message::LiveMessage;
 use td_meaning_plain::meaning::meaning;
 use td_stream::layout::Layout;
 use td_stream::load::Load;
@@ -47,17 +48,12 @@ impl<'a> Reader<'a> {
         // (the number of words is below 2^32, so the message has places below 2^35)
         let _words = self.shared.count();
         let layout = Layout::words(self.base, LENGTH);
-        let name = PostName { guest: 1, number };
-        validated(
-            alloc,
-            code,
-            self.shared,
-            &mut self.seat,
-            &layout,
-            name,
-            &[0],
-            &mut OpenGate,
-        )
+        let message = LiveMessage {
+            shared: self.shared,
+            layout: &layout,
+            name: PostName { guest: 1, number },
+        };
+        validated(alloc, code, &message, &mut self.seat, &[0], &mut OpenGate)
     }
 
     fn validate_all(&mut self, alloc: Global, code: &Verified) -> Option<()> {

@@ -10,6 +10,7 @@ use td_core::module::Module;
 use td_core::outcome::{Reason, Verdict};
 use td_io::MemorySink;
 use td_live::gate::{Gate, PostName};
+use td_live::message::LiveMessage;
 use td_report::report::run_report;
 use td_stream::layout::Layout;
 use td_stream::load::Load;
@@ -87,13 +88,15 @@ fn raced(
         value,
     };
     let mut seat = shared.split_reader(&mut host);
-    let name = PostName {
-        guest: 1,
-        number: 1,
+    let message = LiveMessage {
+        shared: &shared,
+        layout,
+        name: PostName {
+            guest: 1,
+            number: 1,
+        },
     };
-    validated(
-        alloc, code, &shared, &mut seat, layout, name, cells, &mut gate,
-    )
+    validated(alloc, code, &message, &mut seat, cells, &mut gate)
 }
 
 // The report of a validation.

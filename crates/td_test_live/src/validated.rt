@@ -9,16 +9,14 @@ use td_core::module::{Entry, Module};
 use td_core::outcome::Outcome;
 use td_front::check_module;
 use td_ir::entries::fits;
-use td_live::gate::{Gate, PostName};
+use td_live::gate::Gate;
 use td_live::message::LiveMessage;
 use td_live::slot::validate_slot;
-use td_stream::layout::Layout;
 use td_stream::loads::Loads;
 use td_verify::verify::Verified;
 use td_vm::laws::fitting_cells_have_room;
 use td_vm::validate::Frame;
 use td_words::seats::ReadSeat;
-use td_words::shared::Shared;
 
 /// The entry point of each module here, which takes no argument.
 pub(crate) const ENTRY: Entry = Entry { number: 0 };
@@ -51,42 +49,35 @@ pub(crate) struct Ran {
     pub(crate) loads: Loads,
 }
 
-/// Validates the message of a layout once, from these cells. None: the entry point doesn't take them, or there was no memory.
+/// Validates a message once, from these cells. None: the entry point doesn't take them, or there was no memory.
 pub(crate) fn validated<G: Gate>(
     alloc: Global,
     code: &Verified,
-    shared: &Shared,
+    message: &LiveMessage<'_>,
     seat: &mut ReadSeat,
-    layout: &Layout,
-    name: PostName,
     cells: &[u64],
     gate: &mut G,
 ) -> Option<Ran>
-    requires own { seat.old.table ≡ shared.now.table }
-    requires inside { AreWithin shared.now.count layout.now }
-    ensures own { seat.new.table ≡ shared.now.table }
+    requires own { seat.old.table ≡ message.now.shared.now.table }
+    requires inside { AreWithin message.now.shared.now.count message.now.layout.now }
+    ensures own { seat.new.table ≡ message.now.shared.now.table }
 {
     if !fits(code.code(), ENTRY, &[], cells) {
         return None;
     }
     fitting_cells_have_room();
-    let Ok(mut loads) = Loads::with_room(alloc, layout.count()) else {
+    let Ok(mut loads) = Loads::with_room(alloc, message.layout.count()) else {
         return None;
     };
     let Ok(mut frame) = Frame::arm(alloc, code) else {
         return None;
     };
     frame.set_cells(cells);
-    let message = LiveMessage {
-        shared,
-        layout,
-        name,
-    };
     let verdict = validate_slot(
         code,
         ENTRY,
         &[],
-        &message,
+        message,
         seat,
         &mut frame,
         &mut loads,

@@ -26,18 +26,17 @@ use Rattle.std.specs.List.{All}
 use Rattle.std.proofs.lemmas.List.Elements.{All-weaker}
 use Rattle.td_stream.specs.declared.stretch.Stretch.{Stretch}
 use Rattle.td_stream.specs.Layouts.{count_in, counted, laid, plain, IsNumberOf, IsOver}
-use Rattle.td_stream.specs.Loads.{Inside, Carries}
+use Rattle.td_stream.specs.Loads.{IsRising, Inside, Carries}
 use Rattle.td_meaning.specs.Copies.{IsSoundOn}
 use Rattle.td_fetch.specs.Outcomes.{IsMeant}
 use Rattle.td_try_bodies.specs.Meant.{IsJobMeant}
-use Rattle.td_job.proofs.Writing.{fits_params, fits_cells}
 
 -- a job's values, and lists that are alike, fit its entry point's code
 pub job_fits : ArgumentsFit → (c : Parts) (m : Module) (job : RunJob) (args cells : List ℕ) → IsCodeOf c m → job.entry.number < length m.entries → HasValues m job
     → args ≡ job.args → cells ≡ job.cells → Fits c job.entry args cells
 job_fits law c m job args cells of inside values p q =
     let o = entry_definition m job.entry.number in
-    let h : Fits c job.entry job.args job.cells = law c m job.entry job.args job.cells of inside (fits_params o job.args values.args) (fits_cells o job.cells values.cells) in
+    let h : Fits c job.entry job.args job.cells = law c m job.entry job.args job.cells of inside values.args values.cells in
     subst (λ x. Fits c job.entry args x) (sym q) (subst (λ x. Fits c job.entry x job.cells) (sym p) h)
 
 abbrev pub input_by : RunJob → List ℕ → List ℕ → List ℕ → List PlannedStore → Option (List Stretch) → Input
@@ -49,24 +48,20 @@ pub run_is_meant : (c : Parts) (m : Module) (job : RunJob) (outcome : Outcome) (
 run_is_meant c m job outcome loads args cells words stores layout of sound room p q r run =
     let R : List ℕ → List ℕ → Option (List Stretch) → Type 0 = λ a z l. IsRunBy c (input_by job a z words stores l) outcome loads in
     let h : R job.args job.cells job.layout = subst (λ l. R job.args job.cells l) r (subst (λ z. R job.args z layout) q (subst (λ a. R a cells layout) p run)) in
-    λ b bytes carried. h.meant m b of carried (sound b bytes (carried.size ∙ room.long))
-
--- and its loads are of words of the message
-pub run_is_inside : (c : Parts) (job : RunJob) (outcome : Outcome) (loads : List Load) (args cells words : List ℕ) (stores : List PlannedStore) (layout : Option (List Stretch)) → layout ≡ job.layout
-    → IsRunBy c (input_by job args cells words stores layout) outcome loads → Inside (laid job.length job.layout) loads
-run_is_inside c job outcome loads args cells words stores layout r run = subst (λ (l : Option (List Stretch)). Inside (laid job.length l) loads) r run.inside
+    let v = h.validated in
+    record { rising = v.rising; inside = v.inside; holds = λ b carried bytes. (v.holds b carried).meant m of (sound b bytes (carried.size ∙ room.long)) }
 
 -- a run whose outcome is the meaning's, from lists that are alike, is meant
 pub outcome_is_meant : (m : Module) (job : RunJob) (loads : List Load) (args start left cells : List ℕ) (held copies : List (List ℕ)) (verdict : Verdict) (trace : List TraceFrame) (layout : List Stretch) → IsSoundJob m job → HasRoom job
-    → layout ≡ laid job.length job.layout → args ≡ job.args → start ≡ job.cells → cells ≡ left → copies ≡ held
+    → layout ≡ laid job.length job.layout → args ≡ job.args → start ≡ job.cells → cells ≡ left → copies ≡ held → IsRising loads → Inside layout loads
     → ((b : List ℕ) → Carries layout b loads → IsSoundOn m job.entry args start b → IsMeant layout m job.entry args start b loads (record { verdict = verdict; trace = trace; cells = left; copies = held }))
     → IsJobMeant m job (record { verdict = verdict; trace = trace; cells = cells; copies = copies }) loads
-outcome_is_meant m job loads args start left cells held copies verdict trace layout sound room o p q r same told =
+outcome_is_meant m job loads args start left cells held copies verdict trace layout sound room o p q r same rising inside told =
     let R : List (List ℕ) → List ℕ → List ℕ → List ℕ → List Stretch → Type 0 = λ w a s z l. (b : List ℕ) → Carries l b loads → IsSoundOn m job.entry a s b → IsMeant l m job.entry a s b loads (record { verdict = verdict; trace = trace; cells = z; copies = w }) in
     let h : R copies job.args job.cells cells (laid job.length job.layout) =
     subst (λ w. R w job.args job.cells cells (laid job.length job.layout)) (sym same)
     (subst (λ l. R held job.args job.cells cells l) o (subst (λ z. R held job.args job.cells z layout) (sym r) (subst (λ s. R held job.args s left layout) q (subst (λ a. R held a start left layout) p told)))) in
-    λ b bytes carried. h b carried (sound b bytes (carried.size ∙ room.long))
+    record { rising = rising; inside = subst (λ l. Inside l loads) o inside; holds = λ b carried bytes. h b carried (sound b bytes (carried.size ∙ room.long)) }
 
 -- ---- empty buffers are an entry point's
 all_long : (bs : List Bound) (vs : List ℕ) → AllFit bs vs → length vs ≡ length bs
@@ -86,5 +81,5 @@ empty_fit (Some d) cells h = (all_long (cells_at (Some d)) cells h ∙ length-ma
 pub buffers_fit : (m : Module) (job : RunJob) (cells : List ℕ) (buffers : List BufferView) → HasValues m job → cells ≡ job.cells → buffers ≡ empty_of (entry_definition m job.entry.number) → AreOfEntry m job.entry (length cells) buffers
 buffers_fit m job cells buffers values e same =
     let o = entry_definition m job.entry.number in
-    let fits : AllFit (cells_at o) job.cells = fits_cells o job.cells values.cells in
+    let fits : AllFit (cells_at o) job.cells = values.cells in
     subst (λ vs. AreOfEntry m job.entry (length cells) vs) (sym same) (subst (λ xs. AreOfEntry m job.entry (length xs) (empty_of o)) (sym e) (empty_fit o job.cells fits))

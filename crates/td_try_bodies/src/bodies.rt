@@ -2,7 +2,6 @@
 
 ghost use Rattle.std.specs.Prelude.{◌≡◌, ◌<◌, ◌≤◌, [], length, IfOk};
 ghost use Rattle.td_stream.specs.Layouts.{count_in, counted, laid};
-ghost use Rattle.td_stream.specs.Loads.{Inside};
 ghost use Rattle.td_front.specs.Checked.{IsChecked};
 ghost use Rattle.td_job.specs.Jobs.{HasRoom, HasValues};
 ghost use Rattle.td_cli_input.specs.Inputs.{IsSoundJob};
@@ -20,7 +19,7 @@ use td_lower::lower::lower;
 use td_lower_means::laws::arguments_fit;
 use td_meaning_plain::meaning::meaning;
 use td_num::items::Items;
-use td_run::planned::{Memory, Run, run_planned};
+use td_run::planned::{Memory, Run, Start, run_planned};
 use td_sched::planned::Planned;
 use td_stream::laws::message_is_short;
 use td_stream::layout::Layout;
@@ -34,13 +33,17 @@ pub fn run_compiled(alloc: Global, m: &Module, job: &RunJob) -> Result<Run, Allo
     requires values { HasValues m.now job.now }
     requires room { HasRoom job.now }
     requires sound { IsSoundJob m.now job.now }
-    ensures meant { IfOk result (λ run. IsJobMeant m.now job.now run.outcome run.loads.list) }
-    ensures inside { IfOk result (λ run. Inside (laid job.now.length job.now.layout) run.loads.list) }
+    ensures { IfOk result (λ run. IsJobMeant m.now job.now run.outcome run.loads.list) }
 {
     arguments_fit();
     let code = lower(alloc, m)?;
     let args = job.args.as_slice();
     let cells = job.cells.as_slice();
+    let start = Start {
+        entry: job.entry,
+        args,
+        cells,
+    };
     let words = job.words.as_slice();
     let stores = job.stores.as_slice();
     let layout = job.layout.as_ref();
@@ -49,7 +52,7 @@ pub fn run_compiled(alloc: Global, m: &Module, job: &RunJob) -> Result<Run, Allo
         stores,
         layout,
     };
-    run_planned(alloc, &code, job.entry, args, cells, job.length, &memory)
+    run_planned(alloc, &code, &start, job.length, &memory)
 }
 
 // Runs the validator once, without code, on a message that lies so in planned words, of which at most `room` may be loaded.

@@ -2,16 +2,19 @@
 
 ghost use Rattle.std.specs.Prelude.{◌≡◌, ◌*◌, ◌<◌, ◌≤◌, ◌^◌, ◌∷◌, [], Err, length, IfOk};
 ghost use Rattle.std.specs.List.{All};
+ghost use Rattle.td_stream.specs.Layouts.{plain};
+ghost use Rattle.td_job.specs.Words.{IsFilled};
+ghost use Rattle.td_ir.specs.Tables.{entry_of};
 ghost use Rattle.td_ir.specs.Entries.{Fits};
 ghost use Rattle.td_image.specs.declared.error.ImageError.{ImageError};
 ghost use Rattle.td_image.specs.Answer.{IsRefused};
 ghost use Rattle.td_use_image.specs.declared.message.AnswerError.{AnswerError};
-ghost use Rattle.td_use_image.specs.Answers.{IsAnswer, IsValidated};
+ghost use Rattle.td_run.specs.Validation.{IsValidation};
+ghost use Rattle.td_use_image.specs.Answers.{firsts, IsAnswer, IsWithoutEntry};
 
-use crate::shared_words::SharedWords;
+use crate::shared_words::{SharedWord, SharedWords};
 use crate::validation::validated;
 use std::alloc::{AllocError, Global};
-use std::sync::atomic::AtomicU64;
 use td_core::module::Entry;
 use td_core::outcome::Outcome;
 use td_image::{ImageError, read_image};
@@ -52,23 +55,25 @@ impl From<AllocError> for AnswerError {
     }
 }
 
-// Words that hold a message, zero bytes filling the last one.
-fn shared(alloc: Global, message: &[u8]) -> Result<Vec<AtomicU64>, AllocError>
+// Words that begin with a message, zero bytes filling the last one.
+fn shared(alloc: Global, message: &[u8]) -> Result<Vec<SharedWord>, AllocError>
     requires { length message.now < 2 ^ 32 }
+    ensures filled { IfOk result (λ words. IsFilled message.now (length words.items) (firsts words.items)) }
     ensures room { IfOk result (λ words. length message.now ≤ 8 * length words.items) }
     ensures few { IfOk result (λ words. length words.items < 2 ^ 32) }
 {
     let filled = fill_words(alloc, message, (message.len() as u32).div_ceil(8))?;
     let mut words = Vec::new(alloc);
     for word in filled.as_slice() {
-        words.push(AtomicU64::new(*word))?;
+        words.push(SharedWord::new(*word))?;
     }
     Ok(words)
 }
 
 // As many zeros as an entry point has cells.
 fn zeros(alloc: Global, code: &Verified, entry: Entry) -> Result<Vec<u64>, AllocError>
-    ensures { IfOk result (λ cells. All (λ v. v ≡ 0) cells.items) }
+    ensures zeros { IfOk result (λ cells. All (λ v. v ≡ 0) cells.items) }
+    ensures count { IfOk result (λ cells. entry.number < length code.now.entries → length cells.items ≡ length (entry_of code.now entry.number).cells) }
 {
     match code
         .code()
@@ -93,10 +98,10 @@ fn validate_shared(
 ) -> Result<Answer, AllocError>
     requires fits { Fits code.now entry args.now cells.now }
     requires short { length message.now < 2 ^ 32 }
-    ensures { IfOk result (λ a. IsValidated code.now entry args.now cells.now (length message.now) a.loads.list a.outcome) }
+    ensures { IfOk result (λ a. IsValidation code.now entry args.now cells.now (plain (length message.now)) a.loads.list a.outcome) }
 {
-    let atomics = shared(alloc, message)?;
-    let mut words = SharedWords::over(alloc, &atomics)?;
+    let filled = shared(alloc, message)?;
+    let mut words = SharedWords::over(alloc, &filled)?;
     let outcome = validated(
         alloc,
         code,
@@ -111,8 +116,8 @@ fn validate_shared(
 }
 
 /// Validates a message by the code of an image, from its first entry point of this name on, which takes the message's length and
-/// nothing else. The cells begin at zero. `Image`: why the bytes are no image; `Entry`: there is no such entry point; `Long`: the
-/// message has 2^32 bytes or more; `NoMemory`: there was no memory.
+/// nothing else. The cells begin at zero. `Image`: why the bytes are no image; `Entry`: they are one, whose code has no such entry point;
+/// `Long`: the message has 2^32 bytes or more; `NoMemory`: there was no memory.
 pub fn validate_message(
     alloc: Global,
     image: &[u8],
@@ -121,6 +126,7 @@ pub fn validate_message(
 ) -> Result<Answer, AnswerError>
     ensures answer { IfOk result (λ a. IsAnswer image.now name.now (length message.now ∷ []) (length message.now) a.loads.list a.outcome) }
     ensures image { (e : ImageError) → result ≡ Err (AnswerError.Image e) → IsRefused image.now e }
+    ensures entry { result ≡ Err AnswerError.Entry → IsWithoutEntry image.now name.now (length message.now ∷ []) }
     ensures long { result ≡ Err AnswerError.Long → 2 ^ 32 ≤ length message.now }
 {
     if message.len() >= 1 << 32 {

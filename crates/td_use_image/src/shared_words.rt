@@ -3,15 +3,35 @@
 ghost use Rattle.std.specs.Prelude.{◌≡◌, ◌+◌, ◌<◌, ◌≤◌, ◌^◌, [], length, IfOk};
 
 use std::alloc::{AllocError, Global};
+use std::snapshot::Snapshot;
 use std::sync::atomic::{AtomicU64, Ordering};
 use td_stream::load::Load;
 use td_stream::loads::Loads;
 use td_stream::words::Words;
 
+/// A word of 64 bits that threads share. With what it began is known, in proofs alone (a snapshot has no bytes); of what it holds nothing is.
+#[derive(Drop)]
+pub struct SharedWord {
+    word: AtomicU64,
+    pub first: Snapshot<u64>,
+}
+
+impl SharedWord {
+    /// A word that begins with this value.
+    pub fn new(value: u64) -> SharedWord
+        ensures { result.first.value ≡ value }
+    {
+        SharedWord {
+            word: AtomicU64::new(value),
+            first: Snapshot::of(&value),
+        }
+    }
+}
+
 /// Words of 64 bits that threads share, and the loads of one validation. Nothing is known of what a word holds.
 #[derive(Drop)]
 pub struct SharedWords<'a> {
-    pub words: &'a [AtomicU64],
+    pub words: &'a [SharedWord],
     pub loads: Loads,
     pub ghost few: { length words.now < 2 ^ 32 },
     // A load takes no memory: there is room for one of each word.
@@ -20,9 +40,9 @@ pub struct SharedWords<'a> {
 
 impl<'a> SharedWords<'a> {
     /// These words, none of them loaded yet. `AllocError`: there was no memory for the list of loads.
-    pub fn over(alloc: Global, words: &'a [AtomicU64]) -> Result<SharedWords<'a>, AllocError>
+    pub fn over(alloc: Global, words: &'a [SharedWord]) -> Result<SharedWords<'a>, AllocError>
         requires { length words.now < 2 ^ 32 }
-        ensures count { IfOk result (λ made. length made.words.now ≡ length words.now) }
+        ensures words { IfOk result (λ made. made.words.now ≡ words.now) }
         ensures fresh { IfOk result (λ made. made.loads.list ≡ []) }
     {
         let loads = Loads::with_room(alloc, words.len() as u32)?;
@@ -51,7 +71,7 @@ impl<'a> Words for SharedWords<'a> {
     }
 
     fn load(&mut self, i: u32) -> u64 {
-        let value = self.words[i as usize].load(Ordering::SeqCst);
+        let value = self.words[i as usize].word.load(Ordering::SeqCst);
         self.loads.push(Load { word: i, value });
         value
     }

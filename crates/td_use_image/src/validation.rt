@@ -1,8 +1,9 @@
 //! One validation by verified code.
 
 ghost use Rattle.std.specs.Prelude.{◌≡◌, ◌*◌, ◌≤◌, [], length as size_of, IfOk};
+ghost use Rattle.td_stream.specs.Layouts.{plain};
 ghost use Rattle.td_ir.specs.Entries.{Fits};
-ghost use Rattle.td_use_image.specs.Answers.{IsValidated};
+ghost use Rattle.td_run.specs.Validation.{IsValidation};
 
 use crate::shared_words::SharedWords;
 use std::alloc::{AllocError, Global};
@@ -28,7 +29,7 @@ pub fn validated(
     requires fits { Fits code.now entry args.now cells.now }
     requires room { length ≤ 8 * size_of words.old.words.now }
     requires fresh { words.old.loads.list ≡ [] }
-    ensures { IfOk result (λ outcome. IsValidated code.now entry args.now cells.now length words.new.loads.list outcome) }
+    ensures { IfOk result (λ outcome. IsValidation code.now entry args.now cells.now (plain length) words.new.loads.list outcome) }
 {
     fitting_cells_have_room();
     let mut frame = Frame::arm(alloc, code)?;

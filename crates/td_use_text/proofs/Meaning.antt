@@ -14,8 +14,7 @@ use Rattle.td_fetch.specs.Outcomes.{IsMeant}
 use Rattle.td_ir.specs.declared.tables.Parts.{Parts}
 use Rattle.td_ir.specs.Run as code
 use Rattle.td_ir.specs.Entries.{opened_by}
-use Rattle.td_vm.specs.Outcomes.{IsRun}
-use Rattle.td_vm.specs.Outcomes as run
+use Rattle.td_run.specs.Validation.{IsValidation}
 use Rattle.td_code.specs.Coding.{DoesWhatItMeans}
 use Rattle.td_use_text.specs.Reports.{Begins}
 use Rattle.td_run.proofs.Behaving.{behaves}
@@ -23,11 +22,9 @@ use Rattle.td_run.proofs.Behaving.{behaves}
 -- on each message that carries the loads; the cells were set, and the layout is a plain one
 pub means : (c : Parts) (m : Module) (entry : Entry) (n : ℕ) (loads : List Load) (cells cells' : List ℕ) (layout : List Stretch) (outcome : Outcome)
     → cells' ≡ cells → layout ≡ plain n → n < 2 ^ 32 → DoesWhatItMeans c m → entry.number < length m.entries → Begins m entry cells
-    → ((b : List ℕ) → Carries layout b loads → IsRun layout (length cells') b loads (code.run c entry [] (opened_by c entry cells') b) outcome 0 (code.run c entry [] (opened_by c entry cells') b).steps)
-    → (b : List ℕ) → AreBytes b → Carries (plain n) b loads → IsMeant (plain n) m entry [] cells b loads outcome
-means c m entry n loads cells cells' layout outcome same at short does inside begins ran b bytes carried =
-    let R : List ℕ × List Stretch → Type 0 = λ x. (b : List ℕ) → Carries x.1 b loads → IsRun x.1 (length x.0) b loads (code.run c entry [] (opened_by c entry x.0) b) outcome 0 (code.run c entry [] (opened_by c entry x.0) b).steps in
-    let ran' : R (cells, plain n) = subst R (λ i. (same i, at i)) ran in
+    → IsValidation c entry [] cells' layout loads outcome → (b : List ℕ) → AreBytes b → Carries (plain n) b loads → IsMeant (plain n) m entry [] cells b loads outcome
+means c m entry n loads cells cells' layout outcome same at short does inside begins validated b bytes carried =
+    let v = subst (λ (x : List ℕ × List Stretch). IsValidation c entry [] x.0 x.1 loads outcome) (λ i. (same i, at i)) validated in
     let size = carried.size in
     let meant = does entry [] cells b inside begins.no_arguments begins.cells_fit bytes (omega arith) in
-    behaves (plain n) (length cells) b loads (code.run c entry [] (opened_by c entry cells) b) (meaning m entry [] (opened m entry cells) b) outcome 0 (code.run c entry [] (opened_by c entry cells) b).steps (ran' b carried) meant
+    behaves (plain n) (length cells) b loads (code.run c entry [] (opened_by c entry cells) b) (meaning m entry [] (opened m entry cells) b) outcome 0 (code.run c entry [] (opened_by c entry cells) b).steps (v.holds b carried).ran meant

@@ -6,7 +6,7 @@ ghost use Rattle.td_lower_means.specs.CodeRun.{IsCodeOf};
 ghost use Rattle.td_code.specs.Coding.{DoesWhatItMeans};
 ghost use Rattle.td_vm.specs.Frames.{IsArmed, outcome_in};
 ghost use Rattle.td_use_text.specs.declared.message.MessageError.{MessageError};
-ghost use Rattle.td_use_text.specs.Reports.{Begins, IsRunOf, Reports};
+ghost use Rattle.td_use_text.specs.Reports.{Begins, IsRunOf, Reports, FailsToReport};
 
 use crate::text::Compiled;
 use std::alloc::{AllocError, Global};
@@ -145,6 +145,7 @@ pub fn report_message<O: Sink>(
     requires short { length message.now < 2 ^ 32 }
     ensures armed { IsArmed compiled.now.code frame.new }
     ensures written { OnOk result (Reports compiled.now.module entry cells.now message.now (O.state out.old) (O.state out.new)) }
+    ensures failed { result ≡ Err MessageError.Write → FailsToReport compiled.now.module entry cells.now message.now (O.state out.old) (O.state out.new) }
     ensures nothing { result ≡ Err MessageError.NoMemory → O.state out.new ≡ O.state out.old }
 {
     arguments_fit();

@@ -1,11 +1,11 @@
 //! From a text to code.
 
-ghost use Rattle.std.specs.Prelude.{◌≡◌, ◌<◌, ◌-◌, ◌^◌, ◌⊎◌, length, IfOk, IfErr, IfSome};
+ghost use Rattle.std.specs.Prelude.{◌≡◌, ◌<◌, ◌-◌, ◌^◌, ◌⊎◌, length, IfOk, IfErr, MatchOption};
 ghost use Rattle.td_front.specs.Checked.{IsChecked};
 ghost use Rattle.td_front.specs.ModuleText.{IsModuleText, RefusedBy};
 ghost use Rattle.td_lower_means.specs.CodeRun.{IsCodeOf};
 ghost use Rattle.td_code.specs.Coding.{DoesWhatItMeans};
-ghost use Rattle.td_use_text.specs.Reports.{Begins};
+ghost use Rattle.td_use_text.specs.Reports.{BeginsAtZeros, TakesArguments};
 
 use std::alloc::{AllocError, Global};
 use td_code::code_of;
@@ -39,12 +39,13 @@ pub fn compile(alloc: Global, text: &[u8]) -> Result<Compiled, FrontError>
 /// The cells with which a validation begins: a zero for each that the entry point has. None: it has no definition, or takes
 /// arguments. `AllocError`: there was no memory for them.
 pub fn zeros(alloc: Global, m: &Module, entry: Entry) -> Result<Option<Vec<u64>>, AllocError>
-    ensures { IfOk result (λ found. IfSome found (λ cells. Begins m.now entry cells.items)) }
+    ensures { IfOk result (λ found. MatchOption found (TakesArguments m.now entry) (λ cells. BeginsAtZeros m.now entry cells.items)) }
 {
-    match entry_definition(m, entry) {
-        Some(definition) if definition.params.len() == 0 => {
-            Ok(Some(vec![in alloc; 0; definition.cells.len()]?))
-        }
-        _ => Ok(None),
+    let Some(definition) = entry_definition(m, entry) else {
+        return Ok(None);
+    };
+    if definition.params.len() > 0 {
+        return Ok(None);
     }
+    Ok(Some(vec![in alloc; 0; definition.cells.len()]?))
 }

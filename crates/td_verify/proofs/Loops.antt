@@ -11,7 +11,7 @@ use Rattle.td_verify.specs.Flat.{IsFlat}
 use Rattle.td_verify.specs.Rules.{LeadsWell, StandsWell, IsLoop, weigh}
 use Rattle.td_verify.specs.Verify.{IsIn, IsSound, weights}
 use Rattle.td_verify.specs.Findings.{IsDivided}
-use Rattle.td_verify.specs.Safe.{IsSafe, AreLoopsSafe, IsWhole, IsWholeAt, before}
+use Rattle.td_verify.specs.Safe.{IsSafe, AreLoopsSafe, IsWhole, IsWholeAt}
 use Rattle.td_verify.proofs.Flat.{next_opened}
 use Rattle.td_verify.proofs.Safety.{begins_safe, each_safe, each_weighed}
 use Rattle.td_ir.specs.WellFormed.{IsCode}

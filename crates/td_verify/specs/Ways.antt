@@ -1,5 +1,5 @@
 -- Ways through code, and those that may take no byte (own rule).
-use Rattle.std.specs.Prelude.{◌≡◌, ℕ, zero, suc, ◌+◌, ◌<◌, ◌≤◌, ◌⊎◌, ◌≢◌, List, [], ◌∷◌, Option, Some, None, Bool, true, false, slice_index_or}
+use Rattle.std.specs.Prelude.{◌≡◌, ℕ, zero, suc, ◌+◌, ◌<◌, ◌≤◌, ◌⊎◌, ◌≢◌, List, Option, Bool, true}
 use Rattle.td_ir.specs.Tables.{begin}
 use Rattle.td_verify.specs.Brackets.{shape_at, opened, window_bytes}
 use Rattle.td_verify.specs.declared.shape.Shape.{Shape}

@@ -4,7 +4,7 @@ use Rattle.std.specs.Prelude.{nat_eq, ◌%◌, slice_index, slice_set}
 use Rattle.std.proofs.lemmas.Bool.{eqb-true, leb-true}
 use Rattle.std.proofs.Math.Nat.{div-mul-le_self, min-le_left, min-le_right, mul-le-mul_left, mul-le-mul_right}
 use Rattle.td_num.specs.Numbers.{rising_at, ordered_at, places_from}
-use Rattle.td_num.specs.Lists.{is_among}
+use Rattle.td_num.specs.Lists.{is_among, first_where, one_more, looked_at}
 use Rattle.td_num.proofs.Equals.{next_product}
 use Rattle.td_core.specs.declared.outcome.Reason.TheVariants.{NotEnough, ListSize}
 use Rattle.td_ir.specs.declared.instructions.Instr.{Instr}
@@ -12,7 +12,7 @@ use Rattle.td_ir.specs.declared.instructions.Instr.TheVariants as i
 use Rattle.td_ir.specs.declared.tables.Parts.{Parts}
 use Rattle.td_ir.specs.Tables.{routine_of, set_of}
 use Rattle.td_ir.specs.State.{State, reg, with_reg, at_pos, left}
-use Rattle.td_ir.specs.Values.{bit, operated, bits_of, order_of, numbers_from, first_where, one_more, looked_at, is_zero, is_nonzero}
+use Rattle.td_ir.specs.Values.{bit, operated, bits_of, order_of, numbers_from, is_zero, is_nonzero}
 use Rattle.td_ir.specs.Flow.{Flow, Goes, Fails, Calls, Returns, Loops, Turns, Effect, effect, plain, where_so, has_bytes, zeros_flow, zeroterm_flow}
 use Rattle.td_verify.specs.declared.shape.Shape.{Shape}
 use Rattle.td_verify.specs.declared.shape.Shape.TheVariants as shapes
@@ -23,7 +23,7 @@ use Rattle.td_verify.specs.Operands.{HasOperands, IsWidth}
 use Rattle.td_vm_step.specs.Stepping.{Passes, least, more, Ends}
 
 -- from s to t in so many steps
-pub record Moves (j : Shape) (s t : State) (steps : ℕ) : Type 0 where
+pub record Advances (j : Shape) (s t : State) (steps : ℕ) : Type 0 where
   pub takes : s.pos + least j ≤ t.pos
   pub within : t.pos ≤ t.end
   pub around : t.end ≤ t.outer
@@ -39,7 +39,7 @@ pub record Stops (j : Shape) (s : State) (steps : ℕ) : Type 0 where
   pub cost : steps ≤ 1 + more j * (at - s.pos)
 
 abbrev pub Does : ℕ → Instr → State → ℕ → Flow → Type 0
-Does pc j s steps (Goes target t) = Passes (shape j) × Leads pc (shape j) target × Moves (shape j) s t steps
+Does pc j s steps (Goes target t) = Passes (shape j) × Leads pc (shape j) target × Advances (shape j) s t steps
 Does pc j s steps (Fails reason site pos t) = Passes (shape j) × Stops (shape j) s steps
 Does pc j s steps (Calls first routine map site t) = (j ≡ i.Call first routine map site) × (t ≡ s) × (steps ≡ 1)
 Does pc j s steps (Returns t) = (j ≡ i.Return) × (t ≡ s) × (steps ≡ 1)
@@ -52,7 +52,7 @@ pub record InOrder (s : State) : Type 0 where
   pub around : s.end ≤ s.outer
 
 -- one step that moves nothing
-stays : (j : Shape) (s t : State) → least j ≡ 0 → Ends j s.pos s.end s.end → InOrder s → t.pos ≡ s.pos → t.end ≡ s.end → t.outer ≡ s.outer → Moves j s t 1
+stays : (j : Shape) (s t : State) → least j ≡ 0 → Ends j s.pos s.end s.end → InOrder s → t.pos ≡ s.pos → t.end ≡ s.end → t.outer ≡ s.outer → Advances j s t 1
 stays j s t z e o p d u = record {
   takes = omega (arith, z, p);
   within = omega (arith, o.within, p, d);
@@ -67,7 +67,7 @@ stops : (j : Shape) (s : State) → InOrder s → Stops j s 1
 stops j s o = record { at = s.pos; from = omega arith; within = o.within; cost = omega arith }
 
 -- a position further on
-on_by : (b w steps : ℕ) (s : State) (p : ℕ) → InOrder s → s.pos + b ≤ p → p ≤ s.end → steps ≤ 1 + (w - 1) * (p - s.pos) → Moves (Straight b w) s (at_pos s p) steps
+on_by : (b w steps : ℕ) (s : State) (p : ℕ) → InOrder s → s.pos + b ≤ p → p ≤ s.end → steps ≤ 1 + (w - 1) * (p - s.pos) → Advances (Straight b w) s (at_pos s p) steps
 on_by b w steps s p o t l k = record { takes = t; within = l; around = o.around; outer = omega arith; ends = refl; cost = k }
 
 either : {X : Type 0} (P : X → Type 0) (v : Bool) (a b : X) → (v ≡ true → P a) → (v ≡ false → P b) → P (cond v a b)
@@ -77,10 +77,10 @@ either P false a b f g = g refl
 fits : (s : State) (n : ℕ) → has_bytes s n ≡ true → s.pos + n ≤ s.end
 fits s n h = leb-true (s.pos + n) s.end h
 
-narrows : (k n : ℕ) (s : State) → InOrder s → k ≤ n → s.pos + n ≤ s.end → Moves (Open k) s (record s { end = s.pos + n; outer = s.end }) 1
+narrows : (k n : ℕ) (s : State) → InOrder s → k ≤ n → s.pos + n ≤ s.end → Advances (Open k) s (record s { end = s.pos + n; outer = s.end }) 1
 narrows k n s o l h = record { takes = omega arith; within = omega arith; around = h; outer = o.around; ends = omega (arith, l); cost = omega arith }
 
-widens : (s : State) → InOrder s → s.pos ≡ s.end → Moves Close s (record s { end = s.outer }) 1
+widens : (s : State) → InOrder s → s.pos ≡ s.end → Advances Close s (record s { end = s.outer }) 1
 widens s o e = record { takes = omega arith; within = omega (arith, o.within, o.around); around = omega arith; outer = omega arith; ends = e; cost = omega arith }
 
 -- what is found stands among those that are looked at

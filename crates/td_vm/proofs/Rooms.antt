@@ -17,7 +17,7 @@ use Rattle.td_verify.specs.Brackets.{shape_at}
 use Rattle.td_verify.specs.Rules.{CallsWell}
 use Rattle.td_verify.specs.Verify.{IsIn, depths}
 use Rattle.td_vm_step.specs.declared.activation.TraceRoom.{TraceRoom}
-use Rattle.td_vm_step.specs.declared.activation.Env.{Env}
+use Rattle.td_vm_step.specs.declared.activation.CodeView.{CodeView}
 use Rattle.td_vm.specs.Need.{called, greatest, need, room_below, most, greatest_of, entry_cells, entry_rooms, most_entry_cells, most_buffers, most_room, most_rooms, registers, cells, level}
 use Rattle.td_vm.specs.Frames.{FrameView, AreBegins, IsArmed}
 use Rattle.td_vm.specs.Machine.{IsRunnable, HasEntryRoom, AreRoomy}
@@ -90,7 +90,7 @@ most_at f c (suc n) k h = ⊎_elim
     (cases_lt k n)
 
 -- a frame that was armed for code has room for each of its entry points
-pub entry_ready : (e : Env) (f : FrameView) (entry : Entry) (args places spare : List ℕ) (t : TraceRoom) → IsRunnable e.parts.now → IsArmed e.parts.now f → Fits e.parts.now entry args f.cells → e.begins.now ≡ f.begins → length places ≡ f.place_room → length spare ≡ f.register_room → length t.frames.items ≡ f.trace_room → HasEntryRoom e (entry_of e.parts.now entry.number).routine places spare t
+pub entry_ready : (e : CodeView) (f : FrameView) (entry : Entry) (args places spare : List ℕ) (t : TraceRoom) → IsRunnable e.parts.now → IsArmed e.parts.now f → Fits e.parts.now entry args f.cells → e.begins.now ≡ f.begins → length places ≡ f.place_room → length spare ≡ f.register_room → length t.frames.items ≡ f.trace_room → HasEntryRoom e (entry_of e.parts.now entry.number).routine places spare t
 entry_ready e f entry args places spare t r a h b p s l =
     let c = e.parts.now in
     let n = (entry_of c entry.number).routine in

@@ -26,14 +26,18 @@ use Rattle.td_verify.specs.Ways.{MayBeEmpty}
 use Rattle.td_verify.specs.Verify.{IsIn, depths}
 use Rattle.td_verify.specs.Safe.{IsSafe, IsWhole, IsWholeAt, before, looped}
 use Rattle.td_vm_step.specs.declared.activation.TraceRoom.{TraceRoom}
-use Rattle.td_vm_step.specs.declared.activation.Env.{Env}
-use Rattle.td_vm_step.specs.declared.activation.Left.{Left}
-use Rattle.td_vm_step.specs.declared.activation.Left.TheVariants.{Returned, Turned, Failed}
+use Rattle.td_vm_step.specs.declared.activation.CodeView.{CodeView}
+use Rattle.td_vm_step.specs.declared.activation.Level.{Level}
+use Rattle.td_vm_step.specs.declared.activation.BlockExit.{BlockExit}
+use Rattle.td_vm_step.specs.declared.activation.BlockExit.TheVariants.{Returned, Turned, Failed}
 use Rattle.td_vm.specs.Exits.{frames_of, exit_by, way_of, call_way, WhenTurned, WhenReturned, NotTurned, Traced}
 use Rattle.td_vm.specs.Need.{registers, cells, level}
-use Rattle.td_vm.specs.Machine.{Idle, IsRunnable, HasRoom, HasEntryRoom, IsStretch, IsCallee, IdleTurn, IdleReturn, scale, IsKept, AreRoomy}
+use Rattle.td_vm.specs.Machine.{Idle, IsRunnable, HasRoom, HasEntryRoom, IsStretch, IsCallee, IdleTurn, IdleReturn, scale, IsKept, SameRoom, AreRoomy}
 use Rattle.td_vm.specs.declared.level.Spare.{Spare}
-use Rattle.td_vm_step.specs.Stepping.{HasPlaces}
+use Rattle.td_vm.specs.declared.level.Output.{Output}
+use Rattle.td_stream.specs.Copies.{rooms_of}
+use Rattle.td_vm_step.specs.declared.slate.Slate.{Slate}
+use Rattle.td_vm_step.specs.Stepping.{HasPlaces, IsLent}
 use Rattle.td_vm.proofs.Keeps.{callee_need, goes_on}
 use Rattle.td_vm.proofs.Places.{callee_places, entry_places, own_snoc}
 use Rattle.td_verify.proofs.Flat.{next_opened}
@@ -43,32 +47,52 @@ pub none_left : (n : ℕ) → (1 ≤ n → ⊥) → n ≡ 0
 none_left n h = grind arith
 
 -- the room of a callee
-pub callee_room : (e : Env) (n at m arg k first : ℕ) (places spare_places regs spare all rooms mine_places rest_places mine rest : List ℕ) (t : TraceRoom) → HasRoom e n first places spare_places regs spare all rooms t → IsCallee e.parts.now n at m arg k → length rest_places + cells e.parts.now m ≡ length spare_places → length mine ≡ registers e.parts.now m → length rest + registers e.parts.now m ≡ length spare → mine_places ≡ places_by places (cells_by e.parts.now n m k) → HasRoom e m first mine_places rest_places mine rest all rooms t
-callee_room e n at m arg k first places sp regs spare all rooms mp rp mine rest t h l pr rc rr q =
-    let c = e.parts.now in
-    record {
+pub callee_room : (l inner : Level) (spare free : Spare) (regs mine : List ℕ) (out : Output) (at m arg k : ℕ) → HasRoom l spare regs out → IsCallee l.code.parts.now l.n at m arg k
+    → inner.code ≡ l.code → inner.n ≡ m → inner.first ≡ l.first → inner.places.now ≡ places_by l.places.now (cells_by l.code.parts.now l.n m k)
+    → length free.places.now + cells l.code.parts.now m ≡ length spare.places.now → length mine ≡ registers l.code.parts.now m → length free.registers.now + registers l.code.parts.now m ≡ length spare.registers.now → HasRoom inner free mine out
+callee_room l inner spare free regs mine out at m arg k h d ec en ef ep pr rc rr =
+    let c = l.code.parts.now in
+    subst (λ (x : Level). HasRoom x free mine out) (λ i. record { code = sym ec i; n = sym en i; first = sym ef i; places = inner.places }) (record {
       runnable = h.runnable;
       begins = h.begins;
-      routine = omega (arith, h.routine, l.lower);
-      place_room = omega (arith, callee_need (cells c) c n at m l.place l.is l.lower, h.place_room, pr);
+      routine = omega (arith, h.routine, d.lower);
+      place_room = omega (arith, callee_need (cells c) c l.n at m d.place d.is d.lower, h.place_room, pr);
       register_count = rc;
-      register_room = omega (arith, callee_need (registers c) c n at m l.place l.is l.lower, h.register_room, rr);
-      in_cells = subst (λ ps. HasPlaces c m ps first (length all) rooms) (sym q) (callee_places c n m k places first (length all) rooms h.in_cells l.cell_map);
+      register_room = omega (arith, callee_need (registers c) c l.n at m d.place d.is d.lower, h.register_room, rr);
+      in_cells = subst (λ ps. HasPlaces c m ps l.first (length out.slate.cells.now) (rooms_of out.slate.copies.now)) (sym ep) (callee_places c l.n m k l.places.now l.first (length out.slate.cells.now) (rooms_of out.slate.copies.now) h.in_cells d.cell_map);
       trace = h.trace;
-      trace_room = omega (arith, callee_need level c n at m l.place l.is l.lower, h.trace_room);
-    }
+      trace_room = omega (arith, callee_need level c l.n at m d.place d.is d.lower, h.trace_room);
+    })
 
-pub room_kept : (e : Env) (n first : ℕ) (places spare_places spare_places' regs regs' spare spare' all all' rooms rooms' : List ℕ) (t t' : TraceRoom) → HasRoom e n first places spare_places regs spare all rooms t → length spare_places' ≡ length spare_places → length regs' ≡ length regs → length spare' ≡ length spare → length all' ≡ length all → rooms' ≡ rooms → t'.count ≡ 0 → length t'.frames.items ≡ length t.frames.items → HasRoom e n first places spare_places' regs' spare' all' rooms' t'
-room_kept e n first places sp sp' regs regs' spare spare' all all' rooms rooms' t t' h a b c d r x f = record {
+pub room_kept : (l : Level) (s t : Spare) (regs regs' : List ℕ) (o u : Output) → HasRoom l s regs o → IsKept s t → length regs' ≡ length regs → SameRoom o u → u.trace.now.count ≡ 0 → HasRoom l t regs' u
+room_kept l s t regs regs' o u h k r e z = record {
   runnable = h.runnable;
   begins = h.begins;
   routine = h.routine;
-  place_room = omega (arith, h.place_room, a);
-  register_count = b ∙ h.register_count;
-  register_room = omega (arith, h.register_room, c);
-  in_cells = subst (λ (k : ℕ). HasPlaces e.parts.now n places first k rooms') (sym d) (subst (HasPlaces e.parts.now n places first (length all)) (sym r) h.in_cells);
-  trace = x;
-  trace_room = omega (arith, h.trace_room, f);
+  place_room = omega (arith, h.place_room, k.places);
+  register_count = r ∙ h.register_count;
+  register_room = omega (arith, h.register_room, k.registers);
+  in_cells = subst (λ (n : ℕ). HasPlaces l.code.parts.now l.n l.places.now l.first n (rooms_of u.slate.copies.now)) (sym e.cells) (subst (HasPlaces l.code.parts.now l.n l.places.now l.first (length o.slate.cells.now)) (sym e.rooms) h.in_cells);
+  trace = z;
+  trace_room = omega (arith, h.trace_room, e.frames);
+}
+
+pub same_stepped : (o : Output) (u : Slate) → IsLent o.slate u → rooms_of u.copies.now ≡ rooms_of o.slate.copies.now → SameRoom o (record { slate = u; trace = o.trace })
+same_stepped o u k e = record { same_cells = k.same_cells; same_copies = k.same_copies; same_trace = refl; cells = k.cells; copies = k.copies; rooms = e; frames = refl; memory = refl }
+
+pub same_self : (o : Output) → SameRoom o o
+same_self o = record { same_cells = refl; same_copies = refl; same_trace = refl; cells = refl; copies = refl; rooms = refl; frames = refl; memory = refl }
+
+pub same_on : (o u v : Output) → SameRoom o u → SameRoom u v → SameRoom o v
+same_on o u v h k = record {
+  same_cells = k.same_cells ∙ h.same_cells;
+  same_copies = k.same_copies ∙ h.same_copies;
+  same_trace = k.same_trace ∙ h.same_trace;
+  cells = k.cells ∙ h.cells;
+  copies = k.copies ∙ h.copies;
+  rooms = k.rooms ∙ h.rooms;
+  frames = k.frames ∙ h.frames;
+  memory = k.memory ∙ h.memory;
 }
 
 pub spare_same : (s : Spare) → IsKept s s
@@ -76,6 +100,10 @@ spare_same s = record { same_places = refl; same_registers = refl; places = refl
 
 pub spare_on : (r s t : Spare) → IsKept r s → IsKept s t → IsKept r t
 spare_on r s t h k = record { same_places = k.same_places ∙ h.same_places; same_registers = k.same_registers ∙ h.same_registers; places = k.places ∙ h.places; registers = k.registers ∙ h.registers }
+
+-- the same where a slate alone was lent
+pub room_stepped : (l : Level) (s : Spare) (regs regs' : List ℕ) (o : Output) (u : Slate) → HasRoom l s regs o → length regs' ≡ length regs → IsLent o.slate u → rooms_of u.copies.now ≡ rooms_of o.slate.copies.now → HasRoom l s regs' (record { slate = u; trace = o.trace })
+room_stepped l s regs regs' o u h r k e = room_kept l s s regs regs' o (record { slate = u; trace = o.trace }) h (spare_same s) r (same_stepped o u k e) h.trace
 
 pub one_frame : (t t' : TraceRoom) (f : TraceFrame) → t.count ≡ 0 → frames_of t' ≡ frames_of t ++ f ∷ [] → f ∷ [] ≡ frames_of t'
 one_frame t t' f e h = sym (h ∙ ap (λ k. take k t.frames.items ++ f ∷ []) e)
@@ -119,12 +147,12 @@ turn_busy c n p t r i e d =
     let q = r.safe.loops.one n p t d.at d.start i e d.within d.same d.is in
     w.busy (subst (Idle c n (p + 1)) q d.way)
 
-pub no_turn : (c : Parts) (m from : ℕ) (way : Left) → IsRunnable c → m < length c.routines → from ≡ first_of c m → WhenTurned way (looped c from ≡ true) → NotTurned way
+pub no_turn : (c : Parts) (m from : ℕ) (way : BlockExit) → IsRunnable c → m < length c.routines → from ≡ first_of c m → WhenTurned way (looped c from ≡ true) → NotTurned way
 no_turn c m from Returned s h d f = tt
 no_turn c m from Turned s h d f = let e = ap in_loop (s.safe.begins m h).1 in let g = ap (looped c) d in cc
 no_turn c m from (Failed reason at) s h d f = tt
 
-pub call_idle : (c : Parts) (m p q r from : ℕ) (way : Left) → IsRunnable c → from ≡ first_of c m → WhenReturned way (p ≡ q → IdleReturn c m from) → q ≡ r → WhenReturned way (p ≡ r → MayBeEmpty (shapes_of c) (lengths_of c) (suc m) m)
+pub call_idle : (c : Parts) (m p q r from : ℕ) (way : BlockExit) → IsRunnable c → from ≡ first_of c m → WhenReturned way (p ≡ q → IdleReturn c m from) → q ≡ r → WhenReturned way (p ≡ r → MayBeEmpty (shapes_of c) (lengths_of c) (suc m) m)
 call_idle c m p q r from Returned s d f e = λ k. let i = f (k ∙ sym e) in (s.safe.each m i.at i.within).empty i.is (subst (λ x. Idle c m x i.at) d i.way)
 call_idle c m p q r from Turned s d f e = tt
 call_idle c m p q r from (Failed reason at) s d f e = tt
@@ -137,7 +165,7 @@ pub entered_is : (r : Routine) (args mine : List ℕ) (s : State) (start outer :
 entered_is r args mine s start outer e f g =
     λ i. record { regs = sym e i; cells = s.cells; start = sym f i; pos = s.pos; end = s.end; outer = sym g i }
 
-pub call_left : (way : Left) (s : State) (pos : ℕ) (trace : List TraceFrame) (touched : List ℕ) (steps : ℕ) (x : Exit) → NotTurned way → x ≡ exit_by (way_of way s trace) touched steps → s.pos ≡ pos → x ≡ exit_by (call_way way pos s.cells trace) touched steps
+pub call_left : (way : BlockExit) (s : State) (pos : ℕ) (trace : List TraceFrame) (touched : List ℕ) (steps : ℕ) (x : Exit) → NotTurned way → x ≡ exit_by (way_of way s trace) touched steps → s.pos ≡ pos → x ≡ exit_by (call_way way pos s.cells trace) touched steps
 call_left Returned s pos trace touched steps x h e f = e ∙ ap (λ p. exit_by (ir.Returned p s.cells) touched steps) f
 call_left Turned s pos trace touched steps x h e f = absurd h
 call_left (Failed reason at) s pos trace touched steps x h e f = e
@@ -181,7 +209,7 @@ callee_at c n p x m k site j s i e f =
 pub in_code : (c : Parts) (n p : ℕ) → IsRunnable c → IsIn c n p → p < length c.instructions
 in_code c n p r i = let a = begin_up (lengths_of c) (suc n) (length c.routines) (omega (arith, i.routine)) in let w = r.code.whole in omega (arith, i.to, a, w)
 
-pub traced_more : (way : Left) (t : TraceRoom) (m n : ℕ) → m ≤ n → Traced way t m → Traced way t n
+pub traced_more : (way : BlockExit) (t : TraceRoom) (m n : ℕ) → m ≤ n → Traced way t m → Traced way t n
 traced_more Returned t m n h k = k
 traced_more Turned t m n h k = k
 traced_more (Failed reason at) t m n h k = (omega (arith, h, k.0), k.1)
@@ -220,25 +248,28 @@ own_more xs i l h =
     let z : i ≡ 0 + i = omega arith in
     ap (λ k. take k (slice_set xs i i)) e ∙ take-suc-set xs i i l ∙ ap (λ ys. ys ++ i ∷ []) h ∙ ap (λ x. places_from 0 i ++ x ∷ []) z ∙ sym (own_snoc i 0) ∙ ap (places_from 0) (sym e)
 
-pub entry_room : (e : Env) (n : ℕ) (places all_places spare_places regs all_regs spare all rooms : List ℕ) (t : TraceRoom) → HasEntryRoom e n all_places all_regs t → places ≡ places_from 0 (cells e.parts.now n) → length all ≡ (routine_of e.parts.now n).cells + 2 * length rooms → AreRoomy (routine_of e.parts.now n).buffers rooms → length spare_places + cells e.parts.now n ≡ length all_places → length regs ≡ registers e.parts.now n → length spare + registers e.parts.now n ≡ length all_regs → t.count ≡ 0 → HasRoom e n (routine_of e.parts.now n).cells places spare_places regs spare all rooms t
-entry_room e n places ap' sp regs ar spare all rooms t h q c w pr rc rr tc = record {
+pub entry_room : (e : CodeView) (n : ℕ) (inner : Level) (spare free : Spare) (regs : List ℕ) (out : Output) → HasEntryRoom e n spare.places.now spare.registers.now out.trace.now
+    → inner.code ≡ e → inner.n ≡ n → inner.first ≡ (routine_of e.parts.now n).cells → inner.places.now ≡ places_from 0 (cells e.parts.now n)
+    → length out.slate.cells.now ≡ (routine_of e.parts.now n).cells + 2 * length (rooms_of out.slate.copies.now) → AreRoomy (routine_of e.parts.now n).buffers (rooms_of out.slate.copies.now)
+    → length free.places.now + cells e.parts.now n ≡ length spare.places.now → length regs ≡ registers e.parts.now n → length free.registers.now + registers e.parts.now n ≡ length spare.registers.now → out.trace.now.count ≡ 0 → HasRoom inner free regs out
+entry_room e n inner spare free regs out h ec en ef ep c w pr rc rr tc = subst (λ (x : Level). HasRoom x free regs out) (λ i. record { code = sym ec i; n = sym en i; first = sym ef i; places = inner.places }) (record {
   runnable = h.runnable;
   begins = h.begins;
   routine = h.routine;
   place_room = omega (arith, h.place_room, pr);
   register_count = rc;
   register_room = omega (arith, h.register_room, rr);
-  in_cells = subst (λ ps. HasPlaces e.parts.now n ps (routine_of e.parts.now n).cells (length all) rooms) (sym q) (entry_places e.parts.now n (length all) rooms c w);
+  in_cells = subst (λ ps. HasPlaces e.parts.now n ps (routine_of e.parts.now n).cells (length out.slate.cells.now) (rooms_of out.slate.copies.now)) (sym ep) (entry_places e.parts.now n (length out.slate.cells.now) (rooms_of out.slate.copies.now) c w);
   trace = tc;
   trace_room = h.trace_room;
-}
+})
 
 pub within_length : (s0 s1 k p0 p1 n : ℕ) → s1 ≤ s0 + k * (p1 - p0 + 1) → p1 ≤ n → s1 ≤ s0 + k * (n + 1)
 within_length s0 s1 k p0 p1 n h l =
     let x : k * (p1 - p0 + 1) ≤ k * (n + 1) = mul-le-mul_left k (omega (arith, l)) in
     omega (arith, h, x)
 
-pub traced_within : (way : Left) (t : TraceRoom) (n : ℕ) → Traced way t n → t.count ≤ length t.frames.items
+pub traced_within : (way : BlockExit) (t : TraceRoom) (n : ℕ) → Traced way t n → t.count ≤ length t.frames.items
 traced_within Returned t n h = omega (arith, h)
 traced_within Turned t n h = omega (arith, h)
 traced_within (Failed reason at) t n h = h.1
@@ -264,7 +295,7 @@ sliced regs first n h =
     let e : first + n - first ≡ n = omega arith in
     ap (λ m. take m (drop first regs)) e ∙ sym (registers_are regs first n h)
 
-pub none_on_return : (way : Left) (t : TraceRoom) (n : ℕ) → Traced way t n → WhenReturned way (t.count ≡ 0)
+pub none_on_return : (way : BlockExit) (t : TraceRoom) (n : ℕ) → Traced way t n → WhenReturned way (t.count ≡ 0)
 none_on_return Returned t n h = h
 none_on_return Turned t n h = tt
 none_on_return (Failed reason at) t n h = tt

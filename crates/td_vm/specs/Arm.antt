@@ -2,10 +2,10 @@
 use Rattle.std.specs.Prelude.{ℕ}
 use Rattle.td_ir.specs.declared.tables.Parts.{Parts}
 use Rattle.td_vm.specs.Need.{registers, cells, level}
-use Rattle.td_vm.specs.declared.arm.Kind.{Kind}
-use Rattle.td_vm.specs.declared.arm.Kind.TheVariants.{Registers, Cells, Levels}
+use Rattle.td_vm.specs.declared.arm.NeedKind.{NeedKind}
+use Rattle.td_vm.specs.declared.arm.NeedKind.TheVariants.{Registers, Cells, Levels}
 
-abbrev pub own_of : Kind → Parts → ℕ → ℕ
+abbrev pub own_of : NeedKind → Parts → ℕ → ℕ
 own_of Registers c n = registers c n
 own_of Cells c n = cells c n
 own_of Levels c n = level n

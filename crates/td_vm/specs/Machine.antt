@@ -1,5 +1,5 @@
 -- What the machine rests on, and what its calls keep; of use in this crate alone.
-use Rattle.std.specs.Prelude.{◌≡◌, ℕ, ◌+◌, ◌<◌, ◌≤◌, true, cond, List, length, slice_index}
+use Rattle.std.specs.Prelude.{◌≡◌, ℕ, ◌+◌, ◌<◌, ◌≤◌, true, cond, List, length, slice_index, vec_capacity}
 use Rattle.td_ir.specs.declared.tables.Parts.{Parts}
 use Rattle.td_ir.specs.Tables.{routine_of, lengths_of, end_of}
 use Rattle.td_ir.specs.WellFormed.{IsCode}
@@ -12,9 +12,12 @@ use Rattle.td_verify.specs.Operands.{IsCellMap}
 use Rattle.td_verify.specs.Verify.{IsIn}
 use Rattle.td_verify.specs.Safe.{IsSafe, looped}
 use Rattle.td_vm_step.specs.declared.activation.TraceRoom.{TraceRoom}
-use Rattle.td_vm_step.specs.declared.activation.Env.{Env}
+use Rattle.td_stream.specs.Copies.{rooms_of}
+use Rattle.td_vm_step.specs.declared.activation.CodeView.{CodeView}
+use Rattle.td_vm_step.specs.declared.activation.Level.{Level}
 use Rattle.td_vm_step.specs.Stepping.{HasPlaces}
 use Rattle.td_vm.specs.declared.level.Spare.{Spare}
+use Rattle.td_vm.specs.declared.level.Output.{Output}
 use Rattle.td_vm.specs.Frames.{AreBegins}
 use Rattle.td_vm.specs.Need.{room_below, registers, cells, level}
 
@@ -39,17 +42,17 @@ Idle c n from to = IdleWay (shapes_of c) (MayBeEmpty (shapes_of c) (lengths_of c
 abbrev pub scale : Parts → ℕ → ℕ
 scale c p = cond (looped c p) 2 1
 
--- what a run needs: runnable code, as many registers and places as routine n has, these among the first cells and the pairs of buffers of these rooms, and room for its calls
-pub record HasRoom (e : Env) (n first : ℕ) (places spare_places regs spare all rooms : List ℕ) (t : TraceRoom) : Type 0 where
-  pub runnable : IsRunnable e.parts.now
-  pub begins : AreBegins e.parts.now e.begins.now
-  pub routine : n < length e.parts.now.routines
-  pub place_room : room_below (cells e.parts.now) e.parts.now n ≤ length spare_places
-  pub register_count : length regs ≡ registers e.parts.now n
-  pub register_room : room_below (registers e.parts.now) e.parts.now n ≤ length spare
-  pub in_cells : HasPlaces e.parts.now n places first (length all) rooms
-  pub trace : t.count ≡ 0
-  pub trace_room : room_below level e.parts.now n + 1 ≤ length t.frames.items
+-- what a run of a routine needs: runnable code, as many registers and places as the routine has, these among the first cells and the pairs of buffers, no frames, and room for its calls
+pub record HasRoom (l : Level) (spare : Spare) (regs : List ℕ) (out : Output) : Type 0 where
+  pub runnable : IsRunnable l.code.parts.now
+  pub begins : AreBegins l.code.parts.now l.code.begins.now
+  pub routine : l.n < length l.code.parts.now.routines
+  pub place_room : room_below (cells l.code.parts.now) l.code.parts.now l.n ≤ length spare.places.now
+  pub register_count : length regs ≡ registers l.code.parts.now l.n
+  pub register_room : room_below (registers l.code.parts.now) l.code.parts.now l.n ≤ length spare.registers.now
+  pub in_cells : HasPlaces l.code.parts.now l.n l.places.now l.first (length out.slate.cells.now) (rooms_of out.slate.copies.now)
+  pub trace : out.trace.now.count ≡ 0
+  pub trace_room : room_below level l.code.parts.now l.n + 1 ≤ length out.trace.now.frames.items
 
 -- the same room is free again
 pub record IsKept (s t : Spare) : Type 0 where
@@ -57,6 +60,17 @@ pub record IsKept (s t : Spare) : Type 0 where
   pub same_registers : t.registers.ghost_name ≡ s.registers.ghost_name
   pub places : length t.places.now ≡ length s.places.now
   pub registers : length t.registers.now ≡ length s.registers.now
+
+-- the same cells, buffers and trace are lent, with as much room
+pub record SameRoom (s t : Output) : Type 0 where
+  pub same_cells : t.slate.cells.ghost_name ≡ s.slate.cells.ghost_name
+  pub same_copies : t.slate.copies.ghost_name ≡ s.slate.copies.ghost_name
+  pub same_trace : t.trace.ghost_name ≡ s.trace.ghost_name
+  pub cells : length t.slate.cells.now ≡ length s.slate.cells.now
+  pub copies : length t.slate.copies.now ≡ length s.slate.copies.now
+  pub rooms : rooms_of t.slate.copies.now ≡ rooms_of s.slate.copies.now
+  pub frames : length t.trace.now.frames.items ≡ length s.trace.now.frames.items
+  pub memory : vec_capacity t.trace.now.frames ≡ vec_capacity s.trace.now.frames
 
 -- a routine from its beginning, or a loop's body
 pub record IsStretch (c : Parts) (n first to : ℕ) : Type 0 where
@@ -90,7 +104,7 @@ pub record IsCallee (c : Parts) (n at m first map : ℕ) : Type 0 where
   pub cell_map : IsCellMap c n m map
 
 -- room for routine n, run from outside, and for its calls
-pub record HasEntryRoom (e : Env) (n : ℕ) (spare_places spare : List ℕ) (t : TraceRoom) : Type 0 where
+pub record HasEntryRoom (e : CodeView) (n : ℕ) (spare_places spare : List ℕ) (t : TraceRoom) : Type 0 where
   pub runnable : IsRunnable e.parts.now
   pub begins : AreBegins e.parts.now e.begins.now
   pub routine : n < length e.parts.now.routines

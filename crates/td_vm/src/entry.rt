@@ -1,22 +1,24 @@
-//! Runs a routine from outside.
+//! Runs a routine from outside, over the words of a message.
 
-ghost use Rattle.std.specs.Prelude.{◌≡◌, ◌+◌, ◌*◌, ◌≤◌, length, vec_capacity};
+ghost use Rattle.std.specs.Prelude.{◌≡◌, ℕ, ◌+◌, ◌*◌, ◌≤◌, List, [], length, map, take, drop, replicate};
 ghost use Rattle.td_num.specs.Numbers.{places_from};
 ghost use Rattle.td_ir.specs.Tables.{routine_of};
 ghost use Rattle.td_ir.specs.Run.{run_routine};
-ghost use Rattle.td_stream.specs.StreamInvariant.{IsStream, Later, length_of, position, end_of};
-ghost use Rattle.td_stream.specs.Copies.{rooms_of};
-ghost use Rattle.td_vm_step.specs.Stepping.{Ran, IsLent, Hold};
-ghost use Rattle.td_vm.specs.Exits.{frames_of, exit_by, call_way, NotTurned, WhenReturned};
-ghost use Rattle.td_vm.specs.Machine.{HasEntryRoom, IsKept, AreRoomy};
+ghost use Rattle.td_stream.specs.Layouts.{count_in};
+ghost use Rattle.td_stream.specs.Loads.{IsFetchedOnce};
+ghost use Rattle.td_stream.specs.Copies.{rooms_of, held_by, empty_with};
+ghost use Rattle.td_vm.specs.Exits.{frames_of};
+ghost use Rattle.td_vm.specs.Outcomes.{IsRun};
+ghost use Rattle.td_vm.specs.Machine.{HasEntryRoom, IsKept, SameRoom, AreRoomy};
 
-use crate::level::{Spare, Stretch};
+use crate::level::{Call, Output, Spare, Stretch};
 use crate::machine::{place_count, run_block, set_registers};
 use std::sync::ledger::Ledger;
+use td_core::outcome::Verdict;
+use td_stream::layout::Layout;
 use td_stream::stream::Stream;
 use td_stream::words::Words;
-use td_vm_step::activation::{Activation, Env, Left, Level, TraceRoom};
-use td_vm_step::slate::Slate;
+use td_vm_step::activation::{Activation, BlockExit, Level};
 use td_vm_step::steps::{Counter, Steps};
 use td_vm_step::tables::routine_at;
 
@@ -29,73 +31,79 @@ fn set_own_places(mine: &mut [usize])
     }
 }
 
-/// Runs routine n over a stream that stands at its start, with its cells and behind them two for each of its buffers.
+/// Runs a routine over a message that lies so in words of which none was loaded, with its cells and behind them two for each of its
+/// buffers, which hold nothing.
 pub fn run_entry<W: Words, L: Ledger, C: Counter>(
-    env: &Env<'_>,
-    n: usize,
-    args: &[u64],
+    call: &Call<'_, '_>,
+    layout: &Layout,
     spare: &mut Spare<'_, '_>,
-    slate: &mut Slate<'_, '_>,
-    stream: &mut Stream<W>,
-    trace: &mut TraceRoom,
+    output: &mut Output<'_, '_, '_>,
+    words: &mut W,
     steps: &mut Steps<L, C>,
-) -> Left
-    requires room { HasEntryRoom env.now n spare.old.places.now spare.old.registers.now trace.old }
-    requires cells { length slate.old.cells.now ≡ (routine_of env.now.parts.now n).cells + 2 * length slate.old.copies.now }
-    requires buffers { length slate.old.copies.now ≡ length (routine_of env.now.parts.now n).buffers }
-    requires rooms { AreRoomy (routine_of env.now.parts.now n).buffers (rooms_of slate.old.copies.now) }
-    requires empty { trace.old.count ≡ 0 }
-    requires args { length args.now ≡ (routine_of env.now.parts.now n).params }
-    requires whole { IsStream W.loads W.size stream.old }
-    requires start { position stream.old ≡ 0 }
-    requires end { end_of stream.old ≡ length_of stream.old }
-    ensures later { Later W.loads W.reaches stream.old stream.new }
-    ensures whole { IsStream W.loads W.size stream.new }
+) -> Verdict
+    requires room { HasEntryRoom call.now.code call.now.n spare.old.places.now spare.old.registers.now output.old.trace.now }
+    requires cells { length output.old.slate.cells.now ≡ (routine_of call.now.code.parts.now call.now.n).cells + 2 * length output.old.slate.copies.now }
+    requires opened { drop (routine_of call.now.code.parts.now call.now.n).cells output.old.slate.cells.now ≡ replicate (2 * length output.old.slate.copies.now) 0 }
+    requires buffers { length output.old.slate.copies.now ≡ length (routine_of call.now.code.parts.now call.now.n).buffers }
+    requires rooms { AreRoomy (routine_of call.now.code.parts.now call.now.n).buffers (rooms_of output.old.slate.copies.now) }
+    requires none { output.old.slate.copies.now ≡ map empty_with (rooms_of output.old.slate.copies.now) }
+    requires empty { output.old.trace.now.count ≡ 0 }
+    requires args { length call.now.args.now ≡ (routine_of call.now.code.parts.now call.now.n).params }
+    requires words { count_in layout.now ≤ W.size words.old }
+    requires fresh { W.loads words.old ≡ [] }
+    ensures reaches { W.reaches words.old words.new }
     ensures kept { IsKept spare.old spare.new }
-    ensures trace_room { length trace.new.frames.items ≡ length trace.old.frames.items }
-    ensures trace_memory { vec_capacity trace.new.frames ≡ vec_capacity trace.old.frames }
-    ensures frames { trace.new.count ≤ length trace.new.frames.items }
-    ensures no_turn { NotTurned result }
-    ensures none { WhenReturned result (trace.new.count ≡ 0) }
-    ensures lent { IsLent slate.old slate.new }
-    ensures rooms { rooms_of slate.new.copies.now ≡ rooms_of slate.old.copies.now }
-    ensures held { Hold W.loads stream.old stream.new (routine_of env.now.parts.now n).cells slate.old.cells.now slate.new.cells.now slate.old.copies.now slate.new.copies.now }
-    ensures same { Ran W.loads stream.old stream.new steps.old steps.new (λ b touched taken. length b ≡ length_of stream.old →
-        run_routine env.now.parts.now n args.now slate.old.cells.now b
-        ≡ exit_by (call_way result (position stream.new) slate.new.cells.now (frames_of trace.new)) touched taken) }
+    ensures lent { SameRoom output.old output.new }
+    ensures frames { output.new.trace.now.count ≤ length output.new.trace.now.frames.items }
+    ensures fetched { IsFetchedOnce layout.now (W.loads words.new) (λ (b : List ℕ).
+        IsRun layout.now (routine_of call.now.code.parts.now call.now.n).cells b (W.loads words.new)
+        (run_routine call.now.code.parts.now call.now.n call.now.args.now output.old.slate.cells.now b)
+        (record {
+          verdict = result;
+          trace = frames_of output.new.trace.now;
+          cells = take (routine_of call.now.code.parts.now call.now.n).cells output.new.slate.cells.now;
+          copies = held_by output.new.slate.copies.now;
+        }) steps.old steps.new) }
 {
-    let routine = routine_at(env.parts, n);
-    let from = env.begins[n];
-    let to = env.begins[n + 1];
+    let routine = routine_at(call.code.parts, call.n);
+    let from = call.code.begins[call.n];
+    let to = call.code.begins[call.n + 1];
     let registers = &mut *spare.registers;
     let places = &mut *spare.places;
     let (mine, rest) = registers.split_at_mut(routine.registers as usize);
     let (mine_places, rest_places) = places.split_at_mut(place_count(routine));
-    set_registers(mine, args);
+    set_registers(mine, call.args);
     set_own_places(mine_places);
-    let mut act = Activation {
-        start: stream.pos(),
-        outer: stream.end(),
-    };
+    let mut stream = Stream::over(words, layout);
+    let start = stream.pos();
+    let outer = stream.end();
+    let mut act = Activation { start, outer };
     let level = Level {
-        env: *env,
-        n,
+        code: call.code,
+        n: call.n,
         first: routine.cells as usize,
         places: mine_places,
+    };
+    let whole = Stretch {
+        level: &level,
+        first: from,
+        to,
     };
     let mut free = Spare {
         places: rest_places,
         registers: rest,
     };
-    run_block(
-        &level,
-        Stretch { first: from, to },
+    match run_block(
+        &whole,
         &mut free,
         mine,
-        slate,
+        output,
         &mut act,
-        stream,
-        trace,
+        &mut stream,
         steps,
-    )
+    ) {
+        BlockExit::Returned => Verdict::Accept { pos: stream.pos() },
+        BlockExit::Turned => unreachable!(),
+        BlockExit::Failed { reason, pos } => Verdict::Reject { reason, pos },
+    }
 }

@@ -1,8 +1,20 @@
 //! What the machine hands on with a stretch of code.
 
-/// From an instruction on, up to another.
+use td_vm_step::activation::{CodeView, Level, TraceRoom};
+use td_vm_step::slate::Slate;
+
+/// A routine of code, and the arguments with which it is run from outside.
 #[derive(Clone, Copy)]
-pub struct Stretch {
+pub struct Call<'c, 'a> {
+    pub code: CodeView<'c>,
+    pub n: usize,
+    pub args: &'a [u64],
+}
+
+/// From an instruction of a running routine on, up to another.
+#[derive(Clone, Copy)]
+pub struct Stretch<'l, 'c, 'p> {
+    pub level: &'l Level<'c, 'p>,
     pub first: usize,
     pub to: usize,
 }
@@ -21,4 +33,11 @@ pub struct Callee {
 pub struct Spare<'p, 'r> {
     pub places: &'p mut [usize],
     pub registers: &'r mut [u64],
+}
+
+/// What a run leaves: the cells and the buffers that it stores to, and the frames of its failure.
+#[derive(Drop)]
+pub struct Output<'c, 'b, 't> {
+    pub slate: Slate<'c, 'b>,
+    pub trace: &'t mut TraceRoom,
 }

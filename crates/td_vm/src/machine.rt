@@ -14,13 +14,12 @@ ghost use Rattle.td_verify.specs.Operands.{AreBelow};
 ghost use Rattle.td_verify.specs.Verify.{IsIn};
 ghost use Rattle.td_verify.specs.Safe.{looped};
 ghost use Rattle.td_stream.specs.StreamInvariant.{IsStream, Later, position, end_of};
-ghost use Rattle.td_stream.specs.Copies.{rooms_of};
-ghost use Rattle.td_vm_step.specs.Stepping.{state_of, Ran, InWindow, IsLent, Hold};
+ghost use Rattle.td_vm_step.specs.Stepping.{state_of, Ran, InWindow, Hold};
 ghost use Rattle.td_vm.specs.Exits.{frames_of, exit_by, way_of, call_way, loop_exit, WhenTurned, WhenReturned, NotTurned, NotReturned, Traced};
-ghost use Rattle.td_vm.specs.Machine.{AreLaws, HasRoom, IsStretch, IsCallee, IsKept, IdleTurn, IdleReturn};
+ghost use Rattle.td_vm.specs.Machine.{AreLaws, HasRoom, IsStretch, IsCallee, IsKept, SameRoom, IdleTurn, IdleReturn};
 ghost use Rattle.td_vm.specs.Need.{room_below, level as levels};
 
-use crate::level::{Callee, Spare, Stretch};
+use crate::level::{Callee, Output, Spare, Stretch};
 use std::sync::ledger::Ledger;
 use td_core::outcome::Reason;
 use td_ir::laws::{
@@ -29,8 +28,7 @@ use td_ir::laws::{
 use td_ir::tables::{Parts, Routine};
 use td_stream::stream::Stream;
 use td_stream::words::Words;
-use td_vm_step::activation::{Activation, Left, Level, Step, TraceRoom};
-use td_vm_step::slate::Slate;
+use td_vm_step::activation::{Activation, BlockExit, Current, Effect, Level, TraceRoom};
 use td_vm_step::step::step;
 use td_vm_step::steps::{Counter, Steps};
 use td_vm_step::tables::{frame_at, instruction_at, map_at, routine_at};
@@ -134,26 +132,26 @@ fn set_places(mine: &mut [usize], places: &[usize], cells: usize, map: &[u32], c
 
 // The places of a callee's cells and of its buffers', by those of the routine that calls it.
 fn set_callee_places(level: &Level<'_, '_>, callee: Callee, routine: &Routine, mine: &mut [usize])
-    requires caller { level.now.n < length level.now.env.parts.now.routines }
-    requires map { callee.map < length level.now.env.parts.now.maps }
-    requires routine { routine.now ≡ routine_of level.now.env.parts.now callee.routine }
+    requires caller { level.now.n < length level.now.code.parts.now.routines }
+    requires map { callee.map < length level.now.code.parts.now.maps }
+    requires routine { routine.now ≡ routine_of level.now.code.parts.now callee.routine }
     requires fits { length mine.old ≡ routine.now.cells + 2 * length routine.now.buffers }
-    requires size { length (map_of level.now.env.parts.now callee.map) ≡ routine.now.cells + length routine.now.buffers }
-    requires within { AreBelow (length level.now.places.now) (take routine.now.cells (map_of level.now.env.parts.now callee.map)) }
-    requires buffers { (k : ℕ) → k < length (drop routine.now.cells (map_of level.now.env.parts.now callee.map))
-        → (routine_of level.now.env.parts.now level.now.n).cells + 2 * slice_index (drop routine.now.cells (map_of level.now.env.parts.now callee.map)) k + 1 < length level.now.places.now }
-    ensures { mine.new ≡ places_by level.now.places.now (cells_by level.now.env.parts.now level.now.n callee.routine callee.map) }
+    requires size { length (map_of level.now.code.parts.now callee.map) ≡ routine.now.cells + length routine.now.buffers }
+    requires within { AreBelow (length level.now.places.now) (take routine.now.cells (map_of level.now.code.parts.now callee.map)) }
+    requires buffers { (k : ℕ) → k < length (drop routine.now.cells (map_of level.now.code.parts.now callee.map))
+        → (routine_of level.now.code.parts.now level.now.n).cells + 2 * slice_index (drop routine.now.cells (map_of level.now.code.parts.now callee.map)) k + 1 < length level.now.places.now }
+    ensures { mine.new ≡ places_by level.now.places.now (cells_by level.now.code.parts.now level.now.n callee.routine callee.map) }
 {
     // Most callees have none.
     if mine.is_empty() {
         return;
     }
-    let cells = routine_at(level.env.parts, level.n).cells as usize;
+    let cells = routine_at(level.code.parts, level.n).cells as usize;
     set_places(
         mine,
         level.places,
         cells,
-        map_at(level.env.parts, callee.map),
+        map_at(level.code.parts, callee.map),
         routine.cells as usize,
     );
 }
@@ -161,18 +159,16 @@ fn set_callee_places(level: &Level<'_, '_>, callee: Callee, routine: &Routine, m
 /// Runs from an instruction on, to the end of the routine or of a loop's turn.
 #[cycle(machine)]
 pub fn run_block<W: Words, L: Ledger, C: Counter>(
-    level: &Level<'_, '_>,
-    stretch: Stretch,
+    stretch: &Stretch<'_, '_, '_>,
     spare: &mut Spare<'_, '_>,
     regs: &mut [u64],
-    slate: &mut Slate<'_, '_>,
+    output: &mut Output<'_, '_, '_>,
     act: &mut Activation,
     stream: &mut Stream<W>,
-    trace: &mut TraceRoom,
     steps: &mut Steps<L, C>,
-) -> Left
-    requires room { HasRoom level.now.env level.now.n level.now.first level.now.places.now spare.old.places.now regs.old spare.old.registers.now slate.old.cells.now (rooms_of slate.old.copies.now) trace.old }
-    requires stretch { IsStretch level.now.env.parts.now level.now.n stretch.first stretch.to }
+) -> BlockExit
+    requires room { HasRoom stretch.now.level.now spare.old regs.old output.old }
+    requires stretch { IsStretch stretch.now.level.now.code.parts.now stretch.now.level.now.n stretch.now.first stretch.now.to }
     requires whole { IsStream W.loads W.size stream.old }
     requires window { InWindow act.old stream.old }
     ensures later { Later W.loads W.reaches stream.old stream.new }
@@ -180,36 +176,42 @@ pub fn run_block<W: Words, L: Ledger, C: Counter>(
     ensures window { InWindow act.new stream.new }
     ensures outer { act.new.outer ≤ act.old.outer }
     ensures kept { IsKept spare.old spare.new }
-    ensures traced { Traced result trace.new (room_below levels level.now.env.parts.now level.now.n + 1) }
-    ensures trace_room { length trace.new.frames.items ≡ length trace.old.frames.items }
-    ensures trace_memory { vec_capacity trace.new.frames ≡ vec_capacity trace.old.frames }
-    ensures outside { WhenReturned result (looped level.now.env.parts.now stretch.first ≡ false) }
-    ensures inside { WhenTurned result (looped level.now.env.parts.now stretch.first ≡ true) }
-    ensures idle_turn { WhenTurned result (position stream.old ≡ position stream.new → IdleTurn level.now.env.parts.now level.now.n stretch.first) }
-    ensures idle_return { WhenReturned result (position stream.old ≡ position stream.new → IdleReturn level.now.env.parts.now level.now.n stretch.first) }
+    ensures traced { Traced result output.new.trace.now (room_below levels stretch.now.level.now.code.parts.now stretch.now.level.now.n + 1) }
+    ensures outside { WhenReturned result (looped stretch.now.level.now.code.parts.now stretch.now.first ≡ false) }
+    ensures inside { WhenTurned result (looped stretch.now.level.now.code.parts.now stretch.now.first ≡ true) }
+    ensures idle_turn { WhenTurned result (position stream.old ≡ position stream.new → IdleTurn stretch.now.level.now.code.parts.now stretch.now.level.now.n stretch.now.first) }
+    ensures idle_return { WhenReturned result (position stream.old ≡ position stream.new → IdleReturn stretch.now.level.now.code.parts.now stretch.now.level.now.n stretch.now.first) }
     ensures end { WhenTurned result (end_of stream.new ≡ end_of stream.old) }
-    ensures lent { IsLent slate.old slate.new }
-    ensures rooms { rooms_of slate.new.copies.now ≡ rooms_of slate.old.copies.now }
-    ensures held { Hold W.loads stream.old stream.new level.now.first slate.old.cells.now slate.new.cells.now slate.old.copies.now slate.new.copies.now }
+    ensures lent { SameRoom output.old output.new }
+    ensures held { Hold W.loads stream.old stream.new stretch.now.level.now.first output.old.slate output.new.slate }
     ensures same { Ran W.loads stream.old stream.new steps.old steps.new (λ b touched taken.
-        block level.now.env.parts.now b level.now.n level.now.places.now stretch.first (state_of regs.old slate.old.cells.now act.old stream.old)
-        ≡ exit_by (way_of result (state_of regs.new slate.new.cells.now act.new stream.new) (frames_of trace.new)) touched taken) }
+        block stretch.now.level.now.code.parts.now b stretch.now.level.now.n stretch.now.level.now.places.now stretch.now.first (state_of regs.old output.old.slate.cells.now act.old stream.old)
+        ≡ exit_by (way_of result (state_of regs.new output.new.slate.cells.now act.new stream.new) (frames_of output.new.trace.now)) touched taken) }
 {
     laws();
+    let level = stretch.level;
     let mut pc = stretch.first;
     'steps: while pc < stretch.to {
         steps.tick();
-        let instruction = instruction_at(level.env.parts, pc);
-        match step(level, instruction, pc, regs, slate, act, stream, steps) {
-            Step::Goes(target) => pc = target,
-            Step::Fails { reason, site, pos } => {
-                push_frame(trace, level.env.parts, site, act.start, reason);
-                return Left::Failed {
+        let instruction = instruction_at(level.code.parts, pc);
+        match step(
+            level,
+            Current { pc, instruction },
+            regs,
+            &mut output.slate,
+            act,
+            stream,
+            steps,
+        ) {
+            Effect::Goes(target) => pc = target,
+            Effect::Fails { reason, site, pos } => {
+                push_frame(output.trace, level.code.parts, site, act.start, reason);
+                return BlockExit::Failed {
                     reason,
                     pos: pos as u32,
                 };
             }
-            Step::Calls {
+            Effect::Calls {
                 first: from,
                 routine,
                 map,
@@ -225,41 +227,32 @@ pub fn run_block<W: Words, L: Ledger, C: Counter>(
                     },
                     spare,
                     regs,
-                    slate,
+                    output,
                     stream,
-                    trace,
                     steps,
                 ) {
-                    Left::Returned => pc += 1,
-                    Left::Turned => unreachable!(),
-                    Left::Failed { reason, pos } => {
-                        push_frame(trace, level.env.parts, site, act.start, reason);
-                        return Left::Failed { reason, pos };
+                    BlockExit::Returned => pc += 1,
+                    BlockExit::Turned => unreachable!(),
+                    BlockExit::Failed { reason, pos } => {
+                        push_frame(output.trace, level.code.parts, site, act.start, reason);
+                        return BlockExit::Failed { reason, pos };
                     }
                 }
             }
-            Step::Returns => return Left::Returned,
-            Step::Loops(target) => {
-                match run_turns(
+            Effect::Returns => return BlockExit::Returned,
+            Effect::Loops(target) => {
+                let turns = Stretch {
                     level,
-                    Stretch {
-                        first: pc,
-                        to: target,
-                    },
-                    spare,
-                    regs,
-                    slate,
-                    act,
-                    stream,
-                    trace,
-                    steps,
-                ) {
-                    Left::Turned => pc = target,
-                    Left::Returned => unreachable!(),
-                    Left::Failed { reason, pos } => return Left::Failed { reason, pos },
+                    first: pc,
+                    to: target,
+                };
+                match run_turns(&turns, spare, regs, output, act, stream, steps) {
+                    BlockExit::Turned => pc = target,
+                    BlockExit::Returned => unreachable!(),
+                    BlockExit::Failed { reason, pos } => return BlockExit::Failed { reason, pos },
                 }
             }
-            Step::Turns(_) => return Left::Turned,
+            Effect::Turns(_) => return BlockExit::Turned,
         }
     }
     unreachable!()
@@ -269,19 +262,17 @@ pub fn run_block<W: Words, L: Ledger, C: Counter>(
 // a step.
 #[cycle(machine)]
 fn run_turns<W: Words, L: Ledger, C: Counter>(
-    level: &Level<'_, '_>,
-    stretch: Stretch,
+    stretch: &Stretch<'_, '_, '_>,
     spare: &mut Spare<'_, '_>,
     regs: &mut [u64],
-    slate: &mut Slate<'_, '_>,
+    output: &mut Output<'_, '_, '_>,
     act: &mut Activation,
     stream: &mut Stream<W>,
-    trace: &mut TraceRoom,
     steps: &mut Steps<L, C>,
-) -> Left
-    requires room { HasRoom level.now.env level.now.n level.now.first level.now.places.now spare.old.places.now regs.old spare.old.registers.now slate.old.cells.now (rooms_of slate.old.copies.now) trace.old }
-    requires place { IsIn level.now.env.parts.now level.now.n stretch.first }
-    requires loops { shape_at (shapes_of level.now.env.parts.now) stretch.first ≡ While stretch.to }
+) -> BlockExit
+    requires room { HasRoom stretch.now.level.now spare.old regs.old output.old }
+    requires place { IsIn stretch.now.level.now.code.parts.now stretch.now.level.now.n stretch.now.first }
+    requires loops { shape_at (shapes_of stretch.now.level.now.code.parts.now) stretch.now.first ≡ While stretch.now.to }
     requires whole { IsStream W.loads W.size stream.old }
     requires window { InWindow act.old stream.old }
     ensures later { Later W.loads W.reaches stream.old stream.new }
@@ -289,39 +280,29 @@ fn run_turns<W: Words, L: Ledger, C: Counter>(
     ensures window { InWindow act.new stream.new }
     ensures outer { act.new.outer ≤ act.old.outer }
     ensures kept { IsKept spare.old spare.new }
-    ensures traced { Traced result trace.new (room_below levels level.now.env.parts.now level.now.n + 1) }
-    ensures trace_room { length trace.new.frames.items ≡ length trace.old.frames.items }
-    ensures trace_memory { vec_capacity trace.new.frames ≡ vec_capacity trace.old.frames }
+    ensures traced { Traced result output.new.trace.now (room_below levels stretch.now.level.now.code.parts.now stretch.now.level.now.n + 1) }
     ensures no_return { NotReturned result }
     ensures end { WhenTurned result (end_of stream.new ≡ end_of stream.old) }
-    ensures lent { IsLent slate.old slate.new }
-    ensures rooms { rooms_of slate.new.copies.now ≡ rooms_of slate.old.copies.now }
-    ensures held { Hold W.loads stream.old stream.new level.now.first slate.old.cells.now slate.new.cells.now slate.old.copies.now slate.new.copies.now }
+    ensures lent { SameRoom output.old output.new }
+    ensures held { Hold W.loads stream.old stream.new stretch.now.level.now.first output.old.slate output.new.slate }
     ensures same { Ran W.loads stream.old stream.new steps.old steps.new (λ b touched taken. (behind : State → Exit) →
-        turns (suc (end_of stream.old - position stream.old)) (block level.now.env.parts.now b level.now.n level.now.places.now (stretch.first + 1)) behind (state_of regs.old slate.old.cells.now act.old stream.old)
-        ≡ loop_exit result behind (state_of regs.new slate.new.cells.now act.new stream.new) (frames_of trace.new) touched taken) }
+        turns (suc (end_of stream.old - position stream.old)) (block stretch.now.level.now.code.parts.now b stretch.now.level.now.n stretch.now.level.now.places.now (stretch.now.first + 1)) behind (state_of regs.old output.old.slate.cells.now act.old stream.old)
+        ≡ loop_exit result behind (state_of regs.new output.new.slate.cells.now act.new stream.new) (frames_of output.new.trace.now) touched taken) }
 {
+    let first = stretch.first + 1;
+    let body = Stretch {
+        level: stretch.level,
+        first,
+        to: stretch.to,
+    };
     'turns: while stream.need(1) {
-        match run_block(
-            level,
-            Stretch {
-                first: stretch.first + 1,
-                to: stretch.to,
-            },
-            spare,
-            regs,
-            slate,
-            act,
-            stream,
-            trace,
-            steps,
-        ) {
-            Left::Turned => steps.tick(),
-            Left::Returned => unreachable!(),
-            Left::Failed { reason, pos } => return Left::Failed { reason, pos },
+        match run_block(&body, spare, regs, output, act, stream, steps) {
+            BlockExit::Turned => steps.tick(),
+            BlockExit::Returned => unreachable!(),
+            BlockExit::Failed { reason, pos } => return BlockExit::Failed { reason, pos },
         }
     }
-    Left::Turned
+    BlockExit::Turned
 }
 
 // Runs a callee, to its return.
@@ -331,35 +312,31 @@ fn call<W: Words, L: Ledger, C: Counter>(
     callee: Callee,
     spare: &mut Spare<'_, '_>,
     regs: &[u64],
-    slate: &mut Slate<'_, '_>,
+    output: &mut Output<'_, '_, '_>,
     stream: &mut Stream<W>,
-    trace: &mut TraceRoom,
     steps: &mut Steps<L, C>,
-) -> Left
-    requires room { HasRoom level.now.env level.now.n level.now.first level.now.places.now spare.old.places.now regs.now spare.old.registers.now slate.old.cells.now (rooms_of slate.old.copies.now) trace.old }
-    requires callee { IsCallee level.now.env.parts.now level.now.n callee.at callee.routine callee.first callee.map }
+) -> BlockExit
+    requires room { HasRoom level.now spare.old regs.now output.old }
+    requires callee { IsCallee level.now.code.parts.now level.now.n callee.at callee.routine callee.first callee.map }
     requires whole { IsStream W.loads W.size stream.old }
     ensures later { Later W.loads W.reaches stream.old stream.new }
     ensures whole { IsStream W.loads W.size stream.new }
     ensures end { end_of stream.new ≡ end_of stream.old }
     ensures kept { IsKept spare.old spare.new }
-    ensures traced { Traced result trace.new (room_below levels level.now.env.parts.now level.now.n) }
-    ensures trace_room { length trace.new.frames.items ≡ length trace.old.frames.items }
-    ensures trace_memory { vec_capacity trace.new.frames ≡ vec_capacity trace.old.frames }
+    ensures traced { Traced result output.new.trace.now (room_below levels level.now.code.parts.now level.now.n) }
     ensures no_turn { NotTurned result }
-    ensures idle { WhenReturned result (position stream.old ≡ position stream.new → MayBeEmpty (shapes_of level.now.env.parts.now) (lengths_of level.now.env.parts.now) (suc callee.routine) callee.routine) }
-    ensures lent { IsLent slate.old slate.new }
-    ensures rooms { rooms_of slate.new.copies.now ≡ rooms_of slate.old.copies.now }
-    ensures held { Hold W.loads stream.old stream.new level.now.first slate.old.cells.now slate.new.cells.now slate.old.copies.now slate.new.copies.now }
+    ensures idle { WhenReturned result (position stream.old ≡ position stream.new → MayBeEmpty (shapes_of level.now.code.parts.now) (lengths_of level.now.code.parts.now) (suc callee.routine) callee.routine) }
+    ensures lent { SameRoom output.old output.new }
+    ensures held { Hold W.loads stream.old stream.new level.now.first output.old.slate output.new.slate }
     ensures same { (start outer : ℕ) → Ran W.loads stream.old stream.new steps.old steps.new (λ b touched taken.
-        block level.now.env.parts.now b callee.routine (places_by level.now.places.now (cells_by level.now.env.parts.now level.now.n callee.routine callee.map)) (first_of level.now.env.parts.now callee.routine)
-        (entered (routine_of level.now.env.parts.now callee.routine) (registers_from regs.now callee.first (routine_of level.now.env.parts.now callee.routine).params)
-        (record { regs = regs.now; cells = slate.old.cells.now; start = start; pos = position stream.old; end = end_of stream.old; outer = outer }))
-        ≡ exit_by (call_way result (position stream.new) slate.new.cells.now (frames_of trace.new)) touched taken) }
+        block level.now.code.parts.now b callee.routine (places_by level.now.places.now (cells_by level.now.code.parts.now level.now.n callee.routine callee.map)) (first_of level.now.code.parts.now callee.routine)
+        (entered (routine_of level.now.code.parts.now callee.routine) (registers_from regs.now callee.first (routine_of level.now.code.parts.now callee.routine).params)
+        (record { regs = regs.now; cells = output.old.slate.cells.now; start = start; pos = position stream.old; end = end_of stream.old; outer = outer }))
+        ≡ exit_by (call_way result (position stream.new) output.new.slate.cells.now (frames_of output.new.trace.now)) touched taken) }
 {
-    let routine = routine_at(level.env.parts, callee.routine);
-    let from = level.env.begins[callee.routine];
-    let to = level.env.begins[callee.routine + 1];
+    let routine = routine_at(level.code.parts, callee.routine);
+    let from = level.code.begins[callee.routine];
+    let to = level.code.begins[callee.routine + 1];
     let registers = &mut *spare.registers;
     let places = &mut *spare.places;
     let (mine, rest) = registers.split_at_mut(routine.registers as usize);
@@ -372,7 +349,7 @@ fn call<W: Words, L: Ledger, C: Counter>(
         outer: end,
     };
     let inner = Level {
-        env: level.env,
+        code: level.code,
         n: callee.routine,
         first: level.first,
         places: mine_places,
@@ -381,17 +358,12 @@ fn call<W: Words, L: Ledger, C: Counter>(
         places: rest_places,
         registers: rest,
     };
-    let left = run_block(
-        &inner,
-        Stretch { first: from, to },
-        &mut free,
-        mine,
-        slate,
-        &mut act,
-        stream,
-        trace,
-        steps,
-    );
+    let whole = Stretch {
+        level: &inner,
+        first: from,
+        to,
+    };
+    let exit = run_block(&whole, &mut free, mine, output, &mut act, stream, steps);
     stream.widen(end);
-    left
+    exit
 }

@@ -6,14 +6,14 @@ ghost use Rattle.td_stream.specs.Copies.{empty_with};
 ghost use Rattle.td_ir.specs.Entries.{Fits, buffers_of, opened_by};
 ghost use Rattle.td_ir.specs.Run.{run};
 ghost use Rattle.td_stream.specs.Layouts.{count_in};
-ghost use Rattle.td_stream.specs.Loads.{Carries, Inside, IsRising};
+ghost use Rattle.td_stream.specs.Loads.{IsFetchedOnce};
 ghost use Rattle.td_vm.specs.Frames.{IsArmed, outcome_in};
 ghost use Rattle.td_vm.specs.Machine.{IsRunnable};
 ghost use Rattle.td_vm.specs.Need.{most_rooms};
 ghost use Rattle.td_vm.specs.Outcomes.{IsRun};
 
-use crate::arm::{Kind, begins_of, buffer_count, most_cells, need_of, rooms_for};
-use crate::level::Spare;
+use crate::arm::{NeedKind, begins_of, buffer_count, most_cells, need_of, rooms_for};
+use crate::level::{Call, Spare};
 use crate::message::run_message;
 use crate::outcome::held_by_first;
 use std::alloc::{AllocError, Global};
@@ -28,7 +28,7 @@ use td_stream::layout::Layout;
 use td_stream::words::Words;
 use td_verify::laws::sound_code_is_safe;
 use td_verify::verify::Verified;
-use td_vm_step::activation::{Env, TraceRoom};
+use td_vm_step::activation::{CodeView, TraceRoom};
 use td_vm_step::slate::Slate;
 use td_vm_step::steps::{Counter, Steps};
 use td_vm_step::tables::entry_at;
@@ -130,9 +130,9 @@ impl Frame {
     {
         let parts = runnable(code);
         let begins = begins_of(alloc, parts)?;
-        let registers = need_of(alloc, parts, &begins, Kind::Registers)?;
-        let places = need_of(alloc, parts, &begins, Kind::Cells)?;
-        let levels = need_of(alloc, parts, &begins, Kind::Levels)?;
+        let registers = need_of(alloc, parts, &begins, NeedKind::Registers)?;
+        let places = need_of(alloc, parts, &begins, NeedKind::Cells)?;
+        let levels = need_of(alloc, parts, &begins, NeedKind::Levels)?;
         let rooms = rooms_for(alloc, parts)?;
         let empty = TraceFrame {
             ty: NameId { number: 0 },
@@ -235,19 +235,22 @@ pub fn validate<W: Words, L: Ledger, C: Counter>(
     requires room { count_in layout.now ≤ W.size words.old }
     requires fresh { W.loads words.old ≡ [] }
     ensures reaches { W.reaches words.old words.new }
-    ensures rising { IsRising (W.loads words.new) }
-    ensures within { Inside layout.now (W.loads words.new) }
-    ensures run { (b : List ℕ) → Carries layout.now b (W.loads words.new)
-        → IsRun layout.now (size_of frame.old.cells) b (W.loads words.new) (run code.now entry args.now (opened_by code.now entry frame.old.cells) b)
-        (outcome_in frame.new (buffers_of code.now entry) result) steps.old steps.new }
+    ensures fetched { IsFetchedOnce layout.now (W.loads words.new) (λ (b : List ℕ).
+        IsRun layout.now (size_of frame.old.cells) b (W.loads words.new) (run code.now entry args.now (opened_by code.now entry frame.old.cells) b)
+        (outcome_in frame.new (buffers_of code.now entry) result) steps.old steps.new) }
     ensures cell_count { size_of frame.new.cells ≡ size_of frame.old.cells }
     ensures armed { IsArmed code.now frame.new }
 {
     let parts = runnable(code);
     let point = entry_at(parts, entry.number as usize);
-    let env = Env {
+    let view = CodeView {
         parts,
         begins: frame.begins.as_slice(),
+    };
+    let call = Call {
+        code: view,
+        n: point.routine as usize,
+        args,
     };
     frame.copies.clear();
     let places = frame.places.as_mut_slice();
@@ -257,9 +260,7 @@ pub fn validate<W: Words, L: Ledger, C: Counter>(
     let copies = frame.copies.buffers.as_mut_slice();
     let mut slate = Slate { cells, copies };
     run_message(
-        &env,
-        point.routine as usize,
-        args,
+        &call,
         layout,
         &mut spare,
         &mut slate,

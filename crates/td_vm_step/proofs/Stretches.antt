@@ -5,14 +5,13 @@ use Rattle.td_stream.specs.Loads.{Carries}
 use Rattle.td_stream.specs.StreamInvariant.{Later, Looked, loads_of, layout_of}
 use Rattle.td_stream.specs.declared.stream.Stream.{Stream}
 use Rattle.td_stream.proofs.Places.{look_nowhere}
-use Rattle.td_stream.specs.Copies.{BufferView}
 use Rattle.td_stream.proofs.Stages.{carried}
 use Rattle.td_vm_step.specs.declared.slate.Slate.{Slate}
 use Rattle.td_vm_step.specs.Stepping.{Ran, IsLent, Hold}
 
 -- what buffers hold, over two stretches
-pub hold_on : {W : Type 0} {loads : W → List Load} {reaches : W → W → Type 0} (r s t : Stream W) (first : ℕ) (xs ys zs : List ℕ) (us vs ws : List BufferView) → Later loads reaches r s → Later loads reaches s t → Hold loads r s first xs ys us vs → Hold loads s t first ys zs vs ws → Hold loads r t first xs zs us ws
-hold_on r s t first xs ys zs us vs ws h k f g = λ b c a. let d = carried r s t b h k c in g b d.1 (f b d.0 a)
+pub hold_on : {W : Type 0} {loads : W → List Load} {reaches : W → W → Type 0} (r s t : Stream W) (first : ℕ) (u v w : Slate) → Later loads reaches r s → Later loads reaches s t → Hold loads r s first u v → Hold loads s t first v w → Hold loads r t first u w
+hold_on r s t first u v w h k f g = λ b c a. let d = carried r s t b h k c in g b d.1 (f b d.0 a)
 
 pub lent_self : (s : Slate) → IsLent s s
 lent_self s = record { same_cells = refl; same_copies = refl; cells = refl; copies = refl }

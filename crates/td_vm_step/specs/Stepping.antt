@@ -1,7 +1,7 @@
 -- What one instruction does to the machine's values; of use in this crate and in td_vm alone.
 use Rattle.std.specs.Prelude.{◌≡◌, ℕ, ◌+◌, ◌-◌, ◌*◌, ◌^◌, ◌<◌, ◌≤◌, Bool, true, false, List, length, slice_index}
 use Rattle.td_core.specs.Held.{IsBufferAt, AreHeld}
-use Rattle.td_stream.specs.Copies.{BufferView, held_by}
+use Rattle.td_stream.specs.Copies.{held_by}
 use Rattle.td_stream.specs.declared.load.Load.{Load}
 use Rattle.td_stream.specs.declared.stream.Stream.{Stream}
 use Rattle.td_stream.specs.Loads.{Carries}
@@ -11,7 +11,8 @@ use Rattle.td_ir.specs.declared.instructions.Instr.TheVariants as i
 use Rattle.td_ir.specs.declared.tables.Parts.{Parts}
 use Rattle.td_ir.specs.Tables.{routine_of}
 use Rattle.td_ir.specs.State.{State}
-use Rattle.td_ir.specs.Flow.{Flow, Goes, Fails, Calls, Returns, Loops, Turns, Effect, copied}
+use Rattle.td_ir.specs.Flow.{Flow, Goes, Fails, Calls, Returns, Loops, Turns, copied}
+use Rattle.td_ir.specs.Flow as ir
 use Rattle.td_ir.specs.Values.{is_zero, is_nonzero}
 use Rattle.td_verify.specs.declared.shape.Shape.{Shape}
 use Rattle.td_verify.specs.declared.shape.Shape.TheVariants.{Straight, Call, While, Open, Close}
@@ -19,24 +20,24 @@ use Rattle.td_verify.specs.Shape.{shape}
 use Rattle.td_verify.specs.Ways.{Leads}
 use Rattle.td_verify.specs.Operands.{HasRegisters, HasTables, HasOperands, callee_params}
 use Rattle.td_vm_step.specs.declared.activation.Activation.{Activation}
-use Rattle.td_vm_step.specs.declared.activation.Step.{Step}
-use Rattle.td_vm_step.specs.declared.activation.Step.TheVariants as step
+use Rattle.td_vm_step.specs.declared.activation.Effect.{Effect}
+use Rattle.td_vm_step.specs.declared.activation.Effect.TheVariants as effect
 use Rattle.td_vm_step.specs.declared.slate.Slate.{Slate}
 
 -- the state that the machine's values stand for
 abbrev pub state_of : {W : Type 0} → (regs cells : List ℕ) → Activation → Stream W → State
 state_of regs cells a s = record { regs = regs; cells = cells; start = a.start; pos = position s; end = end_of s; outer = a.outer }
 
--- where a step from s to t leads; what fails leaves the position as it was
-abbrev pub flow_of : Step → (s t : State) → Flow
-flow_of (step.Goes target) s t = Goes target t
-flow_of (step.Fails reason site pos) s t = Fails reason site pos (record t { pos = s.pos })
-flow_of (step.Calls first routine map site) s t = Calls first routine map site t
-flow_of step.Returns s t = Returns t
-flow_of (step.Loops target) s t = Loops target t
-flow_of (step.Turns start) s t = Turns t
+-- where an instruction leads, from s to t; what fails leaves the position as it was
+abbrev pub flow_of : Effect → (s t : State) → Flow
+flow_of (effect.Goes target) s t = Goes target t
+flow_of (effect.Fails reason site pos) s t = Fails reason site pos (record t { pos = s.pos })
+flow_of (effect.Calls first routine map site) s t = Calls first routine map site t
+flow_of effect.Returns s t = Returns t
+flow_of (effect.Loops target) s t = Loops target t
+flow_of (effect.Turns start) s t = Turns t
 
-abbrev pub effect_of : Flow → List ℕ → ℕ → Effect
+abbrev pub effect_of : Flow → List ℕ → ℕ → ir.Effect
 effect_of flow touched steps = record { flow = flow; touched = touched; steps = steps }
 
 -- from s to t the count of steps rose from one number to another and just the words of some places were loaded, and on every list that carries them P holds of it, of these places and of how much the count rose
@@ -48,8 +49,8 @@ pub record Ran {W : Type 0} (loads : W → List Load) (s t : Stream W) (from to 
   pub holds : (b : List ℕ) → Carries (layout_of s) b (loads_of loads t) → P b touched taken
 
 -- from s to t buffers went on holding what the cells behind the first ones say, on every list that carries the words loaded
-abbrev pub Hold : {W : Type 0} (loads : W → List Load) (s t : Stream W) (first : ℕ) (cells cells' : List ℕ) (copies copies' : List BufferView) → Type 0
-Hold loads s t first cells cells' copies copies' = (b : List ℕ) → Carries (layout_of s) b (loads_of loads t) → AreHeld b first cells (held_by copies) → AreHeld b first cells' (held_by copies')
+abbrev pub Hold : {W : Type 0} (loads : W → List Load) (s t : Stream W) (first : ℕ) (u v : Slate) → Type 0
+Hold loads s t first u v = (b : List ℕ) → Carries (layout_of s) b (loads_of loads t) → AreHeld b first u.cells.now (held_by u.copies.now) → AreHeld b first v.cells.now (held_by v.copies.now)
 
 -- the same cells and buffers are lent, as many as before
 pub record IsLent (s t : Slate) : Type 0 where
@@ -59,7 +60,7 @@ pub record IsLent (s t : Slate) : Type 0 where
   pub copies : length t.copies.now ≡ length s.copies.now
 
 -- what a copy to a buffer of routine n does, whose cells, and then those of its buffers, are at these places
-abbrev pub copied_to : Parts → (n : ℕ) → (places : List ℕ) → (next size buffer site : ℕ) → State → Effect
+abbrev pub copied_to : Parts → (n : ℕ) → (places : List ℕ) → (next size buffer site : ℕ) → State → ir.Effect
 copied_to c n places next size buffer site s =
     let first = (routine_of c n).cells + 2 * buffer in
     copied next size (slice_index (routine_of c n).buffers buffer) (slice_index places first) (slice_index places (first + 1)) site s
@@ -89,24 +90,24 @@ Passes (Call m) = ⊥
 Passes (While t) = ⊥
 Passes j = Unit {0}
 
--- what a step says of its instruction
-abbrev pub LeadsTo : Step → ℕ → Instr → Type 0
-LeadsTo (step.Goes target) pc j = Passes (shape j) × Leads pc (shape j) target
-LeadsTo (step.Fails reason site pos) pc j = Passes (shape j)
-LeadsTo (step.Calls first routine map site) pc j = j ≡ i.Call first routine map site
-LeadsTo step.Returns pc j = j ≡ i.Return
-LeadsTo (step.Loops target) pc j = j ≡ i.While target
-LeadsTo (step.Turns start) pc j = j ≡ i.Again start
+-- what an effect says of its instruction
+abbrev pub LeadsTo : Effect → ℕ → Instr → Type 0
+LeadsTo (effect.Goes target) pc j = Passes (shape j) × Leads pc (shape j) target
+LeadsTo (effect.Fails reason site pos) pc j = Passes (shape j)
+LeadsTo (effect.Calls first routine map site) pc j = j ≡ i.Call first routine map site
+LeadsTo effect.Returns pc j = j ≡ i.Return
+LeadsTo (effect.Loops target) pc j = j ≡ i.While target
+LeadsTo (effect.Turns start) pc j = j ≡ i.Again start
 
 -- the site that it names is one of so many
-abbrev pub HasSite : Step → ℕ → Type 0
-HasSite (step.Fails reason site pos) n = site < n
-HasSite (step.Calls first routine map site) n = site < n
+abbrev pub HasSite : Effect → ℕ → Type 0
+HasSite (effect.Fails reason site pos) n = site < n
+HasSite (effect.Calls first routine map site) n = site < n
 HasSite j n = Unit {0}
 
 -- where it fails, the position has 32 bits
-abbrev pub IsSmall : Step → Type 0
-IsSmall (step.Fails reason site pos) = pos < 2 ^ 32
+abbrev pub IsSmall : Effect → Type 0
+IsSmall (effect.Fails reason site pos) = pos < 2 ^ 32
 IsSmall j = Unit {0}
 
 -- the bytes that an instruction takes at least
@@ -125,14 +126,14 @@ Ends (Open k) pos before after = pos + k ≤ after
 Ends Close pos before after = pos ≡ before
 Ends j pos before after = after ≡ before
 
-abbrev pub WhenGoes : Step → Type 0 → Type 0
-WhenGoes (step.Fails reason site pos) P = Unit {0}
+abbrev pub WhenGoes : Effect → Type 0 → Type 0
+WhenGoes (effect.Fails reason site pos) P = Unit {0}
 WhenGoes j P = P
 
 -- it goes on at a place, or fails at a site
-abbrev pub OnOrOut : (next site : ℕ) → Step → Type 0
-OnOrOut next place (step.Goes target) = target ≡ next
-OnOrOut next place (step.Fails reason site pos) = site ≡ place
+abbrev pub OnOrOut : (next site : ℕ) → Effect → Type 0
+OnOrOut next place (effect.Goes target) = target ≡ next
+OnOrOut next place (effect.Fails reason site pos) = site ≡ place
 OnOrOut next place j = ⊥
 
 -- what is sought among elements: a zero, or one that isn't

@@ -2,18 +2,20 @@
 
 ghost use Rattle.std.specs.Prelude.{◌≡◌, ℕ, ◌+◌, ◌-◌, ◌*◌, ◌/◌, ◌<◌, ◌≤◌, Bool, List, length, IfSome};
 ghost use Rattle.td_num.specs.Numbers.{places_from};
+ghost use Rattle.td_num.specs.Lists.{first_where, looked_at};
 ghost use Rattle.td_stream.specs.Loads.{Carries};
-ghost use Rattle.td_stream.specs.StreamInvariant.{IsStream, Later, Looked, position, end_of, layout_of, loads_of};
+ghost use Rattle.td_stream.specs.StreamInvariant.{IsStream, Later, Moves, position, end_of, layout_of, loads_of};
 ghost use Rattle.td_verify.specs.Operands.{IsWidth};
 ghost use Rattle.td_ir.specs.Values as values;
-ghost use Rattle.td_ir.specs.Values.{first_where, looked_at, numbers_from};
+ghost use Rattle.td_ir.specs.Values.{numbers_from};
 ghost use Rattle.td_ir.specs.Flow as flow;
 ghost use Rattle.td_vm_step.specs.Stepping.{state_of, flow_of, effect_of, Ran, WhenGoes, OnOrOut, IsSmall, sought};
 
-use crate::activation::{Activation, Step};
+use crate::activation::{Activation, Effect};
 use crate::steps::{Counter, Steps};
 use std::sync::ledger::Ledger;
 use td_core::outcome::Reason;
+use td_ir::constants::LITTLE_ENDIAN;
 use td_num::number::ByteOrder;
 use td_stream::stream::Stream;
 use td_stream::words::Words;
@@ -21,47 +23,53 @@ use td_stream::words::Words;
 fn order_of(order: u8) -> ByteOrder
     ensures { result ≡ values.order_of order }
 {
-    if order == 0 {
+    if order == LITTLE_ENDIAN {
         ByteOrder::LittleEndian
     } else {
         ByteOrder::BigEndian
     }
 }
 
-/// Fetches a number of so many bytes into a register.
+/// The operands of a fetch: the register that it goes to, the order and the number of its bytes, and the site of its frame.
+#[derive(Clone, Copy)]
+pub struct FetchOperands {
+    pub into: u16,
+    pub order: u8,
+    pub width: u16,
+    pub site: u32,
+}
+
+/// Fetches a number into a register.
 pub fn fetch<W: Words>(
-    into: u16,
-    order: u8,
-    width: u16,
-    site: u32,
+    operands: FetchOperands,
     next: usize,
     regs: &mut [u64],
     act: &Activation,
     stream: &mut Stream<W>,
-) -> Step
-    requires register { into < length regs.old }
-    requires width { IsWidth width }
+) -> Effect
+    requires register { operands.into < length regs.old }
+    requires width { IsWidth operands.width }
     requires whole { IsStream W.loads W.size stream.old }
     ensures later { Later W.loads W.reaches stream.old stream.new }
     ensures whole { IsStream W.loads W.size stream.new }
     ensures end { end_of stream.new ≡ end_of stream.old }
-    ensures on { OnOrOut next site result }
+    ensures on { OnOrOut next operands.site result }
     ensures small { IsSmall result }
-    ensures takes { WhenGoes result (position stream.old + width ≤ position stream.new) }
+    ensures takes { WhenGoes result (position stream.old + operands.width ≤ position stream.new) }
     ensures same { (n : ℕ) → Ran W.loads stream.old stream.new n n (λ b touched taken. (cells : List ℕ) →
-        flow.fetched b next into order width site (state_of regs.old cells act.now stream.old)
+        flow.fetched b next operands.into operands.order operands.width operands.site (state_of regs.old cells act.now stream.old)
         ≡ effect_of (flow_of result (state_of regs.old cells act.now stream.old) (state_of regs.new cells act.now stream.new)) touched (1 + taken)) }
 {
-    let count = u32::from(width);
+    let count = u32::from(operands.width);
     if !stream.need(count) {
-        return Step::Fails {
+        return Effect::Fails {
             reason: Reason::NotEnough,
-            site,
+            site: operands.site,
             pos: act.start as u64,
         };
     }
-    regs[into as usize] = stream.take_bytes(order_of(order), count);
-    Step::Goes(next)
+    regs[operands.into as usize] = stream.take_bytes(order_of(operands.order), count);
+    Effect::Goes(next)
 }
 
 fn is_sought(zero: bool, element: u64) -> bool
@@ -82,12 +90,9 @@ fn seek<W: Words, L: Ledger, C: Counter>(
     requires width { IsWidth width }
     requires fit { n * width ≤ end_of stream.old - position stream.old }
     requires whole { IsStream W.loads W.size stream.old }
-    ensures later { Later W.loads W.reaches stream.old stream.new }
-    ensures whole { IsStream W.loads W.size stream.new }
-    ensures end { end_of stream.new ≡ end_of stream.old }
-    ensures pos { position stream.new ≡ position stream.old + looked_at result n * width }
+    ensures moves { Moves W.loads W.size W.reaches stream.old stream.new
+        (position stream.old + looked_at result n * width) (end_of stream.old) (places_from (position stream.old) (looked_at result n * width)) }
     ensures counted { steps.new ≡ steps.old + looked_at result n }
-    ensures looked { Looked W.loads stream.old stream.new (places_from (position stream.old) (looked_at result n * width)) }
     ensures first { (b : List ℕ) → Carries (layout_of stream.old) b (loads_of W.loads stream.new)
         → result ≡ first_where (sought zero) (numbers_from b (position stream.old) width n) }
     ensures within { IfSome result (λ k. k < n) }
@@ -110,7 +115,7 @@ pub fn zeros<W: Words, L: Ledger, C: Counter>(
     act: &Activation,
     stream: &mut Stream<W>,
     steps: &mut Steps<L, C>,
-) -> Step
+) -> Effect
     requires whole { IsStream W.loads W.size stream.old }
     ensures later { Later W.loads W.reaches stream.old stream.new }
     ensures whole { IsStream W.loads W.size stream.new }
@@ -124,8 +129,8 @@ pub fn zeros<W: Words, L: Ledger, C: Counter>(
     let start = stream.pos();
     let left = stream.end() - start;
     match seek(1, left, false, stream, steps) {
-        None => Step::Goes(next),
-        Some(k) => Step::Fails {
+        None => Effect::Goes(next),
+        Some(k) => Effect::Fails {
             reason: Reason::Padding,
             site,
             pos: (start + k) as u64,
@@ -142,7 +147,7 @@ pub fn zeroterm<W: Words, L: Ledger, C: Counter>(
     act: &Activation,
     stream: &mut Stream<W>,
     steps: &mut Steps<L, C>,
-) -> Step
+) -> Effect
     requires width { IsWidth width }
     requires whole { IsStream W.loads W.size stream.old }
     ensures later { Later W.loads W.reaches stream.old stream.new }
@@ -160,8 +165,8 @@ pub fn zeroterm<W: Words, L: Ledger, C: Counter>(
     let within = most <= u64::from(room);
     let n = if within { most as u32 } else { room };
     match seek(width, n, true, stream, steps) {
-        Some(_) => Step::Goes(next),
-        None => Step::Fails {
+        Some(_) => Effect::Goes(next),
+        None => Effect::Fails {
             reason: if within {
                 Reason::Constraint
             } else {

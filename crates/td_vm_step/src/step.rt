@@ -8,9 +8,9 @@ ghost use Rattle.td_ir.specs.WellFormed.{IsCode};
 ghost use Rattle.td_ir.specs.Flow.{effect};
 ghost use Rattle.td_vm_step.specs.Stepping.{state_of, flow_of, effect_of, Ran, InWindow, IsFine, HasPlaces, IsLent, Hold, LeadsTo, HasSite, IsSmall, WhenGoes, Ends, least};
 
-use crate::activation::{Activation, Level, Step};
-use crate::copying::copy;
-use crate::reads::{fetch, zeros, zeroterm};
+use crate::activation::{Activation, Current, Effect, Level};
+use crate::copying::{CopyOperands, copy};
+use crate::reads::{FetchOperands, fetch, zeros, zeroterm};
 use crate::slate::Slate;
 use crate::steps::{Counter, Steps};
 use crate::tables::set_at;
@@ -22,52 +22,51 @@ use td_ir::instructions::Instr;
 use td_stream::stream::Stream;
 use td_stream::words::Words;
 
-/// Runs the instruction at pc of routine n, whose cells lie among the first ones and its buffers' behind these. A call and a loop
+/// Runs an instruction of routine n, whose cells lie among the first ones and its buffers' behind these. A call and a loop
 /// are left to the caller, and so is the instruction's own step.
 pub fn step<W: Words, L: Ledger, C: Counter>(
     level: &Level<'_, '_>,
-    instruction: &Instr,
-    pc: usize,
+    current: Current<'_>,
     regs: &mut [u64],
     slate: &mut Slate<'_, '_>,
     act: &mut Activation,
     stream: &mut Stream<W>,
     steps: &mut Steps<L, C>,
-) -> Step
-    requires code { IsCode level.now.env.parts.now }
-    requires routine { level.now.n < length level.now.env.parts.now.routines }
-    requires fine { IsFine level.now.env.parts.now level.now.n (length regs.old) instruction.now }
-    requires places { HasPlaces level.now.env.parts.now level.now.n level.now.places.now level.now.first (length slate.old.cells.now) (rooms_of slate.old.copies.now) }
-    requires next { pc + 1 < 2 ^ 64 }
+) -> Effect
+    requires code { IsCode level.now.code.parts.now }
+    requires routine { level.now.n < length level.now.code.parts.now.routines }
+    requires fine { IsFine level.now.code.parts.now level.now.n (length regs.old) current.instruction.now }
+    requires places { HasPlaces level.now.code.parts.now level.now.n level.now.places.now level.now.first (length slate.old.cells.now) (rooms_of slate.old.copies.now) }
+    requires next { current.pc + 1 < 2 ^ 64 }
     requires whole { IsStream W.loads W.size stream.old }
     requires window { InWindow act.old stream.old }
     ensures later { Later W.loads W.reaches stream.old stream.new }
     ensures whole { IsStream W.loads W.size stream.new }
     ensures window { InWindow act.new stream.new }
     ensures outer { act.new.outer ≤ act.old.outer }
-    ensures leads { LeadsTo result pc instruction.now }
-    ensures site { HasSite result (length level.now.env.parts.now.sites) }
+    ensures leads { LeadsTo result current.entry.pc current.entry.instruction.now }
+    ensures site { HasSite result (length level.now.code.parts.now.sites) }
     ensures small { IsSmall result }
-    ensures takes { WhenGoes result (position stream.old + least (shape instruction.now) ≤ position stream.new) }
-    ensures end { WhenGoes result (Ends (shape instruction.now) (position stream.old) (end_of stream.old) (end_of stream.new)) }
+    ensures takes { WhenGoes result (position stream.old + least (shape current.entry.instruction.now) ≤ position stream.new) }
+    ensures end { WhenGoes result (Ends (shape current.entry.instruction.now) (position stream.old) (end_of stream.old) (end_of stream.new)) }
     ensures lent { IsLent slate.old slate.new }
     ensures rooms { rooms_of slate.new.copies.now ≡ rooms_of slate.old.copies.now }
-    ensures held { Hold W.loads stream.old stream.new level.now.first slate.old.cells.now slate.new.cells.now slate.old.copies.now slate.new.copies.now }
+    ensures held { Hold W.loads stream.old stream.new level.now.first slate.old slate.new }
     ensures same { Ran W.loads stream.old stream.new steps.old steps.new (λ b touched taken.
-        effect level.now.env.parts.now level.now.n b level.now.places.now pc instruction.now (state_of regs.old slate.old.cells.now act.old stream.old)
+        effect level.now.code.parts.now level.now.n b level.now.places.now current.entry.pc current.entry.instruction.now (state_of regs.old slate.old.cells.now act.old stream.old)
         ≡ effect_of (flow_of result (state_of regs.old slate.old.cells.now act.old stream.old) (state_of regs.new slate.new.cells.now act.new stream.new)) touched (1 + taken)) }
 {
-    match *instruction {
+    match *current.instruction {
         Instr::Const { into, value } => {
             regs[into as usize] = value;
-            Step::Goes(pc + 1)
+            Effect::Goes(current.pc + 1)
         }
         Instr::Member { into, source, set } => {
             regs[into as usize] = bit(is_member(
                 regs[source as usize],
-                set_at(level.env.parts, set as usize),
+                set_at(level.code.parts, set as usize),
             ));
-            Step::Goes(pc + 1)
+            Effect::Goes(current.pc + 1)
         }
         Instr::Op {
             into,
@@ -76,7 +75,7 @@ pub fn step<W: Words, L: Ledger, C: Counter>(
             right,
         } => {
             regs[into as usize] = operated(operator, regs[left as usize], regs[right as usize]);
-            Step::Goes(pc + 1)
+            Effect::Goes(current.pc + 1)
         }
         Instr::Bits {
             into,
@@ -85,25 +84,25 @@ pub fn step<W: Words, L: Ledger, C: Counter>(
             count,
         } => {
             regs[into as usize] = bits(regs[source as usize], low, count);
-            Step::Goes(pc + 1)
+            Effect::Goes(current.pc + 1)
         }
         Instr::Pos { into } => {
             regs[into as usize] = u64::from(act.start);
-            Step::Goes(pc + 1)
+            Effect::Goes(current.pc + 1)
         }
-        Instr::Jump { target } => Step::Goes(target as usize),
+        Instr::Jump { target } => Effect::Goes(target as usize),
         Instr::JumpIf { test, target } => {
             if regs[test as usize] == 0 {
-                Step::Goes(pc + 1)
+                Effect::Goes(current.pc + 1)
             } else {
-                Step::Goes(target as usize)
+                Effect::Goes(target as usize)
             }
         }
         Instr::JumpUnless { test, target } => {
             if regs[test as usize] == 0 {
-                Step::Goes(target as usize)
+                Effect::Goes(target as usize)
             } else {
-                Step::Goes(pc + 1)
+                Effect::Goes(current.pc + 1)
             }
         }
         Instr::Call {
@@ -111,87 +110,106 @@ pub fn step<W: Words, L: Ledger, C: Counter>(
             routine,
             map,
             site,
-        } => Step::Calls {
+        } => Effect::Calls {
             first,
             routine,
             map,
             site,
         },
-        Instr::Return => Step::Returns,
+        Instr::Return => Effect::Returns,
         Instr::Fetch {
             into,
             order,
             width,
             site,
-        } => fetch(into, order, width, site, pc + 1, regs, act, stream),
-        Instr::SkipK { bytes, site } => skip(bytes, site, pc + 1, act, stream),
-        Instr::Skip { size, site } => skip(regs[size as usize], site, pc + 1, act, stream),
+        } => fetch(
+            FetchOperands {
+                into,
+                order,
+                width,
+                site,
+            },
+            current.pc + 1,
+            regs,
+            act,
+            stream,
+        ),
+        Instr::SkipK { bytes, site } => skip(bytes, site, current.pc + 1, act, stream),
+        Instr::Skip { size, site } => skip(regs[size as usize], site, current.pc + 1, act, stream),
         Instr::Rest => {
             stream.skip(stream.end() - stream.pos());
-            Step::Goes(pc + 1)
+            Effect::Goes(current.pc + 1)
         }
-        Instr::Zeros { site } => zeros(site, pc + 1, act, stream, steps),
+        Instr::Zeros { site } => zeros(site, current.pc + 1, act, stream, steps),
         Instr::Zeroterm { bound, width, site } => {
             zeroterm(
                 regs[bound as usize],
                 width,
                 site,
-                pc + 1,
+                current.pc + 1,
                 act,
                 stream,
                 steps,
             )
         }
-        Instr::NarrowK { bytes, site } => narrow(bytes, site, pc + 1, act, stream),
-        Instr::Narrow { size, site } => narrow(regs[size as usize], site, pc + 1, act, stream),
+        Instr::NarrowK { bytes, site } => narrow(bytes, site, current.pc + 1, act, stream),
+        Instr::Narrow { size, site } => narrow(
+            regs[size as usize],
+            site,
+            current.pc + 1,
+            act,
+            stream,
+        ),
         Instr::Divides { size, step, site } => {
             if regs[size as usize] % step == 0 {
-                Step::Goes(pc + 1)
+                Effect::Goes(current.pc + 1)
             } else {
-                Step::Fails {
+                Effect::Fails {
                     reason: Reason::ListSize,
                     site,
                     pos: act.start as u64,
                 }
             }
         }
-        Instr::While { target } => Step::Loops(target as usize),
-        Instr::Again { target } => Step::Turns(target as usize),
+        Instr::While { target } => Effect::Loops(target as usize),
+        Instr::Again { target } => Effect::Turns(target as usize),
         Instr::Widen { site } => {
             if stream.pos() == stream.end() {
                 stream.widen(act.outer);
-                Step::Goes(pc + 1)
+                Effect::Goes(current.pc + 1)
             } else {
-                Step::Fails {
+                Effect::Fails {
                     reason: Reason::ListSize,
                     site,
                     pos: act.start as u64,
                 }
             }
         }
-        Instr::Fail { reason, site } => Step::Fails {
+        Instr::Fail { reason, site } => Effect::Fails {
             reason: reason_of(reason),
             site,
             pos: act.start as u64,
         },
         Instr::Get { into, cell } => {
             regs[into as usize] = slate.cells[level.places[cell as usize]];
-            Step::Goes(pc + 1)
+            Effect::Goes(current.pc + 1)
         }
         Instr::Set { source, cell } => {
             slate.cells[level.places[cell as usize]] = regs[source as usize];
-            Step::Goes(pc + 1)
+            Effect::Goes(current.pc + 1)
         }
         Instr::Mark => {
             act.start = stream.pos();
-            Step::Goes(pc + 1)
+            Effect::Goes(current.pc + 1)
         }
         Instr::Copy { size, buffer, site } => copy(
             level,
-            regs[size as usize],
-            buffer,
-            site,
-            pc + 1,
+            CopyOperands {
+                size: regs[size as usize],
+                buffer,
+                site,
+            },
+            current.pc + 1,
             slate,
             act,
             stream,

@@ -5,7 +5,7 @@ ghost use Rattle.td_stream.specs.StreamInvariant.{IsStream, Later, position, end
 ghost use Rattle.td_ir.specs.Flow as flow;
 ghost use Rattle.td_vm_step.specs.Stepping.{state_of, flow_of, effect_of, Ran, InWindow, WhenGoes, OnOrOut, IsSmall};
 
-use crate::activation::{Activation, Step};
+use crate::activation::{Activation, Effect};
 use td_core::outcome::Reason;
 use td_stream::stream::Stream;
 use td_stream::words::Words;
@@ -17,7 +17,7 @@ pub fn skip<W: Words>(
     next: usize,
     act: &Activation,
     stream: &mut Stream<W>,
-) -> Step
+) -> Effect
     requires whole { IsStream W.loads W.size stream.old }
     ensures later { Later W.loads W.reaches stream.old stream.new }
     ensures whole { IsStream W.loads W.size stream.new }
@@ -30,14 +30,14 @@ pub fn skip<W: Words>(
         ≡ effect_of (flow_of result (state_of regs cells act.now stream.old) (state_of regs cells act.now stream.new)) touched (1 + taken)) }
 {
     if n > u64::from(stream.end() - stream.pos()) {
-        return Step::Fails {
+        return Effect::Fails {
             reason: Reason::NotEnough,
             site,
             pos: act.start as u64,
         };
     }
     stream.skip(n as u32);
-    Step::Goes(next)
+    Effect::Goes(next)
 }
 
 /// Opens a window of n bytes.
@@ -47,7 +47,7 @@ pub fn narrow<W: Words>(
     next: usize,
     act: &mut Activation,
     stream: &mut Stream<W>,
-) -> Step
+) -> Effect
     requires whole { IsStream W.loads W.size stream.old }
     requires window { InWindow act.old stream.old }
     ensures later { Later W.loads W.reaches stream.old stream.new }
@@ -63,7 +63,7 @@ pub fn narrow<W: Words>(
         ≡ effect_of (flow_of result (state_of regs cells act.old stream.old) (state_of regs cells act.new stream.new)) touched (1 + taken)) }
 {
     if n > u64::from(stream.end() - stream.pos()) {
-        return Step::Fails {
+        return Effect::Fails {
             reason: Reason::NotEnough,
             site,
             pos: act.start as u64,
@@ -71,5 +71,5 @@ pub fn narrow<W: Words>(
     }
     act.outer = stream.end();
     stream.narrow(n as u32);
-    Step::Goes(next)
+    Effect::Goes(next)
 }

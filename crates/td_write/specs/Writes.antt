@@ -40,3 +40,9 @@ IsNumber (Number n) = Unit {0}
 IsNumber (Sequence vs) = ⊥
 IsNumber (Bytes bytes) = ⊥
 IsNumber Empty = ⊥
+
+abbrev pub IsSequence : Datum → Type 0
+IsSequence (Number n) = ⊥
+IsSequence (Sequence vs) = Unit {0}
+IsSequence (Bytes bytes) = ⊥
+IsSequence Empty = ⊥

@@ -9,7 +9,7 @@ use crate::elements::{element_bytes, one_element};
 use crate::halt::Halt;
 use crate::leaves::{is_listed, write_bytes, write_zero_ended};
 use crate::numbers::is_byte;
-use crate::walk::Walk;
+use crate::walk::{Draft, Walk};
 use td_core::module::{Element, Extent};
 use td_core::outcome::Reason;
 use td_meaning::arrays::{divides, equals};
@@ -25,27 +25,26 @@ pub fn shape(
     extent: &Extent,
     value: &Value,
     env: &[u64],
-    path: &mut Vec<usize>,
     cells: &mut [u64],
-    out: &mut Vec<u8>,
+    draft: &mut Draft,
 ) -> Result<(), Halt>
-    requires { length out.old.items ≤ MOST_WRITTEN }
+    requires { length draft.old.out.items ≤ MOST_WRITTEN }
     ensures ok { IfOk result (λ _. Wrote
-        (shape_written in_machine walk.now.m.now.listed (below walk.now.m.now walk.now.bound) element.now extent.now env.now walk.now.places.now path.old.items (length out.old.items) cells.old value.now)
-        out.old.items out.new.items path.old.items path.new.items cells.new) }
-    ensures err { IfErr result (λ h. Halts h path.new.items
-        (shape_written in_machine walk.now.m.now.listed (below walk.now.m.now walk.now.bound) element.now extent.now env.now walk.now.places.now path.old.items (length out.old.items) cells.old value.now)) }
+        (shape_written in_machine walk.now.m.now.listed (below walk.now.m.now walk.now.bound) element.now extent.now env.now walk.now.places.now draft.old.path.items (length draft.old.out.items) cells.old value.now)
+        draft.old.out.items draft.new.out.items draft.old.path.items draft.new.path.items cells.new) }
+    ensures err { IfErr result (λ h. Halts h draft.new.path.items
+        (shape_written in_machine walk.now.m.now.listed (below walk.now.m.now walk.now.bound) element.now extent.now env.now walk.now.places.now draft.old.path.items (length draft.old.out.items) cells.old value.now)) }
 {
-    let start = out.len();
+    let start = draft.out.len();
     match extent {
-        Extent::Once => one_element(walk, element, value, env, path, cells, out),
+        Extent::Once => one_element(walk, element, value, env, cells, draft),
         Extent::Filling { size, step } => {
             let size = value_of(size, env);
-            match contents(walk, element, value, env, path, cells, out) {
+            match contents(walk, element, value, env, cells, draft) {
                 Ok(_) => {}
                 Err(halt) => return Err(halt),
             }
-            let count = out.len() - start;
+            let count = draft.out.len() - start;
             if !divides(*step, size) || count as u64 != size {
                 return Err(Halt::Broken(WriteRule::Size));
             }
@@ -53,11 +52,11 @@ pub fn shape(
         }
         Extent::OnceFilling { size, step } => {
             let size = value_of(size, env);
-            match element_bytes(walk, element, value, env, path, cells, out) {
+            match element_bytes(walk, element, value, env, cells, draft) {
                 Ok(_) => {}
                 Err(halt) => return Err(halt),
             }
-            let count = out.len() - start;
+            let count = draft.out.len() - start;
             if !equals(*step, size) || count as u64 != size {
                 return Err(Halt::Broken(WriteRule::Size));
             }
@@ -67,7 +66,13 @@ pub fn shape(
             Ok(())
         }
         Extent::UpToZero { size } => {
-            write_zero_ended(element, value_of(size, env), value, path, out)
+            write_zero_ended(
+                element,
+                value_of(size, env),
+                value,
+                &mut draft.path,
+                &mut draft.out,
+            )
         }
     }
 }
@@ -79,22 +84,21 @@ fn contents(
     element: &Element,
     value: &Value,
     env: &[u64],
-    path: &mut Vec<usize>,
     cells: &mut [u64],
-    out: &mut Vec<u8>,
+    draft: &mut Draft,
 ) -> Result<(), Halt>
-    requires { length out.old.items ≤ MOST_WRITTEN }
+    requires { length draft.old.out.items ≤ MOST_WRITTEN }
     ensures ok { IfOk result (λ _. Wrote
-        (contents_written in_machine walk.now.m.now.listed (below walk.now.m.now walk.now.bound) element.now env.now walk.now.places.now path.old.items (length out.old.items) cells.old value.now)
-        out.old.items out.new.items path.old.items path.new.items cells.new) }
-    ensures err { IfErr result (λ h. Halts h path.new.items
-        (contents_written in_machine walk.now.m.now.listed (below walk.now.m.now walk.now.bound) element.now env.now walk.now.places.now path.old.items (length out.old.items) cells.old value.now)) }
+        (contents_written in_machine walk.now.m.now.listed (below walk.now.m.now walk.now.bound) element.now env.now walk.now.places.now draft.old.path.items (length draft.old.out.items) cells.old value.now)
+        draft.old.out.items draft.new.out.items draft.old.path.items draft.new.path.items cells.new) }
+    ensures err { IfErr result (λ h. Halts h draft.new.path.items
+        (contents_written in_machine walk.now.m.now.listed (below walk.now.m.now walk.now.bound) element.now env.now walk.now.places.now draft.old.path.items (length draft.old.out.items) cells.old value.now)) }
 {
     if is_byte(element) {
-        return write_bytes(value, out);
+        return write_bytes(value, &mut draft.out);
     }
     match &value.kind {
-        ValueKind::List(values) => items(walk, element, values.as_slice(), env, path, cells, out),
+        ValueKind::List(values) => items(walk, element, values.as_slice(), env, cells, draft),
         ValueKind::Number(_) => Err(Halt::Broken(WriteRule::Shape)),
         ValueKind::Bytes(_) => Err(Halt::Broken(WriteRule::Shape)),
         ValueKind::Empty => Err(Halt::Broken(WriteRule::Shape)),
@@ -108,28 +112,27 @@ fn items(
     element: &Element,
     values: &[Value],
     env: &[u64],
-    path: &mut Vec<usize>,
     cells: &mut [u64],
-    out: &mut Vec<u8>,
+    draft: &mut Draft,
 ) -> Result<(), Halt>
-    requires { length out.old.items ≤ MOST_WRITTEN }
+    requires { length draft.old.out.items ≤ MOST_WRITTEN }
     ensures ok { IfOk result (λ _. Wrote
-        (items_written (element_written in_machine walk.now.m.now.listed (below walk.now.m.now walk.now.bound) element.now env.now walk.now.places.now) path.old.items 0 (length out.old.items) cells.old values.now)
-        out.old.items out.new.items path.old.items path.new.items cells.new) }
-    ensures err { IfErr result (λ h. Halts h path.new.items
-        (items_written (element_written in_machine walk.now.m.now.listed (below walk.now.m.now walk.now.bound) element.now env.now walk.now.places.now) path.old.items 0 (length out.old.items) cells.old values.now)) }
+        (items_written (element_written in_machine walk.now.m.now.listed (below walk.now.m.now walk.now.bound) element.now env.now walk.now.places.now) draft.old.path.items 0 (length draft.old.out.items) cells.old values.now)
+        draft.old.out.items draft.new.out.items draft.old.path.items draft.new.path.items cells.new) }
+    ensures err { IfErr result (λ h. Halts h draft.new.path.items
+        (items_written (element_written in_machine walk.now.m.now.listed (below walk.now.m.now walk.now.bound) element.now env.now walk.now.places.now) draft.old.path.items 0 (length draft.old.out.items) cells.old values.now)) }
 {
     for (index, value) in values.iter().enumerate() {
-        path.push(index)?;
-        let start = out.len();
-        match one_element(walk, element, value, env, path, cells, out) {
+        draft.path.push(index)?;
+        let start = draft.out.len();
+        match one_element(walk, element, value, env, cells, draft) {
             Ok(_) => {}
             Err(halt) => return Err(halt),
         }
-        if out.len() == start {
+        if draft.out.len() == start {
             return Err(Halt::Broken(WriteRule::Size));
         }
-        path.pop();
+        draft.path.pop();
     }
     Ok(())
 }

@@ -1,6 +1,6 @@
 //! The fields whose values a definition's value lists.
 
-ghost use Rattle.std.specs.Prelude.{◌≡◌, ℕ, List, IfOk, IfErr};
+ghost use Rattle.std.specs.Prelude.{◌≡◌, ◌≢◌, ℕ, List, IfOk, IfErr};
 ghost use Rattle.td_write_values.specs.Writing.{Writer, fields_written, body_written, in_machine};
 ghost use Rattle.td_write.specs.Writes.{Halts};
 
@@ -14,7 +14,8 @@ use td_meaning::expressions::{is_met, value_of};
 use td_write_values::error::WriteRule;
 use td_write_values::value::Value;
 
-/// The fields of a struct, or of the case that is chosen, where there are as many values as they have and `where` is met.
+/// The fields of a struct, or of the case that is chosen, where there are as many values as they have and `where` is met. Takes no
+/// memory.
 pub fn written_fields<'a>(
     definition: &'a TypeDef,
     values: &[Value],
@@ -25,6 +26,7 @@ pub fn written_fields<'a>(
         ≡ fields_written in_machine sets writers definition.now.name fields.now args.now places path 0 p cells values.now) }
     ensures err { IfErr result (λ h. (sets : List (List ℕ)) (writers : ℕ → Writer) (places path : List ℕ) (p : ℕ) (cells : List ℕ)
         → Halts h path (body_written in_machine sets writers definition.now definition.now.body args.now places path p cells values.now)) }
+    ensures broken { IfErr result (λ h. h ≢ Halt.NoMemory) }
 {
     match &definition.body {
         Body::Struct(fields) => {

@@ -8,7 +8,7 @@ ghost use Rattle.td_write.specs.Writes.{below, Wrote, Halts};
 use crate::halt::Halt;
 use crate::leaves::{is_listed, write_bytes, write_number, write_unit, write_zeros};
 use crate::types::named;
-use crate::walk::Walk;
+use crate::walk::{Draft, Walk};
 use td_core::module::Element;
 use td_core::outcome::Reason;
 use td_meaning::expressions::values_of;
@@ -23,18 +23,17 @@ pub fn one_element(
     element: &Element,
     value: &Value,
     env: &[u64],
-    path: &mut Vec<usize>,
     cells: &mut [u64],
-    out: &mut Vec<u8>,
+    draft: &mut Draft,
 ) -> Result<(), Halt>
-    requires { length out.old.items ≤ MOST_WRITTEN }
+    requires { length draft.old.out.items ≤ MOST_WRITTEN }
     ensures ok { IfOk result (λ _. Wrote
-        (element_written in_machine walk.now.m.now.listed (below walk.now.m.now walk.now.bound) element.now env.now walk.now.places.now path.old.items (length out.old.items) cells.old value.now)
-        out.old.items out.new.items path.old.items path.new.items cells.new) }
-    ensures err { IfErr result (λ h. Halts h path.new.items
-        (element_written in_machine walk.now.m.now.listed (below walk.now.m.now walk.now.bound) element.now env.now walk.now.places.now path.old.items (length out.old.items) cells.old value.now)) }
+        (element_written in_machine walk.now.m.now.listed (below walk.now.m.now walk.now.bound) element.now env.now walk.now.places.now draft.old.path.items (length draft.old.out.items) cells.old value.now)
+        draft.old.out.items draft.new.out.items draft.old.path.items draft.new.path.items cells.new) }
+    ensures err { IfErr result (λ h. Halts h draft.new.path.items
+        (element_written in_machine walk.now.m.now.listed (below walk.now.m.now walk.now.bound) element.now env.now walk.now.places.now draft.old.path.items (length draft.old.out.items) cells.old value.now)) }
 {
-    match element_bytes(walk, element, value, env, path, cells, out) {
+    match element_bytes(walk, element, value, env, cells, draft) {
         Ok(_) => {}
         Err(halt) => return Err(halt),
     }
@@ -51,20 +50,19 @@ pub fn element_bytes(
     element: &Element,
     value: &Value,
     env: &[u64],
-    path: &mut Vec<usize>,
     cells: &mut [u64],
-    out: &mut Vec<u8>,
+    draft: &mut Draft,
 ) -> Result<(), Halt>
-    requires { length out.old.items ≤ MOST_WRITTEN }
+    requires { length draft.old.out.items ≤ MOST_WRITTEN }
     ensures ok { IfOk result (λ _. Wrote
-        (element_bytes in_machine (below walk.now.m.now walk.now.bound) element.now env.now walk.now.places.now path.old.items (length out.old.items) cells.old value.now)
-        out.old.items out.new.items path.old.items path.new.items cells.new) }
-    ensures err { IfErr result (λ h. Halts h path.new.items
-        (element_bytes in_machine (below walk.now.m.now walk.now.bound) element.now env.now walk.now.places.now path.old.items (length out.old.items) cells.old value.now)) }
+        (element_bytes in_machine (below walk.now.m.now walk.now.bound) element.now env.now walk.now.places.now draft.old.path.items (length draft.old.out.items) cells.old value.now)
+        draft.old.out.items draft.new.out.items draft.old.path.items draft.new.path.items cells.new) }
+    ensures err { IfErr result (λ h. Halts h draft.new.path.items
+        (element_bytes in_machine (below walk.now.m.now walk.now.bound) element.now env.now walk.now.places.now draft.old.path.items (length draft.old.out.items) cells.old value.now)) }
 {
     match element {
-        Element::Number(number_type) => write_number(*number_type, value, out),
-        Element::Listed { base, values: _ } => write_number(*base, value, out),
+        Element::Number(number_type) => write_number(*number_type, value, &mut draft.out),
+        Element::Listed { base, values: _ } => write_number(*base, value, &mut draft.out),
         Element::Named {
             definition,
             args,
@@ -78,18 +76,10 @@ pub fn element_bytes(
                 bound: walk.bound,
                 places: own.as_slice(),
             };
-            named(
-                &within,
-                *definition,
-                value,
-                args.as_slice(),
-                path,
-                cells,
-                out,
-            )
+            named(&within, *definition, value, args.as_slice(), cells, draft)
         }
         Element::Unit => write_unit(value),
-        Element::Rest => write_bytes(value, out),
-        Element::Zeros => write_zeros(value, out),
+        Element::Rest => write_bytes(value, &mut draft.out),
+        Element::Zeros => write_zeros(value, &mut draft.out),
     }
 }

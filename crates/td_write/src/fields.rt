@@ -10,9 +10,9 @@ use crate::arrays::shape;
 use crate::copies::note_copy;
 use crate::halt::Halt;
 use crate::numbers::{number_in, unit_type};
-use crate::parts::test_parts;
+use crate::parts::{FieldBytes, test_parts};
 use crate::units::one_unit;
-use crate::walk::{Left, Walk};
+use crate::walk::{Draft, Left, Walk};
 use td_core::module::{Field, NameId};
 use td_write_values::error::WriteRule;
 use td_write_values::value::Value;
@@ -25,16 +25,15 @@ pub fn counted(
     fields: &[Field],
     values: &[Value],
     args: &[u64],
-    path: &mut Vec<usize>,
     cells: &mut [u64],
-    out: &mut Vec<u8>,
+    draft: &mut Draft,
 ) -> Result<(), Halt>
-    requires { length out.old.items ≤ MOST_WRITTEN }
+    requires { length draft.old.out.items ≤ MOST_WRITTEN }
     ensures ok { IfOk result (λ _. Wrote
-        (fields_written in_machine walk.now.m.now.listed (below walk.now.m.now walk.now.bound) ty fields.now args.now walk.now.places.now path.old.items 0 (length out.old.items) cells.old values.now)
-        out.old.items out.new.items path.old.items path.new.items cells.new) }
-    ensures err { IfErr result (λ h. Halts h path.new.items
-        (fields_written in_machine walk.now.m.now.listed (below walk.now.m.now walk.now.bound) ty fields.now args.now walk.now.places.now path.old.items 0 (length out.old.items) cells.old values.now)) }
+        (fields_written in_machine walk.now.m.now.listed (below walk.now.m.now walk.now.bound) ty fields.now args.now walk.now.places.now draft.old.path.items 0 (length draft.old.out.items) cells.old values.now)
+        draft.old.out.items draft.new.out.items draft.old.path.items draft.new.path.items cells.new) }
+    ensures err { IfErr result (λ h. Halts h draft.new.path.items
+        (fields_written in_machine walk.now.m.now.listed (below walk.now.m.now walk.now.bound) ty fields.now args.now walk.now.places.now draft.old.path.items 0 (length draft.old.out.items) cells.old values.now)) }
 {
     let mut env = Vec::from_slice(walk.alloc, args)?;
     let mut index = 0;
@@ -45,9 +44,8 @@ pub fn counted(
             field,
             &Left { values, index },
             &mut env,
-            path,
             cells,
-            out,
+            draft,
         ) {
             Ok(next) => index = next,
             Err(halt) => return Err(halt),
@@ -67,21 +65,20 @@ fn one_field(
     field: &Field,
     left: &Left<'_>,
     env: &mut Vec<u64>,
-    path: &mut Vec<usize>,
     cells: &mut [u64],
-    out: &mut Vec<u8>,
+    draft: &mut Draft,
 ) -> Result<usize, Halt>
-    requires { length out.old.items ≤ MOST_WRITTEN }
+    requires { length draft.old.out.items ≤ MOST_WRITTEN }
     // what is left of the struct decides the whole of it
     ensures ok { IfOk result (λ next. (later : Later)
-        → GoesOn (field_written in_machine walk.now.m.now.listed (below walk.now.m.now walk.now.bound) ty (unit_type field.now.element field.now.extent) field.now env.old.items walk.now.places.now path.old.items left.now.index (length out.old.items) cells.old (drop left.now.index left.now.values.now) later)
-        (later env.new.items next (length out.new.items) cells.new (drop next left.now.values.now)) out.old.items out.new.items) }
-    ensures room { IfOk result (λ next. (length out.new.items ≤ MOST_WRITTEN) × (path.new.items ≡ path.old.items)) }
-    ensures err { IfErr result (λ h. (later : Later) → Halts h path.new.items
-        (field_written in_machine walk.now.m.now.listed (below walk.now.m.now walk.now.bound) ty (unit_type field.now.element field.now.extent) field.now env.old.items walk.now.places.now path.old.items left.now.index (length out.old.items) cells.old (drop left.now.index left.now.values.now) later)) }
+        → GoesOn (field_written in_machine walk.now.m.now.listed (below walk.now.m.now walk.now.bound) ty (unit_type field.now.element field.now.extent) field.now env.old.items walk.now.places.now draft.old.path.items left.now.index (length draft.old.out.items) cells.old (drop left.now.index left.now.values.now) later)
+        (later env.new.items next (length draft.new.out.items) cells.new (drop next left.now.values.now)) draft.old.out.items draft.new.out.items) }
+    ensures room { IfOk result (λ next. (length draft.new.out.items ≤ MOST_WRITTEN) × (draft.new.path.items ≡ draft.old.path.items)) }
+    ensures err { IfErr result (λ h. (later : Later) → Halts h draft.new.path.items
+        (field_written in_machine walk.now.m.now.listed (below walk.now.m.now walk.now.bound) ty (unit_type field.now.element field.now.extent) field.now env.old.items walk.now.places.now draft.old.path.items left.now.index (length draft.old.out.items) cells.old (drop left.now.index left.now.values.now) later)) }
 {
     match unit_type(&field.element, &field.extent) {
-        Some(number_type) => one_unit(number_type, field, left, env, walk.places, path, cells, out),
+        Some(number_type) => one_unit(number_type, field, left, env, walk.places, cells, draft),
         None => {
             let values = left.values;
             let index = left.index;
@@ -89,14 +86,14 @@ fn one_field(
                 return Err(Halt::Broken(WriteRule::Shape));
             }
             let value = &values[index];
-            let start = out.len() as u32;
-            path.push(index)?;
-            match content(walk, field, value, env.as_slice(), path, cells, out) {
+            let start = draft.out.len() as u32;
+            draft.path.push(index)?;
+            match content(walk, field, value, env.as_slice(), cells, draft) {
                 Ok(_) => {}
                 Err(halt) => return Err(halt),
             }
             let number = number_in(&field.element, &field.extent, value);
-            let pos = out.len() as u32;
+            let end = draft.out.len() as u32;
             match test_parts(
                 walk,
                 ty,
@@ -104,13 +101,12 @@ fn one_field(
                 number,
                 env,
                 cells,
-                start,
-                pos,
+                FieldBytes { start, end },
             ) {
                 Ok(_) => {}
                 Err(halt) => return Err(halt),
             }
-            path.pop();
+            draft.path.pop();
             Ok(index + 1)
         }
     }
@@ -123,32 +119,30 @@ fn content(
     field: &Field,
     value: &Value,
     env: &[u64],
-    path: &mut Vec<usize>,
     cells: &mut [u64],
-    out: &mut Vec<u8>,
+    draft: &mut Draft,
 ) -> Result<(), Halt>
-    requires { length out.old.items ≤ MOST_WRITTEN }
+    requires { length draft.old.out.items ≤ MOST_WRITTEN }
     ensures ok { IfOk result (λ _. Wrote
-        (copied field.now.copy walk.now.places.now (length out.old.items) (shape_written in_machine walk.now.m.now.listed (below walk.now.m.now walk.now.bound) field.now.element field.now.extent env.now walk.now.places.now path.old.items (length out.old.items) cells.old value.now))
-        out.old.items out.new.items path.old.items path.new.items cells.new) }
-    ensures err { IfErr result (λ h. Halts h path.new.items
-        (copied field.now.copy walk.now.places.now (length out.old.items) (shape_written in_machine walk.now.m.now.listed (below walk.now.m.now walk.now.bound) field.now.element field.now.extent env.now walk.now.places.now path.old.items (length out.old.items) cells.old value.now))) }
+        (copied field.now.copy walk.now.places.now (length draft.old.out.items) (shape_written in_machine walk.now.m.now.listed (below walk.now.m.now walk.now.bound) field.now.element field.now.extent env.now walk.now.places.now draft.old.path.items (length draft.old.out.items) cells.old value.now))
+        draft.old.out.items draft.new.out.items draft.old.path.items draft.new.path.items cells.new) }
+    ensures err { IfErr result (λ h. Halts h draft.new.path.items
+        (copied field.now.copy walk.now.places.now (length draft.old.out.items) (shape_written in_machine walk.now.m.now.listed (below walk.now.m.now walk.now.bound) field.now.element field.now.extent env.now walk.now.places.now draft.old.path.items (length draft.old.out.items) cells.old value.now))) }
 {
-    let start = out.len();
+    let start = draft.out.len();
     match shape(
         walk,
         &field.element,
         &field.extent,
         value,
         env,
-        path,
         cells,
-        out,
+        draft,
     ) {
         Ok(_) => {}
         Err(halt) => return Err(halt),
     }
-    let count = out.len() - start;
+    let count = draft.out.len() - start;
     note_copy(&field.copy, walk.places, start, count, cells);
     Ok(())
 }

@@ -1,6 +1,6 @@
 //! Values that name no type.
 
-ghost use Rattle.std.specs.Prelude.{◌≡◌, ◌≤◌, ℕ, List, [], length, IfOk, IfErr};
+ghost use Rattle.std.specs.Prelude.{◌≡◌, ◌≢◌, ◌≤◌, ℕ, List, [], length, IfOk, IfErr};
 ghost use Rattle.td_write_values.specs.Spelling.{is_zero, ends_in_zero};
 ghost use Rattle.td_write_values.specs.Writing.{Done, after_writing, up_to_zero_written, number_written, is_listed, bytes_written, zeros_written, unit_written, zero_ended_written, items_written};
 ghost use Rattle.td_write_values.specs.declared.limits.TheConstants.{MOST_WRITTEN};
@@ -94,11 +94,12 @@ pub fn write_zeros(value: &Value, out: &mut Vec<u8>) -> Result<(), Halt>
     Ok(())
 }
 
-/// No bytes.
+/// No bytes. Takes no memory.
 pub fn write_unit(value: &Value) -> Result<(), Halt>
     ensures ok { IfOk result (λ _. (path cells : List ℕ) → unit_written path cells value.now ≡ Done [] cells) }
     ensures err { IfErr result (λ h. (path cells : List ℕ) → Halts h path
         (unit_written path cells value.now)) }
+    ensures broken { IfErr result (λ h. h ≢ Halt.NoMemory) }
 {
     match &value.kind {
         ValueKind::Empty => Ok(()),

@@ -25,6 +25,13 @@ pub fn want(holds: bool, rule: WriteRule) -> Result<(), Halt>
     }
 }
 
+/// Where a field stands that was written: the places of its first byte, and of the byte after its last.
+#[derive(Clone, Copy)]
+pub struct FieldBytes {
+    pub start: u32,
+    pub end: u32,
+}
+
 /// The refinement and the action of a field that isn't a unit, each of its parts in scope with the number.
 pub fn test_parts(
     walk: &Walk<'_, '_>,
@@ -33,14 +40,13 @@ pub fn test_parts(
     number: u64,
     env: &mut Vec<u64>,
     cells: &mut [u64],
-    start: u32,
-    pos: u32,
+    bytes: FieldBytes,
 ) -> Result<(), Halt>
     ensures ok { IfOk result (λ _. Passes
-        (machine.parts_meaning ty start number parts.now env.old.items walk.now.places.now pos cells.old).ending cells.new) }
+        (machine.parts_meaning ty bytes.start number parts.now env.old.items walk.now.places.now bytes.end cells.old).ending cells.new) }
     ensures scope { IfOk result (λ _. env.new.items ≡ extended env.old.items number parts.now) }
     ensures err { IfErr result (λ h. Fails h
-        (machine.parts_meaning ty start number parts.now env.old.items walk.now.places.now pos cells.old).ending) }
+        (machine.parts_meaning ty bytes.start number parts.now env.old.items walk.now.places.now bytes.end cells.old).ending) }
 {
     let mut trace = Items::new(walk.alloc);
     match check_parts(
@@ -50,8 +56,8 @@ pub fn test_parts(
         env,
         walk.places,
         cells,
-        start,
-        pos,
+        bytes.start,
+        bytes.end,
         &mut trace,
     )? {
         Verdict::Accept { pos: _ } => Ok(()),

@@ -1,14 +1,14 @@
 //! Definitions, as they are named from above.
 
-ghost use Rattle.std.specs.Prelude.{◌≤◌, length, IfOk, IfErr};
+ghost use Rattle.std.specs.Prelude.{◌≡◌, ◌≤◌, length, Err, IfOk, IfErr};
 ghost use Rattle.td_write_values.specs.Writing.{listed_written, in_machine};
 ghost use Rattle.td_write_values.specs.declared.limits.TheConstants.{MOST_WRITTEN};
-ghost use Rattle.td_write.specs.Writes.{below, Wrote, Halts};
+ghost use Rattle.td_write.specs.Writes.{below, Wrote, Halts, IsSequence};
 
 use crate::bodies::written_fields;
 use crate::fields::counted;
 use crate::halt::Halt;
-use crate::walk::Walk;
+use crate::walk::{Draft, Walk};
 use td_core::module::TypeDef;
 use td_core::outcome::Reason;
 use td_write_values::error::WriteRule;
@@ -21,16 +21,15 @@ pub fn named(
     place: u32,
     value: &Value,
     args: &[u64],
-    path: &mut Vec<usize>,
     cells: &mut [u64],
-    out: &mut Vec<u8>,
+    draft: &mut Draft,
 ) -> Result<(), Halt>
-    requires { length out.old.items ≤ MOST_WRITTEN }
+    requires { length draft.old.out.items ≤ MOST_WRITTEN }
     ensures ok { IfOk result (λ _. Wrote
-        (below walk.now.m.now walk.now.bound place args.now walk.now.places.now cells.old path.old.items (length out.old.items) value.now)
-        out.old.items out.new.items path.old.items path.new.items cells.new) }
-    ensures err { IfErr result (λ h. Halts h path.new.items
-        (below walk.now.m.now walk.now.bound place args.now walk.now.places.now cells.old path.old.items (length out.old.items) value.now)) }
+        (below walk.now.m.now walk.now.bound place args.now walk.now.places.now cells.old draft.old.path.items (length draft.old.out.items) value.now)
+        draft.old.out.items draft.new.out.items draft.old.path.items draft.new.path.items cells.new) }
+    ensures err { IfErr result (λ h. Halts h draft.new.path.items
+        (below walk.now.m.now walk.now.bound place args.now walk.now.places.now cells.old draft.old.path.items (length draft.old.out.items) value.now)) }
 {
     if place as usize >= walk.bound {
         return Err(Halt::Broken(WriteRule::Broken(Reason::Impossible)));
@@ -43,44 +42,35 @@ pub fn named(
                 bound: place as usize,
                 places: walk.places,
             };
-            defined(&below, definition, value, args, path, cells, out)
+            defined(&below, definition, value, args, cells, draft)
         }
         None => Err(Halt::Broken(WriteRule::Broken(Reason::Impossible))),
     }
 }
 
-/// A definition: its value is a list.
+/// A definition: its value is a list. `NoMemory`: it is one, and there was no memory.
 #[cycle(types)]
 fn defined(
     walk: &Walk<'_, '_>,
     definition: &TypeDef,
     value: &Value,
     args: &[u64],
-    path: &mut Vec<usize>,
     cells: &mut [u64],
-    out: &mut Vec<u8>,
+    draft: &mut Draft,
 ) -> Result<(), Halt>
-    requires { length out.old.items ≤ MOST_WRITTEN }
+    requires { length draft.old.out.items ≤ MOST_WRITTEN }
     ensures ok { IfOk result (λ _. Wrote
-        (listed_written in_machine walk.now.m.now.listed (below walk.now.m.now walk.now.bound) definition.now args.now walk.now.places.now cells.old path.old.items (length out.old.items) value.now)
-        out.old.items out.new.items path.old.items path.new.items cells.new) }
-    ensures err { IfErr result (λ h. Halts h path.new.items
-        (listed_written in_machine walk.now.m.now.listed (below walk.now.m.now walk.now.bound) definition.now args.now walk.now.places.now cells.old path.old.items (length out.old.items) value.now)) }
+        (listed_written in_machine walk.now.m.now.listed (below walk.now.m.now walk.now.bound) definition.now args.now walk.now.places.now cells.old draft.old.path.items (length draft.old.out.items) value.now)
+        draft.old.out.items draft.new.out.items draft.old.path.items draft.new.path.items cells.new) }
+    ensures err { IfErr result (λ h. Halts h draft.new.path.items
+        (listed_written in_machine walk.now.m.now.listed (below walk.now.m.now walk.now.bound) definition.now args.now walk.now.places.now cells.old draft.old.path.items (length draft.old.out.items) value.now)) }
+    ensures memory { result ≡ Err Halt.NoMemory → IsSequence value.now }
 {
     match &value.kind {
         ValueKind::List(values) => {
             let values = values.as_slice();
             match written_fields(definition, values, args) {
-                Ok(fields) => counted(
-                    walk,
-                    definition.name,
-                    fields,
-                    values,
-                    args,
-                    path,
-                    cells,
-                    out,
-                ),
+                Ok(fields) => counted(walk, definition.name, fields, values, args, cells, draft),
                 Err(halt) => Err(halt),
             }
         }

@@ -10,33 +10,39 @@ ghost use Rattle.td_write.specs.Writes.{GoesOn, Halts};
 use crate::bytes::{has_room, push_number};
 use crate::halt::Halt;
 use crate::numbers::{fits, made_unit, number_of};
-use crate::walk::Left;
+use crate::walk::{Draft, Left};
 use td_core::module::{Field, Part};
 use td_core::outcome::Verdict;
 use td_meaning::checking::part_verdict;
 use td_num::number::{NumberType, byte_count};
 use td_write_values::error::WriteRule;
 
-/// A bit field of a unit (or a number) that began at `start`: its value, which comes into scope, its refinement and its
-/// action.
+/// A unit of bit fields, or a number, at its place.
+#[derive(Clone, Copy)]
+pub struct UnitAt {
+    pub number_type: NumberType,
+    /// The place of its first byte.
+    pub start: u32,
+}
+
+/// A bit field of a unit (or a number): its value, which comes into scope, its refinement and its action.
 pub fn one_part(
-    number_type: NumberType,
+    unit: UnitAt,
     part: &Part,
     left: &Left<'_>,
     env: &mut Vec<u64>,
     places: &[usize],
     path: &mut Vec<usize>,
     cells: &mut [u64],
-    start: u32,
 ) -> Result<u64, Halt>
-    requires { start ≤ MOST_WRITTEN }
+    requires { unit.start ≤ MOST_WRITTEN }
     ensures ok { IfOk result (λ n. (parts : List Part) (go : List ℕ → List ℕ → ℕ → List ℕ → List Datum → Written)
-        → parts_written in_machine number_type (part.now ∷ parts) env.old.items places.now path.old.items left.now.index start cells.old (drop left.now.index left.now.values.now) go
-        ≡ parts_written in_machine number_type parts env.new.items places.now path.old.items (left.now.index + 1) start cells.new (drop (left.now.index + 1) left.now.values.now) (λ ns. go (n ∷ ns))) }
+        → parts_written in_machine unit.number_type (part.now ∷ parts) env.old.items places.now path.old.items left.now.index unit.start cells.old (drop left.now.index left.now.values.now) go
+        ≡ parts_written in_machine unit.number_type parts env.new.items places.now path.old.items (left.now.index + 1) unit.start cells.new (drop (left.now.index + 1) left.now.values.now) (λ ns. go (n ∷ ns))) }
     ensures scope { IfOk result (λ n. env.new.items ≡ env.old.items ++ n ∷ []) }
     ensures back { IfOk result (λ n. (path.new.items ≡ path.old.items) × (left.now.index + 1 ≤ length left.now.values.now)) }
     ensures err { IfErr result (λ h. (parts : List Part) (go : List ℕ → List ℕ → ℕ → List ℕ → List Datum → Written)
-        → Halts h path.new.items (parts_written in_machine number_type (part.now ∷ parts) env.old.items places.now path.old.items left.now.index start cells.old (drop left.now.index left.now.values.now) go)) }
+        → Halts h path.new.items (parts_written in_machine unit.number_type (part.now ∷ parts) env.old.items places.now path.old.items left.now.index unit.start cells.old (drop left.now.index left.now.values.now) go)) }
 {
     let values = left.values;
     let index = left.index;
@@ -49,15 +55,15 @@ pub fn one_part(
         Ok(number) => number,
         Err(halt) => return Err(halt),
     };
-    let width = byte_count(number_type.width);
-    if !fits(number_type, part.bits, number) {
+    let width = byte_count(unit.number_type.width);
+    if !fits(unit.number_type, part.bits, number) {
         return Err(Halt::Broken(WriteRule::Range));
     }
-    if !has_room(start as usize, width as u64) {
+    if !has_room(unit.start as usize, width as u64) {
         return Err(Halt::Broken(WriteRule::Long));
     }
     env.push(number)?;
-    match part_verdict(part, env, places, cells, start, start + width)? {
+    match part_verdict(part, env, places, cells, unit.start, unit.start + width)? {
         Verdict::Accept { pos: _ } => {
             path.pop();
             Ok(number)
@@ -73,25 +79,30 @@ pub fn one_unit(
     left: &Left<'_>,
     env: &mut Vec<u64>,
     places: &[usize],
-    path: &mut Vec<usize>,
     cells: &mut [u64],
-    out: &mut Vec<u8>,
+    draft: &mut Draft,
 ) -> Result<usize, Halt>
-    requires { length out.old.items ≤ MOST_WRITTEN }
+    requires { length draft.old.out.items ≤ MOST_WRITTEN }
     ensures ok { IfOk result (λ next. (later : Later)
-        → GoesOn (parts_written in_machine number_type field.now.parts env.old.items places.now path.old.items left.now.index (length out.old.items) cells.old (drop left.now.index left.now.values.now) (unit_then number_type field.now.parts path.old.items (length out.old.items) later))
-        (later env.new.items next (length out.new.items) cells.new (drop next left.now.values.now)) out.old.items out.new.items) }
-    ensures room { IfOk result (λ next. (length out.new.items ≤ MOST_WRITTEN) × (path.new.items ≡ path.old.items)) }
-    ensures err { IfErr result (λ h. (later : Later) → Halts h path.new.items
-        (parts_written in_machine number_type field.now.parts env.old.items places.now path.old.items left.now.index (length out.old.items) cells.old (drop left.now.index left.now.values.now) (unit_then number_type field.now.parts path.old.items (length out.old.items) later))) }
+        → GoesOn (parts_written in_machine number_type field.now.parts env.old.items places.now draft.old.path.items left.now.index (length draft.old.out.items) cells.old (drop left.now.index left.now.values.now) (unit_then number_type field.now.parts draft.old.path.items (length draft.old.out.items) later))
+        (later env.new.items next (length draft.new.out.items) cells.new (drop next left.now.values.now)) draft.old.out.items draft.new.out.items) }
+    ensures room { IfOk result (λ next. (length draft.new.out.items ≤ MOST_WRITTEN) × (draft.new.path.items ≡ draft.old.path.items)) }
+    ensures err { IfErr result (λ h. (later : Later) → Halts h draft.new.path.items
+        (parts_written in_machine number_type field.now.parts env.old.items places.now draft.old.path.items left.now.index (length draft.old.out.items) cells.old (drop left.now.index left.now.values.now) (unit_then number_type field.now.parts draft.old.path.items (length draft.old.out.items) later))) }
 {
+    let path = &mut draft.path;
+    let out = &mut draft.out;
     let start = out.len();
+    let unit = UnitAt {
+        number_type,
+        start: start as u32,
+    };
     let first = env.len();
     let parts = field.parts.as_slice();
     let mut next = left.index;
     for part in parts {
         match one_part(
-            number_type,
+            unit,
             part,
             &Left {
                 values: left.values,
@@ -101,7 +112,6 @@ pub fn one_unit(
             places,
             path,
             cells,
-            start as u32,
         ) {
             Ok(_) => {}
             Err(halt) => return Err(halt),

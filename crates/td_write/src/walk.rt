@@ -1,4 +1,4 @@
-//! What a walk goes by, and how far it came.
+//! What a walk goes by, how far it came, and what it has written.
 
 use std::alloc::Global;
 use td_core::module::Module;
@@ -19,4 +19,14 @@ pub struct Walk<'m, 'p> {
 pub struct Left<'v> {
     pub values: &'v [Value],
     pub index: usize,
+}
+
+/// What is written of a value.
+#[derive(Drop)]
+pub struct Draft {
+    /// Where the walk is: in each list on the way the number of the value, from 0, the outermost first. After a fault, where
+    /// that is.
+    pub path: Vec<usize>,
+    /// The bytes so far.
+    pub out: Vec<u8>,
 }

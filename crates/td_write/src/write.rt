@@ -1,6 +1,6 @@
 //! The writer's call.
 
-ghost use Rattle.std.specs.Prelude.{IfOk, IfErr, OnErr, ◌≡◌};
+ghost use Rattle.std.specs.Prelude.{IfOk, IfErr, OnErr, ◌≡◌, ◌≢◌};
 ghost use Rattle.td_core.specs.Entries.{entry_definition};
 ghost use Rattle.td_core.specs.Formed.{AllFit, params_at, cells_at};
 ghost use Rattle.td_write_values.specs.Writing.{Written, Refused};
@@ -10,7 +10,7 @@ ghost use Rattle.td_write.specs.Answers.{IsWritable, IsAppended, IsRefusal, IsCa
 use crate::copies::accepted_with;
 use crate::halt::Halt;
 use crate::types::named;
-use crate::walk::Walk;
+use crate::walk::{Draft, Walk};
 use std::alloc::Global;
 use td_core::module::{Entry, Module};
 use td_core::outcome::{Outcome, Reason};
@@ -22,9 +22,10 @@ use td_write_spells::laws::{kinds_are_admitted, writing_is_exact};
 use td_write_values::error::{WriteError, WriteRule};
 use td_write_values::value::Value;
 
-/// The error of a broken rule at a path.
+/// The error of a broken rule at a path. Takes no memory.
 fn broken(rule: WriteRule, path: Vec<usize>) -> WriteError
-    ensures { IsRefusal (Refused rule path.items) result }
+    ensures rule { IsRefusal (Refused rule path.items) result }
+    ensures broken { result ≢ WriteError.NoMemory }
 {
     let path = Items::of(path);
     match rule {
@@ -36,9 +37,10 @@ fn broken(rule: WriteRule, path: Vec<usize>) -> WriteError
     }
 }
 
-/// The error of what stopped the writer at a path.
+/// The error of what stopped the writer at a path: `NoMemory` exactly where it was that. Takes no memory.
 fn stopped(halt: Halt, path: Vec<usize>) -> WriteError
-    ensures { (w : Written) → Halts halt path.items w → IsRefusal w result }
+    ensures cause { (w : Written) → Halts halt path.items w → IsRefusal w result }
+    ensures memory { result ≡ WriteError.NoMemory → halt ≡ Halt.NoMemory }
 {
     match halt {
         Halt::Broken(rule) => broken(rule, path),
@@ -70,11 +72,12 @@ pub fn write_value(
     kinds_are_admitted();
     writing_is_in_range();
     let mut left = opened(alloc, m, entry, cells)?;
-    let mut path = Vec::new(alloc);
-    let mut written = Vec::new(alloc);
+    let path = Vec::new(alloc);
+    let written = Vec::new(alloc);
+    let mut draft = Draft { path, out: written };
     let places = places_below(alloc, left.len())?;
     let Some(place) = m.entries.as_slice().get(entry.number as usize) else {
-        return Err(broken(WriteRule::Broken(Reason::Impossible), path));
+        return Err(broken(WriteRule::Broken(Reason::Impossible), draft.path));
     };
     let walk = Walk {
         alloc,
@@ -82,20 +85,12 @@ pub fn write_value(
         bound: m.definitions.len(),
         places: places.as_slice(),
     };
-    match named(
-        &walk,
-        *place,
-        value,
-        args,
-        &mut path,
-        left.as_mut_slice(),
-        &mut written,
-    ) {
+    match named(&walk, *place, value, args, left.as_mut_slice(), &mut draft) {
         Ok(()) => {
-            let answer = accepted_with(alloc, written.as_slice(), left, cells.len())?;
-            out.extend_from_slice(written.as_slice())?;
+            let answer = accepted_with(alloc, draft.out.as_slice(), left, cells.len())?;
+            out.extend_from_slice(draft.out.as_slice())?;
             Ok(answer)
         }
-        Err(halt) => Err(stopped(halt, path)),
+        Err(halt) => Err(stopped(halt, draft.path)),
     }
 }

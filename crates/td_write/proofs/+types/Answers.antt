@@ -25,30 +25,30 @@ use Rattle.td_write.proofs.+types.Goals as goal
 pub types::named-returns-then-place-walk-clause-err : goal.types::named-returns-then-place-walk-clause-err
 types::named-returns-then-place-walk-clause-err t c =
     let a = c.args in
-    writers_past in_machine a.walk.now.m.now.listed a.walk.now.m.now.definitions a.walk.now.bound a.place a.args.now a.walk.now.places.now a.cells.now a.path.now.items (length a.out.now.items) a.value.now c.if-place-walk.true
+    writers_past in_machine a.walk.now.m.now.listed a.walk.now.m.now.definitions a.walk.now.bound a.place a.args.now a.walk.now.places.now a.cells.now a.draft.now.path.items (length a.draft.now.out.items) a.value.now c.if-place-walk.true
 
 pub types::named-returns-in-Some-clause-ok : goal.types::named-returns-in-Some-clause-ok
 types::named-returns-in-Some-clause-ok t c =
     let a = c.args in
     let there : slice_get a.walk.now.m.now.definitions a.place ≡ Some c.in-Some.definition.now = grind (arith, common_steps, gets) in
     let less : a.place < a.walk.now.bound = omega (arith, c.if-place-walk.false) in
-    let same = named_by in_machine a.walk.now.m.now.listed a.walk.now.m.now.definitions a.walk.now.bound a.place (Some c.in-Some.definition.now) a.args.now a.walk.now.places.now a.cells.now a.path.now.items (length a.out.now.items) a.value.now less there in
-    subst (λ w. IfOk c.defined.result (λ x. Wrote w a.out.now.items c.defined.new.out.items a.path.now.items c.defined.new.path.items c.defined.new.cells)) (sym same) c.defined.ensures.ok
+    let same = named_by in_machine a.walk.now.m.now.listed a.walk.now.m.now.definitions a.walk.now.bound a.place (Some c.in-Some.definition.now) a.args.now a.walk.now.places.now a.cells.now a.draft.now.path.items (length a.draft.now.out.items) a.value.now less there in
+    subst (λ w. IfOk c.defined.result (λ x. Wrote w a.draft.now.out.items c.defined.new.draft.out.items a.draft.now.path.items c.defined.new.draft.path.items c.defined.new.cells)) (sym same) c.defined.ensures.ok
 
 pub types::named-returns-in-Some-clause-err : goal.types::named-returns-in-Some-clause-err
 types::named-returns-in-Some-clause-err t c =
     let a = c.args in
     let there : slice_get a.walk.now.m.now.definitions a.place ≡ Some c.in-Some.definition.now = grind (arith, common_steps, gets) in
     let less : a.place < a.walk.now.bound = omega (arith, c.if-place-walk.false) in
-    let same = named_by in_machine a.walk.now.m.now.listed a.walk.now.m.now.definitions a.walk.now.bound a.place (Some c.in-Some.definition.now) a.args.now a.walk.now.places.now a.cells.now a.path.now.items (length a.out.now.items) a.value.now less there in
-    subst (λ w. IfErr c.defined.result (λ h. Halts h c.defined.new.path.items w)) (sym same) c.defined.ensures.err
+    let same = named_by in_machine a.walk.now.m.now.listed a.walk.now.m.now.definitions a.walk.now.bound a.place (Some c.in-Some.definition.now) a.args.now a.walk.now.places.now a.cells.now a.draft.now.path.items (length a.draft.now.out.items) a.value.now less there in
+    subst (λ w. IfErr c.defined.result (λ h. Halts h c.defined.new.draft.path.items w)) (sym same) c.defined.ensures.err
 
 pub types::named-returns-in-None-clause-err : goal.types::named-returns-in-None-clause-err
 types::named-returns-in-None-clause-err t c =
     let a = c.args in
     let there : slice_get a.walk.now.m.now.definitions a.place ≡ None = grind (arith, common_steps, gets) in
     let less : a.place < a.walk.now.bound = omega (arith, c.if-place-walk.false) in
-    named_by in_machine a.walk.now.m.now.listed a.walk.now.m.now.definitions a.walk.now.bound a.place None a.args.now a.walk.now.places.now a.cells.now a.path.now.items (length a.out.now.items) a.value.now less there
+    named_by in_machine a.walk.now.m.now.listed a.walk.now.m.now.definitions a.walk.now.bound a.place None a.args.now a.walk.now.places.now a.cells.now a.draft.now.path.items (length a.draft.now.out.items) a.value.now less there
 
 pub types::defined-returns-in-Ok-clause-ok : goal.types::defined-returns-in-Ok-clause-ok
 types::defined-returns-in-Ok-clause-ok t c =
@@ -56,13 +56,13 @@ types::defined-returns-in-Ok-clause-ok t c =
     let d : TypeDef = a.definition.now in
     let sets = a.walk.now.m.now.listed in
     let writers = writers_below in_machine sets a.walk.now.m.now.definitions a.walk.now.bound in
-    let p : ℕ = length a.out.now.items in
+    let p : ℕ = length a.draft.now.out.items in
     let xs : List Datum = c.as_slice-values.result.now in
     let is : a.value.now ≡ Sequence (data_of xs) = sym c.value.view_is ∙ ap datum_at c.in-List.is ∙ ap (λ ws. Sequence (data_of ws)) (sym c.as_slice-values.ensures) in
-    let body = λ (ws : List Datum). body_written in_machine sets writers d d.body a.args.now a.walk.now.places.now a.path.now.items p a.cells.now ws in
-    let same : listed_written in_machine sets writers d a.args.now a.walk.now.places.now a.cells.now a.path.now.items p a.value.now ≡ fields_written in_machine sets writers d.name c.in-Ok.fields.now a.args.now a.walk.now.places.now a.path.now.items 0 p a.cells.now xs =
-    ap (listed_written in_machine sets writers d a.args.now a.walk.now.places.now a.cells.now a.path.now.items p) is ∙ ap body (data_back xs) ∙ c.in-Ok.ensures.ok sets writers a.walk.now.places.now a.path.now.items p a.cells.now in
-    subst (λ w. IfOk c.counted.result (λ x. Wrote w a.out.now.items c.counted.new.out.items a.path.now.items c.counted.new.path.items c.counted.new.cells)) (sym same) c.counted.ensures.ok
+    let body = λ (ws : List Datum). body_written in_machine sets writers d d.body a.args.now a.walk.now.places.now a.draft.now.path.items p a.cells.now ws in
+    let same : listed_written in_machine sets writers d a.args.now a.walk.now.places.now a.cells.now a.draft.now.path.items p a.value.now ≡ fields_written in_machine sets writers d.name c.in-Ok.fields.now a.args.now a.walk.now.places.now a.draft.now.path.items 0 p a.cells.now xs =
+    ap (listed_written in_machine sets writers d a.args.now a.walk.now.places.now a.cells.now a.draft.now.path.items p) is ∙ ap body (data_back xs) ∙ c.in-Ok.ensures.ok sets writers a.walk.now.places.now a.draft.now.path.items p a.cells.now in
+    subst (λ w. IfOk c.counted.result (λ x. Wrote w a.draft.now.out.items c.counted.new.draft.out.items a.draft.now.path.items c.counted.new.draft.path.items c.counted.new.cells)) (sym same) c.counted.ensures.ok
 
 pub types::defined-returns-in-Ok-clause-err : goal.types::defined-returns-in-Ok-clause-err
 types::defined-returns-in-Ok-clause-err t c =
@@ -70,13 +70,13 @@ types::defined-returns-in-Ok-clause-err t c =
     let d : TypeDef = a.definition.now in
     let sets = a.walk.now.m.now.listed in
     let writers = writers_below in_machine sets a.walk.now.m.now.definitions a.walk.now.bound in
-    let p : ℕ = length a.out.now.items in
+    let p : ℕ = length a.draft.now.out.items in
     let xs : List Datum = c.as_slice-values.result.now in
     let is : a.value.now ≡ Sequence (data_of xs) = sym c.value.view_is ∙ ap datum_at c.in-List.is ∙ ap (λ ws. Sequence (data_of ws)) (sym c.as_slice-values.ensures) in
-    let body = λ (ws : List Datum). body_written in_machine sets writers d d.body a.args.now a.walk.now.places.now a.path.now.items p a.cells.now ws in
-    let same : listed_written in_machine sets writers d a.args.now a.walk.now.places.now a.cells.now a.path.now.items p a.value.now ≡ fields_written in_machine sets writers d.name c.in-Ok.fields.now a.args.now a.walk.now.places.now a.path.now.items 0 p a.cells.now xs =
-    ap (listed_written in_machine sets writers d a.args.now a.walk.now.places.now a.cells.now a.path.now.items p) is ∙ ap body (data_back xs) ∙ c.in-Ok.ensures.ok sets writers a.walk.now.places.now a.path.now.items p a.cells.now in
-    subst (λ w. IfErr c.counted.result (λ h. Halts h c.counted.new.path.items w)) (sym same) c.counted.ensures.err
+    let body = λ (ws : List Datum). body_written in_machine sets writers d d.body a.args.now a.walk.now.places.now a.draft.now.path.items p a.cells.now ws in
+    let same : listed_written in_machine sets writers d a.args.now a.walk.now.places.now a.cells.now a.draft.now.path.items p a.value.now ≡ fields_written in_machine sets writers d.name c.in-Ok.fields.now a.args.now a.walk.now.places.now a.draft.now.path.items 0 p a.cells.now xs =
+    ap (listed_written in_machine sets writers d a.args.now a.walk.now.places.now a.cells.now a.draft.now.path.items p) is ∙ ap body (data_back xs) ∙ c.in-Ok.ensures.ok sets writers a.walk.now.places.now a.draft.now.path.items p a.cells.now in
+    subst (λ w. IfErr c.counted.result (λ h. Halts h c.counted.new.draft.path.items w)) (sym same) c.counted.ensures.err
 
 pub types::defined-returns-in-Err-clause-err : goal.types::defined-returns-in-Err-clause-err
 types::defined-returns-in-Err-clause-err t c =
@@ -84,13 +84,13 @@ types::defined-returns-in-Err-clause-err t c =
     let d : TypeDef = a.definition.now in
     let sets = a.walk.now.m.now.listed in
     let writers = writers_below in_machine sets a.walk.now.m.now.definitions a.walk.now.bound in
-    let p : ℕ = length a.out.now.items in
+    let p : ℕ = length a.draft.now.out.items in
     let xs : List Datum = c.as_slice-values.result.now in
     let is : a.value.now ≡ Sequence (data_of xs) = sym c.value.view_is ∙ ap datum_at c.in-List.is ∙ ap (λ ws. Sequence (data_of ws)) (sym c.as_slice-values.ensures) in
-    let body = λ (ws : List Datum). body_written in_machine sets writers d d.body a.args.now a.walk.now.places.now a.path.now.items p a.cells.now ws in
-    let same : listed_written in_machine sets writers d a.args.now a.walk.now.places.now a.cells.now a.path.now.items p a.value.now ≡ body xs =
-    ap (listed_written in_machine sets writers d a.args.now a.walk.now.places.now a.cells.now a.path.now.items p) is ∙ ap body (data_back xs) in
-    subst (Halts c.in-Err.halt a.path.now.items) (sym same) (c.in-Err.ensures.err sets writers a.walk.now.places.now a.path.now.items p a.cells.now)
+    let body = λ (ws : List Datum). body_written in_machine sets writers d d.body a.args.now a.walk.now.places.now a.draft.now.path.items p a.cells.now ws in
+    let same : listed_written in_machine sets writers d a.args.now a.walk.now.places.now a.cells.now a.draft.now.path.items p a.value.now ≡ body xs =
+    ap (listed_written in_machine sets writers d a.args.now a.walk.now.places.now a.cells.now a.draft.now.path.items p) is ∙ ap body (data_back xs) in
+    subst (Halts c.in-Err.halt a.draft.now.path.items) (sym same) (c.in-Err.ensures.err sets writers a.walk.now.places.now a.draft.now.path.items p a.cells.now)
 
 -- Fields
 
@@ -104,14 +104,14 @@ fields::counted-loop-field-preserved t c =
     let f : Field = c.field-item.result in
     let later : List Field = drop (l.field-index + 1) fs in
     let split : drop l.field-index fs ≡ f ∷ later = drop_more fs l.field-index f c.loop-field-test.true ∙ (λ k. sym c.field-item.is k ∷ later) in
-    let go : Later = λ env i p cells vs. fields_written in_machine sets writers a.ty later env a.walk.now.places.now a.path.now.items i p cells vs in
-    let own = λ (path : List ℕ). field_written in_machine sets writers a.ty (unit_type f.element f.extent) f l.env.items a.walk.now.places.now path l.index (length l.out.items) l.cells (drop l.index a.values.now) go in
+    let go : Later = λ env i p cells vs. fields_written in_machine sets writers a.ty later env a.walk.now.places.now a.draft.now.path.items i p cells vs in
+    let own = λ (path : List ℕ). field_written in_machine sets writers a.ty (unit_type f.element f.extent) f l.env.items a.walk.now.places.now path l.index (length l.draft.out.items) l.cells (drop l.index a.values.now) go in
     record {
       room = c.in-Ok.ensures.room.0;
       back = c.in-Ok.ensures.room.1 ∙ l.invariant.back;
       total = l.invariant.total
-          ∙ ap (after_writing l.out.items) (fields_next in_machine sets writers a.ty a.walk.now.places.now a.path.now.items (drop l.field-index fs) later f l.env.items l.index (length l.out.items) l.cells (drop l.index a.values.now) split)
-          ∙ ap (λ path. after_writing l.out.items (own path)) (sym l.invariant.back)
+          ∙ ap (after_writing l.draft.out.items) (fields_next in_machine sets writers a.ty a.walk.now.places.now a.draft.now.path.items (drop l.field-index fs) later f l.env.items l.index (length l.draft.out.items) l.cells (drop l.index a.values.now) split)
+          ∙ ap (λ path. after_writing l.draft.out.items (own path)) (sym l.invariant.back)
           ∙ (c.in-Ok.ensures.ok go).total;
     }
 
@@ -125,11 +125,11 @@ fields::counted-returns-in-Err-clause-err t c =
     let f : Field = c.field-item.result in
     let later : List Field = drop (l.field-index + 1) fs in
     let split : drop l.field-index fs ≡ f ∷ later = drop_more fs l.field-index f c.loop-field-test.true ∙ (λ k. sym c.field-item.is k ∷ later) in
-    let go : Later = λ env i p cells vs. fields_written in_machine sets writers a.ty later env a.walk.now.places.now a.path.now.items i p cells vs in
-    let own = λ (path : List ℕ). field_written in_machine sets writers a.ty (unit_type f.element f.extent) f l.env.items a.walk.now.places.now path l.index (length l.out.items) l.cells (drop l.index a.values.now) go in
-    let here : Halts c.in-Err.halt c.one_field.new.path.items (own a.path.now.items) = subst (λ path. Halts c.in-Err.halt c.one_field.new.path.items (own path)) l.invariant.back (c.in-Err.ensures.err go) in
-    halts_total c.in-Err.halt c.one_field.new.path.items a.out.now.items l.out.items _ (own a.path.now.items)
-    (l.invariant.total ∙ ap (after_writing l.out.items) (fields_next in_machine sets writers a.ty a.walk.now.places.now a.path.now.items (drop l.field-index fs) later f l.env.items l.index (length l.out.items) l.cells (drop l.index a.values.now) split))
+    let go : Later = λ env i p cells vs. fields_written in_machine sets writers a.ty later env a.walk.now.places.now a.draft.now.path.items i p cells vs in
+    let own = λ (path : List ℕ). field_written in_machine sets writers a.ty (unit_type f.element f.extent) f l.env.items a.walk.now.places.now path l.index (length l.draft.out.items) l.cells (drop l.index a.values.now) go in
+    let here : Halts c.in-Err.halt c.one_field.new.draft.path.items (own a.draft.now.path.items) = subst (λ path. Halts c.in-Err.halt c.one_field.new.draft.path.items (own path)) l.invariant.back (c.in-Err.ensures.err go) in
+    halts_total c.in-Err.halt c.one_field.new.draft.path.items a.draft.now.out.items l.draft.out.items _ (own a.draft.now.path.items)
+    (l.invariant.total ∙ ap (after_writing l.draft.out.items) (fields_next in_machine sets writers a.ty a.walk.now.places.now a.draft.now.path.items (drop l.field-index fs) later f l.env.items l.index (length l.draft.out.items) l.cells (drop l.index a.values.now) split))
     here
 
 pub fields::counted-returns-then-index-values-clause-err : goal.fields::counted-returns-then-index-values-clause-err
@@ -141,9 +141,9 @@ fields::counted-returns-then-index-values-clause-err t c =
     let fs : List Field = a.fields.now in
     let none : drop l.field-index fs ≡ [] = drop_all l.field-index fs (omega (arith, c.loop-field-test.false)) in
     let more : l.index < length a.values.now = omega (arith, c.if-index-values.true) in
-    halts_total (halt.Broken Shape) l.path.items a.out.now.items l.out.items _ (fields_written in_machine sets writers a.ty (drop l.field-index fs) l.env.items a.walk.now.places.now a.path.now.items l.index (length l.out.items) l.cells (drop l.index a.values.now))
+    halts_total (halt.Broken Shape) l.draft.path.items a.draft.now.out.items l.draft.out.items _ (fields_written in_machine sets writers a.ty (drop l.field-index fs) l.env.items a.walk.now.places.now a.draft.now.path.items l.index (length l.draft.out.items) l.cells (drop l.index a.values.now))
     l.invariant.total
-    (fields_left in_machine sets writers a.ty a.walk.now.places.now a.path.now.items (drop l.field-index fs) l.env.items l.index (length l.out.items) l.cells (drop l.index a.values.now) _ _ none (drop_more a.values.now l.index Empty more) ∙ ap (Refused Shape) (sym l.invariant.back))
+    (fields_left in_machine sets writers a.ty a.walk.now.places.now a.draft.now.path.items (drop l.field-index fs) l.env.items l.index (length l.draft.out.items) l.cells (drop l.index a.values.now) _ _ none (drop_more a.values.now l.index Empty more) ∙ ap (Refused Shape) (sym l.invariant.back))
 
 pub fields::counted-returns-clause-ok : goal.fields::counted-returns-clause-ok
 fields::counted-returns-clause-ok t c =
@@ -156,8 +156,8 @@ fields::counted-returns-clause-ok t c =
     let empty : drop l.index a.values.now ≡ [] = drop_all l.index a.values.now (omega (arith, c.if-index-values.false)) in
     record {
       total = l.invariant.total
-          ∙ ap (after_writing l.out.items) (fields_end in_machine sets writers a.ty a.walk.now.places.now a.path.now.items (drop l.field-index fs) l.env.items l.index (length l.out.items) l.cells (drop l.index a.values.now) none empty)
-          ∙ ap (λ x. Done x l.cells) (append-nil l.out.items);
+          ∙ ap (after_writing l.draft.out.items) (fields_end in_machine sets writers a.ty a.walk.now.places.now a.draft.now.path.items (drop l.field-index fs) l.env.items l.index (length l.draft.out.items) l.cells (drop l.index a.values.now) none empty)
+          ∙ ap (λ x. Done x l.cells) (append-nil l.draft.out.items);
       room = l.invariant.room;
       back = l.invariant.back;
     }
@@ -173,22 +173,22 @@ fields::one_field-returns-in-Ok-test_parts-clause-ok t c = λ later.
     let inside : a.left.now.index < length vs = omega (arith, c.if-index-values.false) in
     let split : drop a.left.now.index vs ≡ v ∷ drop (a.left.now.index + 1) vs = drop_more vs a.left.now.index v inside ∙ (λ k. sym c.index-values-index.is k ∷ drop (a.left.now.index + 1) vs) in
     let none : unit_type f.element f.extent ≡ None = sym c.unit_type.ensures ∙ c.in-None.is in
-    let at : c.push.new.self.items ≡ a.path.now.items ++ a.left.now.index ∷ [] = search rules in
-    let p : ℕ = length a.out.now.items in
-    let new : List ℕ = c.content.new.out.items in
+    let at : c.push.new.self.items ≡ a.draft.now.path.items ++ a.left.now.index ∷ [] = search rules in
+    let p : ℕ = length a.draft.now.out.items in
+    let new : List ℕ = c.content.new.draft.out.items in
     let own = c.in-Ok.ensures.ok in
     let scope : a.env.now.items ≡ c.as_slice.result.now = sym c.as_slice.ensures.value in
-    let shape : after_writing a.out.now.items (copied f.copy a.walk.now.places.now p (shape_written in_machine sets writers f.element f.extent a.env.now.items a.walk.now.places.now (a.path.now.items ++ a.left.now.index ∷ []) p a.cells.now v)) ≡ Done new c.content.new.cells =
-    (λ k. after_writing a.out.now.items (copied f.copy a.walk.now.places.now p (shape_written in_machine sets writers f.element f.extent (scope k) a.walk.now.places.now (sym at k) p a.cells.now v))) ∙ own.total in
-    let from : p ≡ c.len-start.result = sym (c.len-start.ensures ∙ a.out.now.ok.0) in
-    let to : length new ≡ c.len-pos.result = sym (c.len-pos.ensures ∙ c.content.new.out.ok.0) in
+    let shape : after_writing a.draft.now.out.items (copied f.copy a.walk.now.places.now p (shape_written in_machine sets writers f.element f.extent a.env.now.items a.walk.now.places.now (a.draft.now.path.items ++ a.left.now.index ∷ []) p a.cells.now v)) ≡ Done new c.content.new.cells =
+    (λ k. after_writing a.draft.now.out.items (copied f.copy a.walk.now.places.now p (shape_written in_machine sets writers f.element f.extent (scope k) a.walk.now.places.now (sym at k) p a.cells.now v))) ∙ own.total in
+    let from : p ≡ c.len-start.result = sym (c.len-start.ensures ∙ a.draft.now.out.ok.0) in
+    let to : length new ≡ c.len-end.result = sym (c.len-end.ensures ∙ c.content.new.draft.out.ok.0) in
     let number : number_in f.element f.extent v ≡ c.number_in-number.result = sym c.number_in-number.ensures in
     let parts : f.parts ≡ c.as_slice-in-None.result.now = sym c.as_slice-in-None.ensures in
     let passes : Passes (machine.parts_meaning a.ty p (number_in f.element f.extent v) f.parts a.env.now.items a.walk.now.places.now (length new) c.content.new.cells).ending c.test_parts.new.cells = λ path go.
     (λ k. tested (machine.parts_meaning a.ty (from k) (number k) (parts k) a.env.now.items a.walk.now.places.now (to k) c.content.new.cells).ending path go) ∙ c.in-Ok-test_parts.ensures.ok path go in
     let after : extended a.env.now.items (number_in f.element f.extent v) f.parts ≡ c.test_parts.new.env.items = (λ k. extended a.env.now.items (number k) (parts k)) ∙ sym c.in-Ok-test_parts.ensures.scope in
     record {
-      total = whole_total in_machine sets writers a.ty a.walk.now.places.now a.path.now.items (unit_type f.element f.extent) f a.env.now.items a.left.now.index a.cells.now (drop a.left.now.index vs) (drop (a.left.now.index + 1) vs) v a.out.now.items new c.content.new.cells c.test_parts.new.cells later none split shape passes
+      total = whole_total in_machine sets writers a.ty a.walk.now.places.now a.draft.now.path.items (unit_type f.element f.extent) f a.env.now.items a.left.now.index a.cells.now (drop a.left.now.index vs) (drop (a.left.now.index + 1) vs) v a.draft.now.out.items new c.content.new.cells c.test_parts.new.cells later none split shape passes
           ∙ (λ k. after_writing new (later (after k) (a.left.now.index + 1) (length new) c.test_parts.new.cells (drop (a.left.now.index + 1) vs)));
     }
 
@@ -197,10 +197,10 @@ fields::content-returns-clause-ok t c =
     let a = c.args in
     let f : Field = a.field.now in
     let own = c.in-Ok.ensures.ok in
-    let from : length a.out.now.items ≡ c.len-start.result = sym (c.len-start.ensures ∙ a.out.now.ok.0) in
-    let size : length c.shape.new.out.items - length a.out.now.items ≡ c.len.result - c.len-start.result = omega (arith, from, c.len.ensures, c.shape.new.out.ok.0) in
+    let from : length a.draft.now.out.items ≡ c.len-start.result = sym (c.len-start.ensures ∙ a.draft.now.out.ok.0) in
+    let size : length c.shape.new.draft.out.items - length a.draft.now.out.items ≡ c.len.result - c.len-start.result = omega (arith, from, c.len.ensures, c.shape.new.draft.out.ok.0) in
     record {
-      total = copied_total f.copy a.walk.now.places.now a.out.now.items c.shape.new.out.items c.shape.new.cells c.note_copy.new.cells _ own.total
+      total = copied_total f.copy a.walk.now.places.now a.draft.now.out.items c.shape.new.draft.out.items c.shape.new.cells c.note_copy.new.cells _ own.total
           (c.note_copy.ensures ∙ (λ k. noted f.copy a.walk.now.places.now (sym from k) (sym size k) c.shape.new.cells));
       room = own.room;
       back = own.back;
@@ -208,7 +208,7 @@ fields::content-returns-clause-ok t c =
 
 pub fields::content-returns-in-Err-clause-err : goal.fields::content-returns-in-Err-clause-err
 fields::content-returns-in-Err-clause-err t c =
-    copied_halts c.in-Err.halt c.shape.new.path.items c.args.field.now.copy c.args.walk.now.places.now (length c.args.out.now.items) _ c.in-Err.ensures.err
+    copied_halts c.in-Err.halt c.shape.new.draft.path.items c.args.field.now.copy c.args.walk.now.places.now (length c.args.draft.now.out.items) _ c.in-Err.ensures.err
 
 -- Arrays
 
@@ -216,23 +216,23 @@ pub arrays::contents-returns-in-List-clause-ok : goal.arrays::contents-returns-i
 arrays::contents-returns-in-List-clause-ok t c =
     let a = c.args in
     let each = element_written in_machine a.walk.now.m.now.listed (writers_below in_machine a.walk.now.m.now.listed a.walk.now.m.now.definitions a.walk.now.bound) a.element.now a.env.now a.walk.now.places.now in
-    let p : ℕ = length a.out.now.items in
+    let p : ℕ = length a.draft.now.out.items in
     let xs : List Datum = c.as_slice.result.now in
     let is : a.value.now ≡ Sequence (data_of xs) = sym c.value.view_is ∙ ap datum_at c.in-List.is ∙ ap (λ ws. Sequence (data_of ws)) (sym c.as_slice.ensures) in
     let no_byte : is_byte a.element.now ≡ false = sym c.is_byte.ensures ∙ search rules in
-    let same = contents_are a.path.now.items p a.cells.now a.value.now xs (is_byte a.element.now) each no_byte is in
-    subst (λ w. IfOk c.items.result (λ x. Wrote w a.out.now.items c.items.new.out.items a.path.now.items c.items.new.path.items c.items.new.cells)) (sym same) c.items.ensures.ok
+    let same = contents_are a.draft.now.path.items p a.cells.now a.value.now xs (is_byte a.element.now) each no_byte is in
+    subst (λ w. IfOk c.items.result (λ x. Wrote w a.draft.now.out.items c.items.new.draft.out.items a.draft.now.path.items c.items.new.draft.path.items c.items.new.cells)) (sym same) c.items.ensures.ok
 
 pub arrays::contents-returns-in-List-clause-err : goal.arrays::contents-returns-in-List-clause-err
 arrays::contents-returns-in-List-clause-err t c =
     let a = c.args in
     let each = element_written in_machine a.walk.now.m.now.listed (writers_below in_machine a.walk.now.m.now.listed a.walk.now.m.now.definitions a.walk.now.bound) a.element.now a.env.now a.walk.now.places.now in
-    let p : ℕ = length a.out.now.items in
+    let p : ℕ = length a.draft.now.out.items in
     let xs : List Datum = c.as_slice.result.now in
     let is : a.value.now ≡ Sequence (data_of xs) = sym c.value.view_is ∙ ap datum_at c.in-List.is ∙ ap (λ ws. Sequence (data_of ws)) (sym c.as_slice.ensures) in
     let no_byte : is_byte a.element.now ≡ false = sym c.is_byte.ensures ∙ search rules in
-    let same = contents_are a.path.now.items p a.cells.now a.value.now xs (is_byte a.element.now) each no_byte is in
-    subst (λ w. IfErr c.items.result (λ h. Halts h c.items.new.path.items w)) (sym same) c.items.ensures.err
+    let same = contents_are a.draft.now.path.items p a.cells.now a.value.now xs (is_byte a.element.now) each no_byte is in
+    subst (λ w. IfErr c.items.result (λ h. Halts h c.items.new.draft.path.items w)) (sym same) c.items.ensures.err
 
 pub arrays::items-returns-clause-ok : goal.arrays::items-returns-clause-ok
 arrays::items-returns-clause-ok t c =
@@ -241,7 +241,7 @@ arrays::items-returns-clause-ok t c =
     let each = element_written in_machine a.walk.now.m.now.listed (writers_below in_machine a.walk.now.m.now.listed a.walk.now.m.now.definitions a.walk.now.bound) a.element.now a.env.now a.walk.now.places.now in
     let none : drop l.index a.values.now ≡ [] = drop_all l.index a.values.now (omega (arith, c.loop-index-test.false)) in
     record {
-      total = l.invariant.total ∙ all_written each a.path.now.items l.out.items l.index l.cells (drop l.index a.values.now) none;
+      total = l.invariant.total ∙ all_written each a.draft.now.path.items l.draft.out.items l.index l.cells (drop l.index a.values.now) none;
       room = l.invariant.room;
       back = l.invariant.back;
     }
@@ -254,17 +254,17 @@ arrays::items-loop-index-preserved t c =
     let vs : List Datum = a.values.now in
     let v : Datum = c.index-values-index.result in
     let split : drop l.index vs ≡ v ∷ drop (l.index + 1) vs = drop_more vs l.index v c.loop-index-test.true ∙ (λ k. sym c.index-values-index.is k ∷ drop (l.index + 1) vs) in
-    let mid : c.push.new.self.items ≡ l.path.items ++ l.index ∷ [] = search rules in
-    let at : c.push.new.self.items ≡ a.path.now.items ++ l.index ∷ [] = mid ∙ ap (λ x. x ++ l.index ∷ []) l.invariant.back in
+    let mid : c.push.new.self.items ≡ l.draft.path.items ++ l.index ∷ [] = search rules in
+    let at : c.push.new.self.items ≡ a.draft.now.path.items ++ l.index ∷ [] = mid ∙ ap (λ x. x ++ l.index ∷ []) l.invariant.back in
     let own = c.in-Ok.ensures.ok in
-    let one = ap (λ path. after_writing l.out.items (each path (length l.out.items) l.cells v)) (sym at) ∙ own.total in
-    let kept : c.one_element.new.path.items ≡ l.path.items ++ l.index ∷ [] = own.back ∙ mid in
+    let one = ap (λ path. after_writing l.draft.out.items (each path (length l.draft.out.items) l.cells v)) (sym at) ∙ own.total in
+    let kept : c.one_element.new.draft.path.items ≡ l.draft.path.items ++ l.index ∷ [] = own.back ∙ mid in
     record {
       room = own.room;
-      back = popped l.index l.path.items c.one_element.new.path.items c.pop.new.self.items (vec_len c.one_element.new.path) kept c.one_element.new.path.ok.0 c.pop.ensures.rest ∙ l.invariant.back;
+      back = popped l.index l.draft.path.items c.one_element.new.draft.path.items c.pop.new.self.items (vec_len c.one_element.new.draft.path) kept c.one_element.new.draft.path.ok.0 c.pop.ensures.rest ∙ l.invariant.back;
       total = l.invariant.total
-          ∙ one_more each a.path.now.items l.out.items c.one_element.new.out.items l.index l.cells c.one_element.new.cells (drop l.index vs) (drop (l.index + 1) vs) v split one
-          (λ e. c.if-len-start.false (omega (arith, e, c.len.ensures, c.len-start.ensures, c.one_element.new.out.ok.0, l.out.ok.0)));
+          ∙ one_more each a.draft.now.path.items l.draft.out.items c.one_element.new.draft.out.items l.index l.cells c.one_element.new.cells (drop l.index vs) (drop (l.index + 1) vs) v split one
+          (λ e. c.if-len-start.false (omega (arith, e, c.len.ensures, c.len-start.ensures, c.one_element.new.draft.out.ok.0, l.draft.out.ok.0)));
     }
 
 pub arrays::items-returns-in-Err-clause-err : goal.arrays::items-returns-in-Err-clause-err
@@ -275,12 +275,12 @@ arrays::items-returns-in-Err-clause-err t c =
     let vs : List Datum = a.values.now in
     let v : Datum = c.index-values-index.result in
     let split : drop l.index vs ≡ v ∷ drop (l.index + 1) vs = drop_more vs l.index v c.loop-index-test.true ∙ (λ k. sym c.index-values-index.is k ∷ drop (l.index + 1) vs) in
-    let mid : c.push.new.self.items ≡ l.path.items ++ l.index ∷ [] = search rules in
-    let at : c.push.new.self.items ≡ a.path.now.items ++ l.index ∷ [] = mid ∙ ap (λ x. x ++ l.index ∷ []) l.invariant.back in
-    let here : Halts c.in-Err.halt c.one_element.new.path.items (each (a.path.now.items ++ l.index ∷ []) (length l.out.items) l.cells v) =
-    subst (λ path. Halts c.in-Err.halt c.one_element.new.path.items (each path (length l.out.items) l.cells v)) at c.in-Err.ensures.err in
-    halts_total c.in-Err.halt c.one_element.new.path.items a.out.now.items l.out.items _ (items_written each a.path.now.items l.index (length l.out.items) l.cells (drop l.index vs)) l.invariant.total
-    (halts_items c.in-Err.halt c.one_element.new.path.items each a.path.now.items l.index (length l.out.items) l.cells (drop l.index vs) (drop (l.index + 1) vs) v split here)
+    let mid : c.push.new.self.items ≡ l.draft.path.items ++ l.index ∷ [] = search rules in
+    let at : c.push.new.self.items ≡ a.draft.now.path.items ++ l.index ∷ [] = mid ∙ ap (λ x. x ++ l.index ∷ []) l.invariant.back in
+    let here : Halts c.in-Err.halt c.one_element.new.draft.path.items (each (a.draft.now.path.items ++ l.index ∷ []) (length l.draft.out.items) l.cells v) =
+    subst (λ path. Halts c.in-Err.halt c.one_element.new.draft.path.items (each path (length l.draft.out.items) l.cells v)) at c.in-Err.ensures.err in
+    halts_total c.in-Err.halt c.one_element.new.draft.path.items a.draft.now.out.items l.draft.out.items _ (items_written each a.draft.now.path.items l.index (length l.draft.out.items) l.cells (drop l.index vs)) l.invariant.total
+    (halts_items c.in-Err.halt c.one_element.new.draft.path.items each a.draft.now.path.items l.index (length l.draft.out.items) l.cells (drop l.index vs) (drop (l.index + 1) vs) v split here)
 
 pub arrays::items-returns-then-len-start-clause-err : goal.arrays::items-returns-then-len-start-clause-err
 arrays::items-returns-then-len-start-clause-err t c =
@@ -290,13 +290,13 @@ arrays::items-returns-then-len-start-clause-err t c =
     let vs : List Datum = a.values.now in
     let v : Datum = c.index-values-index.result in
     let split : drop l.index vs ≡ v ∷ drop (l.index + 1) vs = drop_more vs l.index v c.loop-index-test.true ∙ (λ k. sym c.index-values-index.is k ∷ drop (l.index + 1) vs) in
-    let mid : c.push.new.self.items ≡ l.path.items ++ l.index ∷ [] = search rules in
-    let at : c.push.new.self.items ≡ a.path.now.items ++ l.index ∷ [] = mid ∙ ap (λ x. x ++ l.index ∷ []) l.invariant.back in
+    let mid : c.push.new.self.items ≡ l.draft.path.items ++ l.index ∷ [] = search rules in
+    let at : c.push.new.self.items ≡ a.draft.now.path.items ++ l.index ∷ [] = mid ∙ ap (λ x. x ++ l.index ∷ []) l.invariant.back in
     let own = c.in-Ok.ensures.ok in
-    let one = ap (λ path. after_writing l.out.items (each path (length l.out.items) l.cells v)) (sym at) ∙ own.total in
-    let kept : c.one_element.new.path.items ≡ a.path.now.items ++ l.index ∷ [] = own.back ∙ at in
-    let same : length c.one_element.new.out.items ≡ length l.out.items = omega (arith, c.if-len-start.true, c.len.ensures, c.len-start.ensures, c.one_element.new.out.ok.0, l.out.ok.0) in
-    let empty = one_empty each a.path.now.items l.out.items c.one_element.new.out.items l.index l.cells c.one_element.new.cells (drop l.index vs) (drop (l.index + 1) vs) v split one same in
-    let W = items_written each a.path.now.items l.index (length l.out.items) l.cells (drop l.index vs) in
-    halts_total (halt.Broken Size) c.one_element.new.path.items a.out.now.items l.out.items _ W l.invariant.total
-    (halts_at (halt.Broken Size) c.one_element.new.path.items (a.path.now.items ++ l.index ∷ []) W W kept refl empty)
+    let one = ap (λ path. after_writing l.draft.out.items (each path (length l.draft.out.items) l.cells v)) (sym at) ∙ own.total in
+    let kept : c.one_element.new.draft.path.items ≡ a.draft.now.path.items ++ l.index ∷ [] = own.back ∙ at in
+    let same : length c.one_element.new.draft.out.items ≡ length l.draft.out.items = omega (arith, c.if-len-start.true, c.len.ensures, c.len-start.ensures, c.one_element.new.draft.out.ok.0, l.draft.out.ok.0) in
+    let empty = one_empty each a.draft.now.path.items l.draft.out.items c.one_element.new.draft.out.items l.index l.cells c.one_element.new.cells (drop l.index vs) (drop (l.index + 1) vs) v split one same in
+    let W = items_written each a.draft.now.path.items l.index (length l.draft.out.items) l.cells (drop l.index vs) in
+    halts_total (halt.Broken Size) c.one_element.new.draft.path.items a.draft.now.out.items l.draft.out.items _ W l.invariant.total
+    (halts_at (halt.Broken Size) c.one_element.new.draft.path.items (a.draft.now.path.items ++ l.index ∷ []) W W kept refl empty)

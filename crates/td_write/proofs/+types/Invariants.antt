@@ -36,17 +36,17 @@ decreases-types::defined l = 20 * l.walk.now.bound + 9
 -- what is left of the fields decides the whole
 abbrev pub invariant-fields::counted-loop-field : goal.invariant-fields::counted-loop-field
 invariant-fields::counted-loop-field l = record {
-  room : length l.out.items ≤ MOST_WRITTEN;
-  back : l.path.items ≡ l.fn.path.items;
-  total : after_writing l.fn.out.items (fields_written in_machine l.walk.m.now.listed (writers_below in_machine l.walk.m.now.listed l.walk.m.now.definitions l.walk.bound) l.ty l.fields l.args l.walk.places.now l.fn.path.items 0 (length l.fn.out.items) l.fn.cells l.values)
-      ≡ after_writing l.out.items (fields_written in_machine l.walk.m.now.listed (writers_below in_machine l.walk.m.now.listed l.walk.m.now.definitions l.walk.bound) l.ty (drop l.field-index l.fields) l.env.items l.walk.places.now l.fn.path.items l.index (length l.out.items) l.cells (drop l.index l.values));
+  room : length l.draft.out.items ≤ MOST_WRITTEN;
+  back : l.draft.path.items ≡ l.fn.draft.path.items;
+  total : after_writing l.fn.draft.out.items (fields_written in_machine l.walk.m.now.listed (writers_below in_machine l.walk.m.now.listed l.walk.m.now.definitions l.walk.bound) l.ty l.fields l.args l.walk.places.now l.fn.draft.path.items 0 (length l.fn.draft.out.items) l.fn.cells l.values)
+      ≡ after_writing l.draft.out.items (fields_written in_machine l.walk.m.now.listed (writers_below in_machine l.walk.m.now.listed l.walk.m.now.definitions l.walk.bound) l.ty (drop l.field-index l.fields) l.env.items l.walk.places.now l.fn.draft.path.items l.index (length l.draft.out.items) l.cells (drop l.index l.values));
 }
 
 -- what is left of the elements decides the whole
 abbrev pub invariant-arrays::items-loop-index : goal.invariant-arrays::items-loop-index
 invariant-arrays::items-loop-index l = record {
-  room : length l.out.items ≤ MOST_WRITTEN;
-  back : l.path.items ≡ l.fn.path.items;
-  total : after_writing l.fn.out.items (items_written (element_written in_machine l.walk.m.now.listed (writers_below in_machine l.walk.m.now.listed l.walk.m.now.definitions l.walk.bound) l.element l.env l.walk.places.now) l.fn.path.items 0 (length l.fn.out.items) l.fn.cells l.values)
-      ≡ after_writing l.out.items (items_written (element_written in_machine l.walk.m.now.listed (writers_below in_machine l.walk.m.now.listed l.walk.m.now.definitions l.walk.bound) l.element l.env l.walk.places.now) l.fn.path.items l.index (length l.out.items) l.cells (drop l.index l.values));
+  room : length l.draft.out.items ≤ MOST_WRITTEN;
+  back : l.draft.path.items ≡ l.fn.draft.path.items;
+  total : after_writing l.fn.draft.out.items (items_written (element_written in_machine l.walk.m.now.listed (writers_below in_machine l.walk.m.now.listed l.walk.m.now.definitions l.walk.bound) l.element l.env l.walk.places.now) l.fn.draft.path.items 0 (length l.fn.draft.out.items) l.fn.cells l.values)
+      ≡ after_writing l.draft.out.items (items_written (element_written in_machine l.walk.m.now.listed (writers_below in_machine l.walk.m.now.listed l.walk.m.now.definitions l.walk.bound) l.element l.env l.walk.places.now) l.fn.draft.path.items l.index (length l.draft.out.items) l.cells (drop l.index l.values));
 }

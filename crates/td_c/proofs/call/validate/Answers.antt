@@ -12,8 +12,11 @@ returns-in-Some-clause-answered c = record {
       c.run_call-verdict.result.made (record { verdict = v.0; trace = c.run_call-verdict.new.session.frame.trace; cells = cells_of c.run_call-verdict.new.call; copies = copied_by (arc_value c.args.session.now.code) (entry_asked c.args.call.now) c.run_call-verdict.new.session.frame }) v.1))
       c.in-Some.is c.run_call-verdict.ensures.validated;
   told = search rules;
+  same = search rules;
   refused = search rules;
   unloaded = search rules;
+  call_stays = search rules;
+  room_stays = search rules;
   loaded = search rules;
   noted = search rules;
 }

@@ -6,7 +6,7 @@ use Rattle.td_cli.proofs.Runs.{run_answers, run_unanswered}
 use Rattle.td_cli.proofs.run.answer_counted.Goals as goal
 
 pub finish_report-requires : goal.finish_report-requires
-finish_report-requires g c = numbered c.in-Ok.finished.input.job.length c.in-Ok.finished.input.job.layout c.in-Ok.finished.loads.list c.in-Ok.ensures.run.inside
+finish_report-requires g c = numbered c.in-Ok.finished.input.job.length c.in-Ok.finished.input.job.layout c.in-Ok.finished.loads.list c.in-Ok.ensures.run.fetched.inside
 
 pub returns-in-Ok : goal.returns-in-Ok
 returns-in-Ok g c =

@@ -3,6 +3,6 @@ use Rattle.td_elab.specs.Heads.{with_definition}
 use Rattle.td_elab.proofs.definitions.add_type.Goals as goal
 use Rattle.td_names.proofs.Naming.{on_ok as on_ok_then}
 
-pub returns : goal.returns
-returns c =
-    on_ok_then c.push_type.result (λ e. e ∙ ap (λ k. with_definition k c.args.parameters c.args.definition) c.in_ok-announce.ensures) c.push_type.ensures
+pub returns-in-Ok : goal.returns-in-Ok
+returns-in-Ok c =
+    on_ok_then c.push_type.result (λ e. e ∙ ap (λ k. with_definition k c.args.parameters c.args.definition) c.in-Ok.ensures) c.push_type.ensures

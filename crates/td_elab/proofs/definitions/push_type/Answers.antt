@@ -15,9 +15,9 @@ returns c =
       globals = k.globals;
       used = k.used;
       records = k.records;
-      signatures = c.in_ok-push.ensures.ok i;
+      signatures = e i;
       kinds = more i;
-      definitions = e i;
+      definitions = c.in_ok-push.ensures.ok i;
       listed = k.listed;
       entries = k.entries;
     }) c.push-3.ensures.ok

@@ -29,8 +29,8 @@ invariant-pieces-loop-statement l =
     let rest = block_of (drop l.statement-index l.statements) in
     let all = block_of l.statements in
     record {
-      core : l.pieces.items ++ pieces_of l.known l.scope rest ≡ pieces_of l.known l.fn.scope all;
-      first : first_of l.findings.first (block_breaches l.known l.taken l.scope rest) ≡ first_of l.fn.findings.first (block_breaches l.known l.fn.taken l.fn.scope all);
-      taken : block_vars l.taken rest ≡ block_vars l.fn.taken all;
-      scope : block_scope l.known l.scope rest ≡ block_scope l.known l.fn.scope all;
+      core : l.pieces.items ++ pieces_of l.known l.bindings.scope rest ≡ pieces_of l.known l.fn.bindings.scope all;
+      first : first_of l.findings.first (block_breaches l.known l.bindings.taken l.bindings.scope rest) ≡ first_of l.fn.findings.first (block_breaches l.known l.fn.bindings.taken l.fn.bindings.scope all);
+      taken : block_vars l.bindings.taken rest ≡ block_vars l.fn.bindings.taken all;
+      scope : block_scope l.known l.bindings.scope rest ≡ block_scope l.known l.fn.bindings.scope all;
     }

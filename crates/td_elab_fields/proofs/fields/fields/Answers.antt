@@ -6,9 +6,9 @@ use Rattle.td_elab_fields.proofs.fields.fields.Goals as goal
 
 pub returns-clause-scope : goal.returns-clause-scope
 returns-clause-scope c =
-    let s = c.args.scope.now in
+    let s = c.args.bindings.now.scope in
     let t = fields_scope c.args.known.now s c.args.trees.now in
     c.cut_back.ensures
-    ∙ ap (λ n. back.cut_back n s.levels c.gathered.new.scope) c.len-locals.ensures
+    ∙ ap (λ n. back.cut_back n s.levels c.gathered.new.bindings.scope) c.len-locals.ensures
     ∙ ap (λ u. back.cut_back (length s.locals) s.levels u) c.in_ok-fields.ensures.scope
     ∙ cut s t (grows c.args.known.now s c.args.trees.now)

@@ -128,7 +128,8 @@ put_in_order-requires-clause-each g c = λ f.
     let few : length d.mails.items < 2 ^ 64 = search (rules, arith) in
     let v_is = ap (λ (p : PassState). p.view) c.settle.ensures.view ∙ ((λ i. with_takes (e.posts i).view (e.takes i).view) ∙ (λ i. with_takes (puts_all k.posts.view (v i)) (takes_all k.takes.view (v i)))) in
     let w_is = ap (λ (p : DrawerState). p.view) e.drawer ∙ ap (draws_all k.drawer.view) v in
-    let perm = taken names d.shared d.ring (service_at d) d.job d.mails.items k.seat k.posts k.takes k.drawer olds news h c.settle.new.pass.view c.settle.ensures.told.0 v_is c.settle.ensures.told.1 c.gather_all.new.heads.drawer.view c.tell.ensures.told.0 w_is c.tell.ensures.told.1 c.requires.mails few in
+    let both = taken names d.shared d.ring (service_at d) d.job d.mails.items k.seat k.posts k.takes k.drawer olds news h c.settle.new.pass.view c.settle.ensures.told.0 v_is c.settle.ensures.told.1 c.gather_all.new.heads.drawer.view c.tell.ensures.told.0 w_is c.tell.ensures.told.1 c.requires.mails few in
+    let perm = both.0 in
     let found : c.gather_all.new.found.items ≡ all_replies news = e.found ∙ ((λ i. r.none_found i ++ all_replies (v i))) in
     let same = same_names names d.shared d.ring (service_at d) d.job d.mails.items k.seat k.posts k.takes k.drawer olds news h perm c.requires.mails f in
     subst (λ (y : List Reply × List Mail). sum_by f (map reply_name y.0) ≡ sum_by f (map (λ (m : Mail). m.name) y.1)) (λ i. (sym found i, sym c.as_slice.ensures.value i)) same
@@ -156,7 +157,8 @@ returns-clause-served g c m described =
     let few : length d.mails.items < 2 ^ 64 = search (rules, arith) in
     let v_is = ap (λ (p : PassState). p.view) c.settle.ensures.view ∙ ((λ i. with_takes (e.posts i).view (e.takes i).view) ∙ (λ i. with_takes (puts_all k.posts.view (v i)) (takes_all k.takes.view (v i)))) in
     let w_is = ap (λ (p : DrawerState). p.view) e.drawer ∙ ap (draws_all k.drawer.view) v in
-    let perm = taken names d.shared d.ring (service_at d) d.job d.mails.items k.seat k.posts k.takes k.drawer olds news h c.settle.new.pass.view c.settle.ensures.told.0 v_is c.settle.ensures.told.1 c.gather_all.new.heads.drawer.view c.tell.ensures.told.0 w_is c.tell.ensures.told.1 c.requires.mails few in
+    let both = taken names d.shared d.ring (service_at d) d.job d.mails.items k.seat k.posts k.takes k.drawer olds news h c.settle.new.pass.view c.settle.ensures.told.0 v_is c.settle.ensures.told.1 c.gather_all.new.heads.drawer.view c.tell.ensures.told.0 w_is c.tell.ensures.told.1 c.requires.mails few in
+    let perm = both.0 in
     let found : c.gather_all.new.found.items ≡ all_replies news = e.found ∙ ((λ i. r.none_found i ++ all_replies (v i))) in
     let k_is = ap (λ (p : HostState). p.view) (c.learn.ensures.same ∙ e.seat) ∙ ap (seats_all k.seat.view) v in
     let fetched = subst (λ (p : HostState). length p.view.ended ≡ p.view.made → Fetched p.view) (sym c.learn.ensures.same) c.learn.ensures.fetched in
@@ -170,7 +172,7 @@ returns-clause-served g c m described =
     let publisher = sym (same_publisher x.publisher c.take_publisher-publisher.result end.1) ∙ (x.ran ∙ ap (λ (s : PublishState). publish_state s.table (publisher_view s.view.count (s.view.count - 1))) r.is_publisher) in
     let by = all_left (IsDescribedBy m) olds _ (subst (All (IsDescribedBy m)) r.are described) in
     let made : c.of-2.result ≡ takes_of_all news = c.of-2.ensures ∙ (e.made ∙ (λ i. r.no_take i ++ takes_of_all (v i))) in
-    served_versions names d.shared d.ring (service_at d) d.job d.mails.items k.seat k.posts k.takes k.drawer olds news h m by perm c.requires.mails c.settle.new.pass.view v_is c.learn.new.host.view k_is fetched c.learn.ensures.told.0 told c.of.result named order
+    served_versions names d.shared d.ring (service_at d) d.job d.mails.items k.seat k.posts k.takes k.drawer olds news h m by perm c.requires.mails c.settle.new.pass.view v_is both.1 c.learn.new.host.view k_is fetched c.learn.ensures.told.0 told c.of.result named order
     n code.as_many c.gather_all.new.swap.view numbers e.versions c.take_publisher-publisher.result.view (ap (λ (s : PublishState). s.view) publisher) c.of-2.result made
 
 pub returns-clause-own : goal.returns-clause-own

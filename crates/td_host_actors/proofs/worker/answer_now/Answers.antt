@@ -15,23 +15,23 @@ pub bounds-as_slice-number : goal.bounds-as_slice-number
 unfolding IsJobCode
 bounds-as_slice-number g c =
     let v = c.current-version.result.now in
-    let code : JobCode c.args.codes.now.codes c.args.job.now = c.requires.code in
-    let inside = slice_get_within c.args.codes.now.codes v.number v.code c.current-version.ensures.code in
+    let code : JobCode c.args.desk.now.codes.codes c.args.desk.now.job = c.requires.code in
+    let inside = slice_get_within c.args.desk.now.codes.codes v.number v.code c.current-version.ensures.code in
     let same = ap length c.as_slice.ensures in
     omega (arith, inside, code.as_many_entries, same)
 
 pub bounds-frames-number : goal.bounds-frames-number
 bounds-frames-number g c =
     let v = c.current-version.result.now in
-    let inside = slice_get_within c.args.codes.now.codes v.number v.code c.current-version.ensures.code in
+    let inside = slice_get_within c.args.desk.now.codes.codes v.number v.code c.current-version.ensures.code in
     omega (arith, inside, c.requires.armed.as_many)
 
 pub answer-requires-clause-code : goal.answer-requires-clause-code
 unfolding IsJobCode
 answer-requires-clause-code g c =
     let v = c.current-version.result.now in
-    let job = c.args.job.now in
-    let codes : List Parts = c.args.codes.now.codes in
+    let job = c.args.desk.now.job in
+    let codes : List Parts = c.args.desk.now.codes.codes in
     let code : JobCode codes job = c.requires.code in
     let inside = slice_get_within codes v.number v.code c.current-version.ensures.code in
     let less : v.number < length job.entries = omega (arith, inside, code.as_many_entries) in
@@ -47,7 +47,7 @@ answer-requires-clause-armed g c =
 pub answer-requires-clause-fits : goal.answer-requires-clause-fits
 answer-requires-clause-fits g c =
     let v = c.current-version.result.now in
-    let codes : List Parts = c.args.codes.now.codes in
+    let codes : List Parts = c.args.desk.now.codes.codes in
     let armed = c.requires.armed.each v.number v.code c.index-frames-number.result c.current-version.ensures.code in
     let few = few_frames codes v.number v.code c.current-version.ensures.code in
     (most_frames codes, omega (arith, armed.trace_room, few), c.requires.fits)
@@ -55,4 +55,4 @@ answer-requires-clause-fits g c =
 pub returns-clause-armed : goal.returns-clause-armed
 returns-clause-armed g c =
     let v = c.current-version.result.now in
-    still_armed c.args.codes.now.codes c.args.frames.now v.number v.code c.answer.new.frame c.requires.armed c.current-version.ensures.code c.answer.ensures.armed
+    still_armed c.args.desk.now.codes.codes c.args.frames.now v.number v.code c.answer.new.frame c.requires.armed c.current-version.ensures.code c.answer.ensures.armed

@@ -1,8 +1,6 @@
 use Rattle.std.proofs.Common.{rules, ◌≡◌, ◌<◌, ◌≤◌, length, vec_capacity, List, refl, sym, ap, ◌∙◌, subst, arith}
 use Rattle.std.specs.List.{All}
 use Rattle.std.proofs.lemmas.List.Elements.{All-nil, All-push}
-use Rattle.td_stream.specs.Layouts.{AreWithin}
-use Rattle.td_posts.specs.Posts.{layout_of, all_mails}
 use Rattle.td_host_actors.specs.Acting.{AreArmed, IsInRoom, most_frames, RanWorker}
 use Rattle.td_ring.specs.Ring.{PassState}
 use Rattle.td_ring.specs.Tickets.{DrawerState}
@@ -12,7 +10,8 @@ use Rattle.td_vm.specs.Frames.{FrameView}
 use Rattle.td_swap.specs.Seats.{IsOwn}
 use Rattle.td_live.specs.Live.{HasLoaded}
 use Rattle.td_host_actors.specs.Replies.{layout_in}
-use Rattle.td_host_actors.proofs.Works.{begins, answers, ends_drawn, ends_full}
+use Rattle.td_num.proofs.Lists.{lent}
+use Rattle.td_host_actors.proofs.Works.{begins, answers, ends_drawn, ends_full, in_room}
 use Rattle.td_host_actors.proofs.worker.run_worker.Goals as goal
 
 pub loop-seat-init : goal.loop-seat-init
@@ -50,10 +49,9 @@ loop-seat-preserved g c =
     let e = c.answer_now-reply.ensures in
     let less : c.draw.result < length mails = search rules in
     let free : length l.replies.items < length mails = search rules in
-    let all : mails ≡ all_mails 1 job.guests = c.as_slice-mails.ensures.value ∙ c.requires.mails in
     let In : Reply → Type 0 = IsInRoom c.args.desk.now.codes.codes job in
-    let kept : In r = e.memory (most_frames c.args.desk.now.codes.codes) (c.requires.says c.take-post.result c.take-post.ensures.named).memory in
-    let read = subst (λ (ms : List Mail). HasLoaded (layout_in ms r) l.seat c.answer_now-reply.new.seat r.loads.list) all e.read in
+    let kept : In r = in_room (most_frames c.args.desk.now.codes.codes) job.cells job.rooms c.take-post.result.room r e.memory (c.requires.says c.take-post.result c.take-post.ensures.named).memory in
+    let read = subst (λ (ms : List Mail). HasLoaded (layout_in ms r) l.seat c.answer_now-reply.new.seat r.loads.list) c.requires.mails e.read in
     record {
       seat = e.table ∙ i.seat;
       pass = ap (λ (h : PassState). h.queue) c.take-post.ensures.pass ∙ i.pass;
@@ -66,12 +64,6 @@ loop-seat-preserved g c =
           c.draw.ensures less c.take-post.ensures.pass e.name e.answered read e.swap free c.push_reserved.ensures.items;
     }
 
-pub answer_now-reply-requires-clause-mails : goal.answer_now-reply-requires-clause-mails
-answer_now-reply-requires-clause-mails g c = c.as_slice-mails.ensures.value ∙ c.requires.mails
-
-pub answer_now-reply-requires-clause-inside : goal.answer_now-reply-requires-clause-inside
-answer_now-reply-requires-clause-inside g c = subst (All (λ (m : Mail). AreWithin c.args.desk.now.shared.count (layout_of m))) (sym c.as_slice-mails.ensures.value) c.requires.inside
-
 pub returns-clause-ran : goal.returns-clause-ran
 returns-clause-ran g c =
     let w = c.args.worker.now in
@@ -80,3 +72,20 @@ returns-clause-ran g c =
     let full : length mails ≤ length l.replies.items = search rules in
     subst (λ (ms : List Mail). RanWorker c.args.desk.now.job (length ms) w.seat l.seat w.pass l.pass w.drawer l.drawer w.swap l.swap l.replies.items) c.as_slice-mails.ensures.value
     (ends_full c.args.desk.now.job (length mails) w.seat l.seat w.pass l.pass w.drawer l.drawer w.swap l.swap l.replies.items l.invariant.done full)
+
+-- the frames, which were lent as a slice, are armed as they were
+pub returns-then-draw-count-clause-armed : goal.returns-then-draw-count-clause-armed
+returns-then-draw-count-clause-armed g c =
+    let w = c.args.worker.now in
+    let l = c.loop-seat in
+    let codes = c.args.desk.now.codes.codes in
+    let many = l.invariant.armed.as_many ∙ (sym c.requires.armed.as_many ∙ (ap (λ (fs : List FrameView). length fs) (sym c.as_mut_slice-frames.ensures.value) ∙ c.as_mut_slice-frames.ensures.len)) in
+    subst (λ (fs : List FrameView). AreArmed codes fs) (sym (lent w.frames.len l.frames w.frames.items many)) l.invariant.armed
+
+pub returns-clause-armed : goal.returns-clause-armed
+returns-clause-armed g c =
+    let w = c.args.worker.now in
+    let l = c.loop-seat in
+    let codes = c.args.desk.now.codes.codes in
+    let many = l.invariant.armed.as_many ∙ (sym c.requires.armed.as_many ∙ (ap (λ (fs : List FrameView). length fs) (sym c.as_mut_slice-frames.ensures.value) ∙ c.as_mut_slice-frames.ensures.len)) in
+    subst (λ (fs : List FrameView). AreArmed codes fs) (sym (lent w.frames.len l.frames w.frames.items many)) l.invariant.armed

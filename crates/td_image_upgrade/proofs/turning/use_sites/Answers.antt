@@ -1,7 +1,8 @@
 use Rattle.std.proofs.Common.{◌≡◌, suc, ◌+◌, List, [], length, take, get_or, sym, ap, ◌∙◌, arith, ℕ}
 use Rattle.std.proofs.Math.Seq.{take-suc}
 use Rattle.td_ir.specs.declared.instructions.Instr.{Instr}
-use Rattle.td_image_upgrade.specs.Turning.{named, with_used, used_in}
+use Rattle.td_ir.specs.Fields.{named}
+use Rattle.td_image_upgrade.specs.Turning.{with_used, used_in}
 use Rattle.td_image_upgrade.proofs.Places.{used_more}
 use Rattle.td_image_upgrade.proofs.turning.use_sites.Goals as goal
 

@@ -9,8 +9,8 @@ use Rattle.td_descr.specs.Ring.{frame_outcome}
 use Rattle.td_takes.specs.Kept.{KeptBy}
 use Rattle.td_takes.proofs.rings.desc_reply.Goals as goal
 
-pub returns-in-Some : goal.returns-in-Some
-returns-in-Some c =
+pub returns-in-Some-clause-kept : goal.returns-in-Some-clause-kept
+returns-in-Some-clause-kept c =
     let d = c.args.descr.now in
     let r = c.reply_of in
     let verdict : d.last.verdict ≡ Some c.in-Some.verdict = sym (ap (λ (x : Look). x.verdict) c.last-last.ensures) ∙ c.in-Some.is in
@@ -19,7 +19,7 @@ returns-in-Some c =
       refl,
       record {
         guest = r.ensures.guest;
-        number = r.ensures.version;
+        version = r.ensures.version;
         layout = r.ensures.layout;
         outcome =
             r.ensures.outcome
@@ -28,3 +28,8 @@ returns-in-Some c =
         loads = ap (λ (x : LoadsView). x.list) r.ensures.loads ∙ (c.put.ensures.list ∙ (ap (λ (l : List Load). l ++ c.last-last.result.now.loads) c.requires.room.0.empty ∙ ap (λ (x : Look). x.loads) c.last-last.ensures));
       },
     )
+
+pub returns-in-Some-clause-memory : goal.returns-in-Some-clause-memory
+returns-in-Some-clause-memory c =
+    let m = c.reply_of.ensures.memory in
+    record { trace = m.trace; cells = m.cells; buffers = m.buffers; rooms = m.rooms }

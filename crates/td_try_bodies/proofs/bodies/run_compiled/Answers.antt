@@ -3,11 +3,9 @@ use Rattle.td_stream.specs.declared.stretch.Stretch.{Stretch}
 use Rattle.std.proofs.lemmas.Result.{IfOk-weaker}
 use Rattle.td_run.specs.Runs.{IsRunBy}
 use Rattle.td_try_bodies.specs.Meant.{IsJobMeant}
-use Rattle.td_stream.specs.Layouts.{laid}
-use Rattle.td_stream.specs.Loads.{Inside}
 use Rattle.td_code.proofs.Means.{lowerable}
 use Rattle.td_report_facts.proofs.Words.{ends_with, over_with}
-use Rattle.td_try_bodies.proofs.Jobs.{job_fits, input_by, run_is_meant, run_is_inside}
+use Rattle.td_try_bodies.proofs.Jobs.{job_fits, input_by, run_is_meant}
 use Rattle.td_try_bodies.proofs.bodies.run_compiled.Goals as goal
 
 pub lower-requires : goal.lower-requires
@@ -25,8 +23,8 @@ pub run_planned-requires-clause-over : goal.run_planned-requires-clause-over
 run_planned-requires-clause-over c =
     over_with c.args.job.now (option_map (λ l. l.now) c.as_ref-layout.result) c.as_slice-words.result.now c.as_ref-layout.ensures.value c.as_slice-words.ensures c.requires.room
 
-pub returns-clause-meant : goal.returns-clause-meant
-returns-clause-meant c =
+pub returns : goal.returns
+returns c =
     let code = c.in_ok-code.code in
     let job = c.args.job.now in
     let args = c.as_slice-args.result.now in
@@ -40,19 +38,4 @@ returns-clause-meant c =
     (λ run h.
     run_is_meant code c.args.m.now job run.outcome run.loads.list args cells words stores layout c.in_ok-code.ensures.code c.requires.sound c.requires.room
     c.as_slice-args.ensures c.as_slice-cells.ensures c.as_ref-layout.ensures.value h)
-    c.run_planned.ensures
-
-pub returns-clause-inside : goal.returns-clause-inside
-returns-clause-inside c =
-    let code = c.in_ok-code.code in
-    let job = c.args.job.now in
-    let args = c.as_slice-args.result.now in
-    let cells = c.as_slice-cells.result.now in
-    let words = c.as_slice-words.result.now in
-    let stores = c.as_slice-stores.result.now in
-    let layout : Option (List Stretch) = option_map (λ l. l.now) c.as_ref-layout.result in
-    IfOk-weaker c.run_planned.result
-    (λ run. IsRunBy code (input_by job args cells words stores layout) run.outcome run.loads.list)
-    (λ run. Inside (laid job.length job.layout) run.loads.list)
-    (λ run h. run_is_inside code job run.outcome run.loads.list args cells words stores layout c.as_ref-layout.ensures.value h)
     c.run_planned.ensures

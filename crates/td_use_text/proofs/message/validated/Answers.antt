@@ -32,10 +32,10 @@ returns-clause-run c =
     let carrying = carried message words c.count.result opened done.new.words loads planned (c.in_ok-planned.ensures.opening ∙ c.as_slice.ensures) c.in_ok-planned.ensures.stores c.in_ok-planned.ensures.layout done.ensures.loads
     c.in_ok-words.ensures.ok enough (c.plain_carries.ensures (length message) message loads) in
     record {
-      rising = done.ensures.rising;
+      rising = done.ensures.validated.rising;
       carried = carrying;
       meant = means c.args.compiled.now.code c.args.compiled.now.module c.args.entry (length message) loads c.args.cells.now c.set_cells.new.self.cells c.plain-layout.result
           (outcome_in done.new.frame (buffers_of c.args.compiled.now.code c.args.entry) done.result)
-          c.set_cells.ensures.cells c.plain-layout.ensures.layout c.requires.short c.requires.means c.requires.entry c.requires.begins done.ensures.run
+          c.set_cells.ensures.cells c.plain-layout.ensures.layout c.requires.short c.requires.means c.requires.entry c.requires.begins done.ensures.validated
           message (λ i. omega (arith, c.type_inv.message i)) carrying;
     }

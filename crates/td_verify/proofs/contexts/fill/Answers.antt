@@ -1,10 +1,10 @@
-use Rattle.std.proofs.Common.{◌≡◌, ℕ, ◌+◌, ◌<◌, length, ⊎_elim, List, slice_set, refl, sym, ap, subst, ◌∙◌, arith, add-one, length-set}
+use Rattle.std.proofs.Common.{◌≡◌, ℕ, ◌+◌, ◌<◌, length, ⊎_elim, List, slice_set, sym, ap, subst, ◌∙◌, arith, length-set}
 use Rattle.std.proofs.lemmas.List.{get_or-set_same, get_or-set_other}
 use Rattle.std.proofs.lemmas.Bool.{cases_eq}
 use Rattle.td_verify.specs.declared.shape.Shape.{Shape}
 use Rattle.td_verify.specs.declared.bracket.Innermost.{Innermost}
 use Rattle.td_verify.specs.declared.bracket.Innermost.TheVariants.{Broken}
-use Rattle.td_verify.specs.Brackets.{shape_at, opened, and_then, innermost}
+use Rattle.td_verify.specs.Brackets.{opened, and_then, innermost}
 use Rattle.td_verify.specs.Contexts.{innermost_at, AreContexts}
 use Rattle.td_verify.proofs.Chain.{outer_is}
 use Rattle.td_verify.proofs.contexts.fill.Goals as goal

@@ -9,14 +9,13 @@ use Rattle.td_ir.proofs.Begins.{begin_up}
 use Rattle.td_verify.specs.Shape.{shape}
 use Rattle.td_stream.specs.StreamInvariant.{position, end_of}
 use Rattle.td_vm_step.specs.Stepping.{Ends}
-use Rattle.td_stream.specs.Copies.{rooms_of}
 use Rattle.td_stream.proofs.Stages.{later_trans, later_self}
-use Rattle.td_vm_step.proofs.Stretches.{lent_self, hold_on, ran_self}
+use Rattle.td_vm_step.proofs.Stretches.{hold_on, ran_self}
 use Rattle.td_vm.specs.Exits.{exit_by}
 use Rattle.td_vm.proofs.Stretches.{ran_step, after_once, after_none}
 use Rattle.td_vm.proofs.Shapes.{shape_here}
 use Rattle.td_vm.proofs.Keeps.{fine_at, goes_on}
-use Rattle.td_vm.proofs.Turns.{room_kept, one_frame, loop_whole, return_outside, in_code, callee_at, spare_same}
+use Rattle.td_vm.proofs.Turns.{room_stepped, same_stepped, same_self, same_on, one_frame, loop_whole, return_outside, in_code, callee_at, spare_same}
 use Rattle.td_vm.proofs.machine.+machine.Answers.Calls as calls
 use Rattle.td_vm.proofs.machine.+machine.Answers.Steps as steps
 use Rattle.td_vm.proofs.machine.+machine.Answers.Turns as turns
@@ -26,8 +25,7 @@ pub run_block-steps-init : goal.run_block-steps-init
 run_block-steps-init g t c =
     record {
       room = c.requires.room;
-      lent = lent_self c.args.slate.now;
-      rooms = refl;
+      lent = same_self c.args.output.now;
       held = λ b h k. k;
       kept = spare_same c.args.spare.now;
       place = c.requires.stretch.place;
@@ -37,8 +35,6 @@ run_block-steps-init g t c =
       whole = c.requires.whole;
       window = c.requires.window;
       outer = omega arith;
-      frames = refl;
-      memory = refl;
       kind = refl;
       fixed = λ h. refl;
       end = λ h. refl;
@@ -50,7 +46,7 @@ run_block-steps-init g t c =
 pub run_block-step-requires-clause-fine : goal.run_block-step-requires-clause-fine
 run_block-step-requires-clause-fine g t c =
     let i = c.steps.invariant in
-    fine_at c.args.level.now.env.parts.now c.args.level.now.n c.steps.pc _ c.instruction_at-instruction.result.now i.room.runnable.safe i.place c.instruction_at-instruction.ensures.is i.room.register_count
+    fine_at c.args.stretch.now.level.now.code.parts.now c.args.stretch.now.level.now.n c.steps.pc _ c.instruction_at-instruction.result.now i.room.runnable.safe i.place c.instruction_at-instruction.ensures.is i.room.register_count
 
 pub run_block-steps-preserved-in-Goes : goal.run_block-steps-preserved-in-Goes
 run_block-steps-preserved-in-Goes = steps.run_block-steps-preserved-in-Goes
@@ -59,7 +55,7 @@ pub run_turns-turns-init : goal.run_turns-turns-init
 run_turns-turns-init = turns.run_turns-turns-init
 
 pub run_block-instruction_at-instruction-requires : goal.run_block-instruction_at-instruction-requires
-run_block-instruction_at-instruction-requires g t c = in_code c.args.level.now.env.parts.now c.args.level.now.n c.steps.pc c.steps.invariant.room.runnable c.steps.invariant.place
+run_block-instruction_at-instruction-requires g t c = in_code c.args.stretch.now.level.now.code.parts.now c.args.stretch.now.level.now.n c.steps.pc c.steps.invariant.room.runnable c.steps.invariant.place
 
 pub run_block-step-requires-clause-next : goal.run_block-step-requires-clause-next
 run_block-step-requires-clause-next g t c = omega (arith, c.steps.invariant.under, c.well_formed)
@@ -68,35 +64,35 @@ pub run_block-steps-smaller-in-Goes : goal.run_block-steps-smaller-in-Goes
 run_block-steps-smaller-in-Goes g t c =
     let i = c.steps.invariant in
     let e = c.in-Goes.ensures in
-    let C = c.args.level.now.env.parts.now in
+    let C = c.args.stretch.now.level.now.code.parts.now in
     let at = shape_here C c.steps.pc c.instruction_at-instruction.result.now c.instruction_at-instruction.ensures.is in
-    let o = goes_on C c.args.level.now.n c.steps.pc c.in-Goes.target (shape c.instruction_at-instruction.result.now) i.room.runnable.safe i.place at e.leads.1 in
+    let o = goes_on C c.args.stretch.now.level.now.n c.steps.pc c.in-Goes.target (shape c.instruction_at-instruction.result.now) i.room.runnable.safe i.place at e.leads.1 in
     omega (arith, o.0, i.under)
 
 pub run_block-returns-in-Fails-clause-same : goal.run_block-returns-in-Fails-clause-same
 run_block-returns-in-Fails-clause-same g t c =
     let i = c.steps.invariant in
     let e = c.in-Fails.ensures in
-    let C = c.args.level.now.env.parts.now in
+    let C = c.args.stretch.now.level.now.code.parts.now in
     let I = c.instruction_at-instruction.result.now in
     ran_step c.args.stream.now c.steps.stream c.step.new.stream c.args.steps.now c.steps.steps c.tick.new.self c.step.new.steps _ _ _ i.later e.later i.same e.same c.tick.ensures (λ b x y j k p r.
-    p ∙ ap (after x j) (c.laws.ensures.fails C b c.args.level.now.places.now c.args.level.now.n c.steps.pc c.in-Fails.reason c.in-Fails.site c.in-Fails.pos _ _ y (1 + k) (record { instruction = I; there = c.instruction_at-instruction.ensures.there; within = i.place.to; is = r }) ∙ after_once y (1 + k) _)
-    ∙ ap (λ f. exit_by (ir.Failed c.in-Fails.reason c.in-Fails.pos f c.step.new.slate.cells.now) (x ++ y) (j + (1 + k))) (one_frame c.steps.trace c.push_frame.new.trace _ i.room.trace c.push_frame.ensures.frames))
+    p ∙ ap (after x j) (c.laws.ensures.fails C b c.args.stretch.now.level.now.places.now c.args.stretch.now.level.now.n c.steps.pc c.in-Fails.reason c.in-Fails.site c.in-Fails.pos _ _ y (1 + k) (record { instruction = I; there = c.instruction_at-instruction.ensures.there; within = i.place.to; is = r }) ∙ after_once y (1 + k) _)
+    ∙ ap (λ f. exit_by (ir.Failed c.in-Fails.reason c.in-Fails.pos f c.step.new.slate.cells.now) (x ++ y) (j + (1 + k))) (one_frame c.steps.output.trace.now c.push_frame.new.trace _ i.room.trace c.push_frame.ensures.frames))
 
 pub run_block-returns-in-Returns-clause-outside : goal.run_block-returns-in-Returns-clause-outside
 run_block-returns-in-Returns-clause-outside g t c =
     let i = c.steps.invariant in
     let e = c.in-Returns.ensures in
-    let C = c.args.level.now.env.parts.now in
+    let C = c.args.stretch.now.level.now.code.parts.now in
     let I = c.instruction_at-instruction.result.now in
     let at = shape_here C c.steps.pc I c.instruction_at-instruction.ensures.is in
-    sym i.kind ∙ return_outside C c.args.level.now.n c.steps.pc i.room.runnable.safe i.place (at ∙ ap shape e.leads)
+    sym i.kind ∙ return_outside C c.args.stretch.now.level.now.n c.steps.pc i.room.runnable.safe i.place (at ∙ ap shape e.leads)
 
 pub run_block-returns-in-Returns-clause-idle_return : goal.run_block-returns-in-Returns-clause-idle_return
 run_block-returns-in-Returns-clause-idle_return g t c = λ z.
     let i = c.steps.invariant in
     let e = c.in-Returns.ensures in
-    let C = c.args.level.now.env.parts.now in
+    let C = c.args.stretch.now.level.now.code.parts.now in
     let I = c.instruction_at-instruction.result.now in
     let at = shape_here C c.steps.pc I c.instruction_at-instruction.ensures.is in
     record { at = c.steps.pc; within = i.place; is = at ∙ ap shape e.leads; way = i.idle (omega (arith, z, i.later.pos, e.later.pos)) }
@@ -105,36 +101,36 @@ pub run_block-returns-in-Returns-clause-same : goal.run_block-returns-in-Returns
 run_block-returns-in-Returns-clause-same g t c =
     let i = c.steps.invariant in
     let e = c.in-Returns.ensures in
-    let C = c.args.level.now.env.parts.now in
+    let C = c.args.stretch.now.level.now.code.parts.now in
     ran_step c.args.stream.now c.steps.stream c.step.new.stream c.args.steps.now c.steps.steps c.tick.new.self c.step.new.steps _ _ _ i.later e.later i.same e.same c.tick.ensures (λ b x y j k p r.
-    p ∙ ap (after x j) (c.laws.ensures.returns C b c.args.level.now.places.now c.args.level.now.n c.steps.pc _ _ y (1 + k) (record { instruction = c.instruction_at-instruction.result.now; there = c.instruction_at-instruction.ensures.there; within = i.place.to; is = r }) ∙ after_once y (1 + k) _))
+    p ∙ ap (after x j) (c.laws.ensures.returns C b c.args.stretch.now.level.now.places.now c.args.stretch.now.level.now.n c.steps.pc _ _ y (1 + k) (record { instruction = c.instruction_at-instruction.result.now; there = c.instruction_at-instruction.ensures.there; within = i.place.to; is = r }) ∙ after_once y (1 + k) _))
 
 pub run_block-returns-in-Turns-clause-inside : goal.run_block-returns-in-Turns-clause-inside
 run_block-returns-in-Turns-clause-inside g t c =
     let i = c.steps.invariant in
     let e = c.in-Turns.ensures in
-    let C = c.args.level.now.env.parts.now in
+    let C = c.args.stretch.now.level.now.code.parts.now in
     let at = shape_here C c.steps.pc c.instruction_at-instruction.result.now c.instruction_at-instruction.ensures.is in
-    sym i.kind ∙ i.room.runnable.safe.loops.again c.args.level.now.n c.steps.pc c.in-Turns.field-0 i.place (at ∙ ap shape e.leads)
+    sym i.kind ∙ i.room.runnable.safe.loops.again c.args.stretch.now.level.now.n c.steps.pc c.in-Turns.field-0 i.place (at ∙ ap shape e.leads)
 
 pub run_block-returns-in-Turns-clause-idle_turn : goal.run_block-returns-in-Turns-clause-idle_turn
 run_block-returns-in-Turns-clause-idle_turn g t c = λ z.
     let i = c.steps.invariant in
     let e = c.in-Turns.ensures in
-    let C = c.args.level.now.env.parts.now in
+    let C = c.args.stretch.now.level.now.code.parts.now in
     let at = shape_here C c.steps.pc c.instruction_at-instruction.result.now c.instruction_at-instruction.ensures.is in
     let is = at ∙ ap shape e.leads in
-    let inside = sym i.kind ∙ i.room.runnable.safe.loops.again c.args.level.now.n c.steps.pc c.in-Turns.field-0 i.place is in
+    let inside = sym i.kind ∙ i.room.runnable.safe.loops.again c.args.stretch.now.level.now.n c.steps.pc c.in-Turns.field-0 i.place is in
     record { at = c.steps.pc; start = c.in-Turns.field-0; within = i.place; is = is; same = i.fixed inside; way = i.idle (omega (arith, z, i.later.pos, e.later.pos)) }
 
 pub run_block-returns-in-Turns-clause-end : goal.run_block-returns-in-Turns-clause-end
 run_block-returns-in-Turns-clause-end g t c =
     let i = c.steps.invariant in
     let e = c.in-Turns.ensures in
-    let C = c.args.level.now.env.parts.now in
+    let C = c.args.stretch.now.level.now.code.parts.now in
     let at = shape_here C c.steps.pc c.instruction_at-instruction.result.now c.instruction_at-instruction.ensures.is in
     let is = at ∙ ap shape e.leads in
-    let inside = sym i.kind ∙ i.room.runnable.safe.loops.again c.args.level.now.n c.steps.pc c.in-Turns.field-0 i.place is in
+    let inside = sym i.kind ∙ i.room.runnable.safe.loops.again c.args.stretch.now.level.now.n c.steps.pc c.in-Turns.field-0 i.place is in
     let end : end_of c.step.new.stream ≡ end_of c.steps.stream = subst (λ x. Ends (shape x) (position c.steps.stream) (end_of c.steps.stream) (end_of c.step.new.stream)) e.leads e.end in
     end ∙ i.end inside
 
@@ -142,9 +138,9 @@ pub run_block-returns-in-Turns-clause-same : goal.run_block-returns-in-Turns-cla
 run_block-returns-in-Turns-clause-same g t c =
     let i = c.steps.invariant in
     let e = c.in-Turns.ensures in
-    let C = c.args.level.now.env.parts.now in
+    let C = c.args.stretch.now.level.now.code.parts.now in
     ran_step c.args.stream.now c.steps.stream c.step.new.stream c.args.steps.now c.steps.steps c.tick.new.self c.step.new.steps _ _ _ i.later e.later i.same e.same c.tick.ensures (λ b x y j k p r.
-    p ∙ ap (after x j) (c.laws.ensures.turns C b c.args.level.now.places.now c.args.level.now.n c.steps.pc _ _ y (1 + k) (record { instruction = c.instruction_at-instruction.result.now; there = c.instruction_at-instruction.ensures.there; within = i.place.to; is = r }) ∙ after_once y (1 + k) _))
+    p ∙ ap (after x j) (c.laws.ensures.turns C b c.args.stretch.now.level.now.places.now c.args.stretch.now.level.now.n c.steps.pc _ _ y (1 + k) (record { instruction = c.instruction_at-instruction.result.now; there = c.instruction_at-instruction.ensures.there; within = i.place.to; is = r }) ∙ after_once y (1 + k) _))
 
 pub call-split_at_mut-mine-requires : goal.call-split_at_mut-mine-requires
 call-split_at_mut-mine-requires = calls.call-split_at_mut-mine-requires
@@ -152,8 +148,8 @@ call-split_at_mut-mine-requires = calls.call-split_at_mut-mine-requires
 pub call-split_at_mut-mine_places-requires : goal.call-split_at_mut-mine_places-requires
 call-split_at_mut-mine_places-requires = calls.call-split_at_mut-mine_places-requires
 
-pub call-run_block-left-requires : goal.call-run_block-left-requires
-call-run_block-left-requires = calls.call-run_block-left-requires
+pub call-run_block-exit-requires : goal.call-run_block-exit-requires
+call-run_block-exit-requires = calls.call-run_block-exit-requires
 
 pub call-returns-clause-traced : goal.call-returns-clause-traced
 call-returns-clause-traced = calls.call-returns-clause-traced
@@ -168,10 +164,10 @@ pub run_block-call-requires : goal.run_block-call-requires
 run_block-call-requires g t c =
     let i = c.steps.invariant in
     let e = c.in-Calls.ensures in
-    let C = c.args.level.now.env.parts.now in
-    let n = c.args.level.now.n in
+    let C = c.args.stretch.now.level.now.code.parts.now in
+    let n = c.args.stretch.now.level.now.n in
     let d = callee_at C n c.steps.pc c.in-Calls.from c.in-Calls.routine c.in-Calls.map c.in-Calls.site c.instruction_at-instruction.result.now i.room.runnable.safe i.place c.instruction_at-instruction.ensures.is e.leads in
-    let room = room_kept c.args.level.now.env n c.args.level.now.first c.args.level.now.places.now c.steps.spare.places.now c.steps.spare.places.now c.steps.regs c.step.new.regs c.steps.spare.registers.now c.steps.spare.registers.now c.steps.slate.cells.now c.step.new.slate.cells.now (rooms_of c.steps.slate.copies.now) (rooms_of c.step.new.slate.copies.now) c.steps.trace c.steps.trace i.room refl c.step.auto.regs refl e.lent.cells e.rooms i.room.trace refl in
+    let room = room_stepped c.args.stretch.now.level.now c.steps.spare c.steps.regs c.step.new.regs c.steps.output c.step.new.slate i.room c.step.auto.regs e.lent e.rooms in
     let up = begin_up (lengths_of C) (suc c.in-Calls.routine) n (omega (arith, d.lower)) in
     λ κs h. (omega (arith, c.decreases, up, c.requires.stretch.place.from, c.requires.stretch.place.to), (h.0, (h.1.0, (h.1.1, (room, (d, e.whole))))))
 
@@ -189,18 +185,18 @@ pub run_block-run_turns-requires : goal.run_block-run_turns-requires
 run_block-run_turns-requires g t c =
     let i = c.steps.invariant in
     let e = c.in-Loops.ensures in
-    let C = c.args.level.now.env.parts.now in
-    let n = c.args.level.now.n in
+    let C = c.args.stretch.now.level.now.code.parts.now in
+    let n = c.args.stretch.now.level.now.n in
     let at = shape_here C c.steps.pc c.instruction_at-instruction.result.now c.instruction_at-instruction.ensures.is in
-    let room = room_kept c.args.level.now.env n c.args.level.now.first c.args.level.now.places.now c.steps.spare.places.now c.steps.spare.places.now c.steps.regs c.step.new.regs c.steps.spare.registers.now c.steps.spare.registers.now c.steps.slate.cells.now c.step.new.slate.cells.now (rooms_of c.steps.slate.copies.now) (rooms_of c.step.new.slate.copies.now) c.steps.trace c.steps.trace i.room refl c.step.auto.regs refl e.lent.cells e.rooms i.room.trace refl in
+    let room = room_stepped c.args.stretch.now.level.now c.steps.spare c.steps.regs c.step.new.regs c.steps.output c.step.new.slate i.room c.step.auto.regs e.lent e.rooms in
     λ κs h. (omega (arith, c.decreases, i.on, i.place.to, i.place.from), (h.0, (h.1.0, (h.1.1, (room, (i.place, (at ∙ ap shape e.leads, (e.whole, e.window))))))))
 
 pub run_block-steps-smaller : goal.run_block-steps-smaller
 run_block-steps-smaller g t c =
     let i = c.steps.invariant in
-    let C = c.args.level.now.env.parts.now in
+    let C = c.args.stretch.now.level.now.code.parts.now in
     let at = shape_here C c.steps.pc c.instruction_at-instruction.result.now c.instruction_at-instruction.ensures.is in
-    let w = loop_whole C c.args.level.now.n c.steps.pc c.in-Loops.target i.room.runnable i.place (at ∙ ap shape c.in-Loops.ensures.leads) in
+    let w = loop_whole C c.args.stretch.now.level.now.n c.steps.pc c.in-Loops.target i.room.runnable i.place (at ∙ ap shape c.in-Loops.ensures.leads) in
     omega (arith, w.body, i.under)
 
 pub run_block-steps-preserved : goal.run_block-steps-preserved
@@ -243,8 +239,8 @@ run_block-returns-in-Returns-clause-later g t c = later_trans g.met.W.Words.reac
 pub run_block-returns-in-Turns-clause-later : goal.run_block-returns-in-Turns-clause-later
 run_block-returns-in-Turns-clause-later g t c = later_trans g.met.W.Words.reaches_on c.args.stream.now c.steps.stream c.step.new.stream c.steps.invariant.later c.in-Turns.ensures.later
 
-pub run_turns-overflow_add-stretch : goal.run_turns-overflow_add-stretch
-run_turns-overflow_add-stretch = turns.run_turns-overflow_add-stretch
+pub run_turns-overflow_add-first : goal.run_turns-overflow_add-first
+run_turns-overflow_add-first = turns.run_turns-overflow_add-first
 
 pub call-set_registers-requires : goal.call-set_registers-requires
 call-set_registers-requires = calls.call-set_registers-requires
@@ -258,23 +254,76 @@ call-returns-clause-no_turn = calls.call-returns-clause-no_turn
 pub call-returns-clause-kept : goal.call-returns-clause-kept
 call-returns-clause-kept = calls.call-returns-clause-kept
 
+pub run_block-returns-in-Fails-clause-lent : goal.run_block-returns-in-Fails-clause-lent
+run_block-returns-in-Fails-clause-lent g t c =
+    let i = c.steps.invariant in
+    let e = c.in-Fails.ensures in
+    record {
+      same_cells = e.lent.same_cells ∙ i.lent.same_cells;
+      same_copies = e.lent.same_copies ∙ i.lent.same_copies;
+      same_trace = i.lent.same_trace;
+      cells = e.lent.cells ∙ i.lent.cells;
+      copies = e.lent.copies ∙ i.lent.copies;
+      rooms = e.rooms ∙ i.lent.rooms;
+      frames = c.push_frame.ensures.kept ∙ i.lent.frames;
+      memory = c.push_frame.ensures.memory ∙ i.lent.memory;
+    }
+
+pub run_block-returns-in-Returns-clause-lent : goal.run_block-returns-in-Returns-clause-lent
+run_block-returns-in-Returns-clause-lent g t c =
+    let i = c.steps.invariant in
+    let e = c.in-Returns.ensures in
+    same_on _ _ _ i.lent (same_stepped c.steps.output c.step.new.slate e.lent e.rooms)
+
+pub run_block-returns-in-Turns-clause-lent : goal.run_block-returns-in-Turns-clause-lent
+run_block-returns-in-Turns-clause-lent g t c =
+    let i = c.steps.invariant in
+    let e = c.in-Turns.ensures in
+    same_on _ _ _ i.lent (same_stepped c.steps.output c.step.new.slate e.lent e.rooms)
+
+pub run_block-returns-in-Failed-clause-lent : goal.run_block-returns-in-Failed-clause-lent
+run_block-returns-in-Failed-clause-lent g t c =
+    let i = c.steps.invariant in
+    let e = c.in-Calls.ensures in
+    let f = c.in-Failed.ensures in
+    record {
+      same_cells = f.lent.same_cells ∙ e.lent.same_cells ∙ i.lent.same_cells;
+      same_copies = f.lent.same_copies ∙ e.lent.same_copies ∙ i.lent.same_copies;
+      same_trace = f.lent.same_trace ∙ i.lent.same_trace;
+      cells = f.lent.cells ∙ e.lent.cells ∙ i.lent.cells;
+      copies = f.lent.copies ∙ e.lent.copies ∙ i.lent.copies;
+      rooms = f.lent.rooms ∙ e.rooms ∙ i.lent.rooms;
+      frames = c.push_frame-in-Failed.ensures.kept ∙ f.lent.frames ∙ i.lent.frames;
+      memory = c.push_frame-in-Failed.ensures.memory ∙ f.lent.memory ∙ i.lent.memory;
+    }
+
+pub run_block-returns-in-Failed-run_turns-clause-lent : goal.run_block-returns-in-Failed-run_turns-clause-lent
+run_block-returns-in-Failed-run_turns-clause-lent g t c =
+    let i = c.steps.invariant in
+    let e = c.in-Loops.ensures in
+    let f = c.in-Failed-run_turns.ensures in
+    same_on _ _ _ i.lent (same_on _ _ _ (same_stepped c.steps.output c.step.new.slate e.lent e.rooms) f.lent)
+
+pub run_turns-returns-in-Failed-clause-lent : goal.run_turns-returns-in-Failed-clause-lent
+run_turns-returns-in-Failed-clause-lent g t c = same_on _ _ _ c.turns.invariant.lent c.in-Failed.ensures.lent
+
 pub run_block-returns-in-Fails-clause-held : goal.run_block-returns-in-Fails-clause-held
 run_block-returns-in-Fails-clause-held g t c =
     let i = c.steps.invariant in
     let e = c.in-Fails.ensures in
-    hold_on c.args.stream.now c.steps.stream c.step.new.stream c.args.level.now.first c.args.slate.now.cells.now c.steps.slate.cells.now c.step.new.slate.cells.now c.args.slate.now.copies.now c.steps.slate.copies.now c.step.new.slate.copies.now i.later e.later i.held e.held
+    hold_on c.args.stream.now c.steps.stream c.step.new.stream c.args.stretch.now.level.now.first c.args.output.now.slate c.steps.output.slate c.step.new.slate i.later e.later i.held e.held
 
 pub run_block-returns-in-Returns-clause-held : goal.run_block-returns-in-Returns-clause-held
 run_block-returns-in-Returns-clause-held g t c =
     let i = c.steps.invariant in
     let e = c.in-Returns.ensures in
-    hold_on c.args.stream.now c.steps.stream c.step.new.stream c.args.level.now.first c.args.slate.now.cells.now c.steps.slate.cells.now c.step.new.slate.cells.now c.args.slate.now.copies.now c.steps.slate.copies.now c.step.new.slate.copies.now i.later e.later i.held e.held
+    hold_on c.args.stream.now c.steps.stream c.step.new.stream c.args.stretch.now.level.now.first c.args.output.now.slate c.steps.output.slate c.step.new.slate i.later e.later i.held e.held
 
 pub run_block-returns-in-Turns-clause-held : goal.run_block-returns-in-Turns-clause-held
 run_block-returns-in-Turns-clause-held g t c =
     let i = c.steps.invariant in
     let e = c.in-Turns.ensures in
-    hold_on c.args.stream.now c.steps.stream c.step.new.stream c.args.level.now.first c.args.slate.now.cells.now c.steps.slate.cells.now c.step.new.slate.cells.now c.args.slate.now.copies.now c.steps.slate.copies.now c.step.new.slate.copies.now i.later e.later i.held e.held
+    hold_on c.args.stream.now c.steps.stream c.step.new.stream c.args.stretch.now.level.now.first c.args.output.now.slate c.steps.output.slate c.step.new.slate i.later e.later i.held e.held
 
 pub run_block-returns-in-Failed-clause-held : goal.run_block-returns-in-Failed-clause-held
 run_block-returns-in-Failed-clause-held g t c =
@@ -284,9 +333,9 @@ run_block-returns-in-Failed-clause-held g t c =
     let s0 = c.args.stream.now in
     let s = c.steps.stream in
     let u = c.step.new.stream in
-    hold_on s0 u c.call.new.stream c.args.level.now.first c.args.slate.now.cells.now c.step.new.slate.cells.now c.call.new.slate.cells.now c.args.slate.now.copies.now c.step.new.slate.copies.now c.call.new.slate.copies.now
+    hold_on s0 u c.call.new.stream c.args.stretch.now.level.now.first c.args.output.now.slate c.step.new.slate c.call.new.output.slate
     (later_trans g.met.W.Words.reaches_on s0 s u i.later e.later) f.later
-    (hold_on s0 s u c.args.level.now.first c.args.slate.now.cells.now c.steps.slate.cells.now c.step.new.slate.cells.now c.args.slate.now.copies.now c.steps.slate.copies.now c.step.new.slate.copies.now i.later e.later i.held e.held) f.held
+    (hold_on s0 s u c.args.stretch.now.level.now.first c.args.output.now.slate c.steps.output.slate c.step.new.slate i.later e.later i.held e.held) f.held
 
 pub run_block-returns-in-Failed-run_turns-clause-held : goal.run_block-returns-in-Failed-run_turns-clause-held
 run_block-returns-in-Failed-run_turns-clause-held g t c =
@@ -296,9 +345,9 @@ run_block-returns-in-Failed-run_turns-clause-held g t c =
     let s0 = c.args.stream.now in
     let s = c.steps.stream in
     let u = c.step.new.stream in
-    hold_on s0 u c.run_turns.new.stream c.args.level.now.first c.args.slate.now.cells.now c.step.new.slate.cells.now c.run_turns.new.slate.cells.now c.args.slate.now.copies.now c.step.new.slate.copies.now c.run_turns.new.slate.copies.now
+    hold_on s0 u c.run_turns.new.stream c.args.stretch.now.level.now.first c.args.output.now.slate c.step.new.slate c.run_turns.new.output.slate
     (later_trans g.met.W.Words.reaches_on s0 s u i.later e.later) f.later
-    (hold_on s0 s u c.args.level.now.first c.args.slate.now.cells.now c.steps.slate.cells.now c.step.new.slate.cells.now c.args.slate.now.copies.now c.steps.slate.copies.now c.step.new.slate.copies.now i.later e.later i.held e.held) f.held
+    (hold_on s0 s u c.args.stretch.now.level.now.first c.args.output.now.slate c.steps.output.slate c.step.new.slate i.later e.later i.held e.held) f.held
 
 pub run_turns-returns-in-Failed-clause-held : goal.run_turns-returns-in-Failed-clause-held
 run_turns-returns-in-Failed-clause-held = turns.run_turns-returns-in-Failed-clause-held

@@ -1,4 +1,4 @@
-use Rattle.std.proofs.Common.{◌≡◌, ℕ, suc, ◌+◌, ◌-◌, ◌*◌, ◌<◌, ◌≤◌, length, true, vec_capacity}
+use Rattle.std.proofs.Common.{◌≡◌, ℕ, suc, ◌+◌, ◌-◌, ◌*◌, ◌<◌, ◌≤◌, length, true}
 use Rattle.td_ir.specs.Tables.{first_of, end_of as end_at}
 use Rattle.td_ir.specs.State.{State, Exit, after}
 use Rattle.td_ir.specs.Run.{turns, block}
@@ -7,42 +7,38 @@ use Rattle.td_verify.specs.Brackets.{opened, window_bytes}
 use Rattle.td_verify.specs.Verify.{IsIn}
 use Rattle.td_verify.specs.Safe.{looped}
 use Rattle.td_stream.specs.StreamInvariant.{IsStream, Later, position, end_of}
-use Rattle.td_stream.specs.Copies.{rooms_of}
-use Rattle.td_vm_step.specs.Stepping.{state_of, Ran, InWindow, IsLent, Hold}
-use Rattle.td_vm.specs.Machine.{Idle, HasRoom, IsKept}
+use Rattle.td_vm_step.specs.Stepping.{state_of, Ran, InWindow, Hold}
+use Rattle.td_vm.specs.Machine.{Idle, HasRoom, IsKept, SameRoom}
 use Rattle.td_vm.proofs.machine.+machine.Given as goal
 
 abbrev pub decreases-run_block : goal.decreases-run_block
-decreases-run_block g l = 2 * (first_of l.level.now.env.parts.now l.level.now.n + (end_at l.level.now.env.parts.now l.level.now.n - l.stretch.first))
+decreases-run_block g l = 2 * (first_of l.stretch.now.level.now.code.parts.now l.stretch.now.level.now.n + (end_at l.stretch.now.level.now.code.parts.now l.stretch.now.level.now.n - l.stretch.now.first))
 
 abbrev pub decreases-call : goal.decreases-call
-decreases-call g l = 2 * end_at l.level.now.env.parts.now l.callee.routine + 1
+decreases-call g l = 2 * end_at l.level.now.code.parts.now l.callee.routine + 1
 
 abbrev pub decreases-run_turns : goal.decreases-run_turns
-decreases-run_turns g l = 2 * (first_of l.level.now.env.parts.now l.level.now.n + (end_at l.level.now.env.parts.now l.level.now.n - l.stretch.first)) - 1
+decreases-run_turns g l = 2 * (first_of l.stretch.now.level.now.code.parts.now l.stretch.now.level.now.n + (end_at l.stretch.now.level.now.code.parts.now l.stretch.now.level.now.n - l.stretch.now.first)) - 1
 
 abbrev pub invariant-run_block-steps : goal.invariant-run_block-steps
 invariant-run_block-steps g l = record {
-  room : HasRoom l.level.env l.level.n l.level.first l.level.places.now l.spare.places.now l.regs l.spare.registers.now l.slate.cells.now (rooms_of l.slate.copies.now) l.trace;
-  lent : IsLent l.fn.slate l.slate;
-  rooms : rooms_of l.slate.copies.now ≡ rooms_of l.fn.slate.copies.now;
-  held : Hold g.W.Words.loads l.fn.stream l.stream l.level.first l.fn.slate.cells.now l.slate.cells.now l.fn.slate.copies.now l.slate.copies.now;
+  room : HasRoom l.stretch.level.now l.spare l.regs l.output;
+  lent : SameRoom l.fn.output l.output;
+  held : Hold g.W.Words.loads l.fn.stream l.stream l.stretch.level.now.first l.fn.output.slate l.output.slate;
   kept : IsKept l.fn.spare l.spare;
-  place : IsIn l.level.env.parts.now l.level.n l.pc;
+  place : IsIn l.stretch.level.now.code.parts.now l.stretch.level.now.n l.pc;
   on : l.stretch.first ≤ l.pc;
   under : l.pc < l.stretch.to;
   later : Later g.W.Words.loads g.W.Words.reaches l.fn.stream l.stream;
   whole : IsStream g.W.Words.loads g.W.Words.size l.stream;
   window : InWindow l.act l.stream;
   outer : l.act.outer ≤ l.fn.act.outer;
-  frames : length l.trace.frames.items ≡ length l.fn.trace.frames.items;
-  memory : vec_capacity l.trace.frames ≡ vec_capacity l.fn.trace.frames;
-  kind : looped l.level.env.parts.now l.pc ≡ looped l.level.env.parts.now l.stretch.first;
-  fixed : looped l.level.env.parts.now l.stretch.first ≡ true → opened (shapes_of l.level.env.parts.now) l.pc ≡ opened (shapes_of l.level.env.parts.now) l.stretch.first;
-  end : looped l.level.env.parts.now l.stretch.first ≡ true → end_of l.stream ≡ end_of l.fn.stream;
-  narrow : position l.fn.stream + window_bytes (opened (shapes_of l.level.env.parts.now) l.pc) ≤ end_of l.stream;
-  idle : position l.fn.stream ≡ position l.stream → Idle l.level.env.parts.now l.level.n l.stretch.first l.pc;
-  same : Ran g.W.Words.loads l.fn.stream l.stream l.fn.steps l.steps (λ b touched taken. block l.level.env.parts.now b l.level.n l.level.places.now l.stretch.first (state_of l.fn.regs l.fn.slate.cells.now l.fn.act l.fn.stream) ≡ after touched taken (block l.level.env.parts.now b l.level.n l.level.places.now l.pc (state_of l.regs l.slate.cells.now l.act l.stream)));
+  kind : looped l.stretch.level.now.code.parts.now l.pc ≡ looped l.stretch.level.now.code.parts.now l.stretch.first;
+  fixed : looped l.stretch.level.now.code.parts.now l.stretch.first ≡ true → opened (shapes_of l.stretch.level.now.code.parts.now) l.pc ≡ opened (shapes_of l.stretch.level.now.code.parts.now) l.stretch.first;
+  end : looped l.stretch.level.now.code.parts.now l.stretch.first ≡ true → end_of l.stream ≡ end_of l.fn.stream;
+  narrow : position l.fn.stream + window_bytes (opened (shapes_of l.stretch.level.now.code.parts.now) l.pc) ≤ end_of l.stream;
+  idle : position l.fn.stream ≡ position l.stream → Idle l.stretch.level.now.code.parts.now l.stretch.level.now.n l.stretch.first l.pc;
+  same : Ran g.W.Words.loads l.fn.stream l.stream l.fn.steps l.steps (λ b touched taken. block l.stretch.level.now.code.parts.now b l.stretch.level.now.n l.stretch.level.now.places.now l.stretch.first (state_of l.fn.regs l.fn.output.slate.cells.now l.fn.act l.fn.stream) ≡ after touched taken (block l.stretch.level.now.code.parts.now b l.stretch.level.now.n l.stretch.level.now.places.now l.pc (state_of l.regs l.output.slate.cells.now l.act l.stream)));
 }
 
 abbrev pub decreases-run_block-steps : goal.decreases-run_block-steps
@@ -50,19 +46,16 @@ decreases-run_block-steps g l = l.stretch.to - l.pc
 
 abbrev pub invariant-run_turns-turns : goal.invariant-run_turns-turns
 invariant-run_turns-turns g l = record {
-  room : HasRoom l.level.env l.level.n l.level.first l.level.places.now l.spare.places.now l.regs l.spare.registers.now l.slate.cells.now (rooms_of l.slate.copies.now) l.trace;
-  lent : IsLent l.fn.slate l.slate;
-  rooms : rooms_of l.slate.copies.now ≡ rooms_of l.fn.slate.copies.now;
-  held : Hold g.W.Words.loads l.fn.stream l.stream l.level.first l.fn.slate.cells.now l.slate.cells.now l.fn.slate.copies.now l.slate.copies.now;
+  room : HasRoom l.stretch.level.now l.spare l.regs l.output;
+  lent : SameRoom l.fn.output l.output;
+  held : Hold g.W.Words.loads l.fn.stream l.stream l.stretch.level.now.first l.fn.output.slate l.output.slate;
   kept : IsKept l.fn.spare l.spare;
   later : Later g.W.Words.loads g.W.Words.reaches l.fn.stream l.stream;
   whole : IsStream g.W.Words.loads g.W.Words.size l.stream;
   window : InWindow l.act l.stream;
   outer : l.act.outer ≤ l.fn.act.outer;
-  frames : length l.trace.frames.items ≡ length l.fn.trace.frames.items;
-  memory : vec_capacity l.trace.frames ≡ vec_capacity l.fn.trace.frames;
   end : end_of l.stream ≡ end_of l.fn.stream;
-  same : (k : ℕ) × (end_of l.stream - position l.stream < k) × (Ran g.W.Words.loads l.fn.stream l.stream l.fn.steps l.steps (λ b touched taken. (behind : State → Exit) → turns (suc (end_of l.fn.stream - position l.fn.stream)) (block l.level.env.parts.now b l.level.n l.level.places.now (l.stretch.first + 1)) behind (state_of l.fn.regs l.fn.slate.cells.now l.fn.act l.fn.stream) ≡ after touched taken (turns k (block l.level.env.parts.now b l.level.n l.level.places.now (l.stretch.first + 1)) behind (state_of l.regs l.slate.cells.now l.act l.stream))));
+  same : (k : ℕ) × (end_of l.stream - position l.stream < k) × (Ran g.W.Words.loads l.fn.stream l.stream l.fn.steps l.steps (λ b touched taken. (behind : State → Exit) → turns (suc (end_of l.fn.stream - position l.fn.stream)) (block l.stretch.level.now.code.parts.now b l.stretch.level.now.n l.stretch.level.now.places.now (l.stretch.first + 1)) behind (state_of l.fn.regs l.fn.output.slate.cells.now l.fn.act l.fn.stream) ≡ after touched taken (turns k (block l.stretch.level.now.code.parts.now b l.stretch.level.now.n l.stretch.level.now.places.now (l.stretch.first + 1)) behind (state_of l.regs l.output.slate.cells.now l.act l.stream))));
 }
 
 abbrev pub decreases-run_turns-turns : goal.decreases-run_turns-turns

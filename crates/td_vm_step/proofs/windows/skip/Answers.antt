@@ -17,7 +17,7 @@ returns-clause-same g c = λ k.
     let a = c.args in
     let s = a.stream.now in
     let t = c.skip.new.self in
-    let e = c.skip.ensures in
+    let e = c.skip.ensures.moves in
     let none : k ≡ k + 0 = omega arith in
     let enough : a.n ≤ end_of s - position s = omega (arith, c.if-n-from.false, c.from.ensures, c.end.ensures, c.pos.ensures) in
-    ran_here s t k k [] 0 _ none e.looked (λ b h regs cells. skip_enough a.next a.n a.site (state_of regs cells a.act.now s) enough c.requires.whole.within ∙ ap (λ u. plain (Goes a.next u)) (moved_state regs cells a.act.now s t (position s + a.n) e.pos e.end))
+    ran_here s t k k [] 0 _ none e.looked (λ b h regs cells. skip_enough a.next a.n a.site (state_of regs cells a.act.now s) enough c.requires.whole.within ∙ ap (λ u. plain (Goes a.next u)) (moved_state regs cells a.act.now s t (position s + a.n) e.at e.ends))

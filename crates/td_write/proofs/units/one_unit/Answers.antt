@@ -41,15 +41,15 @@ returns-in_default-clause-err c = λ later.
     let done : List ℕ = drop c.len-first.result l.env.items in
     let none : drop l.part-index parts ≡ [] = drop_all l.part-index parts (omega (arith, c.loop-part-test.false)) in
     let own : a.field.now.parts ≡ parts = sym c.as_slice-parts.ensures in
-    let from : length a.out.now.items ≡ c.len-start.result = sym (c.len-start.ensures ∙ a.out.now.ok.0) in
-    let go = unit_then a.number_type parts a.path.now.items c.len-start.result later in
-    let ended = (λ k. parts_written in_machine a.number_type (own k) a.env.now.items a.places.now a.path.now.items a.left.now.index (from k) a.cells.now (drop a.left.now.index a.left.now.values.now) (unit_then a.number_type (own k) a.path.now.items (from k) later))
+    let from : length a.draft.now.out.items ≡ c.len-start.result = sym (c.len-start.ensures ∙ a.draft.now.out.ok.0) in
+    let go = unit_then a.number_type parts a.draft.now.path.items c.len-start.result later in
+    let ended = (λ k. parts_written in_machine a.number_type (own k) a.env.now.items a.places.now a.draft.now.path.items a.left.now.index (from k) a.cells.now (drop a.left.now.index a.left.now.values.now) (unit_then a.number_type (own k) a.draft.now.path.items (from k) later))
     ∙ l.invariant.rest go
-    ∙ parts_none in_machine a.number_type (drop l.part-index parts) l.env.items a.places.now a.path.now.items l.next c.len-start.result l.cells (drop l.next a.left.now.values.now) (λ ns. go (done ++ ns)) none
+    ∙ parts_none in_machine a.number_type (drop l.part-index parts) l.env.items a.places.now a.draft.now.path.items l.next c.len-start.result l.cells (drop l.next a.left.now.values.now) (λ ns. go (done ++ ns)) none
     ∙ ap (λ ns. go ns l.env.items l.next l.cells (drop l.next a.left.now.values.now)) (append-nil done) in
     let put = after_writing (number_bytes a.number_type (unit_number parts done)) (later l.env.items l.next (c.len-start.result + bytes_in a.number_type.width) l.cells (drop l.next a.left.now.values.now)) in
     let m : makes_unit a.number_type parts done ≡ false = ap (makes_unit a.number_type parts) (sym (all_left c.len-first.result c.as_slice.result.now l.env.items c.as_slice.ensures.value)) ∙ c.in_default.ensures in
-    ended ∙ ap (λ b. wanted b Range a.path.now.items (wanted (has_room c.len-start.result (bytes_in a.number_type.width)) Long a.path.now.items put)) m ∙ ap (Refused Range) (sym l.invariant.back)
+    ended ∙ ap (λ b. wanted b Range a.draft.now.path.items (wanted (has_room c.len-start.result (bytes_in a.number_type.width)) Long a.draft.now.path.items put)) m ∙ ap (Refused Range) (sym l.invariant.back)
 
 pub returns-then-not-has_room-clause-err : goal.returns-then-not-has_room-clause-err
 returns-then-not-has_room-clause-err c = λ later.
@@ -59,16 +59,16 @@ returns-then-not-has_room-clause-err c = λ later.
     let done : List ℕ = drop c.len-first.result l.env.items in
     let none : drop l.part-index parts ≡ [] = drop_all l.part-index parts (omega (arith, c.loop-part-test.false)) in
     let own : a.field.now.parts ≡ parts = sym c.as_slice-parts.ensures in
-    let from : length a.out.now.items ≡ c.len-start.result = sym (c.len-start.ensures ∙ a.out.now.ok.0) in
-    let go = unit_then a.number_type parts a.path.now.items c.len-start.result later in
-    let ended = (λ k. parts_written in_machine a.number_type (own k) a.env.now.items a.places.now a.path.now.items a.left.now.index (from k) a.cells.now (drop a.left.now.index a.left.now.values.now) (unit_then a.number_type (own k) a.path.now.items (from k) later))
+    let from : length a.draft.now.out.items ≡ c.len-start.result = sym (c.len-start.ensures ∙ a.draft.now.out.ok.0) in
+    let go = unit_then a.number_type parts a.draft.now.path.items c.len-start.result later in
+    let ended = (λ k. parts_written in_machine a.number_type (own k) a.env.now.items a.places.now a.draft.now.path.items a.left.now.index (from k) a.cells.now (drop a.left.now.index a.left.now.values.now) (unit_then a.number_type (own k) a.draft.now.path.items (from k) later))
     ∙ l.invariant.rest go
-    ∙ parts_none in_machine a.number_type (drop l.part-index parts) l.env.items a.places.now a.path.now.items l.next c.len-start.result l.cells (drop l.next a.left.now.values.now) (λ ns. go (done ++ ns)) none
+    ∙ parts_none in_machine a.number_type (drop l.part-index parts) l.env.items a.places.now a.draft.now.path.items l.next c.len-start.result l.cells (drop l.next a.left.now.values.now) (λ ns. go (done ++ ns)) none
     ∙ ap (λ ns. go ns l.env.items l.next l.cells (drop l.next a.left.now.values.now)) (append-nil done) in
     let put = after_writing (number_bytes a.number_type (unit_number parts done)) (later l.env.items l.next (c.len-start.result + bytes_in a.number_type.width) l.cells (drop l.next a.left.now.values.now)) in
     let m : makes_unit a.number_type parts done ≡ true = ap (makes_unit a.number_type parts) (sym (all_left c.len-first.result c.as_slice.result.now l.env.items c.as_slice.ensures.value)) ∙ c.in-Some.ensures.0 in
     let r : has_room c.len-start.result (bytes_in a.number_type.width) ≡ false = ap (λ k. has_room c.len-start.result k) (sym c.byte_count.ensures) ∙ sym c.has_room.ensures ∙ search rules in
-    ended ∙ (λ k. wanted (m k) Range a.path.now.items (wanted (r k) Long a.path.now.items put)) ∙ ap (Refused Long) (sym l.invariant.back)
+    ended ∙ (λ k. wanted (m k) Range a.draft.now.path.items (wanted (r k) Long a.draft.now.path.items put)) ∙ ap (Refused Long) (sym l.invariant.back)
 
 pub returns-clause-ok : goal.returns-clause-ok
 returns-clause-ok c = λ later.
@@ -78,11 +78,11 @@ returns-clause-ok c = λ later.
     let done : List ℕ = drop c.len-first.result l.env.items in
     let none : drop l.part-index parts ≡ [] = drop_all l.part-index parts (omega (arith, c.loop-part-test.false)) in
     let own : a.field.now.parts ≡ parts = sym c.as_slice-parts.ensures in
-    let from : length a.out.now.items ≡ c.len-start.result = sym (c.len-start.ensures ∙ a.out.now.ok.0) in
-    let go = unit_then a.number_type parts a.path.now.items c.len-start.result later in
-    let ended = (λ k. parts_written in_machine a.number_type (own k) a.env.now.items a.places.now a.path.now.items a.left.now.index (from k) a.cells.now (drop a.left.now.index a.left.now.values.now) (unit_then a.number_type (own k) a.path.now.items (from k) later))
+    let from : length a.draft.now.out.items ≡ c.len-start.result = sym (c.len-start.ensures ∙ a.draft.now.out.ok.0) in
+    let go = unit_then a.number_type parts a.draft.now.path.items c.len-start.result later in
+    let ended = (λ k. parts_written in_machine a.number_type (own k) a.env.now.items a.places.now a.draft.now.path.items a.left.now.index (from k) a.cells.now (drop a.left.now.index a.left.now.values.now) (unit_then a.number_type (own k) a.draft.now.path.items (from k) later))
     ∙ l.invariant.rest go
-    ∙ parts_none in_machine a.number_type (drop l.part-index parts) l.env.items a.places.now a.path.now.items l.next c.len-start.result l.cells (drop l.next a.left.now.values.now) (λ ns. go (done ++ ns)) none
+    ∙ parts_none in_machine a.number_type (drop l.part-index parts) l.env.items a.places.now a.draft.now.path.items l.next c.len-start.result l.cells (drop l.next a.left.now.values.now) (λ ns. go (done ++ ns)) none
     ∙ ap (λ ns. go ns l.env.items l.next l.cells (drop l.next a.left.now.values.now)) (append-nil done) in
     let put = after_writing (number_bytes a.number_type (unit_number parts done)) (later l.env.items l.next (c.len-start.result + bytes_in a.number_type.width) l.cells (drop l.next a.left.now.values.now)) in
     let m : makes_unit a.number_type parts done ≡ true = ap (makes_unit a.number_type parts) (sym (all_left c.len-first.result c.as_slice.result.now l.env.items c.as_slice.ensures.value)) ∙ c.in-Some.ensures.0 in
@@ -90,10 +90,10 @@ returns-clause-ok c = λ later.
     let n : ℕ = unit_number parts done in
     let bytes : List ℕ = number_bytes a.number_type n in
     let value : c.in-Some.number ≡ n = c.in-Some.ensures.1 ∙ ap (unit_number parts) (all_left c.len-first.result c.as_slice.result.now l.env.items c.as_slice.ensures.value) in
-    let grown : a.out.now.items ++ bytes ≡ c.push_number.new.out.items = sym (c.in_ok-push_number.ensures ∙ ap (λ k. a.out.now.items ++ number_bytes a.number_type k) value) in
-    let size : c.len-start.result + bytes_in a.number_type.width ≡ length c.push_number.new.out.items = omega (arith, from, number_length a.number_type n, ap length grown, length-append a.out.now.items bytes) in
+    let grown : a.draft.now.out.items ++ bytes ≡ c.push_number.new.out.items = sym (c.in_ok-push_number.ensures ∙ ap (λ k. a.draft.now.out.items ++ number_bytes a.number_type k) value) in
+    let size : c.len-start.result + bytes_in a.number_type.width ≡ length c.push_number.new.out.items = omega (arith, from, number_length a.number_type n, ap length grown, length-append a.draft.now.out.items bytes) in
     record {
-      total = ap (after_writing a.out.now.items) (ended ∙ (λ k. wanted (m k) Range a.path.now.items (wanted (r k) Long a.path.now.items put)))
-          ∙ twice_after a.out.now.items bytes (later l.env.items l.next (c.len-start.result + bytes_in a.number_type.width) l.cells (drop l.next a.left.now.values.now))
+      total = ap (after_writing a.draft.now.out.items) (ended ∙ (λ k. wanted (m k) Range a.draft.now.path.items (wanted (r k) Long a.draft.now.path.items put)))
+          ∙ twice_after a.draft.now.out.items bytes (later l.env.items l.next (c.len-start.result + bytes_in a.number_type.width) l.cells (drop l.next a.left.now.values.now))
           ∙ (λ k. after_writing (grown k) (later l.env.items l.next (size k) l.cells (drop l.next a.left.now.values.now)));
     }

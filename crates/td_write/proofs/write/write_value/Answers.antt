@@ -43,7 +43,7 @@ returns-in_ok-extend_from_slice-in-Ok-clause-ok c =
     let path : c.new-path.result.items ≡ [] = search rules in
     let none : c.new-written.result.items ≡ [] = search rules in
     let left : c.as_mut_slice.result.now ≡ all = c.as_mut_slice.ensures.value ∙ c.in_ok-left.ensures in
-    let bytes : List ℕ = c.named.new.out.items in
+    let bytes : List ℕ = c.named.new.draft.out.items in
     let last : List ℕ = c.named.new.cells in
     let named = c.in-Ok.ensures.ok in
     let w = writing in_machine m a.entry a.args.now all a.value.now in
@@ -78,7 +78,7 @@ returns-in-Err-clause-cause c =
     ∙ (λ j. writers_below in_machine m.listed m.definitions (sym bound j) c.in-Some.place.now a.args.now (sym places j) (sym left j) (sym path j) (length (sym none j)) a.value.now) in
     let same = same_writing m a.entry a.args.now a.cells.now a.value.now c.writing_is_in_range.ensures c.requires.writable c.requires.args c.requires.cells in
     c.stopped.ensures (writing whole m a.entry a.args.now all a.value.now)
-    (subst (Halts c.in-Err.halt c.named.new.path.items) (sym by_place ∙ same) c.in-Err.ensures.err)
+    (subst (Halts c.in-Err.halt c.named.new.draft.path.items) (sym by_place ∙ same) c.in-Err.ensures.err)
 
 pub returns-in-Err-clause-none : goal.returns-in-Err-clause-none
 returns-in-Err-clause-none c =

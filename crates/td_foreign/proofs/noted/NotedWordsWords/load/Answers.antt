@@ -17,9 +17,9 @@ returns-clause-reaches g c =
     let is_row : row ≡ row_of layout l = cc in
     let few_before : length before < 2 ^ 32 = (let n = few c.args.i before c.requires.next in omega (arith, n, c.ranges.i.fits)) in (
       (refl, refl, refl, c.load-value.ensures.reaches),
-      λ h.
-          subst (λ (xs : List Load). IsNoted layout xs ((s.count + 1) % 2 ^ 64) c.put_row.new.rows) (sym c.load-value.ensures.logged)
-          (subst (λ (rows : List TdLoad). IsNoted layout (before ++ l ∷ []) ((s.count + 1) % 2 ^ 64) rows) (sym c.put_row.ensures)
-          (subst (λ (r : TdLoad). IsNoted layout (before ++ l ∷ []) ((s.count + 1) % 2 ^ 64) (slice_set s.rows.now s.count r)) (sym is_row)
-          (noted layout before s.rows.now s.count l h few_before))),
+      λ was h.
+          subst (λ (xs : List Load). IsNoted layout xs was ((s.count + 1) % 2 ^ 64) c.put_row.new.rows) (sym c.load-value.ensures.logged)
+          (subst (λ (rows : List TdLoad). IsNoted layout (before ++ l ∷ []) was ((s.count + 1) % 2 ^ 64) rows) (sym c.put_row.ensures)
+          (subst (λ (r : TdLoad). IsNoted layout (before ++ l ∷ []) was ((s.count + 1) % 2 ^ 64) (slice_set s.rows.now s.count r)) (sym is_row)
+          (noted layout before was s.rows.now s.count l h few_before))),
     )

@@ -12,11 +12,8 @@ returns-clause-validated g c =
     let V : Parts → List ℕ → List ℕ → Type 0 = λ code before after. IsValidated code c.args.entry c.args.args.now before c.args.layout.now
     (g.W.Words.loads done.new.words) (record { verdict = done.result.0; trace = done.new.frame.trace; cells = after; copies = held_by (take (buffers_of code c.args.entry) done.new.frame.copies) }) done.result.1 in
     let v : V c.verified-2.result.now c.set_cells.new.self.cells done.new.frame.cells = record {
-      rising = done.ensures.rising;
-      inside = done.ensures.inside;
-      run = done.ensures.run;
+      validated = done.ensures.validated;
       steps = done.ensures.told;
-      behavior = done.ensures.behavior;
       count = done.ensures.cell_count;
     } in
     let by_code = subst (λ (k : Parts). V k c.set_cells.new.self.cells done.new.frame.cells) (c.verified-2.ensures ∙ c.deref-2.ensures) v in
