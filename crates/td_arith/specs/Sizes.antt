@@ -1,4 +1,4 @@
--- Where a type accepts, it takes as many bytes as its kind says.
+-- Where a type accepts, it takes as many bytes as its kind says (own rule).
 use Rattle.std.specs.Prelude.{ℕ, ◌+◌, ◌≤◌, List, length, Option, Some, None}
 use Rattle.td_core.specs.declared.module.Module.{Module}
 use Rattle.td_core.specs.declared.kind.Kind.{Kind}

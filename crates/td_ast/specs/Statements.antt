@@ -1,4 +1,4 @@
--- Statements as contracts see them. `StmtKind` in src/actions.rt says what each variant is.
+-- Statements as contracts see them (own rule). `StmtKind` in src/actions.rt says what each variant is.
 use Rattle.std.specs.Prelude.{ℕ, ◌+◌, List, [], ◌∷◌}
 use Rattle.td_ast.specs.declared.token.Span.{Span}
 use Rattle.td_ast.specs.declared.names.Name.{Name}

@@ -1,4 +1,4 @@
--- Expressions as contracts see them: trees, with a span at each node and at each operator. `ExprKind` in
+-- Expressions as contracts see them (own rule): trees, with a span at each node and at each operator. `ExprKind` in
 -- src/expressions.rt says what each variant is.
 use Rattle.std.specs.Prelude.{ℕ, ◌+◌, Bool}
 use Rattle.td_ast.specs.declared.token.Span.{Span}

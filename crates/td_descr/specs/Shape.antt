@@ -1,5 +1,5 @@
--- When a module has the shape of that of descriptors: its one definition and entry point are those of `RING`, names and places in the text
--- aside. Values in scope are named by their levels: 0 room, 1 most, 2 place, 3 size, 4 id, 5 flags.
+-- When a module has the shape of that of descriptors (own rule): its one definition and entry point are those of `RING`, names and
+-- places in the text aside. Values in scope are named by their levels: 0 room, 1 most, 2 place, 3 size, 4 id, 5 flags.
 use Rattle.std.specs.Prelude.{◌≡◌, ℕ, ◌<◌, ◌^◌, ◌&&◌, nat_eq, Bool, true, false, List, [], ◌∷◌, Option, Some, None}
 use Rattle.td_num.specs.Lists.{AreBytes}
 use Rattle.td_num.specs.declared.number.Width.{Width}

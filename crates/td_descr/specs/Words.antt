@@ -1,4 +1,4 @@
--- The words of a descriptor, and loads of them.
+-- The words of a descriptor, and loads of them (own rule).
 use Rattle.std.specs.Prelude.{◌≡◌, ℕ, ◌+◌, List, [], ◌∷◌, ◌++◌, map, Option, Some, None}
 use Rattle.td_stream.specs.declared.load.Load.{Load}
 

@@ -33,7 +33,7 @@ pub struct FlatField {
     pub refinement: Option<CoreExpr>,
     /// What is done once it was validated.
     pub action: Option<Action>,
-    /// Where its type stands in the text.
+    /// Where its name stands in the text.
     pub place: Span,
 }
 

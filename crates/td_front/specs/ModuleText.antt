@@ -1,4 +1,4 @@
--- Module texts: which bytes stand for which module, and by what a text is refused that stands for none.
+-- Module texts (own rule): which bytes stand for which module, and by what a text is refused that stands for none.
 use Rattle.std.specs.Prelude.{◌≡◌, ℕ, List, length, slice_get, Option, Some, None}
 use Rattle.td_ast.specs.declared.token.Token.{Token}
 use Rattle.td_ast.specs.declared.parts.InputTree.{InputTree}

@@ -1,4 +1,4 @@
--- Definitions of a part, with the names that they have in the whole text. Places stay.
+-- Definitions of a part, with the names that they have in the whole text (own rule). Places stay.
 use Rattle.std.specs.Prelude.{ℕ, List, [], ◌∷◌, map, Option, Some, None}
 use Rattle.td_ast.specs.declared.names.Name.{Name}
 use Rattle.td_ast.specs.declared.names.ConstTree.{ConstTree}

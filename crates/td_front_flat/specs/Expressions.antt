@@ -1,4 +1,4 @@
--- Expressions and actions of a part, with the names that they have in the whole text.
+-- Expressions and actions of a part, with the names that they have in the whole text (own rule).
 use Rattle.std.specs.Prelude.{ℕ, Bool, false, ◌&&◌, not, cond, List, [], ◌∷◌, Option, Some, None}
 use Rattle.std.specs.List.{list_any}
 use Rattle.std.specs.Str.{bytes_eq}

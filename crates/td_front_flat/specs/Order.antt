@@ -1,6 +1,6 @@
--- Which parts use which, for their order (td_front_order: they are taken one by one; the next is the first in the text, not yet taken,
--- of which all used parts that exist were taken), and the two breaches of parts: a name twice (N2), and uses in a cycle (N5).
--- A part's number is its place in the text, from 0.
+-- Which parts use which, for their order (own rule; td_front_order: they are taken one by one; the next is the first in the text, not
+-- yet taken, of which all used parts that exist were taken), and the two breaches of parts: a name twice (N2), and uses in a cycle
+-- (N5). A part's number is its place in the text, from 0.
 use Rattle.std.specs.Prelude.{◌≡◌, ◌<◌, ℕ, true, cond, List, [], ◌∷◌, ◌++◌, map, Option, Some, None, slice_get}
 use Rattle.td_num.specs.Lists.{Each}
 use Rattle.td_ast.specs.declared.token.Span.{Span}

@@ -1,4 +1,4 @@
--- The names in a part that may name a definition of another part, in the order of the text, and which of them do.
+-- The names in a part that may name a definition of another part, in the order of the text, and which of them do (own rule).
 use Rattle.std.specs.Prelude.{ℕ, List, [], ◌∷◌, ◌++◌, flat_map, Option, Some, None}
 use Rattle.td_ast.specs.declared.token.Span.{Span}
 use Rattle.td_ast.specs.declared.names.Name.{Name}

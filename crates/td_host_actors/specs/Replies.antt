@@ -1,4 +1,4 @@
--- Which codes do a job, and what a reply to one of its posts is.
+-- Which codes do a job, and what a reply to one of its posts is (own rule).
 use Rattle.std.specs.Prelude.{◌≡◌, ℕ, List, [], ◌∷◌, ◌++◌, length, Option, Some, None, slice_get}
 use Rattle.td_core.specs.declared.module.Module.{Module}
 use Rattle.td_core.specs.declared.module.Entry.{Entry}

@@ -1,4 +1,4 @@
--- Texts as lists of pieces: tokens by their kinds, blanks and ends of lines.
+-- Texts as lists of pieces (own rule): tokens by their kinds, blanks and ends of lines.
 use Rattle.std.specs.Prelude.{ℕ, false, List, [], ◌∷◌, ◌++◌, codes, decimal}
 use Rattle.std.specs.Fmt.{digits}
 use Rattle.td_num.specs.declared.number.Width.{Width}

@@ -1,4 +1,4 @@
--- What a run by code comes to, while others store to the words by a plan.
+-- What a run by code comes to, while others store to the words by a plan (own rule).
 use Rattle.std.specs.Prelude.{ℕ, List, Option}
 use Rattle.td_core.specs.declared.module.Entry.{Entry}
 use Rattle.td_core.specs.declared.outcome.Outcome.{Outcome}

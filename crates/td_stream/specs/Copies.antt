@@ -1,4 +1,4 @@
--- Buffers to which bytes are copied.
+-- Buffers to which bytes are copied (own rule).
 use Rattle.std.specs.Prelude.{ℕ, List, [], map}
 
 -- what a buffer holds, and how many bytes it has room for in all

@@ -1,4 +1,4 @@
--- What the writer answers.
+-- What the writer answers (own rule).
 use Rattle.std.specs.Prelude.{◌≡◌, ◌≤◌, List, ℕ, ◌++◌, length, [], Some, None}
 use Rattle.td_core.specs.declared.module.Module.{Module}
 use Rattle.td_core.specs.declared.module.Entry.{Entry}
