@@ -8,7 +8,8 @@ use Rattle.std.proofs.lemmas.Option.{none-some}
 use Rattle.std.proofs.Math.Nat.{div-mul-le_self, mul-le-mul_right}
 use Rattle.td_num.specs.Numbers.{bytes_in, number_at, places_from}
 use Rattle.td_num.specs.declared.number.NumberType.{NumberType}
-use Rattle.td_num.specs.Lists.{is_among}
+use Rattle.td_num.specs.Lists.{is_among, first_where}
+use Rattle.td_num.proofs.Lists.{found_below}
 use Rattle.td_core.specs.Term.{Term}
 use Rattle.td_core.specs.declared.module.Element.{Element}
 use Rattle.td_core.specs.declared.module.Element.TheVariants.{Number, Listed, Named, Unit as UnitElement, Rest, Zeros}
@@ -26,13 +27,13 @@ use Rattle.td_expr.proofs.Admitting.{neither}
 use Rattle.td_meaning.specs.Doing.{natural_of}
 use Rattle.td_arith.specs.SafeModule.{list_unsafe, element_unsafe, extent_unsafe, room_unsafe, copy_unsafe}
 use Rattle.td_core.specs.Formed.{Bound, AllFit, AreArgsFormed, AreCellsFormed, params_at, own_at, IsElementFormed, IsExtentFormed}
-use Rattle.td_meaning.specs.Meaning.{Sense, values, values_of, taken, demanded, is_nonzero, byte_type, zeros_end, first_where, numbers_at, element_meaning, elements, divides, equals, zero_end, up_to_zero, element_up_to_zero, shape_meaning, with_copy, content_meaning}
+use Rattle.td_meaning.specs.Meaning.{Sense, values, values_of, taken, demanded, is_nonzero, byte_type, zeros_end, numbers_at, element_meaning, elements, divides, equals, zero_end, up_to_zero, element_up_to_zero, shape_meaning, with_copy, content_meaning}
 use Rattle.td_meaning.specs.Throughout.{Through, OnEnding, OnAll, OnElement, OnElements, OnShape, OnContent}
 use Rattle.td_arith.proofs.Fitting.{Stand, stand_at}
 use Rattle.td_arith.proofs.Copies.{CopyStands, within_room, spare_sound, copy_fits}
 use Rattle.td_arith.proofs.States.{State, sound, number_fits}
 use Rattle.td_meaning.proofs.Ending.{Between, on_then, on_map, on_demanded, on_taken}
-use Rattle.td_meaning.proofs.Filling.{found_below, count_of}
+use Rattle.td_meaning.proofs.Filling.{count_of}
 
 -- what is known of a definition, on each message
 abbrev pub IsGood : List ℕ → List Bound → List Bound → Sense → Through → Type 0

@@ -13,9 +13,10 @@ ghost use Rattle.td_c.specs.Numbers.{position_told, reason_told};
 use crate::answers::{Answer, Refusal, reason_of};
 use td_core::module::Entry;
 use td_core::outcome::Verdict;
-use td_foreign::{ForeignWords, Made, NotedWords, TdLoad, TdWords};
+use td_foreign::{ForeignWords, NotedWords, TdLoad, TdWords};
 use td_session::session::Session;
 use td_stream::layout::Layout;
+use td_stream::made::Made;
 use td_stream::words::Words;
 
 /// What is asked, and what is answered.

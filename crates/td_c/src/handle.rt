@@ -8,9 +8,9 @@ ghost use Rattle.td_c.specs.declared.handle.Slot.{Slot as kept};
 use crate::answers::{Answer, Refusal};
 use std::marker::Model;
 use std::{mem, ptr};
-use td_foreign::Made;
 use td_session::session::Session;
 use td_session::versions::{Publisher, Reader};
+use td_stream::made::Made;
 use td_verify::verify::Verified;
 
 /// Where a session stands, or none, with what the last validation found: its answer, and the loads that it made; or what a handle has

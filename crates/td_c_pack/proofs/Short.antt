@@ -6,7 +6,8 @@ use Rattle.td_limits.specs.declared.limits.Limit as limits
 use Rattle.td_limits.specs.declared.limits.Limit.TheVariants as limit
 use Rattle.td_elab_rules.specs.declared.breach.Rule.{Rule}
 use Rattle.td_elab_rules.specs.declared.breach.Rule.TheVariants as rule
-use Rattle.td_front.specs.Lines.{code_of, words_of, rule_code, rule_words, limit_words, unsafe_words}
+use Rattle.td_elab_rules.specs.Breach.{rule_words}
+use Rattle.td_front.specs.Lines.{code_of, words_of, rule_code, limit_words, unsafe_words}
 use Rattle.td_front.specs.declared.error.FrontError.{FrontError}
 use Rattle.td_front.specs.declared.error.FrontError.TheVariants.{BadByte, OpenComment, BigNumber, Unexpected, Deep, Limit, Broken, Cycle, ZeroElement, RestNotLast, Unsafe, Room, NoMemory}
 

@@ -1,16 +1,11 @@
 -- What C is answered of a module text (own rule; capi/td_pack.h).
 use Rattle.std.specs.Prelude.{◌≡◌, ◌⊎◌, ℕ, ℤ, pos, ◌<◌, ◌≤◌, ◌↔◌, List, length, take, drop}
-use Rattle.td_core.specs.declared.module.Module.{Module}
-use Rattle.td_code.specs.Coding.{IsPacked}
+use Rattle.td_code.specs.Coding.{IsImageOf}
 use Rattle.td_front.specs.declared.error.FrontError.{FrontError}
-use Rattle.td_front.specs.ModuleText.{IsModuleText, RefusedBy}
+use Rattle.td_front.specs.ModuleText.{RefusedBy}
 use Rattle.td_c_pack.specs.declared.refusal.TdPacked.{TdPacked}
 use Rattle.td_c_pack.specs.declared.pack.TheConstants.{MOST_TEXT}
 use Rattle.td_c_pack.specs.Told.{IsTold}
-
--- the bytes are the image of the code of the module for which the text stands
-abbrev pub IsImageOf : List ℕ → List ℕ → Type 0
-IsImageOf text bytes = (m : Module) × IsModuleText text m × IsPacked m bytes
 
 -- the image is one of so many bytes
 abbrev pub HasImage : List ℕ → ℕ → Type 0

@@ -1,10 +1,10 @@
 //! What C is told of a module text.
 
-ghost use Rattle.std.specs.Prelude.{◌≡◌, ◌≤◌, ◌<◌, ◌-◌, ◌⊎◌, ◌++◌, length, take, replicate, pos};
-ghost use Rattle.td_report.specs.ErrorLine.{line_at, column_at};
+ghost use Rattle.std.specs.Prelude.{◌≡◌, ◌≤◌, ◌<◌, ◌-◌, ◌⊎◌, ◌++◌, length, replicate, pos};
 ghost use Rattle.td_c_pack.specs.Told.{IsTold};
 
 use td_front::{FrontError, line_of};
+use td_report::position_of;
 
 /// `TD_PACK_NO_MEMORY` of td_pack.h.
 pub(crate) const NO_MEMORY: i32 = 4;
@@ -24,41 +24,6 @@ pub struct TdPacked {
     /// The refusal's code and words, each with zeros behind it.
     pub code: [u8; 8],
     pub words: [u8; 32],
-}
-
-// A place in a text.
-#[derive(Clone, Copy)]
-struct Position {
-    line: u64,
-    column: u64,
-}
-
-// Where these bytes end: the line, and the place in it.
-fn end_of(before: &[u8]) -> Position
-    ensures line { result.line ≡ line_at before.now (length before.now) }
-    ensures column { result.column ≡ column_at before.now (length before.now) }
-{
-    let mut line = 1u64;
-    let mut column = 1u64;
-    for i in 0..before.len() {
-        if before[i] == b'\n' {
-            line += 1;
-            column = 1;
-        } else {
-            column += 1;
-        }
-    }
-    Position { line, column }
-}
-
-// The first bytes of a text, or all of it where it has fewer.
-fn first_bytes(text: &[u8], count: u32) -> &[u8]
-    ensures { result.now ≡ take count text.now }
-{
-    match text.get(..count as usize) {
-        Some(first) => first,
-        None => text,
-    }
 }
 
 // Writes bytes into a room, and zeros behind them.
@@ -82,7 +47,7 @@ pub(crate) fn tell_refusal(text: &[u8], error: &FrontError, told: &mut TdPacked)
     let Some(line) = line_of(error) else {
         return NO_MEMORY;
     };
-    let position = end_of(first_bytes(text, line.at));
+    let position = position_of(text, line.at);
     told.place = line.at as u64;
     told.line = position.line;
     told.column = position.column;

@@ -24,13 +24,12 @@ use Rattle.td_gen.specs.Message.{format_of, IsMessage}
 use Rattle.td_cli.specs.Benching.{HasRun}
 use Rattle.td_cli.proofs.Benches.{message_run}
 use Rattle.td_cli.specs.Run.{IsRunOf}
-use Rattle.td_job.proofs.Writing.{fits_params, fits_cells}
 
 -- a job's values fit its entry point's code
 pub job_fits : ArgumentsFit → (c : Parts) (m : Module) (job : RunJob) → IsCodeOf c m → job.entry.number < length m.entries → HasValues m job → Fits c job.entry job.args job.cells
 job_fits law c m job of inside values =
     let o = entry_definition m job.entry.number in
-    law c m job.entry job.args job.cells of inside (fits_params o job.args values.args) (fits_cells o job.cells values.cells)
+    law c m job.entry job.args job.cells of inside values.args values.cells
 
 abbrev pub input_of : RunJob → Input
 input_of job = record { entry = job.entry; args = job.args; cells = job.cells; length = job.length; layout = job.layout; words = job.words; stores = job.stores }

@@ -9,7 +9,7 @@ use Rattle.td_job.specs.declared.run_job.RunJob.{RunJob}
 use Rattle.td_report.specs.Report.{report}
 use Rattle.td_report.specs.Summary.{summary}
 use Rattle.td_print_layout.specs.Definitions.{canonical_text}
-use Rattle.td_code.specs.Coding.{IsListing, IsPacked}
+use Rattle.td_code.specs.Coding.{IsListing, IsImageOf}
 use Rattle.td_cli_command.specs.declared.command.Command.{Command}
 use Rattle.td_cli_command.specs.declared.command.Command.TheVariants.{Check as CheckCommand, Tidy as TidyCommand, Code as CodeCommand, Pack as PackCommand, Run as RunCommand, Host as HostCommand, Bench as BenchCommand}
 use Rattle.td_cli_input.specs.declared.refusal.Refusal.{Refusal}
@@ -59,10 +59,6 @@ IsTidy input text = (m : Module) × (stands : IsModuleText input m) × (text ≡
 -- the text is the listing of the code of the module for which the input stands
 abbrev pub IsListingOf : List ℕ → List ℕ → Type 0
 IsListingOf input text = (m : Module) × IsModuleText input m × IsListing m text
-
--- the bytes are that code's image, and are read as it again
-abbrev pub IsImageOf : List ℕ → List ℕ → Type 0
-IsImageOf input bytes = (m : Module) × IsModuleText input m × IsPacked m bytes
 
 -- ---- each command
 

@@ -9,14 +9,12 @@ use Rattle.td_core.specs.declared.module.Module.{Module}
 use Rattle.td_core.specs.declared.module.TypeDef.{TypeDef}
 use Rattle.td_core.specs.declared.module.Entry.{Entry}
 use Rattle.td_core.specs.Entries.{entry_definition}
-use Rattle.td_core.specs.Formed.{AllFit}
+use Rattle.td_core.specs.Formed.{AllFit, params_at, cells_at}
 use Rattle.td_arith.specs.Laws.{EvaluatedIsSound}
 use Rattle.td_front.specs.Checked.{IsChecked}
 use Rattle.td_front.specs.Laws.{ModulesAreChecked}
 use Rattle.td_job.specs.declared.run_job.RunJob.{RunJob}
 use Rattle.td_job.specs.Jobs.{HasValues}
-use Rattle.td_job.specs.Values.{args_bounds, cells_bounds}
-use Rattle.td_job.proofs.Writing.{fits_params, fits_cells}
 use Rattle.td_meaning.specs.Copies.{IsSoundOn}
 use Rattle.td_posts.specs.declared.job.HostJob.{HostJob}
 use Rattle.td_posts.specs.Posts.{zeros}
@@ -28,16 +26,16 @@ use Rattle.td_core.proofs.Found.{entry_found as entry_of}
 
 -- values that fit are sound, whatever the message's bytes are
 sound_values : (m : Module) (entry : Entry) (args cells : List ℕ) → EvaluatedIsSound → IsChecked m → entry.number < length m.entries
-    → AllFit (args_bounds (entry_definition m entry.number)) args → AllFit (cells_bounds (entry_definition m entry.number)) cells
+    → AllFit (params_at (entry_definition m entry.number)) args → AllFit (cells_at (entry_definition m entry.number)) cells
     → (b : List ℕ) → AreBytes b → length b < 2 ^ 32 → IsSoundOn m entry args cells b
 sound_values m entry args cells law checked inside own_args own_cells b bytes short =
     let place = got m.entries entry.number inside in
     let there : place.0 < length m.definitions = each_at (λ p. p < length m.definitions) m.entries entry.number place.0 checked.whole.entries place.1 in
     let d = got m.definitions place.0 there in
     let same : entry_definition m entry.number ≡ Some d.0 = entry_of m entry.number place.0 d.0 place.1 d.1 in
-    let P : Option TypeDef → Type 0 = λ o. AllFit (args_bounds o) args in
-    let Q : Option TypeDef → Type 0 = λ o. AllFit (cells_bounds o) cells in
-    law m entry place.0 d.0 args cells b checked.formed checked.copying checked.safe place.1 d.1 (fits_params (Some d.0) args (subst P same own_args)) (fits_cells (Some d.0) cells (subst Q same own_cells)) bytes short
+    let P : Option TypeDef → Type 0 = λ o. AllFit (params_at o) args in
+    let Q : Option TypeDef → Type 0 = λ o. AllFit (cells_at o) cells in
+    law m entry place.0 d.0 args cells b checked.formed checked.copying checked.safe place.1 d.1 (subst P same own_args) (subst Q same own_cells) bytes short
 
 pub sound_job : (m : Module) (job : RunJob) → EvaluatedIsSound → IsChecked m → job.entry.number < length m.entries → HasValues m job → job.length < 2 ^ 32 → IsSoundJob m job
 sound_job m job law checked inside values short = λ b bytes same.
@@ -57,7 +55,7 @@ at_version formats n f all is = subst IsChecked (get_or_from_slice_get formats n
 
 pub sound_host : (m : Module) (job : HostJob) → EvaluatedIsSound → All IsChecked job.formats → HasHostValues m job → IsSoundHost job
 sound_host m job law checked values = λ n f entry version b bytes short.
-    let bounds = cells_bounds (entry_definition f entry.number) in
+    let bounds = cells_at (entry_definition f entry.number) in
     let own = values.each n f entry version in
     let cells : AllFit bounds (zeros job.cells) = subst (λ n. AllFit bounds (zeros n)) (sym own.cells) (zeros_fit bounds) in
     sound_values f entry job.args (zeros job.cells) law (at_version job.formats n f checked version.0) own.entry own.args cells b bytes short
@@ -66,10 +64,10 @@ pub fits_versions : (m : Module) (job : HostJob) → HasHostValues m job → Fit
 fits_versions m job all = λ n f entry version.
     let values = all.each n f entry version in
     let o = entry_definition f entry.number in
-    let cells : AllFit (cells_bounds o) (zeros job.cells) = subst (λ n. AllFit (cells_bounds o) (zeros n)) (sym values.cells) (zeros_fit (cells_bounds o)) in
+    let cells : AllFit (cells_at o) (zeros job.cells) = subst (λ n. AllFit (cells_at o) (zeros n)) (sym values.cells) (zeros_fit (cells_at o)) in
     record {
       entry_is = values.entry;
       rooms = values.rooms;
-      args = fits_params o job.args values.args;
-      cells = fits_cells o (zeros job.cells) cells;
+      args = values.args;
+      cells = cells;
     }

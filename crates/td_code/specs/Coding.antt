@@ -5,6 +5,7 @@ use Rattle.td_core.specs.declared.module.Module.{Module}
 use Rattle.td_core.specs.declared.module.Entry.{Entry}
 use Rattle.td_core.specs.Entries.{entry_definition}
 use Rattle.td_core.specs.Formed.{AllFit, params_at, cells_at}
+use Rattle.td_front.specs.ModuleText.{IsModuleText}
 use Rattle.td_meaning.specs.Meaning.{meaning}
 use Rattle.td_meaning.specs.Copies.{opened}
 use Rattle.td_ir.specs.declared.tables.Parts.{Parts}
@@ -57,6 +58,10 @@ pub record IsPacked (m : Module) (bytes : List ℕ) : Type 0 where
   pub of : IsCodeFor code m
   pub image_is : images.IsWritten code bytes
   pub read_again : (answer : Result Parts ImageError) → MayBeRead bytes answer → IsReadAs code answer
+
+-- the bytes are the image of the code of the module for which the text stands
+abbrev pub IsImageOf : List ℕ → List ℕ → Type 0
+IsImageOf text bytes = (m : Module) × IsModuleText text m × IsPacked m bytes
 
 -- the bytes are those that the format of images gives such code, and are its image where the module is no larger than a text's
 pub record IsSpelled (m : Module) (bytes : List ℕ) : Type 0 where

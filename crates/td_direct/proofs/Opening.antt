@@ -31,13 +31,13 @@ use Rattle.td_direct.proofs.Placed.{zeros, at_entry, definition_placed, buffers_
 use Rattle.td_direct.proofs.TypeLemmas.{entry_is}
 
 -- a whole validation, with the cells that are given back and what the buffers hold
-pub behavior_held : {W : Type 0} {loads : W → List Load} (s t : Stream W) (words : W) (layout : List Stretch) (whole meant : Behavior) (v : Verdict) (p n : ℕ) (trace : List TraceFrame) (all cells b : List ℕ) (copies : List (List ℕ)) → loads s.words.now ≡ [] → IsAt v p trace → words ≡ t.words.now → layout_of s ≡ layout
+pub behavior_held : {W : Type 0} {loads : W → List Load} (s t : Stream W) (words : W) (layout : List Stretch) (whole meant : Behavior) (v : Verdict) (p n : ℕ) (trace last_trace : List TraceFrame) (all cells b : List ℕ) (copies : List (List ℕ)) → loads s.words.now ≡ [] → IsAt v p trace → words ≡ t.words.now → layout_of s ≡ layout → last_trace ≡ trace
     → Carries layout b (loads words) → (Carries (layout_of s) b (loads t.words.now) → Reads loads s t whole (plain (ending_of v trace all))) → whole ≡ meant → take n all ≡ cells → (Carries (layout_of s) b (loads t.words.now) → copies_by b (drop n all) ≡ copies)
-    → IsBehaviorOf layout n b (loads words) meant (record { verdict = v; trace = trace; cells = cells; copies = copies })
-behavior_held {W} {loads} s t words layout whole meant v p n trace all cells b copies none at w long h step same last held =
+    → IsBehaviorOf layout n b (loads words) meant (record { verdict = v; trace = last_trace; cells = cells; copies = copies })
+behavior_held {W} {loads} s t words layout whole meant v p n trace last_trace all cells b copies none at w long traced h step same last held =
     let h' : Carries (layout_of s) b (loads t.words.now) = subst (λ (x : List Stretch × W). Carries x.0 b (loads x.1)) (λ i. (sym long i, w i)) h in
     let copied = held h' in
-    subst (λ (o : Outcome). IsBehaviorOf layout n b (loads words) meant o) (λ i. record { verdict = v; trace = trace; cells = last i; copies = copied i })
+    subst (λ (o : Outcome). IsBehaviorOf layout n b (loads words) meant o) (λ i. record { verdict = v; trace = sym traced i; cells = last i; copies = copied i })
     (behavior_lent s t words layout whole meant v p n trace all b none at w long h step same)
 
 pub long_is : (cells all : List ℕ) (k n : ℕ) (vs : List BufferView) → all ≡ cells ++ zeros (2 * k) → k ≡ length vs → n ≡ length all → n ≡ length cells + 2 * length vs

@@ -1,13 +1,13 @@
 -- Where cells and buffers lie, from definition to definition.
-use Rattle.std.proofs.Common.{append_assoc, ◌≡◌, ℕ, zero, suc, ◌+◌, ◌*◌, ◌<◌, ◌≤◌, Bool, true, false, cond, Option, Some, None, List, [], ◌∷◌, ◌++◌, length, length-append, map, drop, replicate, get_or, refl, sym, ap, ◌∙◌, subst, arith}
+use Rattle.std.proofs.Common.{append_assoc, ◌≡◌, ℕ, zero, suc, ◌+◌, ◌*◌, ◌<◌, ◌≤◌, Bool, true, false, cond, Option, Some, None, List, [], ◌∷◌, ◌++◌, length, length-append, map, drop, replicate, refl, sym, ap, ◌∙◌, subst, arith}
 use Rattle.std.specs.Prelude.{slice_get, slice_index, nat_eq}
 use Rattle.std.proofs.lemmas.List.{get_or-drop, length-map, length-drop, replicate-append-replicate}
 use Rattle.std.proofs.Math.Seq.{drop-append_seam}
-use Rattle.std.proofs.lemmas.Option.{slice_get_within, none-some}
+use Rattle.std.proofs.lemmas.Option.{none-some}
 use Rattle.td_num.specs.Lists.{Each}
 use Rattle.td_num.specs.Numbers.{places_from}
 use Rattle.td_num.proofs.Lists.{each_taken}
-use Rattle.td_core.specs.Copies.{IsBufferCell, IsCopyWhole, AreBuffersGiven, AreOwnGiven, IsElementGiven, NamesCells, IsFieldCopying, IsDefinitionCopying, IsCopying}
+use Rattle.td_core.specs.Copies.{IsBufferCell, IsCopyWhole, AreBuffersGiven, AreOwnGiven, IsElementGiven, IsFieldCopying, IsDefinitionCopying, IsCopying}
 use Rattle.td_core.specs.Formed.{Bound, cell_bound, cell_bounds, buffer_bounds, own_bounds, own_at, param_bounds, parts_scope, AreCellsFormed, IsElementFormed, AreFieldsFormed, AreCasesFormed, IsDefaultFormed, IsBodyFormed, IsDefinitionFormed, IsModuleFormed}
 use Rattle.td_core.specs.Held.{IsBufferAt, AreHeld}
 use Rattle.td_core.specs.Outcome.{copies_by}
@@ -26,11 +26,11 @@ use Rattle.td_core.proofs.Found.{cells_mapped}
 use Rattle.td_meaning.specs.Machine.{value_of, body_fields}
 use Rattle.td_meaning.specs.Meaning.{case_for}
 use Rattle.td_stream.specs.Copies.{BufferView, held_by, rooms_of, empty_with}
-use Rattle.td_core.specs.Entries.{definition_at, entry_definition}
+use Rattle.td_core.specs.Entries.{definition_at}
 use Rattle.td_core.specs.declared.module.Entry.{Entry}
 use Rattle.td_meaning.specs.Copies.{buffers_at}
 use Rattle.td_direct.specs.Copies.{AreBuffersFor, AreOfDefinition, AreOfEntry}
-use Rattle.td_direct.specs.Placing.{HasPlaces, IsPlaced, IsElementPlaced, IsCopyPlaced, AreActionsPlaced, IsFieldPlaced, IsLongFor, IsElementLong, IsDefinitionGiven, AreGiven}
+use Rattle.td_direct.specs.Placing.{HasPlaces, IsPlaced, IsElementPlaced, IsCopyPlaced, IsFieldPlaced, IsLongFor, IsElementLong, IsDefinitionGiven, AreGiven}
 
 -- What a module gives
 

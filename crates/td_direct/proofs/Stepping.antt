@@ -1,5 +1,5 @@
 -- Steps of a validation, one after the other.
-use Rattle.std.proofs.Common.{rules, ◌≡◌, ⊎_elim, inl, inr, ℕ, ◌+◌, ◌≤◌, true, false, Bool, length, take, drop, List, [], ◌∷◌, ◌++◌, refl, sym, ap, ◌∙◌, subst, append_assoc, append-nil}
+use Rattle.std.proofs.Common.{rules, ◌≡◌, ⊎_elim, inl, inr, ℕ, take, drop, List, [], ◌++◌, refl, sym, ap, ◌∙◌, subst, append_assoc, append-nil}
 use Rattle.std.specs.List.{Contains}
 use Rattle.std.proofs.lemmas.List.Elements.{Contains-append_left, Contains-append_right}
 use Rattle.td_stream.specs.declared.load.Load.{Load}
@@ -7,7 +7,7 @@ use Rattle.td_stream.specs.declared.stream.Stream.{Stream}
 use Rattle.td_stream.specs.declared.stretch.Stretch.{Stretch}
 use Rattle.td_stream.specs.Layouts.{word_at}
 use Rattle.td_stream.specs.Loads.{Carries, IsLoaded, Exactly, OnlyTouched}
-use Rattle.td_stream.specs.StreamInvariant.{Looked, layout_of}
+use Rattle.td_stream.specs.StreamInvariant.{layout_of}
 use Rattle.td_stream.proofs.Places.{look_more, look_nowhere}
 use Rattle.td_core.specs.declared.outcome.Outcome.{Outcome}
 use Rattle.td_core.specs.declared.outcome.TraceFrame.{TraceFrame}

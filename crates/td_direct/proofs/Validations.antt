@@ -1,19 +1,19 @@
 -- Validations, one after the other.
-use Rattle.std.proofs.Common.{◌≡◌, ℕ, ◌+◌, ◌*◌, List, [], length, map, refl, sym, ap, ◌∙◌, subst, arith}
+use Rattle.std.proofs.Common.{◌≡◌, ℕ, ◌+◌, ◌*◌, List, [], length, refl, sym, ap, ◌∙◌, subst, arith}
 use Rattle.std.proofs.lemmas.List.{length-map}
 use Rattle.td_core.specs.Held.{AreHeld}
-use Rattle.td_core.specs.Outcome.{Ending, Accepted, Rejected, Behavior, FramePlace, plain, accepted, and_then, ending_within, within}
+use Rattle.td_core.specs.Outcome.{Accepted, Rejected, Behavior, FramePlace, plain, accepted, and_then, ending_within, within}
 use Rattle.td_core.specs.declared.outcome.Reason.{Reason}
 use Rattle.td_core.specs.declared.outcome.Verdict.{Verdict}
 use Rattle.td_core.specs.declared.outcome.Verdict.TheVariants.{Accept, Reject}
 use Rattle.td_meaning.specs.Verdicts.{ending_of, IsAt}
-use Rattle.td_stream.specs.Copies.{BufferView, held_by, rooms_of}
+use Rattle.td_stream.specs.Copies.{BufferView, held_by}
 use Rattle.td_stream.specs.Loads.{Carries}
 use Rattle.td_stream.specs.StreamInvariant.{IsStream, Later, Moves, layout_of, loads_of, position, end_of}
 use Rattle.td_stream.specs.declared.load.Load.{Load}
 use Rattle.td_stream.specs.declared.stream.Stream.{Stream}
 use Rattle.td_stream.proofs.Stages.{later_trans, later_self, carried}
-use Rattle.td_direct.specs.Validates.{Reads, OnlyRead, IsLent, Validates, Decides, RunsOut}
+use Rattle.td_direct.specs.Validates.{Reads, IsLent, Validates, Decides, RunsOut}
 use Rattle.td_direct.specs.declared.slate.Slate.{Slate}
 use Rattle.td_direct.proofs.Stepping.{step_trans, step_still, step_from, step_to, step_then, step_within, step_only, only_after, only_from, only_still, only_then}
 
@@ -200,13 +200,13 @@ windowed {r = r} {s = s} {t = t} {u = u} {y = y} {v = v} {given = given} {rest =
 
 -- within an end that is moved
 pub out_windowed : {W : Type 0} {loads : W → List Load} {size : W → ℕ} {reaches : W → W → Type 0} {r s t : Stream W} {x y : Slate} {given : List ℕ → Behavior} (p : ℕ) (whole : List ℕ → Behavior) → ((u v w : W) → reaches u v → reaches v w → reaches u w) → Moves loads size reaches s r (position s) p [] → r.words.now ≡ s.words.now → RunsOut loads size reaches r t x y given → ((b : List ℕ) → whole b ≡ given b) → RunsOut loads size reaches s t x y whole
-out_windowed {r = r} {s = s} {t = t} {given = given} p whole on m same h e = record {
+out_windowed {loads = loads} {r = r} {s = s} {t = t} {given = given} p whole on m same h e = record {
   later = later_trans on s r t m.later h.later;
   stream = h.stream;
   lent = h.lent;
   only = λ b c.
       let both = carried s r t b m.later h.later c in
-      only_after s r t (whole b) (given b) (step_from s r (whole b) (given b) (given b) (e b) (step_still s r (given b) m.later.layout same)) (h.only b both.1);
+      only_after {loads = loads} s r t (whole b) (given b) (step_from {loads = loads} s r (whole b) (given b) (given b) (e b) (step_still {loads = loads} s r (given b) m.later.layout same)) (h.only b both.1);
 }
 
 -- at most frames were written before it

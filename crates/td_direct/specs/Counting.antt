@@ -1,5 +1,5 @@
 -- Which number a field brings into scope; of use below the validator alone.
-use Rattle.std.specs.Prelude.{◌≡◌, ℕ}
+use Rattle.std.specs.Prelude.{◌≡◌}
 use Rattle.td_core.specs.declared.module.Element.{Element}
 use Rattle.td_core.specs.declared.module.Element.TheVariants as element
 use Rattle.td_core.specs.declared.module.Extent.{Extent}

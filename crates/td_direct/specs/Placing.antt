@@ -1,6 +1,6 @@
 -- Where the cells of definitions and the buffers of the entry point lie; of use inside this crate alone. All numbers stand in one list:
 -- first those of the entry point's cells, and then the two of each of its copy buffers.
-use Rattle.std.specs.Prelude.{◌≡◌, ℕ, ◌+◌, ◌*◌, ◌<◌, ◌≤◌, List, [], ◌∷◌, length, map, Option, Some, None, slice_get, slice_index}
+use Rattle.std.specs.Prelude.{◌≡◌, ℕ, ◌+◌, ◌*◌, ◌<◌, ◌≤◌, List, length, map, Option, Some, None, slice_get, slice_index}
 use Rattle.td_num.specs.Lists.{Each}
 use Rattle.td_core.specs.Copies.{IsDefinitionCopying, NamesCells}
 use Rattle.td_core.specs.Held.{IsBufferAt}
@@ -8,7 +8,7 @@ use Rattle.td_core.specs.WellFormed.{OfSome, EachField}
 use Rattle.td_core.specs.declared.module.Buffer.{Buffer}
 use Rattle.td_core.specs.declared.module.CopyOut.{CopyOut}
 use Rattle.td_core.specs.declared.module.Element.{Element}
-use Rattle.td_core.specs.declared.module.Element.TheVariants.{Number, Listed, Named, Unit as UnitElement, Rest, Zeros}
+use Rattle.td_core.specs.declared.module.Element.TheVariants.{Named}
 use Rattle.td_core.specs.declared.module.Part.{Part}
 use Rattle.td_core.specs.declared.module.Field.{Field}
 use Rattle.td_core.specs.declared.module.TypeDef.{TypeDef}

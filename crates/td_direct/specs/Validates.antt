@@ -1,5 +1,5 @@
 -- What a validation comes to, part by part; of use below the validator alone.
-use Rattle.std.specs.Prelude.{◌≡◌, ◌⊎◌, ℕ, List, [], length}
+use Rattle.std.specs.Prelude.{◌≡◌, ◌⊎◌, ℕ, List, length}
 use Rattle.td_core.specs.Held.{AreHeld}
 use Rattle.td_core.specs.Outcome.{Behavior, after_reading, and_then, plain}
 use Rattle.td_core.specs.declared.module.Field.{Field}

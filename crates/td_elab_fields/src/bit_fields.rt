@@ -48,10 +48,14 @@ fn unit_bits(base: NumberType, filled: u32, width: u32) -> Bits
     }
 }
 
+// Where a value is let go, each way through its variants is a way through the function. So what has many is let go by a call.
+
 /// A field's part.
 fn part(flat: FlatField, bits: Option<Bits>) -> Part
     ensures { result ≡ part_of bits flat }
 {
+    drop(flat.element);
+    drop(flat.extent);
     Part {
         name: flat.name,
         bits,
@@ -79,14 +83,20 @@ fn whole_field(alloc: Global, flat: FlatField) -> Result<Field, AllocError>
         refinement: flat.refinement,
         action: flat.action,
     };
-    let parts = one_part(alloc, part)?;
-    Ok(Field {
-        element: flat.element,
-        extent: flat.extent,
-        copy: flat.copy,
-        parts,
-        place: flat.place,
-    })
+    match one_part(alloc, part) {
+        Ok(parts) => Ok(Field {
+            element: flat.element,
+            extent: flat.extent,
+            copy: flat.copy,
+            parts,
+            place: flat.place,
+        }),
+        Err(error) => {
+            drop(flat.element);
+            drop(flat.extent);
+            Err(error)
+        }
+    }
 }
 
 /// The field of a unit.
@@ -174,9 +184,16 @@ impl Gathering {
         ensures fields { OnOk result (self.new.fields ≡ self.old.fields ++ closed self.old.unit) }
         ensures unit { OnOk result (self.new.unit ≡ Some (new_unit base width flat)) }
     {
-        self.close()?;
-        self.unit = Some(opened(alloc, base, width, flat)?);
-        Ok(())
+        match self.close() {
+            Ok(()) => {
+                self.unit = Some(opened(alloc, base, width, flat)?);
+                Ok(())
+            }
+            Err(error) => {
+                drop(flat);
+                Err(error)
+            }
+        }
     }
 
     /// A bit field in the open unit. `AllocError`: out of memory.
@@ -202,9 +219,16 @@ impl Gathering {
         ensures fields { OnOk result (self.new.fields ≡ (self.old.fields ++ closed self.old.unit) ++ whole_field flat ∷ []) }
         ensures unit { OnOk result (self.new.unit ≡ None) }
     {
-        self.close()?;
-        let field = whole_field(alloc, flat)?;
-        self.fields.push(field)
+        match self.close() {
+            Ok(()) => {
+                let field = whole_field(alloc, flat)?;
+                self.fields.push(field)
+            }
+            Err(error) => {
+                drop(flat);
+                Err(error)
+            }
+        }
     }
 
     /// One more bit field of a base. `AllocError`: out of memory.

@@ -66,10 +66,13 @@ fn array_size(
 {
     let mut unheard = Findings::new();
     let typing = number(alloc, known, scope, e, &mut unheard)?;
+    let constant = constant_of(&typing.core);
+    // by a call, as each way through its variants, where it is let go, is a way through the function
+    drop(typing);
     if holds_this(e) || unheard.first.is_some() {
         return Ok(None);
     }
-    Ok(up_to_cap(constant_of(&typing.core)))
+    Ok(up_to_cap(constant))
 }
 
 /// The size of a type, whatever its arguments.

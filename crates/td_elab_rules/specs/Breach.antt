@@ -1,6 +1,6 @@
 -- Breaches: a rule, and the place at which it is broken. The first is the least by place, then by rule (own rule: of
 -- several refusals the first in the order of the source, and at one place that of the lower code).
-use Rattle.std.specs.Prelude.{◌≡◌, ℕ, Bool, true, false, List, [], ◌∷◌, Option, Some, None, if◌then◌else◌, nat_lt, nat_eq, Contains, All}
+use Rattle.std.specs.Prelude.{◌≡◌, ℕ, Bool, true, false, List, [], ◌∷◌, Option, Some, None, if◌then◌else◌, nat_lt, nat_eq, Contains, All, codes}
 use Rattle.td_ast.specs.declared.token.Span.{Span}
 use Rattle.td_elab_rules.specs.declared.breach.Rule.{Rule}
 use Rattle.td_elab_rules.specs.declared.breach.Rule.TheVariants.{Unknown, Twice, NotReadable, WrongArgs, Mismatch, Narrowing, NotConstant, BadAction}
@@ -16,6 +16,17 @@ rank Mismatch = 4
 rank Narrowing = 5
 rank NotConstant = 6
 rank BadAction = 7
+
+-- the words for what breaks a rule, as its error line has them
+abbrev pub rule_words : Rule → List ℕ
+rule_words Unknown = codes "unknown name"
+rule_words Twice = codes "name twice"
+rule_words NotReadable = codes "not readable"
+rule_words WrongArgs = codes "wrong arguments"
+rule_words Mismatch = codes "type mismatch"
+rule_words Narrowing = codes "does not fit"
+rule_words NotConstant = codes "not constant"
+rule_words BadAction = codes "bad action"
 
 -- whether a is named before b: by the place, then by the rule (and then by the end, so that no two are level)
 abbrev pub is_sooner : Breach → Breach → Bool

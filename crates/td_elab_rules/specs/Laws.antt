@@ -1,6 +1,6 @@
 -- What holds of each module that a tree stands for.
-use Rattle.std.specs.Prelude.{◌≡◌, ℕ, List, length, Some, slice_get, Contains}
-use Rattle.td_num.specs.Lists.{Each}
+use Rattle.std.specs.Prelude.{◌≡◌, length, Contains}
+use Rattle.td_num.specs.Lists.{Each, AreApart}
 use Rattle.td_ast.specs.declared.definitions.ModuleTree.{ModuleTree}
 use Rattle.td_core.specs.declared.module.Module.{Module}
 use Rattle.td_core.specs.Formed.{IsModuleFormed}
@@ -41,8 +41,7 @@ ModulesAreNamed = (t : ModuleTree) (m : Module) → StandsFor t m → Each (IsDe
 
 -- no two names of a module have the same bytes
 abbrev pub NamesAreApart : Type 0
-NamesAreApart =
-    (t : ModuleTree) (m : Module) → StandsFor t m → (i j : ℕ) (name : List ℕ) → slice_get m.names i ≡ Some name → slice_get m.names j ≡ Some name → i ≡ j
+NamesAreApart = (t : ModuleTree) (m : Module) → StandsFor t m → AreApart m.names
 
 -- each name of a module is written in the tree, as that of a parameter, field, slot, struct or casetype
 abbrev pub NamesAreWritten : Type 0

@@ -160,6 +160,6 @@ fn compute_constant(op: Binary, left: Scalar, right: Scalar, x: u64, y: u64) -> 
         Binary::BitOr => fit(wide, reduced(wide, x) | reduced(wide, y)),
         Binary::BitXor => fit(wide, reduced(wide, x) ^ reduced(wide, y)),
         Binary::ShiftLeft => fit(left, shift_left(left, reduced(left, x), reduced(right, y))),
-        Binary::ShiftRight => fit(left, shift_right(left, reduced(left, x), reduced(right, y))),
+        Binary::ShiftRight => fit(left, shift_right(reduced(left, x), reduced(right, y))),
     }
 }

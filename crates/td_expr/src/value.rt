@@ -1,6 +1,6 @@
 //! Comparisons and shifts in 64 bits.
 
-ghost use Rattle.std.specs.Prelude.{◌≡◌, ◌<◌, ◌^◌, ◌*◌, ◌/◌, ◌%◌, pos};
+ghost use Rattle.std.specs.Prelude.{◌≡◌, ◌^◌, ◌*◌, ◌/◌, ◌%◌, pos};
 ghost use Rattle.td_core.specs.Types.{limit};
 ghost use Rattle.td_expr.specs.Value.{related};
 
@@ -21,9 +21,8 @@ pub fn compare(relation: Relation, left: u64, right: u64) -> bool
     }
 }
 
-/// A number of a type shifted to the left by an amount; bits past the type's width are dropped.
+/// A number shifted to the left by an amount, less the bits past the width of its type.
 pub fn shift_left(scalar: Scalar, value: u64, amount: u64) -> u64
-    requires { value < limit scalar }
     ensures { result ≡ (value * 2 ^ amount) % limit scalar }
 {
     if amount < 64 {
@@ -33,9 +32,8 @@ pub fn shift_left(scalar: Scalar, value: u64, amount: u64) -> u64
     }
 }
 
-/// A number of a type shifted to the right by an amount.
-pub fn shift_right(scalar: Scalar, value: u64, amount: u64) -> u64
-    requires { value < limit scalar }
+/// A number shifted to the right by an amount.
+pub fn shift_right(value: u64, amount: u64) -> u64
     ensures { result ≡ value / 2 ^ amount }
 {
     if amount < 64 { value >> amount } else { 0 }

@@ -4,11 +4,11 @@ ghost use Rattle.std.specs.Prelude.{◌≡◌, [], Some};
 ghost use Rattle.td_stream.specs.Layouts.{AreWithin};
 ghost use Rattle.td_stream.specs.Loads.{buffered};
 
-use crate::made::Made;
 use crate::memory::TdWords;
 use std::mem;
 use td_stream::layout::Layout;
 use td_stream::load::Load;
+use td_stream::made::Made;
 use td_stream::words::Words;
 
 /// The words of a message that lies so in memory of C.

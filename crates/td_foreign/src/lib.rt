@@ -3,11 +3,9 @@
 #![tactic(auto)]
 
 mod foreign;
-mod made;
 mod memory;
 mod noted;
 
 pub use foreign::ForeignWords;
-pub use made::{Made, Trail};
 pub use memory::TdWords;
 pub use noted::{NotedWords, TdLoad};

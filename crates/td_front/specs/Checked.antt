@@ -1,6 +1,6 @@
 -- What holds of each module that a text stands for (own rule). Layers above rest on this alone, and never look into trees.
-use Rattle.std.specs.Prelude.{◌≡◌, ◌⊎◌, ◌≤◌, ℕ, List, [], length, Some, None, slice_get}
-use Rattle.td_num.specs.Lists.{Each}
+use Rattle.std.specs.Prelude.{◌≡◌, ◌⊎◌, ◌≤◌, ℕ, [], length, None}
+use Rattle.td_num.specs.Lists.{Each, AreApart}
 use Rattle.td_core.specs.declared.module.Module.{Module}
 use Rattle.td_core.specs.Formed.{IsModuleFormed}
 use Rattle.td_core.specs.Copies.{IsCopying}
@@ -12,10 +12,6 @@ use Rattle.td_core.specs.Sizes.{IsFieldStepped}
 use Rattle.td_lexer.specs.Splits.{IsName, IsDotted, IsLongName}
 use Rattle.td_kinds.specs.KindRules.{kind_faults}
 use Rattle.td_arith.specs.SafeModule.{module_unsafe}
-
--- no two names have the same bytes
-abbrev pub AreApart : List (List ℕ) → Type 0
-AreApart names = (i j : ℕ) (name : List ℕ) → slice_get names i ≡ Some name → slice_get names j ≡ Some name → i ≡ j
 
 pub record IsChecked (m : Module) : Type 0 where
   -- levels are in scope, literals fit, and earlier definitions are named with arguments and cells that match

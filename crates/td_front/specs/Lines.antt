@@ -6,6 +6,7 @@ use Rattle.td_limits.specs.declared.limits.Limit as limits
 use Rattle.td_limits.specs.declared.limits.Limit.TheVariants as limit
 use Rattle.td_elab_rules.specs.declared.breach.Rule.{Rule}
 use Rattle.td_elab_rules.specs.declared.breach.Rule.TheVariants as rule
+use Rattle.td_elab_rules.specs.Breach.{rule_words}
 use Rattle.td_front.specs.declared.error.FrontError.{FrontError}
 use Rattle.td_front.specs.declared.error.FrontError.TheVariants.{BadByte, OpenComment, BigNumber, Unexpected, Deep, Limit, Broken, Cycle, ZeroElement, RestNotLast, Unsafe, Room, NoMemory}
 
@@ -25,7 +26,7 @@ place_of (Unsafe span op) = span.from
 place_of (Room span) = span.from
 place_of NoMemory = 0
 
--- the codes and words of the rules of names, types, constants and actions
+-- the codes of the rules of names, types, constants and actions
 abbrev pub rule_code : Rule → List ℕ
 rule_code rule.Unknown = codes "N1"
 rule_code rule.Twice = codes "N2"
@@ -35,16 +36,6 @@ rule_code rule.Mismatch = codes "Y1"
 rule_code rule.Narrowing = codes "Y2"
 rule_code rule.NotConstant = codes "Y3"
 rule_code rule.BadAction = codes "Y4"
-
-abbrev pub rule_words : Rule → List ℕ
-rule_words rule.Unknown = codes "unknown name"
-rule_words rule.Twice = codes "name twice"
-rule_words rule.NotReadable = codes "not readable"
-rule_words rule.WrongArgs = codes "wrong arguments"
-rule_words rule.Mismatch = codes "type mismatch"
-rule_words rule.Narrowing = codes "does not fit"
-rule_words rule.NotConstant = codes "not constant"
-rule_words rule.BadAction = codes "bad action"
 
 abbrev pub limit_words : limits.Limit → List ℕ
 limit_words limit.Definitions = codes "limit definitions"

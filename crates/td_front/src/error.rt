@@ -5,7 +5,7 @@ use td_arith::error::ArithError;
 use td_ast::token::Span;
 use td_core::expressions::Binary;
 use td_elab::elaborate::ElabError;
-use td_elab_rules::breach::Rule;
+use td_elab_rules::breach::{Rule, rule_words};
 use td_front_flat::error::FlatError;
 use td_kinds::error::KindError;
 use td_lexer::LexError;
@@ -37,7 +37,7 @@ pub enum FrontError {
     #[error("{}", limit_words(*limit))]
     Limit { limit: Limit, span: Span },
     /// N1 to N4, Y1 to Y4: a rule is broken there. N2 comes of a part too that has the name of an earlier one.
-    #[error("{rule}")]
+    #[error("{}", rule_words(*rule))]
     Broken { rule: Rule, span: Span },
     /// N5: a part is named here that uses, by itself or by other parts, the part in which it is named.
     #[error("module cycle")]

@@ -16,45 +16,12 @@ use td_front_flat_facts::laws::one_answer_each as one_of_each;
 use td_grammar::laws::{each_answered, never_both, one_refused, one_too_deep, one_tree};
 use td_lexer::tokens_are_the_splitting;
 
-/// A text stands for at most one module, or has at most one refusal, and never both.
-pub fn one_answer_each()
+// What the laws of texts below say, by those of the crates below on tokens, trees, breaches and parts.
+fn texts_are_answered()
     ensures one_module { OneModuleEach }
     ensures one_refusal { OneRefusalEach }
     ensures never_both { NeverBoth }
-{
-    tokens_are_the_splitting();
-    each_answered();
-    one_tree();
-    one_refused();
-    one_too_deep();
-    never_both();
-    one_is_first();
-    some_is_first();
-    breaches_are_all();
-    each_linked();
-    one_of_each();
-}
-
-/// A text stands for a module, or it has a refusal.
-pub fn module_or_refusal()
-    ensures { AlwaysOne }
-{
-    tokens_are_the_splitting();
-    each_answered();
-    one_tree();
-    one_refused();
-    one_too_deep();
-    never_both();
-    one_is_first();
-    some_is_first();
-    breaches_are_all();
-    each_linked();
-    one_of_each();
-}
-
-/// Where no count is passed and neither breach of parts comes, a text is answered as the one tree that its parts are, at the
-/// same places; a text without parts is answered as its tree.
-pub fn parts_are_answered_flat()
+    ensures always_one { AlwaysOne }
     ensures parts { PartsAreAnsweredFlat }
     ensures alone { ModulesAreAnsweredAlone }
 {
@@ -69,6 +36,31 @@ pub fn parts_are_answered_flat()
     breaches_are_all();
     each_linked();
     one_of_each();
+}
+
+/// A text stands for at most one module, or has at most one refusal, and never both.
+pub fn one_answer_each()
+    ensures one_module { OneModuleEach }
+    ensures one_refusal { OneRefusalEach }
+    ensures never_both { NeverBoth }
+{
+    texts_are_answered();
+}
+
+/// A text stands for a module, or it has a refusal.
+pub fn module_or_refusal()
+    ensures { AlwaysOne }
+{
+    texts_are_answered();
+}
+
+/// Where no count is passed and neither breach of parts comes, a text is answered as the one tree that its parts are, at the
+/// same places; a text without parts is answered as its tree.
+pub fn parts_are_answered_flat()
+    ensures parts { PartsAreAnsweredFlat }
+    ensures alone { ModulesAreAnsweredAlone }
+{
+    texts_are_answered();
 }
 
 /// What holds of each module for which a text stands: names are words and have their places, operators are safe, sizes are

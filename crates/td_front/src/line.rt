@@ -1,11 +1,11 @@
 //! The parts of an error line: the codes and words of all refusals of module texts.
 
 ghost use Rattle.std.specs.Prelude.{◌≡◌, ◌↔◌, IfSome, IsNone};
-ghost use Rattle.td_front.specs.Lines.{place_of, code_of, words_of, rule_code, rule_words, limit_words, unsafe_words};
+ghost use Rattle.td_front.specs.Lines.{place_of, code_of, words_of, rule_code, limit_words, unsafe_words};
 
 use crate::error::FrontError;
 use td_core::expressions::Binary;
-use td_elab_rules::breach::Rule;
+use td_elab_rules::breach::{Rule, rule_words};
 use td_limits::Limit;
 
 /// What an error line says: the byte of the text at which it stands, a code and words.
@@ -29,22 +29,6 @@ fn rule_code(rule: Rule) -> &'static str
         Rule::Narrowing => "Y2",
         Rule::NotConstant => "Y3",
         Rule::BadAction => "Y4",
-    }
-}
-
-/// The words of a rule of names, types, constants and actions.
-fn rule_words(rule: Rule) -> &'static str
-    ensures { result.now ≡ rule_words rule }
-{
-    match rule {
-        Rule::Unknown => "unknown name",
-        Rule::Twice => "name twice",
-        Rule::NotReadable => "not readable",
-        Rule::WrongArgs => "wrong arguments",
-        Rule::Mismatch => "type mismatch",
-        Rule::Narrowing => "does not fit",
-        Rule::NotConstant => "not constant",
-        Rule::BadAction => "bad action",
     }
 }
 

@@ -1,6 +1,7 @@
 //! Names of the one tree of parts, as they are spelled.
 
 ghost use Rattle.std.specs.Prelude.{◌≡◌, ◌++◌, [], ◌∷◌, map, get_or, IfOk};
+ghost use Rattle.td_num.specs.declared.text.TheConstants.{DOT};
 ghost use Rattle.td_front_flat.specs.Names.{spelled};
 ghost use Rattle.td_front_flat.specs.Order.{names_of};
 ghost use Rattle.td_front.specs.Inputs.{with_names};
@@ -13,7 +14,7 @@ use td_core::full_name::FullName;
 use td_core::module::Module;
 use td_front_flat::marks::{is_numbered, number_in, own_name};
 use td_num::items::Items;
-use td_num::text::Text;
+use td_num::text::{DOT, Text};
 
 // A part's name, which the names in the part share. A contract sees the list of its bytes.
 #[derive(Drop)]
@@ -41,7 +42,7 @@ impl PartName {
 
     // A name in the part.
     fn with(&self, alloc: Global, own: &[u8]) -> Result<FullName, AllocError>
-        ensures { IfOk result (λ name. name ≡ self.now ++ 46 ∷ own.now) }
+        ensures { IfOk result (λ name. name ≡ self.now ++ DOT ∷ own.now) }
     {
         let own = Text::copy_of(alloc, own)?;
         let part = Arc::try_clone(&self.text)?;
@@ -62,9 +63,9 @@ fn part_names(alloc: Global, parts: &[PartTree]) -> Result<Items<PartName>, Allo
 
 // A name behind a dot, as that of a part without a name.
 fn dotted(alloc: Global, own: &[u8]) -> Result<FullName, AllocError>
-    ensures { IfOk result (λ name. name ≡ 46 ∷ own.now) }
+    ensures { IfOk result (λ name. name ≡ DOT ∷ own.now) }
 {
-    let mut bytes = Vec::from_slice(alloc, b".")?;
+    let mut bytes = Vec::from_slice(alloc, &[DOT])?;
     bytes.extend_from_slice(own)?;
     Ok(FullName::alone(Text::of(bytes)))
 }
@@ -76,7 +77,7 @@ fn joined(
     number: u64,
     own: &[u8],
 ) -> Result<FullName, AllocError>
-    ensures { IfOk result (λ name. name ≡ get_or names.now number [] ++ 46 ∷ own.now) }
+    ensures { IfOk result (λ name. name ≡ get_or names.now number [] ++ DOT ∷ own.now) }
 {
     match names.get(number as usize) {
         None => dotted(alloc, own),

@@ -1,7 +1,7 @@
 -- The names of a module of a text as they are spelled: words, or two words joined by a dot, and no two alike. Cited by other crates.
 use Rattle.std.proofs.Common.{◌≡◌, ℕ, zero, suc, List, [], ◌∷◌, map, Some, None, inl, inr, refl, sym, subst, ◌∙◌}
 use Rattle.std.specs.Prelude.{slice_get}
-use Rattle.td_num.specs.Lists.{Each}
+use Rattle.td_num.specs.Lists.{Each, AreApart}
 use Rattle.td_num.proofs.Lists.{all_among, each_at, each_map}
 use Rattle.td_ast.specs.declared.token.Token.{Token}
 use Rattle.td_ast.specs.declared.parts.PartTree.{PartTree}
@@ -65,8 +65,7 @@ mapped_from f (x ∷ xs) zero y e = record { from = x; there = refl; told = cc }
 mapped_from f (x ∷ xs) (suc i) y e = let h = mapped_from f xs i y e in record { from = h.from; there = h.there; told = h.told }
 
 names_apart : NamesStayApart → (parts : List PartTree) (names : List (List ℕ)) → first_twice [] parts ≡ None → Each (OfPart IsName) parts → Each (IsFlat IsName (Parts parts)) names
-    → ((i j : ℕ) (name : List ℕ) → slice_get names i ≡ Some name → slice_get names j ≡ Some name → i ≡ j)
-    → (i j : ℕ) (name : List ℕ) → slice_get (map (spelled (names_of parts)) names) i ≡ Some name → slice_get (map (spelled (names_of parts)) names) j ≡ Some name → i ≡ j
+    → AreApart names → AreApart (map (spelled (names_of parts)) names)
 names_apart stay parts names once words flat apart i j name e f =
     let a = mapped_from (spelled (names_of parts)) names i name e in
     let b = mapped_from (spelled (names_of parts)) names j name f in

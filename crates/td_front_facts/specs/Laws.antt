@@ -1,6 +1,6 @@
 -- What holds of each module that an admitted tree stands for.
-use Rattle.std.specs.Prelude.{◌≡◌, ◌⊎◌, ◌≤◌, ℕ, List, Some, None, slice_get}
-use Rattle.td_num.specs.Lists.{Each}
+use Rattle.std.specs.Prelude.{◌≡◌, ◌⊎◌, ◌≤◌, ℕ, List, None, slice_get}
+use Rattle.td_num.specs.Lists.{Each, AreApart}
 use Rattle.td_ast.specs.declared.token.Token.{Token}
 use Rattle.td_ast.specs.declared.definitions.ModuleTree.{ModuleTree}
 use Rattle.td_ast.specs.declared.parts.InputTree.{InputTree}
@@ -46,8 +46,7 @@ TypesAreAlike =
 abbrev pub SpelledNamesAreApart : Type 0
 SpelledNamesAreApart =
     (text : List ℕ) (tokens : List Token) (input : InputTree) (m : Module) →
-    Splits text tokens → input_text.Spells input tokens → IsLinked input → StandsFor (flat input) m →
-    (i j : ℕ) (name : List ℕ) → slice_get (spelled_names input m.names) i ≡ Some name → slice_get (spelled_names input m.names) j ≡ Some name → i ≡ j
+    Splits text tokens → input_text.Spells input tokens → IsLinked input → StandsFor (flat input) m → AreApart (spelled_names input m.names)
 
 -- no limit by count or by size is passed
 pub record HasLimits (t : ModuleTree) : Type 0 where

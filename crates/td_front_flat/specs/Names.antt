@@ -1,18 +1,17 @@
 -- Names of parts' definitions in the one tree (own rule: several modules in one text): a dot, the part's number in four bytes, the
 -- least first, and the name there. A part's number is its place in the text, from 0. So a name has five bytes more in the one tree
 -- than in its part, however long its part's name is.
-use Rattle.std.specs.Prelude.{ℕ, Bool, cond, not, ◌==◌, ◌+◌, take, drop, length, get_or, slice_index, List, [], ◌∷◌, ◌++◌, Option, Some, None}
+use Rattle.std.specs.Prelude.{ℕ, Bool, cond, not, ◌+◌, take, drop, length, get_or, slice_index, List, [], ◌∷◌, ◌++◌, Option, Some, None}
 use Rattle.std.specs.List.{list_any, take_while}
 use Rattle.td_num.specs.Numbers.{byte_of, rising_at}
+use Rattle.td_num.specs.declared.text.TheConstants.{DOT}
+use Rattle.td_num.specs.Text.{is_dot}
 use Rattle.td_names.specs.Names.{is_seen, number_of}
 use Rattle.td_front_flat.specs.declared.own.Own.{Own}
 
-abbrev pub is_dot : ℕ → Bool
-is_dot b = b == 46
-
 -- the name of x of the part with this number
 abbrev pub of_part : ℕ → List ℕ → List ℕ
-of_part k x = 46 ∷ byte_of k 0 ∷ byte_of k 1 ∷ byte_of k 2 ∷ byte_of k 3 ∷ x
+of_part k x = DOT ∷ byte_of k 0 ∷ byte_of k 1 ∷ byte_of k 2 ∷ byte_of k 3 ∷ x
 
 abbrev pub is_qualified : List ℕ → Bool
 is_qualified x = list_any is_dot x
@@ -51,4 +50,4 @@ is_numbered x = is_dot (slice_index x 0)
 
 -- its part's name, a dot, and the name there; a name without a part is as it stands
 abbrev pub spelled : List (List ℕ) → List ℕ → List ℕ
-spelled parts x = cond (is_numbered x) (get_or parts (rising_at x 1 4) [] ++ 46 ∷ drop 5 x) x
+spelled parts x = cond (is_numbered x) (get_or parts (rising_at x 1 4) [] ++ DOT ∷ drop 5 x) x

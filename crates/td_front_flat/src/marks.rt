@@ -3,17 +3,19 @@
 
 ghost use Rattle.std.specs.Prelude.{◌≡◌, [], ◌∷◌, drop};
 ghost use Rattle.td_num.specs.Numbers.{byte_of, rising_at};
+ghost use Rattle.td_num.specs.declared.text.TheConstants.{DOT};
 ghost use Rattle.td_front_flat.specs.Names.{is_numbered};
 
 use td_num::bytes::{byte_of, byte_or_zero};
+use td_num::text::DOT;
 
 /// The mark of the part with this number.
 pub(crate) fn part_mark(part: u32) -> [u8; 5]
-    ensures { result ≡ 46 ∷ byte_of part 0 ∷ byte_of part 1 ∷ byte_of part 2 ∷ byte_of part 3 ∷ [] }
+    ensures { result ≡ DOT ∷ byte_of part 0 ∷ byte_of part 1 ∷ byte_of part 2 ∷ byte_of part 3 ∷ [] }
 {
     let k = part as u64;
     [
-        b'.',
+        DOT,
         byte_of(k, 0),
         byte_of(k, 1),
         byte_of(k, 2),
@@ -25,7 +27,7 @@ pub(crate) fn part_mark(part: u32) -> [u8; 5]
 pub fn is_numbered(name: &[u8]) -> bool
     ensures { result ≡ is_numbered name.now }
 {
-    byte_or_zero(name, 0) == b'.'
+    byte_or_zero(name, 0) == DOT
 }
 
 /// The number of the part in a mark: the four bytes behind the dot; those that a name lacks are 0.

@@ -11,12 +11,12 @@ use crate::own::Own;
 use std::alloc::{AllocError, Global};
 use td_ast::names::Name;
 use td_names::names::Names;
-use td_num::text::Text;
+use td_num::text::{DOT, Text};
 
 fn is_plain(b: u8) -> bool
     ensures { result ≡ names.is_plain b }
 {
-    b != b'.'
+    b != DOT
 }
 
 /// How many bytes stand before the first dot.
@@ -41,7 +41,7 @@ pub(crate) fn part_named(name: &[u8]) -> Option<&[u8]>
 pub(crate) fn is_qualified(name: &[u8]) -> bool
     ensures { result ≡ names.is_qualified name.now }
 {
-    name.contains(&b'.')
+    name.contains(&DOT)
 }
 
 /// The bytes of a name after its first dot.

@@ -1,5 +1,5 @@
 -- Names of the one tree as they are spelled. Cited by other crates.
-use Rattle.std.proofs.Common.{◌≡◌, ℕ, zero, suc, ◌+◌, ◌*◌, ◌/◌, ◌%◌, ◌^◌, ◌<◌, ◌≤◌, Bool, true, false, cond, ◌||◌, List, [], ◌∷◌, ◌++◌, length, get_or, drop, Some, None, refl, sym, ap, ap₂, subst, ◌∙◌, inl, inr, arith}
+use Rattle.std.proofs.Common.{◌≡◌, ℕ, zero, suc, ◌+◌, ◌*◌, ◌/◌, ◌^◌, ◌<◌, ◌≤◌, Bool, true, false, cond, ◌||◌, List, [], ◌∷◌, ◌++◌, length, get_or, drop, Some, None, refl, sym, ap, ap₂, subst, ◌∙◌, inl, inr, arith}
 use Rattle.std.specs.Prelude.{◌==◌}
 use Rattle.std.specs.Str.{bytes_eq}
 use Rattle.std.proofs.lemmas.Bool.Decides.{nat_tests}
@@ -8,6 +8,7 @@ use Rattle.std.proofs.lemmas.Slice.Eq.{bytes_eq-Decides}
 use Rattle.td_num.specs.Numbers.{byte_of}
 use Rattle.td_num.specs.Lists.{Each}
 use Rattle.td_num.proofs.Truths.{both_true}
+use Rattle.td_num.proofs.Digits.{byte_below}
 use Rattle.td_ast.specs.declared.parts.PartTree.{PartTree}
 use Rattle.td_lexer.specs.Bytes.{is_letter, is_word_byte, every}
 use Rattle.td_lexer.specs.Splits.{IsName, IsDotted}
@@ -25,9 +26,6 @@ four a b c d = 256 * (256 * (256 * (256 * 0 + d) + c) + b) + a
 -- the number that a name of the part k has, as it is read back
 abbrev pub place : ℕ → ℕ
 place k = four (byte_of k 0) (byte_of k 1) (byte_of k 2) (byte_of k 3)
-
-byte_small : (n : ℕ) → n % 256 < 256
-byte_small n = omega arith
 
 -- the bytes of a number by its digits in base 256
 record HasDigits (k a b c d : ℕ) : Type 0 where
@@ -60,8 +58,8 @@ same_digits a b c d e f g h la lb lc le lf lg s = record { first = omega (arith,
 same_part : (k l : ℕ) (x : List ℕ) → place k ≡ place l → of_part k x ≡ of_part l x
 same_part k l x s =
     let h =
-    same_digits (byte_of k 0) (byte_of k 1) (byte_of k 2) (byte_of k 3) (byte_of l 0) (byte_of l 1) (byte_of l 2) (byte_of l 3) (byte_small (k / 2 ^ (8 * 0))) (byte_small (k / 2 ^ (8 * 1))) (byte_small (k / 2 ^ (8 * 2)))
-    (byte_small (l / 2 ^ (8 * 0))) (byte_small (l / 2 ^ (8 * 1))) (byte_small (l / 2 ^ (8 * 2))) s
+    same_digits (byte_of k 0) (byte_of k 1) (byte_of k 2) (byte_of k 3) (byte_of l 0) (byte_of l 1) (byte_of l 2) (byte_of l 3) (byte_below (k / 2 ^ (8 * 0))) (byte_below (k / 2 ^ (8 * 1))) (byte_below (k / 2 ^ (8 * 2)))
+    (byte_below (l / 2 ^ (8 * 0))) (byte_below (l / 2 ^ (8 * 1))) (byte_below (l / 2 ^ (8 * 2))) s
     in
     ap (λ (b : ℕ). 46 ∷ b ∷ byte_of k 1 ∷ byte_of k 2 ∷ byte_of k 3 ∷ x) h.first ∙ ap (λ (b : ℕ). 46 ∷ byte_of l 0 ∷ b ∷ byte_of k 2 ∷ byte_of k 3 ∷ x) h.second
     ∙ ap (λ (b : ℕ). 46 ∷ byte_of l 0 ∷ byte_of l 1 ∷ b ∷ byte_of k 3 ∷ x) h.third ∙ ap (λ (b : ℕ). 46 ∷ byte_of l 0 ∷ byte_of l 1 ∷ byte_of l 2 ∷ b ∷ x) h.fourth

@@ -1,10 +1,10 @@
 -- There is a message of each number.
-use Rattle.std.proofs.Common.{ℕ, zero, suc, ◌+◌, ◌-◌, ◌/◌, ◌%◌, ◌^◌, ◌<◌, List, [], ◌∷◌, ◌++◌, length, refl, arith, lit<}
+use Rattle.std.proofs.Common.{ℕ, zero, suc, ◌+◌, ◌-◌, ◌/◌, ◌^◌, ◌<◌, List, [], ◌∷◌, ◌++◌, length, refl, arith, lit<}
 use Rattle.std.specs.Prelude.{replicate}
 use Rattle.std.specs.Int.{w16, w32, byte_at, bytes_low_first, bytes_high_first, to_le_bytes, to_be_bytes}
 use Rattle.std.specs.List.{All}
 use Rattle.std.proofs.lemmas.List.Elements.{All-nil, All-cons, All-append, All-push, All-replicate}
-use Rattle.td_num.proofs.Digits.{are_bytes}
+use Rattle.td_num.proofs.Digits.{are_bytes, byte_below}
 use Rattle.td_formats.specs.declared.format.Format.{Format}
 use Rattle.td_formats.specs.declared.format.Format.TheVariants.{Ethernet, Ipv4, Tcp, Rndis}
 use Rattle.td_formats.specs.Format.{entry_of}
@@ -27,10 +27,7 @@ fillers_small n j (suc k) = All-push Small (fillers n j k) (filler n (j + k)) (f
 
 byte_small : (i n : ℕ) → Small (byte_at i n)
 byte_small zero n = omega arith
-byte_small (suc i) n = remainder (n / 256 ^ suc i)
-  where
-    remainder : (m : ℕ) → m % 256 < 256
-    remainder m = omega arith
+byte_small (suc i) n = byte_below (n / 256 ^ suc i)
 
 low_small : (i k n : ℕ) → All Small (bytes_low_first i k n)
 low_small i zero n = All-nil Small

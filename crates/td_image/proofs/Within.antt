@@ -9,7 +9,7 @@ use Rattle.std.proofs.lemmas.List.Folds.{list_any-append}
 use Rattle.std.proofs.lemmas.Slice.Eq.{bytes_eq-Decides}
 use Rattle.td_num.specs.declared.number.Width.{Width}
 use Rattle.td_num.specs.declared.number.Width.TheVariants.{One, Two, Four, Eight}
-use Rattle.td_num.specs.Lists.{Each}
+use Rattle.td_num.specs.Lists.{Each, AreApart}
 use Rattle.td_core.specs.declared.module.NameId.{NameId}
 use Rattle.td_core.specs.declared.module.Param.{Param}
 use Rattle.td_core.specs.declared.module.Cell.{Cell}
@@ -35,7 +35,7 @@ use Rattle.td_image.specs.Names.{is_image_name}
 use Rattle.td_image.specs.declared.version.ImageVersion.TheVariants.{Third}
 use Rattle.td_image.specs.Answer.{written}
 use Rattle.td_image.specs.Image as format
-use Rattle.td_image.specs.Within.{IsSpelled, AreApart, IsSmallMap, total, IsRoom, IsSmallRoutine, HasSmallOperands, IsWithinFormat}
+use Rattle.td_image.specs.Within.{IsSpelled, IsSmallMap, total, IsRoom, IsSmallRoutine, HasSmallOperands, IsWithinFormat}
 use Rattle.td_image.proofs.Fitting.{sum_of, begin_whole}
 use Rattle.td_num.proofs.Truths.{or_right, or_left, false_by}
 use Rattle.td_num.proofs.Lists.{each_by as each_at, each_map}

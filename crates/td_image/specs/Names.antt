@@ -2,6 +2,7 @@
 -- structure"); in a version with dots a name may also be two NAMEs, no keywords, joined by one (own rule).
 use Rattle.std.specs.Prelude.{ℕ, Bool, false, ◌&&◌, ◌||◌, not, List, [], ◌∷◌, nat_le, ◌==◌, length, take_while}
 use Rattle.std.specs.List.{before_first, after_first}
+use Rattle.td_num.specs.Text.{is_dot}
 use Rattle.td_lexer.specs.Spellings.{is_keyword}
 use Rattle.td_image.specs.declared.version.ImageVersion.{ImageVersion}
 use Rattle.td_image.specs.Versions.{has_dots}
@@ -21,9 +22,6 @@ is_name (b ∷ bs) = is_letter b && (length (take_while is_letter_or_digit bs) =
 -- and no keyword
 abbrev pub is_plain : List ℕ → Bool
 is_plain name = is_name name && not (is_keyword name)
-
-abbrev pub is_dot : ℕ → Bool
-is_dot b = b == 46
 
 -- `M.x`: what stands before the first dot, and what stands behind it
 abbrev pub are_two_names : List ℕ → Bool

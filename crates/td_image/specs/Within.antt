@@ -1,6 +1,6 @@
 -- Which code has an image, in one record: tables that fit together have one exactly where they are within this (own rule).
-use Rattle.std.specs.Prelude.{◌≡◌, ℕ, ◌+◌, ◌^◌, ◌<◌, ◌≤◌, true, List, [], ◌∷◌, length, Some, slice_get}
-use Rattle.td_num.specs.Lists.{Each}
+use Rattle.std.specs.Prelude.{◌≡◌, ℕ, ◌+◌, ◌^◌, ◌<◌, ◌≤◌, true, List, [], ◌∷◌, length}
+use Rattle.td_num.specs.Lists.{Each, AreApart}
 use Rattle.td_ir.specs.declared.tables.Routine.{Routine}
 use Rattle.td_ir.specs.declared.tables.Parts.{Parts}
 use Rattle.td_image.specs.declared.limits.TheConstants.{MOST_ROWS, MOST_INSTRUCTIONS, MOST_CELLS, MOST_BUFFERS, MOST_ROOM, MOST_MAPPED, MOST_NUMBERS, MOST_PARAMETERS, MOST_REGISTERS}
@@ -15,10 +15,6 @@ pub record IsSpelled (name : List ℕ) : Type 0 where
   pub word : is_image_name Third name ≡ true
   pub bytes : AreBytes name
   pub few : length name < 2 ^ 32
-
--- no two names have the same bytes
-abbrev pub AreApart : List (List ℕ) → Type 0
-AreApart names = (i j : ℕ) (name : List ℕ) → slice_get names i ≡ Some name → slice_get names j ≡ Some name → i ≡ j
 
 -- cells, and then buffers
 pub record IsSmallMap (mapped : List ℕ) : Type 0 where

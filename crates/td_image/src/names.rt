@@ -2,10 +2,12 @@
 
 ghost use Rattle.std.specs.Prelude.{◌≡◌, length, take_while};
 ghost use Rattle.std.specs.List.{position_or_len};
+ghost use Rattle.td_num.specs.Text.{is_dot};
 ghost use Rattle.td_image.specs.Names as names;
 
 use crate::version::{ImageVersion, has_dots};
 use td_lexer::is_keyword;
+use td_num::text::DOT;
 
 /// Whether a byte is a letter or `_`.
 fn is_letter(b: u8) -> bool
@@ -47,9 +49,9 @@ fn is_plain(text: &[u8]) -> bool
 
 /// Where the first dot stands; the length where there is none.
 fn dot_of(text: &[u8]) -> usize
-    ensures { result ≡ position_or_len names.is_dot text.now }
+    ensures { result ≡ position_or_len is_dot text.now }
 {
-    text.iter().take_while(|b| !(**b == b'.')).count()
+    text.iter().take_while(|b| !(**b == DOT)).count()
 }
 
 /// Whether bytes are two names, no keywords, joined by a dot.

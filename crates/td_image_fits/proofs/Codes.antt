@@ -1,6 +1,6 @@
 -- The code of a small checked module is within the format of images.
 use Rattle.std.proofs.Common.{◌≡◌, ℕ, ◌*◌, ◌≤◌, [], ◌∷◌, length, codes, Option, Some, None, slice_get, refl, sym, ap, subst, arith, length-append}
-use Rattle.td_num.specs.Lists.{Each}
+use Rattle.td_num.specs.Lists.{Each, AreApart}
 use Rattle.td_core.specs.declared.module.TypeDef.{TypeDef}
 use Rattle.td_core.specs.declared.module.Module.{Module}
 use Rattle.td_core.specs.declared.limits.TheConstants.{MOST_DEFINITIONS, MOST_NODES}
@@ -18,7 +18,7 @@ use Rattle.td_lower.proofs.Rooms.{sites_less, own_nodes}
 use Rattle.td_lower.proofs.Standing.{all_sites, all_maps}
 use Rattle.td_lower.proofs.Places.{routines_count}
 use Rattle.td_image.specs.declared.limits.TheConstants.{MOST_ROWS}
-use Rattle.td_image.specs.Within.{IsSpelled, AreApart, IsSmallMap, IsSmallRoutine, IsWithinFormat}
+use Rattle.td_image.specs.Within.{IsSpelled, IsSmallMap, IsSmallRoutine, IsWithinFormat}
 use Rattle.td_image_fits.specs.Small.{IsWord, IsFieldSmall, HasSmallCases, IsSmall}
 use Rattle.td_image_fits.specs.Laws.{CodeIsWithin}
 use Rattle.td_image_fits.proofs.Blocks.{IsRoomy, AreRoomy}

@@ -6,17 +6,18 @@ use Rattle.std.proofs.lemmas.List.{take_at, drop_at}
 use Rattle.std.proofs.lemmas.Bool.{leb-true, and_parts}
 use Rattle.std.proofs.lemmas.Bool.Decides.{Decides-eqb}
 use Rattle.std.proofs.lemmas.List.Sums.{take_while-cons}
-use Rattle.td_num.specs.Lists.{Each}
+use Rattle.td_num.specs.Lists.{Each, AreApart}
 use Rattle.td_lexer.specs.Bytes.{is_letter, is_digit, is_word_byte, every, first_is}
 use Rattle.td_lexer.specs.Spellings.{is_keyword}
 use Rattle.td_lexer.specs.Splits.{IsName, IsLongName}
 use Rattle.td_image.specs.Format.{AreBytes}
 use Rattle.td_image.specs.Names as names
-use Rattle.td_image.specs.Within.{IsSpelled, AreApart}
+use Rattle.td_image.specs.Within.{IsSpelled}
 use Rattle.td_lower.proofs.Tabling.{no_where, no_switch}
 use Rattle.td_image_fits.proofs.Lists.{get_end}
 use Rattle.td_num.proofs.Lists.{each_at, each_append}
 use Rattle.td_num.proofs.Truths.{or_left, or_right}
+use Rattle.td_num.specs.Text.{is_dot}
 
 -- ---- spelling
 
@@ -70,18 +71,18 @@ no_dot b h = by (b == 46) refl
     by false e = refl
     by true e = (let low : is_word_byte 46 ≡ true = subst (λ x. is_word_byte x ≡ true) ((Decides-eqb b 46).0 e) h in absurd cc)
 
-dot_at : (part own : List ℕ) → every is_word_byte part ≡ true → position_or_len names.is_dot (part ++ 46 ∷ own) ≡ length part
+dot_at : (part own : List ℕ) → every is_word_byte part ≡ true → position_or_len is_dot (part ++ 46 ∷ own) ≡ length part
 dot_at [] own h = refl
 dot_at (b ∷ bs) own h =
     let both = and_parts (is_word_byte b) (every is_word_byte bs) h in
     let further = dot_at bs own both.1 in
-    let one_more : 1 + position_or_len names.is_dot (bs ++ 46 ∷ own) ≡ length (b ∷ bs) = omega (arith, further) in
-    ap (λ c. cond c (1 + position_or_len names.is_dot (bs ++ 46 ∷ own)) 0) (no_dot b both.0) ∙ one_more
+    let one_more : 1 + position_or_len is_dot (bs ++ 46 ∷ own) ≡ length (b ∷ bs) = omega (arith, further) in
+    ap (λ c. cond c (1 + position_or_len is_dot (bs ++ 46 ∷ own)) 0) (no_dot b both.0) ∙ one_more
 
-before : (part own : List ℕ) → every is_word_byte part ≡ true → before_first names.is_dot (part ++ 46 ∷ own) ≡ part
+before : (part own : List ℕ) → every is_word_byte part ≡ true → before_first is_dot (part ++ 46 ∷ own) ≡ part
 before part own h = ap (λ n. take n (part ++ 46 ∷ own)) (dot_at part own h) ∙ take_at part (46 ∷ own) (length part) refl
 
-behind : (part own : List ℕ) → every is_word_byte part ≡ true → after_first names.is_dot (part ++ 46 ∷ own) ≡ own
+behind : (part own : List ℕ) → every is_word_byte part ≡ true → after_first is_dot (part ++ 46 ∷ own) ≡ own
 behind part own h =
     let count : length (part ++ 46 ∷ []) ≡ length part + 1 = length-append part (46 ∷ []) in
     ap (λ n. drop (n + 1) (part ++ 46 ∷ own)) (dot_at part own h)
@@ -96,7 +97,7 @@ plain name h =
 
 two_names : (part own : List ℕ) → IsName part → IsName own → names.are_two_names (part ++ 46 ∷ own) ≡ true
 two_names part own first second =
-    ap (λ l. names.is_plain l && names.is_plain (after_first names.is_dot (part ++ 46 ∷ own))) (before part own first.1)
+    ap (λ l. names.is_plain l && names.is_plain (after_first is_dot (part ++ 46 ∷ own))) (before part own first.1)
     ∙ ap (λ l. names.is_plain part && names.is_plain l) (behind part own first.1)
     ∙ ap (λ b. b && names.is_plain own) (plain part first)
     ∙ plain own second

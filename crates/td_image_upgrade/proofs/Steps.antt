@@ -2,7 +2,7 @@
 use Rattle.std.proofs.Common.{◌≡◌, ℕ, zero, suc, ◌+◌, ◌-◌, ◌*◌, ◌/◌, ◌%◌, Bool, true, false, cond, min, List, [], ◌∷◌, ◌++◌, Option, Some, None, map, refl, ap, ◌∙◌}
 use Rattle.std.specs.Prelude.{nat_eq, nat_le, nat_lt, slice_index, slice_index_or, slice_set}
 use Rattle.td_num.specs.Numbers.{ordered_at, places_from}
-use Rattle.td_num.specs.Lists.{Each, is_among}
+use Rattle.td_num.specs.Lists.{Each, is_among, first_where, looked_at}
 use Rattle.td_core.specs.declared.module.NameId.{NameId}
 use Rattle.td_core.specs.declared.outcome.Reason.{Reason}
 use Rattle.td_core.specs.declared.outcome.Reason.TheVariants.{NotEnough, ListSize, Constraint, Padding}
@@ -12,7 +12,7 @@ use Rattle.td_ir.specs.declared.instructions.Instr.TheVariants as i
 use Rattle.td_ir.specs.declared.tables.Parts.{Parts}
 use Rattle.td_ir.specs.Tables.{routine_of, set_of}
 use Rattle.td_ir.specs.State.{State, reg, with_reg, at_pos, left, Way, Returned, Turned, Failed, Stuck, Exit, at_once, after}
-use Rattle.td_ir.specs.Values.{bit, operated, bits_of, reason_of, order_of, numbers_from, first_where, looked_at, is_zero, is_nonzero}
+use Rattle.td_ir.specs.Values.{bit, operated, bits_of, reason_of, order_of, numbers_from, is_zero, is_nonzero}
 use Rattle.td_ir.specs.Flow.{Flow, Goes, Fails, Calls, Effect, plain, where_so, has_bytes, zeros_flow, zeroterm_flow, effect}
 use Rattle.td_ir.specs.Run.{Callees, spot_named, frame, back, back_by, led, follow, pick, goes, exits}
 use Rattle.td_ir.specs.Fields.{named}

@@ -1,7 +1,7 @@
 -- What one instruction does on a message that stays: a line for each kind (own rule; docs/language/code.md).
 use Rattle.std.specs.Prelude.{ℕ, suc, ◌+◌, ◌*◌, ◌/◌, ◌%◌, min, Bool, true, false, cond, List, [], Option, Some, None, slice_index, slice_set, nat_eq, nat_le}
 use Rattle.td_num.specs.Numbers.{ordered_at, places_from}
-use Rattle.td_num.specs.Lists.{is_among}
+use Rattle.td_num.specs.Lists.{is_among, first_where, looked_at}
 use Rattle.td_core.specs.declared.outcome.Reason.{Reason}
 use Rattle.td_core.specs.declared.outcome.Reason.TheVariants.{NotEnough, ListSize, Constraint, Padding}
 use Rattle.td_ir.specs.declared.instructions.Instr.{Instr}
@@ -9,7 +9,7 @@ use Rattle.td_ir.specs.declared.instructions.Instr.TheVariants as i
 use Rattle.td_ir.specs.declared.tables.Parts.{Parts}
 use Rattle.td_ir.specs.Tables.{routine_of, set_of}
 use Rattle.td_ir.specs.State.{State, reg, with_reg, at_pos, left}
-use Rattle.td_ir.specs.Values.{bit, operated, bits_of, reason_of, order_of, numbers_from, first_where, looked_at, is_zero, is_nonzero}
+use Rattle.td_ir.specs.Values.{bit, operated, bits_of, reason_of, order_of, numbers_from, is_zero, is_nonzero}
 
 -- what an instruction leads to: a place, a failure at a site with its position, a call, the end of the routine, a loop's turns, the end of a turn
 pub data Flow : Type 0 where

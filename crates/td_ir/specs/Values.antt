@@ -1,5 +1,5 @@
 -- What operators and other instructions compute (own rule). Registers are below 2^64.
-use Rattle.std.specs.Prelude.{ℕ, zero, suc, ◌+◌, ◌-◌, ◌*◌, ◌/◌, ◌%◌, ◌^◌, Bool, true, false, cond, List, [], ◌∷◌, Option, Some, None, nat_eq, nat_lt, nat_le, bit_and, bit_or, bit_xor}
+use Rattle.std.specs.Prelude.{ℕ, zero, suc, ◌+◌, ◌-◌, ◌*◌, ◌/◌, ◌%◌, ◌^◌, Bool, true, false, cond, List, [], ◌∷◌, nat_eq, nat_lt, nat_le, bit_and, bit_or, bit_xor}
 use Rattle.td_num.specs.Numbers.{rising_at}
 use Rattle.td_num.specs.declared.number.ByteOrder.{ByteOrder}
 use Rattle.td_num.specs.declared.number.ByteOrder.TheVariants.{LittleEndian, BigEndian}
@@ -59,20 +59,6 @@ order_of (suc x) = BigEndian
 abbrev pub numbers_from : List ℕ → ℕ → ℕ → ℕ → List ℕ
 numbers_from message p w zero = []
 numbers_from message p w (suc n) = rising_at message p w ∷ numbers_from message (p + w) w n
-
-abbrev pub one_more : Option ℕ → Option ℕ
-one_more None = None
-one_more (Some k) = Some (suc k)
-
--- the place of the first number that a test holds of
-abbrev pub first_where : (ℕ → Bool) → List ℕ → Option ℕ
-first_where test [] = None
-first_where test (x ∷ xs) = cond (test x) (Some 0) (one_more (first_where test xs))
-
--- how many of n are looked at up to and with the first, if there is one
-abbrev pub looked_at : Option ℕ → ℕ → ℕ
-looked_at None n = n
-looked_at (Some k) n = suc k
 
 abbrev pub is_zero : ℕ → Bool
 is_zero n = nat_eq n 0

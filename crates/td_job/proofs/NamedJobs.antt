@@ -7,7 +7,7 @@ use Rattle.std.proofs.lemmas.List.Elements.{All-nil, All-cons}
 use Rattle.td_core.specs.declared.module.Module.{Module}
 use Rattle.td_core.specs.declared.module.Entry.{Entry}
 use Rattle.td_core.specs.Entries.{entry_definition}
-use Rattle.td_core.specs.Formed.{Bound, AllFit}
+use Rattle.td_core.specs.Formed.{Bound, AllFit, params_at, cells_at}
 use Rattle.td_sched.specs.declared.store.PlannedStore.{PlannedStore}
 use Rattle.td_job.specs.declared.error.Key.{Key}
 use Rattle.td_job.specs.declared.error.Key.TheVariants as key
@@ -20,7 +20,7 @@ use Rattle.td_job.specs.declared.checks.TheConstants.{MOST_BYTES}
 use Rattle.td_job.specs.declared.named.NamedJob.{NamedJob}
 use Rattle.td_job.specs.declared.run_job.RunJob.{RunJob}
 use Rattle.td_job.specs.Fields.{fault_if, IsFirst}
-use Rattle.td_job.specs.Values.{value_faults, args_bounds, cells_bounds}
+use Rattle.td_job.specs.Values.{value_faults}
 use Rattle.td_job.specs.Jobs.{IsEntry, HasRoom, HasValues}
 use Rattle.td_job.specs.Named.{each_number_faults, number_faults, each_word_faults, named_faults, FirstNamedFault, IsNamedJob}
 use Rattle.td_job.proofs.Numbers.{both_empty, not_over, drop_get, drop_next}
@@ -172,8 +172,8 @@ has_values m job j h args cells =
     let length_is = both_empty _ _ stores.0 in
     let lists = both_empty _ _ length_is.0 in
     record {
-      args = subst (AllFit (args_bounds d)) (sym args) (numbers_fit key.Args (args_bounds d) job.args lists.0);
-      cells = subst (AllFit (cells_bounds d)) (sym cells) (numbers_fit key.Cells (cells_bounds d) job.cells lists.1);
+      args = subst (AllFit (params_at d)) (sym args) (numbers_fit key.Args (params_at d) job.args lists.0);
+      cells = subst (AllFit (cells_at d)) (sym cells) (numbers_fit key.Cells (cells_at d) job.cells lists.1);
     }
 
 pub entry_within : (m : Module) (name : List ℕ) (entry : Entry) → IsEntry m (Some name) entry → entry.number < length m.entries

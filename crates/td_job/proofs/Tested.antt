@@ -5,12 +5,13 @@ use Rattle.serde_json.specs.Find.{as_object}
 use Rattle.td_core.specs.declared.module.Module.{Module}
 use Rattle.td_core.specs.declared.module.Entry.{Entry}
 use Rattle.td_core.specs.Entries.{entry_definition}
+use Rattle.td_core.specs.Formed.{params_at, cells_at}
 use Rattle.td_job.specs.declared.error.JobError.{JobError}
 use Rattle.td_job.specs.declared.error.JobError.TheVariants.{NoMemory}
 use Rattle.td_job.specs.declared.error.Key.TheVariants as key
 use Rattle.td_job.specs.declared.error.Path.TheVariants as path
 use Rattle.td_job.specs.Fields.{IsFirst, field_of, number_of, text_of}
-use Rattle.td_job.specs.Values.{args_bounds, args_faults, cells_bounds, cells_faults}
+use Rattle.td_job.specs.Values.{args_faults, cells_faults}
 use Rattle.td_job.specs.Stretches.{stretches_faults}
 use Rattle.td_job.proofs.Numbers.{first_of_more}
 use Rattle.td_job.specs.Jobs.{bytes_faults, first_unknown, given_by, FirstFaultBy, faults_by, IsEntry, BeginsWell, EndsWell, given_bytes, job_words, length_faults, run_keys, stores_faults, unknown_faults}
@@ -38,10 +39,10 @@ at_message a b g s u e ha hb h = first_of_more (a ++ b ++ g ++ s) u e (first_of_
 -- the first fault of the first fields is that of the job
 module _ (o : Option Data) (m : Module) (job : Data) (entry : Entry) (e : JobError) (named : IsEntry m (text_of key.Entry job) entry) where
   abbrev in_args : List JobError
-  in_args = args_faults (args_bounds (entry_definition m entry.number)) (field_of key.Args job)
+  in_args = args_faults (params_at (entry_definition m entry.number)) (field_of key.Args job)
 
   abbrev in_cells : List JobError
-  in_cells = cells_faults (cells_bounds (entry_definition m entry.number)) (field_of key.Cells job)
+  in_cells = cells_faults (cells_at (entry_definition m entry.number)) (field_of key.Cells job)
 
   abbrev in_stores : List JobError
   in_stores = stores_faults (given_by o m entry job).words (field_of key.Stores job)
@@ -69,7 +70,7 @@ module _ (m : Module) (job : Data) (entry : Entry) (begins : BeginsWell m job en
   -- its faults are those of fields of other names
   unknown_alone : faults_by None m entry job ≡ unknown_faults path.Unknown (first_unknown run_keys (as_object job))
   unknown_alone =
-      last_of (args_faults (args_bounds (entry_definition m entry.number)) (field_of key.Args job)) (cells_faults (cells_bounds (entry_definition m entry.number)) (field_of key.Cells job))
+      last_of (args_faults (params_at (entry_definition m entry.number)) (field_of key.Args job)) (cells_faults (cells_at (entry_definition m entry.number)) (field_of key.Cells job))
       (bytes_faults key.Bytes (text_of key.Bytes job)) (length_faults (field_of key.Stretches job) (length (given_bytes job)) (number_of key.Length job))
       (stretches_faults (length (given_bytes job)) (number_of key.Length job) (field_of key.Stretches job)) (stores_faults (job_words job) (field_of key.Stores job))
       (unknown_faults path.Unknown (first_unknown run_keys (as_object job))) begins.args begins.cells begins.bytes begins.within ends.stretches ends.stores

@@ -14,9 +14,9 @@ use Rattle.td_job.specs.declared.error.Key.TheVariants as key
 use Rattle.td_job.specs.declared.error.JobError.{JobError}
 use Rattle.td_job.specs.declared.error.JobError.TheVariants.{NoMemory}
 use Rattle.td_job.specs.declared.run_job.RunJob.{RunJob}
-use Rattle.td_core.specs.Formed.{AllFit}
+use Rattle.td_core.specs.Formed.{AllFit, params_at, cells_at}
 use Rattle.td_job.specs.Fields.{Reads, text_of, field_of, IsFirst}
-use Rattle.td_job.specs.Values.{args_bounds, cells_bounds, given_args, given_cells}
+use Rattle.td_job.specs.Values.{given_args, given_cells}
 use Rattle.td_job.specs.Jobs.{Given, given, EntryFault, IsEntry, FirstFaultBy, later_faults, IsJob, IsRunJob, RefusedJobBy, RefusedJobOf, RefusedJob, HasValues}
 use Rattle.td_job.specs.Words.{IsFilled}
 use Rattle.td_job.proofs.Bytes.{filled_once}
@@ -163,8 +163,8 @@ values m job j h =
     let message = both_empty _ _ stores.0 in
     let lists = both_empty _ _ message.0 in
     record {
-      args = subst (AllFit (args_bounds d)) (sym h.args) (args_fit (args_bounds d) (field_of key.Args job) lists.0);
-      cells = subst (AllFit (cells_bounds d)) (sym h.cells) (cells_fit (cells_bounds d) (field_of key.Cells job) lists.1);
+      args = subst (AllFit (params_at d)) (sym h.args) (args_fit (params_at d) (field_of key.Args job) lists.0);
+      cells = subst (AllFit (cells_at d)) (sym h.cells) (cells_fit (cells_at d) (field_of key.Cells job) lists.1);
     }
 
 -- each parameter and cell of a job has a value that fits

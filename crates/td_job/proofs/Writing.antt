@@ -7,9 +7,8 @@ use Rattle.serde_json.specs.Find.{as_object}
 use Rattle.td_core.specs.declared.module.Module.{Module}
 use Rattle.td_core.specs.declared.module.Entry.{Entry}
 use Rattle.td_core.specs.declared.outcome.Outcome.{Outcome}
-use Rattle.td_core.specs.declared.module.TypeDef.{TypeDef}
 use Rattle.td_core.specs.Entries.{entry_definition}
-use Rattle.td_core.specs.Formed.{AllFit, params_at, cells_at}
+use Rattle.td_core.specs.Formed.{params_at, cells_at}
 use Rattle.td_meaning.specs.Meaning.{meaning}
 use Rattle.td_meaning.specs.Copies.{opened}
 use Rattle.td_write_values.specs.declared.error.WriteRule.{WriteRule}
@@ -28,7 +27,7 @@ use Rattle.td_sched.specs.declared.store.PlannedStore.{PlannedStore}
 use Rattle.td_job.specs.declared.run_job.RunJob.{RunJob}
 use Rattle.td_job.specs.Fields.{field_of, IsFirst}
 use Rattle.td_job.specs.Stretches.{words_with}
-use Rattle.td_job.specs.Values.{args_bounds, cells_bounds, args_faults, cells_faults, given_args, given_cells}
+use Rattle.td_job.specs.Values.{args_faults, cells_faults, given_args, given_cells}
 use Rattle.td_job.specs.Written.{form_of, form_faults, datum_of, write_faults}
 use Rattle.td_job.specs.Jobs.{beside_faults, faults_by, first_unknown, from_value, given_by, given_stores, run_keys, spelled_or_none, stores_faults, unknown_faults, BeginsWithValue, FirstFault, FirstFaultBy, IsJob, IsJobWith, MayLackBy, MayLackMemory}
 use Rattle.td_job.specs.Valued.{IsStarted, IsWrittenAs}
@@ -76,7 +75,7 @@ module _ (m : Module) (job value : Data) (entry : Entry) (begins : BeginsWithVal
       ++ names_left
   written_front =
       let d = entry_definition m entry.number in
-      front (args_faults (args_bounds d) (field_of key.Args job)) (cells_faults (cells_bounds d) (field_of key.Cells job)) (beside_faults job) (form_faults key.Value (form_of value))
+      front (args_faults (params_at d) (field_of key.Args job)) (cells_faults (cells_at d) (field_of key.Cells job)) (beside_faults job) (form_faults key.Value (form_of value))
       (write_faults (writing whole m entry (given_args d job) (opened m entry (given_cells d job)) (datum_of value)))
       (stores_left (words_with (length (spelled_or_none (spelling m entry (given_args d job) (datum_of value)))))) names_left
       begins.args begins.cells begins.alone begins.form
@@ -132,15 +131,6 @@ module _ (m : Module) (job value : Data) (entry : Entry) (args cells bytes : Lis
         written = ap Some (sym spelled_there);
         stored = stored;
       }
-
--- values that fit are those that the writer asks for
-pub fits_params : (o : Option TypeDef) (values : List ℕ) → AllFit (args_bounds o) values → AllFit (params_at o) values
-fits_params None values h = h
-fits_params (Some d) values h = h
-
-pub fits_cells : (o : Option TypeDef) (values : List ℕ) → AllFit (cells_bounds o) values → AllFit (cells_at o) values
-fits_cells None values h = h
-fits_cells (Some d) values h = h
 
 -- a job is one of a value or one of bytes by what stands there
 module _ (o : Option Data) (m : Module) (job : Data) (same : field_of key.Value job ≡ o) where

@@ -18,7 +18,7 @@ use Rattle.td_core.specs.declared.module.Module.{Module}
 use Rattle.td_core.specs.declared.module.Entry.{Entry}
 use Rattle.td_core.specs.declared.module.TypeDef.{TypeDef}
 use Rattle.td_core.specs.Entries.{IsEntryNamed, IsFirstNamed, entry_definition}
-use Rattle.td_core.specs.Formed.{AllFit}
+use Rattle.td_core.specs.Formed.{AllFit, params_at, cells_at}
 use Rattle.td_num.specs.Numbers.{rising_at}
 use Rattle.td_stream.specs.declared.stretch.Stretch.{Stretch}
 use Rattle.td_stream.specs.Layouts.{length_in, count_in, laid, counted, IsOver}
@@ -39,7 +39,7 @@ use Rattle.td_job.specs.declared.stores.TheConstants.{MOST_STORES}
 use Rattle.td_job.specs.Errors.{key_name}
 use Rattle.td_job.specs.Fields.{Reads, field_of, text_of, whole, number_of, bytes_or_none, fault_if, fault_if_none, fault_if_there, IsFirst}
 use Rattle.td_job.specs.Stretches.{is_past, words_with, words_by, stretches_faults, given_layout}
-use Rattle.td_job.specs.Values.{args_bounds, cells_bounds, args_faults, cells_faults, given_args, given_cells}
+use Rattle.td_job.specs.Values.{args_faults, cells_faults, given_args, given_cells}
 use Rattle.td_job.specs.Words.{IsFilled}
 use Rattle.td_job.specs.Written.{form_of, form_faults, datum_of, write_faults}
 
@@ -246,8 +246,8 @@ given m entry job = given_by (field_of key.Value job) m entry job
 -- the faults of a job after those of `entry`, whose definition this is, where it says this of its message
 abbrev pub faults_with : Given → Option TypeDef → Data → List JobError
 faults_with g d job =
-    args_faults (args_bounds d) (field_of key.Args job)
-    ++ cells_faults (cells_bounds d) (field_of key.Cells job)
+    args_faults (params_at d) (field_of key.Args job)
+    ++ cells_faults (cells_at d) (field_of key.Cells job)
     ++ g.faults
     ++ stores_faults g.words (field_of key.Stores job)
     ++ unknown_faults path.Unknown (first_unknown run_keys (as_object job))
@@ -261,8 +261,8 @@ later_faults m entry job = faults_by (field_of key.Value job) m entry job
 -- the first fields of a run job, up to `length`, have no fault, and this is its entry point
 pub record BeginsWell (m : Module) (job : Data) (entry : Entry) : Type 0 where
   pub named : IsEntry m (text_of key.Entry job) entry
-  pub args : args_faults (args_bounds (entry_definition m entry.number)) (field_of key.Args job) ≡ []
-  pub cells : cells_faults (cells_bounds (entry_definition m entry.number)) (field_of key.Cells job) ≡ []
+  pub args : args_faults (params_at (entry_definition m entry.number)) (field_of key.Args job) ≡ []
+  pub cells : cells_faults (cells_at (entry_definition m entry.number)) (field_of key.Cells job) ≡ []
   pub bytes : bytes_faults key.Bytes (text_of key.Bytes job) ≡ []
   pub within : length_faults (field_of key.Stretches job) (length (given_bytes job)) (number_of key.Length job) ≡ []
 
@@ -274,8 +274,8 @@ pub record EndsWell (job : Data) : Type 0 where
 -- the first fields of a run job of a value, up to the value's form, have no fault, and this is its entry point
 pub record BeginsWithValue (m : Module) (job value : Data) (entry : Entry) : Type 0 where
   pub named : IsEntry m (text_of key.Entry job) entry
-  pub args : args_faults (args_bounds (entry_definition m entry.number)) (field_of key.Args job) ≡ []
-  pub cells : cells_faults (cells_bounds (entry_definition m entry.number)) (field_of key.Cells job) ≡ []
+  pub args : args_faults (params_at (entry_definition m entry.number)) (field_of key.Args job) ≡ []
+  pub cells : cells_faults (cells_at (entry_definition m entry.number)) (field_of key.Cells job) ≡ []
   pub alone : beside_faults job ≡ []
   pub form : form_faults key.Value (form_of value) ≡ []
 
@@ -339,8 +339,8 @@ pub record HasRoom (j : RunJob) : Type 0 where
 
 -- each parameter and each cell of the entry point has its value, which fits there
 pub record HasValues (m : Module) (j : RunJob) : Type 0 where
-  pub args : AllFit (args_bounds (entry_definition m j.entry.number)) j.args
-  pub cells : AllFit (cells_bounds (entry_definition m j.entry.number)) j.cells
+  pub args : AllFit (params_at (entry_definition m j.entry.number)) j.args
+  pub cells : AllFit (cells_at (entry_definition m j.entry.number)) j.cells
 
 -- how the bytes are refused: they aren't JSON (J1), or stand for a job with a fault, of which it is the first
 abbrev pub RefusedJobBy : (Module → Entry → Data → List JobError) → List ℕ → Module → JobError → Type 0

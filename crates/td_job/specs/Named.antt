@@ -4,7 +4,7 @@ use Rattle.std.specs.Prelude.{◌≡◌, ℕ, ◌+◌, List, [], ◌∷◌, ◌+
 use Rattle.td_core.specs.declared.module.Module.{Module}
 use Rattle.td_core.specs.declared.module.Entry.{Entry}
 use Rattle.td_core.specs.Entries.{entry_definition}
-use Rattle.td_core.specs.Formed.{Bound}
+use Rattle.td_core.specs.Formed.{Bound, params_at, cells_at}
 use Rattle.td_sched.specs.declared.store.PlannedStore.{PlannedStore}
 use Rattle.td_job.specs.declared.error.Key.{Key}
 use Rattle.td_job.specs.declared.error.Key.TheVariants as key
@@ -17,7 +17,7 @@ use Rattle.td_job.specs.declared.stores.TheConstants.{MOST_STORES}
 use Rattle.td_job.specs.declared.named.NamedJob.{NamedJob}
 use Rattle.td_job.specs.declared.run_job.RunJob.{RunJob}
 use Rattle.td_job.specs.Fields.{fault_if, IsFirst}
-use Rattle.td_job.specs.Values.{value_faults, args_bounds, cells_bounds}
+use Rattle.td_job.specs.Values.{value_faults}
 use Rattle.td_job.specs.Jobs.{EntryFault, IsEntry}
 
 -- numbers, one by one, each of which fits (J4)
@@ -52,7 +52,7 @@ bounded_faults args cells job =
     ++ word_faults (length job.words) job.stores
 
 abbrev pub named_faults : Module → Entry → NamedJob → List JobError
-named_faults m entry job = bounded_faults (args_bounds (entry_definition m entry.number)) (cells_bounds (entry_definition m entry.number)) job
+named_faults m entry job = bounded_faults (params_at (entry_definition m entry.number)) (cells_at (entry_definition m entry.number)) job
 
 -- the first fault of a job
 abbrev pub FirstNamedFault : Module → NamedJob → JobError → Type 0

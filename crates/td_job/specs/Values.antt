@@ -9,7 +9,7 @@ use Rattle.serde_json.specs.Data.{Data, Items, no_items, item}
 use Rattle.serde_json.specs.Events.{items_len}
 use Rattle.serde_json.specs.Find.{as_array}
 use Rattle.td_core.specs.declared.module.TypeDef.{TypeDef}
-use Rattle.td_core.specs.Formed.{Bound, param_bounds, cell_bounds}
+use Rattle.td_core.specs.Formed.{Bound, params_at, cells_at}
 use Rattle.td_job.specs.declared.error.Key.{Key}
 use Rattle.td_job.specs.declared.error.Key.TheVariants as key
 use Rattle.td_job.specs.declared.error.JobRule.TheVariants as rule
@@ -18,15 +18,6 @@ use Rattle.td_job.specs.declared.error.Path.TheVariants as path
 use Rattle.td_job.specs.declared.error.JobError.{JobError}
 use Rattle.td_job.specs.declared.error.JobError.TheVariants.{Fault}
 use Rattle.td_job.specs.Fields.{field_of, whole, fault_if}
-
--- what the arguments, and the cells, of an entry point with this definition must fit
-abbrev pub args_bounds : Option TypeDef → List Bound
-args_bounds None = []
-args_bounds (Some d) = param_bounds d.params
-
-abbrev pub cells_bounds : Option TypeDef → List Bound
-cells_bounds None = []
-cells_bounds (Some d) = cell_bounds d.cells
 
 -- the greatest value that fits is known
 abbrev pub value_faults : Path → ℕ → Option ℕ → List JobError
@@ -76,7 +67,7 @@ given_values bounds None = replicate (length bounds) 0
 given_values bounds (Some value) = listed_numbers (as_array value)
 
 abbrev pub given_args : Option TypeDef → Data → List ℕ
-given_args d job = given_values (args_bounds d) (field_of key.Args job)
+given_args d job = given_values (params_at d) (field_of key.Args job)
 
 abbrev pub given_cells : Option TypeDef → Data → List ℕ
-given_cells d job = given_values (cells_bounds d) (field_of key.Cells job)
+given_cells d job = given_values (cells_at d) (field_of key.Cells job)

@@ -143,8 +143,8 @@ fn check_layout(value: &Value, given: u32, length: u32) -> Result<&[Value], JobE
     Ok(values)
 }
 
-/// A count of bytes in 32 bits. `NoMemory`: there are more, and such bytes find no memory.
-fn small_count(count: usize) -> Result<u32, JobError>
+/// A count in 32 bits. `NoMemory`: it has more, so that what is counted finds no memory.
+pub fn small_count(count: usize) -> Result<u32, JobError>
     ensures ok { IfOk result (λ n. n ≡ count) }
     ensures err { IfErr result (λ e. e ≡ JobError.NoMemory) }
     ensures full { OnErr result (2 ^ 32 ≤ count) }

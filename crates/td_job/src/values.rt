@@ -4,10 +4,10 @@ ghost use Rattle.std.specs.Prelude.{◌≡◌, ◌≢◌, ◌<◌, [], length, r
 ghost use Rattle.serde_json.specs.Find.{as_array};
 ghost use Rattle.serde_json.specs.View.{view, items_view};
 ghost use Rattle.td_core.specs.Entries.{entry_definition};
-ghost use Rattle.td_core.specs.Formed.{whole, scalar_of};
+ghost use Rattle.td_core.specs.Formed.{whole, scalar_of, params_at, cells_at};
 ghost use Rattle.td_job.specs.Fields.{field_of, IsFirst};
 ghost use Rattle.td_job.specs.Fields.{whole as whole_number};
-ghost use Rattle.td_job.specs.Values.{args_bounds, cells_bounds, value_faults, each_value_faults, list_faults, args_faults, cells_faults, each_number, given_values};
+ghost use Rattle.td_job.specs.Values.{value_faults, each_value_faults, list_faults, args_faults, cells_faults, each_number, given_values};
 ghost use Rattle.td_job.specs.Slots.{slot_bounds};
 
 use crate::error::{JobError, JobRule, Key, Path};
@@ -72,7 +72,7 @@ pub fn definition_of(m: &Module, entry: Entry) -> Option<&TypeDef>
 
 /// The parameters of an entry point with this definition.
 pub fn params_of(definition: Option<&TypeDef>) -> Slots<'_>
-    ensures { slot_bounds result ≡ args_bounds (option_map (λ d. d.now) definition.entry) }
+    ensures { slot_bounds result ≡ params_at (option_map (λ d. d.now) definition.entry) }
 {
     match definition {
         None => Slots::Params(&[]),
@@ -82,7 +82,7 @@ pub fn params_of(definition: Option<&TypeDef>) -> Slots<'_>
 
 /// The cells of an entry point with this definition.
 pub fn cells_of(definition: Option<&TypeDef>) -> Slots<'_>
-    ensures { slot_bounds result ≡ cells_bounds (option_map (λ d. d.now) definition.entry) }
+    ensures { slot_bounds result ≡ cells_at (option_map (λ d. d.now) definition.entry) }
 {
     match definition {
         None => Slots::Cells(&[]),

@@ -5,11 +5,12 @@ use Rattle.serde_json.specs.Data.{Data}
 use Rattle.td_core.specs.declared.module.Module.{Module}
 use Rattle.td_core.specs.declared.module.Entry.{Entry}
 use Rattle.td_core.specs.Entries.{entry_definition}
+use Rattle.td_core.specs.Formed.{cells_at}
 use Rattle.td_front.specs.Laws.{AlwaysOne}
 use Rattle.td_job.specs.declared.error.Key.TheVariants as key
 use Rattle.td_job.specs.declared.error.JobError.{JobError}
 use Rattle.td_job.specs.Fields.{Reads, text_of, IsFirst}
-use Rattle.td_job.specs.Values.{cells_bounds, given_args}
+use Rattle.td_job.specs.Values.{given_args}
 use Rattle.td_job.specs.Jobs.{EntryFault, IsEntry}
 use Rattle.td_job.proofs.Bytes.{filled_once, filled}
 use Rattle.td_job.proofs.Existing.{made_or_refused, spelled_small, entry_or_fault}
@@ -37,7 +38,7 @@ module _ (texts : Texts) where
       let formats : a.formats ≡ b.formats = ha.by ∙ (ap (λ (fs : List Module). m ∷ fs) versions.0 ∙ sym hb.by) in
       let entries : a.entries ≡ b.entries = ha.begins ∙ ((λ i. entry i ∷ versions.1 i) ∙ sym hb.begins) in
       let args = ha.args ∙ ap (λ (e : Entry). given_args (entry_definition m e.number) job) entry ∙ sym hb.args in
-      let cells = ha.cells ∙ ap (λ (e : Entry). length (cells_bounds (entry_definition m e.number))) entry ∙ sym hb.cells in
+      let cells = ha.cells ∙ ap (λ (e : Entry). length (cells_at (entry_definition m e.number))) entry ∙ sym hb.cells in
       let rooms = ha.roomy ∙ ap (λ (e : Entry). rooms_in (entry_definition m e.number)) entry ∙ sym hb.roomy in
       let words = filled_once (given_buffer job) (buffer_words job) a.words b.words ha.filled hb.filled in
       let wa = ha.worked in
@@ -128,7 +129,7 @@ faultless_job m job entry fs gs named before swaps after =
         formats = m ∷ fs;
         entries = entry ∷ gs;
         args = given_args d job;
-        cells = length (cells_bounds d);
+        cells = length (cells_at d);
         rooms = rooms_in d;
         words = words.0;
         workers = number.0;

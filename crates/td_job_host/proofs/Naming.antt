@@ -8,13 +8,14 @@ use Rattle.serde_json.specs.declared.value.Value.{Value}
 use Rattle.td_core.specs.declared.module.Module.{Module}
 use Rattle.td_core.specs.declared.module.Entry.{Entry}
 use Rattle.td_core.specs.Entries.{entry_definition}
+use Rattle.td_core.specs.Formed.{params_at}
 use Rattle.td_job.specs.declared.error.Key.TheVariants as key
 use Rattle.td_job.specs.declared.error.JobError.{JobError}
 use Rattle.td_job.specs.declared.error.JobError.TheVariants.{NoMemory}
 use Rattle.td_job.specs.declared.error.Path.{Path}
 use Rattle.td_job.specs.declared.error.Path.TheVariants as path
 use Rattle.td_job.specs.Fields.{IsFirst, field_of, number_of, text_of}
-use Rattle.td_job.specs.Values.{args_bounds, args_faults}
+use Rattle.td_job.specs.Values.{args_faults}
 use Rattle.td_job.specs.Jobs.{bytes_faults, first_unknown, unknown_faults}
 use Rattle.td_job.proofs.Numbers.{both_empty, first_of_more}
 use Rattle.td_job_host.specs.Guests.{BeginsWithName, each_guest_faults, guest_faults, guests_faults, listed_in, object_faults, script_faults, workers_faults}
@@ -92,7 +93,7 @@ module _ (m : Module) (job : Data) (entry : Entry) (good : HasGoodFields m job e
   -- after good fields the faults are the others
   rest_alone : before_faults (entry_definition m entry.number) job ≡ rest_faults (buffer_words job) job
   rest_alone =
-      last_of (args_faults (args_bounds (entry_definition m entry.number)) (field_of key.Args job)) (bytes_faults key.Buffer (text_of key.Buffer job)) (workers_faults (number_of key.Workers job))
+      last_of (args_faults (params_at (entry_definition m entry.number)) (field_of key.Args job)) (bytes_faults key.Buffer (text_of key.Buffer job)) (workers_faults (number_of key.Workers job))
       (guests_faults (buffer_words job) (listed_in key.Guests job)) (rings_faults (buffer_words job) (field_of key.Rings job)) (swaps_faults (field_of key.Swaps job))
       good.args good.buffer good.workers
 

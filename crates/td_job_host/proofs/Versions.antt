@@ -10,11 +10,10 @@ use Rattle.td_core.specs.declared.module.TypeDef.{TypeDef}
 use Rattle.td_core.specs.declared.module.Param.{Param}
 use Rattle.td_core.specs.declared.module.Cell.{Cell}
 use Rattle.td_core.specs.Entries.{entry_definition}
-use Rattle.td_core.specs.Formed.{Bound, AllFit, cell_bound, param_bounds, cell_bounds}
+use Rattle.td_core.specs.Formed.{Bound, AllFit, cell_bound, param_bounds, cell_bounds, params_at, cells_at}
 use Rattle.td_job.specs.declared.error.Key.TheVariants as key
 use Rattle.td_job.specs.declared.error.JobError.{JobError}
 use Rattle.td_job.specs.Fields.{text_of, field_of}
-use Rattle.td_job.specs.Values.{args_bounds, cells_bounds}
 use Rattle.td_job.proofs.Numbers.{both_empty, args_fit}
 use Rattle.td_job.proofs.Unique.{named_within}
 use Rattle.td_posts.specs.declared.job.HostJob.{HostJob}
@@ -32,19 +31,19 @@ map_twice : {A B C : Type 0} (h : B → C) (g : A → B) (xs : List A) → map (
 map_twice h g [] = refl
 map_twice h g (x ∷ xs) = ap (λ l. h (g x) ∷ l) (map_twice h g xs)
 
-args_named : (m : Module) (d : Option TypeDef) → args_bounds d ≡ map bound_of (params_named m d)
+args_named : (m : Module) (d : Option TypeDef) → params_at d ≡ map bound_of (params_named m d)
 args_named m None = refl
 args_named m (Some d) = map_twice bound_of (named_param m) d.params
 
-bounds_named : (m : Module) (d : Option TypeDef) → cells_bounds d ≡ map bound_of (cells_named m d)
+bounds_named : (m : Module) (d : Option TypeDef) → cells_at d ≡ map bound_of (cells_named m d)
 bounds_named m None = refl
 bounds_named m (Some d) = map_twice bound_of (named_cell m) d.cells
 
-same_args : (m : Module) (entry : Entry) (name : Option (List ℕ)) (f : Module) (g : Entry) → Replaces m entry name f g → args_bounds (entry_definition m entry.number) ≡ args_bounds (entry_definition f g.number)
+same_args : (m : Module) (entry : Entry) (name : Option (List ℕ)) (f : Module) (g : Entry) → Replaces m entry name f g → params_at (entry_definition m entry.number) ≡ params_at (entry_definition f g.number)
 same_args m entry name f g h =
     args_named m (entry_definition m entry.number) ∙ (ap (map bound_of) (sym h.params) ∙ sym (args_named f (entry_definition f g.number)))
 
-same_cells : (m : Module) (entry : Entry) (name : Option (List ℕ)) (f : Module) (g : Entry) → Replaces m entry name f g → cells_bounds (entry_definition m entry.number) ≡ cells_bounds (entry_definition f g.number)
+same_cells : (m : Module) (entry : Entry) (name : Option (List ℕ)) (f : Module) (g : Entry) → Replaces m entry name f g → cells_at (entry_definition m entry.number) ≡ cells_at (entry_definition f g.number)
 same_cells m entry name f g h =
     bounds_named m (entry_definition m entry.number) ∙ (ap (map bound_of) (sym h.cells) ∙ sym (bounds_named f (entry_definition f g.number)))
 
@@ -91,7 +90,7 @@ values_of_first m job j h =
     let lists = both_empty _ _ workers.0 in
     record {
       entry = named_within m (text_of key.Entry job) h.entry h.named;
-      args = subst (AllFit (args_bounds d)) (sym h.args) (args_fit (args_bounds d) (field_of key.Args job) lists.0);
+      args = subst (AllFit (params_at d)) (sym h.args) (args_fit (params_at d) (field_of key.Args job) lists.0);
       cells = h.cells;
       rooms = h.roomy;
     }

@@ -14,7 +14,7 @@ use Rattle.td_core.specs.declared.module.Entry.{Entry}
 use Rattle.td_core.specs.declared.module.TypeDef.{TypeDef}
 use Rattle.td_core.specs.declared.module.Buffer.{Buffer}
 use Rattle.td_core.specs.Entries.{entry_definition}
-use Rattle.td_core.specs.Formed.{AllFit}
+use Rattle.td_core.specs.Formed.{AllFit, params_at, cells_at}
 use Rattle.td_front.specs.ModuleText.{IsModuleText}
 use Rattle.td_job.specs.declared.checks.TheConstants.{MOST_BYTES}
 use Rattle.td_job.specs.declared.error.Key.{Key}
@@ -24,7 +24,7 @@ use Rattle.td_job.specs.declared.error.JobError.{JobError}
 use Rattle.td_job.specs.declared.error.JobError.TheVariants.{Fault}
 use Rattle.td_job.specs.declared.error.JobRule.TheVariants as rule
 use Rattle.td_job.specs.Fields.{Reads, field_of, text_of, number_of, IsFirst}
-use Rattle.td_job.specs.Values.{args_bounds, cells_bounds, args_faults, given_args}
+use Rattle.td_job.specs.Values.{args_faults, given_args}
 use Rattle.td_job.specs.Words.{IsFilled}
 use Rattle.td_job.specs.Jobs.{EntryFault, IsEntry, bytes_faults, spelled_bytes, first_unknown, unknown_faults}
 use Rattle.td_posts.specs.declared.job.HostJob.{HostJob}
@@ -53,7 +53,7 @@ host_keys = key.Entry ∷ key.Args ∷ key.Buffer ∷ key.Workers ∷ key.Guests
 -- the faults of a job after those of `entry`, whose definition this is, and before those of the elements of `swaps`
 abbrev pub before_faults : Option TypeDef → Data → List JobError
 before_faults d job =
-    args_faults (args_bounds d) (field_of key.Args job)
+    args_faults (params_at d) (field_of key.Args job)
     ++ bytes_faults key.Buffer (text_of key.Buffer job)
     ++ workers_faults (number_of key.Workers job)
     ++ guests_faults (buffer_words job) (listed_in key.Guests job)
@@ -87,7 +87,7 @@ FirstFault m job e = EntryFault m (text_of key.Entry job) e ⊎ ((entry : Entry)
 -- the first fields of a host job, up to `workers`, have no fault, and this is its entry point
 pub record HasGoodFields (m : Module) (job : Data) (entry : Entry) : Type 0 where
   pub named : IsEntry m (text_of key.Entry job) entry
-  pub args : args_faults (args_bounds (entry_definition m entry.number)) (field_of key.Args job) ≡ []
+  pub args : args_faults (params_at (entry_definition m entry.number)) (field_of key.Args job) ≡ []
   pub buffer : bytes_faults key.Buffer (text_of key.Buffer job) ≡ []
   pub workers : workers_faults (number_of key.Workers job) ≡ []
 
@@ -123,7 +123,7 @@ pub record IsHost (m : Module) (job : Data) (j : HostJob) : Type 0 where
   pub by : j.formats ≡ m ∷ formats
   pub begins : j.entries ≡ entry ∷ entries
   pub args : j.args ≡ given_args (entry_definition m entry.number) job
-  pub cells : j.cells ≡ length (cells_bounds (entry_definition m entry.number))
+  pub cells : j.cells ≡ length (cells_at (entry_definition m entry.number))
   pub roomy : j.rooms ≡ rooms_in (entry_definition m entry.number)
   pub filled : IsFilled (given_buffer job) (buffer_words job) j.words
   pub worked : number_of key.Workers job ≡ Some j.workers
@@ -144,8 +144,8 @@ RefusedHostJob bytes m e =
 -- buffers have these rooms
 pub record HasVersionValues (j : HostJob) (f : Module) (g : Entry) : Type 0 where
   pub entry : g.number < length f.entries
-  pub args : AllFit (args_bounds (entry_definition f g.number)) j.args
-  pub cells : j.cells ≡ length (cells_bounds (entry_definition f g.number))
+  pub args : AllFit (params_at (entry_definition f g.number)) j.args
+  pub cells : j.cells ≡ length (cells_at (entry_definition f g.number))
   pub rooms : j.rooms ≡ rooms_in (entry_definition f g.number)
 
 -- the module itself, or one for which a text stands

@@ -19,23 +19,12 @@ use td_front::laws::one_answer_each;
 use td_job::checks::bytes_of;
 use td_job::error::{JobError, Key};
 use td_job::json::read_json;
+use td_job::stretches::small_count;
 use td_job::values::{cells_of, definition_of, params_of, values_of};
 use td_job::words::fill_words;
 use td_num::items::Items;
 use td_posts::job::HostJob;
 use td_posts::ring::RingJob;
-
-/// A count in 32 bits. `NoMemory`: it has more, so that what is counted finds no memory.
-fn count_of(count: usize) -> Result<u32, JobError>
-    ensures ok { IfOk result (λ n. n ≡ count) }
-    ensures err { IfErr result (λ e. e ≡ JobError.NoMemory) }
-    ensures full { OnErr result (2 ^ 32 ≤ count) }
-{
-    if count > u32::MAX as usize {
-        return Err(JobError::NoMemory);
-    }
-    Ok(count as u32)
-}
 
 /// Tests the fields of a job up to the elements of `swaps`, and gives its entry point, how many words its buffer has, and how many
 /// workers it has. J2 to J8: its first fault. `NoMemory`: that is a field of another name of a guest or of a ring, and there was no
@@ -49,7 +38,7 @@ fn check_fields(alloc: Global, job: &Value, m: &Module) -> Result<(Entry, u32, u
     ensures memory { result ≡ Err JobError.NoMemory → MayLackMemory m.now (view job.now) }
 {
     let (entry, words, workers) = check_first(job, m)?;
-    let count = count_of(words)?;
+    let count = small_count(words)?;
     check_rest(alloc, job, count)?;
     Ok((entry, count, workers))
 }
@@ -156,7 +145,7 @@ fn made_of(alloc: Global, job: &Value, m: &Module, tested: Tested) -> Result<Hos
         formats: formats_of(alloc, m, formats)?,
         entries: entries_of(alloc, entry, entries)?,
         args: values_of(alloc, job, Key::Args, params)?,
-        cells: count_of(cells_of(definition).len())?,
+        cells: small_count(cells_of(definition).len())?,
         rooms: rooms_of(alloc, definition)?,
         words: fill_words(alloc, bytes.as_slice(), words)?,
         workers,

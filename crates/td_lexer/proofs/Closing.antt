@@ -3,8 +3,9 @@ use Rattle.std.proofs.Common.{◌≡◌, ℕ, suc, ◌+◌, ◌≤◌, Bool, tru
 use Rattle.std.specs.Prelude.{◌&&◌, codes}
 use Rattle.std.proofs.lemmas.Bool.{eqb-true}
 use Rattle.std.proofs.Math.Bool.{and-false}
+use Rattle.td_num.specs.Lists.{one_more}
 use Rattle.td_lexer.specs.Bytes.{first_is}
-use Rattle.td_lexer.specs.Scanner.{close_of, closes, one_more}
+use Rattle.td_lexer.specs.Scanner.{close_of, closes}
 use Rattle.td_lexer.proofs.Within.{and_left, and_right}
 
 -- the first end of a comment, and what is before it
@@ -36,7 +37,7 @@ close_found (a ∷ bytes) = by_test (closes (a ∷ bytes)) refl (close_of bytes)
         let eb = eqb-true b 47 (and_right (eqb a 42) (eqb b 47) e) in
         ([], bs, rw (ea, eb) refl, omega arith, λ before behind same. omega arith)
 
-    later : (n : ℕ) → closes (a ∷ bytes) ≡ false → Closes bytes (Some n) → Closes (a ∷ bytes) (Some (n + 1))
+    later : (n : ℕ) → closes (a ∷ bytes) ≡ false → Closes bytes (Some n) → Closes (a ∷ bytes) (Some (suc n))
     later n e (body, rest, same, count, first) = (a ∷ body, rest, ap (λ (l : List ℕ). a ∷ l) same, omega arith, least)
       where
         least : (before behind : List ℕ) → a ∷ (body ++ codes "*/" ++ rest) ≡ before ++ codes "*/" ++ behind → suc (length body) ≤ length before

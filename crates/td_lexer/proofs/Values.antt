@@ -1,8 +1,9 @@
 -- Numbers that digits spell, and ends of comments.
 use Rattle.std.proofs.Common.{◌≡◌, ℕ, zero, suc, ◌+◌, ◌*◌, ◌≤◌, ◌<◌, true, false, List, [], ◌∷◌, length, drop, get_or, Option, Some, None, refl, ap, subst, ◌∙◌, arith, drop-cons}
 use Rattle.std.proofs.lemmas.List.{drop_all}
+use Rattle.td_num.specs.Lists.{one_more}
 use Rattle.td_lexer.specs.Bytes.{digit_value, value_from}
-use Rattle.td_lexer.specs.Scanner.{close_of, closes, one_more}
+use Rattle.td_lexer.specs.Scanner.{close_of, closes}
 
 -- more digits don't make it less
 pub value_grows : (base n : ℕ) (ds : List ℕ) → 0 < base → n ≤ value_from base n ds

@@ -3,6 +3,7 @@ use Rattle.std.proofs.Common.{◌≡◌, ℕ, suc, ◌+◌, ◌≤◌, ◌<◌, 
 use Rattle.std.specs.Prelude.{IfSome, ◌&&◌}
 use Rattle.std.proofs.lemmas.List.Sums.{take_while-cons}
 use Rattle.std.proofs.Math.Bool.{and-false}
+use Rattle.td_num.specs.Lists.{one_more}
 use Rattle.td_ast.specs.declared.token.TokenKind.{TokenKind}
 use Rattle.td_ast.specs.declared.token.Base.{Base}
 use Rattle.td_ast.specs.declared.token.Base.TheVariants.{Decimal, Hexadecimal}
@@ -11,7 +12,7 @@ use Rattle.td_lexer.specs.Spellings.{kind_in, punctuation_of_two, single_kind}
 use Rattle.td_lexer.specs.declared.lexeme.Lexeme.{Lexeme}
 use Rattle.td_lexer.specs.declared.lexeme.Lexeme.TheVariants as lexemes
 use Rattle.td_lexer.specs.Numerals.{numeral_value}
-use Rattle.td_lexer.specs.Scanner.{lexeme, close_of, closes, closed, one_more, word_lexeme, number_lexeme, punctuation_lexeme, number_ends, hexadecimal_digits, marked_length, marked_kind, found_or}
+use Rattle.td_lexer.specs.Scanner.{lexeme, close_of, closes, closed, word_lexeme, number_lexeme, punctuation_lexeme, number_ends, hexadecimal_digits, marked_length, marked_kind, found_or}
 use Rattle.td_lexer.specs.ScanSteps.{IsWithin}
 
 pub and_right : (b c : Bool) → (b && c) ≡ true → c ≡ true

@@ -2,6 +2,7 @@
 -- That it is the splitting that the manual asks for is the law beside it (`Splits`).
 use Rattle.std.specs.Prelude.{◌≡◌, ℕ, zero, suc, ◌+◌, ◌-◌, ◌^◌, Bool, false, ◌&&◌, ◌==◌, nat_lt, List, [], ◌∷◌, take, drop, Option, Some, None, Result, Ok, Err, if◌then◌else◌}
 use Rattle.std.specs.Global.{Vec}
+use Rattle.td_num.specs.Lists.{one_more}
 use Rattle.td_ast.specs.declared.token.Token.{Token}
 use Rattle.td_ast.specs.declared.token.TokenKind.{TokenKind}
 use Rattle.td_ast.specs.declared.token.TokenKind.TheVariants.{Name, Number}
@@ -50,11 +51,6 @@ number_lexeme bytes =
     else number_ends Hexadecimal (2 + hexadecimal_digits bytes) bytes
 
 -- ---- comments
-
--- a place one byte further
-abbrev pub one_more : Option ℕ → Option ℕ
-one_more None = None
-one_more (Some n) = Some (n + 1)
 
 -- a comment ends at the beginning
 abbrev pub closes : List ℕ → Bool

@@ -1,6 +1,7 @@
 -- The splitting of a text into tokens, as the rules of the language have it (the grammar's page, "Tokens"). The text
 -- is white space, comments and spellings of tokens, one after the other. At each place the longest token is taken.
 use Rattle.std.specs.Prelude.{◌≡◌, ℕ, ◌+◌, ◌^◌, ◌<◌, ◌≤◌, ◌++◌, ◌⊎◌, Bool, true, false, ◌||◌, ◌==◌, List, [], ◌∷◌, length, Some, None, codes}
+use Rattle.td_num.specs.declared.text.TheConstants.{DOT}
 use Rattle.td_ast.specs.declared.token.Token.{Token}
 use Rattle.td_ast.specs.declared.token.TokenKind.{TokenKind}
 use Rattle.td_ast.specs.declared.token.TokenKind.TheVariants.{Name, Number}
@@ -18,9 +19,9 @@ use Rattle.td_lexer.specs.Numerals.{numeral_value}
 abbrev pub IsName : List ℕ → Type 0
 IsName bytes = (first_is is_letter bytes ≡ true) × (every is_word_byte bytes ≡ true) × (keyword_kind bytes ≡ None)
 
--- two names joined by a dot (byte 46)
+-- two names joined by a dot
 abbrev pub IsDotted : List ℕ → Type 0
-IsDotted bytes = (part : List ℕ) × (own : List ℕ) × IsName part × IsName own × (bytes ≡ part ++ 46 ∷ own)
+IsDotted bytes = (part : List ℕ) × (own : List ℕ) × IsName part × IsName own × (bytes ≡ part ++ DOT ∷ own)
 
 -- a name of a module: one, or two joined by a dot, as modules of several parts have them
 abbrev pub IsLongName : List ℕ → Type 0

@@ -5,7 +5,6 @@
 
 pub mod gate;
 pub mod live;
-pub mod made;
 pub mod message;
 pub mod slot;
 

@@ -5,10 +5,10 @@ ghost use Rattle.td_stream.specs.Layouts.{AreWithin};
 ghost use Rattle.td_live.specs.Live.{HasLoaded};
 
 use crate::gate::{Gate, PostName};
-use crate::made::Made;
 use std::snapshot::Snapshot;
 use td_stream::layout::Layout;
 use td_stream::load::Load;
+use td_stream::made::Made;
 use td_stream::words::Words;
 use td_words::seats::ReadSeat;
 use td_words::shared::Shared;

@@ -10,7 +10,7 @@ use Rattle.td_num.specs.Numbers.{places_from, bytes_in, number_at, falling_on, r
 use Rattle.td_num.specs.declared.number.ByteOrder.{ByteOrder}
 use Rattle.td_num.specs.declared.number.ByteOrder.TheVariants.{LittleEndian, BigEndian}
 use Rattle.td_num.specs.declared.number.NumberType.{NumberType}
-use Rattle.td_num.specs.Lists.{is_among}
+use Rattle.td_num.specs.Lists.{is_among, first_where, looked_at, one_more}
 use Rattle.td_core.specs.Term.{Term}
 use Rattle.td_core.specs.Outcome.{Behavior, Accepted, after_reading, and_then, within, accepted}
 use Rattle.td_core.specs.declared.module.NameId.{NameId}
@@ -24,7 +24,7 @@ use Rattle.td_expr.specs.Sound.{Sound}
 use Rattle.td_expr.specs.Naming.{names}
 use Rattle.td_meaning.specs.Naming.{element_names, extent_names}
 use Rattle.td_meaning.specs.Doing.{natural_of}
-use Rattle.td_meaning.specs.Meaning.{Sense, demanded, values_of, element_meaning, shape_meaning, with_copy, copied_meaning, content_meaning, number_places, filled, filled_once, numbers_at, first_where, run_of, looked_at, up_to_zero, zero_end, one_more}
+use Rattle.td_meaning.specs.Meaning.{Sense, demanded, values_of, element_meaning, shape_meaning, with_copy, copied_meaning, content_meaning, number_places, filled, filled_once, numbers_at, run_of, up_to_zero, zero_end}
 use Rattle.td_meaning.specs.Throughout.{Through, OnShape, OnContent, spare}
 use Rattle.td_meaning.proofs.MachineMeaning.{has_room}
 use Rattle.td_ir.specs.declared.instructions.Instr.TheVariants as i

@@ -1,10 +1,11 @@
 -- What Zeros and Zeroterm look at, in the words of the meaning.
-use Rattle.std.proofs.Common.{◌≡◌, ℕ, zero, suc, ◌+◌, ◌*◌, ◌/◌, Bool, true, false, cond, List, [], ◌∷◌, refl, ap, ◌∙◌, arith, nat_eq, min, Option, Some, None}
+use Rattle.std.proofs.Common.{◌≡◌, ℕ, zero, suc, ◌+◌, ◌*◌, ◌/◌, Bool, true, false, cond, List, [], ◌∷◌, refl, ap, ◌∙◌, arith, nat_eq, min, Option, Some}
 use Rattle.td_num.specs.Numbers.{bytes_in, rising_at, places_from}
 use Rattle.td_num.specs.declared.number.NumberType.{NumberType}
 use Rattle.td_num.specs.declared.number.Width.{Width}
 use Rattle.td_num.specs.declared.number.ByteOrder.TheVariants.{LittleEndian}
-use Rattle.td_meaning.specs.Meaning.{numbers_at, run_of, one_more, first_where, looked_at, is_nonzero, byte_type}
+use Rattle.td_num.specs.Lists.{one_more, first_where, looked_at}
+use Rattle.td_meaning.specs.Meaning.{numbers_at, run_of, is_nonzero, byte_type}
 use Rattle.td_ir.specs.declared.instructions.Instr.TheVariants as i
 use Rattle.td_ir.specs.declared.tables.Parts.{Parts}
 use Rattle.td_ir.specs.State.{State, reg, left}
@@ -17,19 +18,11 @@ numbers_same : (w : Width) (message : List ℕ) (n p : ℕ) → values.numbers_f
 numbers_same w message zero p = refl
 numbers_same w message (suc n) p = ap (λ l. rising_at message p (bytes_in w) ∷ l) (numbers_same w message n (p + bytes_in w))
 
-one_same : (o : Option ℕ) → values.one_more o ≡ one_more o
-one_same None = refl
-one_same (Some k) = refl
-
-first_same : (f g : ℕ → Bool) → ((x : ℕ) → f x ≡ g x) → (xs : List ℕ) → values.first_where f xs ≡ first_where g xs
+first_same : (f g : ℕ → Bool) → ((x : ℕ) → f x ≡ g x) → (xs : List ℕ) → first_where f xs ≡ first_where g xs
 first_same f g h [] = refl
 first_same f g h (x ∷ xs) =
-    ap (λ b. cond b (Some 0) (values.one_more (values.first_where f xs))) (h x)
-    ∙ ap (λ o. cond (g x) (Some 0) o) (one_same (values.first_where f xs) ∙ ap one_more (first_same f g h xs))
-
-looked_same : (o : Option ℕ) (n : ℕ) → values.looked_at o n ≡ looked_at o n
-looked_same None n = refl
-looked_same (Some k) n = refl
+    ap (λ b. cond b (Some 0) (one_more (first_where f xs))) (h x)
+    ∙ ap (λ o. cond (g x) (Some 0) (one_more o)) (first_same f g h xs)
 
 nonzero_same : (x : ℕ) → values.is_nonzero x ≡ is_nonzero x
 nonzero_same zero = refl
@@ -46,9 +39,9 @@ module _ (T : Parts) (self : ℕ) (message places : List ℕ) (calls : Calling) 
   zeros_look site s go =
       let n = left s in
       let first = first_where is_nonzero (numbers_at byte_type message s.pos n) in
-      let F : Option ℕ → Passage = λ o. touching (places_from s.pos (values.looked_at o n)) (onwards T calls (zeros_flow 1 site o s) go) in
+      let F : Option ℕ → Passage = λ o. touching (places_from s.pos (looked_at o n)) (onwards T calls (zeros_flow 1 site o s) go) in
       ap F (first_same values.is_nonzero is_nonzero nonzero_same (values.numbers_from message s.pos 1 n) ∙ ap (first_where is_nonzero) (numbers_same byte_type.width message n s.pos))
-      ∙ ap (λ k. touching (places_from s.pos k) (onwards T calls (zeros_flow 1 site first s) go)) (looked_same first n ∙ by_one (looked_at first n))
+      ∙ ap (λ k. touching (places_from s.pos k) (onwards T calls (zeros_flow 1 site first s) go)) (by_one (looked_at first n))
 
   pub zeroterm_look : (w : Width) (b site : ℕ) (s : State) (go : State → Passage)
       → passes T self message places calls (i.Zeroterm b (bytes_in w) site) go s
@@ -62,6 +55,5 @@ module _ (T : Parts) (self : ℕ) (message places : List ℕ) (calls : Calling) 
       let room = left s / bytes_in w in
       let n = min bound room in
       let first = first_where (λ n. nat_eq n 0) (numbers_at (record { width = w; order = LittleEndian }) message s.pos n) in
-      let F : Option ℕ → Passage = λ o. touching (places_from s.pos (values.looked_at o n * bytes_in w)) (onwards T calls (zeroterm_flow 1 site (bytes_in w) bound room o s) go) in
+      let F : Option ℕ → Passage = λ o. touching (places_from s.pos (looked_at o n * bytes_in w)) (onwards T calls (zeroterm_flow 1 site (bytes_in w) bound room o s) go) in
       ap F (first_same values.is_zero (λ n. nat_eq n 0) (λ x. refl) (values.numbers_from message s.pos (bytes_in w) n) ∙ ap (first_where (λ n. nat_eq n 0)) (numbers_same w message n s.pos))
-      ∙ ap (λ k. touching (places_from s.pos (k * bytes_in w)) (onwards T calls (zeroterm_flow 1 site (bytes_in w) bound room first s) go)) (looked_same first n)

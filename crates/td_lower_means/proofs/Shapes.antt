@@ -6,7 +6,7 @@ use Rattle.td_num.specs.Numbers.{bytes_in, ordered_at, number_at, places_from}
 use Rattle.td_num.specs.declared.number.NumberType.{NumberType}
 use Rattle.td_num.specs.declared.number.ByteOrder.{ByteOrder}
 use Rattle.td_num.specs.declared.number.ByteOrder.TheVariants.{LittleEndian, BigEndian}
-use Rattle.td_num.specs.Lists.{is_among}
+use Rattle.td_num.specs.Lists.{is_among, first_where, looked_at}
 use Rattle.td_core.specs.Term.{Term}
 use Rattle.td_core.specs.Outcome.{Behavior, Ending, Accepted, Rejected, and_then, within, after_reading}
 use Rattle.td_core.specs.declared.module.NameId.{NameId}
@@ -18,7 +18,7 @@ use Rattle.td_expr.specs.Sound.{Sound}
 use Rattle.td_expr.specs.Naming.{names}
 use Rattle.td_meaning.specs.Naming.{some_name, element_names}
 use Rattle.td_meaning.specs.Doing.{natural_of}
-use Rattle.td_meaning.specs.Meaning.{Sense, values as values_in, taken, demanded, values_of, element_meaning, number_places, zeros_end, numbers_at, first_where, is_nonzero, byte_type, run_of, looked_at}
+use Rattle.td_meaning.specs.Meaning.{Sense, values as values_in, taken, demanded, values_of, element_meaning, number_places, zeros_end, numbers_at, is_nonzero, byte_type, run_of}
 use Rattle.td_meaning.specs.Throughout.{Through, OnAll, OnElement}
 use Rattle.td_ir.specs.declared.instructions.Instr.TheVariants as i
 use Rattle.td_lower_blocks.specs.Block.{Block, Then, Stop, Guard}

@@ -8,7 +8,7 @@ use Rattle.td_expr.specs.Same.{constant_of}
 use Rattle.td_expr.proofs.Folding.{constant_is}
 use Rattle.td_expr.specs.Value.{natural}
 use Rattle.td_num.specs.Numbers.{bytes_in}
-use Rattle.td_num.specs.Lists.{is_among}
+use Rattle.td_num.specs.Lists.{is_among, first_where, looked_at}
 use Rattle.td_core.specs.Term.{Term}
 use Rattle.td_core.specs.Outcome.{Behavior, Accepted, and_then, within, accepted}
 use Rattle.td_core.specs.declared.module.NameId.{NameId}
@@ -20,7 +20,7 @@ use Rattle.td_expr.specs.Sound.{Sound}
 use Rattle.td_expr.specs.Naming.{names}
 use Rattle.td_meaning.specs.Naming.{some_name, element_names}
 use Rattle.td_meaning.specs.Doing.{natural_of}
-use Rattle.td_meaning.specs.Meaning.{Sense, values as values_in, taken, demanded, values_of, element_meaning, filled_once, equals, zeros_end, numbers_at, first_where, is_nonzero, byte_type, run_of, looked_at}
+use Rattle.td_meaning.specs.Meaning.{Sense, values as values_in, taken, demanded, values_of, element_meaning, filled_once, equals, zeros_end, numbers_at, is_nonzero, byte_type, run_of}
 use Rattle.td_meaning.specs.Throughout.{Through, OnEnding, OnAll, OnShape, OnElement}
 use Rattle.td_ir.specs.declared.instructions.Instr.TheVariants as i
 use Rattle.td_lower_blocks.specs.Block.{Block, Done, Window}

@@ -3,7 +3,8 @@ use Rattle.std.proofs.Common.{◌≡◌, ℕ, zero, suc, ◌+◌, ◌-◌, ◌/�
 use Rattle.std.proofs.lemmas.Option.{none-some, same_Some}
 use Rattle.std.proofs.lemmas.List.{length-set}
 use Rattle.td_num.specs.Numbers.{bytes_in, number_at, places_from}
-use Rattle.td_num.specs.Lists.{is_among}
+use Rattle.td_num.specs.Lists.{is_among, first_where}
+use Rattle.td_num.proofs.Lists.{found_below}
 use Rattle.td_core.specs.declared.module.Element.{Element}
 use Rattle.td_core.specs.declared.module.Element.TheVariants.{Number, Listed, Named, Unit as UnitElement, Rest, Zeros}
 use Rattle.td_core.specs.declared.module.Extent.{Extent}
@@ -13,11 +14,11 @@ use Rattle.td_core.specs.declared.outcome.Reason.TheVariants.{Constraint, ListSi
 use Rattle.td_core.specs.Outcome.{Behavior, accepted, after_reading, and_then}
 use Rattle.td_expr.specs.Sound.{Sound}
 use Rattle.td_meaning.specs.Doing.{natural_of}
-use Rattle.td_meaning.specs.Meaning.{Sense, numbers_at, first_where, demanded, taken, values_of, byte_type, is_nonzero, zeros_end, values, element_meaning, elements, divides, equals, zero_end, element_up_to_zero, shape_meaning, with_copy, content_meaning}
+use Rattle.td_meaning.specs.Meaning.{Sense, numbers_at, demanded, taken, values_of, byte_type, is_nonzero, zeros_end, values, element_meaning, elements, divides, equals, zero_end, element_up_to_zero, shape_meaning, with_copy, content_meaning}
 use Rattle.td_meaning.specs.Throughout.{Through, OnEnding, OnElement, OnElements, OnShape, OnContent}
 use Rattle.td_meaning.specs.Endings.{AreCells, IsEndingWithin}
 use Rattle.td_meaning.proofs.EndingCells.{within_more, within_then, within_demanded, within_taken, demanded_at, on_both, set_small, number_small}
-use Rattle.td_meaning.proofs.Filling.{found_below, count_of, anywhere}
+use Rattle.td_meaning.proofs.Filling.{count_of, anywhere}
 
 -- a definition ends so, where what it evaluates lies in its range
 abbrev pub IsGood : ℕ → List ℕ → Sense → Through → Type 0

@@ -1,8 +1,7 @@
 -- What bytes that are taken, arrays and definitions come to, case by case. Cited by other crates.
-use Rattle.std.proofs.Common.{◌≡◌, ℕ, zero, suc, ◌+◌, ◌-◌, ◌*◌, ◌/◌, ◌<◌, ◌≤◌, min, Bool, true, false, cond, Option, Some, None, List, [], ◌∷◌, length, refl, sym, ap, ◌∙◌, subst, arith}
+use Rattle.std.proofs.Common.{◌≡◌, ℕ, zero, suc, ◌+◌, ◌-◌, ◌*◌, ◌/◌, ◌<◌, ◌≤◌, min, Bool, cond, Option, None, List, [], length, refl, sym, ap, ◌∙◌, subst, arith}
 use Rattle.std.specs.Prelude.{slice_get}
 use Rattle.std.proofs.lemmas.Bool.{le-leb, lt-leb, eq-eqb}
-use Rattle.std.proofs.lemmas.Option.{none-some, same_Some}
 use Rattle.std.proofs.Math.Nat.{div-mul-le_self, min-le_right, mul-le-mul_right, le_trans}
 use Rattle.td_num.specs.Numbers.{bytes_in, places_from}
 use Rattle.td_num.specs.declared.number.NumberType.{NumberType}
@@ -15,7 +14,7 @@ use Rattle.td_core.specs.declared.outcome.TraceFrame.{TraceFrame}
 use Rattle.td_core.specs.declared.outcome.Verdict.{Verdict}
 use Rattle.td_core.specs.declared.outcome.Verdict.TheVariants.{Accept}
 use Rattle.td_core.specs.Outcome.{Ending, Accepted, Rejected, Behavior, and_then, accepted, rejected}
-use Rattle.td_meaning.specs.Meaning.{Sense, taken, demanded, elements, divides, filled, entry_place, first_where, one_more, numbers_at}
+use Rattle.td_meaning.specs.Meaning.{Sense, taken, demanded, elements, divides, filled, entry_place, numbers_at}
 use Rattle.td_meaning.specs.Machine.{definition_meaning, below, fields_meaning}
 use Rattle.td_meaning.specs.Throughout.{OnEnding}
 use Rattle.td_meaning.specs.Verdicts.{IsAt}
@@ -75,16 +74,6 @@ one_fewer m turn n w lt h =
     let h' : suc k * w ≤ n = subst (λ x. x * w ≤ n) e h in
     let grown : suc k * w ≡ w + k * w = omega arith in
     (omega (arith, h', grown), omega (arith, h', grown))
-
--- the first number that passes a test is one of the list
-pub found_below : (test : ℕ → Bool) (xs : List ℕ) (k : ℕ) → first_where test xs ≡ Some k → k < length xs
-found_below test [] k e = absurd (none-some k e)
-found_below test (x ∷ xs) k e = by (found_below test xs) (test x) (first_where test xs) refl e
-  where
-    by : ((j : ℕ) → first_where test xs ≡ Some j → j < length xs) → (b : Bool) (o : Option ℕ) → first_where test xs ≡ o → cond b (Some 0) (one_more o) ≡ Some k → k < length (x ∷ xs)
-    by later true o h e = let z : 0 ≡ k = same_Some 0 k e in omega (arith, z)
-    by later false None h e = absurd (none-some k e)
-    by later false (Some j) h e = let z : suc j ≡ k = same_Some (suc j) k e in omega (arith, z, later j h)
 
 pub count_of : (type : NumberType) (message : List ℕ) (p m : ℕ) → length (numbers_at type message p m) ≡ m
 count_of type message p zero = refl

@@ -4,7 +4,7 @@ use Rattle.std.specs.Prelude.{slice_get, slice_index, nat_eq, nat_le}
 use Rattle.std.proofs.lemmas.Bool.{eqb-true, eqb-false}
 use Rattle.std.proofs.lemmas.Option.{none-some, same_Some, slice_get_within}
 use Rattle.td_num.specs.Numbers.{bytes_in, number_at, places_from}
-use Rattle.td_num.specs.Lists.{Each, is_among}
+use Rattle.td_num.specs.Lists.{Each, is_among, first_where}
 use Rattle.td_core.specs.Term.{Term, Deed}
 use Rattle.td_core.specs.declared.module.NameId.{NameId}
 use Rattle.td_core.specs.declared.module.Element.{Element}
@@ -25,7 +25,7 @@ use Rattle.td_core.specs.Outcome.{Behavior, FramePlace, Ending, Accepted, Reject
 use Rattle.td_core.specs.WellFormed.{OfSome, EachField, HasParts}
 use Rattle.td_meaning.specs.Doing.{Effect, On, Returned, Aborted, doing, natural_of, is_true}
 use Rattle.td_meaning.specs.Naming.{is_needed}
-use Rattle.td_meaning.specs.Meaning.{Sense, values, values_of, taken, demanded, is_nonzero, byte_type, zeros_end, first_where, numbers_at, element_meaning, elements, divides, equals, zero_end, element_up_to_zero, shape_meaning, with_copy, content_meaning, refined, ended, acted, checked, parts_meaning, bits_of, field_number, number_places, extended, field_place, where_place, switch_place, first_name, fields_meaning, case_for, chosen_meaning, body_meaning, definition_meaning, below, pick, entry_place}
+use Rattle.td_meaning.specs.Meaning.{Sense, values, values_of, taken, demanded, is_nonzero, byte_type, zeros_end, numbers_at, element_meaning, elements, divides, equals, zero_end, element_up_to_zero, shape_meaning, with_copy, content_meaning, refined, ended, acted, checked, parts_meaning, bits_of, field_number, number_places, extended, field_place, where_place, switch_place, first_name, fields_meaning, case_for, chosen_meaning, body_meaning, definition_meaning, below, pick, entry_place}
 use Rattle.td_meaning.specs.Framing.{OneOf, IsPartName, IsDefaultName, IsBodyName, HasGuard, IsCasetype, IsSpotOf, IsFrameOf, LastIs, AreNamed, FramesAreNamed}
 use Rattle.td_num.proofs.Lists.{each_push as each_more}
 

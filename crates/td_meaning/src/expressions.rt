@@ -1,15 +1,14 @@
 //! Values of expressions in 64 bits. They are the expressions' values where each part that is evaluated has its value in
 //! its type's range, and elsewhere some number: nothing here can overflow.
 
-ghost use Rattle.std.specs.Prelude.{◌≡◌, ◌*◌, ◌/◌, ◌%◌, ◌^◌, ◌<◌, length, IfOk, OnErr, Option};
+ghost use Rattle.std.specs.Prelude.{◌≡◌, ◌<◌, length, IfOk, OnErr, Option};
 ghost use Rattle.td_core.specs.Term.{Term};
-ghost use Rattle.td_core.specs.Types.{limit};
 ghost use Rattle.td_meaning.specs.Machine.{truth_number, is_truth, applied, value_of, values, is_met};
 
 use std::alloc::{AllocError, Global};
 use td_core::expressions::{Binary, CoreExpr, Node, Relation, Scalar};
 use td_expr::types::{greatest_of, type_of};
-use td_expr::value::compare;
+use td_expr::value::{compare, shift_left, shift_right};
 
 /// The number that stands for a truth value: 1 for true, 0 for false.
 pub fn truth_number(truth: bool) -> u64
@@ -25,24 +24,6 @@ pub fn is_truth(value: u64) -> bool
     value != 0
 }
 
-/// A number shifted to the left, less the bits past its type's width.
-fn shifted_left(scalar: Scalar, value: u64, amount: u64) -> u64
-    ensures { result ≡ (value * 2 ^ amount) % limit scalar }
-{
-    if amount < 64 {
-        (value << amount) & greatest_of(scalar)
-    } else {
-        0
-    }
-}
-
-/// A number shifted to the right.
-fn shifted_right(value: u64, amount: u64) -> u64
-    ensures { result ≡ value / 2 ^ amount }
-{
-    if amount < 64 { value >> amount } else { 0 }
-}
-
 /// What an operator gives for two numbers, the left one of this type.
 fn applied(op: Binary, scalar: Scalar, x: u64, y: u64) -> u64
     ensures { result ≡ applied op scalar x y }
@@ -56,8 +37,8 @@ fn applied(op: Binary, scalar: Scalar, x: u64, y: u64) -> u64
         Binary::BitAnd => x & y,
         Binary::BitOr => x | y,
         Binary::BitXor => x ^ y,
-        Binary::ShiftLeft => shifted_left(scalar, x, y),
-        Binary::ShiftRight => shifted_right(x, y),
+        Binary::ShiftLeft => shift_left(scalar, x, y),
+        Binary::ShiftRight => shift_right(x, y),
     }
 }
 

@@ -3,6 +3,7 @@ use Rattle.std.proofs.Common.{◌≡◌, ℕ, suc, ◌-◌, cond, Some, List, []
 use Rattle.std.specs.Prelude.{slice_get, nat_eq}
 use Rattle.std.proofs.lemmas.Bool.{ne_eqb}
 use Rattle.td_num.specs.Numbers.{places_from}
+use Rattle.td_num.specs.Lists.{first_where, looked_at}
 use Rattle.td_core.specs.declared.outcome.Reason.TheVariants.{ListSize}
 use Rattle.td_core.specs.declared.module.NameId.{NameId}
 use Rattle.td_core.specs.declared.module.Field.{Field}
@@ -13,7 +14,7 @@ use Rattle.td_core.specs.declared.outcome.Verdict.{Verdict}
 use Rattle.td_core.specs.declared.outcome.Verdict.TheVariants.{Accept, Reject}
 use Rattle.td_core.specs.Outcome.{Ending, Accepted, Rejected, Behavior, plain, accepted, after_reading, onward, and_then, ending_within, within}
 use Rattle.td_meaning.specs.Naming.{is_needed}
-use Rattle.td_meaning.specs.Meaning.{Sense, demanded, elements, field_place, field_number, number_places, first_name, extended, entry_place, numbers_at, run_of, first_where, looked_at, is_nonzero, byte_type, zeros_end, zeros_meaning}
+use Rattle.td_meaning.specs.Meaning.{Sense, demanded, elements, field_place, field_number, number_places, first_name, extended, entry_place, numbers_at, run_of, is_nonzero, byte_type, zeros_end, zeros_meaning}
 use Rattle.td_meaning.specs.Machine.{below, fields_meaning, content_meaning, parts_meaning}
 use Rattle.td_meaning.proofs.MachineMeaning.{meaning}
 use Rattle.td_meaning.specs.Verdicts.{ending_of, IsAt}

@@ -1,5 +1,5 @@
 -- Numbers of bytes: digits in base 256, and their room. Cited by other crates.
-use Rattle.std.proofs.Common.{◌≡◌, inl, inr, ℕ, zero, suc, ◌+◌, ◌-◌, ◌*◌, ◌^◌, ◌<◌, ◌≤◌, List, length, sym, ap, subst, ◌∙◌, arith, lit<}
+use Rattle.std.proofs.Common.{◌≡◌, inl, inr, ℕ, zero, suc, ◌+◌, ◌-◌, ◌*◌, ◌%◌, ◌^◌, ◌<◌, ◌≤◌, List, length, sym, ap, subst, ◌∙◌, arith, lit<}
 use Rattle.std.specs.Prelude.{slice_index}
 use Rattle.std.specs.List.{All}
 use Rattle.std.proofs.Math.Nat.{pow-suc, pow-le-pow_right, mul-le-mul_left, mul-le-mul_right, mul-suc}
@@ -19,6 +19,10 @@ are_bytes b all i =
   where
     past : length b ≤ i → slice_index b i < 256
     past h = let none : slice_index b i ≡ 0 = get_or-eq_default b 0 h in omega arith
+
+-- what is left of a number in base 256 is a byte
+pub byte_below : (n : ℕ) → n % 256 < 256
+byte_below n = omega arith
 
 -- a byte more is 8 bits more
 pub power_of_bytes : (k : ℕ) → 2 ^ (8 * suc k) ≡ 256 * 2 ^ (8 * k)

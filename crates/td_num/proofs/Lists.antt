@@ -1,5 +1,5 @@
 -- What holds of each item of a list, and what stands at a place of it. Cited by other crates.
-use Rattle.std.proofs.Common.{◌≡◌, ℕ, zero, suc, ◌+◌, ◌-◌, ◌<◌, ◌≤◌, List, [], ◌∷◌, ◌++◌, length, take, drop, get_or, slice_index_or, Some, refl, sym, ap, subst, ◌∙◌, arith, replicate, set}
+use Rattle.std.proofs.Common.{◌≡◌, ℕ, zero, suc, ◌+◌, ◌-◌, ◌<◌, ◌≤◌, Bool, true, false, cond, Option, None, List, [], ◌∷◌, ◌++◌, length, take, drop, get_or, slice_index_or, Some, refl, sym, ap, subst, ◌∙◌, arith, replicate, set}
 use Rattle.std.specs.Prelude.{slice_get, slice_range, slice_index}
 use Rattle.std.specs.List.{Contains, All}
 use Rattle.std.proofs.lemmas.List.{drop_more, drop-take, drop-drop, take_at}
@@ -7,7 +7,7 @@ use Rattle.std.proofs.lemmas.Option.{none-some, same_Some}
 use Rattle.std.proofs.lemmas.List.Elements.{All-nil, All-cons, All-head, All-tail}
 use mathlib.Core.Option.{some, some-ne-none}
 use lib.ListN.{get_elem?}
-use Rattle.td_num.specs.Lists.{Each}
+use Rattle.td_num.specs.Lists.{Each, one_more, first_where}
 use Rattle.td_num.specs.Numbers.{places_from}
 
 -- there is an item at each place
@@ -105,3 +105,13 @@ left_none (x ∷ xs) ys h = absurd cc
 pub right_none : {A : Type 0} (xs ys : List A) → xs ++ ys ≡ [] → ys ≡ []
 right_none [] ys h = h
 right_none (x ∷ xs) ys h = absurd cc
+
+-- the first number that passes a test is one of the list
+pub found_below : (test : ℕ → Bool) (xs : List ℕ) (k : ℕ) → first_where test xs ≡ Some k → k < length xs
+found_below test [] k e = absurd (none-some k e)
+found_below test (x ∷ xs) k e = by (found_below test xs) (test x) (first_where test xs) refl e
+  where
+    by : ((j : ℕ) → first_where test xs ≡ Some j → j < length xs) → (b : Bool) (o : Option ℕ) → first_where test xs ≡ o → cond b (Some 0) (one_more o) ≡ Some k → k < length (x ∷ xs)
+    by later true o h e = let z : 0 ≡ k = same_Some 0 k e in omega (arith, z)
+    by later false None h e = absurd (none-some k e)
+    by later false (Some j) h e = let z : suc j ≡ k = same_Some (suc j) k e in omega (arith, z, later j h)

@@ -1,5 +1,6 @@
 -- The pieces of a name that may be qualified (own rule). A qualified name is one text in the tree, and three tokens in the text.
-use Rattle.std.specs.Prelude.{ℕ, List, [], ◌∷◌, Option, Some, None, if◌then◌else◌, ◌==◌}
+use Rattle.std.specs.Prelude.{ℕ, List, [], ◌∷◌, Option, Some, None, if◌then◌else◌}
+use Rattle.td_num.specs.Text.{is_dot}
 use Rattle.td_ast.specs.declared.token.TokenKind.TheVariants as kinds
 use Rattle.td_ast.specs.declared.names.ConstTree.{ConstTree}
 use Rattle.td_ast.specs.declared.names.ConstTree.TheVariants as constants
@@ -11,12 +12,12 @@ use Rattle.td_print_layout.specs.Sequences.{literal_piece, number_piece, optiona
 -- what stands before the first dot, all where there is none
 abbrev pub before_dot : List ℕ → List ℕ
 before_dot [] = []
-before_dot (b ∷ text) = if b == 46 then [] else b ∷ before_dot text
+before_dot (b ∷ text) = if is_dot b then [] else b ∷ before_dot text
 
 -- what stands after the first dot
 abbrev pub after_dot : List ℕ → Option (List ℕ)
 after_dot [] = None
-after_dot (b ∷ text) = if b == 46 then Some text else after_dot text
+after_dot (b ∷ text) = if is_dot b then Some text else after_dot text
 
 -- `.x`
 abbrev pub dotted_pieces : List ℕ → List Piece

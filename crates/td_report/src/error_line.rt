@@ -10,9 +10,9 @@ use td_io::{Sink, WriteFault};
 
 /// A place in a text: its line, and its byte in the line, both from 1.
 #[derive(Clone, Copy, PartialEq, Eq)]
-struct Position {
-    line: u64,
-    column: u64,
+pub struct Position {
+    pub line: u64,
+    pub column: u64,
 }
 
 fn position_at(text: &[u8], at: usize) -> Position
@@ -43,6 +43,15 @@ fn first_bytes(text: &[u8], count: u32) -> &[u8]
     }
 }
 
+/// The place of a byte of a text, from 0; past the text's end, that of the end. Takes no memory.
+pub fn position_of(text: &[u8], at: u32) -> Position
+    ensures line { result.line ≡ line_at text.now at }
+    ensures column { result.column ≡ column_at text.now at }
+{
+    let before = first_bytes(text, at);
+    position_at(before, before.len())
+}
+
 /// The word `error` and a code.
 pub(crate) fn write_code<E: Sink>(err: &mut E, code: &[u8]) -> Result<(), WriteFault>
     ensures { Writes (E.state err.old) (E.state err.new) (codes "error " ++ code.now) result }
@@ -56,8 +65,7 @@ fn write_place<E: Sink>(err: &mut E, text: &[u8], at: Option<u32>) -> Result<(),
     let Some(at) = at else {
         return Ok(());
     };
-    let before = first_bytes(text, at);
-    let position = position_at(before, before.len());
+    let position = position_of(text, at);
     let mut line = Buffer::new();
     let mut column = Buffer::new();
     let line = line.format(position.line).as_bytes();

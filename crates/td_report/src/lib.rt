@@ -15,7 +15,7 @@ pub mod summary;
 mod written;
 
 pub use copies::CopyBuffer;
-pub use error_line::front_line;
+pub use error_line::{Position, front_line, position_of};
 pub use outcome::OutcomeParts;
 pub use report::{report_of_parts, run_report};
 pub use summary::module_summary;

@@ -3,11 +3,9 @@ use Rattle.std.proofs.Common.{◌≡◌, ℕ, ◌<◌, ◌^◌, List, [], ◌∷
 use Rattle.std.specs.List.{All}
 use Rattle.std.proofs.lemmas.List.Elements.{All-nil, All-cons, All-head, All-tail, All-append, All-from_get_or}
 use Rattle.serde_json.specs.Data.{Items, no_items, item}
-use Rattle.td_core.specs.Formed.{AllFit}
+use Rattle.td_core.specs.Formed.{AllFit, cells_at}
 use Rattle.td_core.specs.Entries.{entry_definition}
 use Rattle.td_job.specs.declared.error.Key.TheVariants as key
-use Rattle.td_job.specs.Values.{cells_bounds}
-use Rattle.td_job.proofs.Writing.{fits_params, fits_cells}
 use Rattle.td_job.specs.Jobs.{spelled_word}
 use Rattle.td_posts.specs.declared.job.Step.{Step}
 use Rattle.td_posts.specs.declared.job.Step.TheVariants.{Store, Post, Scatter}
@@ -89,7 +87,7 @@ host_jobs_are_sized keep bytes m j h =
 pub replies_are_told : OutcomesAreTold → RepliesAreTold
 replies_are_told told m j message n f entry version checked s bytes short =
     let own = entry_definition f entry.number in
-    let bounds = cells_bounds own in
+    let bounds = cells_at own in
     let values = s.kept.values.each n f entry version in
     let cells : AllFit bounds (zeros j.cells) = subst (λ n. AllFit bounds (zeros n)) (sym values.cells) (zeros_fit bounds) in
-    told f entry j.args (zeros j.cells) message checked values.entry (fits_params own j.args values.args) (fits_cells own (zeros j.cells) cells) bytes short
+    told f entry j.args (zeros j.cells) message checked values.entry values.args cells bytes short

@@ -18,7 +18,6 @@ use Rattle.td_meaning.proofs.CopiesWhole.{opened_small}
 use Rattle.td_meaning.specs.Endings.{IsEndingWithin, EndingsAreWithin}
 use Rattle.td_arith.specs.Laws.{EvaluatedIsSound}
 use Rattle.td_job.specs.declared.checks.TheConstants.{MOST_BYTES}
-use Rattle.td_job.proofs.Writing.{fits_params, fits_cells}
 use Rattle.td_report.specs.Laws.{IsShownLoad}
 use Rattle.td_report_facts.specs.Laws.{AreSized, IsTold, ModulesHaveWords, OutcomesAreTold, RunsAreTold, LoadsAreTold}
 use Rattle.td_report_facts.proofs.Laid.{SmallLoad, of_64_bits, plainly_shown, shown_by_stretches}
@@ -68,4 +67,4 @@ pub runs_are_told : OutcomesAreTold → RunsAreTold
 runs_are_told told m j message c s bytes long =
     let own = entry_definition m j.entry.number in
     let limit = s.limit in
-    told m j.entry j.args j.cells message c s.entry (fits_params own j.args s.values.args) (fits_cells own j.cells s.values.cells) bytes (omega (arith, limit, long))
+    told m j.entry j.args j.cells message c s.entry s.values.args s.values.cells bytes (omega (arith, limit, long))

@@ -157,7 +157,7 @@ pub fn validate_recorded<W: Words>(
     ensures armed { IsArmed code.now frame.new }
 {
     let mut recorder = Recorder::over(words, loads);
-    let (verdict, _) = validate_counted::<Recorder<'_, W>, Brand, Untold>(
+    let (verdict, _) = validate_counted::<_, Brand, Untold>(
         code,
         entry,
         args,

@@ -14,7 +14,7 @@ use td_core::module::Entry;
 use td_core::outcome::{Outcome, Verdict};
 use td_sched::planned::Planned;
 use td_sched::store::PlannedStore;
-use td_stream::layout::Layout;
+use td_stream::layout::{Layout, word_count};
 use td_stream::loads::Loads;
 use td_verify::verify::Verified;
 use td_vm::laws::fitting_cells_have_room;
@@ -60,16 +60,6 @@ pub struct Prepared<'a> {
     pub ghost room: { counted words.layout (size_of words.opening) ≤ loads.room },
 }
 
-// How many words may be loaded.
-fn words_of(layout: Option<&Layout>, all: u32) -> u32
-    ensures { result ≡ counted (option_map (λ l. l.now) layout.entry) all }
-{
-    match layout {
-        None => all,
-        Some(layout) => layout.count(),
-    }
-}
-
 // Memory with a layout or without one.
 fn opened<'a>(alloc: Global, memory: &Memory<'a>) -> Result<Planned<'a>, AllocError>
     requires few { size_of memory.now.words.now < 2 ^ 32 }
@@ -96,7 +86,7 @@ pub fn prepare<'a>(alloc: Global, memory: &Memory<'a>) -> Result<Prepared<'a>, A
     ensures layout { IfOk result (λ p. p.words.layout ≡ option_map (λ l. l.now) memory.now.layout) }
     ensures memory { memory.now.words.now ≡ [] → memory.now.stores.now ≡ [] → option_map (λ l. l.now) memory.now.layout ≡ None → IsOk result }
 {
-    let count = words_of(memory.layout, memory.words.len() as u32);
+    let count = word_count(memory.layout, memory.words.len() as u32);
     let loads = Loads::with_room(alloc, count)?;
     let words = opened(alloc, memory)?;
     Ok(Prepared { words, loads })

@@ -11,7 +11,7 @@ use crate::store::PlannedStore;
 use std::alloc::{AllocError, Global};
 use std::marker::Model;
 use std::snapshot::Snapshot;
-use td_stream::layout::Layout;
+use td_stream::layout::{Layout, word_count};
 use td_stream::load::Load;
 use td_stream::words::Words;
 
@@ -95,16 +95,6 @@ fn word_named(layout: Option<&Layout>, near: u32, number: u32) -> (u32, u32)
     }
 }
 
-// How many words may be loaded.
-fn words_of(layout: Option<&Layout>, all: u32) -> u32
-    ensures { result ≡ counted (option_map (λ l. l.now) layout.entry) all }
-{
-    match layout {
-        None => all,
-        Some(layout) => layout.count(),
-    }
-}
-
 // A place of the stores before which all are to words before this one, where those before `next` are to words before `ahead`.
 fn first_for(next: usize, ahead: u32, word: u32) -> usize
     ensures reached { result ≤ next }
@@ -172,7 +162,7 @@ impl<'a> Planned<'a> {
         let given = Snapshot::of(&stores);
         sort_by_number(&mut stores)?;
         sort_by_word(&mut stores)?;
-        let count = words_of(layout, words.len() as u32);
+        let count = word_count(layout, words.len() as u32);
         let loads = Vec::with_capacity(alloc, count as usize)?;
         Ok(Planned {
             words,
@@ -203,7 +193,7 @@ impl<'a> Words for Planned<'a> {
     ghost same_size = { same_size };
 
     fn count(&self) -> u32 {
-        words_of(self.layout, self.words.len() as u32)
+        word_count(self.layout, self.words.len() as u32)
     }
 
     fn load(&mut self, i: u32) -> u64 {

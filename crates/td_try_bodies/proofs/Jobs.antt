@@ -30,14 +30,13 @@ use Rattle.td_stream.specs.Loads.{IsRising, Inside, Carries}
 use Rattle.td_meaning.specs.Copies.{IsSoundOn}
 use Rattle.td_fetch.specs.Outcomes.{IsMeant}
 use Rattle.td_try_bodies.specs.Meant.{IsJobMeant}
-use Rattle.td_job.proofs.Writing.{fits_params, fits_cells}
 
 -- a job's values, and lists that are alike, fit its entry point's code
 pub job_fits : ArgumentsFit → (c : Parts) (m : Module) (job : RunJob) (args cells : List ℕ) → IsCodeOf c m → job.entry.number < length m.entries → HasValues m job
     → args ≡ job.args → cells ≡ job.cells → Fits c job.entry args cells
 job_fits law c m job args cells of inside values p q =
     let o = entry_definition m job.entry.number in
-    let h : Fits c job.entry job.args job.cells = law c m job.entry job.args job.cells of inside (fits_params o job.args values.args) (fits_cells o job.cells values.cells) in
+    let h : Fits c job.entry job.args job.cells = law c m job.entry job.args job.cells of inside values.args values.cells in
     subst (λ x. Fits c job.entry args x) (sym q) (subst (λ x. Fits c job.entry x job.cells) (sym p) h)
 
 abbrev pub input_by : RunJob → List ℕ → List ℕ → List ℕ → List PlannedStore → Option (List Stretch) → Input
@@ -82,5 +81,5 @@ empty_fit (Some d) cells h = (all_long (cells_at (Some d)) cells h ∙ length-ma
 pub buffers_fit : (m : Module) (job : RunJob) (cells : List ℕ) (buffers : List BufferView) → HasValues m job → cells ≡ job.cells → buffers ≡ empty_of (entry_definition m job.entry.number) → AreOfEntry m job.entry (length cells) buffers
 buffers_fit m job cells buffers values e same =
     let o = entry_definition m job.entry.number in
-    let fits : AllFit (cells_at o) job.cells = fits_cells o job.cells values.cells in
+    let fits : AllFit (cells_at o) job.cells = values.cells in
     subst (λ vs. AreOfEntry m job.entry (length cells) vs) (sym same) (subst (λ xs. AreOfEntry m job.entry (length xs) (empty_of o)) (sym e) (empty_fit o job.cells fits))

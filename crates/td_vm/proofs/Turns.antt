@@ -38,7 +38,6 @@ use Rattle.td_vm.specs.declared.level.Output.{Output}
 use Rattle.td_stream.specs.Copies.{rooms_of}
 use Rattle.td_vm_step.specs.declared.slate.Slate.{Slate}
 use Rattle.td_vm_step.specs.Stepping.{HasPlaces, IsLent}
-use Rattle.td_vm_step.proofs.Stretches.{lent_self, lent_trans}
 use Rattle.td_vm.proofs.Keeps.{callee_need, goes_on}
 use Rattle.td_vm.proofs.Places.{callee_places, entry_places, own_snoc}
 use Rattle.td_verify.proofs.Flat.{next_opened}
@@ -73,22 +72,25 @@ room_kept l s t regs regs' o u h k r e z = record {
   place_room = omega (arith, h.place_room, k.places);
   register_count = r ∙ h.register_count;
   register_room = omega (arith, h.register_room, k.registers);
-  in_cells = subst (λ (n : ℕ). HasPlaces l.code.parts.now l.n l.places.now l.first n (rooms_of u.slate.copies.now)) (sym e.lent.cells) (subst (HasPlaces l.code.parts.now l.n l.places.now l.first (length o.slate.cells.now)) (sym e.rooms) h.in_cells);
+  in_cells = subst (λ (n : ℕ). HasPlaces l.code.parts.now l.n l.places.now l.first n (rooms_of u.slate.copies.now)) (sym e.cells) (subst (HasPlaces l.code.parts.now l.n l.places.now l.first (length o.slate.cells.now)) (sym e.rooms) h.in_cells);
   trace = z;
   trace_room = omega (arith, h.trace_room, e.frames);
 }
 
 pub same_stepped : (o : Output) (u : Slate) → IsLent o.slate u → rooms_of u.copies.now ≡ rooms_of o.slate.copies.now → SameRoom o (record { slate = u; trace = o.trace })
-same_stepped o u k e = record { lent = k; rooms = e; same_trace = refl; frames = refl; memory = refl }
+same_stepped o u k e = record { same_cells = k.same_cells; same_copies = k.same_copies; same_trace = refl; cells = k.cells; copies = k.copies; rooms = e; frames = refl; memory = refl }
 
 pub same_self : (o : Output) → SameRoom o o
-same_self o = record { lent = lent_self o.slate; rooms = refl; same_trace = refl; frames = refl; memory = refl }
+same_self o = record { same_cells = refl; same_copies = refl; same_trace = refl; cells = refl; copies = refl; rooms = refl; frames = refl; memory = refl }
 
 pub same_on : (o u v : Output) → SameRoom o u → SameRoom u v → SameRoom o v
 same_on o u v h k = record {
-  lent = lent_trans o.slate u.slate v.slate h.lent k.lent;
-  rooms = k.rooms ∙ h.rooms;
+  same_cells = k.same_cells ∙ h.same_cells;
+  same_copies = k.same_copies ∙ h.same_copies;
   same_trace = k.same_trace ∙ h.same_trace;
+  cells = k.cells ∙ h.cells;
+  copies = k.copies ∙ h.copies;
+  rooms = k.rooms ∙ h.rooms;
   frames = k.frames ∙ h.frames;
   memory = k.memory ∙ h.memory;
 }

@@ -15,7 +15,7 @@ use Rattle.td_vm_step.specs.declared.activation.TraceRoom.{TraceRoom}
 use Rattle.td_stream.specs.Copies.{rooms_of}
 use Rattle.td_vm_step.specs.declared.activation.CodeView.{CodeView}
 use Rattle.td_vm_step.specs.declared.activation.Level.{Level}
-use Rattle.td_vm_step.specs.Stepping.{HasPlaces, IsLent}
+use Rattle.td_vm_step.specs.Stepping.{HasPlaces}
 use Rattle.td_vm.specs.declared.level.Spare.{Spare}
 use Rattle.td_vm.specs.declared.level.Output.{Output}
 use Rattle.td_vm.specs.Frames.{AreBegins}
@@ -63,9 +63,12 @@ pub record IsKept (s t : Spare) : Type 0 where
 
 -- the same cells, buffers and trace are lent, with as much room
 pub record SameRoom (s t : Output) : Type 0 where
-  pub lent : IsLent s.slate t.slate
-  pub rooms : rooms_of t.slate.copies.now ≡ rooms_of s.slate.copies.now
+  pub same_cells : t.slate.cells.ghost_name ≡ s.slate.cells.ghost_name
+  pub same_copies : t.slate.copies.ghost_name ≡ s.slate.copies.ghost_name
   pub same_trace : t.trace.ghost_name ≡ s.trace.ghost_name
+  pub cells : length t.slate.cells.now ≡ length s.slate.cells.now
+  pub copies : length t.slate.copies.now ≡ length s.slate.copies.now
+  pub rooms : rooms_of t.slate.copies.now ≡ rooms_of s.slate.copies.now
   pub frames : length t.trace.now.frames.items ≡ length s.trace.now.frames.items
   pub memory : vec_capacity t.trace.now.frames ≡ vec_capacity s.trace.now.frames
 

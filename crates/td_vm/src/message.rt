@@ -81,5 +81,11 @@ pub fn run_message<W: Words, L: Ledger, C: Counter>(
         slate: front,
         trace,
     };
-    run_entry(call, layout, spare, &mut output, words, steps)
+    let verdict = run_entry(call, layout, spare, &mut output, words, steps);
+    // Taken apart, so that what became of the trace is known where its loan ends.
+    let Output {
+        slate: _slate,
+        trace: _trace,
+    } = output;
+    verdict
 }

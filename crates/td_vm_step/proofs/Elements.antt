@@ -1,12 +1,13 @@
 -- Elements that are looked at one after the other.
 use Rattle.std.proofs.Common.{◌≡◌, ℕ, zero, suc, ◌+◌, ◌-◌, ◌*◌, ◌<◌, ◌≤◌, Bool, true, false, cond, List, ◌∷◌, ◌++◌, Option, Some, None, sym, refl, ap, ◌∙◌, subst, arith}
 use Rattle.td_num.specs.Numbers.{rising_at, places_from}
+use Rattle.td_num.specs.Lists.{first_where, one_more, looked_at}
 use Rattle.td_stream.specs.declared.load.Load.{Load}
 use Rattle.td_stream.specs.declared.stream.Stream.{Stream}
 use Rattle.td_stream.specs.StreamInvariant.{Looked, position, end_of}
 use Rattle.td_stream.proofs.Places.{look_more}
 use Rattle.td_ir.specs.State.{State, left, at_pos}
-use Rattle.td_ir.specs.Values.{first_where, one_more, looked_at, numbers_from, is_nonzero}
+use Rattle.td_ir.specs.Values.{numbers_from, is_nonzero}
 use Rattle.td_ir.specs.Flow.{zeros, zeros_flow}
 use Rattle.td_vm_step.specs.Stepping.{state_of, effect_of}
 use Rattle.td_vm_step.specs.declared.activation.Activation.{Activation}

@@ -2,11 +2,12 @@
 
 ghost use Rattle.std.specs.Prelude.{◌≡◌, ℕ, ◌+◌, ◌-◌, ◌*◌, ◌/◌, ◌<◌, ◌≤◌, Bool, List, length, IfSome};
 ghost use Rattle.td_num.specs.Numbers.{places_from};
+ghost use Rattle.td_num.specs.Lists.{first_where, looked_at};
 ghost use Rattle.td_stream.specs.Loads.{Carries};
 ghost use Rattle.td_stream.specs.StreamInvariant.{IsStream, Later, Moves, position, end_of, layout_of, loads_of};
 ghost use Rattle.td_verify.specs.Operands.{IsWidth};
 ghost use Rattle.td_ir.specs.Values as values;
-ghost use Rattle.td_ir.specs.Values.{first_where, looked_at, numbers_from};
+ghost use Rattle.td_ir.specs.Values.{numbers_from};
 ghost use Rattle.td_ir.specs.Flow as flow;
 ghost use Rattle.td_vm_step.specs.Stepping.{state_of, flow_of, effect_of, Ran, WhenGoes, OnOrOut, IsSmall, sought};
 

@@ -90,7 +90,9 @@ pub fn one_unit(
     ensures err { IfErr result (λ h. (later : Later) → Halts h draft.new.path.items
         (parts_written in_machine number_type field.now.parts env.old.items places.now draft.old.path.items left.now.index (length draft.old.out.items) cells.old (drop left.now.index left.now.values.now) (unit_then number_type field.now.parts draft.old.path.items (length draft.old.out.items) later))) }
 {
-    let start = draft.out.len();
+    let path = &mut draft.path;
+    let out = &mut draft.out;
+    let start = out.len();
     let unit = UnitAt {
         number_type,
         start: start as u32,
@@ -108,7 +110,7 @@ pub fn one_unit(
             },
             env,
             places,
-            &mut draft.path,
+            path,
             cells,
         ) {
             Ok(_) => {}
@@ -122,6 +124,6 @@ pub fn one_unit(
     if !has_room(start, byte_count(number_type.width) as u64) {
         return Err(Halt::Broken(WriteRule::Long));
     }
-    push_number(&mut draft.out, number_type, number)?;
+    push_number(out, number_type, number)?;
     Ok(next)
 }

@@ -181,7 +181,7 @@ fields::one_field-returns-in-Ok-test_parts-clause-ok t c = λ later.
     let shape : after_writing a.draft.now.out.items (copied f.copy a.walk.now.places.now p (shape_written in_machine sets writers f.element f.extent a.env.now.items a.walk.now.places.now (a.draft.now.path.items ++ a.left.now.index ∷ []) p a.cells.now v)) ≡ Done new c.content.new.cells =
     (λ k. after_writing a.draft.now.out.items (copied f.copy a.walk.now.places.now p (shape_written in_machine sets writers f.element f.extent (scope k) a.walk.now.places.now (sym at k) p a.cells.now v))) ∙ own.total in
     let from : p ≡ c.len-start.result = sym (c.len-start.ensures ∙ a.draft.now.out.ok.0) in
-    let to : length new ≡ c.len-pos.result = sym (c.len-pos.ensures ∙ c.content.new.draft.out.ok.0) in
+    let to : length new ≡ c.len-end.result = sym (c.len-end.ensures ∙ c.content.new.draft.out.ok.0) in
     let number : number_in f.element f.extent v ≡ c.number_in-number.result = sym c.number_in-number.ensures in
     let parts : f.parts ≡ c.as_slice-in-None.result.now = sym c.as_slice-in-None.ensures in
     let passes : Passes (machine.parts_meaning a.ty p (number_in f.element f.extent v) f.parts a.env.now.items a.walk.now.places.now (length new) c.content.new.cells).ending c.test_parts.new.cells = λ path go.

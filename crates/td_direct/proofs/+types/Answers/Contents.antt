@@ -1,5 +1,5 @@
 -- The answers of what stands in a field.
-use Rattle.std.proofs.Common.{◌≡◌, ℕ, ◌-◌, ◌<◌, List, [], ◌∷◌, false, refl, sym, ap, ◌∙◌, subst}
+use Rattle.std.proofs.Common.{◌≡◌, ℕ, ◌-◌, ◌<◌, List, ◌∷◌, false, refl, sym, ap, ◌∙◌, subst}
 use Rattle.std.specs.Prelude.{◌⊎◌}
 use Rattle.std.proofs.lemmas.Result.{err_from_is_err_and}
 use Rattle.td_num.specs.Numbers.{bytes_in, number_at}
@@ -79,12 +79,16 @@ fields::validate_content-returns-in_ok-validate_number-in-Number-clause-validate
     }
 
 pub fields::validate_content-returns-in_err-validate_number-in-Number-clause-runs_out : goal.fields::validate_content-returns-in_err-validate_number-in-Number-clause-runs_out
-fields::validate_content-returns-in_err-validate_number-in-Number-clause-runs_out g t c = let p = err_from_is_err_and c.from_residual.result c.from_residual.ensures.1 in rw p.1 (record {
-  later = c.validate_number.ensures.later;
-  stream = c.validate_number.ensures.whole;
-  lent = record { same_cells = refl; same_copies = refl; same_trace = refl; cells = refl; rooms = refl };
-  only = λ b h. only_still g.W.Words.loads c.args.stream.now c.validate_number.new.stream _ c.in_err-validate_number-in-Number.ensures.only;
-})
+fields::validate_content-returns-in_err-validate_number-in-Number-clause-runs_out g t c = let p = err_from_is_err_and c.from_residual.result c.from_residual.ensures.1 in rw p.1 (
+    let a = c.args in
+    let s = a.stream.now in
+    let m = a.walk.now.types.now.module.now in
+    record {
+      later = c.validate_number.ensures.later;
+      stream = c.validate_number.ensures.whole;
+      lent = record { same_cells = refl; same_copies = refl; same_trace = refl; cells = refl; rooms = refl };
+      only = λ b h. only_still g.W.Words.loads s c.validate_number.new.stream (fields_meaning m.listed (senses m a.walk.now.bound) a.walk.now.ty (a.field.now ∷ a.later.now) a.env.now a.walk.now.places.now b s.end s.pos a.slate.now.cells.now) c.in_err-validate_number-in-Number.ensures.only;
+    })
 
 pub fields::validate_content-returns-in_ok-validate_listed_field-in-Listed-clause-validates : goal.fields::validate_content-returns-in_ok-validate_listed_field-in-Listed-clause-validates
 fields::validate_content-returns-in_ok-validate_listed_field-in-Listed-clause-validates g t c =

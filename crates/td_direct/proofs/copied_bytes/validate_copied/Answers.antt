@@ -1,4 +1,4 @@
-use Rattle.std.proofs.Common.{◌≡◌, ℕ, ◌+◌, ◌-◌, ◌*◌, ◌/◌, ◌<◌, ◌≤◌, min, List, [], ◌++◌, length, map, refl, sym, ap, ◌∙◌, subst, arith, slice_index, slice_index_or, slice_set}
+use Rattle.std.proofs.Common.{◌≡◌, ◌+◌, ◌-◌, ◌≤◌, min, [], map, sym, ap, ◌∙◌, subst, arith, slice_index, slice_set}
 use Rattle.std.proofs.lemmas.List.{append-nil, length-map}
 use Rattle.std.proofs.Math.Seq.{map-set_same}
 use Rattle.td_num.specs.Numbers.{places_from}
@@ -10,7 +10,7 @@ use Rattle.td_stream.specs.Copies.{BufferView, held_by, rooms_of}
 use Rattle.td_stream.specs.StreamInvariant.{Looked, position, end_of, layout_of}
 use Rattle.td_stream.proofs.Places.{look_more}
 use Rattle.td_stream.proofs.Rooms.{room_at}
-use Rattle.td_direct.proofs.Buffers.{held_put, copied_long}
+use Rattle.td_direct.proofs.Held.{held_put, copied_long}
 use Rattle.td_direct.proofs.copied_bytes.validate_copied.Goals as goal
 
 pub copy_to-requires-clause-room : goal.copy_to-requires-clause-room

@@ -1,11 +1,11 @@
-use Rattle.std.proofs.Common.{rules, ◌≡◌, ℕ, ◌+◌, ◌-◌, ◌<◌, List, [], ◌∷◌, ◌++◌, false, refl, sym, ap, ◌∙◌, subst, length}
+use Rattle.std.proofs.Common.{◌≡◌, ℕ, ◌-◌, ◌<◌, List, [], false, sym, ap, ◌∙◌, subst}
 use Rattle.std.specs.Prelude.{◌⊎◌}
 use Rattle.std.proofs.lemmas.Result.{err_from_is_err_and}
-use Rattle.td_num.specs.Numbers.{bytes_in, number_at, places_from}
+use Rattle.td_num.specs.Numbers.{bytes_in, number_at}
 use Rattle.td_num.specs.Lists.{is_among}
 use Rattle.td_core.specs.declared.module.Field.{Field}
 use Rattle.td_core.specs.declared.outcome.Spot.TheVariants.{Field as FieldSpot}
-use Rattle.td_core.specs.Outcome.{Ending, Behavior, ending_within, plain, and_then, within}
+use Rattle.td_core.specs.Outcome.{Ending, ending_within, plain, and_then, within}
 use Rattle.td_meaning.specs.Meaning.{field_place, first_name, values_of}
 use Rattle.td_meaning.specs.Machine.{listed_meaning}
 use Rattle.td_meaning.specs.Verdicts.{ending_of, frame_place}

@@ -1,12 +1,12 @@
-use Rattle.std.proofs.Common.{rules, ◌≡◌, ℕ, ◌+◌, ◌<◌, ◌≤◌, List, [], ◌∷◌, ◌++◌, true, false, refl, sym, ap, ◌∙◌, arith, length}
+use Rattle.std.proofs.Common.{rules, ◌≡◌, ◌+◌, ◌<◌, ◌≤◌, [], ◌++◌, true, false, refl, sym, ap, ◌∙◌, arith, length}
 use Rattle.td_num.specs.Numbers.{bytes_in, places_from}
 use Rattle.td_core.specs.declared.module.Field.{Field}
 use Rattle.td_core.specs.declared.outcome.Reason.TheVariants.{NotEnough}
 use Rattle.td_core.specs.declared.outcome.Spot.TheVariants.{Field as FieldSpot}
-use Rattle.td_core.specs.Outcome.{Ending, Rejected, ending_within}
+use Rattle.td_core.specs.Outcome.{Rejected, ending_within}
 use Rattle.td_meaning.specs.Naming.{is_needed}
 use Rattle.td_meaning.specs.Meaning.{first_name}
-use Rattle.td_meaning.specs.Verdicts.{ending_of, frame_place}
+use Rattle.td_meaning.specs.Verdicts.{frame_place}
 use Rattle.td_direct.specs.Validates.{rest_meaning}
 use Rattle.td_stream.proofs.Places.{look_nowhere}
 use Rattle.td_direct.proofs.FieldLemmas.{number_short, number_passed, number_read}

@@ -1,4 +1,4 @@
-use Rattle.std.proofs.Common.{◌≡◌, ℕ, List, [], refl, sym, ap, ◌∙◌}
+use Rattle.std.proofs.Common.{[], refl, sym, ap, ◌∙◌}
 use Rattle.td_core.specs.declared.module.Element.{Element}
 use Rattle.td_core.specs.declared.outcome.Reason.TheVariants.{ListSize}
 use Rattle.td_core.specs.Outcome.{plain, rejected}

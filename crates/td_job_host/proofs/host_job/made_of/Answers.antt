@@ -1,11 +1,12 @@
 use Rattle.std.proofs.Common.{rules, ◌≡◌, ℕ, [], length, sym, ap, subst, ◌∙◌, arith}
 use Rattle.serde_json.specs.View.{view}
 use Rattle.td_core.specs.Entries.{entry_definition}
+use Rattle.td_core.specs.Formed.{params_at, cells_at}
 use Rattle.td_job.specs.declared.error.JobError.TheVariants.{NoMemory}
 use Rattle.td_job.specs.declared.error.Key.TheVariants as key
 use Rattle.td_job.specs.Fields.{field_of}
 use Rattle.td_job.specs.Slots.{slot_bounds}
-use Rattle.td_job.specs.Values.{args_bounds, cells_bounds, given_values}
+use Rattle.td_job.specs.Values.{given_values}
 use Rattle.td_job.specs.Words.{IsFilled}
 use Rattle.td_job.proofs.Numbers.{both_empty}
 use Rattle.td_job.proofs.Tested.{memory_alone}
@@ -47,8 +48,8 @@ returns-clause-ok c =
     let entry = c.args.tested.entry in
     let d = entry_definition m entry.number in
     let words = c.requires.words in
-    let params : slot_bounds c.params_of-params.result ≡ args_bounds d = c.params_of-params.ensures ∙ ap args_bounds c.definition_of-definition.ensures in
-    let slots : slot_bounds c.cells_of.result ≡ cells_bounds d = c.cells_of.ensures ∙ ap cells_bounds c.definition_of-definition.ensures in
+    let params : slot_bounds c.params_of-params.result ≡ params_at d = c.params_of-params.ensures ∙ ap params_at c.definition_of-definition.ensures in
+    let slots : slot_bounds c.cells_of.result ≡ cells_at d = c.cells_of.ensures ∙ ap cells_at c.definition_of-definition.ensures in
     let of_bytes = subst (λ bs. IsFilled bs c.args.tested.words c.in_ok-fill_words.field-0) (c.as_slice.ensures.value ∙ sym c.in_ok-bytes.ensures.ok.1) c.in_ok-fill_words.ensures.ok in
     record {
       entry = entry;
@@ -61,7 +62,7 @@ returns-clause-ok c =
       by = c.in_ok-formats_of.ensures;
       begins = c.in_ok-entries_of.ensures;
       args = c.in_ok-values_of.ensures.ok ∙ ap (λ b. given_values b (field_of key.Args job)) params;
-      cells = c.in_ok-count_of.ensures.ok ∙ c.len.ensures ∙ ap length slots;
+      cells = c.in_ok-small_count.ensures.ok ∙ c.len.ensures ∙ ap length slots;
       roomy = c.in_ok-rooms_of.ensures ∙ ap rooms_in c.definition_of-definition.ensures;
       filled = subst (λ n. IsFilled (given_buffer job) n c.in_ok-fill_words.field-0) (sym words) of_bytes;
       worked = c.requires.workers;

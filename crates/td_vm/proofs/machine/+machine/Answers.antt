@@ -10,7 +10,7 @@ use Rattle.td_verify.specs.Shape.{shape}
 use Rattle.td_stream.specs.StreamInvariant.{position, end_of}
 use Rattle.td_vm_step.specs.Stepping.{Ends}
 use Rattle.td_stream.proofs.Stages.{later_trans, later_self}
-use Rattle.td_vm_step.proofs.Stretches.{hold_on, lent_trans, ran_self}
+use Rattle.td_vm_step.proofs.Stretches.{hold_on, ran_self}
 use Rattle.td_vm.specs.Exits.{exit_by}
 use Rattle.td_vm.proofs.Stretches.{ran_step, after_once, after_none}
 use Rattle.td_vm.proofs.Shapes.{shape_here}
@@ -259,9 +259,12 @@ run_block-returns-in-Fails-clause-lent g t c =
     let i = c.steps.invariant in
     let e = c.in-Fails.ensures in
     record {
-      lent = lent_trans _ _ _ i.lent.lent e.lent;
-      rooms = e.rooms ∙ i.lent.rooms;
+      same_cells = e.lent.same_cells ∙ i.lent.same_cells;
+      same_copies = e.lent.same_copies ∙ i.lent.same_copies;
       same_trace = i.lent.same_trace;
+      cells = e.lent.cells ∙ i.lent.cells;
+      copies = e.lent.copies ∙ i.lent.copies;
+      rooms = e.rooms ∙ i.lent.rooms;
       frames = c.push_frame.ensures.kept ∙ i.lent.frames;
       memory = c.push_frame.ensures.memory ∙ i.lent.memory;
     }
@@ -284,9 +287,12 @@ run_block-returns-in-Failed-clause-lent g t c =
     let e = c.in-Calls.ensures in
     let f = c.in-Failed.ensures in
     record {
-      lent = lent_trans _ _ _ (lent_trans _ _ _ i.lent.lent e.lent) f.lent.lent;
-      rooms = f.lent.rooms ∙ e.rooms ∙ i.lent.rooms;
+      same_cells = f.lent.same_cells ∙ e.lent.same_cells ∙ i.lent.same_cells;
+      same_copies = f.lent.same_copies ∙ e.lent.same_copies ∙ i.lent.same_copies;
       same_trace = f.lent.same_trace ∙ i.lent.same_trace;
+      cells = f.lent.cells ∙ e.lent.cells ∙ i.lent.cells;
+      copies = f.lent.copies ∙ e.lent.copies ∙ i.lent.copies;
+      rooms = f.lent.rooms ∙ e.rooms ∙ i.lent.rooms;
       frames = c.push_frame-in-Failed.ensures.kept ∙ f.lent.frames ∙ i.lent.frames;
       memory = c.push_frame-in-Failed.ensures.memory ∙ f.lent.memory ∙ i.lent.memory;
     }

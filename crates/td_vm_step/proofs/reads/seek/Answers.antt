@@ -1,9 +1,10 @@
 use Rattle.std.proofs.Common.{◌≡◌, suc, ◌+◌, ◌-◌, ◌*◌, refl, sym, ap, ◌∙◌, subst, arith}
 use Rattle.td_num.specs.Numbers.{rising_at, places_from}
+use Rattle.td_num.specs.Lists.{first_where}
 use Rattle.td_stream.specs.StreamInvariant.{Looked, position, end_of}
 use Rattle.td_stream.proofs.Places.{look_nowhere}
 use Rattle.td_stream.proofs.Stages.{later_trans, later_self, carried}
-use Rattle.td_ir.specs.Values.{first_where, numbers_from}
+use Rattle.td_ir.specs.Values.{numbers_from}
 use Rattle.td_vm_step.specs.Stepping.{sought}
 use Rattle.td_vm_step.proofs.Elements.{shifted, shifted_none, passed_one, found_one, none_found, look_on, fits_one, next_width, suc_width, no_width}
 use Rattle.td_vm_step.proofs.Bytes.{some_width, few_width}

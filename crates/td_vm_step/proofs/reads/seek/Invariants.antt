@@ -1,8 +1,9 @@
 use Rattle.std.proofs.Common.{◌≡◌, ℕ, ◌+◌, ◌-◌, ◌*◌, List}
 use Rattle.td_num.specs.Numbers.{places_from}
+use Rattle.td_num.specs.Lists.{first_where}
 use Rattle.td_stream.specs.Loads.{Carries}
 use Rattle.td_stream.specs.StreamInvariant.{IsStream, Later, Looked, position, end_of, layout_of, loads_of}
-use Rattle.td_ir.specs.Values.{first_where, numbers_from}
+use Rattle.td_ir.specs.Values.{numbers_from}
 use Rattle.td_vm_step.specs.Stepping.{sought}
 use Rattle.td_vm_step.proofs.Elements.{shifted}
 use Rattle.td_vm_step.proofs.reads.seek.Given as goal

@@ -1,8 +1,9 @@
 use Rattle.std.proofs.Common.{◌≡◌, suc, ◌+◌, ◌-◌, Some, sym, ap, ◌∙◌, subst, arith}
 use Rattle.td_core.specs.declared.outcome.Reason.TheVariants.{Padding}
 use Rattle.td_num.specs.Numbers.{places_from}
+use Rattle.td_num.specs.Lists.{first_where}
 use Rattle.td_stream.specs.StreamInvariant.{Looked, position, end_of}
-use Rattle.td_ir.specs.Values.{first_where, is_nonzero, numbers_from}
+use Rattle.td_ir.specs.Values.{is_nonzero, numbers_from}
 use Rattle.td_ir.specs.Flow.{Fails}
 use Rattle.td_vm_step.specs.Stepping.{state_of, effect_of}
 use Rattle.td_vm_step.proofs.Stretches.{ran_here}

@@ -1,9 +1,9 @@
--- The loads of a trail, the oldest first.
+-- The loads of a trail, the oldest first (own rule).
 use Rattle.std.specs.Prelude.{List, [], ◌∷◌, ◌++◌}
 use Rattle.td_stream.specs.declared.load.Load.{Load}
-use Rattle.td_live.specs.declared.made.Trail.{Trail}
-use Rattle.td_live.specs.declared.made.Trail.TheOpen.{Trail-F}
-use Rattle.td_live.specs.declared.made.Trail.TheFolds.{fold-Trail}
+use Rattle.td_stream.specs.declared.made.Trail.{Trail}
+use Rattle.td_stream.specs.declared.made.Trail.TheOpen.{Trail-F}
+use Rattle.td_stream.specs.declared.made.Trail.TheFolds.{fold-Trail}
 
 abbrev pub one_more : Trail-F (List Load) → List Load
 one_more Trail-F.Start = []

@@ -1,5 +1,5 @@
-use Rattle.td_front.proofs.Texts.{Below, one_module, one_refusal, never_both}
-use Rattle.td_front.proofs.laws.one_answer_each.Goals as goal
+use Rattle.td_front.proofs.Texts.{Below, one_module, one_refusal, never_both, always_one, parts_flat, modules_alone}
+use Rattle.td_front.proofs.laws.texts_are_answered.Goals as goal
 
 pub returns : goal.returns
 returns c =
@@ -17,4 +17,4 @@ returns c =
         once = c.one_answer_each.ensures;
       };
     } in
-    record { one_module = one_module below; one_refusal = one_refusal below; never_both = never_both below }
+    record { one_module = one_module below; one_refusal = one_refusal below; never_both = never_both below; always_one = always_one below; parts = parts_flat below; alone = modules_alone below }

@@ -2,10 +2,10 @@
 
 ghost use Rattle.std.specs.Prelude.{◌≡◌, [], ◌∷◌, ◌++◌};
 
+use crate::load::Load;
 use std::marker::Model;
 use std::mem;
 use std::snapshot::Snapshot;
-use td_stream::load::Load;
 
 /// Loads, the last one outermost. Those before it stand in a snapshot, so a trail takes no memory.
 #[derive(Drop)]
@@ -23,7 +23,7 @@ pub struct Made {
 impl Model for Made {
     ghost use Rattle.std.specs.Prelude.{List};
     ghost use Rattle.td_stream.specs.declared.load.Load.{Load};
-    ghost use Rattle.td_foreign.specs.Trails.{loads_in};
+    ghost use Rattle.td_stream.specs.Trails.{loads_in};
 
     ghost Value = { List Load };
 

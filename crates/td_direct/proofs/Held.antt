@@ -1,10 +1,10 @@
 -- What buffers hold, after a copy.
-use Rattle.std.proofs.Common.{◌≡◌, ℕ, ◌+◌, ◌*◌, ◌-◌, ◌<◌, ◌≤◌, min, List, length, map, drop, sym, ap, ◌∙◌, subst, arith, slice_set}
+use Rattle.std.proofs.Common.{◌≡◌, ℕ, ◌+◌, ◌*◌, ◌-◌, ◌<◌, ◌≤◌, min, List, length, drop, sym, ap, ◌∙◌, arith, slice_set}
 use Rattle.std.proofs.lemmas.List.{drop-set-add, map-set, length-drop}
 use Rattle.td_num.specs.Numbers.{places_from}
 use Rattle.td_core.specs.declared.module.CopyOut.{CopyOut}
 use Rattle.td_core.specs.Held.{AreHeld}
-use Rattle.td_core.specs.Outcome.{Behavior, accepted, after_reading, and_then, bytes_at, copies_by}
+use Rattle.td_core.specs.Outcome.{accepted, after_reading, and_then, bytes_at, copies_by}
 use Rattle.td_core.proofs.Copies.{copies_set}
 use Rattle.td_meaning.specs.Meaning.{with_copy}
 use Rattle.td_meaning.specs.Machine.{copied_meaning}
