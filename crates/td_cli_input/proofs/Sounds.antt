@@ -1,45 +1,27 @@
 -- In a module that was checked, each expression that a run of a good job evaluates lies in its type's range. Cited by other crates.
-use Rattle.std.proofs.Common.{◌≡◌, ℕ, ◌<◌, ◌^◌, List, length, Option, Some, inl, inr, subst, sym, arith}
+use Rattle.std.proofs.Common.{◌≡◌, ℕ, ◌<◌, ◌^◌, List, length, Some, inl, inr, subst, sym, arith}
 use Rattle.std.specs.Prelude.{slice_get}
 use Rattle.std.specs.List.{All}
 use Rattle.std.proofs.lemmas.List.Elements.{All-weaker}
 use Rattle.std.proofs.lemmas.Option.{slice_get_within, get_or_from_slice_get}
-use Rattle.td_num.specs.Lists.{AreBytes}
 use Rattle.td_core.specs.declared.module.Module.{Module}
-use Rattle.td_core.specs.declared.module.TypeDef.{TypeDef}
-use Rattle.td_core.specs.declared.module.Entry.{Entry}
 use Rattle.td_core.specs.Entries.{entry_definition}
-use Rattle.td_core.specs.Formed.{AllFit, params_at, cells_at}
+use Rattle.td_core.specs.Formed.{AllFit, cells_at}
 use Rattle.td_arith.specs.Laws.{EvaluatedIsSound}
 use Rattle.td_front.specs.Checked.{IsChecked}
 use Rattle.td_front.specs.Laws.{ModulesAreChecked}
 use Rattle.td_job.specs.declared.run_job.RunJob.{RunJob}
 use Rattle.td_job.specs.Jobs.{HasValues}
-use Rattle.td_meaning.specs.Copies.{IsSoundOn}
 use Rattle.td_posts.specs.declared.job.HostJob.{HostJob}
 use Rattle.td_posts.specs.Posts.{zeros}
 use Rattle.td_job_host.proofs.Zeros.{zeros_fit}
 use Rattle.td_job_host.specs.HostJobs.{IsOrStands, HasHostValues}
 use Rattle.td_cli_input.specs.Inputs.{IsSoundJob, IsSoundHost, FitsEntry, FitsVersions}
-use Rattle.td_num.proofs.Lists.{got, each_at}
-use Rattle.td_core.proofs.Found.{entry_found as entry_of}
-
--- values that fit are sound, whatever the message's bytes are
-sound_values : (m : Module) (entry : Entry) (args cells : List ℕ) → EvaluatedIsSound → IsChecked m → entry.number < length m.entries
-    → AllFit (params_at (entry_definition m entry.number)) args → AllFit (cells_at (entry_definition m entry.number)) cells
-    → (b : List ℕ) → AreBytes b → length b < 2 ^ 32 → IsSoundOn m entry args cells b
-sound_values m entry args cells law checked inside own_args own_cells b bytes short =
-    let place = got m.entries entry.number inside in
-    let there : place.0 < length m.definitions = each_at (λ p. p < length m.definitions) m.entries entry.number place.0 checked.whole.entries place.1 in
-    let d = got m.definitions place.0 there in
-    let same : entry_definition m entry.number ≡ Some d.0 = entry_of m entry.number place.0 d.0 place.1 d.1 in
-    let P : Option TypeDef → Type 0 = λ o. AllFit (params_at o) args in
-    let Q : Option TypeDef → Type 0 = λ o. AllFit (cells_at o) cells in
-    law m entry place.0 d.0 args cells b checked.formed checked.copying checked.safe place.1 d.1 (subst P same own_args) (subst Q same own_cells) bytes short
+use Rattle.td_arith.proofs.Entering.{entry_is_sound}
 
 pub sound_job : (m : Module) (job : RunJob) → EvaluatedIsSound → IsChecked m → job.entry.number < length m.entries → HasValues m job → job.length < 2 ^ 32 → IsSoundJob m job
 sound_job m job law checked inside values short = λ b bytes same.
-    sound_values m job.entry job.args job.cells law checked inside values.args values.cells b bytes (let n : length b ≡ job.length = same in omega arith)
+    entry_is_sound m job.entry job.args job.cells law checked.formed checked.copying checked.safe checked.whole inside values.args values.cells b bytes (let n : length b ≡ job.length = same in omega arith)
 
 -- each version of a host job is the input's module, which was checked, or a module for which a text stands
 pub all_checked : (m : Module) → IsChecked m → ModulesAreChecked → (formats : List Module) → All (IsOrStands m) formats → All IsChecked formats
@@ -58,7 +40,8 @@ sound_host m job law checked values = λ n f entry version b bytes short.
     let bounds = cells_at (entry_definition f entry.number) in
     let own = values.each n f entry version in
     let cells : AllFit bounds (zeros job.cells) = subst (λ n. AllFit bounds (zeros n)) (sym own.cells) (zeros_fit bounds) in
-    sound_values f entry job.args (zeros job.cells) law (at_version job.formats n f checked version.0) own.entry own.args cells b bytes short
+    let good = at_version job.formats n f checked version.0 in
+    entry_is_sound f entry job.args (zeros job.cells) law good.formed good.copying good.safe good.whole own.entry own.args cells b bytes short
 
 pub fits_versions : (m : Module) (job : HostJob) → HasHostValues m job → FitsVersions job
 fits_versions m job all = λ n f entry version.
