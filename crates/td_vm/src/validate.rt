@@ -258,13 +258,17 @@ pub fn validate<W: Words, L: Ledger, C: Counter>(
     let mut spare = Spare { places, registers };
     let cells = frame.cells.as_mut_slice();
     let copies = frame.copies.buffers.as_mut_slice();
-    let mut slate = Slate { cells, copies };
+    let trace = &mut frame.trace;
+    let mut slate = Slate {
+        cells,
+        copies,
+        trace,
+    };
     run_message(
         &call,
         layout,
         &mut spare,
         &mut slate,
-        &mut frame.trace,
         words,
         steps,
     )
