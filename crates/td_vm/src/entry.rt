@@ -95,15 +95,7 @@ pub fn run_entry<W: Words, L: Ledger, C: Counter>(
         places: rest_places,
         registers: rest,
     };
-    match run_block(
-        &whole,
-        &mut free,
-        mine,
-        slate,
-        &mut act,
-        &mut stream,
-        steps,
-    ) {
+    match run_block(&whole, &mut free, mine, slate, &mut act, &mut stream, steps) {
         BlockExit::Returned => Verdict::Accept { pos: stream.pos() },
         BlockExit::Turned => unreachable!(),
         BlockExit::Failed { reason, pos } => Verdict::Reject { reason, pos },

@@ -264,12 +264,5 @@ pub fn validate<W: Words, L: Ledger, C: Counter>(
         copies,
         trace,
     };
-    run_message(
-        &call,
-        layout,
-        &mut spare,
-        &mut slate,
-        words,
-        steps,
-    )
+    run_message(&call, layout, &mut spare, &mut slate, words, steps)
 }
