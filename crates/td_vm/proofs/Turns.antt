@@ -32,9 +32,8 @@ use Rattle.td_vm_step.specs.declared.activation.BlockExit.{BlockExit}
 use Rattle.td_vm_step.specs.declared.activation.BlockExit.TheVariants.{Returned, Turned, Failed}
 use Rattle.td_vm.specs.Exits.{frames_of, exit_by, way_of, call_way, WhenTurned, WhenReturned, NotTurned, Traced}
 use Rattle.td_vm.specs.Need.{registers, cells, level}
-use Rattle.td_vm.specs.Machine.{Idle, IsRunnable, HasRoom, HasEntryRoom, IsStretch, IsCallee, IdleTurn, IdleReturn, scale, IsKept, SameRoom, AreRoomy}
+use Rattle.td_vm.specs.Machine.{Idle, IsRunnable, HasRoom, HasEntryRoom, IsStretch, IsCallee, IdleTurn, IdleReturn, scale, IsKept, AreRoomy}
 use Rattle.td_vm.specs.declared.level.Spare.{Spare}
-use Rattle.td_vm.specs.declared.level.Output.{Output}
 use Rattle.td_stream.specs.Copies.{rooms_of}
 use Rattle.td_vm_step.specs.declared.slate.Slate.{Slate}
 use Rattle.td_vm_step.specs.Stepping.{HasPlaces, IsLent}
@@ -47,24 +46,24 @@ pub none_left : (n : ℕ) → (1 ≤ n → ⊥) → n ≡ 0
 none_left n h = grind arith
 
 -- the room of a callee
-pub callee_room : (l inner : Level) (spare free : Spare) (regs mine : List ℕ) (out : Output) (at m arg k : ℕ) → HasRoom l spare regs out → IsCallee l.code.parts.now l.n at m arg k
+pub callee_room : (l inner : Level) (spare free : Spare) (regs mine : List ℕ) (x : Slate) (at m arg k : ℕ) → HasRoom l spare regs x → IsCallee l.code.parts.now l.n at m arg k
     → inner.code ≡ l.code → inner.n ≡ m → inner.first ≡ l.first → inner.places.now ≡ places_by l.places.now (cells_by l.code.parts.now l.n m k)
-    → length free.places.now + cells l.code.parts.now m ≡ length spare.places.now → length mine ≡ registers l.code.parts.now m → length free.registers.now + registers l.code.parts.now m ≡ length spare.registers.now → HasRoom inner free mine out
-callee_room l inner spare free regs mine out at m arg k h d ec en ef ep pr rc rr =
+    → length free.places.now + cells l.code.parts.now m ≡ length spare.places.now → length mine ≡ registers l.code.parts.now m → length free.registers.now + registers l.code.parts.now m ≡ length spare.registers.now → HasRoom inner free mine x
+callee_room l inner spare free regs mine x at m arg k h d ec en ef ep pr rc rr =
     let c = l.code.parts.now in
-    subst (λ (x : Level). HasRoom x free mine out) (λ i. record { code = sym ec i; n = sym en i; first = sym ef i; places = inner.places }) (record {
+    subst (λ (i : Level). HasRoom i free mine x) (λ i. record { code = sym ec i; n = sym en i; first = sym ef i; places = inner.places }) (record {
       runnable = h.runnable;
       begins = h.begins;
       routine = omega (arith, h.routine, d.lower);
       place_room = omega (arith, callee_need (cells c) c l.n at m d.place d.is d.lower, h.place_room, pr);
       register_count = rc;
       register_room = omega (arith, callee_need (registers c) c l.n at m d.place d.is d.lower, h.register_room, rr);
-      in_cells = subst (λ ps. HasPlaces c m ps l.first (length out.slate.cells.now) (rooms_of out.slate.copies.now)) (sym ep) (callee_places c l.n m k l.places.now l.first (length out.slate.cells.now) (rooms_of out.slate.copies.now) h.in_cells d.cell_map);
+      in_cells = subst (λ ps. HasPlaces c m ps l.first (length x.cells.now) (rooms_of x.copies.now)) (sym ep) (callee_places c l.n m k l.places.now l.first (length x.cells.now) (rooms_of x.copies.now) h.in_cells d.cell_map);
       trace = h.trace;
       trace_room = omega (arith, callee_need level c l.n at m d.place d.is d.lower, h.trace_room);
     })
 
-pub room_kept : (l : Level) (s t : Spare) (regs regs' : List ℕ) (o u : Output) → HasRoom l s regs o → IsKept s t → length regs' ≡ length regs → SameRoom o u → u.trace.now.count ≡ 0 → HasRoom l t regs' u
+pub room_kept : (l : Level) (s t : Spare) (regs regs' : List ℕ) (o u : Slate) → HasRoom l s regs o → IsKept s t → length regs' ≡ length regs → IsLent o u → u.trace.now.count ≡ 0 → HasRoom l t regs' u
 room_kept l s t regs regs' o u h k r e z = record {
   runnable = h.runnable;
   begins = h.begins;
@@ -72,27 +71,9 @@ room_kept l s t regs regs' o u h k r e z = record {
   place_room = omega (arith, h.place_room, k.places);
   register_count = r ∙ h.register_count;
   register_room = omega (arith, h.register_room, k.registers);
-  in_cells = subst (λ (n : ℕ). HasPlaces l.code.parts.now l.n l.places.now l.first n (rooms_of u.slate.copies.now)) (sym e.cells) (subst (HasPlaces l.code.parts.now l.n l.places.now l.first (length o.slate.cells.now)) (sym e.rooms) h.in_cells);
+  in_cells = subst (λ (n : ℕ). HasPlaces l.code.parts.now l.n l.places.now l.first n (rooms_of u.copies.now)) (sym e.cells) (subst (HasPlaces l.code.parts.now l.n l.places.now l.first (length o.cells.now)) (sym e.rooms) h.in_cells);
   trace = z;
   trace_room = omega (arith, h.trace_room, e.frames);
-}
-
-pub same_stepped : (o : Output) (u : Slate) → IsLent o.slate u → rooms_of u.copies.now ≡ rooms_of o.slate.copies.now → SameRoom o (record { slate = u; trace = o.trace })
-same_stepped o u k e = record { same_cells = k.same_cells; same_copies = k.same_copies; same_trace = refl; cells = k.cells; copies = k.copies; rooms = e; frames = refl; memory = refl }
-
-pub same_self : (o : Output) → SameRoom o o
-same_self o = record { same_cells = refl; same_copies = refl; same_trace = refl; cells = refl; copies = refl; rooms = refl; frames = refl; memory = refl }
-
-pub same_on : (o u v : Output) → SameRoom o u → SameRoom u v → SameRoom o v
-same_on o u v h k = record {
-  same_cells = k.same_cells ∙ h.same_cells;
-  same_copies = k.same_copies ∙ h.same_copies;
-  same_trace = k.same_trace ∙ h.same_trace;
-  cells = k.cells ∙ h.cells;
-  copies = k.copies ∙ h.copies;
-  rooms = k.rooms ∙ h.rooms;
-  frames = k.frames ∙ h.frames;
-  memory = k.memory ∙ h.memory;
 }
 
 pub spare_same : (s : Spare) → IsKept s s
@@ -101,9 +82,9 @@ spare_same s = record { same_places = refl; same_registers = refl; places = refl
 pub spare_on : (r s t : Spare) → IsKept r s → IsKept s t → IsKept r t
 spare_on r s t h k = record { same_places = k.same_places ∙ h.same_places; same_registers = k.same_registers ∙ h.same_registers; places = k.places ∙ h.places; registers = k.registers ∙ h.registers }
 
--- the same where a slate alone was lent
-pub room_stepped : (l : Level) (s : Spare) (regs regs' : List ℕ) (o : Output) (u : Slate) → HasRoom l s regs o → length regs' ≡ length regs → IsLent o.slate u → rooms_of u.copies.now ≡ rooms_of o.slate.copies.now → HasRoom l s regs' (record { slate = u; trace = o.trace })
-room_stepped l s regs regs' o u h r k e = room_kept l s s regs regs' o (record { slate = u; trace = o.trace }) h (spare_same s) r (same_stepped o u k e) h.trace
+-- the same where an instruction left the trace as it was
+pub room_stepped : (l : Level) (s : Spare) (regs regs' : List ℕ) (x y : Slate) → HasRoom l s regs x → length regs' ≡ length regs → IsLent x y → y.trace.now ≡ x.trace.now → HasRoom l s regs' y
+room_stepped l s regs regs' x y h r k e = room_kept l s s regs regs' x y h (spare_same s) r k (ap (λ (t : TraceRoom). t.count) e ∙ h.trace)
 
 pub one_frame : (t t' : TraceRoom) (f : TraceFrame) → t.count ≡ 0 → frames_of t' ≡ frames_of t ++ f ∷ [] → f ∷ [] ≡ frames_of t'
 one_frame t t' f e h = sym (h ∙ ap (λ k. take k t.frames.items ++ f ∷ []) e)
@@ -248,18 +229,18 @@ own_more xs i l h =
     let z : i ≡ 0 + i = omega arith in
     ap (λ k. take k (slice_set xs i i)) e ∙ take-suc-set xs i i l ∙ ap (λ ys. ys ++ i ∷ []) h ∙ ap (λ x. places_from 0 i ++ x ∷ []) z ∙ sym (own_snoc i 0) ∙ ap (places_from 0) (sym e)
 
-pub entry_room : (e : CodeView) (n : ℕ) (inner : Level) (spare free : Spare) (regs : List ℕ) (out : Output) → HasEntryRoom e n spare.places.now spare.registers.now out.trace.now
+pub entry_room : (e : CodeView) (n : ℕ) (inner : Level) (spare free : Spare) (regs : List ℕ) (x : Slate) → HasEntryRoom e n spare.places.now spare.registers.now x.trace.now
     → inner.code ≡ e → inner.n ≡ n → inner.first ≡ (routine_of e.parts.now n).cells → inner.places.now ≡ places_from 0 (cells e.parts.now n)
-    → length out.slate.cells.now ≡ (routine_of e.parts.now n).cells + 2 * length (rooms_of out.slate.copies.now) → AreRoomy (routine_of e.parts.now n).buffers (rooms_of out.slate.copies.now)
-    → length free.places.now + cells e.parts.now n ≡ length spare.places.now → length regs ≡ registers e.parts.now n → length free.registers.now + registers e.parts.now n ≡ length spare.registers.now → out.trace.now.count ≡ 0 → HasRoom inner free regs out
-entry_room e n inner spare free regs out h ec en ef ep c w pr rc rr tc = subst (λ (x : Level). HasRoom x free regs out) (λ i. record { code = sym ec i; n = sym en i; first = sym ef i; places = inner.places }) (record {
+    → length x.cells.now ≡ (routine_of e.parts.now n).cells + 2 * length (rooms_of x.copies.now) → AreRoomy (routine_of e.parts.now n).buffers (rooms_of x.copies.now)
+    → length free.places.now + cells e.parts.now n ≡ length spare.places.now → length regs ≡ registers e.parts.now n → length free.registers.now + registers e.parts.now n ≡ length spare.registers.now → x.trace.now.count ≡ 0 → HasRoom inner free regs x
+entry_room e n inner spare free regs x h ec en ef ep c w pr rc rr tc = subst (λ (i : Level). HasRoom i free regs x) (λ i. record { code = sym ec i; n = sym en i; first = sym ef i; places = inner.places }) (record {
   runnable = h.runnable;
   begins = h.begins;
   routine = h.routine;
   place_room = omega (arith, h.place_room, pr);
   register_count = rc;
   register_room = omega (arith, h.register_room, rr);
-  in_cells = subst (λ ps. HasPlaces e.parts.now n ps (routine_of e.parts.now n).cells (length out.slate.cells.now) (rooms_of out.slate.copies.now)) (sym ep) (entry_places e.parts.now n (length out.slate.cells.now) (rooms_of out.slate.copies.now) c w);
+  in_cells = subst (λ ps. HasPlaces e.parts.now n ps (routine_of e.parts.now n).cells (length x.cells.now) (rooms_of x.copies.now)) (sym ep) (entry_places e.parts.now n (length x.cells.now) (rooms_of x.copies.now) c w);
   trace = tc;
   trace_room = h.trace_room;
 })

@@ -1,5 +1,5 @@
 -- What the machine rests on, and what its calls keep; of use in this crate alone.
-use Rattle.std.specs.Prelude.{◌≡◌, ℕ, ◌+◌, ◌<◌, ◌≤◌, true, cond, List, length, slice_index, vec_capacity}
+use Rattle.std.specs.Prelude.{◌≡◌, ℕ, ◌+◌, ◌<◌, ◌≤◌, true, cond, List, length, slice_index}
 use Rattle.td_ir.specs.declared.tables.Parts.{Parts}
 use Rattle.td_ir.specs.Tables.{routine_of, lengths_of, end_of}
 use Rattle.td_ir.specs.WellFormed.{IsCode}
@@ -15,9 +15,9 @@ use Rattle.td_vm_step.specs.declared.activation.TraceRoom.{TraceRoom}
 use Rattle.td_stream.specs.Copies.{rooms_of}
 use Rattle.td_vm_step.specs.declared.activation.CodeView.{CodeView}
 use Rattle.td_vm_step.specs.declared.activation.Level.{Level}
+use Rattle.td_vm_step.specs.declared.slate.Slate.{Slate}
 use Rattle.td_vm_step.specs.Stepping.{HasPlaces}
 use Rattle.td_vm.specs.declared.level.Spare.{Spare}
-use Rattle.td_vm.specs.declared.level.Output.{Output}
 use Rattle.td_vm.specs.Frames.{AreBegins}
 use Rattle.td_vm.specs.Need.{room_below, registers, cells, level}
 
@@ -43,16 +43,16 @@ abbrev pub scale : Parts → ℕ → ℕ
 scale c p = cond (looped c p) 2 1
 
 -- what a run of a routine needs: runnable code, as many registers and places as the routine has, these among the first cells and the pairs of buffers, no frames, and room for its calls
-pub record HasRoom (l : Level) (spare : Spare) (regs : List ℕ) (out : Output) : Type 0 where
+pub record HasRoom (l : Level) (spare : Spare) (regs : List ℕ) (slate : Slate) : Type 0 where
   pub runnable : IsRunnable l.code.parts.now
   pub begins : AreBegins l.code.parts.now l.code.begins.now
   pub routine : l.n < length l.code.parts.now.routines
   pub place_room : room_below (cells l.code.parts.now) l.code.parts.now l.n ≤ length spare.places.now
   pub register_count : length regs ≡ registers l.code.parts.now l.n
   pub register_room : room_below (registers l.code.parts.now) l.code.parts.now l.n ≤ length spare.registers.now
-  pub in_cells : HasPlaces l.code.parts.now l.n l.places.now l.first (length out.slate.cells.now) (rooms_of out.slate.copies.now)
-  pub trace : out.trace.now.count ≡ 0
-  pub trace_room : room_below level l.code.parts.now l.n + 1 ≤ length out.trace.now.frames.items
+  pub in_cells : HasPlaces l.code.parts.now l.n l.places.now l.first (length slate.cells.now) (rooms_of slate.copies.now)
+  pub trace : slate.trace.now.count ≡ 0
+  pub trace_room : room_below level l.code.parts.now l.n + 1 ≤ length slate.trace.now.frames.items
 
 -- the same room is free again
 pub record IsKept (s t : Spare) : Type 0 where
@@ -60,17 +60,6 @@ pub record IsKept (s t : Spare) : Type 0 where
   pub same_registers : t.registers.ghost_name ≡ s.registers.ghost_name
   pub places : length t.places.now ≡ length s.places.now
   pub registers : length t.registers.now ≡ length s.registers.now
-
--- the same cells, buffers and trace are lent, with as much room
-pub record SameRoom (s t : Output) : Type 0 where
-  pub same_cells : t.slate.cells.ghost_name ≡ s.slate.cells.ghost_name
-  pub same_copies : t.slate.copies.ghost_name ≡ s.slate.copies.ghost_name
-  pub same_trace : t.trace.ghost_name ≡ s.trace.ghost_name
-  pub cells : length t.slate.cells.now ≡ length s.slate.cells.now
-  pub copies : length t.slate.copies.now ≡ length s.slate.copies.now
-  pub rooms : rooms_of t.slate.copies.now ≡ rooms_of s.slate.copies.now
-  pub frames : length t.trace.now.frames.items ≡ length s.trace.now.frames.items
-  pub memory : vec_capacity t.trace.now.frames ≡ vec_capacity s.trace.now.frames
 
 -- a routine from its beginning, or a loop's body
 pub record IsStretch (c : Parts) (n first to : ℕ) : Type 0 where

@@ -7,11 +7,12 @@ ghost use Rattle.td_ir.specs.Run.{run_routine};
 ghost use Rattle.td_stream.specs.Layouts.{count_in};
 ghost use Rattle.td_stream.specs.Loads.{IsFetchedOnce};
 ghost use Rattle.td_stream.specs.Copies.{rooms_of, held_by, empty_with};
+ghost use Rattle.td_vm_step.specs.Stepping.{IsLent};
 ghost use Rattle.td_vm.specs.Exits.{frames_of};
 ghost use Rattle.td_vm.specs.Outcomes.{IsRun};
-ghost use Rattle.td_vm.specs.Machine.{HasEntryRoom, IsKept, SameRoom, AreRoomy};
+ghost use Rattle.td_vm.specs.Machine.{HasEntryRoom, IsKept, AreRoomy};
 
-use crate::level::{Call, Output, Spare, Stretch};
+use crate::level::{Call, Spare, Stretch};
 use crate::machine::{place_count, run_block, set_registers};
 use std::sync::ledger::Ledger;
 use td_core::outcome::Verdict;
@@ -19,6 +20,7 @@ use td_stream::layout::Layout;
 use td_stream::stream::Stream;
 use td_stream::words::Words;
 use td_vm_step::activation::{Activation, BlockExit, Level};
+use td_vm_step::slate::Slate;
 use td_vm_step::steps::{Counter, Steps};
 use td_vm_step::tables::routine_at;
 
@@ -37,32 +39,32 @@ pub fn run_entry<W: Words, L: Ledger, C: Counter>(
     call: &Call<'_, '_>,
     layout: &Layout,
     spare: &mut Spare<'_, '_>,
-    output: &mut Output<'_, '_, '_>,
+    slate: &mut Slate<'_, '_, '_>,
     words: &mut W,
     steps: &mut Steps<L, C>,
 ) -> Verdict
-    requires room { HasEntryRoom call.now.code call.now.n spare.old.places.now spare.old.registers.now output.old.trace.now }
-    requires cells { length output.old.slate.cells.now ≡ (routine_of call.now.code.parts.now call.now.n).cells + 2 * length output.old.slate.copies.now }
-    requires opened { drop (routine_of call.now.code.parts.now call.now.n).cells output.old.slate.cells.now ≡ replicate (2 * length output.old.slate.copies.now) 0 }
-    requires buffers { length output.old.slate.copies.now ≡ length (routine_of call.now.code.parts.now call.now.n).buffers }
-    requires rooms { AreRoomy (routine_of call.now.code.parts.now call.now.n).buffers (rooms_of output.old.slate.copies.now) }
-    requires none { output.old.slate.copies.now ≡ map empty_with (rooms_of output.old.slate.copies.now) }
-    requires empty { output.old.trace.now.count ≡ 0 }
+    requires room { HasEntryRoom call.now.code call.now.n spare.old.places.now spare.old.registers.now slate.old.trace.now }
+    requires cells { length slate.old.cells.now ≡ (routine_of call.now.code.parts.now call.now.n).cells + 2 * length slate.old.copies.now }
+    requires opened { drop (routine_of call.now.code.parts.now call.now.n).cells slate.old.cells.now ≡ replicate (2 * length slate.old.copies.now) 0 }
+    requires buffers { length slate.old.copies.now ≡ length (routine_of call.now.code.parts.now call.now.n).buffers }
+    requires rooms { AreRoomy (routine_of call.now.code.parts.now call.now.n).buffers (rooms_of slate.old.copies.now) }
+    requires none { slate.old.copies.now ≡ map empty_with (rooms_of slate.old.copies.now) }
+    requires empty { slate.old.trace.now.count ≡ 0 }
     requires args { length call.now.args.now ≡ (routine_of call.now.code.parts.now call.now.n).params }
     requires words { count_in layout.now ≤ W.size words.old }
     requires fresh { W.loads words.old ≡ [] }
     ensures reaches { W.reaches words.old words.new }
     ensures kept { IsKept spare.old spare.new }
-    ensures lent { SameRoom output.old output.new }
-    ensures frames { output.new.trace.now.count ≤ length output.new.trace.now.frames.items }
+    ensures lent { IsLent slate.old slate.new }
+    ensures frames { slate.new.trace.now.count ≤ length slate.new.trace.now.frames.items }
     ensures fetched { IsFetchedOnce layout.now (W.loads words.new) (λ (b : List ℕ).
         IsRun layout.now (routine_of call.now.code.parts.now call.now.n).cells b (W.loads words.new)
-        (run_routine call.now.code.parts.now call.now.n call.now.args.now output.old.slate.cells.now b)
+        (run_routine call.now.code.parts.now call.now.n call.now.args.now slate.old.cells.now b)
         (record {
           verdict = result;
-          trace = frames_of output.new.trace.now;
-          cells = take (routine_of call.now.code.parts.now call.now.n).cells output.new.slate.cells.now;
-          copies = held_by output.new.slate.copies.now;
+          trace = frames_of slate.new.trace.now;
+          cells = take (routine_of call.now.code.parts.now call.now.n).cells slate.new.cells.now;
+          copies = held_by slate.new.copies.now;
         }) steps.old steps.new) }
 {
     let routine = routine_at(call.code.parts, call.n);
@@ -93,15 +95,7 @@ pub fn run_entry<W: Words, L: Ledger, C: Counter>(
         places: rest_places,
         registers: rest,
     };
-    match run_block(
-        &whole,
-        &mut free,
-        mine,
-        output,
-        &mut act,
-        &mut stream,
-        steps,
-    ) {
+    match run_block(&whole, &mut free, mine, slate, &mut act, &mut stream, steps) {
         BlockExit::Returned => Verdict::Accept { pos: stream.pos() },
         BlockExit::Turned => unreachable!(),
         BlockExit::Failed { reason, pos } => Verdict::Reject { reason, pos },

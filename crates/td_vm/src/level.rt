@@ -1,7 +1,6 @@
 //! What the machine hands on with a stretch of code.
 
-use td_vm_step::activation::{CodeView, Level, TraceRoom};
-use td_vm_step::slate::Slate;
+use td_vm_step::activation::{CodeView, Level};
 
 /// A routine of code, and the arguments with which it is run from outside.
 #[derive(Clone, Copy)]
@@ -33,11 +32,4 @@ pub struct Callee {
 pub struct Spare<'p, 'r> {
     pub places: &'p mut [usize],
     pub registers: &'r mut [u64],
-}
-
-/// What a run leaves: the cells and the buffers that it stores to, and the frames of its failure.
-#[derive(Drop)]
-pub struct Output<'c, 'b, 't> {
-    pub slate: Slate<'c, 'b>,
-    pub trace: &'t mut TraceRoom,
 }

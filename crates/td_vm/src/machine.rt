@@ -14,12 +14,12 @@ ghost use Rattle.td_verify.specs.Operands.{AreBelow};
 ghost use Rattle.td_verify.specs.Verify.{IsIn};
 ghost use Rattle.td_verify.specs.Safe.{looped};
 ghost use Rattle.td_stream.specs.StreamInvariant.{IsStream, Later, position, end_of};
-ghost use Rattle.td_vm_step.specs.Stepping.{state_of, Ran, InWindow, Hold};
+ghost use Rattle.td_vm_step.specs.Stepping.{state_of, Ran, InWindow, IsLent, Hold};
 ghost use Rattle.td_vm.specs.Exits.{frames_of, exit_by, way_of, call_way, loop_exit, WhenTurned, WhenReturned, NotTurned, NotReturned, Traced};
-ghost use Rattle.td_vm.specs.Machine.{AreLaws, HasRoom, IsStretch, IsCallee, IsKept, SameRoom, IdleTurn, IdleReturn};
+ghost use Rattle.td_vm.specs.Machine.{AreLaws, HasRoom, IsStretch, IsCallee, IsKept, IdleTurn, IdleReturn};
 ghost use Rattle.td_vm.specs.Need.{room_below, level as levels};
 
-use crate::level::{Callee, Output, Spare, Stretch};
+use crate::level::{Callee, Spare, Stretch};
 use std::sync::ledger::Ledger;
 use td_core::outcome::Reason;
 use td_ir::laws::{
@@ -29,6 +29,7 @@ use td_ir::tables::{Parts, Routine};
 use td_stream::stream::Stream;
 use td_stream::words::Words;
 use td_vm_step::activation::{Activation, BlockExit, Current, Effect, Level, TraceRoom};
+use td_vm_step::slate::Slate;
 use td_vm_step::step::step;
 use td_vm_step::steps::{Counter, Steps};
 use td_vm_step::tables::{frame_at, instruction_at, map_at, routine_at};
@@ -162,12 +163,12 @@ pub fn run_block<W: Words, L: Ledger, C: Counter>(
     stretch: &Stretch<'_, '_, '_>,
     spare: &mut Spare<'_, '_>,
     regs: &mut [u64],
-    output: &mut Output<'_, '_, '_>,
+    slate: &mut Slate<'_, '_, '_>,
     act: &mut Activation,
     stream: &mut Stream<W>,
     steps: &mut Steps<L, C>,
 ) -> BlockExit
-    requires room { HasRoom stretch.now.level.now spare.old regs.old output.old }
+    requires room { HasRoom stretch.now.level.now spare.old regs.old slate.old }
     requires stretch { IsStretch stretch.now.level.now.code.parts.now stretch.now.level.now.n stretch.now.first stretch.now.to }
     requires whole { IsStream W.loads W.size stream.old }
     requires window { InWindow act.old stream.old }
@@ -176,17 +177,17 @@ pub fn run_block<W: Words, L: Ledger, C: Counter>(
     ensures window { InWindow act.new stream.new }
     ensures outer { act.new.outer ≤ act.old.outer }
     ensures kept { IsKept spare.old spare.new }
-    ensures traced { Traced result output.new.trace.now (room_below levels stretch.now.level.now.code.parts.now stretch.now.level.now.n + 1) }
+    ensures traced { Traced result slate.new.trace.now (room_below levels stretch.now.level.now.code.parts.now stretch.now.level.now.n + 1) }
     ensures outside { WhenReturned result (looped stretch.now.level.now.code.parts.now stretch.now.first ≡ false) }
     ensures inside { WhenTurned result (looped stretch.now.level.now.code.parts.now stretch.now.first ≡ true) }
     ensures idle_turn { WhenTurned result (position stream.old ≡ position stream.new → IdleTurn stretch.now.level.now.code.parts.now stretch.now.level.now.n stretch.now.first) }
     ensures idle_return { WhenReturned result (position stream.old ≡ position stream.new → IdleReturn stretch.now.level.now.code.parts.now stretch.now.level.now.n stretch.now.first) }
     ensures end { WhenTurned result (end_of stream.new ≡ end_of stream.old) }
-    ensures lent { SameRoom output.old output.new }
-    ensures held { Hold W.loads stream.old stream.new stretch.now.level.now.first output.old.slate output.new.slate }
+    ensures lent { IsLent slate.old slate.new }
+    ensures held { Hold W.loads stream.old stream.new stretch.now.level.now.first slate.old slate.new }
     ensures same { Ran W.loads stream.old stream.new steps.old steps.new (λ b touched taken.
-        block stretch.now.level.now.code.parts.now b stretch.now.level.now.n stretch.now.level.now.places.now stretch.now.first (state_of regs.old output.old.slate.cells.now act.old stream.old)
-        ≡ exit_by (way_of result (state_of regs.new output.new.slate.cells.now act.new stream.new) (frames_of output.new.trace.now)) touched taken) }
+        block stretch.now.level.now.code.parts.now b stretch.now.level.now.n stretch.now.level.now.places.now stretch.now.first (state_of regs.old slate.old.cells.now act.old stream.old)
+        ≡ exit_by (way_of result (state_of regs.new slate.new.cells.now act.new stream.new) (frames_of slate.new.trace.now)) touched taken) }
 {
     laws();
     let level = stretch.level;
@@ -198,14 +199,14 @@ pub fn run_block<W: Words, L: Ledger, C: Counter>(
             level,
             Current { pc, instruction },
             regs,
-            &mut output.slate,
+            slate,
             act,
             stream,
             steps,
         ) {
             Effect::Goes(target) => pc = target,
             Effect::Fails { reason, site, pos } => {
-                push_frame(output.trace, level.code.parts, site, act.start, reason);
+                push_frame(slate.trace, level.code.parts, site, act.start, reason);
                 return BlockExit::Failed {
                     reason,
                     pos: pos as u32,
@@ -227,14 +228,14 @@ pub fn run_block<W: Words, L: Ledger, C: Counter>(
                     },
                     spare,
                     regs,
-                    output,
+                    slate,
                     stream,
                     steps,
                 ) {
                     BlockExit::Returned => pc += 1,
                     BlockExit::Turned => unreachable!(),
                     BlockExit::Failed { reason, pos } => {
-                        push_frame(output.trace, level.code.parts, site, act.start, reason);
+                        push_frame(slate.trace, level.code.parts, site, act.start, reason);
                         return BlockExit::Failed { reason, pos };
                     }
                 }
@@ -246,7 +247,7 @@ pub fn run_block<W: Words, L: Ledger, C: Counter>(
                     first: pc,
                     to: target,
                 };
-                match run_turns(&turns, spare, regs, output, act, stream, steps) {
+                match run_turns(&turns, spare, regs, slate, act, stream, steps) {
                     BlockExit::Turned => pc = target,
                     BlockExit::Returned => unreachable!(),
                     BlockExit::Failed { reason, pos } => return BlockExit::Failed { reason, pos },
@@ -265,12 +266,12 @@ fn run_turns<W: Words, L: Ledger, C: Counter>(
     stretch: &Stretch<'_, '_, '_>,
     spare: &mut Spare<'_, '_>,
     regs: &mut [u64],
-    output: &mut Output<'_, '_, '_>,
+    slate: &mut Slate<'_, '_, '_>,
     act: &mut Activation,
     stream: &mut Stream<W>,
     steps: &mut Steps<L, C>,
 ) -> BlockExit
-    requires room { HasRoom stretch.now.level.now spare.old regs.old output.old }
+    requires room { HasRoom stretch.now.level.now spare.old regs.old slate.old }
     requires place { IsIn stretch.now.level.now.code.parts.now stretch.now.level.now.n stretch.now.first }
     requires loops { shape_at (shapes_of stretch.now.level.now.code.parts.now) stretch.now.first ≡ While stretch.now.to }
     requires whole { IsStream W.loads W.size stream.old }
@@ -280,14 +281,14 @@ fn run_turns<W: Words, L: Ledger, C: Counter>(
     ensures window { InWindow act.new stream.new }
     ensures outer { act.new.outer ≤ act.old.outer }
     ensures kept { IsKept spare.old spare.new }
-    ensures traced { Traced result output.new.trace.now (room_below levels stretch.now.level.now.code.parts.now stretch.now.level.now.n + 1) }
+    ensures traced { Traced result slate.new.trace.now (room_below levels stretch.now.level.now.code.parts.now stretch.now.level.now.n + 1) }
     ensures no_return { NotReturned result }
     ensures end { WhenTurned result (end_of stream.new ≡ end_of stream.old) }
-    ensures lent { SameRoom output.old output.new }
-    ensures held { Hold W.loads stream.old stream.new stretch.now.level.now.first output.old.slate output.new.slate }
+    ensures lent { IsLent slate.old slate.new }
+    ensures held { Hold W.loads stream.old stream.new stretch.now.level.now.first slate.old slate.new }
     ensures same { Ran W.loads stream.old stream.new steps.old steps.new (λ b touched taken. (behind : State → Exit) →
-        turns (suc (end_of stream.old - position stream.old)) (block stretch.now.level.now.code.parts.now b stretch.now.level.now.n stretch.now.level.now.places.now (stretch.now.first + 1)) behind (state_of regs.old output.old.slate.cells.now act.old stream.old)
-        ≡ loop_exit result behind (state_of regs.new output.new.slate.cells.now act.new stream.new) (frames_of output.new.trace.now) touched taken) }
+        turns (suc (end_of stream.old - position stream.old)) (block stretch.now.level.now.code.parts.now b stretch.now.level.now.n stretch.now.level.now.places.now (stretch.now.first + 1)) behind (state_of regs.old slate.old.cells.now act.old stream.old)
+        ≡ loop_exit result behind (state_of regs.new slate.new.cells.now act.new stream.new) (frames_of slate.new.trace.now) touched taken) }
 {
     let first = stretch.first + 1;
     let body = Stretch {
@@ -296,7 +297,7 @@ fn run_turns<W: Words, L: Ledger, C: Counter>(
         to: stretch.to,
     };
     'turns: while stream.need(1) {
-        match run_block(&body, spare, regs, output, act, stream, steps) {
+        match run_block(&body, spare, regs, slate, act, stream, steps) {
             BlockExit::Turned => steps.tick(),
             BlockExit::Returned => unreachable!(),
             BlockExit::Failed { reason, pos } => return BlockExit::Failed { reason, pos },
@@ -312,27 +313,27 @@ fn call<W: Words, L: Ledger, C: Counter>(
     callee: Callee,
     spare: &mut Spare<'_, '_>,
     regs: &[u64],
-    output: &mut Output<'_, '_, '_>,
+    slate: &mut Slate<'_, '_, '_>,
     stream: &mut Stream<W>,
     steps: &mut Steps<L, C>,
 ) -> BlockExit
-    requires room { HasRoom level.now spare.old regs.now output.old }
+    requires room { HasRoom level.now spare.old regs.now slate.old }
     requires callee { IsCallee level.now.code.parts.now level.now.n callee.at callee.routine callee.first callee.map }
     requires whole { IsStream W.loads W.size stream.old }
     ensures later { Later W.loads W.reaches stream.old stream.new }
     ensures whole { IsStream W.loads W.size stream.new }
     ensures end { end_of stream.new ≡ end_of stream.old }
     ensures kept { IsKept spare.old spare.new }
-    ensures traced { Traced result output.new.trace.now (room_below levels level.now.code.parts.now level.now.n) }
+    ensures traced { Traced result slate.new.trace.now (room_below levels level.now.code.parts.now level.now.n) }
     ensures no_turn { NotTurned result }
     ensures idle { WhenReturned result (position stream.old ≡ position stream.new → MayBeEmpty (shapes_of level.now.code.parts.now) (lengths_of level.now.code.parts.now) (suc callee.routine) callee.routine) }
-    ensures lent { SameRoom output.old output.new }
-    ensures held { Hold W.loads stream.old stream.new level.now.first output.old.slate output.new.slate }
+    ensures lent { IsLent slate.old slate.new }
+    ensures held { Hold W.loads stream.old stream.new level.now.first slate.old slate.new }
     ensures same { (start outer : ℕ) → Ran W.loads stream.old stream.new steps.old steps.new (λ b touched taken.
         block level.now.code.parts.now b callee.routine (places_by level.now.places.now (cells_by level.now.code.parts.now level.now.n callee.routine callee.map)) (first_of level.now.code.parts.now callee.routine)
         (entered (routine_of level.now.code.parts.now callee.routine) (registers_from regs.now callee.first (routine_of level.now.code.parts.now callee.routine).params)
-        (record { regs = regs.now; cells = output.old.slate.cells.now; start = start; pos = position stream.old; end = end_of stream.old; outer = outer }))
-        ≡ exit_by (call_way result (position stream.new) output.new.slate.cells.now (frames_of output.new.trace.now)) touched taken) }
+        (record { regs = regs.now; cells = slate.old.cells.now; start = start; pos = position stream.old; end = end_of stream.old; outer = outer }))
+        ≡ exit_by (call_way result (position stream.new) slate.new.cells.now (frames_of slate.new.trace.now)) touched taken) }
 {
     let routine = routine_at(level.code.parts, callee.routine);
     let from = level.code.begins[callee.routine];
@@ -363,7 +364,7 @@ fn call<W: Words, L: Ledger, C: Counter>(
         first: from,
         to,
     };
-    let exit = run_block(&whole, &mut free, mine, output, &mut act, stream, steps);
+    let exit = run_block(&whole, &mut free, mine, slate, &mut act, stream, steps);
     stream.widen(end);
     exit
 }

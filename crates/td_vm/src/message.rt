@@ -1,6 +1,6 @@
 //! Runs a routine over a message, with cells and buffers that are opened first.
 
-ghost use Rattle.std.specs.Prelude.{◌≡◌, ℕ, ◌-◌, ◌*◌, ◌≤◌, List, [], ◌++◌, length, map, take, replicate, vec_capacity};
+ghost use Rattle.std.specs.Prelude.{◌≡◌, ℕ, ◌-◌, ◌*◌, ◌≤◌, List, [], ◌++◌, length, map, take, replicate};
 ghost use Rattle.td_ir.specs.Tables.{routine_of};
 ghost use Rattle.td_ir.specs.Run.{run_routine};
 ghost use Rattle.td_stream.specs.Layouts.{count_in};
@@ -13,13 +13,12 @@ ghost use Rattle.td_vm.specs.Machine.{HasEntryRoom, IsKept, AreRoomy};
 ghost use Rattle.td_vm.specs.Need.{cells as cells_in};
 
 use crate::entry::run_entry;
-use crate::level::{Call, Output, Spare};
+use crate::level::{Call, Spare};
 use crate::machine::place_count;
 use std::sync::ledger::Ledger;
 use td_core::outcome::Verdict;
 use td_stream::layout::Layout;
 use td_stream::words::Words;
-use td_vm_step::activation::TraceRoom;
 use td_vm_step::slate::Slate;
 use td_vm_step::steps::{Counter, Steps};
 use td_vm_step::tables::routine_at;
@@ -40,12 +39,11 @@ pub fn run_message<W: Words, L: Ledger, C: Counter>(
     call: &Call<'_, '_>,
     layout: &Layout,
     spare: &mut Spare<'_, '_>,
-    slate: &mut Slate<'_, '_>,
-    trace: &mut TraceRoom,
+    slate: &mut Slate<'_, '_, '_>,
     words: &mut W,
     steps: &mut Steps<L, C>,
 ) -> Verdict
-    requires room { HasEntryRoom call.now.code call.now.n spare.old.places.now spare.old.registers.now trace.old }
+    requires room { HasEntryRoom call.now.code call.now.n spare.old.places.now spare.old.registers.now slate.old.trace.now }
     requires args { length call.now.args.now ≡ (routine_of call.now.code.parts.now call.now.n).params }
     requires cell_room { cells_in call.now.code.parts.now call.now.n ≤ length slate.old.cells.now }
     requires rooms { AreRoomy (routine_of call.now.code.parts.now call.now.n).buffers (rooms_of slate.old.copies.now) }
@@ -54,38 +52,30 @@ pub fn run_message<W: Words, L: Ledger, C: Counter>(
     requires fresh { W.loads words.old ≡ [] }
     ensures reaches { W.reaches words.old words.new }
     ensures kept { IsKept spare.old spare.new }
-    ensures trace_room { length trace.new.frames.items ≡ length trace.old.frames.items }
-    ensures trace_memory { vec_capacity trace.new.frames ≡ vec_capacity trace.old.frames }
-    ensures frames { trace.new.count ≤ length trace.new.frames.items }
     ensures lent { IsLent slate.old slate.new }
-    ensures rooms { rooms_of slate.new.copies.now ≡ rooms_of slate.old.copies.now }
+    ensures frames { slate.new.trace.now.count ≤ length slate.new.trace.now.frames.items }
     ensures fetched { IsFetchedOnce layout.now (W.loads words.new) (λ (b : List ℕ).
         IsRun layout.now (routine_of call.now.code.parts.now call.now.n).cells b (W.loads words.new)
         (run_routine call.now.code.parts.now call.now.n call.now.args.now (take (routine_of call.now.code.parts.now call.now.n).cells slate.old.cells.now ++ replicate (2 * length (routine_of call.now.code.parts.now call.now.n).buffers) 0) b)
         (record {
           verdict = result;
-          trace = frames_of trace.new;
+          trace = frames_of slate.new.trace.now;
           cells = take (routine_of call.now.code.parts.now call.now.n).cells slate.new.cells.now;
           copies = held_by (take (length (routine_of call.now.code.parts.now call.now.n).buffers) slate.new.copies.now);
         }) steps.old steps.new) }
 {
-    trace.count = 0;
     let routine = routine_at(call.code.parts, call.n);
     let all = &mut *slate.cells;
     let buffers = &mut *slate.copies;
+    let trace = &mut *slate.trace;
+    trace.count = 0;
     let (cells, _) = all.split_at_mut(place_count(routine));
     open_cells(cells, routine.cells as usize);
     let (copies, _) = buffers.split_at_mut(routine.buffers.len());
-    let front = Slate { cells, copies };
-    let mut output = Output {
-        slate: front,
+    let mut front = Slate {
+        cells,
+        copies,
         trace,
     };
-    let verdict = run_entry(call, layout, spare, &mut output, words, steps);
-    // Taken apart, so that what became of the trace is known where its loan ends.
-    let Output {
-        slate: _slate,
-        trace: _trace,
-    } = output;
-    verdict
+    run_entry(call, layout, spare, &mut front, words, steps)
 }

@@ -258,14 +258,11 @@ pub fn validate<W: Words, L: Ledger, C: Counter>(
     let mut spare = Spare { places, registers };
     let cells = frame.cells.as_mut_slice();
     let copies = frame.copies.buffers.as_mut_slice();
-    let mut slate = Slate { cells, copies };
-    run_message(
-        &call,
-        layout,
-        &mut spare,
-        &mut slate,
-        &mut frame.trace,
-        words,
-        steps,
-    )
+    let trace = &mut frame.trace;
+    let mut slate = Slate {
+        cells,
+        copies,
+        trace,
+    };
+    run_message(&call, layout, &mut spare, &mut slate, words, steps)
 }

@@ -14,10 +14,19 @@ pub hold_on : {W : Type 0} {loads : W → List Load} {reaches : W → W → Type
 hold_on r s t first u v w h k f g = λ b c a. let d = carried r s t b h k c in g b d.1 (f b d.0 a)
 
 pub lent_self : (s : Slate) → IsLent s s
-lent_self s = record { same_cells = refl; same_copies = refl; cells = refl; copies = refl }
+lent_self s = record { same_cells = refl; same_copies = refl; same_trace = refl; cells = refl; copies = refl; rooms = refl; frames = refl; memory = refl }
 
 pub lent_trans : (r s t : Slate) → IsLent r s → IsLent s t → IsLent r t
-lent_trans r s t h k = record { same_cells = k.same_cells ∙ h.same_cells; same_copies = k.same_copies ∙ h.same_copies; cells = k.cells ∙ h.cells; copies = k.copies ∙ h.copies }
+lent_trans r s t h k = record {
+  same_cells = k.same_cells ∙ h.same_cells;
+  same_copies = k.same_copies ∙ h.same_copies;
+  same_trace = k.same_trace ∙ h.same_trace;
+  cells = k.cells ∙ h.cells;
+  copies = k.copies ∙ h.copies;
+  rooms = k.rooms ∙ h.rooms;
+  frames = k.frames ∙ h.frames;
+  memory = k.memory ∙ h.memory;
+}
 
 -- a stretch without a step, in which nothing is looked at
 pub ran_self : {W : Type 0} {loads : W → List Load} (s : Stream W) (n : ℕ) (P : List ℕ → List ℕ → ℕ → Type 0) → ((b : List ℕ) → P b [] 0) → Ran loads s s n n P

@@ -1,7 +1,7 @@
 -- What one instruction does to the machine's values; of use in this crate and in td_vm alone.
-use Rattle.std.specs.Prelude.{◌≡◌, ℕ, ◌+◌, ◌-◌, ◌*◌, ◌^◌, ◌<◌, ◌≤◌, Bool, true, false, List, length, slice_index}
+use Rattle.std.specs.Prelude.{◌≡◌, ℕ, ◌+◌, ◌-◌, ◌*◌, ◌^◌, ◌<◌, ◌≤◌, Bool, true, false, List, length, slice_index, vec_capacity}
 use Rattle.td_core.specs.Held.{IsBufferAt, AreHeld}
-use Rattle.td_stream.specs.Copies.{held_by}
+use Rattle.td_stream.specs.Copies.{held_by, rooms_of}
 use Rattle.td_stream.specs.declared.load.Load.{Load}
 use Rattle.td_stream.specs.declared.stream.Stream.{Stream}
 use Rattle.td_stream.specs.Loads.{Carries}
@@ -52,12 +52,16 @@ pub record Ran {W : Type 0} (loads : W → List Load) (s t : Stream W) (from to 
 abbrev pub Hold : {W : Type 0} (loads : W → List Load) (s t : Stream W) (first : ℕ) (u v : Slate) → Type 0
 Hold loads s t first u v = (b : List ℕ) → Carries (layout_of s) b (loads_of loads t) → AreHeld b first u.cells.now (held_by u.copies.now) → AreHeld b first v.cells.now (held_by v.copies.now)
 
--- the same cells and buffers are lent, as many as before
+-- the same cells, buffers and trace are lent, with as much room as before
 pub record IsLent (s t : Slate) : Type 0 where
   pub same_cells : t.cells.ghost_name ≡ s.cells.ghost_name
   pub same_copies : t.copies.ghost_name ≡ s.copies.ghost_name
+  pub same_trace : t.trace.ghost_name ≡ s.trace.ghost_name
   pub cells : length t.cells.now ≡ length s.cells.now
   pub copies : length t.copies.now ≡ length s.copies.now
+  pub rooms : rooms_of t.copies.now ≡ rooms_of s.copies.now
+  pub frames : length t.trace.now.frames.items ≡ length s.trace.now.frames.items
+  pub memory : vec_capacity t.trace.now.frames ≡ vec_capacity s.trace.now.frames
 
 -- what a copy to a buffer of routine n does, whose cells, and then those of its buffers, are at these places
 abbrev pub copied_to : Parts → (n : ℕ) → (places : List ℕ) → (next size buffer site : ℕ) → State → ir.Effect

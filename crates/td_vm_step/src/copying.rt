@@ -56,7 +56,7 @@ pub fn copy<W: Words, L: Ledger, C: Counter>(
     level: &Level<'_, '_>,
     operands: CopyOperands,
     next: usize,
-    slate: &mut Slate<'_, '_>,
+    slate: &mut Slate<'_, '_, '_>,
     act: &Activation,
     stream: &mut Stream<W>,
     steps: &mut Steps<L, C>,
@@ -71,7 +71,7 @@ pub fn copy<W: Words, L: Ledger, C: Counter>(
     ensures on { OnOrOut next operands.site result }
     ensures small { IsSmall result }
     ensures lent { IsLent slate.old slate.new }
-    ensures rooms { rooms_of slate.new.copies.now ≡ rooms_of slate.old.copies.now }
+    ensures trace { slate.new.trace.now ≡ slate.old.trace.now }
     ensures held { Hold W.loads stream.old stream.new level.now.first slate.old slate.new }
     ensures same { Ran W.loads stream.old stream.new steps.old steps.new (λ b touched taken. (regs : List ℕ) →
         copied_to level.now.code.parts.now level.now.n level.now.places.now next operands.size operands.buffer operands.site (state_of regs slate.old.cells.now act.now stream.old)

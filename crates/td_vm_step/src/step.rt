@@ -28,7 +28,7 @@ pub fn step<W: Words, L: Ledger, C: Counter>(
     level: &Level<'_, '_>,
     current: Current<'_>,
     regs: &mut [u64],
-    slate: &mut Slate<'_, '_>,
+    slate: &mut Slate<'_, '_, '_>,
     act: &mut Activation,
     stream: &mut Stream<W>,
     steps: &mut Steps<L, C>,
@@ -50,7 +50,7 @@ pub fn step<W: Words, L: Ledger, C: Counter>(
     ensures takes { WhenGoes result (position stream.old + least (shape current.entry.instruction.now) ≤ position stream.new) }
     ensures end { WhenGoes result (Ends (shape current.entry.instruction.now) (position stream.old) (end_of stream.old) (end_of stream.new)) }
     ensures lent { IsLent slate.old slate.new }
-    ensures rooms { rooms_of slate.new.copies.now ≡ rooms_of slate.old.copies.now }
+    ensures trace { slate.new.trace.now ≡ slate.old.trace.now }
     ensures held { Hold W.loads stream.old stream.new level.now.first slate.old slate.new }
     ensures same { Ran W.loads stream.old stream.new steps.old steps.new (λ b touched taken.
         effect level.now.code.parts.now level.now.n b level.now.places.now current.entry.pc current.entry.instruction.now (state_of regs.old slate.old.cells.now act.old stream.old)

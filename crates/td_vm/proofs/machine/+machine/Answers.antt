@@ -9,13 +9,14 @@ use Rattle.td_ir.proofs.Begins.{begin_up}
 use Rattle.td_verify.specs.Shape.{shape}
 use Rattle.td_stream.specs.StreamInvariant.{position, end_of}
 use Rattle.td_vm_step.specs.Stepping.{Ends}
+use Rattle.td_vm_step.specs.declared.activation.TraceRoom.{TraceRoom}
 use Rattle.td_stream.proofs.Stages.{later_trans, later_self}
-use Rattle.td_vm_step.proofs.Stretches.{hold_on, ran_self}
+use Rattle.td_vm_step.proofs.Stretches.{lent_self, lent_trans, hold_on, ran_self}
 use Rattle.td_vm.specs.Exits.{exit_by}
 use Rattle.td_vm.proofs.Stretches.{ran_step, after_once, after_none}
 use Rattle.td_vm.proofs.Shapes.{shape_here}
 use Rattle.td_vm.proofs.Keeps.{fine_at, goes_on}
-use Rattle.td_vm.proofs.Turns.{room_stepped, same_stepped, same_self, same_on, one_frame, loop_whole, return_outside, in_code, callee_at, spare_same}
+use Rattle.td_vm.proofs.Turns.{room_stepped, one_frame, loop_whole, return_outside, in_code, callee_at, spare_same}
 use Rattle.td_vm.proofs.machine.+machine.Answers.Calls as calls
 use Rattle.td_vm.proofs.machine.+machine.Answers.Steps as steps
 use Rattle.td_vm.proofs.machine.+machine.Answers.Turns as turns
@@ -25,7 +26,7 @@ pub run_block-steps-init : goal.run_block-steps-init
 run_block-steps-init g t c =
     record {
       room = c.requires.room;
-      lent = same_self c.args.output.now;
+      lent = lent_self c.args.slate.now;
       held = λ b h k. k;
       kept = spare_same c.args.spare.now;
       place = c.requires.stretch.place;
@@ -77,7 +78,7 @@ run_block-returns-in-Fails-clause-same g t c =
     let I = c.instruction_at-instruction.result.now in
     ran_step c.args.stream.now c.steps.stream c.step.new.stream c.args.steps.now c.steps.steps c.tick.new.self c.step.new.steps _ _ _ i.later e.later i.same e.same c.tick.ensures (λ b x y j k p r.
     p ∙ ap (after x j) (c.laws.ensures.fails C b c.args.stretch.now.level.now.places.now c.args.stretch.now.level.now.n c.steps.pc c.in-Fails.reason c.in-Fails.site c.in-Fails.pos _ _ y (1 + k) (record { instruction = I; there = c.instruction_at-instruction.ensures.there; within = i.place.to; is = r }) ∙ after_once y (1 + k) _)
-    ∙ ap (λ f. exit_by (ir.Failed c.in-Fails.reason c.in-Fails.pos f c.step.new.slate.cells.now) (x ++ y) (j + (1 + k))) (one_frame c.steps.output.trace.now c.push_frame.new.trace _ i.room.trace c.push_frame.ensures.frames))
+    ∙ ap (λ f. exit_by (ir.Failed c.in-Fails.reason c.in-Fails.pos f c.step.new.slate.cells.now) (x ++ y) (j + (1 + k))) (one_frame c.step.new.slate.trace.now c.push_frame.new.trace _ (ap (λ (t : TraceRoom). t.count) e.trace ∙ i.room.trace) c.push_frame.ensures.frames))
 
 pub run_block-returns-in-Returns-clause-outside : goal.run_block-returns-in-Returns-clause-outside
 run_block-returns-in-Returns-clause-outside g t c =
@@ -167,7 +168,7 @@ run_block-call-requires g t c =
     let C = c.args.stretch.now.level.now.code.parts.now in
     let n = c.args.stretch.now.level.now.n in
     let d = callee_at C n c.steps.pc c.in-Calls.from c.in-Calls.routine c.in-Calls.map c.in-Calls.site c.instruction_at-instruction.result.now i.room.runnable.safe i.place c.instruction_at-instruction.ensures.is e.leads in
-    let room = room_stepped c.args.stretch.now.level.now c.steps.spare c.steps.regs c.step.new.regs c.steps.output c.step.new.slate i.room c.step.auto.regs e.lent e.rooms in
+    let room = room_stepped c.args.stretch.now.level.now c.steps.spare c.steps.regs c.step.new.regs c.steps.slate c.step.new.slate i.room c.step.auto.regs e.lent e.trace in
     let up = begin_up (lengths_of C) (suc c.in-Calls.routine) n (omega (arith, d.lower)) in
     λ κs h. (omega (arith, c.decreases, up, c.requires.stretch.place.from, c.requires.stretch.place.to), (h.0, (h.1.0, (h.1.1, (room, (d, e.whole))))))
 
@@ -188,7 +189,7 @@ run_block-run_turns-requires g t c =
     let C = c.args.stretch.now.level.now.code.parts.now in
     let n = c.args.stretch.now.level.now.n in
     let at = shape_here C c.steps.pc c.instruction_at-instruction.result.now c.instruction_at-instruction.ensures.is in
-    let room = room_stepped c.args.stretch.now.level.now c.steps.spare c.steps.regs c.step.new.regs c.steps.output c.step.new.slate i.room c.step.auto.regs e.lent e.rooms in
+    let room = room_stepped c.args.stretch.now.level.now c.steps.spare c.steps.regs c.step.new.regs c.steps.slate c.step.new.slate i.room c.step.auto.regs e.lent e.trace in
     λ κs h. (omega (arith, c.decreases, i.on, i.place.to, i.place.from), (h.0, (h.1.0, (h.1.1, (room, (i.place, (at ∙ ap shape e.leads, (e.whole, e.window))))))))
 
 pub run_block-steps-smaller : goal.run_block-steps-smaller
@@ -261,25 +262,25 @@ run_block-returns-in-Fails-clause-lent g t c =
     record {
       same_cells = e.lent.same_cells ∙ i.lent.same_cells;
       same_copies = e.lent.same_copies ∙ i.lent.same_copies;
-      same_trace = i.lent.same_trace;
+      same_trace = e.lent.same_trace ∙ i.lent.same_trace;
       cells = e.lent.cells ∙ i.lent.cells;
       copies = e.lent.copies ∙ i.lent.copies;
-      rooms = e.rooms ∙ i.lent.rooms;
-      frames = c.push_frame.ensures.kept ∙ i.lent.frames;
-      memory = c.push_frame.ensures.memory ∙ i.lent.memory;
+      rooms = e.lent.rooms ∙ i.lent.rooms;
+      frames = c.push_frame.ensures.kept ∙ e.lent.frames ∙ i.lent.frames;
+      memory = c.push_frame.ensures.memory ∙ e.lent.memory ∙ i.lent.memory;
     }
 
 pub run_block-returns-in-Returns-clause-lent : goal.run_block-returns-in-Returns-clause-lent
 run_block-returns-in-Returns-clause-lent g t c =
     let i = c.steps.invariant in
     let e = c.in-Returns.ensures in
-    same_on _ _ _ i.lent (same_stepped c.steps.output c.step.new.slate e.lent e.rooms)
+    lent_trans _ _ _ i.lent e.lent
 
 pub run_block-returns-in-Turns-clause-lent : goal.run_block-returns-in-Turns-clause-lent
 run_block-returns-in-Turns-clause-lent g t c =
     let i = c.steps.invariant in
     let e = c.in-Turns.ensures in
-    same_on _ _ _ i.lent (same_stepped c.steps.output c.step.new.slate e.lent e.rooms)
+    lent_trans _ _ _ i.lent e.lent
 
 pub run_block-returns-in-Failed-clause-lent : goal.run_block-returns-in-Failed-clause-lent
 run_block-returns-in-Failed-clause-lent g t c =
@@ -289,12 +290,12 @@ run_block-returns-in-Failed-clause-lent g t c =
     record {
       same_cells = f.lent.same_cells ∙ e.lent.same_cells ∙ i.lent.same_cells;
       same_copies = f.lent.same_copies ∙ e.lent.same_copies ∙ i.lent.same_copies;
-      same_trace = f.lent.same_trace ∙ i.lent.same_trace;
+      same_trace = f.lent.same_trace ∙ e.lent.same_trace ∙ i.lent.same_trace;
       cells = f.lent.cells ∙ e.lent.cells ∙ i.lent.cells;
       copies = f.lent.copies ∙ e.lent.copies ∙ i.lent.copies;
-      rooms = f.lent.rooms ∙ e.rooms ∙ i.lent.rooms;
-      frames = c.push_frame-in-Failed.ensures.kept ∙ f.lent.frames ∙ i.lent.frames;
-      memory = c.push_frame-in-Failed.ensures.memory ∙ f.lent.memory ∙ i.lent.memory;
+      rooms = f.lent.rooms ∙ e.lent.rooms ∙ i.lent.rooms;
+      frames = c.push_frame-in-Failed.ensures.kept ∙ f.lent.frames ∙ e.lent.frames ∙ i.lent.frames;
+      memory = c.push_frame-in-Failed.ensures.memory ∙ f.lent.memory ∙ e.lent.memory ∙ i.lent.memory;
     }
 
 pub run_block-returns-in-Failed-run_turns-clause-lent : goal.run_block-returns-in-Failed-run_turns-clause-lent
@@ -302,28 +303,28 @@ run_block-returns-in-Failed-run_turns-clause-lent g t c =
     let i = c.steps.invariant in
     let e = c.in-Loops.ensures in
     let f = c.in-Failed-run_turns.ensures in
-    same_on _ _ _ i.lent (same_on _ _ _ (same_stepped c.steps.output c.step.new.slate e.lent e.rooms) f.lent)
+    lent_trans _ _ _ i.lent (lent_trans _ _ _ e.lent f.lent)
 
 pub run_turns-returns-in-Failed-clause-lent : goal.run_turns-returns-in-Failed-clause-lent
-run_turns-returns-in-Failed-clause-lent g t c = same_on _ _ _ c.turns.invariant.lent c.in-Failed.ensures.lent
+run_turns-returns-in-Failed-clause-lent g t c = lent_trans _ _ _ c.turns.invariant.lent c.in-Failed.ensures.lent
 
 pub run_block-returns-in-Fails-clause-held : goal.run_block-returns-in-Fails-clause-held
 run_block-returns-in-Fails-clause-held g t c =
     let i = c.steps.invariant in
     let e = c.in-Fails.ensures in
-    hold_on c.args.stream.now c.steps.stream c.step.new.stream c.args.stretch.now.level.now.first c.args.output.now.slate c.steps.output.slate c.step.new.slate i.later e.later i.held e.held
+    hold_on c.args.stream.now c.steps.stream c.step.new.stream c.args.stretch.now.level.now.first c.args.slate.now c.steps.slate c.step.new.slate i.later e.later i.held e.held
 
 pub run_block-returns-in-Returns-clause-held : goal.run_block-returns-in-Returns-clause-held
 run_block-returns-in-Returns-clause-held g t c =
     let i = c.steps.invariant in
     let e = c.in-Returns.ensures in
-    hold_on c.args.stream.now c.steps.stream c.step.new.stream c.args.stretch.now.level.now.first c.args.output.now.slate c.steps.output.slate c.step.new.slate i.later e.later i.held e.held
+    hold_on c.args.stream.now c.steps.stream c.step.new.stream c.args.stretch.now.level.now.first c.args.slate.now c.steps.slate c.step.new.slate i.later e.later i.held e.held
 
 pub run_block-returns-in-Turns-clause-held : goal.run_block-returns-in-Turns-clause-held
 run_block-returns-in-Turns-clause-held g t c =
     let i = c.steps.invariant in
     let e = c.in-Turns.ensures in
-    hold_on c.args.stream.now c.steps.stream c.step.new.stream c.args.stretch.now.level.now.first c.args.output.now.slate c.steps.output.slate c.step.new.slate i.later e.later i.held e.held
+    hold_on c.args.stream.now c.steps.stream c.step.new.stream c.args.stretch.now.level.now.first c.args.slate.now c.steps.slate c.step.new.slate i.later e.later i.held e.held
 
 pub run_block-returns-in-Failed-clause-held : goal.run_block-returns-in-Failed-clause-held
 run_block-returns-in-Failed-clause-held g t c =
@@ -333,9 +334,9 @@ run_block-returns-in-Failed-clause-held g t c =
     let s0 = c.args.stream.now in
     let s = c.steps.stream in
     let u = c.step.new.stream in
-    hold_on s0 u c.call.new.stream c.args.stretch.now.level.now.first c.args.output.now.slate c.step.new.slate c.call.new.output.slate
+    hold_on s0 u c.call.new.stream c.args.stretch.now.level.now.first c.args.slate.now c.step.new.slate c.call.new.slate
     (later_trans g.met.W.Words.reaches_on s0 s u i.later e.later) f.later
-    (hold_on s0 s u c.args.stretch.now.level.now.first c.args.output.now.slate c.steps.output.slate c.step.new.slate i.later e.later i.held e.held) f.held
+    (hold_on s0 s u c.args.stretch.now.level.now.first c.args.slate.now c.steps.slate c.step.new.slate i.later e.later i.held e.held) f.held
 
 pub run_block-returns-in-Failed-run_turns-clause-held : goal.run_block-returns-in-Failed-run_turns-clause-held
 run_block-returns-in-Failed-run_turns-clause-held g t c =
@@ -345,9 +346,9 @@ run_block-returns-in-Failed-run_turns-clause-held g t c =
     let s0 = c.args.stream.now in
     let s = c.steps.stream in
     let u = c.step.new.stream in
-    hold_on s0 u c.run_turns.new.stream c.args.stretch.now.level.now.first c.args.output.now.slate c.step.new.slate c.run_turns.new.output.slate
+    hold_on s0 u c.run_turns.new.stream c.args.stretch.now.level.now.first c.args.slate.now c.step.new.slate c.run_turns.new.slate
     (later_trans g.met.W.Words.reaches_on s0 s u i.later e.later) f.later
-    (hold_on s0 s u c.args.stretch.now.level.now.first c.args.output.now.slate c.steps.output.slate c.step.new.slate i.later e.later i.held e.held) f.held
+    (hold_on s0 s u c.args.stretch.now.level.now.first c.args.slate.now c.steps.slate c.step.new.slate i.later e.later i.held e.held) f.held
 
 pub run_turns-returns-in-Failed-clause-held : goal.run_turns-returns-in-Failed-clause-held
 run_turns-returns-in-Failed-clause-held = turns.run_turns-returns-in-Failed-clause-held

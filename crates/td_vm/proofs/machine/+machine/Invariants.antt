@@ -7,8 +7,8 @@ use Rattle.td_verify.specs.Brackets.{opened, window_bytes}
 use Rattle.td_verify.specs.Verify.{IsIn}
 use Rattle.td_verify.specs.Safe.{looped}
 use Rattle.td_stream.specs.StreamInvariant.{IsStream, Later, position, end_of}
-use Rattle.td_vm_step.specs.Stepping.{state_of, Ran, InWindow, Hold}
-use Rattle.td_vm.specs.Machine.{Idle, HasRoom, IsKept, SameRoom}
+use Rattle.td_vm_step.specs.Stepping.{state_of, Ran, InWindow, IsLent, Hold}
+use Rattle.td_vm.specs.Machine.{Idle, HasRoom, IsKept}
 use Rattle.td_vm.proofs.machine.+machine.Given as goal
 
 abbrev pub decreases-run_block : goal.decreases-run_block
@@ -22,9 +22,9 @@ decreases-run_turns g l = 2 * (first_of l.stretch.now.level.now.code.parts.now l
 
 abbrev pub invariant-run_block-steps : goal.invariant-run_block-steps
 invariant-run_block-steps g l = record {
-  room : HasRoom l.stretch.level.now l.spare l.regs l.output;
-  lent : SameRoom l.fn.output l.output;
-  held : Hold g.W.Words.loads l.fn.stream l.stream l.stretch.level.now.first l.fn.output.slate l.output.slate;
+  room : HasRoom l.stretch.level.now l.spare l.regs l.slate;
+  lent : IsLent l.fn.slate l.slate;
+  held : Hold g.W.Words.loads l.fn.stream l.stream l.stretch.level.now.first l.fn.slate l.slate;
   kept : IsKept l.fn.spare l.spare;
   place : IsIn l.stretch.level.now.code.parts.now l.stretch.level.now.n l.pc;
   on : l.stretch.first ≤ l.pc;
@@ -38,7 +38,7 @@ invariant-run_block-steps g l = record {
   end : looped l.stretch.level.now.code.parts.now l.stretch.first ≡ true → end_of l.stream ≡ end_of l.fn.stream;
   narrow : position l.fn.stream + window_bytes (opened (shapes_of l.stretch.level.now.code.parts.now) l.pc) ≤ end_of l.stream;
   idle : position l.fn.stream ≡ position l.stream → Idle l.stretch.level.now.code.parts.now l.stretch.level.now.n l.stretch.first l.pc;
-  same : Ran g.W.Words.loads l.fn.stream l.stream l.fn.steps l.steps (λ b touched taken. block l.stretch.level.now.code.parts.now b l.stretch.level.now.n l.stretch.level.now.places.now l.stretch.first (state_of l.fn.regs l.fn.output.slate.cells.now l.fn.act l.fn.stream) ≡ after touched taken (block l.stretch.level.now.code.parts.now b l.stretch.level.now.n l.stretch.level.now.places.now l.pc (state_of l.regs l.output.slate.cells.now l.act l.stream)));
+  same : Ran g.W.Words.loads l.fn.stream l.stream l.fn.steps l.steps (λ b touched taken. block l.stretch.level.now.code.parts.now b l.stretch.level.now.n l.stretch.level.now.places.now l.stretch.first (state_of l.fn.regs l.fn.slate.cells.now l.fn.act l.fn.stream) ≡ after touched taken (block l.stretch.level.now.code.parts.now b l.stretch.level.now.n l.stretch.level.now.places.now l.pc (state_of l.regs l.slate.cells.now l.act l.stream)));
 }
 
 abbrev pub decreases-run_block-steps : goal.decreases-run_block-steps
@@ -46,16 +46,16 @@ decreases-run_block-steps g l = l.stretch.to - l.pc
 
 abbrev pub invariant-run_turns-turns : goal.invariant-run_turns-turns
 invariant-run_turns-turns g l = record {
-  room : HasRoom l.stretch.level.now l.spare l.regs l.output;
-  lent : SameRoom l.fn.output l.output;
-  held : Hold g.W.Words.loads l.fn.stream l.stream l.stretch.level.now.first l.fn.output.slate l.output.slate;
+  room : HasRoom l.stretch.level.now l.spare l.regs l.slate;
+  lent : IsLent l.fn.slate l.slate;
+  held : Hold g.W.Words.loads l.fn.stream l.stream l.stretch.level.now.first l.fn.slate l.slate;
   kept : IsKept l.fn.spare l.spare;
   later : Later g.W.Words.loads g.W.Words.reaches l.fn.stream l.stream;
   whole : IsStream g.W.Words.loads g.W.Words.size l.stream;
   window : InWindow l.act l.stream;
   outer : l.act.outer ≤ l.fn.act.outer;
   end : end_of l.stream ≡ end_of l.fn.stream;
-  same : (k : ℕ) × (end_of l.stream - position l.stream < k) × (Ran g.W.Words.loads l.fn.stream l.stream l.fn.steps l.steps (λ b touched taken. (behind : State → Exit) → turns (suc (end_of l.fn.stream - position l.fn.stream)) (block l.stretch.level.now.code.parts.now b l.stretch.level.now.n l.stretch.level.now.places.now (l.stretch.first + 1)) behind (state_of l.fn.regs l.fn.output.slate.cells.now l.fn.act l.fn.stream) ≡ after touched taken (turns k (block l.stretch.level.now.code.parts.now b l.stretch.level.now.n l.stretch.level.now.places.now (l.stretch.first + 1)) behind (state_of l.regs l.output.slate.cells.now l.act l.stream))));
+  same : (k : ℕ) × (end_of l.stream - position l.stream < k) × (Ran g.W.Words.loads l.fn.stream l.stream l.fn.steps l.steps (λ b touched taken. (behind : State → Exit) → turns (suc (end_of l.fn.stream - position l.fn.stream)) (block l.stretch.level.now.code.parts.now b l.stretch.level.now.n l.stretch.level.now.places.now (l.stretch.first + 1)) behind (state_of l.fn.regs l.fn.slate.cells.now l.fn.act l.fn.stream) ≡ after touched taken (turns k (block l.stretch.level.now.code.parts.now b l.stretch.level.now.n l.stretch.level.now.places.now (l.stretch.first + 1)) behind (state_of l.regs l.slate.cells.now l.act l.stream))));
 }
 
 abbrev pub decreases-run_turns-turns : goal.decreases-run_turns-turns

@@ -1,4 +1,4 @@
-use Rattle.std.proofs.Common.{◌≡◌, ◌+◌, ◌-◌, ◌*◌, ◌≤◌, min, [], map, sym, ap, ◌∙◌, subst, arith, slice_index, slice_set}
+use Rattle.std.proofs.Common.{rules, refl, ◌≡◌, ◌+◌, ◌-◌, ◌*◌, ◌≤◌, min, [], map, sym, ap, ◌∙◌, subst, arith, slice_index, slice_set}
 use Rattle.std.proofs.lemmas.List.{append-nil, length-map}
 use Rattle.std.proofs.Math.Seq.{map-set_same}
 use Rattle.td_num.specs.Numbers.{places_from}
@@ -32,8 +32,17 @@ copy_to-requires-clause-room g c =
     let given : slice_index (rooms_of copies) at.number ≡ slice_index (rooms_of copies) c.number_of.result = ap (slice_index (rooms_of copies)) (sym number) in
     omega (arith, c.min-count.ensures, c.room_of.ensures, at.room_is, room, given)
 
-pub returns-clause-rooms : goal.returns-clause-rooms
-returns-clause-rooms g c = map-set_same (λ (b : BufferView). b.room) c.args.slate.now.copies.now c.number_of.result c.copy_to.new.buffer c.index-slate-number_of.result c.copy_to.ensures.room
+pub returns-clause-lent : goal.returns-clause-lent
+returns-clause-lent g c = record {
+  same_cells = refl;
+  same_copies = refl;
+  same_trace = refl;
+  cells = search rules;
+  copies = search rules;
+  rooms = map-set_same (λ (b : BufferView). b.room) c.args.slate.now.copies.now c.number_of.result c.copy_to.new.buffer c.index-slate-number_of.result c.copy_to.ensures.room;
+  frames = refl;
+  memory = refl;
+}
 
 pub returns-clause-held : goal.returns-clause-held
 returns-clause-held g c = λ b h held.

@@ -43,13 +43,13 @@ call-run_block-exit-requires g t c =
     let b = c.requires.room.begins.each m (omega (arith, l)) in
     let q : m + 1 ≡ suc m = omega arith in
     let f = c.requires.room.begins.each (m + 1) (omega (arith, l)) ∙ ap (first_of C) q in
-    λ κs h. (omega (arith, c.decreases, b, f), (h.0, (h.1.0, (h.1.1, (callee_room c.args.level.now _ c.args.spare.now _ c.args.regs.now c.set_registers.new.mine c.args.output.now c.args.callee.at m c.args.callee.first c.args.callee.map c.requires.room d refl refl refl places (omega (arith, cell, buffer, c.place_count.ensures.is, c.split_at_mut-mine_places.ensures.back_len, c.split_at_mut-mine_places.ensures.front_len)) (omega (arith, register, c.set_registers.auto.mine, c.split_at_mut-mine.ensures.front_len)) (omega (arith, register, c.split_at_mut-mine.ensures.back_len)), (whole_stretch C m _ _ c.requires.room.runnable l b f, (c.requires.whole, record { around = omega (arith, c.end-end.ensures); within = omega (arith, c.end-end.ensures, c.requires.whole.short) })))))))
+    λ κs h. (omega (arith, c.decreases, b, f), (h.0, (h.1.0, (h.1.1, (callee_room c.args.level.now _ c.args.spare.now _ c.args.regs.now c.set_registers.new.mine c.args.slate.now c.args.callee.at m c.args.callee.first c.args.callee.map c.requires.room d refl refl refl places (omega (arith, cell, buffer, c.place_count.ensures.is, c.split_at_mut-mine_places.ensures.back_len, c.split_at_mut-mine_places.ensures.front_len)) (omega (arith, register, c.set_registers.auto.mine, c.split_at_mut-mine.ensures.front_len)) (omega (arith, register, c.split_at_mut-mine.ensures.back_len)), (whole_stretch C m _ _ c.requires.room.runnable l b f, (c.requires.whole, record { around = omega (arith, c.end-end.ensures); within = omega (arith, c.end-end.ensures, c.requires.whole.short) })))))))
 
 pub call-returns-clause-traced : goal.call-returns-clause-traced
 call-returns-clause-traced g t c =
     let C = c.args.level.now.code.parts.now in
     let d = c.requires.callee in
-    traced_more c.run_block-exit.result c.run_block-exit.new.output.trace.now (room_below level C c.args.callee.routine + 1) (room_below level C c.args.level.now.n) (let k = callee_need level C c.args.level.now.n c.args.callee.at c.args.callee.routine d.place d.is d.lower in omega (arith, k)) c.run_block-exit.ensures.traced
+    traced_more c.run_block-exit.result c.run_block-exit.new.slate.trace.now (room_below level C c.args.callee.routine + 1) (room_below level C c.args.level.now.n) (let k = callee_need level C c.args.level.now.n c.args.callee.at c.args.callee.routine d.place d.is d.lower in omega (arith, k)) c.run_block-exit.ensures.traced
 
 pub call-returns-clause-idle : goal.call-returns-clause-idle
 call-returns-clause-idle g t c =
@@ -69,7 +69,7 @@ call-returns-clause-same g t c = λ start outer.
     let s0 = c.args.stream.now in
     let s1 = c.run_block-exit.new.stream in
     let s2 = c.widen.new.self in
-    let S : State = record { regs = c.args.regs.now; cells = c.args.output.now.slate.cells.now; start = start; pos = position s0; end = end_of s0; outer = outer } in
+    let S : State = record { regs = c.args.regs.now; cells = c.args.slate.now.cells.now; start = start; pos = position s0; end = end_of s0; outer = outer } in
     let cell : c.routine_at-routine.result.now.cells ≡ r.cells = ap (λ x. x.cells) is in
     let places = c.set_callee_places.ensures in
     let args = registers_from c.args.regs.now c.args.callee.first r.params in
@@ -80,7 +80,7 @@ call-returns-clause-same g t c = λ start outer.
     let ran = ap (λ q. block C b m q (first_of C m) (entered r args S)) (sym places)
     ∙ ap (λ f. block C b m c.set_callee_places.new.mine f (entered r args S)) (sym b')
     ∙ ap (λ u. block C b m c.set_callee_places.new.mine (slice_index c.args.level.now.code.begins.now m) u) state ∙ p in
-    call_left c.run_block-exit.result _ (position s2) (frames_of c.run_block-exit.new.output.trace.now) x j _ turn ran (sym c.widen.ensures.moves.at))
+    call_left c.run_block-exit.result _ (position s2) (frames_of c.run_block-exit.new.slate.trace.now) x j _ turn ran (sym c.widen.ensures.moves.at))
 
 pub call-set_registers-requires : goal.call-set_registers-requires
 call-set_registers-requires g t c =
@@ -121,18 +121,18 @@ call-set_callee_places-requires-clause-fits g t c = omega (arith, c.place_count.
 pub call-set_callee_places-requires-clause-size : goal.call-set_callee_places-requires-clause-size
 call-set_callee_places-requires-clause-size g t c =
     let C = c.args.level.now.code.parts.now in
-    let w = widens C c.args.level.now.n c.args.callee.routine c.args.callee.map c.args.level.now.places.now c.args.level.now.first (length c.args.output.now.slate.cells.now) (rooms_of c.args.output.now.slate.copies.now) c.requires.room.in_cells c.requires.callee.cell_map c.routine_at-routine.result.now.cells (routine_of C c.args.level.now.n).cells (map_of C c.args.callee.map) (ap (λ x. x.cells) c.routine_at-routine.ensures) refl refl in
+    let w = widens C c.args.level.now.n c.args.callee.routine c.args.callee.map c.args.level.now.places.now c.args.level.now.first (length c.args.slate.now.cells.now) (rooms_of c.args.slate.now.copies.now) c.requires.room.in_cells c.requires.callee.cell_map c.routine_at-routine.result.now.cells (routine_of C c.args.level.now.n).cells (map_of C c.args.callee.map) (ap (λ x. x.cells) c.routine_at-routine.ensures) refl refl in
     let b = ap (λ x. length x.buffers) c.routine_at-routine.ensures in
     omega (arith, b, w.size)
 
 pub call-set_callee_places-requires-clause-within : goal.call-set_callee_places-requires-clause-within
 call-set_callee_places-requires-clause-within g t c =
     let C = c.args.level.now.code.parts.now in
-    let w = widens C c.args.level.now.n c.args.callee.routine c.args.callee.map c.args.level.now.places.now c.args.level.now.first (length c.args.output.now.slate.cells.now) (rooms_of c.args.output.now.slate.copies.now) c.requires.room.in_cells c.requires.callee.cell_map c.routine_at-routine.result.now.cells (routine_of C c.args.level.now.n).cells (map_of C c.args.callee.map) (ap (λ x. x.cells) c.routine_at-routine.ensures) refl refl in
+    let w = widens C c.args.level.now.n c.args.callee.routine c.args.callee.map c.args.level.now.places.now c.args.level.now.first (length c.args.slate.now.cells.now) (rooms_of c.args.slate.now.copies.now) c.requires.room.in_cells c.requires.callee.cell_map c.routine_at-routine.result.now.cells (routine_of C c.args.level.now.n).cells (map_of C c.args.callee.map) (ap (λ x. x.cells) c.routine_at-routine.ensures) refl refl in
     w.below
 
 pub call-set_callee_places-requires-clause-buffers : goal.call-set_callee_places-requires-clause-buffers
 call-set_callee_places-requires-clause-buffers g t c =
     let C = c.args.level.now.code.parts.now in
-    let w = widens C c.args.level.now.n c.args.callee.routine c.args.callee.map c.args.level.now.places.now c.args.level.now.first (length c.args.output.now.slate.cells.now) (rooms_of c.args.output.now.slate.copies.now) c.requires.room.in_cells c.requires.callee.cell_map c.routine_at-routine.result.now.cells (routine_of C c.args.level.now.n).cells (map_of C c.args.callee.map) (ap (λ x. x.cells) c.routine_at-routine.ensures) refl refl in
+    let w = widens C c.args.level.now.n c.args.callee.routine c.args.callee.map c.args.level.now.places.now c.args.level.now.first (length c.args.slate.now.cells.now) (rooms_of c.args.slate.now.copies.now) c.requires.room.in_cells c.requires.callee.cell_map c.routine_at-routine.result.now.cells (routine_of C c.args.level.now.n).cells (map_of C c.args.callee.map) (ap (λ x. x.cells) c.routine_at-routine.ensures) refl refl in
     w.behind

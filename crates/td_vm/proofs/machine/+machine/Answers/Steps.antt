@@ -11,12 +11,12 @@ use Rattle.td_stream.specs.Layouts.{length_in}
 use Rattle.td_stream.specs.StreamInvariant.{position, end_of, length_of}
 use Rattle.td_vm_step.specs.Stepping.{state_of, Ends}
 use Rattle.td_stream.proofs.Stages.{later_trans}
-use Rattle.td_vm_step.proofs.Stretches.{hold_on}
+use Rattle.td_vm_step.proofs.Stretches.{lent_trans, hold_on}
 use Rattle.td_vm.specs.Exits.{exit_by}
 use Rattle.td_vm.proofs.Stretches.{ran_trans, ran_step, after_more}
 use Rattle.td_vm.proofs.Shapes.{shape_here}
 use Rattle.td_vm.proofs.Keeps.{kept_on, goes_on, room_on, idle_more, idle_on, empty_up, end_kept}
-use Rattle.td_vm.proofs.Turns.{room_kept, room_stepped, same_stepped, same_on, loop_whole, callee_at, call_on, spare_on}
+use Rattle.td_vm.proofs.Turns.{room_kept, room_stepped, loop_whole, callee_at, call_on, spare_on}
 use Rattle.td_vm.proofs.machine.+machine.Goals as goal
 
 pub run_block-steps-preserved-in-Goes : goal.run_block-steps-preserved-in-Goes
@@ -37,9 +37,9 @@ run_block-steps-preserved-in-Goes g t c =
     let s = c.steps.stream in
     let u = c.step.new.stream in
     record {
-      room = room_stepped c.args.stretch.now.level.now c.steps.spare c.steps.regs c.step.new.regs c.steps.output c.step.new.slate i.room c.step.auto.regs e.lent e.rooms;
-      lent = same_on _ _ _ i.lent (same_stepped c.steps.output c.step.new.slate e.lent e.rooms);
-      held = hold_on s0 s u c.args.stretch.now.level.now.first c.args.output.now.slate c.steps.output.slate c.step.new.slate i.later e.later i.held e.held;
+      room = room_stepped c.args.stretch.now.level.now c.steps.spare c.steps.regs c.step.new.regs c.steps.slate c.step.new.slate i.room c.step.auto.regs e.lent e.trace;
+      lent = lent_trans _ _ _ i.lent e.lent;
+      held = hold_on s0 s u c.args.stretch.now.level.now.first c.args.slate.now c.steps.slate c.step.new.slate i.later e.later i.held e.held;
       kept = i.kept;
       place = o.1;
       on = omega (arith, i.on, o.0);
@@ -77,16 +77,16 @@ run_block-steps-preserved-in-Returned g t c =
     let u = c.step.new.stream in
     let v = c.call.new.stream in
     let still : end_of u ≡ end_of s = subst (λ x. Ends (shape x) (position s) (end_of s) (end_of u)) e.leads e.end in
-    let lent = same_on _ _ _ (same_stepped c.steps.output c.step.new.slate e.lent e.rooms) f.lent in
-    let room = room_kept c.args.stretch.now.level.now c.steps.spare c.call.new.spare c.steps.regs c.step.new.regs c.steps.output c.call.new.output i.room f.kept c.step.auto.regs lent f.traced in
+    let lent = lent_trans _ _ _ e.lent f.lent in
+    let room = room_kept c.args.stretch.now.level.now c.steps.spare c.call.new.spare c.steps.regs c.step.new.regs c.steps.slate c.call.new.slate i.room f.kept c.step.auto.regs lent f.traced in
     let long : length_of v ≡ length_of u = ap length_in f.later.layout in
     let later1 = later_trans g.met.W.Words.reaches_on s0 s u i.later e.later in
     let U : State = state_of c.step.new.regs c.step.new.slate.cells.now c.step.new.act u in
     record {
       room = room;
-      lent = same_on _ _ _ i.lent lent;
-      held = hold_on s0 u v c.args.stretch.now.level.now.first c.args.output.now.slate c.step.new.slate c.call.new.output.slate later1 f.later
-          (hold_on s0 s u c.args.stretch.now.level.now.first c.args.output.now.slate c.steps.output.slate c.step.new.slate i.later e.later i.held e.held) f.held;
+      lent = lent_trans _ _ _ i.lent lent;
+      held = hold_on s0 u v c.args.stretch.now.level.now.first c.args.slate.now c.step.new.slate c.call.new.slate later1 f.later
+          (hold_on s0 s u c.args.stretch.now.level.now.first c.args.slate.now c.steps.slate c.step.new.slate i.later e.later i.held e.held) f.held;
       kept = spare_on _ _ _ i.kept f.kept;
       place = o.1;
       on = omega (arith, i.on);
@@ -100,7 +100,7 @@ run_block-steps-preserved-in-Returned g t c =
       end = λ h. f.end ∙ still ∙ i.end h;
       narrow = let a = ap window_bytes o.2 in omega (arith, a, f.end, still, i.narrow);
       idle = λ z. idle_more C n first pc (pc + 1) (Call m) d.is (omega arith) refl (empty_up (shapes_of C) (lengths_of C) n m d.lower (f.idle (omega (arith, z, i.later.pos, e.later.pos, f.later.pos)))) (i.idle (omega (arith, z, i.later.pos, e.later.pos, f.later.pos)));
-      same = ran_trans s0 u v c.args.steps.now c.step.new.steps c.call.new.steps (λ b x j. block C b n c.args.stretch.now.level.now.places.now first (state_of c.args.regs.now c.args.output.now.slate.cells.now c.args.act.now s0) ≡ after x j (back C c.in-Calls.site U (block C b n c.args.stretch.now.level.now.places.now (pc + 1)) (block C b m (places_by c.args.stretch.now.level.now.places.now (cells_by C n m c.in-Calls.map)) (first_of C m) (entered (routine_of C m) (registers_from c.step.new.regs c.in-Calls.from (routine_of C m).params) U)))) _ _
+      same = ran_trans s0 u v c.args.steps.now c.step.new.steps c.call.new.steps (λ b x j. block C b n c.args.stretch.now.level.now.places.now first (state_of c.args.regs.now c.args.slate.now.cells.now c.args.act.now s0) ≡ after x j (back C c.in-Calls.site U (block C b n c.args.stretch.now.level.now.places.now (pc + 1)) (block C b m (places_by c.args.stretch.now.level.now.places.now (cells_by C n m c.in-Calls.map)) (first_of C m) (entered (routine_of C m) (registers_from c.step.new.regs c.in-Calls.from (routine_of C m).params) U)))) _ _
           later1 f.later
           (ran_step s0 s u c.args.steps.now c.steps.steps c.tick.new.self c.step.new.steps _ _ _ i.later e.later i.same e.same c.tick.ensures (λ b x y j k p q.
           p ∙ ap (after x j) (c.laws.ensures.calls C b c.args.stretch.now.level.now.places.now n pc c.in-Calls.from m c.in-Calls.map c.in-Calls.site _ _ y (1 + k) (record { instruction = I; there = c.instruction_at-instruction.ensures.there; within = i.place.to; is = q }) o.1.to d.lower)
@@ -109,7 +109,7 @@ run_block-steps-preserved-in-Returned g t c =
           (λ b x y j k p q.
           p ∙ ap (λ w. after x j (back C c.in-Calls.site U (block C b n c.args.stretch.now.level.now.places.now (pc + 1)) w)) q
           ∙ after_more x y j k _
-          ∙ ap (λ w. after (x ++ y) (j + k) (block C b n c.args.stretch.now.level.now.places.now (pc + 1) (record { regs = c.step.new.regs; cells = c.call.new.output.slate.cells.now; start = c.step.new.act.start; pos = position v; end = w; outer = c.step.new.act.outer }))) (sym f.end));
+          ∙ ap (λ w. after (x ++ y) (j + k) (block C b n c.args.stretch.now.level.now.places.now (pc + 1) (record { regs = c.step.new.regs; cells = c.call.new.slate.cells.now; start = c.step.new.act.start; pos = position v; end = w; outer = c.step.new.act.outer }))) (sym f.end));
     }
 
 pub run_block-returns-in-Failed-clause-same : goal.run_block-returns-in-Failed-clause-same
@@ -130,7 +130,7 @@ run_block-returns-in-Failed-clause-same g t c =
     let u = c.step.new.stream in
     let v = c.call.new.stream in
     let U : State = state_of c.step.new.regs c.step.new.slate.cells.now c.step.new.act u in
-    ran_trans s0 u v c.args.steps.now c.step.new.steps c.call.new.steps (λ b x j. block C b n c.args.stretch.now.level.now.places.now c.args.stretch.now.first (state_of c.args.regs.now c.args.output.now.slate.cells.now c.args.act.now s0) ≡ after x j (back C c.in-Calls.site U (block C b n c.args.stretch.now.level.now.places.now (pc + 1)) (block C b m (places_by c.args.stretch.now.level.now.places.now (cells_by C n m c.in-Calls.map)) (first_of C m) (entered (routine_of C m) (registers_from c.step.new.regs c.in-Calls.from (routine_of C m).params) U)))) _ _
+    ran_trans s0 u v c.args.steps.now c.step.new.steps c.call.new.steps (λ b x j. block C b n c.args.stretch.now.level.now.places.now c.args.stretch.now.first (state_of c.args.regs.now c.args.slate.now.cells.now c.args.act.now s0) ≡ after x j (back C c.in-Calls.site U (block C b n c.args.stretch.now.level.now.places.now (pc + 1)) (block C b m (places_by c.args.stretch.now.level.now.places.now (cells_by C n m c.in-Calls.map)) (first_of C m) (entered (routine_of C m) (registers_from c.step.new.regs c.in-Calls.from (routine_of C m).params) U)))) _ _
     (later_trans g.met.W.Words.reaches_on s0 s u i.later e.later) f.later
     (ran_step s0 s u c.args.steps.now c.steps.steps c.tick.new.self c.step.new.steps _ _ _ i.later e.later i.same e.same c.tick.ensures (λ b x y j k p q.
     p ∙ ap (after x j) (c.laws.ensures.calls C b c.args.stretch.now.level.now.places.now n pc c.in-Calls.from m c.in-Calls.map c.in-Calls.site _ _ y (1 + k) (record { instruction = I; there = c.instruction_at-instruction.ensures.there; within = i.place.to; is = q }) o.1.to d.lower)
@@ -138,7 +138,7 @@ run_block-returns-in-Failed-clause-same g t c =
     (f.same c.step.new.act.start c.step.new.act.outer)
     (λ b x y j k p q.
     p ∙ ap (λ w. after x j (back C c.in-Calls.site U (block C b n c.args.stretch.now.level.now.places.now (pc + 1)) w)) q
-    ∙ ap (λ l. exit_by (ir.Failed c.in-Failed.reason c.in-Failed.pos l c.call.new.output.slate.cells.now) (x ++ y) (j + k)) (sym c.push_frame-in-Failed.ensures.frames))
+    ∙ ap (λ l. exit_by (ir.Failed c.in-Failed.reason c.in-Failed.pos l c.call.new.slate.cells.now) (x ++ y) (j + k)) (sym c.push_frame-in-Failed.ensures.frames))
 
 pub run_block-steps-preserved : goal.run_block-steps-preserved
 run_block-steps-preserved g t c =
@@ -159,12 +159,12 @@ run_block-steps-preserved g t c =
     let v = c.run_turns.new.stream in
     let still : end_of u ≡ end_of s = subst (λ x. Ends (shape x) (position s) (end_of s) (end_of u)) e.leads e.end in
     let later1 = later_trans g.met.W.Words.reaches_on s0 s u i.later e.later in
-    let lent = same_on _ _ _ (same_stepped c.steps.output c.step.new.slate e.lent e.rooms) f.lent in
+    let lent = lent_trans _ _ _ e.lent f.lent in
     record {
-      room = room_kept c.args.stretch.now.level.now c.steps.spare c.run_turns.new.spare c.steps.regs c.run_turns.new.regs c.steps.output c.run_turns.new.output i.room f.kept (c.run_turns.auto.regs ∙ c.step.auto.regs) lent f.traced;
-      lent = same_on _ _ _ i.lent lent;
-      held = hold_on s0 u v c.args.stretch.now.level.now.first c.args.output.now.slate c.step.new.slate c.run_turns.new.output.slate later1 f.later
-          (hold_on s0 s u c.args.stretch.now.level.now.first c.args.output.now.slate c.steps.output.slate c.step.new.slate i.later e.later i.held e.held) f.held;
+      room = room_kept c.args.stretch.now.level.now c.steps.spare c.run_turns.new.spare c.steps.regs c.run_turns.new.regs c.steps.slate c.run_turns.new.slate i.room f.kept (c.run_turns.auto.regs ∙ c.step.auto.regs) lent f.traced;
+      lent = lent_trans _ _ _ i.lent lent;
+      held = hold_on s0 u v c.args.stretch.now.level.now.first c.args.slate.now c.step.new.slate c.run_turns.new.slate later1 f.later
+          (hold_on s0 s u c.args.stretch.now.level.now.first c.args.slate.now c.steps.slate c.step.new.slate i.later e.later i.held e.held) f.held;
       kept = spare_on _ _ _ i.kept f.kept;
       place = w.behind;
       on = omega (arith, i.on, w.body);
@@ -178,7 +178,7 @@ run_block-steps-preserved g t c =
       end = λ h. f.end ∙ still ∙ i.end h;
       narrow = let a = ap window_bytes w.same in omega (arith, a, f.end, still, i.narrow);
       idle = λ z. idle_more C n first pc q (While q) is (omega (arith, w.body)) refl tt (i.idle (omega (arith, z, i.later.pos, e.later.pos, f.later.pos)));
-      same = ran_trans s0 u v c.args.steps.now c.step.new.steps c.run_turns.new.steps (λ b x j. block C b n c.args.stretch.now.level.now.places.now first (state_of c.args.regs.now c.args.output.now.slate.cells.now c.args.act.now s0) ≡ after x j (turns (suc (end_of u - position u)) (block C b n c.args.stretch.now.level.now.places.now (pc + 1)) (block C b n c.args.stretch.now.level.now.places.now q) (state_of c.step.new.regs c.step.new.slate.cells.now c.step.new.act u))) _ _
+      same = ran_trans s0 u v c.args.steps.now c.step.new.steps c.run_turns.new.steps (λ b x j. block C b n c.args.stretch.now.level.now.places.now first (state_of c.args.regs.now c.args.slate.now.cells.now c.args.act.now s0) ≡ after x j (turns (suc (end_of u - position u)) (block C b n c.args.stretch.now.level.now.places.now (pc + 1)) (block C b n c.args.stretch.now.level.now.places.now q) (state_of c.step.new.regs c.step.new.slate.cells.now c.step.new.act u))) _ _
           later1 f.later
           (ran_step s0 s u c.args.steps.now c.steps.steps c.tick.new.self c.step.new.steps _ _ _ i.later e.later i.same e.same c.tick.ensures (λ b x y j k p r.
           p ∙ ap (after x j) (c.laws.ensures.loops C b c.args.stretch.now.level.now.places.now n pc q _ _ y (1 + k) (record { instruction = I; there = c.instruction_at-instruction.ensures.there; within = i.place.to; is = r }) w.body w.behind.to)
@@ -203,7 +203,7 @@ run_block-returns-in-Failed-run_turns-clause-same g t c =
     let s = c.steps.stream in
     let u = c.step.new.stream in
     let v = c.run_turns.new.stream in
-    ran_trans s0 u v c.args.steps.now c.step.new.steps c.run_turns.new.steps (λ b x j. block C b n c.args.stretch.now.level.now.places.now c.args.stretch.now.first (state_of c.args.regs.now c.args.output.now.slate.cells.now c.args.act.now s0) ≡ after x j (turns (suc (end_of u - position u)) (block C b n c.args.stretch.now.level.now.places.now (pc + 1)) (block C b n c.args.stretch.now.level.now.places.now q) (state_of c.step.new.regs c.step.new.slate.cells.now c.step.new.act u))) _ _
+    ran_trans s0 u v c.args.steps.now c.step.new.steps c.run_turns.new.steps (λ b x j. block C b n c.args.stretch.now.level.now.places.now c.args.stretch.now.first (state_of c.args.regs.now c.args.slate.now.cells.now c.args.act.now s0) ≡ after x j (turns (suc (end_of u - position u)) (block C b n c.args.stretch.now.level.now.places.now (pc + 1)) (block C b n c.args.stretch.now.level.now.places.now q) (state_of c.step.new.regs c.step.new.slate.cells.now c.step.new.act u))) _ _
     (later_trans g.met.W.Words.reaches_on s0 s u i.later e.later) f.later
     (ran_step s0 s u c.args.steps.now c.steps.steps c.tick.new.self c.step.new.steps _ _ _ i.later e.later i.same e.same c.tick.ensures (λ b x y j k p r.
     p ∙ ap (after x j) (c.laws.ensures.loops C b c.args.stretch.now.level.now.places.now n pc q _ _ y (1 + k) (record { instruction = I; there = c.instruction_at-instruction.ensures.there; within = i.place.to; is = r }) w.body w.behind.to)

@@ -5,16 +5,16 @@ use Rattle.td_ir.specs.Run.{turns, block}
 use Rattle.td_stream.specs.StreamInvariant.{position, end_of}
 use Rattle.td_vm_step.specs.Stepping.{state_of}
 use Rattle.td_stream.proofs.Stages.{later_trans, later_self}
-use Rattle.td_vm_step.proofs.Stretches.{hold_on, ran_self, ran_weaker}
+use Rattle.td_vm_step.proofs.Stretches.{lent_self, lent_trans, hold_on, ran_self, ran_weaker}
 use Rattle.td_vm.proofs.Stretches.{ran_trans, ran_ticked, after_more, after_none}
 use Rattle.td_vm.proofs.Keeps.{grown}
-use Rattle.td_vm.proofs.Turns.{none_left, room_kept, same_self, same_on, body_stretch, loop_whole, turn_busy, turn_more, turn_fails, turns_over, spare_same, spare_on}
+use Rattle.td_vm.proofs.Turns.{none_left, room_kept, body_stretch, loop_whole, turn_busy, turn_more, turn_fails, turns_over, spare_same, spare_on}
 use Rattle.td_vm.proofs.machine.+machine.Goals as goal
 
 pub run_turns-turns-init : goal.run_turns-turns-init
 run_turns-turns-init g t c = record {
   room = c.requires.room;
-  lent = same_self c.args.output.now;
+  lent = lent_self c.args.slate.now;
   held = λ b h k. k;
   kept = spare_same c.args.spare.now;
   later = later_self g.met.W.Words.reaches_itself c.args.stream.now;
@@ -53,9 +53,9 @@ run_turns-turns-preserved g t c =
     let k = i.same.0 in
     let few : end_of s - position s < k = i.same.1 in
     record {
-      room = room_kept c.args.stretch.now.level.now c.turns.spare c.run_block.new.spare c.turns.regs c.run_block.new.regs c.turns.output c.run_block.new.output i.room e.kept c.run_block.auto.regs e.lent e.traced;
-      lent = same_on _ _ _ i.lent e.lent;
-      held = hold_on s0 s v c.args.stretch.now.level.now.first c.args.output.now.slate c.turns.output.slate c.run_block.new.output.slate i.later e.later i.held e.held;
+      room = room_kept c.args.stretch.now.level.now c.turns.spare c.run_block.new.spare c.turns.regs c.run_block.new.regs c.turns.slate c.run_block.new.slate i.room e.kept c.run_block.auto.regs e.lent e.traced;
+      lent = lent_trans _ _ _ i.lent e.lent;
+      held = hold_on s0 s v c.args.stretch.now.level.now.first c.args.slate.now c.turns.slate c.run_block.new.slate i.later e.later i.held e.held;
       kept = spare_on _ _ _ i.kept e.kept;
       later = later_trans g.met.W.Words.reaches_on s0 s v i.later e.later;
       whole = e.whole;
@@ -65,7 +65,7 @@ run_turns-turns-preserved g t c =
       same = (
         k - 1,
         omega (arith, moved, e.end, more, few),
-        ran_trans s0 s v c.args.steps.now c.turns.steps c.tick.new.self _ (λ b y m. (behind : State → Exit) → turns k (block C b n c.args.stretch.now.level.now.places.now (c.args.stretch.now.first + 1)) behind (state_of c.turns.regs c.turns.output.slate.cells.now c.turns.act s) ≡ after y m (turns (k - 1) (block C b n c.args.stretch.now.level.now.places.now (c.args.stretch.now.first + 1)) behind (state_of c.run_block.new.regs c.run_block.new.output.slate.cells.now c.run_block.new.act v))) _ i.later e.later i.same.2
+        ran_trans s0 s v c.args.steps.now c.turns.steps c.tick.new.self _ (λ b y m. (behind : State → Exit) → turns k (block C b n c.args.stretch.now.level.now.places.now (c.args.stretch.now.first + 1)) behind (state_of c.turns.regs c.turns.slate.cells.now c.turns.act s) ≡ after y m (turns (k - 1) (block C b n c.args.stretch.now.level.now.places.now (c.args.stretch.now.first + 1)) behind (state_of c.run_block.new.regs c.run_block.new.slate.cells.now c.run_block.new.act v))) _ i.later e.later i.same.2
             (ran_ticked s v c.turns.steps c.run_block.new.steps c.tick.new.self _ _ e.same c.tick.ensures (λ b y m r behind. turn_more k _ behind _ _ y m more few r))
             (λ b x y j m p r behind. p behind ∙ ap (after x j) (r behind) ∙ after_more x y j m _),
       );
@@ -104,4 +104,4 @@ pub run_turns-returns-in-Failed-clause-held : goal.run_turns-returns-in-Failed-c
 run_turns-returns-in-Failed-clause-held g t c =
     let i = c.turns.invariant in
     let e = c.in-Failed.ensures in
-    hold_on c.args.stream.now c.turns.stream c.run_block.new.stream c.args.stretch.now.level.now.first c.args.output.now.slate c.turns.output.slate c.run_block.new.output.slate i.later e.later i.held e.held
+    hold_on c.args.stream.now c.turns.stream c.run_block.new.stream c.args.stretch.now.level.now.first c.args.slate.now c.turns.slate c.run_block.new.slate i.later e.later i.held e.held
