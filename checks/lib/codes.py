@@ -78,7 +78,7 @@ def large_image(names, instructions, version=3):
     return image_of(code, version)
 
 
-def turned(code):
+def upgraded(code):
     """The tables of an image of version 1, whose sites name no routine, as code whose sites do: routine after routine, a site
     for each old one that its instructions name, in the order of first use. A number that the old table hasn't becomes 2^32 - 1."""
     found = Tables()

@@ -22,7 +22,7 @@ fn main(rt: HostRuntime) -> ExitCode {
     let mut src = ReaderSource::over(rt.stdin());
     let mut out = WriterSink::over(rt.stdout());
     let mut err = WriterSink::over(rt.stderr());
-    let answered = match words(&rt) {
+    let answered = match command_line(&rt) {
         Ok(words) => run_alone(rt.alloc(), words.as_slice(), &mut src, &mut out, &mut err),
         Err(error) if error.kind() == io::ErrorKind::OutOfMemory => {
             Some(finish_out_of_memory(&mut err))
@@ -63,7 +63,7 @@ fn open_gates(alloc: Global) -> Result<Vec<OpenGate>, AllocError>
 
 // The words of the command line, the program's name first. They are pushed one by one, as `collect` would try again where
 // a first, larger room is refused.
-fn words(rt: &HostRuntime) -> io::Result<Vec<String>> {
+fn command_line(rt: &HostRuntime) -> io::Result<Vec<String>> {
     let mut words = Vec::new(rt.alloc());
     for word in env::args(rt)? {
         words.push(word)?;

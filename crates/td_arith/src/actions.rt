@@ -11,7 +11,7 @@ use crate::expressions::first_of;
 use crate::learning::learn_condition;
 use crate::walk::expression_unsafe;
 use std::alloc::{AllocError, Global};
-use td_core::actions::{Action, Step};
+use td_core::actions::{Action, ActionStep};
 use td_core::expressions::CoreExpr;
 use td_expr::safety::Unsafe;
 
@@ -65,20 +65,20 @@ fn steps_unsafe<'a>(
     ensures memory { OnErr result (HasParts action.now) }
 {
     match &action.step {
-        Step::Done | Step::Abort => Ok(None),
-        Step::Set(_, e, then) => {
+        ActionStep::Done | ActionStep::Abort => Ok(None),
+        ActionStep::Set(_, e, then) => {
             let own = expression_unsafe(alloc, e, known)?;
             let later = steps_unsafe(alloc, then, known)?;
             Ok(first_of(own, later))
         }
-        Step::Read(_, then) => steps_unsafe(alloc, then, known),
-        Step::If(e, one, other, then) => {
+        ActionStep::Read(_, then) => steps_unsafe(alloc, then, known),
+        ActionStep::If(e, one, other, then) => {
             let own = expression_unsafe(alloc, e, known)?;
             let first = branch_unsafe(alloc, true, e, one, known)?;
             let second = branch_unsafe(alloc, false, e, other, known)?;
             let later = steps_unsafe(alloc, then, known)?;
             Ok(first_of(own, first_of(first, first_of(second, later))))
         }
-        Step::Return(e) => expression_unsafe(alloc, e, known),
+        ActionStep::Return(e) => expression_unsafe(alloc, e, known),
     }
 }

@@ -181,7 +181,7 @@ fn run_call(
     run_front(session, entry, args, cells, cell_count, layout, words, rows)
 }
 
-fn told(verdict: Verdict) -> (u32, u32)
+fn verdict_numbers(verdict: Verdict) -> (u32, u32)
     ensures { (result.0 ≡ position_told verdict) × (result.1 ≡ reason_told verdict) }
 {
     match verdict {
@@ -218,7 +218,7 @@ pub(crate) fn validate(
     } = run_call(session, call, layout, words, rows);
     match verdict {
         Some((verdict, steps)) => {
-            let (position, reason) = told(verdict);
+            let (position, reason) = verdict_numbers(verdict);
             call.position = position;
             call.reason = reason;
             call.frame_count = session.trace().len() as u64;

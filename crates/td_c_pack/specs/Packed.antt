@@ -1,6 +1,6 @@
 -- What C is answered of a module text (own rule; capi/td_pack.h).
 use Rattle.std.specs.Prelude.{◌≡◌, ◌⊎◌, ℕ, ℤ, pos, ◌<◌, ◌≤◌, ◌↔◌, List, length, take, drop}
-use Rattle.td_code.specs.Coding.{IsImageOf}
+use Rattle.td_code.specs.Compile.{IsImageOf}
 use Rattle.td_front.specs.declared.error.FrontError.{FrontError}
 use Rattle.td_front.specs.ModuleText.{RefusedBy}
 use Rattle.td_c_pack.specs.declared.refusal.TdPacked.{TdPacked}

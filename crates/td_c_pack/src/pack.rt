@@ -3,7 +3,7 @@
 ghost use Rattle.std.specs.Prelude.{◌≡◌, ◌≤◌, ◌<◌, ◌-◌, ◌^◌, ◌⊎◌, ◌↔◌, length, take, drop, pos, IfOk, IfErr};
 ghost use Rattle.td_front.specs.declared.error.FrontError.{FrontError};
 ghost use Rattle.td_front.specs.ModuleText.{RefusedBy};
-ghost use Rattle.td_code.specs.Coding.{IsImageOf};
+ghost use Rattle.td_code.specs.Compile.{IsImageOf};
 ghost use Rattle.td_c_pack.specs.Packed.{IsPacking, TellsSize};
 
 use crate::refusal::{TdPacked, tell_refusal};

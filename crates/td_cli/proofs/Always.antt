@@ -24,7 +24,7 @@ use Rattle.td_cli.specs.declared.tool.TheConstants.{INPUT_LIMIT}
 use Rattle.td_cli.specs.Answers.{Admits, Refuses}
 use Rattle.td_cli.specs.Bench.{HaveModules, HasJob, IsMessageOf, AdmitsBench, RefusesBench}
 use Rattle.td_cli.proofs.Benches.{text_module}
-use Rattle.td_cli_input.specs.Marker.{text_part, job_part}
+use Rattle.td_cli_input.specs.Marker.{module_part, job_part}
 use Rattle.td_cli.specs.Laws.{AlwaysOne}
 use Rattle.td_cli_input.proofs.Markers.{marker_below}
 
@@ -47,7 +47,7 @@ job_short : {J : Type 0} (Is : Kind J) (Bad : Faults) → AlwaysOneText → ((by
     → (input : List ℕ) → ((m : Module) × (job : J) × IsInputOf Is input m job) ⊎ ((refusal : Refusal) × RefusesInput Bad input refusal)
 job_short Is Bad texts jobs input = elim (marker_below input (length input)) [
   | inr none ↦ inr (NoJob, λ n h. none n h.within h)
-  | inl (n, first) ↦ elim (texts (text_part input n)) [
+  | inl (n, first) ↦ elim (texts (module_part input n)) [
     | inr (e, h) ↦ inr (BadModule e, (n, first, h))
     | inl (m, h) ↦ elim (jobs (job_part input n) m) [
       | inl (job, good) ↦ inl (m, job, record { place = n; marker = first; text = h; good = good })

@@ -7,8 +7,8 @@ use Rattle.td_cli.specs.declared.status.Status.{Status}
 use Rattle.td_cli.specs.declared.status.Status.TheVariants as at
 use Rattle.td_cli.specs.Answers.{Answers, Admits, Refuses}
 use Rattle.td_cli.specs.Lines.{memory_line, refusal_line}
-use Rattle.td_cli.specs.Ends.{Passage}
-use Rattle.td_cli.specs.Endings.{EndsWith, NeedsMemory, AnswersInput}
+use Rattle.td_cli.specs.CallEnds.{Passage}
+use Rattle.td_cli.specs.InputEnds.{EndsWith, NeedsMemory, AnswersInput}
 use Rattle.td_cli.proofs.Calls.{ends_or_fails}
 
 -- an output that answers the input goes to `out`, where nothing refuses the input

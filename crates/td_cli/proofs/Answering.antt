@@ -26,7 +26,7 @@ use Rattle.td_cli_host.specs.Rings.{RingsAreRead}
 use Rattle.td_cli_host.proofs.Refusals.{same_rings, read_by, never_both as both_rings}
 use Rattle.td_job.specs.Laws.{OneJobEach, NeverBoth as NeverBothJobs, OneNamedJobEach, NeverBothNamed}
 use Rattle.td_gen.specs.Laws.{OneMessageEach}
-use Rattle.td_code.specs.Coding.{IsListing, IsPacked}
+use Rattle.td_code.specs.Compile.{IsListing, IsPacked}
 use Rattle.td_code.specs.Laws.{OneListing, OnePacked}
 use Rattle.td_report.specs.Report.{report}
 use Rattle.td_report.specs.Summary.{summary}
@@ -36,7 +36,7 @@ use Rattle.td_cli_input.specs.declared.refusal.Refusal.TheVariants.{TooLong, NoJ
 use Rattle.td_cli.specs.declared.tool.TheConstants.{INPUT_LIMIT}
 use Rattle.td_cli.specs.Run.{IsRunOf}
 use Rattle.td_cli.specs.Answers.{IsReport, IsSummary, IsTidy}
-use Rattle.td_cli_input.specs.Marker.{text_part, job_part}
+use Rattle.td_cli_input.specs.Marker.{module_part, job_part}
 use Rattle.td_cli.specs.Laws.{OneAnswer, AnsweredIsAdmitted, NeverBoth}
 use Rattle.td_cli.proofs.OneRun.{SomeCarry, same_run}
 use Rattle.td_cli.proofs.Benches.{one_bench, totals_admitted, never_refused}
@@ -53,8 +53,8 @@ one_report : OneModuleEach → OneJobEach → RunsAreOne → SomeCarry → (inpu
 one_report modules jobs one some input a b h g =
     let i = h.input_is in
     let j = g.input_is in
-    let text : IsModuleText (text_part input j.place) h.m = text_there (λ (t : List ℕ). IsModuleText t h.m) input i.place j.place i.marker j.marker i.text in
-    let m : h.m ≡ g.m = modules (text_part input j.place) h.m g.m text j.text in
+    let text : IsModuleText (module_part input j.place) h.m = text_there (λ (t : List ℕ). IsModuleText t h.m) input i.place j.place i.marker j.marker i.text in
+    let m : h.m ≡ g.m = modules (module_part input j.place) h.m g.m text j.text in
     let J : Module → Type 0 = λ x. IsRunJob (job_part input j.place) x h.job in
     let good : IsRunJob (job_part input j.place) g.m h.job = subst J m (job_there (λ (t : List ℕ). IsRunJob t h.m h.job) input i.place j.place i.marker j.marker i.good) in
     let job : h.job ≡ g.job = jobs (job_part input j.place) g.m h.job g.job good j.good in
@@ -122,7 +122,7 @@ answered_admitted (Bench n) input output h = totals_admitted n h.0 h.1
 refused : {J : Type 0} (Is : Kind J) (Bad : Faults) → OneModuleEach → NeverBothTexts → ((bytes : List ℕ) (m : Module) (j : J) (e : JobError) → Is bytes m j → Bad bytes m e → ⊥)
     → (input : List ℕ) (m : Module) (job : J) → IsInputOf Is input m job → (refusal : Refusal) → RefusesInput Bad input refusal → ⊥
 refused Is Bad modules texts jobs input m job h refusal g =
-    nothing_refuses Bad input h.place m h.marker (λ x k. modules (text_part input h.place) m x h.text k) (λ e k. texts (text_part input h.place) m e h.text k) (λ e k. jobs (job_part input h.place) m job e h.good k) refusal g
+    nothing_refuses Bad input h.place m h.marker (λ x k. modules (module_part input h.place) m x h.text k) (λ e k. texts (module_part input h.place) m e h.text k) (λ e k. jobs (job_part input h.place) m job e h.good k) refusal g
 
 pub never_both : OneModuleEach → NeverBothTexts → NeverBothJobs → OneHostJobEach → NeverBothHost → OneMessageEach → NeverBothNamed → NeverBoth
 never_both modules texts jobs one hosts messages named Check input TooLong h g = let short : length input ≤ INPUT_LIMIT = h.0 in let over : INPUT_LIMIT < length input = g in omega arith

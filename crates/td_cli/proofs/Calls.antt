@@ -18,8 +18,8 @@ use Rattle.td_cli.specs.Answers.{Admits, Refuses}
 use Rattle.td_cli.specs.Errors.{unread_status, unread_line}
 use Rattle.td_cli.specs.Lines.{usage_line, read_line, memory_line, refusal_line}
 use Rattle.td_io.specs.declared.reading.TheConstants.{PIECE}
-use Rattle.td_cli.specs.Ends.{Passage, passage, CallEnds, IsHandedOn, StopsReading, WriteFails, ReadFails, NoReadFails, WithinLimit, Held, Reads, Took, Saw, Tells, MayLackMemory, IsOutput, IsErrorLine, EndsAs}
-use Rattle.td_cli.specs.Endings.{EndsWith, EndsWithOutput, EndsWithLine, InputEnds}
+use Rattle.td_cli.specs.CallEnds.{Passage, passage, CallEnds, IsHandedOn, StopsReading, WriteFails, ReadFails, NoReadFails, WithinLimit, Held, Reads, Took, Saw, Tells, MayLackMemory, IsOutput, IsErrorLine, EndsAs}
+use Rattle.td_cli.specs.InputEnds.{EndsWith, EndsWithOutput, EndsWithLine, InputEnds}
 
 -- ---- text that goes out
 

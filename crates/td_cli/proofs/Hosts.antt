@@ -11,17 +11,17 @@ use Rattle.td_cli_input.specs.declared.refusal.InputError.TheVariants.{Refused, 
 use Rattle.td_cli_input.specs.Causes.{HasCause}
 use Rattle.td_cli_input.specs.Marker.{IsMarker}
 use Rattle.td_cli_input.specs.Inputs.{IsHostInput}
-use Rattle.td_cli_host.specs.declared.serving.ServedInput.{ServedInput}
-use Rattle.td_cli_host.specs.Rings.{RingsAreRead, at_desc}
-use Rattle.td_cli_host.specs.Serving.{IsServedInput, RefusesServing}
+use Rattle.td_cli_host.specs.declared.served_input.ServedInput.{ServedInput}
+use Rattle.td_cli_host.specs.Rings.{RingsAreRead, descriptor_entry}
+use Rattle.td_cli_host.specs.ServedInput.{IsServedInput, RefusesServing}
 use Rattle.td_cli_command.specs.declared.command.Command.TheVariants.{Host}
 use Rattle.td_cli.specs.declared.status.Status.{Status}
 use Rattle.td_cli.specs.declared.status.Status.TheVariants as at
 use Rattle.td_cli.specs.declared.tool.TheConstants.{INPUT_LIMIT}
 use Rattle.td_cli.specs.Answers.{Refuses}
 use Rattle.td_cli.specs.Errors.{unanswered_status, unanswered_line}
-use Rattle.td_cli.specs.Ends.{Passage}
-use Rattle.td_cli.specs.Endings.{EndsWith, AnswersInput}
+use Rattle.td_cli.specs.CallEnds.{Passage}
+use Rattle.td_cli.specs.InputEnds.{EndsWith, AnswersInput}
 use Rattle.td_cli_input.proofs.Markers.{marker_there}
 use Rattle.td_cli.proofs.Answered.{output_answers, refusal_answers, memory_answers}
 
@@ -42,9 +42,9 @@ refuses_host input NoRing short h = h.1
 -- the report of the replies and takes goes out
 pub host_answers : (input : List ℕ) (s : ServedInput) (out err : Passage SinkState) (result : Status)
     → length input ≤ INPUT_LIMIT → IsServedInput input s.formats s.entries s.replies s.ring s.takes → ((refusal : Refusal) → RefusesServing input refusal → ⊥)
-    → EndsWith at.Done (host_report s.formats s.entries s.replies (at_desc s.ring) s.takes) out result → err.Untouched → AnswersInput Host input out err result
+    → EndsWith at.Done (host_report s.formats s.entries s.replies (descriptor_entry s.ring) s.takes) out result → err.Untouched → AnswersInput Host input out err result
 host_answers input s out err result short is never h free =
-    output_answers Host input (host_report s.formats s.entries s.replies (at_desc s.ring) s.takes) out err result
+    output_answers Host input (host_report s.formats s.entries s.replies (descriptor_entry s.ring) s.takes) out err result
     (short, record { formats = s.formats; entries = s.entries; replies = s.replies; ring = s.ring; takes = s.takes; served = is; text_is = refl })
     (λ refusal refuses. never refusal (refuses_host input refusal short refuses)) h free
 

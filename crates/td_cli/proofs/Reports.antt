@@ -10,10 +10,10 @@ use Rattle.td_front.specs.Laws.{ModulesAreChecked}
 use Rattle.td_job.specs.declared.run_job.RunJob.{RunJob}
 use Rattle.td_report.specs.Laws.{IsShownLoad, shown_loads, ReportsDetermineOutcomes, ShownLoadsAreOne}
 use Rattle.td_report.specs.Report.{report}
-use Rattle.td_report_facts.specs.Laws.{IsSized, JobsAreSized, ModulesHaveWords, IsTold, RunsAreTold, LoadsAreTold}
+use Rattle.td_report_facts.specs.Laws.{IsSized, JobsAreSized, ModulesHaveWords, IsReportableOutcome, RunsAreReportable, LoadsAreReportable}
 use Rattle.td_cli.specs.Run.{message_of, IsRunOf}
 use Rattle.td_cli.specs.Answers.{IsReport}
-use Rattle.td_cli_input.specs.Marker.{text_part, job_part}
+use Rattle.td_cli_input.specs.Marker.{module_part, job_part}
 use Rattle.td_cli.specs.Laws.{ReportsDetermineRuns}
 use Rattle.td_cli.proofs.OneRun.{SomeCarry}
 use Rattle.td_num.proofs.Digits.{are_bytes as bytes_of}
@@ -23,26 +23,26 @@ pub record Below : Type 0 where
   pub checked : ModulesAreChecked
   pub sized : JobsAreSized
   pub words : ModulesHaveWords
-  pub runs : RunsAreTold
-  pub loads : LoadsAreTold
+  pub runs : RunsAreReportable
+  pub loads : LoadsAreReportable
   pub carry : SomeCarry
   pub determine : ReportsDetermineOutcomes
   pub one : ShownLoadsAreOne
 
-run_told : Below → (m : Module) (job : RunJob) (o : Outcome) (loads : List Load) → IsChecked m → IsSized m job → IsRunOf m job o loads → IsTold m job.entry o
+run_told : Below → (m : Module) (job : RunJob) (o : Outcome) (loads : List Load) → IsChecked m → IsSized m job → IsRunOf m job o loads → IsReportableOutcome m job.entry o
 run_told below m job o loads c s h =
     let message = below.carry (message_of job) loads h.fetched.rising in
     let bytes = bytes_of message.0 message.2 in
-    subst (IsTold m job.entry) (h.fetched.holds message.0 message.1 bytes).same (below.runs m job message.0 c s bytes (message.1.size ∙ s.long))
+    subst (IsReportableOutcome m job.entry) (h.fetched.holds message.0 message.1 bytes).same (below.runs m job message.0 c s bytes (message.1.size ∙ s.long))
 
 module _ (below : Below) (input text : List ℕ) (a : IsReport input text) where
   is_checked : IsChecked a.m
-  is_checked = below.checked (text_part input a.input_is.place) a.m a.input_is.text
+  is_checked = below.checked (module_part input a.input_is.place) a.m a.input_is.text
 
   is_sized : IsSized a.m a.job
   is_sized = below.sized (job_part input a.input_is.place) a.m a.job is_checked a.input_is.good
 
-  told : IsTold a.m a.job.entry a.outcome
+  told : IsReportableOutcome a.m a.job.entry a.outcome
   told = run_told below a.m a.job a.outcome a.loads is_checked is_sized a.run
 
   shown : All (IsShownLoad a.job.layout) a.loads
@@ -52,7 +52,7 @@ pub reports_determine_runs : Below → ReportsDetermineRuns
 reports_determine_runs below one other text a b same =
     let words = below.words a.m (is_checked below one text a) in
     let first = told below one text a in
-    let second : IsTold a.m b.job.entry b.outcome = subst (λ m. IsTold m b.job.entry b.outcome) (sym same) (told below other text b) in
+    let second : IsReportableOutcome a.m b.job.entry b.outcome = subst (λ m. IsReportableOutcome m b.job.entry b.outcome) (sym same) (told below other text b) in
     let equal : report a.outcome a.m a.job.entry a.loads a.job.layout a.job.written ≡ report b.outcome a.m b.job.entry b.loads b.job.layout b.job.written = sym a.text_is ∙ b.text_is ∙ ap (λ m. report b.outcome m b.job.entry b.loads b.job.layout b.job.written) (sym same) in
     let one_shown = shown below one text a in
     let other_shown = shown below other text b in

@@ -19,8 +19,8 @@ use Rattle.td_cli.specs.Errors.{unanswered_status, unanswered_line}
 use Rattle.td_cli_input.specs.Causes.{HasCause}
 use Rattle.td_cli_input.specs.Marker.{IsMarker}
 use Rattle.td_cli.specs.Run.{IsRunOf}
-use Rattle.td_cli.specs.Ends.{Passage}
-use Rattle.td_cli.specs.Endings.{EndsWith, AnswersInput}
+use Rattle.td_cli.specs.CallEnds.{Passage}
+use Rattle.td_cli.specs.InputEnds.{EndsWith, AnswersInput}
 use Rattle.td_cli_input.proofs.Markers.{marker_there}
 use Rattle.td_cli.proofs.Answered.{output_answers, refusal_answers, memory_answers}
 

@@ -18,8 +18,8 @@ use Rattle.td_cli.specs.declared.tool.TheConstants.{INPUT_LIMIT}
 use Rattle.td_cli.specs.Answers.{Answers, Admits, Refuses, RefusesCheck}
 use Rattle.td_cli.specs.Errors.{unanswered_status, unanswered_line}
 use Rattle.td_cli.specs.Texts.{AnswersText}
-use Rattle.td_cli.specs.Ends.{Passage}
-use Rattle.td_cli.specs.Endings.{EndsWith, NeedsMemory, AnswersInput}
+use Rattle.td_cli.specs.CallEnds.{Passage}
+use Rattle.td_cli.specs.InputEnds.{EndsWith, NeedsMemory, AnswersInput}
 use Rattle.td_cli.proofs.Answered.{output_answers, refusal_answers, memory_answers}
 
 -- the command's input is a module text: it refuses what is none and what is too long, and nothing else

@@ -9,7 +9,7 @@ use Rattle.td_job.specs.declared.run_job.RunJob.{RunJob}
 use Rattle.td_report.specs.Report.{report}
 use Rattle.td_report.specs.Summary.{summary}
 use Rattle.td_print_layout.specs.Definitions.{canonical_text}
-use Rattle.td_code.specs.Coding.{IsListing, IsImageOf}
+use Rattle.td_code.specs.Compile.{IsListing, IsImageOf}
 use Rattle.td_cli_command.specs.declared.command.Command.{Command}
 use Rattle.td_cli_command.specs.declared.command.Command.TheVariants.{Check as CheckCommand, Tidy as TidyCommand, Code as CodeCommand, Pack as PackCommand, Run as RunCommand, Host as HostCommand, Bench as BenchCommand}
 use Rattle.td_cli_input.specs.declared.refusal.Refusal.{Refusal}
@@ -18,7 +18,7 @@ use Rattle.td_cli.specs.declared.tool.TheConstants.{INPUT_LIMIT}
 use Rattle.td_posts.specs.declared.job.HostJob.{HostJob}
 use Rattle.td_cli_input.specs.Inputs.{IsRunInput, RefusesRun, IsHostInput}
 use Rattle.td_cli_host.specs.Rings.{RingsAreRead}
-use Rattle.td_cli_host.specs.Serving.{IsHostReport, RefusesServing}
+use Rattle.td_cli_host.specs.ServedInput.{IsHostReport, RefusesServing}
 use Rattle.td_cli.specs.Run.{IsRunOf}
 use Rattle.td_cli.specs.Bench.{IsBench, AdmitsBench, RefusesBench}
 

@@ -7,6 +7,6 @@ pub mod Answers
 pub mod Texts
 pub mod Errors
 pub mod Lines
-pub mod Ends
-pub mod Endings
+pub mod CallEnds
+pub mod InputEnds
 pub mod Laws

@@ -3,8 +3,8 @@
 ghost use Rattle.std.specs.Prelude.{◌<◌, ◌≤◌, ◌-◌, ◌^◌, length};
 ghost use Rattle.td_front.specs.ModuleText.{IsModuleText};
 ghost use Rattle.td_cli_command.specs.declared.command.Command.TheVariants as commands;
-ghost use Rattle.td_cli.specs.Ends.{passage};
-ghost use Rattle.td_cli.specs.Endings.{AnswersInput};
+ghost use Rattle.td_cli.specs.CallEnds.{passage};
+ghost use Rattle.td_cli.specs.InputEnds.{AnswersInput};
 ghost use Rattle.td_cli.specs.Texts.{AnswersText};
 
 use crate::finish::{finish_summary, finish_unanswered};

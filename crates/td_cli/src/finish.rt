@@ -6,12 +6,12 @@ ghost use Rattle.std.specs.List.{All};
 ghost use Rattle.td_stream.specs.Layouts.{IsNumberOf};
 ghost use Rattle.td_report.specs.Report.{report};
 ghost use Rattle.td_report_host.specs.Report.{host_report};
-ghost use Rattle.td_cli_host.specs.Rings.{at_desc};
-ghost use Rattle.td_cli_host.specs.Serving.{CanBeShown};
+ghost use Rattle.td_cli_host.specs.Rings.{descriptor_entry};
+ghost use Rattle.td_cli_host.specs.ServedInput.{CanBeShown};
 ghost use Rattle.td_report.specs.Summary.{summary};
 ghost use Rattle.td_cli.specs.Totals.{totals_text};
-ghost use Rattle.td_cli.specs.Ends.{passage};
-ghost use Rattle.td_cli.specs.Endings.{EndsWith};
+ghost use Rattle.td_cli.specs.CallEnds.{passage};
+ghost use Rattle.td_cli.specs.InputEnds.{EndsWith};
 ghost use Rattle.td_cli.specs.Errors.{unanswered_line, unanswered_status, unread_line, unread_status};
 ghost use Rattle.td_cli.specs.Lines.{memory_line, refusal_line};
 
@@ -19,7 +19,7 @@ use crate::lines::{MEMORY, READ, write_refusal};
 use crate::run::FinishedRun;
 use crate::status::Status;
 use crate::totals::{Totals, write_totals};
-use td_cli_host::serving::ServedInput;
+use td_cli_host::served_input::ServedInput;
 use td_cli_input::refusal::{InputError, Refusal};
 use td_core::module::{Entry, Module};
 use td_io::{ReadError, Sink, write_all};
@@ -97,8 +97,8 @@ pub(crate) fn finish_report<O: Sink>(run: &FinishedRun, out: &mut O) -> Status
 }
 
 // The module of descriptors, with its entry point.
-fn at_desc(ring: Option<&Module>) -> Option<(&Module, Entry)>
-    ensures { option_map (λ r. (r.0.now, r.1)) result ≡ at_desc (option_map (λ m. m.now) ring.entry) }
+fn descriptor_entry(ring: Option<&Module>) -> Option<(&Module, Entry)>
+    ensures { option_map (λ r. (r.0.now, r.1)) result ≡ descriptor_entry (option_map (λ m. m.now) ring.entry) }
 {
     match ring {
         None => None,
@@ -110,14 +110,14 @@ fn at_desc(ring: Option<&Module>) -> Option<(&Module, Entry)>
 pub(crate) fn finish_served<O: Sink>(served: &ServedInput, out: &mut O) -> Status
     requires { CanBeShown served.now.formats served.now.entries served.now.replies served.now.takes }
     ensures { EndsWith Status.Done
-        (host_report served.now.formats served.now.entries served.now.replies (at_desc served.now.ring) served.now.takes)
+        (host_report served.now.formats served.now.entries served.now.replies (descriptor_entry served.now.ring) served.now.takes)
         (passage O.state out.old out.new) result }
 {
     match host_report(
         served.formats.as_slice(),
         served.entries.as_slice(),
         served.replies.as_slice(),
-        at_desc(served.ring.as_ref()),
+        descriptor_entry(served.ring.as_ref()),
         served.takes.as_slice(),
         out,
     ) {

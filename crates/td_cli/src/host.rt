@@ -3,8 +3,8 @@
 
 ghost use Rattle.std.specs.Prelude.{◌≡◌, ◌≤◌, ◌*◌, length};
 ghost use Rattle.td_cli_command.specs.declared.command.Command.TheVariants as commands;
-ghost use Rattle.td_cli.specs.Ends.{passage};
-ghost use Rattle.td_cli.specs.Endings.{AnswersInput};
+ghost use Rattle.td_cli.specs.CallEnds.{passage};
+ghost use Rattle.td_cli.specs.InputEnds.{AnswersInput};
 
 use crate::finish::{finish_served, finish_unanswered};
 use crate::status::Status;
@@ -13,7 +13,7 @@ use std::alloc::AllocGlobal;
 use std::sync::Wait;
 use std::thread::Threads;
 use td_cli_host::gates::GATES_OF_EACH;
-use td_cli_host::serving::serve_input;
+use td_cli_host::served_input::serve_input;
 use td_io::Sink;
 use td_live::gate::Gate;
 

@@ -12,7 +12,9 @@ use td_job::laws as jobs;
 use td_job_host::laws as host_jobs;
 use td_lexer::tokens_are_the_splitting;
 use td_report::laws::{reports_determine_outcomes, shown_loads_are_one};
-use td_report_facts::laws::{jobs_are_sized, loads_are_told, modules_have_words, runs_are_told};
+use td_report_facts::laws::{
+    jobs_are_sized, loads_are_reportable, modules_have_words, runs_are_reportable,
+};
 use td_stream::laws::some_message_carries;
 
 /// A command but `host` answers an input with at most one output: so the report of a run is one function of its input.
@@ -62,8 +64,8 @@ pub fn reports_determine_runs()
     front::modules_are_checked();
     jobs_are_sized();
     modules_have_words();
-    runs_are_told();
-    loads_are_told();
+    runs_are_reportable();
+    loads_are_reportable();
     some_message_carries();
     reports_determine_outcomes();
     shown_loads_are_one();

@@ -1,10 +1,10 @@
 //! The command `pack`: the image of the code of a module text that is accepted.
 
 ghost use Rattle.std.specs.Prelude.{◌<◌, ◌≤◌, ◌-◌, ◌^◌, length};
-ghost use Rattle.td_code.specs.Coding.{IsImageOf};
+ghost use Rattle.td_code.specs.Compile.{IsImageOf};
 ghost use Rattle.td_cli_command.specs.declared.command.Command.TheVariants as commands;
-ghost use Rattle.td_cli.specs.Ends.{passage};
-ghost use Rattle.td_cli.specs.Endings.{AnswersInput};
+ghost use Rattle.td_cli.specs.CallEnds.{passage};
+ghost use Rattle.td_cli.specs.InputEnds.{AnswersInput};
 ghost use Rattle.td_cli.specs.Texts.{AnswersText};
 
 use crate::finish::{finish_bytes, finish_unanswered};

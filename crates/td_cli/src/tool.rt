@@ -4,9 +4,9 @@ ghost use Rattle.std.specs.Prelude.{◌≡◌, ◌≢◌, ◌≤◌, ◌⊎◌, 
 ghost use Rattle.td_cli_input.specs.declared.refusal.Refusal.{Refusal};
 ghost use Rattle.td_cli.specs.Answers.{Admits, Refuses};
 ghost use Rattle.td_cli_command.specs.Command.{IsInRange, Means};
-ghost use Rattle.td_cli.specs.Ends.{CallEnds, EndsAs, IsHandedOn, Reads, StopsReading, passage};
+ghost use Rattle.td_cli.specs.CallEnds.{CallEnds, EndsAs, IsHandedOn, Reads, StopsReading, passage};
 ghost use Rattle.td_cli.specs.Laws.{IsAlone};
-ghost use Rattle.td_cli.specs.Endings.{AnswersInput};
+ghost use Rattle.td_cli.specs.InputEnds.{AnswersInput};
 
 use crate::bench::answer_bench;
 use crate::check::answer_check;

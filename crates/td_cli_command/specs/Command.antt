@@ -50,13 +50,13 @@ unfoldable pub bench : Shape
 bench = record (new_shape (codes "bench")) { rules = record (new_rule (codes "N")) { required = true; action = Some Set } ∷ [] }
 
 -- the program and its commands
-unfoldable pub tool : App
-tool = on_top (λ top. record top { subcommand_required = true }) (with_subcommand (with_subcommand (with_subcommand (with_subcommand (with_subcommand (with_subcommand (with_subcommand (new_app (codes "td")) (new_shape (codes "check"))) (new_shape (codes "tidy"))) (new_shape (codes "run"))) (new_shape (codes "host"))) (new_shape (codes "code"))) (new_shape (codes "pack"))) bench)
+unfoldable pub command_app : App
+command_app = on_top (λ top. record top { subcommand_required = true }) (with_subcommand (with_subcommand (with_subcommand (with_subcommand (with_subcommand (with_subcommand (with_subcommand (new_app (codes "td")) (new_shape (codes "check"))) (new_shape (codes "tidy"))) (new_shape (codes "run"))) (new_shape (codes "host"))) (new_shape (codes "code"))) (new_shape (codes "pack"))) bench)
 
 -- `clap` takes the words, of which the first is the program's name, and finds this command in them. `--help`, `help`,
 -- `--version` and a further word are faults of the words, as is a word that names no command
 abbrev pub Means : List (List ℕ) → Command → Type 0
-Means words command = (fault_of tool words ≡ []) × Is (length words) (subcommand_of tool words) command
+Means words command = (fault_of command_app words ≡ []) × Is (length words) (subcommand_of command_app words) command
 
 -- they mean no command
 abbrev pub MeansNone : List (List ℕ) → Type 0

@@ -2,7 +2,7 @@
 
 ghost use Rattle.std.specs.Prelude.{◌≡◌, ◌≢◌, ◌≤◌, ◌↔◌, ℕ, IfOk, IsTrue, MatchOption, MatchResult, None, decimal, map, option_map, string_bytes};
 ghost use Rattle.clap.specs.Words.{app_of, kind_of, subcommand_rows_of};
-ghost use Rattle.td_cli_command.specs.Command.{Is, IsNamed, Means, MeansNone, tool};
+ghost use Rattle.td_cli_command.specs.Command.{Is, IsNamed, Means, MeansNone, command_app};
 
 use clap::error::ErrorKind;
 use clap::{Arg, ArgAction, ArgMatches};
@@ -88,7 +88,7 @@ fn number_of(matches: &ArgMatches, count: usize) -> Option<u32>
 }
 
 // The command of this name, where there is a name; `bench` with this number of messages, where there is one.
-fn found(name: Option<&str>, number: Option<u32>) -> Option<Command>
+fn named_command(name: Option<&str>, number: Option<u32>) -> Option<Command>
     ensures { IsNamed (option_map (λ text. text.now) name.entry) number result }
 {
     match name {
@@ -107,8 +107,8 @@ fn found(name: Option<&str>, number: Option<u32>) -> Option<Command>
 }
 
 // The command line as `clap` knows it.
-fn tool<'a>(alloc: Global) -> Result<clap::Command<'a>, AllocError>
-    ensures { IfOk result (λ c. app_of c ≡ tool) }
+fn command_app<'a>(alloc: Global) -> Result<clap::Command<'a>, AllocError>
+    ensures { IfOk result (λ c. app_of c ≡ command_app) }
 {
     let tool = clap::Command::new(alloc, "td");
     let check = clap::Command::new(alloc, "check");
@@ -147,11 +147,11 @@ fn meant_by(error: &clap::Error) -> Result<Option<Command>, AllocError>
 pub fn command_of(alloc: Global, words: &[String]) -> Result<Option<Command>, AllocError>
     ensures { IfOk result (λ found. MatchOption found (MeansNone (map string_bytes words.now)) (Means (map string_bytes words.now))) }
 {
-    let tool = tool(alloc)?;
+    let tool = command_app(alloc)?;
     match tool.try_get_matches_from(words) {
         Ok(matches) => {
             let number = number_of(&matches, words.len());
-            Ok(found(matches.subcommand_name(), number))
+            Ok(named_command(matches.subcommand_name(), number))
         }
         Err(error) => meant_by(&error),
     }

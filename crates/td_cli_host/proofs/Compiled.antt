@@ -15,7 +15,7 @@ use Rattle.td_lower_means.specs.CodeRun.{IsCodeOf, ArgumentsFit}
 use Rattle.td_cli_input.specs.Inputs.{IsSoundHost, FitsVersions}
 use Rattle.td_cli_input.proofs.Sounds.{at_version}
 use Rattle.td_host_actors.specs.Replies.{IsJobCode}
-use Rattle.td_cli_host.specs.Serving.{AreCodesOf}
+use Rattle.td_cli_host.specs.ServedInput.{AreCodesOf}
 
 -- one code more, of one module more
 pub codes_more : (cs : List Parts) (ms : List Module) (c : Parts) (m : Module) → AreCodesOf cs ms → IsCodeOf c m → AreCodesOf (cs ++ c ∷ []) (ms ++ m ∷ [])

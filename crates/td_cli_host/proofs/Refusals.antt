@@ -13,16 +13,16 @@ use Rattle.td_cli_input.specs.declared.refusal.InputError.{InputError}
 use Rattle.td_cli_input.specs.declared.refusal.InputError.TheVariants.{Refused, NoMemory}
 use Rattle.td_cli_input.specs.Causes.{HasCause}
 use Rattle.td_cli_input.specs.Inputs.{IsHostInput, RefusesHost}
-use Rattle.td_cli_input.specs.Marker.{text_part, job_part}
+use Rattle.td_cli_input.specs.Marker.{module_part, job_part}
 use Rattle.td_cli_input.proofs.Inputs.{text_there, job_there}
 use Rattle.td_cli_host.specs.Rings.{RingsAreRead, NoRingModule, IsRingOf}
-use Rattle.td_cli_host.specs.Serving.{RefusesServing}
+use Rattle.td_cli_host.specs.ServedInput.{RefusesServing}
 
 -- an input stands for one job
 pub same_rings : OneModuleEach → OneHostJobEach → (input : List ℕ) (m n : Module) (job other : HostJob) → IsHostInput input m job → IsHostInput input n other → job.rings ≡ other.rings
 same_rings modules one input m n job other a b =
-    let text : IsModuleText (text_part input a.place) n = text_there (λ (t : List ℕ). IsModuleText t n) input b.place a.place b.marker a.marker b.text in
-    let same : m ≡ n = modules (text_part input a.place) m n a.text text in
+    let text : IsModuleText (module_part input a.place) n = text_there (λ (t : List ℕ). IsModuleText t n) input b.place a.place b.marker a.marker b.text in
+    let same : m ≡ n = modules (module_part input a.place) m n a.text text in
     let good : IsHostJob (job_part input a.place) n other = job_there (λ (t : List ℕ). IsHostJob t n other) input b.place a.place b.marker a.marker b.good in
     ap (λ (j : HostJob). j.rings) (one (job_part input a.place) n job other (subst (λ (x : Module). IsHostJob (job_part input a.place) x job) same a.good) good)
 

@@ -32,7 +32,7 @@ use Rattle.td_cli_input.proofs.Sounds.{at_version}
 use Rattle.td_report_host.specs.Report.{HasMessageWords, HasVersion}
 use Rattle.td_report_host.specs.Laws.{IsReportable}
 use Rattle.td_report_facts.proofs.Laid.{SmallLoad, of_64_bits, plainly_shown, shown_by_stretches}
-use Rattle.td_report_facts.specs.Laws.{AreSized, StoresSmall, IsHostSized, HostJobsAreSized, ModulesHaveWords, IsTold, RepliesAreTold}
+use Rattle.td_report_facts.specs.Laws.{AreSized, StoresSmall, IsHostSized, HostJobsAreSized, ModulesHaveWords, IsReportableOutcome, RepliesAreReportable}
 use Rattle.td_num.proofs.Digits.{are_bytes as bytes_of}
 
 -- ---- lists
@@ -195,22 +195,22 @@ pub record Below : Type 0 where
   pub checked : ModulesAreChecked
   pub sized : HostJobsAreSized
   pub words : ModulesHaveWords
-  pub told : RepliesAreTold
+  pub told : RepliesAreReportable
   pub carry : (layout : List Stretch) (ls : List Load) → IsRising ls → (b : List ℕ) × Carries layout b ls × All (λ x. x < 256) b
 
 abbrev pub Sized : Mail → Type 0
 Sized m = AreSized (list_of m)
 
 module _ (below : Below) (m : Module) (job : HostJob) (checked : All IsChecked job.formats) (sized : IsHostSized m job) where
-  reply_told : (p : Mail) (r : Reply) → (reply : IsReplyTo job p r) → IsShort p → IsTold reply.format reply.entry (outcome_in r)
+  reply_told : (p : Mail) (r : Reply) → (reply : IsReplyTo job p r) → IsShort p → IsReportableOutcome reply.format reply.entry (outcome_in r)
   reply_told p r reply short =
       let message = below.carry (layout_of p) r.loads.list reply.under.fetched.rising in
       let b = message.0 in
       let bytes : AreBytes b = bytes_of b message.2 in
       let long : length b ≤ 1048576 = (let size = message.1.size in let limit = short.bytes in omega (arith, size, limit)) in
       let own = at_version job.formats r.version reply.format checked reply.version.0 in
-      let told : IsTold reply.format reply.entry (outcome reply.format reply.entry job.args (zeros job.cells) b) = below.told m job b r.version reply.format reply.entry reply.version own sized bytes long in
-      subst (IsTold reply.format reply.entry) (reply.under.fetched.holds b message.1 bytes).same told
+      let told : IsReportableOutcome reply.format reply.entry (outcome reply.format reply.entry job.args (zeros job.cells) b) = below.told m job b r.version reply.format reply.entry reply.version own sized bytes long in
+      subst (IsReportableOutcome reply.format reply.entry) (reply.under.fetched.holds b message.1 bytes).same told
 
   reportable : (p : Mail) (r : Reply) → IsReplyTo job p r → SmallReply r → Numbered 4096 17 p → IsShort p → Sized p → IsReportable job.formats job.entries r
   reportable p r reply small numbered short sized_mail =

@@ -21,7 +21,7 @@ use Rattle.td_posts.specs.declared.ring.RingJob.{RingJob}
 use Rattle.td_posts.specs.Servable.{IsRingWithin}
 use Rattle.td_ir.specs.declared.tables.Parts.{Parts}
 use Rattle.td_lower_means.specs.CodeRun.{IsCodeOf, ArgumentsFit}
-use Rattle.td_descr.specs.Ring.{desc_entry, desc_args, desc_cells, IsRingCode, IsSoundOn, ReaderView}
+use Rattle.td_descr.specs.Ring.{desc_entry, desc_args, desc_cells, IsRingCode, IsDescSoundOn, ReaderView}
 use Rattle.td_descr.specs.Shape.{is_first, is_only, has_ring_shape, ShapeAcceptsWithin, ShapeFits, ShapeHasNoBuffers}
 use Rattle.td_host.specs.Gathered.{IsReaderOf, AreReadersOf}
 use Rattle.td_cli_host.specs.Rings.{ring_bytes, IsRingModule, RingsAreRead, IsRingOf, NoRingModule}
@@ -46,7 +46,7 @@ pub record Below : Type 0 where
 
 module _ (below : Below) (m : Module) (shape : has_ring_shape m ≡ true) (room most : ℕ) (few_room : room < 2 ^ 32) (few_most : most < 2 ^ 32) where
   -- each expression that it evaluates lies in its type's range
-  pub ring_sound : IsChecked m → (b : List ℕ) → AreBytes b → length b < 2 ^ 32 → IsSoundOn m room most b
+  pub ring_sound : IsChecked m → (b : List ℕ) → AreBytes b → length b < 2 ^ 32 → IsDescSoundOn m room most b
   ring_sound checked b bytes short =
       let place = got m.entries 0 (entry_there m shape) in
       let there : place.0 < length m.definitions = each_at (λ p. p < length m.definitions) m.entries 0 place.0 checked.whole.entries place.1 in

@@ -31,14 +31,14 @@ use Rattle.td_posts.specs.declared.job.HostJob.{HostJob}
 use Rattle.td_posts.specs.Posts.{outcome_in, zeros}
 use Rattle.td_live.specs.Live.{steps_for}
 use Rattle.td_report.specs.Laws.{IsShownLoad}
-use Rattle.td_report_facts.specs.Laws.{IsSizedLayout, IsHostSized, IsTold, OutcomesAreTold}
+use Rattle.td_report_facts.specs.Laws.{IsSizedLayout, IsHostSized, IsReportableOutcome, OutcomesAreReportable}
 use Rattle.td_report_facts.proofs.Laid.{SmallLoad, of_64_bits, plainly_shown, shown_by_stretches}
 use Rattle.td_descr.specs.declared.next.Next.{Next}
 use Rattle.td_descr.specs.declared.next.Next.TheVariants.{Idle, Overrun, Bad, Message}
 use Rattle.td_descr.specs.declared.next.Standing.{Standing}
 use Rattle.td_descr.specs.declared.next.Standing.TheVariants.{Nothing, Lost, Waiting}
 use Rattle.td_descr.specs.Words.{load_of, raised}
-use Rattle.td_descr.specs.Ring.{standing, desc_entry, desc_args, desc_cells, desc_bytes, answer, AreWithin}
+use Rattle.td_descr.specs.Ring.{standing, desc_entry, desc_args, desc_cells, desc_bytes, answer, CellsAreWithin}
 use Rattle.td_descr.specs.Shape.{has_ring_shape, ShapeAcceptsWithin, ShapeFits, ShapeHasNoBuffers}
 use Rattle.td_takes.specs.declared.take.Take.{Take}
 use Rattle.td_takes.specs.Takes.{ring_layout, message_layout, ring_steps, message_steps, take_steps, all_steps, loads_of, taken_after, IsDescriptor, IsMessage, HasMessage, IsAnswer, IsTake, AreTakes}
@@ -91,7 +91,7 @@ after_one taken (Message number place size id) = omega arith
 
 -- what the crates below say of descriptors
 pub record BelowTakes : Type 0 where
-  pub told : OutcomesAreTold
+  pub told : OutcomesAreReportable
   pub fits : ShapeFits
   pub within : ShapeAcceptsWithin
   pub none : ShapeHasNoBuffers
@@ -118,11 +118,11 @@ module _ (below : Below) (more : BelowTakes) (top : Module) (job : HostJob) (che
       let short : length b ≤ 1048576 = omega (arith, size) in
       (b, bytes, short, (h.fetched.holds b message.1 bytes).same)
 
-  descr_told : (most : ℕ) (d : Reply) → most ≤ 1048576 → IsDescriptor m room most d → IsTold m desc_entry (outcome_in d)
+  descr_told : (most : ℕ) (d : Reply) → most ≤ 1048576 → IsDescriptor m room most d → IsReportableOutcome m desc_entry (outcome_in d)
   descr_told most d low h =
       let c = carried most d h in
       let fit = more.fits m shape room most narrow (omega (arith, low)) in
-      subst (IsTold m desc_entry) c.3 (more.told m desc_entry (desc_args room most) desc_cells c.0 own (entry_there m shape) fit.0 fit.1 c.1 c.2)
+      subst (IsReportableOutcome m desc_entry) c.3 (more.told m desc_entry (desc_args room most) desc_cells c.0 own (entry_there m shape) fit.0 fit.1 c.1 c.2)
 
   descr_loads : (most : ℕ) (d : Reply) → IsDescriptor m room most d → All SmallLoad d.loads.list → All (IsShownLoad d.layout) d.loads.list
   descr_loads most d h small =
@@ -142,17 +142,17 @@ module _ (below : Below) (more : BelowTakes) (top : Module) (job : HostJob) (che
         run = record { named = told.named; frames = told.frames; cells = told.cells; copies = told.copies; loads = descr_loads most d h small };
       }
 
-  descr_within : (most pos : ℕ) (d : Reply) → IsDescriptor m room most d → d.verdict ≡ Accept pos → AreWithin room most d.cells.items
+  descr_within : (most pos : ℕ) (d : Reply) → IsDescriptor m room most d → d.verdict ≡ Accept pos → CellsAreWithin room most d.cells.items
   descr_within most pos d h accepts =
       let c = carried most d h in
       let end : List ℕ → Ending = λ cells. (meaning m desc_entry (desc_args room most) cells c.0).ending in
       let alone = opened_alone m desc_entry desc_cells (more.none m shape) in
-      let within : OnEnding (end (opened m desc_entry desc_cells)) (λ q cells. AreWithin room most cells) =
-      subst (λ (cells : List ℕ). OnEnding (end cells) (λ q cells. AreWithin room most cells)) (sym alone) (more.within m shape room most c.0 c.1) in
+      let within : OnEnding (end (opened m desc_entry desc_cells)) (λ q cells. CellsAreWithin room most cells) =
+      subst (λ (cells : List ℕ). OnEnding (end cells) (λ q cells. CellsAreWithin room most cells)) (sym alone) (more.within m shape room most c.0 c.1) in
       by c.0 (end (opened m desc_entry desc_cells)) c.3 within
     where
-      by : (b : List ℕ) (e : Ending) → outcome_of 3 b e ≡ outcome_in d → OnEnding e (λ q cells. AreWithin room most cells) → AreWithin room most d.cells.items
-      by b (Accepted q cells) same w = subst (AreWithin room most) (sym (take_all 3 cells (let n = w.count in omega (arith, n))) ∙ ap (λ (o : Outcome). o.cells) same) w
+      by : (b : List ℕ) (e : Ending) → outcome_of 3 b e ≡ outcome_in d → OnEnding e (λ q cells. CellsAreWithin room most cells) → CellsAreWithin room most d.cells.items
+      by b (Accepted q cells) same w = subst (CellsAreWithin room most) (sym (take_all 3 cells (let n = w.count in omega (arith, n))) ∙ ap (λ (o : Outcome). o.cells) same) w
       by b (Rejected reason q trace cells) same w = let verdict : Reject reason q ≡ d.verdict = ap (λ (o : Outcome). o.verdict) same in absurd (cc)
 
   -- ---- a message
@@ -166,8 +166,8 @@ module _ (below : Below) (more : BelowTakes) (top : Module) (job : HostJob) (che
       let length_is = message.1.size in
       let long : length b ≤ 1048576 = omega (arith, length_is, short) in
       let format = at_version job.formats 0 h.format checked h.version.0 in
-      let told : IsTold h.format h.entry (outcome h.format h.entry job.args (zeros job.cells) b) = below.told top job b 0 h.format h.entry h.version format sized bytes long in
-      let own_told : IsTold h.format h.entry (outcome_in r) = subst (IsTold h.format h.entry) (h.fetched.holds b message.1 bytes).same told in
+      let told : IsReportableOutcome h.format h.entry (outcome h.format h.entry job.args (zeros job.cells) b) = below.told top job b 0 h.format h.entry h.version format sized bytes long in
+      let own_told : IsReportableOutcome h.format h.entry (outcome_in r) = subst (IsReportableOutcome h.format h.entry) (h.fetched.holds b message.1 bytes).same told in
       let is_sized : IsSizedLayout layout = record { few = omega arith; places = All-cons (λ (s : Stretch). s.place < 2 ^ 64) (record { place = place; size = size }) [] low (All-nil (λ (s : Stretch). s.place < 2 ^ 64)) } in
       let limit : size + 0 ≤ 1048576 = omega (arith, short) in
       record {

@@ -10,15 +10,15 @@ use Rattle.td_host.specs.Hosts.{IsServedJob}
 use Rattle.td_report.specs.Laws.{HasWords, HasNoSpotWord}
 use Rattle.td_takes.specs.declared.take.Take.{Take}
 use Rattle.td_report_host.specs.Laws.{IsReportable, IsReportableTake, reported_reply, reported_take}
-use Rattle.td_cli_host.specs.Rings.{RingsAreRead, NoRingModule, at_desc}
-use Rattle.td_cli_host.specs.Serving.{IsServedInput, IsHostReport, CanBeShown}
+use Rattle.td_cli_host.specs.Rings.{RingsAreRead, NoRingModule, descriptor_entry}
+use Rattle.td_cli_host.specs.ServedInput.{IsServedInput, IsHostReport, CanBeShown}
 
 -- the names of each module can be read back, and so can each reply, at the entry point of its version, and each take
 pub record AreReportable (formats : List Module) (entries : List Entry) (replies : List Reply) (ring : Option Module) (takes : List Take) : Type 0 where
   pub words : All HasWords formats
   pub no_spot_word : All HasNoSpotWord formats
   pub each : All (IsReportable formats entries) replies
-  pub taken : All (IsReportableTake formats entries (at_desc ring)) takes
+  pub taken : All (IsReportableTake formats entries (descriptor_entry ring)) takes
 
 -- the replies and takes of an input that was served can be read back
 abbrev pub ServedAreReportable : Type 0

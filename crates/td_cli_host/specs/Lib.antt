@@ -1,3 +1,3 @@
 pub mod Rings
-pub mod Serving
+pub mod ServedInput
 pub mod Laws

@@ -34,5 +34,5 @@ IsRingOf [] m ring = ring ≡ None
 IsRingOf (r ∷ rings) m ring = IsRingModule m × (ring ≡ Some m)
 
 -- with the entry point of descriptors
-abbrev pub at_desc : Option Module → Option (Module × Entry)
-at_desc ring = option_map (λ m. (m, desc_entry)) ring
+abbrev pub descriptor_entry : Option Module → Option (Module × Entry)
+descriptor_entry ring = option_map (λ m. (m, desc_entry)) ring

@@ -5,7 +5,7 @@ ghost use Rattle.td_cli_host.specs.Laws.{HostReportsDetermineServed, RingsReadOr
 use td_descr::laws::{shape_fits, shape_has_no_buffers, shape_lies_within};
 use td_front::laws::{module_or_refusal, modules_are_checked, one_answer_each};
 use td_report_facts::laws::{
-    host_jobs_are_sized, modules_have_words, outcomes_are_told, replies_are_told,
+    host_jobs_are_sized, modules_have_words, outcomes_are_reportable, replies_are_reportable,
 };
 use td_report_host::laws::host_reports_determine_replies;
 use td_stream::laws::some_message_carries;
@@ -18,8 +18,8 @@ pub fn served_are_reportable()
     modules_are_checked();
     host_jobs_are_sized();
     modules_have_words();
-    replies_are_told();
-    outcomes_are_told();
+    replies_are_reportable();
+    outcomes_are_reportable();
     shape_fits();
     shape_lies_within();
     shape_has_no_buffers();

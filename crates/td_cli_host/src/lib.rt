@@ -6,4 +6,4 @@
 pub mod gates;
 pub mod laws;
 pub mod rings;
-pub mod serving;
+pub mod served_input;

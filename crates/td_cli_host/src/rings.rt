@@ -22,7 +22,7 @@ use td_posts::job::HostJob;
 use td_posts::ring::RingJob;
 
 /// A module text that is refused is none of descriptors. Out of memory is told as such.
-fn unread(error: FrontError) -> InputError
+fn ring_refusal(error: FrontError) -> InputError
     ensures memory { error ≡ FrontError.NoMemory → result ≡ InputError.NoMemory }
     ensures refused { error ≢ FrontError.NoMemory → result ≡ InputError.Refused Refusal.NoRing }
 {
@@ -39,7 +39,7 @@ fn ring_module(alloc: Global) -> Result<Module, InputError>
     ensures err { IfErr result (λ e. (e ≡ InputError.NoMemory) ⊎ ((e ≡ InputError.Refused Refusal.NoRing) × ((m : Module) → IsRingModule m → ⊥))) }
 {
     match check_module(alloc, ring_text()) {
-        Err(error) => Err(unread(error)),
+        Err(error) => Err(ring_refusal(error)),
         Ok(module) => if is_ring(&module) {
             Ok(module)
         } else {

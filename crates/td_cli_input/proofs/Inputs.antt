@@ -11,7 +11,7 @@ use Rattle.td_cli_input.specs.declared.refusal.Refusal.{Refusal}
 use Rattle.td_cli_input.specs.declared.refusal.Refusal.TheVariants.{TooLong, NoJob, BadModule, BadJob, NoRing}
 use Rattle.td_cli_input.specs.declared.refusal.InputError.{InputError}
 use Rattle.td_cli_input.specs.declared.refusal.InputError.TheVariants.{Refused, NoMemory}
-use Rattle.td_cli_input.specs.Marker.{IsFirstMarker, text_part, job_part}
+use Rattle.td_cli_input.specs.Marker.{IsFirstMarker, module_part, job_part}
 use Rattle.td_cli_input.specs.Causes.{HasCause, of_module, of_job}
 use Rattle.td_cli_input.specs.Inputs.{IsInputOf, RefusesText, RefusesInput}
 
@@ -31,15 +31,15 @@ one_marker input n m a b =
     ]
 
 -- what holds of the text before some first marker holds of that before this one
-pub text_there : (P : List ℕ → Type 0) (input : List ℕ) (n m : ℕ) → IsFirstMarker input n → IsFirstMarker input m → P (text_part input n) → P (text_part input m)
-text_there P input n m a b = subst (λ (k : ℕ). P (text_part input k)) (one_marker input n m a b)
+pub text_there : (P : List ℕ → Type 0) (input : List ℕ) (n m : ℕ) → IsFirstMarker input n → IsFirstMarker input m → P (module_part input n) → P (module_part input m)
+text_there P input n m a b = subst (λ (k : ℕ). P (module_part input k)) (one_marker input n m a b)
 
 pub job_there : (P : List ℕ → Type 0) (input : List ℕ) (n m : ℕ) → IsFirstMarker input n → IsFirstMarker input m → P (job_part input n) → P (job_part input m)
 job_there P input n m a b = subst (λ (k : ℕ). P (job_part input k)) (one_marker input n m a b)
 
 -- where the bytes behind the first marker are no job for the one module of the text before it, the input is none
 pub job_errors : {J : Type 0} (Is : Kind J) (input : List ℕ) (n : ℕ) (m : Module) (e : JobError) (none : JobError) → IsFirstMarker input n
-    → ((x : Module) → IsModuleText (text_part input n) x → m ≡ x)
+    → ((x : Module) → IsModuleText (module_part input n) x → m ≡ x)
     → ((j : J) → Is (job_part input n) m j → e ≡ none)
     → (types : Module) (job : J) → IsInputOf Is input types job → of_job e ≡ of_job none
 job_errors Is input n m e none marker one only types job given =
@@ -48,7 +48,7 @@ job_errors Is input n m e none marker one only types job given =
     ap of_job (only job (subst (λ (x : Module). Is (job_part input n) x job) (sym same) good))
 
 -- where the text is a module, nothing refuses it
-pub text_not_refused : (input : List ℕ) (n : ℕ) → IsFirstMarker input n → ((e : FrontError) → RefusedBy (text_part input n) e → ⊥) → (refusal : Refusal) → RefusesText input refusal → ⊥
+pub text_not_refused : (input : List ℕ) (n : ℕ) → IsFirstMarker input n → ((e : FrontError) → RefusedBy (module_part input n) e → ⊥) → (refusal : Refusal) → RefusesText input refusal → ⊥
 text_not_refused input n marker text TooLong h = h
 text_not_refused input n marker text NoJob h = h n marker.marker
 text_not_refused input n marker text (BadModule e) h = text e (text_there (λ (t : List ℕ). RefusedBy t e) input h.0 n h.1 marker h.2)
@@ -69,8 +69,8 @@ text_cause Bad input NoMemory h = tt
 
 -- where the text is a module, and the bytes behind it are a job for it, nothing refuses the input
 pub nothing_refuses : (Bad : Faults) (input : List ℕ) (n : ℕ) (m : Module) → IsFirstMarker input n
-    → ((x : Module) → IsModuleText (text_part input n) x → m ≡ x)
-    → ((e : FrontError) → RefusedBy (text_part input n) e → ⊥)
+    → ((x : Module) → IsModuleText (module_part input n) x → m ≡ x)
+    → ((e : FrontError) → RefusedBy (module_part input n) e → ⊥)
     → ((e : JobError) → Bad (job_part input n) m e → ⊥)
     → (refusal : Refusal) → RefusesInput Bad input refusal → ⊥
 nothing_refuses Bad input n m marker one text job TooLong h = h
@@ -106,11 +106,11 @@ job_cause Refuses jobs.NoMemory (inr refused) = tt
 job_cause Refuses (jobs.Fault rule path) (inr refused) = refused
 
 -- so an error of an input's module text, or of its job, has its cause
-pub text_error : (input : List ℕ) (n : ℕ) (e : FrontError) → IsFirstMarker input n → (e ≡ front.NoMemory) ⊎ RefusedBy (text_part input n) e → HasCause (RefusesText input) (of_module e)
+pub text_error : (input : List ℕ) (n : ℕ) (e : FrontError) → IsFirstMarker input n → (e ≡ front.NoMemory) ⊎ RefusedBy (module_part input n) e → HasCause (RefusesText input) (of_module e)
 text_error input n e marker (inl none) = module_cause (RefusesText input) e (inl none)
 text_error input n e marker (inr refused) = module_cause (RefusesText input) e (inr (n, marker, refused))
 
-pub job_error : (Bad : Faults) (input : List ℕ) (n : ℕ) (m : Module) (e : JobError) → IsFirstMarker input n → IsModuleText (text_part input n) m → (e ≡ jobs.NoMemory) ⊎ Bad (job_part input n) m e → HasCause (RefusesInput Bad input) (of_job e)
+pub job_error : (Bad : Faults) (input : List ℕ) (n : ℕ) (m : Module) (e : JobError) → IsFirstMarker input n → IsModuleText (module_part input n) m → (e ≡ jobs.NoMemory) ⊎ Bad (job_part input n) m e → HasCause (RefusesInput Bad input) (of_job e)
 job_error Bad input n m e marker text (inl none) = job_cause (RefusesInput Bad input) e (inl none)
 job_error Bad input n m e marker text (inr refused) = job_cause (RefusesInput Bad input) e (inr (n, m, marker, text, refused))
 

@@ -9,7 +9,7 @@ use Rattle.td_cli_input.specs.declared.refusal.Refusal.{Refusal}
 use Rattle.td_cli_input.specs.declared.refusal.Refusal.TheVariants.{BadModule, BadJob}
 use Rattle.td_cli_input.specs.declared.refusal.InputError.{InputError}
 use Rattle.td_cli_input.specs.declared.refusal.InputError.TheVariants.{Refused, NoMemory}
-use Rattle.td_cli_input.specs.Marker.{IsFirstMarker, text_part, job_part}
+use Rattle.td_cli_input.specs.Marker.{IsFirstMarker, module_part, job_part}
 
 -- a refusal has its cause; that there was no memory needs none
 abbrev pub HasCause : (Refusal → Type 0) → InputError → Type 0
@@ -27,8 +27,8 @@ of_job error = Refused (BadJob error)
 
 -- the input has a marker, and before it a token: for no other is memory taken for the module
 abbrev pub HasTextToken : List ℕ → Type 0
-HasTextToken input = (n : ℕ) × IsFirstMarker input n × HasToken (text_part input n)
+HasTextToken input = (n : ℕ) × IsFirstMarker input n × HasToken (module_part input n)
 
 -- the input has a marker, and before it a token, or after its line a byte: for no other is memory taken
 abbrev pub HasParts : List ℕ → Type 0
-HasParts input = (n : ℕ) × IsFirstMarker input n × (HasToken (text_part input n) ⊎ (0 < length (job_part input n)))
+HasParts input = (n : ℕ) × IsFirstMarker input n × (HasToken (module_part input n) ⊎ (0 < length (job_part input n)))

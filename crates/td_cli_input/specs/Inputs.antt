@@ -15,26 +15,26 @@ use Rattle.td_posts.specs.Posts.{IsVersion, zeros}
 use Rattle.td_job_host.specs.HostJobs.{rooms_in, IsHostJob, RefusedHostJob}
 use Rattle.td_cli_input.specs.declared.refusal.Refusal.{Refusal}
 use Rattle.td_cli_input.specs.declared.refusal.Refusal.TheVariants.{TooLong, NoJob, BadModule, BadJob, NoRing}
-use Rattle.td_cli_input.specs.Marker.{IsMarker, IsFirstMarker, text_part, job_part}
+use Rattle.td_cli_input.specs.Marker.{IsMarker, IsFirstMarker, module_part, job_part}
 
 -- the input is a module text, a marker and a job, as jobs of this kind are read
 pub record IsInputOf {J : Type 0} (Is : List ℕ → Module → J → Type 0) (input : List ℕ) (m : Module) (job : J) : Type 0 where
   pub place : ℕ
   pub marker : IsFirstMarker input place
-  pub text : IsModuleText (text_part input place) m
+  pub text : IsModuleText (module_part input place) m
   pub good : Is (job_part input place) m job
 
 -- why an input that isn't too long is refused before its job is looked at: it has no marker, or the text before that is no module
 abbrev pub RefusesText : List ℕ → Refusal → Type 0
 RefusesText input TooLong = ⊥
 RefusesText input NoJob = (n : ℕ) → IsMarker input n → ⊥
-RefusesText input (BadModule e) = (n : ℕ) × IsFirstMarker input n × RefusedBy (text_part input n) e
+RefusesText input (BadModule e) = (n : ℕ) × IsFirstMarker input n × RefusedBy (module_part input n) e
 RefusesText input (BadJob e) = ⊥
 RefusesText input NoRing = ⊥
 
 -- why it is refused, as jobs of this kind are refused
 abbrev pub RefusesInput : (List ℕ → Module → JobError → Type 0) → List ℕ → Refusal → Type 0
-RefusesInput Bad input (BadJob e) = (n : ℕ) × (m : Module) × IsFirstMarker input n × IsModuleText (text_part input n) m × Bad (job_part input n) m e
+RefusesInput Bad input (BadJob e) = (n : ℕ) × (m : Module) × IsFirstMarker input n × IsModuleText (module_part input n) m × Bad (job_part input n) m e
 RefusesInput Bad input refusal = RefusesText input refusal
 
 -- ---- run jobs

@@ -24,8 +24,8 @@ pub record IsFirstMarker (input : List ℕ) (n : ℕ) : Type 0 where
   pub before : (k : ℕ) → k < n → IsMarker input k → ⊥
 
 -- the module text and the job of an input whose marker line begins at n
-abbrev pub text_part : List ℕ → ℕ → List ℕ
-text_part input n = take n input
+abbrev pub module_part : List ℕ → ℕ → List ℕ
+module_part input n = take n input
 
 abbrev pub job_part : List ℕ → ℕ → List ℕ
 job_part input n = drop (n + 3) input

@@ -1,7 +1,7 @@
 //! An input: a module text, a line that is exactly `%%`, and a job.
 
 ghost use Rattle.std.specs.Prelude.{◌≡◌, ◌<◌, ◌≤◌, ◌+◌, ℕ, IsTrue, ◌↔◌, MatchOption, length};
-ghost use Rattle.td_cli_input.specs.Marker.{BeginsLine, EndsLine, IsMarker, IsFirstMarker, text_part, job_part};
+ghost use Rattle.td_cli_input.specs.Marker.{BeginsLine, EndsLine, IsMarker, IsFirstMarker, module_part, job_part};
 
 use td_num::bytes::byte_or_zero;
 
@@ -42,7 +42,7 @@ pub fn find_marker(input: &[u8]) -> Option<usize>
 /// The module text of an input whose marker stands at n: the bytes before it.
 pub fn module_part(input: &[u8], n: usize) -> &[u8]
     requires { n ≤ length input.now }
-    ensures { result.now ≡ text_part input.now n }
+    ensures { result.now ≡ module_part input.now n }
 {
     &input[..n]
 }

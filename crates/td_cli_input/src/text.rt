@@ -7,7 +7,7 @@ ghost use Rattle.td_front.specs.ModuleText.{IsModuleText};
 ghost use Rattle.td_cli_input.specs.declared.refusal.Refusal.{Refusal};
 ghost use Rattle.td_cli_input.specs.Causes.{HasCause, HasTextToken};
 ghost use Rattle.td_cli_input.specs.Inputs.{RefusesText};
-ghost use Rattle.td_cli_input.specs.Marker.{IsMarker, IsFirstMarker, text_part};
+ghost use Rattle.td_cli_input.specs.Marker.{IsMarker, IsFirstMarker, module_part};
 
 use crate::refusal::{InputError, Refusal, of_module};
 use crate::split::{find_marker, module_part};
@@ -29,10 +29,10 @@ pub(crate) struct ModulePart {
 pub(crate) fn parse_module(alloc: Global, input: &[u8]) -> Result<ModulePart, InputError>
     requires { length input.now < 2 ^ 32 - 1 }
     ensures marker { IfOk result (λ part. IsFirstMarker input.now part.place) }
-    ensures stands { IfOk result (λ part. IsModuleText (text_part input.now part.place) part.module) }
+    ensures stands { IfOk result (λ part. IsModuleText (module_part input.now part.place) part.module) }
     ensures checked { IfOk result (λ part. IsChecked part.module) }
     ensures cause { IfErr result (HasCause (RefusesText input.now)) }
-    ensures complete { (n : ℕ) (m : Module) → IsFirstMarker input.now n → IsModuleText (text_part input.now n) m →
+    ensures complete { (n : ℕ) (m : Module) → IsFirstMarker input.now n → IsModuleText (module_part input.now n) m →
         MatchResult result (λ part. part.module ≡ m) (λ e. e ≡ InputError.NoMemory) }
     ensures refused { (refusal : Refusal) → RefusesText input.now refusal → IsErr result }
     ensures no_job { ((n : ℕ) → IsMarker input.now n → ⊥) → IsErrOf result (InputError.Refused Refusal.NoJob) }

@@ -7,7 +7,7 @@ use Rattle.td_front.specs.Checked.{IsChecked}
 use Rattle.td_ir.specs.declared.tables.Parts.{Parts}
 use Rattle.td_lower_means.specs.CodeRun.{IsCodeOf, ArgumentsFit}
 use Rattle.td_lower.specs.Code.{IsLowerable, MeansModule}
-use Rattle.td_code.specs.Coding.{DoesWhatItMeans}
+use Rattle.td_code.specs.Compile.{DoesWhatItMeans}
 use Rattle.td_arith.proofs.Entering.{entry_is_sound}
 
 pub lowerable : (m : Module) → IsChecked m → IsLowerable m

@@ -14,7 +14,7 @@ use Rattle.td_image.specs.Image.{image}
 use Rattle.td_image.specs.Laws.{WithinHasImage}
 use Rattle.td_image_fits.specs.Small.{IsSmall}
 use Rattle.td_image_fits.specs.Laws.{ModulesAreSmall, CodeIsWithin}
-use Rattle.td_code.specs.Coding.{IsCodeFor, IsReadAs, IsPacked, IsSpelled}
+use Rattle.td_code.specs.Compile.{IsCodeFor, IsReadAs, IsPacked, IsSpelled}
 
 read_as : (c : Parts) (answer : Result Parts ImageError) → IsSound c → IsAnswerFor c answer → IsReadAs c answer
 read_as c (Ok code) sound h = h

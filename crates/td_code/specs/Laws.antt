@@ -2,7 +2,7 @@
 use Rattle.std.specs.Prelude.{◌≡◌, ℕ, List}
 use Rattle.td_core.specs.declared.module.Module.{Module}
 use Rattle.td_ir.specs.declared.tables.Parts.{Parts}
-use Rattle.td_code.specs.Coding.{IsCodeFor, IsListing, IsPacked}
+use Rattle.td_code.specs.Compile.{IsCodeFor, IsListing, IsPacked}
 
 -- a module has one code at most
 abbrev pub CodeIsOne : Type 0

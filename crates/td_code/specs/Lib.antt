@@ -1,2 +1,2 @@
-pub mod Coding
+pub mod Compile
 pub mod Laws

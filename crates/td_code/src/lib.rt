@@ -2,7 +2,7 @@
 //! code that the verifier accepts and that does, from each entry point, what the module means.
 #![tactic(auto)]
 
-mod coding;
+mod compile;
 pub mod laws;
 
-pub use coding::{code_listing, code_of, packed_image};
+pub use compile::{code_listing, code_of, packed_image};

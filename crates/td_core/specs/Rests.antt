@@ -2,13 +2,13 @@
 use Rattle.std.specs.Prelude.{◌≤◌}
 use Rattle.std.proofs.Common.{arith}
 use Rattle.td_core.specs.declared.actions.Action.TheInside.{Inside}
-use Rattle.td_core.specs.declared.actions.Action.TheDeep.{deep-Action, deep-Step}
-use Rattle.td_core.specs.declared.actions.Step.{Step}
-use Rattle.td_core.specs.declared.actions.Step.TheVariants.{Done, Set, Read, If, Return, Abort}
+use Rattle.td_core.specs.declared.actions.Action.TheDeep.{deep-Action, deep-ActionStep}
+use Rattle.td_core.specs.declared.actions.ActionStep.{ActionStep}
+use Rattle.td_core.specs.declared.actions.ActionStep.TheVariants.{Done, Set, Read, If, Return, Abort}
 use Rattle.td_core.specs.Term.{length_of}
 use Rattle.td_core.specs.Steps.{done_by}
 
-steps_are_smaller : (s : Step) → deep-Step s ≤ length_of (done_by s)
+steps_are_smaller : (s : ActionStep) → deep-ActionStep s ≤ length_of (done_by s)
 steps_are_smaller Done = omega arith
 steps_are_smaller (Set cell e then) = omega arith
 steps_are_smaller (Read cell then) = omega arith

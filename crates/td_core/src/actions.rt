@@ -7,14 +7,14 @@ use std::marker::Model;
 #[derive(Drop)]
 #[cycle(action)]
 pub struct Action {
-    pub step: Step,
+    pub step: ActionStep,
 }
 
 /// What an action does first, and what it does then. A cell is one of its definition's own, by its place among them,
 /// from 0.
 #[derive(Drop)]
 #[cycle(action)]
-pub enum Step {
+pub enum ActionStep {
     /// The end of the action, or of a branch.
     Done,
     /// `*p = e;`

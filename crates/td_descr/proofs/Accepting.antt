@@ -16,7 +16,7 @@ use Rattle.td_ir.specs.declared.tables.Parts.{Parts}
 use Rattle.td_meaning.specs.Copies.{opened}
 use Rattle.td_meaning.proofs.Copying.{opened_alone}
 use Rattle.td_run.specs.Validation.{IsValidation}
-use Rattle.td_descr.specs.Ring.{desc_entry, desc_args, desc_cells, desc_bytes, AreWithin, IsRingCode, IsValidated, IfAccepted}
+use Rattle.td_descr.specs.Ring.{desc_entry, desc_args, desc_cells, desc_bytes, CellsAreWithin, IsRingCode, IsValidated, IfAccepted}
 use Rattle.td_num.proofs.Digits.{are_bytes as bytes_of}
 
 -- a fact of each ending that accepts, where this outcome is one
@@ -25,8 +25,8 @@ at_outcome n b (Accepted q cells) o P e h = subst (λ (x : Outcome). IfAccepted 
 at_outcome n b (Rejected reason q trace cells) o P e h = subst (λ (x : Outcome). IfAccepted x.verdict (P x.cells)) e tt
 
 -- nothing stands behind the three cells
-first_three : (room most : ℕ) (e : Ending) → OnEnding e (λ q cells. AreWithin room most cells) → OnEnding e (λ q cells. AreWithin room most (take 3 cells))
-first_three room most (Accepted q cells) h = subst (AreWithin room most) (sym (take_all 3 cells (let n = h.count in omega (arith, n)))) h
+first_three : (room most : ℕ) (e : Ending) → OnEnding e (λ q cells. CellsAreWithin room most cells) → OnEnding e (λ q cells. CellsAreWithin room most (take 3 cells))
+first_three room most (Accepted q cells) h = subst (CellsAreWithin room most) (sym (take_all 3 cells (let n = h.count in omega (arith, n)))) h
 first_three room most (Rejected reason q trace cells) h = h
 
 abbrev pub SomeCarries : Type 0
@@ -34,7 +34,7 @@ SomeCarries = (layout : List Stretch) (loads : List Load) → IsRising loads →
 
 -- a descriptor that was validated so and accepted lies within the room
 pub accepted_within : (c : Parts) (room most : ℕ) (loads : List Load) (o : Outcome) → SomeCarries → IsRingCode c room most → IsValidated c room most loads o
-    → IfAccepted o.verdict (AreWithin room most o.cells)
+    → IfAccepted o.verdict (CellsAreWithin room most o.cells)
 accepted_within c room most loads o carry code v =
     let message = carry (plain desc_bytes) loads v.validated.rising in
     let b : List ℕ = message.0 in
@@ -43,9 +43,9 @@ accepted_within c room most loads o carry code v =
     let is = (v.validated.holds b message.1).meant code.format code.code (code.ring.sound b bytes size) in
     let alone = opened_alone code.format desc_entry desc_cells code.ring.bare in
     let end : List ℕ → Ending = λ cells. (meaning code.format desc_entry (desc_args room most) cells b).ending in
-    let within : OnEnding (end (opened code.format desc_entry desc_cells)) (λ q cells. AreWithin room most cells) =
-    subst (λ cells. OnEnding (end cells) (λ q cells. AreWithin room most cells)) (sym alone) (code.ring.within b bytes) in
-    at_outcome 3 b (end (opened code.format desc_entry desc_cells)) o (AreWithin room most) is.same (first_three room most (end (opened code.format desc_entry desc_cells)) within)
+    let within : OnEnding (end (opened code.format desc_entry desc_cells)) (λ q cells. CellsAreWithin room most cells) =
+    subst (λ cells. OnEnding (end cells) (λ q cells. CellsAreWithin room most cells)) (sym alone) (code.ring.within b bytes) in
+    at_outcome 3 b (end (opened code.format desc_entry desc_cells)) o (CellsAreWithin room most) is.same (first_three room most (end (opened code.format desc_entry desc_cells)) within)
 
 pub validated_by : (c : Parts) (room most : ℕ) (loads : List Load) (o : Outcome) (layout : List Stretch) (cells : List ℕ) → layout ≡ plain desc_bytes → cells ≡ desc_cells
     → length o.cells ≡ 3 → IsValidation c desc_entry (desc_args room most) cells layout loads o → IsValidated c room most loads o

@@ -25,7 +25,7 @@ use Rattle.td_meaning.proofs.Ending.{on_then, on_within, on_demanded}
 use Rattle.td_ast.specs.declared.token.Span.{Span}
 use Rattle.td_core.specs.declared.module.TypeDef.{TypeDef}
 use Rattle.td_meaning.specs.Meaning.{entry_place}
-use Rattle.td_descr.specs.Ring.{desc_args, desc_cells, AreWithin}
+use Rattle.td_descr.specs.Ring.{desc_args, desc_cells, CellsAreWithin}
 use Rattle.td_descr.specs.Format.{any_field, ring_module}
 use Rattle.td_descr.specs.Shape.{is_up_to, is_none, is_fit, tested, untested, delivered, undone, is_four, is_two, is_place, is_size, is_id, is_flags, is_reserved, is_number, are_fields, is_only, is_first, ShapeAcceptsWithin}
 use Rattle.td_descr.specs.Laws.{IsWorkedRing, DescriptorsLieWithin}
@@ -114,7 +114,7 @@ size_means (Some e) room most place size in_room h met =
     (up_to size (room - place) (subst (λ z. truth_of (number_of (flip (int_lt z (pos size)))) ≡ true) (minus_is room place in_room) two.0), up_to size most two.1)
 
 fields_lie : (sets : List (List ℕ)) (senses : ℕ → Sense) (ty : NameId) (room most : ℕ) (b : List ℕ) → AreBytes b → (fields : List Field) → are_fields fields ≡ true
-    → OnEnding (fields_meaning sets senses ty fields (room ∷ most ∷ []) (places_from 0 3) b (length b) 0 desc_cells).ending (λ q cells. AreWithin room most cells)
+    → OnEnding (fields_meaning sets senses ty fields (room ∷ most ∷ []) (places_from 0 3) b (length b) 0 desc_cells).ending (λ q cells. CellsAreWithin room most cells)
 unfolding fields_meaning
 fields_lie sets senses ty room most b bytes [] h = absurd (false≢true h)
 fields_lie sets senses ty room most b bytes (f ∷ []) h = absurd (false≢true h)
@@ -124,7 +124,7 @@ fields_lie sets senses ty room most b bytes (f ∷ g ∷ k ∷ l ∷ []) h = abs
 fields_lie sets senses ty room most b bytes (f ∷ g ∷ k ∷ l ∷ m ∷ n ∷ fields) h = absurd (false≢true h)
 fields_lie sets senses ty room most b bytes (f ∷ g ∷ k ∷ l ∷ m ∷ []) h =
     let ps = places_from 0 3 in
-    let Q : ℕ → List ℕ → Type 0 = λ q cells. AreWithin room most cells in
+    let Q : ℕ → List ℕ → Type 0 = λ q cells. CellsAreWithin room most cells in
     let place = number_at (little Four) b 0 in
     let size = number_at (little Four) b 4 in
     let number = number_at (little Two) b 8 in
@@ -166,7 +166,7 @@ fields_lie sets senses ty room most b bytes (f ∷ g ∷ k ∷ l ∷ m ∷ []) h
     (undone_is p4.action (room ∷ most ∷ place ∷ size ∷ number ∷ flags ∷ []) ps 10 12 (place ∷ size ∷ number ∷ []) t4.1) (λ fourth.
     field_on sets senses ty ps b (length b) Q Four p5.name m.place p5.refinement p5.action [] (room ∷ most ∷ place ∷ size ∷ number ∷ flags ∷ []) 12 (place ∷ size ∷ number ∷ []) (place ∷ size ∷ number ∷ [])
     (undone_is p5.action (room ∷ most ∷ place ∷ size ∷ number ∷ flags ∷ number_at (little Four) b 12 ∷ []) ps 12 16 (place ∷ size ∷ number ∷ []) t5.1) (λ fifth.
-    let last : AreWithin room most (place ∷ size ∷ number ∷ []) = record {
+    let last : CellsAreWithin room most (place ∷ size ∷ number ∷ []) = record {
       count = refl;
       place = in_room;
       size = let left = fits.0 in omega (arith, left, in_room);
@@ -177,7 +177,7 @@ fields_lie sets senses ty room most b bytes (f ∷ g ∷ k ∷ l ∷ m ∷ []) h
 -- what a module with these definitions means of a descriptor, from its entry point 0 at this place
 abbrev Lies : List (List ℕ) → ℕ → ℕ → List ℕ → List TypeDef → Option ℕ → Type 0
 Lies listed room most b definitions entry =
-    OnEnding (below listed definitions (length definitions) (entry_place entry (length definitions)) (desc_args room most) (places_from 0 3) desc_cells b 0 (length b)).ending (λ q cells. AreWithin room most cells)
+    OnEnding (below listed definitions (length definitions) (entry_place entry (length definitions)) (desc_args room most) (places_from 0 3) desc_cells b 0 (length b)).ending (λ q cells. CellsAreWithin room most cells)
 
 pub shaped : ShapeAcceptsWithin
 unfolding below fields_meaning

@@ -7,7 +7,7 @@ use Rattle.td_core.specs.Outcome.{Behavior, Accepted, Rejected}
 use Rattle.td_meaning.specs.Meaning.{meaning}
 use Rattle.td_meaning.specs.Throughout.{OnEnding}
 use Rattle.td_descr.specs.declared.next.Standing.TheVariants.{Nothing, Lost, Waiting}
-use Rattle.td_descr.specs.Ring.{desc_entry, desc_args, desc_cells, AreWithin, standing, desc_word}
+use Rattle.td_descr.specs.Ring.{desc_entry, desc_args, desc_cells, CellsAreWithin, standing, desc_word}
 use Rattle.td_descr.specs.Format.{id, ring_module}
 use Rattle.td_descr.specs.Shape.{has_ring_shape}
 
@@ -41,4 +41,4 @@ pub record IsWorkedRing : Type 0 where
 
 -- whatever the room and the bytes, a descriptor that is accepted lies within the room
 abbrev pub DescriptorsLieWithin : Type 0
-DescriptorsLieWithin = (room most : ℕ) (b : List ℕ) → AreBytes b → OnEnding (described room most b).ending (λ q cells. AreWithin room most cells)
+DescriptorsLieWithin = (room most : ℕ) (b : List ℕ) → AreBytes b → OnEnding (described room most b).ending (λ q cells. CellsAreWithin room most cells)

@@ -60,11 +60,11 @@ abbrev pub IsDescribed : Module → ℕ → ℕ → List ℕ → List Load → O
 IsDescribed m room most b loads outcome = IsMeant (plain desc_bytes) m desc_entry (desc_args room most) desc_cells b loads outcome
 
 -- each expression that the module evaluates on these bytes lies in its type's range
-abbrev pub IsSoundOn : Module → ℕ → ℕ → List ℕ → Type 0
-IsSoundOn m room most b = IsSound m desc_entry (desc_args room most) desc_cells b
+abbrev pub IsDescSoundOn : Module → ℕ → ℕ → List ℕ → Type 0
+IsDescSoundOn m room most b = IsSound m desc_entry (desc_args room most) desc_cells b
 
 -- cells of a descriptor that was accepted: a place, a size and a number, and the message lies within the room
-pub record AreWithin (room most : ℕ) (cells : List ℕ) : Type 0 where
+pub record CellsAreWithin (room most : ℕ) (cells : List ℕ) : Type 0 where
   pub count : length cells ≡ 3
   pub place : slice_index cells 0 ≤ room
   pub size : slice_index cells 0 + slice_index cells 1 ≤ room
@@ -75,8 +75,8 @@ pub record AreWithin (room most : ℕ) (cells : List ℕ) : Type 0 where
 -- within the room
 pub record IsRing (m : Module) (room most : ℕ) : Type 0 where
   pub bare : buffers_at (entry_definition m desc_entry.number) ≡ 0
-  pub sound : (b : List ℕ) → AreBytes b → length b < 2 ^ 32 → IsSoundOn m room most b
-  pub within : (b : List ℕ) → AreBytes b → OnEnding (meaning m desc_entry (desc_args room most) desc_cells b).ending (λ q cells. AreWithin room most cells)
+  pub sound : (b : List ℕ) → AreBytes b → length b < 2 ^ 32 → IsDescSoundOn m room most b
+  pub within : (b : List ℕ) → AreBytes b → OnEnding (meaning m desc_entry (desc_args room most) desc_cells b).ending (λ q cells. CellsAreWithin room most cells)
 
 -- this code is of such a module
 pub record IsRingCode (c : Parts) (room most : ℕ) : Type 0 where

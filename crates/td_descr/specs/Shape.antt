@@ -31,7 +31,7 @@ use Rattle.td_core.specs.Formed.{AllFit, params_at, cells_at}
 use Rattle.td_meaning.specs.Meaning.{meaning}
 use Rattle.td_meaning.specs.Copies.{buffers_at}
 use Rattle.td_meaning.specs.Throughout.{OnEnding}
-use Rattle.td_descr.specs.Ring.{desc_entry, desc_args, desc_cells, AreWithin}
+use Rattle.td_descr.specs.Ring.{desc_entry, desc_args, desc_cells, CellsAreWithin}
 
 -- ---- expressions
 abbrev pub is_level : ℕ → Term → Bool
@@ -187,7 +187,7 @@ has_ring_shape m = is_first m.entries && is_only m.definitions
 
 -- what a module accepts as a descriptor lies within the room
 abbrev pub AcceptsWithin : Module → Type 0
-AcceptsWithin m = (room most : ℕ) (b : List ℕ) → AreBytes b → OnEnding (meaning m desc_entry (desc_args room most) desc_cells b).ending (λ q cells. AreWithin room most cells)
+AcceptsWithin m = (room most : ℕ) (b : List ℕ) → AreBytes b → OnEnding (meaning m desc_entry (desc_args room most) desc_cells b).ending (λ q cells. CellsAreWithin room most cells)
 
 -- a module of such a shape does
 abbrev pub ShapeAcceptsWithin : Type 0

@@ -4,7 +4,7 @@ ghost use Rattle.std.specs.Prelude.{◌≡◌, ℕ, ◌+◌, ◌*◌, ◌^◌, �
 ghost use Rattle.td_stream.specs.Loads.{IsRising};
 ghost use Rattle.td_vm.specs.Frames.{IsArmed};
 ghost use Rattle.td_descr.specs.Words.{load_of, raised};
-ghost use Rattle.td_descr.specs.Ring.{IsRingCode, IsValidated, IfAccepted, AreWithin, IsLook, LiesWithin, ring_words, begun, frame_outcome, standing as stands};
+ghost use Rattle.td_descr.specs.Ring.{IsRingCode, IsValidated, IfAccepted, CellsAreWithin, IsLook, LiesWithin, ring_words, begun, frame_outcome, standing as stands};
 
 use crate::desc_words::DescWords;
 use crate::loads::DescLoads;
@@ -14,7 +14,7 @@ use std::marker::Model;
 use td_core::module::Entry;
 use td_core::outcome::Verdict;
 use td_formats::desc_out;
-use td_run::compiled::validate_compiled;
+use td_run::validation::validate_compiled;
 use td_stream::laws::some_message_carries;
 use td_stream::layout::Layout;
 use td_stream::words::Words;
@@ -83,7 +83,7 @@ fn validate_desc<W: Words>(
     ensures armed { IsArmed ring.now frame.new }
     ensures are { W.loads words.new ≡ load_of 0 head ∷ raised base loads.new }
     ensures validated { IsValidated ring.now room most loads.new (frame_outcome frame.new result) }
-    ensures within { IfAccepted result (AreWithin room most frame.new.cells) }
+    ensures within { IfAccepted result (CellsAreWithin room most frame.new.cells) }
 {
     fitting_cells_have_room();
     some_message_carries();

@@ -4,8 +4,8 @@ ghost use Rattle.std.specs.Prelude.{◌≡◌, ◌&&◌};
 ghost use Rattle.td_descr.specs.Shape.{is_level, is_zero, is_rest, is_left, is_up_to, is_none, is_fit, is_done, delivered, tested, is_four, is_two, holds, kept, whole, is_place, is_size, is_id, is_flags, is_reserved, is_number, are_fields, is_struct, are_params, are_cells, are_no_buffers, is_cell, is_definition, is_only, is_first, has_ring_shape};
 
 use td_core::{
-    Action, Binary, Bits, Body, Buffer, Cell, CellKind, CopyOut, CoreExpr, Element, Extent, Field,
-    Module, Node, Param, Part, Relation, Step, TypeDef,
+    Action, ActionStep, Binary, Bits, Body, Buffer, Cell, CellKind, CopyOut, CoreExpr, Element,
+    Extent, Field, Module, Node, Param, Part, Relation, TypeDef,
 };
 use td_num::number::{ByteOrder, Width};
 
@@ -305,7 +305,9 @@ fn gives(action: &Option<Action>, cell: u32, level: u32) -> bool
 {
     match action {
         Some(action) => match &action.step {
-            Step::Set(other, e, then) => { *other == cell && (is_name(e, level) && is_end(then)) }
+            ActionStep::Set(other, e, then) => {
+                *other == cell && (is_name(e, level) && is_end(then))
+            }
             _ => false,
         },
         None => false,
@@ -316,7 +318,7 @@ fn is_end(action: &Action) -> bool
     ensures { result ≡ is_done action.now }
 {
     match &action.step {
-        Step::Done => true,
+        ActionStep::Done => true,
         _ => false,
     }
 }

@@ -16,7 +16,7 @@ use Rattle.td_core.specs.declared.outcome.TraceFrame.{TraceFrame}
 use Rattle.td_core.specs.declared.outcome.Verdict.{Verdict}
 use Rattle.td_core.specs.declared.outcome.Verdict.TheVariants.{Accept, Reject}
 use Rattle.td_meaning.specs.Doing.{Effect, On, Returned, Aborted, after, either_way}
-use Rattle.td_meaning.specs.Machine.{value_of, is_truth, is_met, doing, acted, checked, with_part, parts_meaning}
+use Rattle.td_meaning.specs.Words64.{value_of, is_truth, is_met, doing, acted, checked, with_part, parts_meaning}
 use Rattle.td_meaning.specs.Meaning.{demanded, ended, field_place}
 use Rattle.td_meaning.specs.Verdicts.{ending_of}
 use Rattle.td_direct.specs.Placing.{AreActionsPlaced}

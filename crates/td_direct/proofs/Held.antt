@@ -7,7 +7,7 @@ use Rattle.td_core.specs.Held.{AreHeld}
 use Rattle.td_core.specs.Outcome.{accepted, after_reading, and_then, bytes_at, copies_by}
 use Rattle.td_core.proofs.Copies.{copies_set}
 use Rattle.td_meaning.specs.Meaning.{with_copy}
-use Rattle.td_meaning.specs.Machine.{copied_meaning}
+use Rattle.td_meaning.specs.Words64.{copied_meaning}
 use Rattle.td_meaning.proofs.Filling.{taken_long}
 use Rattle.td_stream.specs.Copies.{BufferView, held_by}
 

@@ -12,10 +12,10 @@ use Rattle.td_core.specs.declared.outcome.Outcome.{Outcome}
 use Rattle.td_core.specs.declared.outcome.TraceFrame.{TraceFrame}
 use Rattle.td_core.specs.declared.outcome.Verdict.{Verdict}
 use Rattle.td_meaning.specs.Copies.{opened, IsSoundOn}
-use Rattle.td_meaning.specs.Machine.{below}
+use Rattle.td_meaning.specs.Words64.{below}
 use Rattle.td_meaning.specs.Meaning.{meaning}
 use Rattle.td_meaning.specs.Verdicts.{ending_of, IsAt}
-use Rattle.td_meaning.proofs.MachineMeaning as machine
+use Rattle.td_meaning.proofs.Meaning64 as words64
 use Rattle.td_fetch.specs.Outcomes.{IsBehaviorOf}
 use Rattle.td_direct.specs.Validates.{Reads}
 use Rattle.td_direct.proofs.Stepping.{behavior_lent}
@@ -54,8 +54,8 @@ module _ (m : Module) (entry : Entry) (cells all : List ℕ) (k n : ℕ) (vs : L
       → IsSoundOn m entry args cells b → below m.listed m.definitions bound place args places all b p end ≡ meaning m entry args (opened m entry cells) b
   whole_is args b places place bound end p get same at ends start sound =
       entry_is m entry args all b place bound places end p get same (at ∙ ap (places_from 0) long) ends start
-      ∙ ap (λ xs. machine.meaning m entry args xs b) opened_is
-      ∙ machine.meaning_is m entry args (opened m entry cells) b sound
+      ∙ ap (λ xs. words64.meaning m entry args xs b) opened_is
+      ∙ words64.meaning_is m entry args (opened m entry cells) b sound
 
   pub entry_ready : (place : ℕ) (places : List ℕ) (ws : List BufferView) → slice_get m.entries entry.number ≡ Some place → places ≡ places_from 0 n → ws ≡ vs → IsPlaced (slice_get m.definitions place) places (length cells) (rooms_of ws)
   entry_ready place places ws get at lies =

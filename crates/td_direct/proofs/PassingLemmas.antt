@@ -22,7 +22,7 @@ use Rattle.td_core.specs.Outcome.{accepted, after_reading, and_then, within}
 use Rattle.td_expr.specs.Naming.{names, deed_names}
 use Rattle.td_meaning.specs.Naming.{in_option, part_names, parts_name, element_names, extent_names, field_names, fields_name, is_needed}
 use Rattle.td_meaning.specs.Meaning.{demanded, filled, filled_once, divides, equals, field_place, field_number, number_places, first_name, extended}
-use Rattle.td_meaning.specs.Machine.{value_of, is_met, below, body_fields, chosen_meaning, content_meaning, definition_meaning, element_meaning, shape_meaning, parts_meaning, with_part, acted, fields_meaning}
+use Rattle.td_meaning.specs.Words64.{value_of, is_met, below, body_fields, chosen_meaning, content_meaning, definition_meaning, element_meaning, shape_meaning, parts_meaning, with_part, acted, fields_meaning}
 use Rattle.td_direct.specs.Arrays.{once_rest}
 use Rattle.td_direct.specs.Passing.{IsPassed, AreSizes, passes_all, IsShapePassed, ArePlainParts, AreQuiet}
 use Rattle.td_direct.proofs.TypeLemmas.{filled_fit, once_fit, window_pass}

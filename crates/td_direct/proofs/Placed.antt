@@ -23,7 +23,7 @@ use Rattle.td_core.specs.declared.module.Field.{Field}
 use Rattle.td_core.specs.declared.module.Module.{Module}
 use Rattle.td_core.specs.declared.module.TypeDef.{TypeDef}
 use Rattle.td_core.proofs.Found.{cells_mapped}
-use Rattle.td_meaning.specs.Machine.{value_of, body_fields}
+use Rattle.td_meaning.specs.Words64.{value_of, body_fields}
 use Rattle.td_meaning.specs.Meaning.{case_for}
 use Rattle.td_stream.specs.Copies.{BufferView, held_by, rooms_of, empty_with}
 use Rattle.td_core.specs.Entries.{definition_at}

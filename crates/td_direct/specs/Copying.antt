@@ -4,7 +4,7 @@ use Rattle.td_core.specs.Term.{Term}
 use Rattle.td_core.specs.declared.module.CopyOut.{CopyOut}
 use Rattle.td_core.specs.declared.module.Extent.TheVariants.{Filling}
 use Rattle.td_core.specs.declared.module.Field.{Field}
-use Rattle.td_meaning.specs.Machine.{content_meaning, shape_meaning}
+use Rattle.td_meaning.specs.Words64.{content_meaning, shape_meaning}
 use Rattle.td_meaning.specs.Meaning.{Sense}
 
 -- they are validated as they stand

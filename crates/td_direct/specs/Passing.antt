@@ -7,7 +7,7 @@ use Rattle.td_core.specs.declared.module.Field.{Field}
 use Rattle.td_core.specs.declared.module.Module.{Module}
 use Rattle.td_core.specs.Outcome.{accepted}
 use Rattle.td_meaning.specs.Naming.{element_names, extent_names}
-use Rattle.td_meaning.specs.Machine.{below, element_meaning, shape_meaning}
+use Rattle.td_meaning.specs.Words64.{below, element_meaning, shape_meaning}
 
 -- wherever an element has its bytes it accepts, reads nothing and changes nothing
 abbrev pub IsPassed : Module → ℕ → Element → ℕ → Type 0

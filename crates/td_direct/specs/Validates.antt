@@ -7,7 +7,7 @@ use Rattle.td_core.specs.declared.module.Module.{Module}
 use Rattle.td_core.specs.declared.module.NameId.{NameId}
 use Rattle.td_core.specs.declared.module.Part.{Part}
 use Rattle.td_core.specs.declared.outcome.Verdict.{Verdict}
-use Rattle.td_meaning.specs.Machine.{below, parts_meaning, fields_meaning}
+use Rattle.td_meaning.specs.Words64.{below, parts_meaning, fields_meaning}
 use Rattle.td_meaning.specs.Meaning.{Sense, extended}
 use Rattle.td_meaning.specs.Verdicts.{ending_of, IsAt}
 use Rattle.td_stream.specs.Copies.{held_by, rooms_of}

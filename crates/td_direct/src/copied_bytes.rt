@@ -3,7 +3,7 @@
 ghost use Rattle.std.specs.Prelude.{◌≡◌, ℕ, ◌+◌, ◌-◌, ◌*◌, ◌/◌, ◌≤◌, ◌<◌, List, [], length, slice_index};
 ghost use Rattle.td_core.specs.Held.{IsBufferAt, AreHeld};
 ghost use Rattle.td_core.specs.Outcome.{plain};
-ghost use Rattle.td_meaning.specs.Machine.{copied_meaning};
+ghost use Rattle.td_meaning.specs.Words64.{copied_meaning};
 ghost use Rattle.td_meaning.specs.Verdicts.{ending_of, IsAt};
 ghost use Rattle.td_stream.specs.Copies.{held_by, rooms_of};
 ghost use Rattle.td_stream.specs.StreamInvariant.{IsStream, Later, loads_of, layout_of, position, end_of};

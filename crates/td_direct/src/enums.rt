@@ -6,7 +6,7 @@ ghost use Rattle.td_num.specs.Lists.{is_among};
 ghost use Rattle.td_core.specs.declared.module.Element.TheVariants as element;
 ghost use Rattle.td_core.specs.declared.module.Extent.TheVariants as extent;
 ghost use Rattle.td_core.specs.Outcome.{plain, and_then};
-ghost use Rattle.td_meaning.specs.Machine.{fields_meaning, listed_meaning};
+ghost use Rattle.td_meaning.specs.Words64.{fields_meaning, listed_meaning};
 ghost use Rattle.td_meaning.specs.Meaning.{Sense, values_of};
 ghost use Rattle.td_meaning.specs.Verdicts.{ending_of, IsAt};
 ghost use Rattle.td_stream.specs.StreamInvariant.{IsStream, Later, loads_of, layout_of, position, end_of};

@@ -5,7 +5,7 @@ ghost use Rattle.td_num.specs.Numbers.{bytes_in};
 ghost use Rattle.td_core.specs.declared.module.Element.TheVariants as element;
 ghost use Rattle.td_core.specs.declared.module.Extent.TheVariants as extent;
 ghost use Rattle.td_core.specs.Outcome.{plain, and_then};
-ghost use Rattle.td_meaning.specs.Machine.{fields_meaning};
+ghost use Rattle.td_meaning.specs.Words64.{fields_meaning};
 ghost use Rattle.td_meaning.specs.Meaning.{Sense, taken};
 ghost use Rattle.td_meaning.specs.Naming.{is_needed};
 ghost use Rattle.td_meaning.specs.Verdicts.{ending_of, IsAt};

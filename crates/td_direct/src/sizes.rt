@@ -5,7 +5,7 @@ ghost use Rattle.std.specs.Prelude.{◌≡◌, ℕ, ◌+◌, ◌<◌, ◌≤◌,
 ghost use Rattle.td_core.specs.Outcome.{accepted};
 ghost use Rattle.td_core.specs.Term.{number};
 ghost use Rattle.td_core.specs.declared.expressions.Scalar.{Scalar};
-ghost use Rattle.td_meaning.specs.Machine.{below, definition_meaning};
+ghost use Rattle.td_meaning.specs.Words64.{below, definition_meaning};
 ghost use Rattle.td_meaning.specs.Naming.{element_names, extent_names};
 ghost use Rattle.td_direct.specs.Passing.{AreSizes, ArePlainParts, IsShapePassed, IsQuiet, AreQuiet};
 

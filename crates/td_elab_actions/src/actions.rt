@@ -19,7 +19,7 @@ use std::alloc::{AllocError, Global};
 use td_ast::actions::{ActionKind, ActionTree, Block, Stmt, StmtKind};
 use td_ast::expressions::Expr;
 use td_ast::token::Span;
-use td_core::actions::{Action, Step};
+use td_core::actions::{Action, ActionStep};
 use td_elab_exprs::expressions::truth_value;
 use td_elab_exprs::findings::Findings;
 use td_elab_rules::breach::Rule;
@@ -83,7 +83,13 @@ fn if_piece(
 {
     let condition = truth_value(alloc, known, &bindings.scope, e, findings)?;
     match block(alloc, known, bindings, one, findings) {
-        Ok(one) => Ok(Piece::If(condition, one, Action { step: Step::Done })),
+        Ok(one) => Ok(Piece::If(
+            condition,
+            one,
+            Action {
+                step: ActionStep::Done,
+            },
+        )),
         Err(error) => {
             drop(condition);
             Err(error)
@@ -211,7 +217,9 @@ fn chained(alloc: Global, pieces: Vec<Piece>) -> Result<Action, AllocError>
     ensures { IfOk result (λ a. a ≡ chained pieces.items) }
 {
     let mut pieces = pieces;
-    let mut rest = Action { step: Step::Done };
+    let mut rest = Action {
+        step: ActionStep::Done,
+    };
     while let Some(piece) = pieces.pop() {
         rest = followed(alloc, piece, rest)?;
     }
@@ -227,8 +235,8 @@ fn followed(alloc: Global, piece: Piece, rest: Action) -> Result<Action, AllocEr
         Piece::Set(cell, e) => set(alloc, cell, e, rest),
         Piece::Read(cell) => read(alloc, cell, rest),
         Piece::If(e, one, other) => fork(alloc, e, one, other, rest),
-        Piece::Return(e) => Ok(last(Step::Return(e), rest)),
-        Piece::Abort => Ok(last(Step::Abort, rest)),
+        Piece::Return(e) => Ok(last(ActionStep::Return(e), rest)),
+        Piece::Abort => Ok(last(ActionStep::Abort, rest)),
     }
 }
 

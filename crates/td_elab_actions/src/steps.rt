@@ -6,7 +6,7 @@ ghost use Rattle.td_core.specs.Term as term;
 ghost use Rattle.td_core.specs.Steps.{done_by};
 
 use std::alloc::{AllocError, Global};
-use td_core::actions::{Action, Step};
+use td_core::actions::{Action, ActionStep};
 use td_core::expressions::CoreExpr;
 
 /// A cell is set. `AllocError`: out of memory.
@@ -15,7 +15,7 @@ pub fn set(alloc: Global, cell: u32, e: CoreExpr, rest: Action) -> Result<Action
 {
     let rest = Box::new(alloc, rest)?;
     Ok(Action {
-        step: Step::Set(cell, e, rest),
+        step: ActionStep::Set(cell, e, rest),
     })
 }
 
@@ -25,7 +25,7 @@ pub fn read(alloc: Global, cell: u32, rest: Action) -> Result<Action, AllocError
 {
     let rest = Box::new(alloc, rest)?;
     Ok(Action {
-        step: Step::Read(cell, rest),
+        step: ActionStep::Read(cell, rest),
     })
 }
 
@@ -68,12 +68,12 @@ fn fork_of(
     let rest = Box::new(alloc, rest)?;
     let (one, other) = branches;
     Ok(Action {
-        step: Step::If(condition, one, other, rest),
+        step: ActionStep::If(condition, one, other, rest),
     })
 }
 
 /// An action that ends with a step; what would follow it is let go.
-pub fn last(step: Step, rest: Action) -> Action
+pub fn last(step: ActionStep, rest: Action) -> Action
     ensures { result ≡ done_by step }
 {
     Action { step }

@@ -6,7 +6,7 @@ use Rattle.td_core.specs.Term.{Term, number, name, complement, negation, compute
 use Rattle.td_core.specs.Types.{type_of}
 use Rattle.td_expr.specs.Value.{value_of, truth_of, complemented, negated, computed, compared, both_of, either_of, choice_of, range_okay_of, related}
 use Rattle.td_expr.specs.Facts.{Fact}
-use Rattle.td_expr.specs.Sound.{Fits, InType, Sound, Placed, Holds, AllHold, AllPlaced}
+use Rattle.td_expr.specs.Sound.{FitsScalar, InType, Sound, Placed, Holds, AllHold, AllPlaced}
 
 pub value_more : (t : Term) (env more : List ℕ) → Placed (length env) t → value_of t (env ++ more) ≡ value_of t env
 value_more (number n w) env more p = refl
@@ -29,7 +29,7 @@ value_more (range_okay s o a) env more p =
     (value_more s env more p.0) (value_more o env more p.1.0) (value_more a env more p.1.1)
 
 type_more : (t : Term) (env more : List ℕ) → Placed (length env) t → InType t env → InType t (env ++ more)
-type_more t env more p i = subst (Fits (type_of t)) (sym (value_more t env more p)) i
+type_more t env more p i = subst (FitsScalar (type_of t)) (sym (value_more t env more p)) i
 
 truth_more : (t : Term) (env more : List ℕ) (b : Bool) → Placed (length env) t → truth_of (value_of t (env ++ more)) ≡ b → truth_of (value_of t env) ≡ b
 truth_more t env more b p h = sym (ap truth_of (value_more t env more p)) ∙ h

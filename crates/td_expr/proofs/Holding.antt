@@ -15,7 +15,7 @@ use Rattle.td_expr.specs.Same.{same, constant_of}
 use Rattle.td_expr.specs.Facts.{no_span, Fact, facts_of, mirrored, some_fact}
 use Rattle.td_expr.specs.Range.{Range}
 use Rattle.td_expr.specs.Range.{cut_by, cut_by_all, narrowed, constant_or, cut_where}
-use Rattle.td_expr.specs.Sound.{Fits, InType, Sound, Holds, AllHold}
+use Rattle.td_expr.specs.Sound.{FitsScalar, InType, Sound, Holds, AllHold}
 use Rattle.td_expr.proofs.Folding.{same_value, constant_is}
 use Rattle.td_expr.proofs.Reaching.{Contains, flip_true, cut_where_holds, constant_or_holds, related_mirrored, related_turned, computed_fits}
 
@@ -31,11 +31,11 @@ in_type (either a b) env s = s.0
 in_type (choice c a b) env s = s.0
 in_type (range_okay s o a) env t = t.0
 
-pub as_number : (w : Scalar) (v : ℤ) → Fits w v → v ≡ pos (natural v)
+pub as_number : (w : Scalar) (v : ℤ) → FitsScalar w v → v ≡ pos (natural v)
 as_number w (pos n) h = refl
 as_number w (negsuc n) h = absurd h
 
-pub below_limit : (w : Scalar) (v : ℤ) → Fits w v → natural v < limit w
+pub below_limit : (w : Scalar) (v : ℤ) → FitsScalar w v → natural v < limit w
 below_limit w (pos n) h = h
 below_limit w (negsuc n) h = absurd h
 
@@ -43,7 +43,7 @@ pub truth_number : (b : Bool) → truth_of (number_of b) ≡ b
 truth_number true = refl
 truth_number false = refl
 
-pub truth_fits : (b : Bool) → Fits Truth (number_of b)
+pub truth_fits : (b : Bool) → FitsScalar Truth (number_of b)
 truth_fits true = omega arith
 truth_fits false = omega arith
 
@@ -72,10 +72,10 @@ up_to_values a b h p q =
     at_most_numbers (natural a) (natural b) (subst (λ v. related LessEqual v (pos (natural b)) ≡ true) p (subst (λ v. related LessEqual a v ≡ true) q h))
 
 pub computed_in_type : (op : Binary) (a b : Term) (env : List ℕ) (x y : ℕ) → value_of a env ≡ pos x → value_of b env ≡ pos y
-    → Fits (type_of (compute op no_span a b)) (computed op (type_of a) (type_of b) (pos x) (pos y)) → InType (compute op no_span a b) env
+    → FitsScalar (type_of (compute op no_span a b)) (computed op (type_of a) (type_of b) (pos x) (pos y)) → InType (compute op no_span a b) env
 computed_in_type op a b env x y p q h =
-    subst (λ v. Fits (type_of (compute op no_span a b)) (computed op (type_of a) (type_of b) (value_of a env) v)) (sym q)
-    (subst (λ v. Fits (type_of (compute op no_span a b)) (computed op (type_of a) (type_of b) v (pos y))) (sym p) h)
+    subst (λ v. FitsScalar (type_of (compute op no_span a b)) (computed op (type_of a) (type_of b) (value_of a env) v)) (sym q)
+    (subst (λ v. FitsScalar (type_of (compute op no_span a b)) (computed op (type_of a) (type_of b) v (pos y))) (sym p) h)
 
 difference_sound : (s a : Term) (env : List ℕ) → Sound s env → Sound a env → related LessEqual (value_of a env) (value_of s env) ≡ true → Sound (compute Minus no_span s a) env
 difference_sound s a env p q h =

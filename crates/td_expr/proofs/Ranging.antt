@@ -15,7 +15,7 @@ use Rattle.td_expr.specs.Facts.{no_span, Fact, facts_of, mirrored, some_fact}
 use Rattle.td_expr.specs.Range.{Range}
 use Rattle.td_expr.specs.Range.{from_to, least, greatest, range_of, narrowed, whole, computed_range}
 use Rattle.td_expr.specs.Safe.{up_to, says_up_to, is_zero, is_apart, is_at_most, says_not_zero, bounds_sum, says_sum, is_below, is_safe, AllSafe}
-use Rattle.td_expr.specs.Sound.{Fits, InType, Sound, Known, Holds, AllHold}
+use Rattle.td_expr.specs.Sound.{FitsScalar, InType, Sound, Known, Holds, AllHold}
 use Rattle.td_expr.specs.Laws.{ValuesInRange}
 use Rattle.td_expr.proofs.Widths.{limit_pos, limit_small, wide_enough, wider_left, wider_right}
 use Rattle.td_expr.proofs.Folding.{same_value, constant_is}
@@ -151,11 +151,11 @@ all_of : (fs : List Fact) (t : Term) (env : List ℕ) → AllHold fs env → InT
 all_of fs t env h i = cut_down fs t env (whole (type_of t)) h i (whole_contains (type_of t) (natural (value_of t env)) (below_limit (type_of t) (value_of t env) i))
 
 -- a number of a narrower type
-fits_wider : (v w : Scalar) (z : ℤ) → limit v ≤ limit w → Fits v z → Fits w z
+fits_wider : (v w : Scalar) (z : ℤ) → limit v ≤ limit w → FitsScalar v z → FitsScalar w z
 fits_wider v w (pos n) le h = omega arith
 fits_wider v w (negsuc n) le h = h
 
-either_side : (w : Scalar) (b : Bool) (x y : ℤ) → (b ≡ true → Fits w x) → (b ≡ false → Fits w y) → Fits w (chosen b x y)
+either_side : (w : Scalar) (b : Bool) (x y : ℤ) → (b ≡ true → FitsScalar w x) → (b ≡ false → FitsScalar w y) → FitsScalar w (chosen b x y)
 either_side w true x y h k = h refl
 either_side w false x y h k = k refl
 

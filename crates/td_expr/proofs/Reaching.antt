@@ -19,7 +19,7 @@ use Rattle.td_expr.specs.Facts.{Fact, facts_of, mirrored, turned}
 use Rattle.td_expr.specs.Range.{Range}
 use Rattle.td_expr.specs.Range.{least, greatest, cut, cut_where, cut_by, cut_by_all, constant_or, narrowed, whole, computed_range, range_of}
 use Rattle.td_expr.specs.Safe.{is_below}
-use Rattle.td_expr.specs.Sound.{Fits}
+use Rattle.td_expr.specs.Sound.{FitsScalar}
 use Rattle.td_expr.proofs.Widths.{limit_pos, wider_left}
 
 abbrev pub Reaches : ℤ → ℕ → Type 0
@@ -149,9 +149,9 @@ Admitted ShiftRight v w x y = Unit {0}
 reduced_below : (w : Scalar) (x : ℕ) → x % limit w < limit w
 reduced_below w x = mod_below x (limit w) (limit_pos w)
 
-pub computed_fits : (op : Binary) (v w : Scalar) (x y : ℕ) → x < limit v → y < limit w → Admitted op v w x y → Fits (computed_type op v w) (computed op v w (pos x) (pos y))
+pub computed_fits : (op : Binary) (v w : Scalar) (x y : ℕ) → x < limit v → y < limit w → Admitted op v w x y → FitsScalar (computed_type op v w) (computed op v w (pos x) (pos y))
 computed_fits Plus v w x y p q h = h
-computed_fits Minus v w x y p q h = subst (Fits (wider v w)) (sym (minus_is x y h)) (omega (arith, wider_left v w))
+computed_fits Minus v w x y p q h = subst (FitsScalar (wider v w)) (sym (minus_is x y h)) (omega (arith, wider_left v w))
 computed_fits Times v w x y p q h = h
 computed_fits Over v w x zero p q h = limit_pos (wider v w)
 computed_fits Over v w x (suc y) p q h = omega (arith, div-le_self x (suc y), wider_left v w)

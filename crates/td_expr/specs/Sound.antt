@@ -7,12 +7,12 @@ use Rattle.td_expr.specs.Value.{value_of, truth_of, related}
 use Rattle.td_expr.specs.Facts.{Fact}
 
 -- a value of a type: from 0 to 2 ^ bits - 1
-abbrev pub Fits : Scalar → ℤ → Type 0
-Fits w (pos n) = n < limit w
-Fits w (negsuc n) = ⊥
+abbrev pub FitsScalar : Scalar → ℤ → Type 0
+FitsScalar w (pos n) = n < limit w
+FitsScalar w (negsuc n) = ⊥
 
 abbrev pub InType : Term → List ℕ → Type 0
-InType t env = Fits (type_of t) (value_of t env)
+InType t env = FitsScalar (type_of t) (value_of t env)
 
 -- the expression and each part of it that is evaluated have values in their types' ranges
 abbrev pub Sound : Term → List ℕ → Type 0

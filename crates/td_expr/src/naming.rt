@@ -3,7 +3,7 @@
 ghost use Rattle.std.specs.Prelude.{◌≡◌};
 ghost use Rattle.td_expr.specs.Naming.{names, deed_names};
 
-use td_core::actions::{Action, Step};
+use td_core::actions::{Action, ActionStep};
 use td_core::expressions::{CoreExpr, Node};
 
 /// Whether an expression names the value at a level (its place in scope, from 0).
@@ -29,14 +29,14 @@ pub fn action_names(level: usize, action: &Action) -> bool
     ensures { result ≡ deed_names level action.now }
 {
     match &action.step {
-        Step::Done | Step::Abort => false,
-        Step::Set(_, e, then) => expression_names(level, e) || action_names(level, then),
-        Step::Read(_, then) => action_names(level, then),
-        Step::If(e, one, other, then) => {
+        ActionStep::Done | ActionStep::Abort => false,
+        ActionStep::Set(_, e, then) => expression_names(level, e) || action_names(level, then),
+        ActionStep::Read(_, then) => action_names(level, then),
+        ActionStep::If(e, one, other, then) => {
             expression_names(level, e)
                 || (action_names(level, one)
                     || (action_names(level, other) || action_names(level, then)))
         }
-        Step::Return(e) => expression_names(level, e),
+        ActionStep::Return(e) => expression_names(level, e),
     }
 }

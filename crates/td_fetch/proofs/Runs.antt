@@ -19,7 +19,7 @@ use Rattle.td_meaning.specs.Forward.{IsAt, SameBefore}
 use Rattle.td_meaning.proofs.Deciding.{reads_decide}
 use Rattle.td_meaning.proofs.Places.{at_each, same_at_each as same_at}
 use Rattle.td_meaning.proofs.Forward.{reads_go_forward, reads_are_within}
-use Rattle.td_fetch.specs.Runs.{AreGiven, IsRun, RunsAreOne}
+use Rattle.td_fetch.specs.Runs.{AreGiven, IsFetchRun, RunsAreOne}
 
 -- Lists
 
@@ -106,7 +106,7 @@ same_byte layout b c one other k v x y h i lt =
 
 module _ (m : Module) (entry : Entry) (args cells : List ℕ) (layout : List Stretch) (memory : ℕ → ℕ → ℕ) where
   abbrev Run : List Load → Type 0
-  Run loads = IsRun m entry args cells layout memory loads
+  Run loads = IsFetchRun m entry args cells layout memory loads
 
   abbrev reads : List ℕ → List ℕ
   reads b = (meaning m entry args cells b).reads

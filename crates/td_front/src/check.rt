@@ -66,11 +66,11 @@ pub fn check_input(alloc: Global, text: &[u8]) -> Result<CheckedInput, FrontErro
 {
     one_answer_each();
     modules_are_checked();
-    checked(alloc, text)
+    check_passes(alloc, text)
 }
 
 // What the text spells and the module, or the refusal, of which there is but one.
-fn checked(alloc: Global, text: &[u8]) -> Result<CheckedInput, FrontError>
+fn check_passes(alloc: Global, text: &[u8]) -> Result<CheckedInput, FrontError>
     requires { length text.now < 2 ^ 32 - 1 }
     ensures stands { IfOk result (λ found. IsTextOf text.now found.input found.module) }
     ensures refused { IfErr result (λ e. (e ≡ FrontError.NoMemory) ⊎ RefusedBy text.now e) }
@@ -78,7 +78,7 @@ fn checked(alloc: Global, text: &[u8]) -> Result<CheckedInput, FrontError>
 {
     let tokens = tokens(alloc, text)?;
     let input = input(alloc, text, tokens.as_slice())?;
-    let module = passed(alloc, text, &input)?;
+    let module = checked_module(alloc, text, &input)?;
     Ok(CheckedInput { input, module })
 }
 
@@ -112,7 +112,7 @@ fn input(alloc: Global, text: &[u8], tokens: &[Token]) -> Result<InputTree, Fron
 }
 
 // The module of what a text spells, which passes each pass.
-fn passed(alloc: Global, text: &[u8], input: &InputTree) -> Result<Module, FrontError>
+fn checked_module(alloc: Global, text: &[u8], input: &InputTree) -> Result<Module, FrontError>
     requires short { length text.now < 2 ^ 32 - 1 }
     requires spelled { SpellsTree text.now input.now }
     ensures stands { IfOk result (λ m. IsTextOf text.now input.now m) }

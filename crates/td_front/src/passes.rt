@@ -129,7 +129,11 @@ fn tree_module(alloc: Global, tree: &ModuleTree) -> Result<Module, FrontError>
 }
 
 // The module of parts, from that of their one tree.
-fn told(alloc: Global, parts: &[PartTree], found: Module) -> Result<Module, FrontError>
+fn with_spelled_names(
+    alloc: Global,
+    parts: &[PartTree],
+    found: Module,
+) -> Result<Module, FrontError>
     ensures value { IfOk result (λ m. m ≡ with_names (spelled_names (InputTree.Parts parts.now) found.names) found) }
     ensures err { IfErr result (λ e. e ≡ FrontError.NoMemory) }
 {
@@ -150,7 +154,7 @@ fn parts_module(alloc: Global, parts: &[PartTree]) -> Result<Module, FrontError>
     counts_stay();
     let tree = flat(alloc, parts)?;
     let found = tree_module(alloc, &tree)?;
-    told(alloc, parts, found)
+    with_spelled_names(alloc, parts, found)
 }
 
 /// The module of an input that is admitted, or its refusal. `NoMemory`: there is a part or a definition, and out of memory.

@@ -18,7 +18,7 @@ use Rattle.td_host.specs.Hosts.{first_publisher}
 use Rattle.td_host_actors.specs.declared.actor.Actor.{Actor}
 use Rattle.td_host_actors.specs.declared.actor.Actor.TheVariants as kind
 use Rattle.td_host_actors.specs.Acting.{RoomsFor, StoresInside, guest_seat, read_seat, post_pass, take_pass, ticket_seat, RanScript, RanPublisher, RanWorker}
-use Rattle.td_host_actors.specs.Actors.{Service, IsReady, Did}
+use Rattle.td_host_actors.specs.Actors.{Service, IsActorReady, Did}
 use Rattle.td_posts.specs.declared.ring.RingJob.{RingJob}
 use Rattle.td_descr.specs.Ring.{ReaderView}
 use Rattle.td_takes.specs.Takes.{RanRing}
@@ -26,21 +26,21 @@ use Rattle.td_host.specs.Gathered.{IsAt, FreshWorkers, FreshGuests, FreshTakers,
 use Rattle.td_host.proofs.Ends.{DidAll, did_all, did_both}
 
 module _ {G : Type 0} (names : Post → Type 0) (shared : BufferState) (ring : RingState) (service : Service) where
-  workers_ready : (opened : List ℕ) (ds : List (Actor G)) → FreshWorkers shared ring service opened ds → All (IsReady names shared ring service) ds
+  workers_ready : (opened : List ℕ) (ds : List (Actor G)) → FreshWorkers shared ring service opened ds → All (IsActorReady names shared ring service) ds
   unfolding FreshWorkers
-  workers_ready opened [] f = All-nil (IsReady names shared ring service)
+  workers_ready opened [] f = All-nil (IsActorReady names shared ring service)
   workers_ready opened (kind.Guest g ∷ ds) f = absurd f
   workers_ready opened (kind.Ring t ∷ ds) f = absurd f
   workers_ready opened (kind.Publisher q ∷ ds) f = absurd f
   workers_ready opened (kind.Worker w ∷ ds) f =
       let x = f.0 in
-      All-cons (IsReady names shared ring service) (kind.Worker w) ds
+      All-cons (IsActorReady names shared ring service) (kind.Worker w) ds
       (ap (λ (s : SeatState). s.table) x.is_seat, ap (λ (h : PassState). h.queue) x.is_pass, ap (λ (d : DrawerState). d.table) x.is_drawer, (ap (λ (d : SwapState). d.table) x.is_swap, ap (λ (d : SwapState). d.view.count) x.is_swap), x.armed, x.no_reply, x.room)
       (workers_ready opened ds f.1)
 
-  guests_ready : (opened : List ℕ) (number n m : ℕ) (ss : List (List Step)) (ds : List (Actor G)) → FreshGuests names shared ring opened number n m ss ds → All (IsReady names shared ring service) ds
+  guests_ready : (opened : List ℕ) (number n m : ℕ) (ss : List (List Step)) (ds : List (Actor G)) → FreshGuests names shared ring opened number n m ss ds → All (IsActorReady names shared ring service) ds
   unfolding FreshGuests
-  guests_ready opened number n m [] [] f = All-nil (IsReady names shared ring service)
+  guests_ready opened number n m [] [] f = All-nil (IsActorReady names shared ring service)
   guests_ready opened number n m [] (a ∷ ds) f = absurd f
   guests_ready opened number n m (s ∷ ss) [] f = absurd f
   guests_ready opened number n m (s ∷ ss) (kind.Worker w ∷ ds) f = absurd f
@@ -48,7 +48,7 @@ module _ {G : Type 0} (names : Post → Type 0) (shared : BufferState) (ring : R
   guests_ready opened number n m (s ∷ ss) (kind.Publisher q ∷ ds) f = absurd f
   guests_ready opened number n m (s ∷ ss) (kind.Guest g ∷ ds) f =
       let x = f.0 in
-      All-cons (IsReady names shared ring service) (kind.Guest g) ds (
+      All-cons (IsActorReady names shared ring service) (kind.Guest g) ds (
         ap (λ (t : SeatState). t.table) x.is_seat,
         ap (λ (h : PassState). h.queue) x.is_pass,
         subst (StoresInside shared.count) (sym x.is_script) x.stays,
@@ -58,9 +58,9 @@ module _ {G : Type 0} (names : Post → Type 0) (shared : BufferState) (ring : R
       )
       (guests_ready opened (number + 1) (x.seat_number + 1) (x.pass_number + 1) ss ds f.1)
 
-  takers_ready : (opened : List ℕ) (number : ℕ) (rings : List RingJob) (readers : List ReaderView) (ds : List (Actor G)) → FreshTakers shared service opened number rings readers ds → All (IsReady names shared ring service) ds
+  takers_ready : (opened : List ℕ) (number : ℕ) (rings : List RingJob) (readers : List ReaderView) (ds : List (Actor G)) → FreshTakers shared service opened number rings readers ds → All (IsActorReady names shared ring service) ds
   unfolding FreshTakers
-  takers_ready opened number [] [] [] f = All-nil (IsReady names shared ring service)
+  takers_ready opened number [] [] [] f = All-nil (IsActorReady names shared ring service)
   takers_ready opened number [] [] (x ∷ ds) f = absurd f
   takers_ready opened number [] (d ∷ readers) ds f = absurd f
   takers_ready opened number (p ∷ ps) [] ds f = absurd f
@@ -69,19 +69,19 @@ module _ {G : Type 0} (names : Post → Type 0) (shared : BufferState) (ring : R
   takers_ready opened number (p ∷ ps) (d ∷ readers) (kind.Guest g ∷ ds) f = absurd f
   takers_ready opened number (p ∷ ps) (d ∷ readers) (kind.Publisher q ∷ ds) f = absurd f
   takers_ready opened number (p ∷ ps) (d ∷ readers) (kind.Ring t ∷ ds) f =
-      All-cons (IsReady names shared ring service) (kind.Ring t) ds f.0.ready (takers_ready opened (number + 1) ps readers ds f.1)
+      All-cons (IsActorReady names shared ring service) (kind.Ring t) ds f.0.ready (takers_ready opened (number + 1) ps readers ds f.1)
 
   -- with the publisher, who published nothing yet, behind them
-  pub all_ready : (olds all : List (Actor G)) (q : PublishState) → All (IsReady names shared ring service) olds → all ≡ olds ++ kind.Publisher q ∷ [] → q ≡ first_publisher service.codes → 0 < length service.codes.codes
-      → All (IsReady names shared ring service) all
-  all_ready olds all q are e is some = subst (All (IsReady names shared ring service)) (sym e)
-      (All-push (IsReady names shared ring service) olds (kind.Publisher q) are
+  pub all_ready : (olds all : List (Actor G)) (q : PublishState) → All (IsActorReady names shared ring service) olds → all ≡ olds ++ kind.Publisher q ∷ [] → q ≡ first_publisher service.codes → 0 < length service.codes.codes
+      → All (IsActorReady names shared ring service) all
+  all_ready olds all q are e is some = subst (All (IsActorReady names shared ring service)) (sym e)
+      (All-push (IsActorReady names shared ring service) olds (kind.Publisher q) are
       ((ap (λ (s : PublishState). s.table) is, ap (λ (s : PublishState). s.view.count) is), ap (λ (s : PublishState). s.view.number) is, some))
 
-  pub ready : (job : HostJob) (seat : HostState) (posts takes : PassState) (drawer : DrawerState) (olds : List (Actor G)) → Armed names shared ring service job seat posts takes drawer olds → All (IsReady names shared ring service) olds
-  ready job seat posts takes drawer olds a = subst (All (IsReady names shared ring service)) (sym a.are)
-      (All-append (IsReady names shared ring service) a.workers (a.guests ++ a.takers) (workers_ready job.words a.workers a.fresh_workers)
-      (All-append (IsReady names shared ring service) a.guests a.takers (guests_ready job.words 1 0 0 job.guests a.guests a.fresh_guests) (takers_ready job.words 1 job.rings a.readers a.takers a.fresh_takers)))
+  pub ready : (job : HostJob) (seat : HostState) (posts takes : PassState) (drawer : DrawerState) (olds : List (Actor G)) → Armed names shared ring service job seat posts takes drawer olds → All (IsActorReady names shared ring service) olds
+  ready job seat posts takes drawer olds a = subst (All (IsActorReady names shared ring service)) (sym a.are)
+      (All-append (IsActorReady names shared ring service) a.workers (a.guests ++ a.takers) (workers_ready job.words a.workers a.fresh_workers)
+      (All-append (IsActorReady names shared ring service) a.guests a.takers (guests_ready job.words 1 0 0 job.guests a.guests a.fresh_guests) (takers_ready job.words 1 job.rings a.readers a.takers a.fresh_takers)))
 
   module _ (job : HostJob) (mails : List Mail) where
     workers_at : (opened : List ℕ) (ds es : List (Actor G)) → FreshWorkers shared ring service opened ds → DidAll job mails ds es → All (IsAt shared ring service.tickets service.codes) es

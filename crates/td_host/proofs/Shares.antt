@@ -19,7 +19,7 @@ use Rattle.td_ring.specs.Ring.{Settled}
 use Rattle.td_ring.specs.Laws.{AllGathered}
 use Rattle.td_ring.proofs.Shares.{all_owned}
 use Rattle.td_ring.specs.declared.view.TicketView.{TicketView}
-use Rattle.td_ring.specs.Tickets.{counted, Told as Drawn}
+use Rattle.td_ring.specs.Tickets.{counted, Drawn}
 
 -- ---- the ring
 -- where the head's own part added nothing, the others' are all

@@ -8,7 +8,7 @@ use native.Mathlib.Decide.{dec_lt}
 use Rattle.td_posts.specs.declared.job.HostJob.{HostJob}
 use Rattle.td_posts.specs.declared.ring.RingJob.{RingJob}
 use Rattle.td_descr.specs.Ring.{ReaderView}
-use Rattle.td_takes.specs.declared.take.Room.{Room}
+use Rattle.td_takes.specs.declared.take.TakeRoom.{TakeRoom}
 use Rattle.td_takes.specs.Takes.{IsRoom, AreRooms}
 use Rattle.td_host.specs.Gathered.{IsReaderOf, AreReadersOf}
 use Rattle.td_host.specs.Hosts.{takes_in}
@@ -58,13 +58,13 @@ reader_at bytes (q ∷ qs) (x ∷ xs) zero p d a lt = a.0
 reader_at bytes (q ∷ qs) (x ∷ xs) (suc n) p d a lt = reader_at bytes qs xs n p d a.1 (omega (arith, lt))
 
 -- ---- rooms
-pub rooms_push : (job : HostJob) (frames desc_frames most : ℕ) (rooms : List Room) (r : Room) → AreRooms job frames desc_frames most rooms → IsRoom job frames desc_frames most r
+pub rooms_push : (job : HostJob) (frames desc_frames most : ℕ) (rooms : List TakeRoom) (r : TakeRoom) → AreRooms job frames desc_frames most rooms → IsRoom job frames desc_frames most r
     → AreRooms job frames desc_frames most (rooms ++ r ∷ [])
 unfolding AreRooms
 rooms_push job frames desc_frames most [] r a h = (h, tt)
 rooms_push job frames desc_frames most (x ∷ rooms) r a h = (a.0, rooms_push job frames desc_frames most rooms r a.1 h)
 
-pub no_rooms : (job : HostJob) (frames desc_frames most : ℕ) (rooms : List Room) → rooms ≡ [] → AreRooms job frames desc_frames most rooms
+pub no_rooms : (job : HostJob) (frames desc_frames most : ℕ) (rooms : List TakeRoom) → rooms ≡ [] → AreRooms job frames desc_frames most rooms
 unfolding AreRooms
 no_rooms job frames desc_frames most rooms e = subst (AreRooms job frames desc_frames most) (sym e) tt
 

@@ -10,7 +10,7 @@ use Rattle.td_posts.specs.declared.name.PostName.{PostName}
 use Rattle.td_words.specs.declared.view.HostView.{HostView}
 use Rattle.td_words.specs.Views.{host_view}
 use Rattle.td_words.specs.History.{Entry as HistoryEntry}
-use Rattle.td_words.specs.Gathered.{Fetched, Told}
+use Rattle.td_words.specs.Gathered.{Fetched, IsHistoryOf}
 use Rattle.td_words.specs.Seats.{BufferState, HostState}
 use Rattle.td_ring.specs.declared.roll.Part.{Part}
 use Rattle.td_ring.specs.declared.roll.Head.{Head}
@@ -19,7 +19,7 @@ use Rattle.td_ring.specs.declared.post.Post.{Post}
 use Rattle.td_ring.specs.declared.view.RingView.{RingView}
 use Rattle.td_ring.specs.declared.view.TicketView.{TicketView}
 use Rattle.td_ring.specs.Ring.{PassState, RingState, ring_view, with_takes, Settled}
-use Rattle.td_ring.specs.Tickets.{DrawerState, ticket_view, Told as Drawn}
+use Rattle.td_ring.specs.Tickets.{DrawerState, ticket_view, Drawn}
 use Rattle.td_posts.specs.declared.job.Step.{Step}
 use Rattle.td_posts.specs.declared.mail.Mail.{Mail}
 use Rattle.td_posts.specs.declared.reply.Reply.{Reply}
@@ -267,7 +267,7 @@ module _ {G : Type 0} where
 
       pub served : (m : Module) → All (IsDescribedBy m) olds → IsPermutation (owned (take_parts h.workers)) (owned (put_parts h.guests)) → mails ≡ all_mails 1 job.guests
           → (v : RingView) → v ≡ with_takes (puts_all posts.view news) (takes_all takes.view news) → Settled v []
-          → (k : HostView) → k ≡ seats_all seat.view news → (length k.ended ≡ k.made → Fetched k) → (log : List HistoryEntry) → Told k log
+          → (k : HostView) → k ≡ seats_all seat.view news → (length k.ended ≡ k.made → Fetched k) → (log : List HistoryEntry) → IsHistoryOf k log
           → (replies : List Reply) → map reply_name replies ≡ map (λ (m : Mail). m.name) mails → IsPermutation (all_replies news) replies
           → (made : List Take) → made ≡ takes_of_all news → Served m job replies made k v
       served m described perm is v v_is settled k k_is fetched log told replies named order made made_is =
@@ -350,7 +350,7 @@ module _ {G : Type 0} where
 
       pub served_versions : (m : Module) → All (IsDescribedBy m) olds → (perm : IsPermutation (owned (take_parts h.workers)) (owned (put_parts h.guests))) → mails ≡ all_mails 1 job.guests
           → (v : RingView) → v ≡ with_takes (puts_all posts.view news) (takes_all takes.view news) → Settled v []
-          → (k : HostView) → k ≡ seats_all seat.view news → (length k.ended ≡ k.made → Fetched k) → (log : List HistoryEntry) → Told k log
+          → (k : HostView) → k ≡ seats_all seat.view news → (length k.ended ≡ k.made → Fetched k) → (log : List HistoryEntry) → IsHistoryOf k log
           → (replies : List Reply) → map reply_name replies ≡ map (λ (m : Mail). m.name) mails → IsPermutation (all_replies news) replies
           → (count : ℕ) → count ≡ length job.formats → (w : SwapView) → w ≡ swaps_all (new_view count) news → AreVersions w
           → (q : PublisherView) → q ≡ publisher_view count (count - 1) → (made : List Take) → made ≡ takes_of_all news → ServedVersions m job replies made k v w q

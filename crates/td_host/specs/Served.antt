@@ -5,7 +5,7 @@ use Rattle.std.specs.List.Sorted.{IsPermutation}
 use Rattle.td_words.specs.declared.view.SeatView.{SeatView}
 use Rattle.td_words.specs.declared.view.HostView.{HostView}
 use Rattle.td_words.specs.History.{Entry, loads, stores}
-use Rattle.td_words.specs.Gathered.{Told}
+use Rattle.td_words.specs.Gathered.{IsHistoryOf}
 use Rattle.td_ring.specs.declared.roll.Part.{Part}
 use Rattle.td_ring.specs.declared.roll.Head.{Head}
 use Rattle.td_ring.specs.Roll.{part_of, owned}
@@ -77,7 +77,7 @@ pub record SeatsServed (job : HostJob) (replies : List Reply) (host : HostView) 
   pub all_ended : length host.ended ≡ host.made
   pub opened : host.opened ≡ job.words
   pub history : List Entry
-  pub told : Told host history
+  pub told : IsHistoryOf host history
   pub as_many : length readers ≡ job.workers
   pub reading : All (λ (v : SeatView). (v.guest ≡ false) × (stores v.steps ≡ [])) readers
   pub divided : Divided (all_mails 1 job.guests) readers replies

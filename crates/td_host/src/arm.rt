@@ -9,7 +9,7 @@ ghost use Rattle.td_posts.specs.Posts.{mails_of, all_mails, mail_named, scattere
 ghost use Rattle.td_posts.specs.Servable.{IsServable};
 ghost use Rattle.td_core.specs.declared.module.Module.{Module};
 ghost use Rattle.td_posts.specs.declared.limits.TheConstants.{MOST_WORKERS, MOST_POSTS};
-ghost use Rattle.td_host_actors.specs.Acting.{AreArmed, Fits, most_frames, RoomsFor};
+ghost use Rattle.td_host_actors.specs.Acting.{AreArmed, PostFits, most_frames, RoomsFor};
 ghost use Rattle.td_host.specs.Hosts.{IsOpened, AreFresh, IsCrew, first_swap};
 ghost use Rattle.td_host_actors.specs.Actors.{service_at};
 ghost use Rattle.td_host.specs.Gathered.{IsBounded, host_at, posts_at, takes_at, draws_at, WorkersSeated, GuestsSeated, AreReadersOf, IsReaderBy, IsDescribedBy};
@@ -164,7 +164,7 @@ fn rooms_for<J: Naming>(
 ) -> Result<VecDeque<Reply>, AllocError>
     requires few { length script.now < 2 ^ 32 }
     requires first { All (λ m. mail_named m.name (all_mails 1 job.now.guests) ≡ Some m) (mails_of guest script.now) }
-    requires said { (p : Post) → Fits frames job.now p → J.names p }
+    requires fitting_are_named { (p : Post) → PostFits frames job.now p → J.names p }
     ensures { IfOk result (λ rooms. RoomsFor J.names (mails_of guest script.now) rooms.items) }
 {
     let copies = job.rooms.as_slice();
@@ -249,7 +249,7 @@ fn seat_guests<J: Naming, G: Drop>(
     requires bounded { IsBounded desk.now.job }
     requires count { desk.now.shared.count ≡ length desk.now.job.words }
     requires gates { length gates.items ≡ length desk.now.job.guests }
-    requires said { (p : Post) → Fits frames desk.now.job p → J.names p }
+    requires fitting_are_named { (p : Post) → PostFits frames desk.now.job p → J.names p }
     ensures seated { OnOk result (GuestsSeated J.names desk.now.shared desk.now.ring desk.now.job actors.old.items heads.new.seat heads.new.posts actors.new.items) }
     ensures takes { OnOk result (heads.new.takes ≡ heads.old.takes) }
     ensures drawer { OnOk result (heads.new.drawer ≡ heads.old.drawer) }
@@ -317,7 +317,7 @@ pub(crate) fn make_crew<J: Naming, G: Drop>(
     requires readers { AreReadersOf (8 * length desk.now.job.words) desk.now.job.rings descrs.items }
     requires gates { length gates.items ≡ desk.now.job.workers + length desk.now.job.guests }
     requires some { 0 < length desk.now.codes.codes }
-    requires said { (p : Post) → Fits (most_frames desk.now.codes.codes) desk.now.job p → J.names p }
+    requires fitting_are_named { (p : Post) → PostFits (most_frames desk.now.codes.codes) desk.now.job p → J.names p }
     ensures crew { IfOk result (λ crew. IsCrew J.names desk.now crew) }
     ensures described { (m : Module) → All (IsReaderBy m) descrs.items → IfOk result (λ crew. All (IsDescribedBy m) crew.actors.items) }
 {

@@ -4,11 +4,11 @@ ghost use Rattle.std.specs.Prelude.{◌≡◌, ◌+◌, ◌*◌, [], length, IfO
 ghost use Rattle.std.specs.List.{All};
 ghost use Rattle.td_core.specs.declared.module.Module.{Module};
 ghost use Rattle.td_ring.specs.declared.post.Post.{Post};
-ghost use Rattle.td_host_actors.specs.Acting.{Fits, IsInRoom, most_frames};
+ghost use Rattle.td_host_actors.specs.Acting.{PostFits, IsInRoom, most_frames};
 ghost use Rattle.td_posts.specs.Servable.{IsServable};
 ghost use Rattle.td_host_actors.specs.Replies.{IsJobCode};
 ghost use Rattle.td_host.specs.Gathered.{AreReadersOf, IsReaderBy};
-ghost use Rattle.td_host.specs.Hosts.{IsArmed, IsOpened, AreFresh, HasDescribed, IsServed, replies_in, takes_made, published_in};
+ghost use Rattle.td_host.specs.Hosts.{IsHostArmed, IsOpened, AreFresh, HasDescribed, IsServed, replies_in, takes_made, published_in};
 
 use crate::arm::make_crew;
 use crate::desk::open_desk;
@@ -53,9 +53,9 @@ impl<J: Naming + Send + Sync, G: Gate + Send + Drop> Host<J, G> {
         requires code { IsJobCode codes.items job }
         requires readers { AreReadersOf (8 * length job.words) job.rings descrs.items }
         requires gates { length gates.items ≡ job.workers + length job.guests }
-        requires said { (p : Post) → Fits (most_frames codes.items) job p → J.names p }
-        requires says { (p : Post) → J.names p → Fits (most_frames codes.items) job p }
-        ensures armed { IfOk result (λ h. IsArmed J.names h) }
+        requires fitting_are_named { (p : Post) → PostFits (most_frames codes.items) job p → J.names p }
+        requires named_fit { (p : Post) → J.names p → PostFits (most_frames codes.items) job p }
+        ensures armed { IfOk result (λ h. IsHostArmed J.names h) }
         ensures codes { IfOk result (λ h. h.desk.codes.codes ≡ codes.items) }
         ensures job { IfOk result (λ h. h.desk.job ≡ job) }
         ensures described { (m : Module) → All (IsReaderBy m) descrs.items → IfOk result (HasDescribed m) }
@@ -79,9 +79,9 @@ impl<J: Naming + Send + Sync, G: Gate + Send + Drop> Host<J, G> {
         requires code { IsJobCode desk.codes.codes desk.job }
         requires readers { AreReadersOf (8 * length desk.job.words) desk.job.rings descrs.items }
         requires gates { length gates.items ≡ desk.job.workers + length desk.job.guests }
-        requires said { (p : Post) → Fits (most_frames desk.codes.codes) desk.job p → J.names p }
-        requires says { (p : Post) → J.names p → Fits (most_frames desk.codes.codes) desk.job p }
-        ensures armed { IfOk result (λ h. IsArmed J.names h) }
+        requires fitting_are_named { (p : Post) → PostFits (most_frames desk.codes.codes) desk.job p → J.names p }
+        requires named_fit { (p : Post) → J.names p → PostFits (most_frames desk.codes.codes) desk.job p }
+        ensures armed { IfOk result (λ h. IsHostArmed J.names h) }
         ensures desk { IfOk result (λ h. h.desk ≡ desk) }
         ensures described { (m : Module) → All (IsReaderBy m) descrs.items → IfOk result (HasDescribed m) }
     {
@@ -97,7 +97,7 @@ impl<J: Naming + Send + Sync, G: Gate + Send + Drop> Host<J, G> {
     /// each guest's script, each ring's taker and the publisher run in a thread of their own where one can be made, and else in turn. To
     /// be called once. It takes no memory: `arm` took all room, and the lists of a reply have that of its post's room still.
     pub fn serve<R: Threads + Wait + Sync>(&mut self, rt: &R)
-        requires { IsArmed J.names self.old }
+        requires { IsHostArmed J.names self.old }
         ensures desk { self.new.desk ≡ self.old.desk }
         ensures served { (m : Module) → HasDescribed m self.old → IsServed m self.new }
         ensures memory { All (IsInRoom self.new.desk.codes.codes self.new.desk.job) (replies_in self.new.finished) }

@@ -11,12 +11,12 @@ pub mod arm;
 pub mod desk;
 pub mod gather;
 pub mod host;
+pub mod job;
 pub mod laws;
 mod lists;
 pub mod order;
 mod rings;
 mod script;
 pub mod serve;
-pub mod serving;
 
 pub use host::{Host, ServedJob};

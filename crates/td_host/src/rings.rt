@@ -19,7 +19,7 @@ use td_posts::job::HostJob;
 use td_posts::name::PostName;
 use td_posts::ring::RingJob;
 use td_ring::naming::Naming;
-use td_takes::{Room, Take};
+use td_takes::{Take, TakeRoom};
 use td_vm::validate::Frame;
 use td_words::seats::ReadSeat;
 
@@ -35,7 +35,7 @@ fn take_room(
     frames: usize,
     desc_frames: usize,
     ring: RingJob,
-) -> Result<Room, AllocError>
+) -> Result<TakeRoom, AllocError>
     ensures { IfOk result (λ r. IsRoom job.now frames desc_frames ring.most r) }
 {
     let nobody = PostName {
@@ -45,7 +45,7 @@ fn take_room(
     let descr = room_for(alloc, DESC_CELLS, &[], desc_frames, nobody, DESC_WORDS)?;
     let rooms = job.rooms.as_slice();
     let message = room_for(alloc, job.cells, rooms, frames, nobody, ring.most / 8 + 2)?;
-    Ok(Room { descr, message })
+    Ok(TakeRoom { descr, message })
 }
 
 /// Room for each take from a ring.
@@ -55,7 +55,7 @@ fn take_rooms(
     frames: usize,
     desc_frames: usize,
     ring: RingJob,
-) -> Result<VecDeque<Room>, AllocError>
+) -> Result<VecDeque<TakeRoom>, AllocError>
     ensures rooms { IfOk result (λ rooms. AreRooms job.now frames desc_frames ring.most rooms.items) }
     ensures as_many { IfOk result (λ rooms. length rooms.items ≡ ring.takes) }
 {

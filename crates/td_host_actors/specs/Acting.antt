@@ -50,7 +50,7 @@ IsInRoom cs job r = HasMemory (most_frames cs) job.cells job.rooms r
 
 -- the post is one of the job's, by its first of that name, and its room is empty and large enough, with memory for just so many frames,
 -- the job's cells and its copy buffers, which hold nothing
-pub record Fits (frames : ℕ) (job : HostJob) (p : Post) : Type 0 where
+pub record PostFits (frames : ℕ) (job : HostJob) (p : Post) : Type 0 where
   pub mail : Mail
   pub is : mail_named p.name (all_mails 1 job.guests) ≡ Some mail
   pub made : p.made ≡ mail.made

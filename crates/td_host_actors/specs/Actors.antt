@@ -55,15 +55,15 @@ pub record IsTakerReady (shared : BufferState) (cs : List Parts) (job : HostJob)
 
 -- a worker made no reply yet, and has room for one to each post and for validations by each code; a guest stored nothing yet, its
 -- stores lie in the buffer, and it has a room for each post; a ring's taker made no take yet; the publisher published nothing yet
-abbrev pub IsReady : {G : Type 0} → (Post → Type 0) → BufferState → RingState → Service → Actor G → Type 0
-IsReady names shared ring s (kind.Worker w) =
+abbrev pub IsActorReady : {G : Type 0} → (Post → Type 0) → BufferState → RingState → Service → Actor G → Type 0
+IsActorReady names shared ring s (kind.Worker w) =
     (w.seat.table ≡ shared.table) × (w.pass.queue ≡ ring.queue) × (w.drawer.table ≡ s.tickets) × IsOwn s.codes w.swap × AreArmed s.codes.codes w.frames.items
     × (w.replies.items ≡ []) × (s.posts ≤ vec_capacity w.replies)
-IsReady names shared ring s (kind.Guest g) =
+IsActorReady names shared ring s (kind.Guest g) =
     (g.seat.table ≡ shared.table) × (g.pass.queue ≡ ring.queue) × StoresInside shared.count g.script × (length g.script < 2 ^ 32)
     × (stores g.seat.view.steps ≡ []) × RoomsFor names (mails_of g.number g.script) g.rooms.items
-IsReady names shared ring s (kind.Ring t) = IsTakerReady shared s.codes.codes s.job t
-IsReady names shared ring s (kind.Publisher p) = IsPublishers s.codes p × (p.view.number ≡ 0) × (0 < length s.codes.codes)
+IsActorReady names shared ring s (kind.Ring t) = IsTakerReady shared s.codes.codes s.job t
+IsActorReady names shared ring s (kind.Publisher p) = IsPublishers s.codes p × (p.view.number ≡ 0) × (0 < length s.codes.codes)
 
 -- the replies that the actor made
 abbrev pub replies_of : {G : Type 0} → Actor G → List Reply

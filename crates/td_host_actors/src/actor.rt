@@ -6,8 +6,8 @@ ghost use Rattle.td_ring.specs.declared.post.Post.{Post};
 ghost use Rattle.td_posts.specs.Posts.{all_mails, layout_of};
 ghost use Rattle.td_stream.specs.Layouts.{AreWithin};
 ghost use Rattle.td_host_actors.specs.Replies.{IsJobCode};
-ghost use Rattle.td_host_actors.specs.Acting.{Fits, IsInRoom, most_frames};
-ghost use Rattle.td_host_actors.specs.Actors.{IsReady, Did, replies_of, service_at};
+ghost use Rattle.td_host_actors.specs.Acting.{PostFits, IsInRoom, most_frames};
+ghost use Rattle.td_host_actors.specs.Actors.{IsActorReady, Did, replies_of, service_at};
 
 use crate::guest::run_script;
 use crate::publisher::publish_all;
@@ -29,7 +29,7 @@ use td_ring::ticket_seat::TicketSeat;
 use td_ring::tickets::Tickets;
 use td_swap::codes::Codes;
 use td_swap::seats::{PublishSeat, SwapSeat};
-use td_takes::{Room, Take};
+use td_takes::{Take, TakeRoom};
 use td_vm::validate::Frame;
 use td_words::seats::{GuestSeat, ReadSeat};
 use td_words::shared::Shared;
@@ -84,7 +84,7 @@ pub struct Worker<G> {
     pub frames: Vec<Frame>,
     /// The replies so far, in the order in which they were made.
     pub replies: Vec<Reply>,
-    /// What is passed before each load.
+    /// What is passed before each load and after each reply.
     pub gate: G,
 }
 
@@ -103,7 +103,7 @@ pub struct Taker {
     /// The room for a validation by version 0.
     pub frame: Frame,
     /// A room for each take to come.
-    pub rooms: VecDeque<Room>,
+    pub rooms: VecDeque<TakeRoom>,
     /// The takes so far, in their order.
     pub takes: Vec<Take>,
 }
@@ -122,10 +122,10 @@ impl<G: Gate> Actor<G> {
     /// Does all that the actor has to do: a worker answers posts, a guest runs its script, a ring's taker makes its takes, the
     /// publisher publishes all versions. It takes no memory, and the lists of its replies have the memory of the posts' rooms.
     pub fn run<J: Naming, R: Wait>(&mut self, rt: &R, desk: &Desk<J>)
-        requires ready { IsReady J.names desk.now.shared desk.now.ring (service_at desk.now) self.old }
+        requires ready { IsActorReady J.names desk.now.shared desk.now.ring (service_at desk.now) self.old }
         requires mails { desk.now.mails.items ≡ all_mails 1 desk.now.job.guests }
         requires inside { All (λ m. AreWithin desk.now.shared.count (layout_of m)) desk.now.mails.items }
-        requires says { (p : Post) → J.names p → Fits (most_frames desk.now.codes.codes) desk.now.job p }
+        requires named_fit { (p : Post) → J.names p → PostFits (most_frames desk.now.codes.codes) desk.now.job p }
         requires code { IsJobCode desk.now.codes.codes desk.now.job }
         ensures did { Did desk.now.job desk.now.mails.items self.old self.new }
         ensures memory { All (IsInRoom desk.now.codes.codes desk.now.job) (replies_of self.new) }

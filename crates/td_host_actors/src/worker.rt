@@ -13,7 +13,7 @@ ghost use Rattle.td_swap.specs.Seats.{IsOwn, then_loaded};
 ghost use Rattle.td_takes.specs.Codes.{IsCodeAt};
 ghost use Rattle.td_takes.specs.Memory.{KeepsMemory};
 ghost use Rattle.td_host_actors.specs.Replies.{IsJobCode, layout_in};
-ghost use Rattle.td_host_actors.specs.Acting.{AreArmed, Fits, IsInRoom, most_frames, Answered, RanWorker};
+ghost use Rattle.td_host_actors.specs.Acting.{AreArmed, PostFits, IsInRoom, most_frames, Answered, RanWorker};
 
 use crate::actor::{Desk, Worker};
 use std::sync::Wait;
@@ -95,7 +95,7 @@ fn answer<J: Naming, G: Gate>(
     requires inside { All (λ m. AreWithin desk.now.shared.count (layout_of m)) desk.now.mails.items }
     requires code { IsCodeAt version.now.code desk.now.job version.now.number entry }
     requires armed { IsArmed version.now.code frame.old }
-    requires fits { (frames : ℕ) × (frame.old.trace_room ≤ frames) × Fits frames desk.now.job post }
+    requires fits { (frames : ℕ) × (frame.old.trace_room ≤ frames) × PostFits frames desk.now.job post }
     ensures table { seat.new.table ≡ seat.old.table }
     ensures armed { IsArmed version.now.code frame.new }
     ensures name { reply_name result ≡ post.name }
@@ -176,7 +176,7 @@ fn answer_now<J: Naming, G: Gate>(
     requires inside { All (λ m. AreWithin desk.now.shared.count (layout_of m)) desk.now.mails.items }
     requires code { IsJobCode desk.now.codes.codes desk.now.job }
     requires armed { AreArmed desk.now.codes.codes frames.old }
-    requires fits { Fits (most_frames desk.now.codes.codes) desk.now.job post }
+    requires fits { PostFits (most_frames desk.now.codes.codes) desk.now.job post }
     ensures table { seat.new.table ≡ seat.old.table }
     ensures armed { AreArmed desk.now.codes.codes frames.new }
     ensures swap { swap.new ≡ then_loaded swap.old result.version }
@@ -198,7 +198,7 @@ pub fn run_worker<J: Naming, R: Wait, G: Gate>(rt: &R, desk: &Desk<J>, worker: &
     requires own { (worker.old.seat.table ≡ desk.now.shared.table) × (worker.old.pass.queue ≡ desk.now.ring.queue) × (worker.old.drawer.table ≡ desk.now.tickets) × IsOwn desk.now.codes worker.old.swap }
     requires mails { desk.now.mails.items ≡ all_mails 1 desk.now.job.guests }
     requires inside { All (λ m. AreWithin desk.now.shared.count (layout_of m)) desk.now.mails.items }
-    requires says { (p : Post) → J.names p → Fits (most_frames desk.now.codes.codes) desk.now.job p }
+    requires named_fit { (p : Post) → J.names p → PostFits (most_frames desk.now.codes.codes) desk.now.job p }
     requires code { IsJobCode desk.now.codes.codes desk.now.job }
     requires armed { AreArmed desk.now.codes.codes worker.old.frames.items }
     requires empty { worker.old.replies.items ≡ [] }

@@ -1,4 +1,4 @@
--- What is read can be written: code of version 2, and that of version 1, turned, is within the limits of the version that is
+-- What is read can be written: code of version 2, and that of version 1, upgraded, is within the limits of the version that is
 -- written.
 use Rattle.std.proofs.Common.{◌≡◌, ℕ, zero, suc, ◌-◌, ◌^◌, ◌≤◌, ◌<◌, Bool, true, false, ◌&&◌, ◌||◌, not, List, [], ◌∷◌, length, map, take, drop, refl, sym, subst, ◌∙◌, arith}
 use Rattle.std.specs.Prelude.{nat_le, nat_lt, ◌==◌, cond}
@@ -10,9 +10,9 @@ use Rattle.td_ir.specs.declared.tables.Parts.{Parts}
 use Rattle.td_ir.specs.declared.tables.Site.{Site}
 use Rattle.td_ir.specs.declared.tables.Routine.{Routine}
 use Rattle.td_ir.specs.Tables.{site_of, first_of, end_of}
-use Rattle.td_image_upgrade.specs.Turning.{used_by, renumbered, routine_code, number_in, own_code, code_below, sites_below, turned}
+use Rattle.td_image_upgrade.specs.Upgrade.{used_by, renumbered, routine_code, number_in, own_code, code_below, sites_below, upgraded}
 use Rattle.td_image_upgrade.specs.Laws.{IsDivided}
-use Rattle.td_image_upgrade.specs.declared.turning.TheConstants.{NO_SITE}
+use Rattle.td_image_upgrade.specs.declared.upgrade.TheConstants.{NO_SITE}
 use Rattle.td_image_upgrade.proofs.Sites.{few_sites, few_used, end_within, code_long}
 use Rattle.td_ir.proofs.Begins.{begin_next}
 use Rattle.td_ir.specs.WellFormed.{IsCode}
@@ -193,9 +193,9 @@ unfolding all_fit format.name
 names_again seen [] h = tt
 names_again seen (x ∷ xs) h = ((h.0.0, (h.0.1.0, name_again x (not (is_seen seen x)) (are_two_names x) h.0.1.1)), names_again (with_name seen x) xs h.1)
 
-turned_with : (p : Parts) → IsDivided p → IsCode (turned p) → FitsAs First p → FitsAs Third (turned p)
+upgraded_with : (p : Parts) → IsDivided p → IsCode (upgraded p) → FitsAs First p → FitsAs Third (upgraded p)
 unfolding format.image format.header
-turned_with p D C ((m, (o, (z, (n, (s, (a, (t, (r, (e, i))))))))), (names, (sites, (maps, (sets, (routines, (entries, instructions))))))) =
+upgraded_with p D C ((m, (o, (z, (n, (s, (a, (t, (r, (e, i))))))))), (names, (sites, (maps, (sets, (routines, (entries, instructions))))))) =
     let ns = length p.names in
     let rs = length p.routines in
     let same : length (code_below p rs) ≡ length p.instructions = code_long p D rs (omega arith) ∙ D.whole in
@@ -207,7 +207,7 @@ turned_with p D C ((m, (o, (z, (n, (s, (a, (t, (r, (e, i))))))))), (names, (site
     let row : length (sites_below p rs) ≤ MOST_ROWS = omega (arith, sites_few, D.whole, few) in
     let ns_few = leb-true ns FIRST_ROWS n.1 in
     let rs_few = leb-true rs FIRST_ROWS r.1 in
-    let new = each_at (format.site Third ns rs).Fits (sites_below p rs) _ (λ k lt. site_fits ns rs (site_of (turned p) k) (omega (arith, ns_few)) (omega (arith, rs_few)) (C.sites k lt)) in
+    let new = each_at (format.site Third ns rs).Fits (sites_below p rs) _ (λ k lt. site_fits ns rs (site_of (upgraded p) k) (omega (arith, ns_few)) (omega (arith, rs_few)) (C.sites k lt)) in
     let own = all_more (format.routine First ns) (format.routine Third ns) format.after_routine (routine_more First ns) (record { left = length p.instructions; more = rs }) p.routines routines.1 in
     let mapped = times_more (format.map_format First) (format.map_format Third) (map_more First) p.maps maps.1 in
     let left = subst (λ (l : ℕ). all_fit (format.routine Third ns) format.after_routine (record { left = l; more = rs }) p.routines) (sym same) own in (
@@ -240,7 +240,7 @@ second_again p ((m, (o, (z, counts))), (names, (sites, (maps, (sets, (routines, 
     )
 
 fits_again : (v : ImageVersion) (p : Parts) → FitsAs v p → FitsAs Third (code_in v p)
-fits_again First p fits = turned_with p (is_divided p fits) (fit_in First p fits) fits
+fits_again First p fits = upgraded_with p (is_divided p fits) (fit_in First p fits) fits
 fits_again Second p fits = second_again p fits
 fits_again Third p fits = fits
 

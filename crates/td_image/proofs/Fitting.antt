@@ -20,7 +20,7 @@ use Rattle.td_image.specs.declared.version.Spelled.{Spelled}
 use Rattle.td_image.specs.Versions.{most_numbers, most_instructions, has_owners}
 use Rattle.td_image.specs.Answer.{code_in, code_of}
 use Rattle.td_image_upgrade.specs.Laws.{IsDivided, IsOldCode}
-use Rattle.td_image_upgrade.proofs.Codes.{turned_is_code}
+use Rattle.td_image_upgrade.proofs.Codes.{upgraded_is_code}
 use Rattle.td_image.specs.Format.{Format, all_fit}
 use Rattle.td_image.specs.Image as format
 use Rattle.td_num.proofs.Truths.{or_cases as either, both_true as both}
@@ -201,7 +201,7 @@ with_owners v p own fits =
     }
 
 pub fit_in : (v : ImageVersion) (p : Parts) → FitsAs v p → IsCode (code_in v p)
-fit_in First p fits = turned_is_code p (is_divided p fits) (old_code First p fits)
+fit_in First p fits = upgraded_is_code p (is_divided p fits) (old_code First p fits)
 fit_in Second p fits = with_owners Second p refl fits
 fit_in Third p fits = with_owners Third p refl fits
 

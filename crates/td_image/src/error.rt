@@ -53,8 +53,8 @@ pub(crate) fn error_of(error: ReadError, length: usize) -> ImageError
 }
 
 /// What is answered to bytes of whose code the verifier answered so.
-pub(crate) fn told(error: VerifyError) -> ImageError
-    ensures { result ≡ answer.told error }
+pub(crate) fn of_verify_error(error: VerifyError) -> ImageError
+    ensures { result ≡ answer.of_verify_error error }
 {
     match error {
         VerifyError::NoMemory => ImageError::NoMemory,

@@ -1,5 +1,5 @@
 -- Cited by other crates.
--- Turned tables fit together.
+-- Upgraded tables fit together.
 use Rattle.std.proofs.Common.{◌≡◌, ℕ, zero, suc, ◌<◌, ◌≤◌, Bool, true, false, cond, List, [], ◌∷◌, ◌++◌, length, map, Option, Some, None, refl, sym, arith}
 use Rattle.std.specs.Prelude.{nat_lt, if◌then◌else◌}
 use Rattle.std.proofs.lemmas.Bool.{ltb-true}
@@ -12,8 +12,8 @@ use Rattle.td_ir.specs.declared.tables.EntryPoint.{EntryPoint}
 use Rattle.td_ir.specs.Tables.{entry_of}
 use Rattle.td_ir.specs.WellFormed.{IsSite, IsEntry}
 use Rattle.td_ir.specs.Fields.{named}
-use Rattle.td_image_upgrade.specs.Turning.{with_used, used_in, used_by, routine_code, own_site, own_sites, sites_below, turned}
-use Rattle.td_image_upgrade.specs.Laws.{IsOldCode, TurnedIsCode}
+use Rattle.td_image_upgrade.specs.Upgrade.{with_used, used_in, used_by, routine_code, own_site, own_sites, sites_below, upgraded}
+use Rattle.td_image_upgrade.specs.Laws.{IsOldCode, UpgradedIsCode}
 use Rattle.td_image_upgrade.proofs.Sites.{code_long}
 use Rattle.td_num.proofs.Lists.{each_append, each_index}
 
@@ -48,7 +48,7 @@ module _ (c : Parts) (O : IsOldCode c) where
       each_append IsNew (sites_below c r) (own_sites c r) (all_new r (omega (arith, le)))
       (own_new r (omega (arith, le)) (used_by c r) (old_used (length c.sites) (routine_code c r) [] tt))
 
-  entry_new : (e : EntryPoint) → IsEntry c e → IsEntry (turned c) e
+  entry_new : (e : EntryPoint) → IsEntry c e → IsEntry (upgraded c) e
   entry_new e h = record {
     there = h.there;
     param_count = h.param_count;
@@ -59,8 +59,8 @@ module _ (c : Parts) (O : IsOldCode c) where
     buffers_named = h.buffers_named;
   }
 
-pub turned_is_code : TurnedIsCode
-turned_is_code c D O = record {
+pub upgraded_is_code : UpgradedIsCode
+upgraded_is_code c D O = record {
   sites = λ k lt. each_index (IsNew c O) (sites_below c (length c.routines)) _ k (all_new c O (length c.routines) (omega arith)) lt;
   routines = O.routines;
   whole = sym (code_long c D (length c.routines) (omega arith));

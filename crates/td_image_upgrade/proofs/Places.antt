@@ -5,7 +5,7 @@ use Rattle.std.specs.Prelude.{nat_eq}
 use Rattle.std.specs.List.{position_or_len}
 use Rattle.td_ir.specs.declared.instructions.Instr.{Instr}
 use Rattle.td_ir.specs.Fields.{named}
-use Rattle.td_image_upgrade.specs.Turning.{with_used, used_in}
+use Rattle.td_image_upgrade.specs.Upgrade.{with_used, used_in}
 
 pub used_more : (old : ℕ) (used : List ℕ) (js : List Instr) (j : Instr) → used_in old used (js ++ j ∷ []) ≡ with_used old (used_in old used js) (named j)
 used_more old used [] j = refl

@@ -6,8 +6,8 @@ use Rattle.td_ir.specs.declared.instructions.Instr.TheVariants as i
 use Rattle.td_ir.specs.declared.tables.Site.{Site}
 use Rattle.td_ir.specs.declared.tables.Routine.{Routine}
 use Rattle.td_ir.specs.declared.tables.Parts.{Parts}
-use Rattle.td_image_upgrade.specs.Turning.{turned}
-use Rattle.td_image_upgrade.specs.declared.turning.TheConstants.{NO_SITE}
+use Rattle.td_image_upgrade.specs.Upgrade.{upgraded}
+use Rattle.td_image_upgrade.specs.declared.upgrade.TheConstants.{NO_SITE}
 
 abbrev named : ℕ → NameId
 named n = record { number = n }
@@ -22,10 +22,10 @@ site n = record { ty = named 0; field = named 1; routine = n }
 abbrev parts : List Site → List Instr → Parts
 parts sites js = record { names = (65 ∷ []) ∷ (102 ∷ []) ∷ []; sites = sites; maps = []; sets = []; routines = routine ∷ routine ∷ []; entries = []; instructions = js }
 
-two_sites : turned (parts (site 0 ∷ []) (i.SkipK 1 0 ∷ i.Return ∷ i.SkipK 1 0 ∷ i.Return ∷ [])) ≡ parts (site 0 ∷ site 1 ∷ []) (i.SkipK 1 0 ∷ i.Return ∷ i.SkipK 1 1 ∷ i.Return ∷ [])
+two_sites : upgraded (parts (site 0 ∷ []) (i.SkipK 1 0 ∷ i.Return ∷ i.SkipK 1 0 ∷ i.Return ∷ [])) ≡ parts (site 0 ∷ site 1 ∷ []) (i.SkipK 1 0 ∷ i.Return ∷ i.SkipK 1 1 ∷ i.Return ∷ [])
 two_sites = refl
 
--- a site that none names is dropped, one that the table hasn't is in no table after turning either
-dropped : turned (parts (site 0 ∷ record { ty = named 1; field = named 1; routine = 0 } ∷ []) (i.SkipK 1 1 ∷ i.Return ∷ i.SkipK 1 2 ∷ i.Fail 0 1 ∷ []))
+-- a site that none names is dropped, one that the table hasn't is in no table after upgrading either
+dropped : upgraded (parts (site 0 ∷ record { ty = named 1; field = named 1; routine = 0 } ∷ []) (i.SkipK 1 1 ∷ i.Return ∷ i.SkipK 1 2 ∷ i.Fail 0 1 ∷ []))
     ≡ parts (record { ty = named 1; field = named 1; routine = 0 } ∷ record { ty = named 1; field = named 1; routine = 1 } ∷ []) (i.SkipK 1 0 ∷ i.Return ∷ i.SkipK 1 NO_SITE ∷ i.Fail 0 1 ∷ [])
 dropped = refl

@@ -1,5 +1,5 @@
 -- Cited by other crates.
--- Where turned code has its sites and instructions, and that they are no more than the instructions before.
+-- Where upgraded code has its sites and instructions, and that they are no more than the instructions before.
 use Rattle.std.proofs.Common.{◌≡◌, ℕ, zero, suc, ◌+◌, ◌-◌, ◌<◌, ◌≤◌, ◌⊎◌, inl, inr, Bool, true, false, cond, List, [], ◌∷◌, ◌++◌, length, map, take, drop, Option, Some, None, get_or, refl, sym, ap, subst, ◌∙◌, arith}
 use Rattle.std.specs.Prelude.{slice_range, nat_eq, nat_lt, ◌||◌, if◌then◌else◌}
 use Rattle.std.specs.List.{position_or_len, list_any}
@@ -15,9 +15,9 @@ use Rattle.td_ir.specs.declared.tables.Site.{Site}
 use Rattle.td_ir.specs.declared.tables.Parts.{Parts}
 use Rattle.td_ir.specs.Tables.{routine_of, site_of, lengths_of, begin, first_of, end_of, no_routine}
 use Rattle.td_ir.proofs.Begins.{begin_next, begin_up}
-use Rattle.td_image_upgrade.specs.declared.turning.TheConstants.{NO_SITE}
+use Rattle.td_image_upgrade.specs.declared.upgrade.TheConstants.{NO_SITE}
 use Rattle.td_ir.specs.Fields.{named}
-use Rattle.td_image_upgrade.specs.Turning.{renumbered, with_used, used_in, routine_code, used_by, own_site, own_sites, sites_below, number_in, own_code, code_below, turned}
+use Rattle.td_image_upgrade.specs.Upgrade.{renumbered, with_used, used_in, routine_code, used_by, own_site, own_sites, sites_below, number_in, own_code, code_below, upgraded}
 use Rattle.td_image_upgrade.specs.Laws.{IsDivided}
 use Rattle.td_num.proofs.Equals.{equal_itself as same_number}
 
@@ -32,7 +32,7 @@ names_of s = (s.ty, s.field)
 
 -- a new site has the names of the old one
 abbrev pub IsSame : Parts → (m k : ℕ) → Type 0
-IsSame c m k = names_of (site_of (turned c) m) ≡ names_of (site_of c k)
+IsSame c m k = names_of (site_of (upgraded c) m) ≡ names_of (site_of c k)
 
 -- ---- the sites that instructions name
 
@@ -226,12 +226,12 @@ code_there c D (suc r) n le h = elim (split n r h) [
 no_range : {X : Type 0} (xs : List X) (a b : ℕ) → b ≡ a → slice_range xs a b ≡ []
 no_range {X} xs a b e = let z : b - a ≡ 0 = omega (arith, e) in ap (λ m. take m (drop a xs)) z
 
--- beyond the table there is no code, before turning and after it
+-- beyond the table there is no code, before upgrading and after it
 pub no_code : (c : Parts) (n : ℕ) → length c.routines ≤ n → (xs : List Instr) → slice_range xs (first_of c n) (end_of c n) ≡ []
 no_code c n le xs =
     let b = begin_next c n in
     let z = no_length c n le in
     no_range xs (first_of c n) (end_of c n) (omega (arith, b, z))
 
-pub code_is : (c : Parts) → IsDivided c → (n : ℕ) → n < length c.routines → slice_range (turned c).instructions (first_of c n) (end_of c n) ≡ own_code c n
+pub code_is : (c : Parts) → IsDivided c → (n : ℕ) → n < length c.routines → slice_range (upgraded c).instructions (first_of c n) (end_of c n) ≡ own_code c n
 code_is c D n lt = code_there c D (length c.routines) n (omega arith) lt

@@ -16,24 +16,24 @@ use Rattle.td_ir.specs.Values.{bit, operated, bits_of, reason_of, order_of, numb
 use Rattle.td_ir.specs.Flow.{Flow, Goes, Fails, Calls, Effect, plain, where_so, has_bytes, zeros_flow, zeroterm_flow, effect}
 use Rattle.td_ir.specs.Run.{Callees, spot_named, frame, back, back_by, led, follow, pick, goes, exits}
 use Rattle.td_ir.specs.Fields.{named}
-use Rattle.td_image_upgrade.specs.Turning.{renumbered, turned}
+use Rattle.td_image_upgrade.specs.Upgrade.{renumbered, upgraded}
 use Rattle.td_image_upgrade.proofs.Sites.{OfNamed, IsSame}
 use Rattle.td_ir.proofs.Blocks.{branch_same, turns_same}
 
-pub frame_same : (c : Parts) (m k : ℕ) (s : State) (reason : Reason) → IsSame c m k → frame (turned c) m s reason ≡ frame c k s reason
+pub frame_same : (c : Parts) (m k : ℕ) (s : State) (reason : Reason) → IsSame c m k → frame (upgraded c) m s reason ≡ frame c k s reason
 frame_same c m k s reason e =
     ap (λ (x : NameId × NameId). frame_at (record { ty = x.0; field = spot_named (slice_index_or c.names x.1.number []) x.1; start = s.start }) reason) e
 
 module _ (c : Parts) (n : ℕ) (message places : List ℕ) (g : ℕ → ℕ) (calls' calls : Callees) (pc : ℕ) (go' go : ℕ → State → Exit)
     (C : (a b m : ℕ) (s : State) → calls' a b m s ≡ calls a b m s) (G : (t : ℕ) (s : State) → go' t s ≡ go t s) where
   abbrev new : Flow → Exit
-  new f = led (turned c) calls' pc go' f
+  new f = led (upgraded c) calls' pc go' f
 
   abbrev old : Flow → Exit
   old f = led c calls pc go f
 
   abbrev follow_new : Effect → Exit
-  follow_new e = follow (turned c) calls' pc go' e
+  follow_new e = follow (upgraded c) calls' pc go' e
 
   abbrev follow_old : Effect → Exit
   follow_old e = follow c calls pc go e
@@ -41,7 +41,7 @@ module _ (c : Parts) (n : ℕ) (message places : List ℕ) (g : ℕ → ℕ) (ca
   fails : (reason : Reason) (k pos : ℕ) (s : State) → IsSame c (g k) k → new (Fails reason (g k) pos s) ≡ old (Fails reason k pos s)
   fails reason k pos s e = ap (λ f. at_once (Failed reason pos (f ∷ []) s.cells)) (frame_same c (g k) k s reason e)
 
-  back_same : (k : ℕ) (s : State) → IsSame c (g k) k → (touched : List ℕ) (steps : ℕ) (w : Way) → back_by (turned c) (g k) s (go' (pc + 1)) touched steps w ≡ back_by c k s (go (pc + 1)) touched steps w
+  back_same : (k : ℕ) (s : State) → IsSame c (g k) k → (touched : List ℕ) (steps : ℕ) (w : Way) → back_by (upgraded c) (g k) s (go' (pc + 1)) touched steps w ≡ back_by c k s (go (pc + 1)) touched steps w
   back_same k s e touched steps (Returned pos cells) = ap (after touched steps) (G (pc + 1) (record s { cells = cells; pos = pos }))
   back_same k s e touched steps (Turned t) = refl
   back_same k s e touched steps (Failed reason pos trace cells) =
@@ -50,7 +50,7 @@ module _ (c : Parts) (n : ℕ) (message places : List ℕ) (g : ℕ → ℕ) (ca
 
   calling : (first routine m k : ℕ) (s : State) → IsSame c (g k) k → new (Calls first routine m (g k) s) ≡ old (Calls first routine m k s)
   calling first routine m k s e =
-      ap (back (turned c) (g k) s (go' (pc + 1))) (C first routine m s)
+      ap (back (upgraded c) (g k) s (go' (pc + 1))) (C first routine m s)
       ∙ back_same k s e (calls first routine m s).touched (calls first routine m s).steps (calls first routine m s).way
 
   either : (v : Bool) (x' y' x y : Flow) → new x' ≡ old x → new y' ≡ old y → new (cond v x' y') ≡ old (cond v x y)
@@ -74,7 +74,7 @@ module _ (c : Parts) (n : ℕ) (message places : List ℕ) (g : ℕ → ℕ) (ca
   zeroterm_same next k width bound room None s e = fails (cond (nat_le bound room) Constraint NotEnough) k s.start s e
 
   abbrev Leads : Instr → State → Type 0
-  Leads j s = follow_new (effect (turned c) n message places pc (renumbered g j) s) ≡ follow_old (effect c n message places pc j s)
+  Leads j s = follow_new (effect (upgraded c) n message places pc (renumbered g j) s) ≡ follow_old (effect c n message places pc j s)
 
   pub step_same : (j : Instr) (s : State) → OfNamed (λ k. IsSame c (g k) k) (named j) → Leads j s
   step_same (i.Const into value) s a = ap (after [] 1) (G (pc + 1) (with_reg s into value))
@@ -138,11 +138,11 @@ module _ (c : Parts) (n : ℕ) (message places : List ℕ) (g : ℕ → ℕ) (ca
 -- the exits from all instructions of a stretch
 pub exits_same : (c : Parts) (n : ℕ) (message places : List ℕ) (g : ℕ → ℕ) (calls' calls : Callees) → ((a b m : ℕ) (s : State) → calls' a b m s ≡ calls a b m s)
     → (pc : ℕ) (js : List Instr) → Each (λ j. OfNamed (λ k. IsSame c (g k) k) (named j)) js → (k : ℕ) (s : State)
-    → pick (exits (turned c) n message places calls' pc (map (renumbered g) js)) k s ≡ pick (exits c n message places calls pc js) k s
+    → pick (exits (upgraded c) n message places calls' pc (map (renumbered g) js)) k s ≡ pick (exits c n message places calls pc js) k s
 exits_same c n message places g calls' calls C pc [] h k s = refl
 exits_same c n message places g calls' calls C pc (j ∷ js) h zero s =
     step_same c n message places g calls' calls pc
-    (goes pc (exits (turned c) n message places calls' (pc + 1) (map (renumbered g) js))) (goes pc (exits c n message places calls (pc + 1) js)) C
+    (goes pc (exits (upgraded c) n message places calls' (pc + 1) (map (renumbered g) js))) (goes pc (exits c n message places calls (pc + 1) js)) C
     (λ t u. branch_same (nat_lt pc t) _ (at_once Stuck) _ (at_once Stuck) (exits_same c n message places g calls' calls C (pc + 1) js h.1 (t - (pc + 1)) u) refl)
     j s h.0
 exits_same c n message places g calls' calls C pc (j ∷ js) h (suc k) s = exits_same c n message places g calls' calls C (pc + 1) js h.1 k s

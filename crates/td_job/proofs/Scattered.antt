@@ -13,7 +13,7 @@ use Rattle.td_core.specs.declared.module.Module.{Module}
 use Rattle.td_sched.specs.declared.store.PlannedStore.{PlannedStore}
 use Rattle.td_stream.specs.declared.layout.TheConstants.{MOST_STRETCHES}
 use Rattle.td_stream.specs.declared.stretch.Stretch.{Stretch}
-use Rattle.td_stream.specs.Layouts.{length_in, count_in, laid, counted, AreWithin, IsOver}
+use Rattle.td_stream.specs.Layouts.{length_in, count_in, layout_or_plain, loadable, AreWithin, IsOver}
 use Rattle.td_stream.proofs.Plain.{plain_is}
 use Rattle.td_job.specs.declared.checks.TheConstants.{MOST_BYTES}
 use Rattle.td_job.specs.declared.error.Key.TheVariants as key
@@ -110,8 +110,8 @@ within_words given words layout enough h = All-weaker (Within given) (λ (s : St
 -- where a message lies in this many words, how many words it has, and how long it is
 pub record Lies (n words : ℕ) (o : Option (List Stretch)) : Type 0 where
   pub over : IsOver words o
-  pub ends : count_in (laid n o) ≤ counted o words
-  pub long : length_in (laid n o) ≡ n
+  pub ends : count_in (layout_or_plain n o) ≤ loadable o words
+  pub long : length_in (layout_or_plain n o) ≡ n
 
 listed : (given n words : ℕ) (values : Option Items) → layout_faults given n values ≡ [] → given ≤ 8 * words → Lies n words (option_map each_stretch values)
 listed given n words None h enough = absurd (cc)

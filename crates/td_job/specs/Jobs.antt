@@ -21,7 +21,7 @@ use Rattle.td_core.specs.Entries.{IsEntryNamed, IsFirstNamed, entry_definition}
 use Rattle.td_core.specs.Formed.{AllFit, params_at, cells_at}
 use Rattle.td_num.specs.Numbers.{rising_at}
 use Rattle.td_stream.specs.declared.stretch.Stretch.{Stretch}
-use Rattle.td_stream.specs.Layouts.{length_in, count_in, laid, counted, IsOver}
+use Rattle.td_stream.specs.Layouts.{length_in, count_in, layout_or_plain, loadable, IsOver}
 use Rattle.td_write_values.specs.Spelling.{spelling}
 use Rattle.td_meaning.specs.Copies.{opened}
 use Rattle.td_write_values.specs.Writing.{writing, whole as whole_numbers}
@@ -332,8 +332,8 @@ IsRunJob bytes m j = (job : Data) × Reads bytes job × IsJob m job j
 pub record HasRoom (j : RunJob) : Type 0 where
   pub words : length j.words < 2 ^ 32
   pub over : IsOver (length j.words) j.layout
-  pub ends : count_in (laid j.length j.layout) ≤ counted j.layout (length j.words)
-  pub long : length_in (laid j.length j.layout) ≡ j.length
+  pub ends : count_in (layout_or_plain j.length j.layout) ≤ loadable j.layout (length j.words)
+  pub long : length_in (layout_or_plain j.length j.layout) ≡ j.length
   pub limit : j.length ≤ MOST_BYTES
   pub stores : All (λ (s : PlannedStore). s.word < length j.words) j.stores
 

@@ -59,7 +59,7 @@ fn script_of(
 
 /// Tests that a guest has no field but its script. J2, at the first other name in byte order. `NoMemory`: there was no memory
 /// for that name; never where there is no other, nor where the first one has no bytes.
-fn check_names(alloc: Global, value: &Value, guest: usize) -> Result<(), JobError>
+fn check_guest_names(alloc: Global, value: &Value, guest: usize) -> Result<(), JobError>
     ensures ok { OnOk result (unknown_faults (Path.UnknownOf guest) (first_unknown (Key.Script ∷ []) (as_object (view value.now))) ≡ []) }
     ensures err { IfErr result (λ e. (e ≡ JobError.NoMemory) ⊎ IsFirst (unknown_faults (Path.UnknownOf guest) (first_unknown (Key.Script ∷ []) (as_object (view value.now)))) e) }
     ensures known { unknown_faults (Path.UnknownOf guest) (first_unknown (Key.Script ∷ []) (as_object (view value.now))) ≡ [] → IsOk result }
@@ -87,7 +87,7 @@ fn check_guest(alloc: Global, value: &Value, guest: usize, words: u32) -> Result
         }));
     }
     check_script(value, guest, words)?;
-    check_names(alloc, value, guest)?;
+    check_guest_names(alloc, value, guest)?;
     Ok(())
 }
 

@@ -95,7 +95,7 @@ fn check_fields(value: &Value, ring: usize) -> Result<(), JobError>
 
 /// Tests that a ring has no other field. J2, at the first other name in byte order. `NoMemory`: there was no memory for that name;
 /// never where there is no other, nor where the first one has no bytes.
-fn check_names(alloc: Global, value: &Value, ring: usize) -> Result<(), JobError>
+fn check_ring_names(alloc: Global, value: &Value, ring: usize) -> Result<(), JobError>
     ensures ok { OnOk result (unknown_faults (Path.UnknownOfRing ring) (first_unknown ring_keys (as_object (view value.now))) ≡ []) }
     ensures err { IfErr result (λ e. (e ≡ JobError.NoMemory) ⊎ IsFirst (unknown_faults (Path.UnknownOfRing ring) (first_unknown ring_keys (as_object (view value.now)))) e) }
     ensures known { unknown_faults (Path.UnknownOfRing ring) (first_unknown ring_keys (as_object (view value.now))) ≡ [] → IsOk result }
@@ -168,7 +168,7 @@ fn ring_of(alloc: Global, value: &Value, ring: usize, words: u32) -> Result<Ring
         }));
     }
     check_fields(value, ring)?;
-    check_names(alloc, value, ring)?;
+    check_ring_names(alloc, value, ring)?;
     spelled_ring(value).placed(ring, words)
 }
 

@@ -29,7 +29,7 @@ pub enum Lexeme {
 
 /// What stands at the beginning of the bytes. `AllocError`: it is a name, and out of memory.
 #[tactic(auto, unfolding(crate::specs::Scanner::lexeme))]
-fn front(alloc: Global, bytes: &[u8]) -> Result<Lexeme, AllocError>
+fn first_lexeme(alloc: Global, bytes: &[u8]) -> Result<Lexeme, AllocError>
     requires { (0 < length bytes.now) × (length bytes.now < 2 ^ 32) }
     ensures lexeme { IfOk result (λ lexeme. lexeme ≡ scanner.lexeme bytes.now) }
     ensures memory { OnErr result (HoldsName (scanner.lexeme bytes.now)) }
@@ -52,5 +52,5 @@ pub fn next_lexeme(alloc: Global, bytes: &[u8]) -> Result<Lexeme, AllocError>
     ensures within { IfOk result (IsWithin (length bytes.now)) }
     ensures memory { OnErr result (HoldsName (scanner.lexeme bytes.now)) }
 {
-    front(alloc, bytes)
+    first_lexeme(alloc, bytes)
 }

@@ -6,7 +6,7 @@ mod bytes;
 mod comments;
 mod error;
 mod keywords;
-mod law;
+mod laws;
 mod lexeme;
 mod lexing;
 mod numbers;
@@ -15,5 +15,5 @@ mod table;
 
 pub use error::LexError;
 pub use keywords::is_keyword;
-pub use law::tokens_are_the_splitting;
+pub use laws::tokens_are_the_splitting;
 pub use lexing::lex;

@@ -11,7 +11,7 @@ ghost use Rattle.td_lower_emit.specs.Emission.{Writes, Finishes};
 use crate::expressions::{land, write_value};
 use crate::writer::Writer;
 use std::alloc::AllocError;
-use td_core::actions::{Action, Step};
+use td_core::actions::{Action, ActionStep};
 use td_core::expressions::CoreExpr;
 use td_ir::constants::ACTION;
 use td_ir::instructions::Instr;
@@ -50,8 +50,8 @@ fn write_statements(
     ensures { OnOk result (Finishes leave code.old code.new (acts t site (action_of level action.now) Done)) }
 {
     match &action.step {
-        Step::Done => Ok(()),
-        Step::Set(cell, e, then) => {
+        ActionStep::Done => Ok(()),
+        ActionStep::Set(cell, e, then) => {
             write_value(code, t, e)?;
             code.write(Instr::Set {
                 source: t,
@@ -60,7 +60,7 @@ fn write_statements(
             write_statements(code, leave, t, site, level, then)?;
             Ok(())
         }
-        Step::Read(cell, then) => {
+        ActionStep::Read(cell, then) => {
             code.write(Instr::Get {
                 into: level as u16,
                 cell: *cell as u16,
@@ -68,7 +68,7 @@ fn write_statements(
             write_statements(code, leave, t, site, level + 1, then)?;
             Ok(())
         }
-        Step::If(e, one, other, then) => {
+        ActionStep::If(e, one, other, then) => {
             write_value(code, t, e)?;
             let first = code.place();
             code.write(Instr::Mark)?;
@@ -81,12 +81,12 @@ fn write_statements(
             write_statements(code, leave, t, site, level, then)?;
             Ok(())
         }
-        Step::Return(e) => {
+        ActionStep::Return(e) => {
             write_test(code, t, e, ACTION, site)?;
             code.write(Instr::Jump { target: leave })?;
             Ok(())
         }
-        Step::Abort => {
+        ActionStep::Abort => {
             code.write(Instr::Fail {
                 reason: ACTION,
                 site,

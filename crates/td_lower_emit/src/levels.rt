@@ -4,7 +4,7 @@ ghost use Rattle.std.specs.Prelude.{◌≡◌, ◌<◌, ◌+◌, ◌*◌, ◌^�
 ghost use Rattle.td_core.specs.Weights.{deed_nodes, action_nodes, part_nodes, total, fields_nodes, default_nodes, cases_nodes, body_nodes};
 ghost use Rattle.td_lower_blocks.specs.Tops.{deed_levels, action_levels, parts_levels, fields_levels, default_levels, cases_levels, body_levels, definition_levels};
 
-use td_core::actions::{Action, Step};
+use td_core::actions::{Action, ActionStep};
 use td_core::module::{Body, Case, Field, Part, TypeDef};
 use td_num::items::Items;
 
@@ -14,16 +14,16 @@ fn deed_levels(level: u64, action: &Action) -> u64
     ensures { result ≡ deed_levels level action.now }
 {
     match &action.step {
-        Step::Done => level,
-        Step::Set(_, _, then) => deed_levels(level, then),
-        Step::Read(_, then) => deed_levels(level + 1, then),
-        Step::If(_, one, other, then) => {
+        ActionStep::Done => level,
+        ActionStep::Set(_, _, then) => deed_levels(level, then),
+        ActionStep::Read(_, then) => deed_levels(level + 1, then),
+        ActionStep::If(_, one, other, then) => {
             let first = deed_levels(level, one);
             let second = deed_levels(level, other);
             first.max(second.max(deed_levels(level, then)))
         }
-        Step::Return(_) => level,
-        Step::Abort => level,
+        ActionStep::Return(_) => level,
+        ActionStep::Abort => level,
     }
 }
 

@@ -7,7 +7,7 @@ ghost use Rattle.td_lower_blocks.specs.Lowered.{terms_of};
 ghost use Rattle.td_core.specs.Weights.{terms_nodes, option_nodes, deed_nodes, action_nodes, part_nodes, element_nodes, extent_nodes, total, fields_nodes, default_nodes, cases_nodes, head_nodes, body_nodes};
 ghost use Rattle.td_lower_blocks.specs.Tops.{term_top, terms_top, test_top, deed_top, action_top, parts_top, sized_top, shape_top, content_top, fields_top, default_top, cases_top, body_top, definition_top};
 
-use td_core::actions::{Action, Step};
+use td_core::actions::{Action, ActionStep};
 use td_core::expressions::{CoreExpr, Node, Relation};
 use td_core::module::{Body, Case, CopyOut, Element, Extent, Field, Part, TypeDef};
 use td_num::items::Items;
@@ -69,16 +69,16 @@ fn deed_top(level: u64, t: u64, action: &Action) -> u64
     ensures { result ≡ deed_top level t action.now }
 {
     match &action.step {
-        Step::Done => t + 1,
-        Step::Set(_, e, then) => value_top(t, e).max(deed_top(level, t, then)),
-        Step::Read(_, then) => (level + 1).max(deed_top(level + 1, t, then)),
-        Step::If(e, one, other, then) => {
+        ActionStep::Done => t + 1,
+        ActionStep::Set(_, e, then) => value_top(t, e).max(deed_top(level, t, then)),
+        ActionStep::Read(_, then) => (level + 1).max(deed_top(level + 1, t, then)),
+        ActionStep::If(e, one, other, then) => {
             let first = deed_top(level, t + 1, one);
             let second = deed_top(level, t + 1, other);
             value_top(t, e).max(first.max(second.max(deed_top(level, t, then))))
         }
-        Step::Return(e) => value_top(t, e),
-        Step::Abort => t + 1,
+        ActionStep::Return(e) => value_top(t, e),
+        ActionStep::Abort => t + 1,
     }
 }
 

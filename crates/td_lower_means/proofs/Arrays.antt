@@ -26,7 +26,7 @@ use Rattle.td_meaning.specs.Naming.{element_names, extent_names}
 use Rattle.td_meaning.specs.Doing.{natural_of}
 use Rattle.td_meaning.specs.Meaning.{Sense, demanded, values_of, element_meaning, shape_meaning, with_copy, copied_meaning, content_meaning, number_places, filled, filled_once, numbers_at, run_of, up_to_zero, zero_end}
 use Rattle.td_meaning.specs.Throughout.{Through, OnShape, OnContent, spare}
-use Rattle.td_meaning.proofs.MachineMeaning.{has_room}
+use Rattle.td_meaning.proofs.Meaning64.{has_room}
 use Rattle.td_ir.specs.declared.instructions.Instr.TheVariants as i
 use Rattle.td_lower_blocks.specs.Block.{Block, Then}
 use Rattle.td_lower_blocks.specs.Constructs.{Steps, steps, value, inner, Inner, CopyAll, ByConstant, Never}

@@ -30,7 +30,7 @@ use Rattle.td_lower_means.proofs.Acts.{Follows, Kept, kept_all, follows_kept, fo
 use Rattle.td_ir.specs.Run.{place_of_site}
 use Rattle.td_num.proofs.Truths.{or_right, or_left}
 use Rattle.td_meaning.proofs.Filling.{on_accepted as at_ending}
-use Rattle.td_meaning.proofs.MachineAgreeing.{some_named as in_some, needed_later as next_needed}
+use Rattle.td_meaning.proofs.Agreeing64.{some_named as in_some, needed_later as next_needed}
 
 -- where the number stands, if it was read
 abbrev pub Source : (read : Bool) (L t n : ℕ) → List Part → List ℕ → Type 0

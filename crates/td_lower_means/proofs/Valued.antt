@@ -14,7 +14,7 @@ use Rattle.td_core.specs.declared.expressions.Binary.TheVariants.{Plus, Minus, T
 use Rattle.td_core.specs.Term.{Term, number, name, complement, negation, compute, compare, both, either, choice, range_okay}
 use Rattle.td_core.specs.Types.{bits, limit, wider, type_of, computed_type}
 use Rattle.td_expr.specs.Value.{value_of, truth_of, number_of, flip, chosen, computed, related, natural, complemented, negated, compared, both_of, either_of, choice_of, range_okay_of}
-use Rattle.td_expr.specs.Sound.{Fits, Sound}
+use Rattle.td_expr.specs.Sound.{FitsScalar, Sound}
 use Rattle.td_expr.proofs.Widths.{limit_small, wider_left, wider_right}
 use Rattle.td_expr.proofs.Holding.{in_type, as_number, below_limit}
 use Rattle.td_expr.proofs.Reaching.{minus_is}
@@ -83,13 +83,13 @@ shifted_right v x y h = by (nat_le 64 y) refl
     by true e = gone v x y h (leb-true 64 y e)
     by false e = refl
 
-op_value : (op : Operator) (v w : Scalar) (x y : ℕ) (a b : Expr) (r : List ℕ) → valued a r ≡ x → valued b r ≡ y → x < limit v → y < limit w → Fits (computed_type op v w) (computed op v w (pos x) (pos y))
+op_value : (op : Operator) (v w : Scalar) (x y : ℕ) (a b : Expr) (r : List ℕ) → valued a r ≡ x → valued b r ≡ y → x < limit v → y < limit w → FitsScalar (computed_type op v w) (computed op v w (pos x) (pos y))
     → valued (computed_of op (limit v - 1) a b) r ≡ natural (computed op v w (pos x) (pos y))
 op_value Plus v w x y a b r p q h k f = ap (λ z. operated 0 z (valued b r)) p ∙ ap (operated 0 x) q ∙ mod-eq_of_lt (omega (arith, f, limit_small (wider v w)))
 op_value Minus v w x y a b r p q h k f = ap (λ z. operated 1 z (valued b r)) p ∙ ap (operated 1 x) q ∙ by (nat_lt x y) refl
   where
     by : (c : Bool) → nat_lt x y ≡ c → operated 1 x y ≡ natural (pos x -ℤ pos y)
-    by true e = absurd (subst (Fits (wider v w)) (minus_under x y (ltb-true x y e)) f)
+    by true e = absurd (subst (FitsScalar (wider v w)) (minus_under x y (ltb-true x y e)) f)
     by false e = let le = ltb-false x y e in wrapped x y le (omega (arith, h, limit_small v)) ∙ ap natural (sym (minus_is x y le))
 op_value Times v w x y a b r p q h k f = ap (λ z. operated 2 z (valued b r)) p ∙ ap (operated 2 x) q ∙ mod-eq_of_lt (omega (arith, f, limit_small (wider v w)))
 op_value Over v w x zero a b r p q h k f = ap (λ z. operated 3 z (valued b r)) p ∙ ap (operated 3 x) q
@@ -222,8 +222,8 @@ value_is (compute op span a b) env r t s g =
     let vb = value_is b env r t.1 s.1.1 (λ j h. g j (or_right (names j a) (names j b) h)) in
     let x = natural (value_of a env) in
     let y = natural (value_of b env) in
-    let f = subst (λ v. Fits (computed_type op (type_of a) (type_of b)) (computed op (type_of a) (type_of b) (pos x) v)) m.is
-    (subst (λ v. Fits (computed_type op (type_of a) (type_of b)) (computed op (type_of a) (type_of b) v (value_of b env))) n.is s.0) in
+    let f = subst (λ v. FitsScalar (computed_type op (type_of a) (type_of b)) (computed op (type_of a) (type_of b) (pos x) v)) m.is
+    (subst (λ v. FitsScalar (computed_type op (type_of a) (type_of b)) (computed op (type_of a) (type_of b) v (value_of b env))) n.is s.0) in
     op_value op (type_of a) (type_of b) x y (expr_of a) (expr_of b) r va vb n.small m.small f
     ∙ ap (λ v. natural (computed op (type_of a) (type_of b) v (pos y))) (sym n.is) ∙ ap (λ v. natural (computed op (type_of a) (type_of b) (value_of a env) v)) (sym m.is)
 value_is (compare k a b) env r t s g =

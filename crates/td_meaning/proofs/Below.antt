@@ -6,7 +6,7 @@ use Rattle.td_core.specs.declared.module.TypeDef.{TypeDef}
 use Rattle.td_core.specs.declared.outcome.Reason.TheVariants.{Impossible}
 use Rattle.td_core.specs.Outcome.{rejected}
 use Rattle.td_meaning.specs.Meaning.{pick}
-use Rattle.td_meaning.specs.Machine.{definition_meaning, below}
+use Rattle.td_meaning.specs.Words64.{definition_meaning, below}
 
 module _ (sets : List (List ℕ)) (definitions : List TypeDef) where
   pub below_self : (j : ℕ) → below sets definitions (suc j) j ≡ definition_meaning sets (below sets definitions j) (slice_get definitions j)

@@ -11,10 +11,10 @@ use Rattle.td_core.specs.Outcome.{Behavior, Ending, Accepted, Rejected, bytes_at
 use Rattle.td_core.specs.Entries.{entry_definition}
 use Rattle.td_core.proofs.Found.{entry_found}
 use Rattle.td_meaning.specs.Meaning.{entry_place, meaning}
-use Rattle.td_meaning.specs.Machine.{below}
+use Rattle.td_meaning.specs.Words64.{below}
 use Rattle.td_meaning.specs.Copies.{buffers_at, opened, outcome, IsSoundOn, cells_of, IsOpened}
-use Rattle.td_meaning.proofs.MachineMeaning.{meaning_is}
-use Rattle.td_meaning.proofs.MachineMeaning as machine
+use Rattle.td_meaning.proofs.Meaning64.{meaning_is}
+use Rattle.td_meaning.proofs.Meaning64 as words64
 use Rattle.td_meaning.proofs.CopiesKept.{count_in}
 use Rattle.td_meaning.proofs.CopiesWhole.{all_whole, opened_small}
 use Rattle.td_meaning.specs.Endings.{AreCells, IsEndingWithin, EndingsAreWithin, FitRooms, CopiesAreWithin}
@@ -72,7 +72,7 @@ module _ (m : Module) (entry : Entry) (args cells message : List ℕ) (o : IsOpe
       ∙ get_or-append-add cells zeros (2 * k + 1) 0 ∙ index_zeros (2 * buffers_at (entry_definition m entry.number)) (2 * k + 1) in
       omega (arith, none)
 
-  computed_kept : Kept (length cells) rooms (machine.meaning m entry args (opened m entry cells) message)
+  computed_kept : Kept (length cells) rooms (words64.meaning m entry args (opened m entry cells) message)
   computed_kept =
       subst (λ p. Kept (length cells) rooms (below m.listed m.definitions (length m.definitions) (entry_place p (length m.definitions)) args (places_from 0 (length (opened m entry cells))) (opened m entry cells) message 0 (length message))) (sym o.there)
       ((below_kept (length cells) rooms message m.listed m.definitions (all_whole m o.formed o.copying) (length m.definitions)).by o.place args (places_from 0 (length (opened m entry cells))) (opened m entry cells) 0 (length message) stands begun)

@@ -15,10 +15,10 @@ use Rattle.td_core.specs.declared.outcome.Verdict.{Verdict}
 use Rattle.td_core.specs.declared.outcome.Verdict.TheVariants.{Accept}
 use Rattle.td_core.specs.Outcome.{Ending, Accepted, Rejected, Behavior, and_then, accepted, rejected}
 use Rattle.td_meaning.specs.Meaning.{Sense, taken, demanded, elements, divides, filled, entry_place, numbers_at}
-use Rattle.td_meaning.specs.Machine.{definition_meaning, below, fields_meaning}
+use Rattle.td_meaning.specs.Words64.{definition_meaning, below, fields_meaning}
 use Rattle.td_meaning.specs.Throughout.{OnEnding}
 use Rattle.td_meaning.specs.Verdicts.{IsAt}
-use Rattle.td_meaning.proofs.MachineMeaning.{meaning}
+use Rattle.td_meaning.proofs.Meaning64.{meaning}
 use Rattle.td_meaning.proofs.Below.{below_self, below_at, below_past}
 
 pub taken_long : (n start end p : ℕ) (cells : List ℕ) → p + n ≤ end → taken n start end p cells ≡ accepted (p + n) cells

@@ -28,7 +28,7 @@ use Rattle.td_core.specs.Copies.{IsCopyWhole, AreBuffersGiven, AreOwnGiven, IsEl
 use Rattle.td_meaning.specs.Doing.{Effect, On, Returned, Aborted, after, either_way}
 use Rattle.td_meaning.specs.Naming.{is_needed}
 use Rattle.td_meaning.specs.Meaning.{Sense, values_of, taken, demanded, zeros_end, zeros_meaning, elements, divides, equals, element_up_to_zero, with_copy, ended, bits_of, field_number, number_places, extended, field_place, where_place, switch_place, first_name, pick}
-use Rattle.td_meaning.specs.Machine.{value_of, is_truth, is_met, values, doing, acted, checked, with_part, parts_meaning, listed_meaning, element_meaning, shape_meaning, copied_meaning, content_meaning, fields_meaning, body_fields, chosen_meaning, definition_meaning, below}
+use Rattle.td_meaning.specs.Words64.{value_of, is_truth, is_met, values, doing, acted, checked, with_part, parts_meaning, listed_meaning, element_meaning, shape_meaning, copied_meaning, content_meaning, fields_meaning, body_fields, chosen_meaning, definition_meaning, below}
 use Rattle.td_meaning.specs.Copies.{cells_of}
 use Rattle.td_meaning.proofs.CopiesKept.{IsMapWhole, IsFieldKept, count_in, same_cells, demanded_cells, index_map, zero_kept, case_kept}
 

@@ -1,13 +1,13 @@
 //! What actions do.
 
 ghost use Rattle.std.specs.Prelude.{◌≡◌, IfOk, OnErr, slice_set, slice_index};
-ghost use Rattle.td_meaning.specs.Machine.{doing};
+ghost use Rattle.td_meaning.specs.Words64.{doing};
 ghost use Rattle.td_meaning.specs.Verdicts.{effect_of, HasRead};
 
 use crate::expressions::{is_truth, value_of};
 use crate::parameters::place_at;
 use std::alloc::AllocError;
-use td_core::actions::{Action, Step};
+use td_core::actions::{Action, ActionStep};
 
 /// How an action ends: what stands after it goes on, or it returned a truth value, or aborted.
 #[derive(Clone, Copy, PartialEq, Eq)]
@@ -46,20 +46,20 @@ pub fn doing(
     ensures memory { OnErr result (HasRead action.now) }
 {
     match &action.step {
-        Step::Done => Ok(Ended::On),
-        Step::Set(cell, expr, then) => {
+        ActionStep::Done => Ok(Ended::On),
+        ActionStep::Set(cell, expr, then) => {
             let value = value_of(expr, env.as_slice());
             set_cell(cells, place_at(places, *cell), value);
             Ok(doing(then, env, places, cells)?)
         }
-        Step::Read(cell, then) => {
+        ActionStep::Read(cell, then) => {
             let value = cell_at(cells, place_at(places, *cell));
             env.push(value)?;
             let ended = doing(then, env, places, cells)?;
             env.pop();
             Ok(ended)
         }
-        Step::If(test, one, other, then) => {
+        ActionStep::If(test, one, other, then) => {
             let ended = if is_truth(value_of(test, env.as_slice())) {
                 doing(one, env, places, cells)?
             } else {
@@ -71,7 +71,7 @@ pub fn doing(
                 Ended::Aborted => Ok(Ended::Aborted),
             }
         }
-        Step::Return(expr) => Ok(Ended::Returned(is_truth(value_of(expr, env.as_slice())))),
-        Step::Abort => Ok(Ended::Aborted),
+        ActionStep::Return(expr) => Ok(Ended::Returned(is_truth(value_of(expr, env.as_slice())))),
+        ActionStep::Abort => Ok(Ended::Aborted),
     }
 }

@@ -2,7 +2,7 @@
 
 ghost use Rattle.std.specs.Prelude.{◌≡◌, MatchOption, None, Some};
 ghost use Rattle.td_meaning.specs.Meaning.{case_for};
-ghost use Rattle.td_meaning.specs.Machine.{body_fields};
+ghost use Rattle.td_meaning.specs.Words64.{body_fields};
 
 use crate::expressions::value_of;
 use td_core::module::{Body, Case, Field};

@@ -3,7 +3,7 @@
 
 ghost use Rattle.std.specs.Prelude.{◌≡◌, ◌<◌, length, IfOk, OnErr, Option};
 ghost use Rattle.td_core.specs.Term.{Term};
-ghost use Rattle.td_meaning.specs.Machine.{truth_number, is_truth, applied, value_of, values, is_met};
+ghost use Rattle.td_meaning.specs.Words64.{truth_number, is_truth, applied, value_of, values, is_met};
 
 use std::alloc::{AllocError, Global};
 use td_core::expressions::{Binary, CoreExpr, Node, Relation, Scalar};
@@ -43,7 +43,7 @@ fn applied(op: Binary, scalar: Scalar, x: u64, y: u64) -> u64
 }
 
 /// The value of an expression for the values in scope; a value past them is 0.
-#[tactic(auto, unfolding(crate::specs::Machine::value_of))]
+#[tactic(auto, unfolding(crate::specs::Words64::value_of))]
 pub fn value_of(e: &CoreExpr, env: &[u64]) -> u64
     ensures { result ≡ value_of e.now env.now }
 {
@@ -92,7 +92,7 @@ pub fn values_of(alloc: Global, exprs: &[CoreExpr], env: &[u64]) -> Result<Vec<u
 }
 
 /// Whether a test, where there is one, is met.
-#[tactic(auto, unfolding(crate::specs::Machine::is_met))]
+#[tactic(auto, unfolding(crate::specs::Words64::is_met))]
 pub fn is_met(test: &Option<CoreExpr>, env: &[u64]) -> bool
     ensures { result ≡ is_met test.now env.now }
 {

@@ -8,7 +8,7 @@ ghost use Rattle.td_meaning.specs.Naming.{some_name, in_option, part_names, part
 ghost use Rattle.td_meaning_needed.specs.Needed.{Marked, AreMarks, levels_of, needed_list};
 
 use std::alloc::{AllocError, Global};
-use td_core::actions::{Action, Step};
+use td_core::actions::{Action, ActionStep};
 use td_core::expressions::{CoreExpr, Node};
 use td_core::module::{Element, Extent, Field, Part};
 use td_expr::naming::action_names;
@@ -76,20 +76,20 @@ fn mark_action(action: &Action, marks: &mut [bool])
     ensures { Marked marks.old marks.new (λ i. deed_names i action.now) }
 {
     match &action.step {
-        Step::Done => {}
-        Step::Set(_, e, then) => {
+        ActionStep::Done => {}
+        ActionStep::Set(_, e, then) => {
             mark_expression(e, marks);
             mark_action(then, marks);
         }
-        Step::Read(_, then) => mark_action(then, marks),
-        Step::If(e, one, other, then) => {
+        ActionStep::Read(_, then) => mark_action(then, marks),
+        ActionStep::If(e, one, other, then) => {
             mark_expression(e, marks);
             mark_action(one, marks);
             mark_action(other, marks);
             mark_action(then, marks);
         }
-        Step::Return(e) => mark_expression(e, marks),
-        Step::Abort => {}
+        ActionStep::Return(e) => mark_expression(e, marks),
+        ActionStep::Abort => {}
     }
 }
 

@@ -15,8 +15,8 @@ use Rattle.td_core.specs.declared.outcome.Verdict.TheVariants.{Accept, Reject}
 use Rattle.td_core.specs.Outcome.{Ending, Accepted, Rejected, Behavior, plain, accepted, after_reading, onward, and_then, ending_within, within}
 use Rattle.td_meaning.specs.Naming.{is_needed}
 use Rattle.td_meaning.specs.Meaning.{Sense, demanded, elements, field_place, field_number, number_places, first_name, extended, entry_place, numbers_at, run_of, is_nonzero, byte_type, zeros_end, zeros_meaning}
-use Rattle.td_meaning.specs.Machine.{below, fields_meaning, content_meaning, parts_meaning}
-use Rattle.td_meaning.proofs.MachineMeaning.{meaning}
+use Rattle.td_meaning.specs.Words64.{below, fields_meaning, content_meaning, parts_meaning}
+use Rattle.td_meaning.proofs.Meaning64.{meaning}
 use Rattle.td_meaning.specs.Verdicts.{ending_of, IsAt}
 
 -- what follows an ending doesn't rest on what was read

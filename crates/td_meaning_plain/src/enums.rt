@@ -2,7 +2,7 @@
 
 ghost use Rattle.std.specs.Prelude.{◌≡◌, ℕ, List, []};
 ghost use Rattle.td_core.specs.Outcome.{Ending};
-ghost use Rattle.td_meaning.specs.Machine.{listed_meaning};
+ghost use Rattle.td_meaning.specs.Words64.{listed_meaning};
 ghost use Rattle.td_meaning.specs.Verdicts.{ending_of};
 
 use crate::numbers::{number_at, place_after};

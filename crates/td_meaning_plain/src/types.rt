@@ -3,7 +3,7 @@
 ghost use Rattle.std.specs.Prelude.{◌≡◌, ℕ, suc, ◌∷◌, ◌-◌, List, [], IfOk, Some};
 ghost use Rattle.td_core.specs.declared.module.Field.{Field};
 ghost use Rattle.td_core.specs.Outcome.{Ending, plain, and_then};
-ghost use Rattle.td_meaning.specs.Machine.{below, definition_meaning, fields_meaning, content_meaning, shape_meaning, element_meaning};
+ghost use Rattle.td_meaning.specs.Words64.{below, definition_meaning, fields_meaning, content_meaning, shape_meaning, element_meaning};
 ghost use Rattle.td_meaning.specs.Meaning.{elements, filled, filled_once};
 ghost use Rattle.td_meaning.specs.Verdicts.{ending_of};
 

@@ -16,11 +16,11 @@ use Rattle.td_job_host.specs.Steps.{SpelledStep, SpelledStore, SpelledPost, Spel
 use Rattle.td_job_host.specs.Guests.{listed_in, listed_steps, given_script, each_script, listed_scripts}
 use Rattle.td_job_host.specs.HostJobs.{IsHost, IsShort}
 use Rattle.td_job_host.specs.Laws.{HostJobsKeepLimits}
-use Rattle.td_report_facts.specs.Laws.{AreSized, StoresSmall, HostJobsAreSized, OutcomesAreTold, RepliesAreTold}
+use Rattle.td_report_facts.specs.Laws.{AreSized, StoresSmall, HostJobsAreSized, OutcomesAreReportable, RepliesAreReportable}
 use Rattle.td_report_facts.proofs.Jobs.{word_small}
 use Rattle.td_report_facts.proofs.Posts.{posts_sized}
 use Rattle.td_report_facts.proofs.Reading.{read_small}
-use Rattle.td_report_facts.proofs.Told.{index_small}
+use Rattle.td_report_facts.proofs.Reportable.{index_small}
 
 -- ---- stores
 
@@ -84,8 +84,8 @@ host_jobs_are_sized keep bytes m j h =
 
 -- ---- outcomes
 
-pub replies_are_told : OutcomesAreTold → RepliesAreTold
-replies_are_told told m j message n f entry version checked s bytes short =
+pub replies_are_reportable : OutcomesAreReportable → RepliesAreReportable
+replies_are_reportable told m j message n f entry version checked s bytes short =
     let own = entry_definition f entry.number in
     let bounds = cells_at own in
     let values = s.kept.values.each n f entry version in

@@ -3,7 +3,7 @@ pub mod Laid
 pub mod Names
 pub mod Posts
 pub mod Reading
-pub mod Told
+pub mod Reportable
 pub mod Rooms
 pub mod Runs
 pub mod Hosts

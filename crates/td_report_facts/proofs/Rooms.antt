@@ -12,7 +12,7 @@ use Rattle.td_arith.specs.Laws.{EvaluatedIsSound}
 use Rattle.td_posts.specs.Posts.{HaveRoom}
 use Rattle.td_job_host.specs.HostJobs.{rooms_in}
 use Rattle.td_report_facts.specs.Laws.{CopiesHaveRoom}
-use Rattle.td_report_facts.proofs.Told.{given_cells}
+use Rattle.td_report_facts.proofs.Reportable.{given_cells}
 
 by_rooms : (bs : List Buffer) (held : List (List ℕ)) → FitRooms bs held → HaveRoom (map (λ (b : Buffer). b.room) bs) held
 by_rooms [] [] h = tt

@@ -10,7 +10,7 @@ use Rattle.td_core.specs.Formed.{AllFit, params_at, cells_at}
 use Rattle.td_stream.specs.declared.load.Load.{Load}
 use Rattle.td_stream.specs.declared.layout.TheConstants.{MOST_STRETCHES}
 use Rattle.td_stream.specs.declared.stretch.Stretch.{Stretch}
-use Rattle.td_stream.specs.Layouts.{length_in, laid}
+use Rattle.td_stream.specs.Layouts.{length_in, layout_or_plain}
 use Rattle.td_stream.specs.Loads.{Inside, buffered}
 use Rattle.td_sched.specs.declared.store.PlannedStore.{PlannedStore}
 use Rattle.td_sched.specs.Plan.{ArePlanned}
@@ -42,7 +42,7 @@ AreSized (Some layout) = IsSizedLayout layout
 pub record IsSized (m : Module) (j : RunJob) : Type 0 where
   pub entry : j.entry.number < length m.entries
   pub values : HasValues m j
-  pub long : length_in (laid j.length j.layout) ≡ j.length
+  pub long : length_in (layout_or_plain j.length j.layout) ≡ j.length
   pub limit : j.length ≤ MOST_BYTES
   pub stretches : AreSized j.layout
   pub words : All (λ word. word < 2 ^ 64) j.words
@@ -72,18 +72,18 @@ abbrev pub ModulesHaveWords : Type 0
 ModulesHaveWords = (m : Module) → IsChecked m → HasWords m × HasNoSpotWord m
 
 -- what a report prints of an outcome can be read back: names, numbers of 64 bits, a value for each cell, and bytes for each copy buffer
-pub record IsTold (m : Module) (entry : Entry) (o : Outcome) : Type 0 where
+pub record IsReportableOutcome (m : Module) (entry : Entry) (o : Outcome) : Type 0 where
   pub named : IsNamedOutcome m o
   pub frames : HasFrames o.verdict o.trace
   pub cells : HasCells m entry o
   pub copies : HasCopies m entry o
 
 -- so is the outcome that a checked module has on any message of at most a MiB, from an entry point of it, with arguments and cells that fit
-abbrev pub OutcomesAreTold : Type 0
-OutcomesAreTold =
+abbrev pub OutcomesAreReportable : Type 0
+OutcomesAreReportable =
     (m : Module) (entry : Entry) (args cells message : List ℕ) → IsChecked m → entry.number < length m.entries
     → AllFit (params_at (entry_definition m entry.number)) args → AllFit (cells_at (entry_definition m entry.number)) cells → AreBytes message → length message ≤ MOST_BYTES
-    → IsTold m entry (outcome m entry args cells message)
+    → IsReportableOutcome m entry (outcome m entry args cells message)
 
 -- and what it copies fits the rooms of the entry point's copy buffers, on any message that has a length
 abbrev pub CopiesHaveRoom : Type 0
@@ -93,19 +93,19 @@ CopiesHaveRoom =
     → HaveRoom (rooms_in (entry_definition m entry.number)) (outcome m entry args cells message).copies
 
 -- so is the outcome that a checked module has on any message of a job's length
-abbrev pub RunsAreTold : Type 0
-RunsAreTold =
+abbrev pub RunsAreReportable : Type 0
+RunsAreReportable =
     (m : Module) (j : RunJob) (message : List ℕ) → IsChecked m → IsSized m j → AreBytes message → length message ≡ j.length →
-    IsTold m j.entry (outcome m j.entry j.args j.cells message)
+    IsReportableOutcome m j.entry (outcome m j.entry j.args j.cells message)
 
 -- and the outcome that a version of a host job has, from cells of zeros, on any message that the job may have
-abbrev pub RepliesAreTold : Type 0
-RepliesAreTold =
+abbrev pub RepliesAreReportable : Type 0
+RepliesAreReportable =
     (m : Module) (j : HostJob) (message : List ℕ) (n : ℕ) (f : Module) (entry : Entry) → IsVersion j n f entry → IsChecked f → IsHostSized m j → AreBytes message → length message ≤ MOST_BYTES →
-    IsTold f entry (outcome f entry j.args (zeros j.cells) message)
+    IsReportableOutcome f entry (outcome f entry j.args (zeros j.cells) message)
 
 -- so are the loads of a run job's words, each named as the message has it
-abbrev pub LoadsAreTold : Type 0
-LoadsAreTold =
-    (m : Module) (j : RunJob) (loads : List Load) → IsSized m j → Inside (laid j.length j.layout) loads → ArePlanned j.words j.stores 0 (buffered j.layout loads) →
+abbrev pub LoadsAreReportable : Type 0
+LoadsAreReportable =
+    (m : Module) (j : RunJob) (loads : List Load) → IsSized m j → Inside (layout_or_plain j.length j.layout) loads → ArePlanned j.words j.stores 0 (buffered j.layout loads) →
     All (IsShownLoad j.layout) loads

@@ -1,6 +1,6 @@
 //! Laws of what reports tell. They do nothing when they are called.
 
-ghost use Rattle.td_report_facts.specs.Laws.{CopiesHaveRoom, HostJobsAreSized, JobsAreSized, LoadsAreTold, ModulesHaveWords, OutcomesAreTold, RepliesAreTold, RunsAreTold};
+ghost use Rattle.td_report_facts.specs.Laws.{CopiesHaveRoom, HostJobsAreSized, JobsAreSized, LoadsAreReportable, ModulesHaveWords, OutcomesAreReportable, RepliesAreReportable, RunsAreReportable};
 
 use td_arith::laws::evaluated_is_sound;
 use td_job_host::laws::jobs_keep_limits;
@@ -34,8 +34,8 @@ pub fn modules_have_words()
 
 /// The outcome of a checked module on a message of at most a MiB, from arguments and cells that fit, has named frames, numbers of 64 bits,
 /// a value for each cell, and bytes for each copy buffer: that of a descriptor of a ring, too.
-pub fn outcomes_are_told()
-    ensures { OutcomesAreTold }
+pub fn outcomes_are_reportable()
+    ensures { OutcomesAreReportable }
 {
     evaluated_is_sound();
     endings_are_within();
@@ -52,21 +52,21 @@ pub fn copies_have_room()
 }
 
 /// The outcome of a good job has named frames, numbers of 64 bits, a value for each cell, and bytes for each copy buffer.
-pub fn runs_are_told()
-    ensures { RunsAreTold }
+pub fn runs_are_reportable()
+    ensures { RunsAreReportable }
 {
-    outcomes_are_told();
+    outcomes_are_reportable();
 }
 
 /// The outcome that a version of a good host job has on a message has named frames, numbers of 64 bits, a value for each cell, and bytes
 /// for each copy buffer.
-pub fn replies_are_told()
-    ensures { RepliesAreTold }
+pub fn replies_are_reportable()
+    ensures { RepliesAreReportable }
 {
-    outcomes_are_told();
+    outcomes_are_reportable();
 }
 
 /// The loads of a good job are of words and values of 64 bits, their stretches included where it has a layout.
-pub fn loads_are_told()
-    ensures { LoadsAreTold }
+pub fn loads_are_reportable()
+    ensures { LoadsAreReportable }
 {}

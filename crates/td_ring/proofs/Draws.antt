@@ -16,7 +16,7 @@ use Rattle.td_ring.proofs.RollHeads.{is_none, are_in_log}
 use Rattle.td_ring.specs.declared.view.TicketView.{TicketView}
 use Rattle.td_ring.specs.Heads as more
 use Rattle.td_ring.specs.Heads.{maybe_of, new_part, with_ended, with_more}
-use Rattle.td_ring.specs.Tickets.{head_in, part_in, counted, KeepsCount, CanDraw, did_draw, first_view, no_view, one_more, new_seat, with_seat, Holding, Drew, Told, Learned}
+use Rattle.td_ring.specs.Tickets.{head_in, part_in, counted, KeepsCount, CanDraw, did_draw, first_view, no_view, one_more, new_seat, with_seat, Holding, Drew, Drawn, Learned}
 
 one_longer : (log : List (Entry ℕ)) (e : Entry ℕ) → length (log ++ e ∷ []) ≡ suc (length log)
 one_longer [] e = refl
@@ -71,7 +71,7 @@ module _ {S : Type 0} where
         numbers = k.numbers;
       }
 
-  told : (s : State S TicketView) (k : KeepsCount s) (id : ℕ) (v : TicketView) → get_elem? s.views id ≡ some v → Told v k.log
+  told : (s : State S TicketView) (k : KeepsCount s) (id : ℕ) (v : TicketView) → get_elem? s.views id ≡ some v → Drawn v k.log
   told s k id v at = record {
     numbers = k.numbers;
     seats = λ h p e f. are_in_log head_in part_in s.views k.log k.roll id v at h p (ap maybe_of e) (ap maybe_of f);

@@ -8,7 +8,7 @@ use Rattle.td_ring.specs.declared.post.Post.{Post}
 use Rattle.td_ring.specs.declared.view.RingView.{RingView}
 use Rattle.td_ring.specs.declared.view.TicketView.{TicketView}
 use Rattle.td_ring.specs.Ring.{Settled}
-use Rattle.td_ring.specs.Tickets.{counted, Told}
+use Rattle.td_ring.specs.Tickets.{counted, Drawn}
 
 -- all that were made were gathered, but for the head's own
 abbrev pub AllGathered : {A : Type 0} → Head A → Type 0
@@ -25,5 +25,5 @@ TakesAreFirstPosts =
 -- where all seats together drew n times, the draws are k modulo 2^64 for the k below n, one for each k
 abbrev pub DrawsAreCounted : Type 0
 DrawsAreCounted =
-    (v : TicketView) (log : List (Entry ℕ)) (h : Head ℕ) (p : Part ℕ) → Told v log → v.head ≡ Some h → v.draws ≡ Some p → AllGathered h →
+    (v : TicketView) (log : List (Entry ℕ)) (h : Head ℕ) (p : Part ℕ) → Drawn v log → v.head ≡ Some h → v.draws ≡ Some p → AllGathered h →
     IsPermutation (counted (length (owned (p ∷ h.ended)))) (owned (p ∷ h.ended))

@@ -78,10 +78,10 @@ abbrev pub Drew : {S : Type 0} → Step S → Holding S → ℕ → Holding S �
 Drew s m found m' = m' ≡ (did_draw m.0 found, m.1)
 
 -- all numbers drawn are 0, 1, 2 .. modulo 2^64, each once, and those of the seats stand under their numbers
-pub record Told (v : TicketView) (log : List (Entry ℕ)) : Type 0 where
+pub record Drawn (v : TicketView) (log : List (Entry ℕ)) : Type 0 where
   pub numbers : all_entries log ≡ counted (length log)
   pub seats : (h : Head ℕ) (p : Part ℕ) → v.head ≡ Some h → v.draws ≡ Some p → AreInLog log h p
 
 -- what a look tells: the view is the same, and what all drew
 abbrev pub Learned : {S : Type 0} → Step S → Holding S → ℕ → Holding S → Type 0
-Learned s m found m' = (m' ≡ m) × ((log : List (Entry ℕ)) × Told m.0 log)
+Learned s m found m' = (m' ≡ m) × ((log : List (Entry ℕ)) × Drawn m.0 log)

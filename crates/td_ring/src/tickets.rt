@@ -3,7 +3,7 @@
 ghost use Rattle.std.specs.Prelude.{◌≡◌, ℕ, List, IfOk};
 ghost use Rattle.td_ring.specs.Roll.{Entry};
 ghost use Rattle.td_ring.specs.Heads.{HasHead};
-ghost use Rattle.td_ring.specs.Tickets.{first_view, did_draw, drawer_with, drawer_state, one_more, new_seat, with_seat, Told};
+ghost use Rattle.td_ring.specs.Tickets.{first_view, did_draw, drawer_with, drawer_state, one_more, new_seat, with_seat, Drawn};
 
 use crate::ticket_rule::{Draws, EachOnce, Seats, Tells};
 use crate::ticket_seat::TicketSeat;
@@ -64,7 +64,7 @@ impl Tickets {
         requires own { (seat.old.table ≡ self.now) × (other.table ≡ self.now) }
         requires head { HasHead seat.old.view.head }
         ensures view { seat.new ≡ drawer_with seat.old (with_seat seat.old.view other.view) }
-        ensures told { (log : List (Entry ℕ)) × Told seat.new.view log }
+        ensures told { (log : List (Entry ℕ)) × Drawn seat.new.view log }
     {
         let TicketSeat { seat: other } = other;
         self.table.shared.join_seat::<Seats>(&mut seat.seat, other);
@@ -75,7 +75,7 @@ impl Tickets {
     pub fn tell(&self, seat: &mut TicketSeat)
         requires { seat.old.table ≡ self.now }
         ensures same { seat.new ≡ seat.old }
-        ensures told { (log : List (Entry ℕ)) × Told seat.old.view log }
+        ensures told { (log : List (Entry ℕ)) × Drawn seat.old.view log }
     {
         self.table.shared.load::<Tells>(&mut seat.seat, 0);
     }

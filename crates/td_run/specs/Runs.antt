@@ -4,7 +4,7 @@ use Rattle.td_core.specs.declared.module.Entry.{Entry}
 use Rattle.td_core.specs.declared.outcome.Outcome.{Outcome}
 use Rattle.td_stream.specs.declared.load.Load.{Load}
 use Rattle.td_stream.specs.declared.stretch.Stretch.{Stretch}
-use Rattle.td_stream.specs.Layouts.{laid}
+use Rattle.td_stream.specs.Layouts.{layout_or_plain}
 use Rattle.td_stream.specs.Loads.{buffered}
 use Rattle.td_sched.specs.declared.store.PlannedStore.{PlannedStore}
 use Rattle.td_sched.specs.Plan.{ArePlanned}
@@ -24,7 +24,7 @@ pub record Input : Type 0 where
 
 -- how the message lies in the buffer
 abbrev pub layout_of : Input → List Stretch
-layout_of input = laid input.length input.layout
+layout_of input = layout_or_plain input.length input.layout
 
 -- the run is a validation by the code, and each load gave what its word of the buffer then held, by the plan
 pub record IsRunBy (c : Parts) (input : Input) (outcome : Outcome) (loads : List Load) : Type 0 where

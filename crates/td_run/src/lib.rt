@@ -4,8 +4,8 @@
 //! outcome.
 #![tactic(auto)]
 
-pub mod compiled;
-pub mod looks;
+pub mod load_count;
 pub mod planned;
+pub mod validation;
 
-pub use compiled::{validate_compiled, validate_recorded, validate_told};
+pub use validation::{validate_compiled, validate_recorded, validate_with_steps};

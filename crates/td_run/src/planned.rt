@@ -1,13 +1,13 @@
 //! A run by code on words to which others store by a plan.
 
 ghost use Rattle.std.specs.Prelude.{◌≡◌, ℕ, ◌+◌, ◌<◌, ◌≤◌, ◌^◌, [], None, option_map, length as size_of, IfOk, IsErr, IsOk};
-ghost use Rattle.td_stream.specs.Layouts.{count_in, counted, laid, IsOver};
+ghost use Rattle.td_stream.specs.Layouts.{count_in, loadable, layout_or_plain, IsOver};
 ghost use Rattle.td_ir.specs.Entries.{Fits, buffers_of};
 ghost use Rattle.td_vm.specs.Frames.{IsArmed, outcome_in};
 ghost use Rattle.td_run.specs.Runs.{IsRunBy};
 
-use crate::compiled::validate_recorded;
-use crate::looks::Looks;
+use crate::load_count::LoadCount;
+use crate::validation::validate_recorded;
 use std::alloc::{AllocError, Global};
 use std::sync::ledger::Ledger;
 use td_core::module::Entry;
@@ -38,14 +38,14 @@ pub struct Memory<'a> {
 
 /// The verdict of a run, and the loads that it made.
 #[derive(Drop)]
-pub struct Ran {
+pub struct FrameRun {
     pub verdict: Verdict,
     pub loads: Loads,
 }
 
 /// How a run came out, and the loads that it made.
 #[derive(Drop)]
-pub struct Run {
+pub struct PlannedRun {
     pub outcome: Outcome,
     pub loads: Loads,
 }
@@ -57,7 +57,7 @@ pub struct Prepared<'a> {
     loads: Loads,
     pub ghost fresh: { words.loads ≡ [] },
     pub ghost empty: { loads.list ≡ [] },
-    pub ghost room: { counted words.layout (size_of words.opening) ≤ loads.room },
+    pub ghost room: { loadable words.layout (size_of words.opening) ≤ loads.room },
 }
 
 // Memory with a layout or without one.
@@ -101,11 +101,11 @@ pub fn run_prepared(
     start: &Start<'_>,
     message: &Layout,
     prepared: Prepared<'_>,
-) -> Ran
+) -> FrameRun
     requires armed { IsArmed code.now frame.old }
     requires fits { Fits code.now start.now.entry start.now.args.now start.now.cells.now }
-    requires room { count_in message.now ≤ counted prepared.words.layout (size_of prepared.words.opening) }
-    ensures run { (n : ℕ) → message.now ≡ laid n prepared.entry.words.layout → IsRunBy code.now
+    requires room { count_in message.now ≤ loadable prepared.words.layout (size_of prepared.words.opening) }
+    ensures run { (n : ℕ) → message.now ≡ layout_or_plain n prepared.entry.words.layout → IsRunBy code.now
         (record { entry = start.now.entry; args = start.now.args.now; cells = start.now.cells.now; length = n; layout = prepared.entry.words.layout; words = prepared.entry.words.opening; stores = prepared.entry.words.stores })
         (outcome_in frame.new (buffers_of code.now start.now.entry) result.verdict) result.loads.list }
     ensures armed { IsArmed code.now frame.new }
@@ -119,12 +119,12 @@ pub fn run_prepared(
     let args = start.args;
     frame.set_cells(start.cells);
     let verdict = validate_recorded(code, entry, args, message, frame, &mut words, &mut loads);
-    Ran { verdict, loads }
+    FrameRun { verdict, loads }
 }
 
 // How a message lies that has a layout, or is plain.
 fn message_in<'a>(layout: Option<&'a Layout>, plain: &'a Layout) -> &'a Layout
-    ensures { (n : ℕ) → plain.now ≡ laid n None → result.now ≡ laid n (option_map (λ l. l.now) layout.entry) }
+    ensures { (n : ℕ) → plain.now ≡ layout_or_plain n None → result.now ≡ layout_or_plain n (option_map (λ l. l.now) layout.entry) }
 {
     match layout {
         None => plain,
@@ -141,22 +141,22 @@ pub fn run_counted<L: Ledger>(
     length: u32,
     layout: Option<&Layout>,
     prepared: Prepared<'_>,
-    looks: &mut Looks<L>,
-) -> Ran
+    load_count: &mut LoadCount<L>,
+) -> FrameRun
     requires armed { IsArmed code.now frame.old }
     requires fits { Fits code.now start.now.entry start.now.args.now start.now.cells.now }
     requires same { prepared.words.layout ≡ option_map (λ l. l.now) layout }
-    requires room { count_in (laid length (option_map (λ l. l.now) layout)) ≤ counted prepared.words.layout (size_of prepared.words.opening) }
+    requires room { count_in (layout_or_plain length (option_map (λ l. l.now) layout)) ≤ loadable prepared.words.layout (size_of prepared.words.opening) }
     ensures run { IsRunBy code.now
         (record { entry = start.now.entry; args = start.now.args.now; cells = start.now.cells.now; length = length; layout = prepared.entry.words.layout; words = prepared.entry.words.opening; stores = prepared.entry.words.stores })
         (outcome_in frame.new (buffers_of code.now start.now.entry) result.verdict) result.loads.list }
     ensures armed { IsArmed code.now frame.new }
-    ensures counted { looks.new ≡ looks.old + size_of result.loads.list }
+    ensures counted { load_count.new ≡ load_count.old + size_of result.loads.list }
 {
     let plain = Layout::plain(length);
     let message = message_in(layout, &plain);
     let ran = run_prepared(code, frame, start, message, prepared);
-    looks.add(&ran.loads);
+    load_count.add(&ran.loads);
     ran
 }
 
@@ -172,11 +172,11 @@ pub fn run_in_frame(
     start: &Start<'_>,
     length: u32,
     memory: &Memory<'_>,
-) -> Result<Ran, AllocError>
+) -> Result<FrameRun, AllocError>
     requires armed { IsArmed code.now frame.old }
     requires fits { Fits code.now start.now.entry start.now.args.now start.now.cells.now }
     requires many { size_of memory.now.words.now < 2 ^ 32 }
-    requires room { count_in (laid length (option_map (λ l. l.now) memory.now.layout)) ≤ counted (option_map (λ l. l.now) memory.now.layout) (size_of memory.now.words.now) }
+    requires room { count_in (layout_or_plain length (option_map (λ l. l.now) memory.now.layout)) ≤ loadable (option_map (λ l. l.now) memory.now.layout) (size_of memory.now.words.now) }
     requires over { IsOver (size_of memory.now.words.now) (option_map (λ l. l.now) memory.now.layout) }
     ensures run { IfOk result (λ ran. IsRunBy code.now
         (record { entry = start.now.entry; args = start.now.args.now; cells = start.now.cells.now; length = length; layout = option_map (λ l. l.now) memory.now.layout; words = memory.now.words.now; stores = memory.now.stores.now })
@@ -198,10 +198,10 @@ pub fn run_planned(
     start: &Start<'_>,
     length: u32,
     memory: &Memory<'_>,
-) -> Result<Run, AllocError>
+) -> Result<PlannedRun, AllocError>
     requires fits { Fits code.now start.now.entry start.now.args.now start.now.cells.now }
     requires many { size_of memory.now.words.now < 2 ^ 32 }
-    requires room { count_in (laid length (option_map (λ l. l.now) memory.now.layout)) ≤ counted (option_map (λ l. l.now) memory.now.layout) (size_of memory.now.words.now) }
+    requires room { count_in (layout_or_plain length (option_map (λ l. l.now) memory.now.layout)) ≤ loadable (option_map (λ l. l.now) memory.now.layout) (size_of memory.now.words.now) }
     requires over { IsOver (size_of memory.now.words.now) (option_map (λ l. l.now) memory.now.layout) }
     ensures { IfOk result (λ run. IsRunBy code.now
         (record { entry = start.now.entry; args = start.now.args.now; cells = start.now.cells.now; length = length; layout = option_map (λ l. l.now) memory.now.layout; words = memory.now.words.now; stores = memory.now.stores.now })
@@ -209,7 +209,7 @@ pub fn run_planned(
 {
     let mut frame = Frame::arm(alloc, code)?;
     let ran = run_in_frame(alloc, code, &mut frame, start, length, memory)?;
-    Ok(Run {
+    Ok(PlannedRun {
         outcome: frame.into_outcome(code, start.entry, ran.verdict),
         loads: ran.loads,
     })

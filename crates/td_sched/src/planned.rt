@@ -1,7 +1,7 @@
 //! Plain memory to which others store by a plan.
 ghost use Rattle.std.specs.Prelude.{◌≡◌, ℕ, ◌+◌, ◌<◌, ◌≤◌, ◌^◌, List, [], Some, None, length, take, option_map, IfOk, IsOk, OnOk};
 ghost use Rattle.std.specs.List.{All};
-ghost use Rattle.td_stream.specs.Layouts.{named, counted, AreWithin, IsOver};
+ghost use Rattle.td_stream.specs.Layouts.{buffer_word_of, loadable, AreWithin, IsOver};
 ghost use Rattle.td_sched.specs.declared.store.PlannedStore.{PlannedStore};
 ghost use Rattle.td_sched.specs.Plan.{numbered, to_word};
 ghost use Rattle.td_sched.specs.Invariant.{NeverFalls};
@@ -86,8 +86,8 @@ fn sort_by_word(stores: &mut Vec<PlannedStore>) -> Result<(), AllocError>
 
 // The stretch, looked for from one that was near, and the word of the buffer that a number names.
 fn word_named(layout: Option<&Layout>, near: u32, number: u32) -> (u32, u32)
-    requires { number < counted (option_map (λ l. l.now) layout) (number + 1) }
-    ensures { result.1 ≡ named (option_map (λ l. l.now) layout.entry) number }
+    requires { number < loadable (option_map (λ l. l.now) layout) (number + 1) }
+    ensures { result.1 ≡ buffer_word_of (option_map (λ l. l.now) layout.entry) number }
 {
     match layout {
         None => (near, number),

@@ -19,7 +19,7 @@ use td_core::outcome::{TraceFrame, Verdict};
 use td_image::{ImageError, read_image};
 use td_ir::entries::{entry_in, fits};
 use td_ir::tables::Parts;
-use td_run::compiled::validate_told;
+use td_run::validation::validate_with_steps;
 use td_stream::copies::Buffer;
 use td_stream::layout::Layout;
 use td_stream::words::Words;
@@ -154,7 +154,7 @@ impl Session {
         }
         fitting_cells_have_room();
         self.frame.set_cells(cells);
-        let found = validate_told(
+        let found = validate_with_steps(
             self.code.verified(),
             entry,
             args,

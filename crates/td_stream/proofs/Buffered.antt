@@ -4,13 +4,13 @@ use Rattle.std.proofs.lemmas.List.{map_push, length-map}
 use Rattle.std.proofs.lemmas.List.Elements.{All-head, All-tail}
 use Rattle.td_stream.specs.declared.load.Load.{Load}
 use Rattle.td_stream.specs.declared.stretch.Stretch.{Stretch}
-use Rattle.td_stream.specs.Layouts.{words_in, count_in, buffer_word, named, counted, AreWithin, IsOver}
+use Rattle.td_stream.specs.Layouts.{words_in, count_in, buffer_word, buffer_word_of, loadable, AreWithin, IsOver}
 use Rattle.td_stream.specs.Loads.{buffered}
 use Rattle.td_stream.proofs.Layouts.{below_or, words_some, words_none, pair_here, pair_there}
 
 -- a load by its word of the buffer
 abbrev pub in_buffer : Option (List Stretch) → Load → Load
-in_buffer o l = record { word = named o l.word; value = l.value }
+in_buffer o l = record { word = buffer_word_of o l.word; value = l.value }
 
 pub buffered_push : (o : Option (List Stretch)) (xs : List Load) (l : Load) → buffered o (xs ++ l ∷ []) ≡ buffered o xs ++ in_buffer o l ∷ []
 buffered_push None xs l = refl
@@ -39,11 +39,11 @@ word_within w (s ∷ layout) n h lt =
           omega (arith, e, r)
     ]
 
-pub named_within : (w : ℕ) (o : Option (List Stretch)) (n : ℕ) → IsOver w o → n < counted o w → named o n < w
+pub named_within : (w : ℕ) (o : Option (List Stretch)) (n : ℕ) → IsOver w o → n < loadable o w → buffer_word_of o n < w
 named_within w None n h lt = lt
 named_within w (Some layout) n h lt = word_within w layout n h lt
 
 -- without a layout every number names a word
-pub number_of : (o : Option (List Stretch)) (n w : ℕ) → n < counted o w → n < counted o (n + 1)
+pub number_of : (o : Option (List Stretch)) (n w : ℕ) → n < loadable o w → n < loadable o (n + 1)
 number_of None n w lt = omega arith
 number_of (Some layout) n w lt = lt

@@ -1,7 +1,7 @@
 //! How a message lies in a buffer.
 
 ghost use Rattle.std.specs.Prelude.{◌≡◌, ℕ, ◌+◌, ◌-◌, ◌/◌, ◌%◌, ◌*◌, ◌<◌, ◌≤◌, ◌^◌, [], ◌∷◌, length, option_map, IfOk, IsOk};
-ghost use Rattle.td_stream.specs.Layouts.{length_in, count_in, word_at, offset_at, pair_at, words_in, plain, counted};
+ghost use Rattle.td_stream.specs.Layouts.{length_in, count_in, word_at, offset_at, pair_at, words_in, plain, loadable};
 ghost use Rattle.td_stream.specs.Parts.{IsPart, start_of, first_of};
 
 use crate::stretch::Stretch;
@@ -323,7 +323,7 @@ impl Layout {
 
 /// How many words may be loaded: the message's, or without a layout all of so many.
 pub fn word_count(layout: Option<&Layout>, all: u32) -> u32
-    ensures { result ≡ counted (option_map (λ l. l.now) layout.entry) all }
+    ensures { result ≡ loadable (option_map (λ l. l.now) layout.entry) all }
 {
     match layout {
         None => all,

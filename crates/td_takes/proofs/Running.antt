@@ -7,7 +7,7 @@ use Rattle.td_posts.specs.declared.job.HostJob.{HostJob}
 use Rattle.td_descr.specs.Ring.{ReaderView}
 use Rattle.td_posts.specs.declared.ring.RingJob.{RingJob}
 use Rattle.td_takes.specs.declared.take.Take.{Take}
-use Rattle.td_takes.specs.declared.take.Room.{Room}
+use Rattle.td_takes.specs.declared.take.TakeRoom.{TakeRoom}
 use Rattle.td_takes.specs.Takes.{Describes, IsTake, IsRoom, AreRooms, AreTakes, HasDone, take_steps, all_steps, taken_by, taken_after}
 use Rattle.td_takes.specs.Memory.{KeepsRoom, KeepRooms}
 use Rattle.std.proofs.Common.{append-nil as append_nil}
@@ -78,26 +78,26 @@ module _ (job : HostJob) (c : Parts) (room : ℕ) (ring : RingJob) (k : ℕ) whe
   }
 
 -- the first room
-pub first_room : (job : HostJob) (frames desc_frames most : ℕ) (rooms rest : List Room) (r : Room) → AreRooms job frames desc_frames most rooms → rooms ≡ r ∷ rest
+pub first_room : (job : HostJob) (frames desc_frames most : ℕ) (rooms rest : List TakeRoom) (r : TakeRoom) → AreRooms job frames desc_frames most rooms → rooms ≡ r ∷ rest
     → IsRoom job frames desc_frames most r × AreRooms job frames desc_frames most rest
 unfolding AreRooms
 first_room job frames desc_frames most rooms rest r a e =
     let b = subst (AreRooms job frames desc_frames most) e a in (b.0, b.1)
 
 -- ---- the rooms
-pub no_takes : (rooms : List Room) (ts : List Take) → ts ≡ [] → KeepRooms rooms ts
+pub no_takes : (rooms : List TakeRoom) (ts : List Take) → ts ≡ [] → KeepRooms rooms ts
 unfolding KeepRooms
 no_takes rooms ts none = subst (KeepRooms rooms) (sym none) tt
 
 -- one more take, in the next room
-pub rooms_push : (rooms rest : List Room) (ts : List Take) (room : Room) (t : Take) → KeepRooms rooms ts → drop (length ts) rooms ≡ room ∷ rest → KeepsRoom room t → KeepRooms rooms (ts ++ t ∷ [])
+pub rooms_push : (rooms rest : List TakeRoom) (ts : List Take) (room : TakeRoom) (t : Take) → KeepRooms rooms ts → drop (length ts) rooms ≡ room ∷ rest → KeepsRoom room t → KeepRooms rooms (ts ++ t ∷ [])
 unfolding KeepRooms
-rooms_push rooms rest [] room t h e k = subst (λ (l : List Room). KeepRooms l (t ∷ [])) (sym e) (k, tt)
+rooms_push rooms rest [] room t h e k = subst (λ (l : List TakeRoom). KeepRooms l (t ∷ [])) (sym e) (k, tt)
 rooms_push [] rest (x ∷ ts) room t h e k = absurd h
 rooms_push (r ∷ rooms) rest (x ∷ ts) room t h e k = (h.0, rooms_push rooms rest ts room t h.1 e k)
 
 -- and the rooms that are left
-pub rooms_left : (rooms rest : List Room) (ts : List Take) (room : Room) (t : Take) → drop (length ts) rooms ≡ room ∷ rest → rest ≡ drop (length (ts ++ t ∷ [])) rooms
+pub rooms_left : (rooms rest : List TakeRoom) (ts : List Take) (room : TakeRoom) (t : Take) → drop (length ts) rooms ≡ room ∷ rest → rest ≡ drop (length (ts ++ t ∷ [])) rooms
 rooms_left rooms rest [] room t e = sym (ap (drop 1) e)
 rooms_left [] rest (x ∷ ts) room t e = sym (ap (drop 1) e)
 rooms_left (r ∷ rooms) rest (x ∷ ts) room t e = rooms_left rooms rest ts room t e

@@ -3,7 +3,7 @@ use Rattle.std.specs.Prelude.{◌≡◌, List, [], ◌∷◌, vec_capacity, IfSo
 use Rattle.td_stream.specs.Copies.{rooms_of}
 use Rattle.td_posts.specs.declared.reply.Reply.{Reply}
 use Rattle.td_takes.specs.declared.take.Take.{Take}
-use Rattle.td_takes.specs.declared.take.Room.{Room}
+use Rattle.td_takes.specs.declared.take.TakeRoom.{TakeRoom}
 
 -- the reply's lists have just the memory of this room's: for as many frames, cells and copy buffers, and these have the same rooms
 pub record KeepsMemory (room r : Reply) : Type 0 where
@@ -13,12 +13,12 @@ pub record KeepsMemory (room r : Reply) : Type 0 where
   pub rooms : rooms_of r.copies.buffers.items ≡ rooms_of room.copies.buffers.items
 
 -- so have the replies of a take, where it has them
-pub record KeepsRoom (room : Room) (t : Take) : Type 0 where
+pub record KeepsRoom (room : TakeRoom) (t : Take) : Type 0 where
   pub descr : IfSome t.descr (KeepsMemory room.descr)
   pub message : IfSome t.message (KeepsMemory room.message)
 
 -- each of these takes has the next of these rooms
-unfoldable pub KeepRooms : List Room → List Take → Type 0
+unfoldable pub KeepRooms : List TakeRoom → List Take → Type 0
 KeepRooms rooms [] = Unit {0}
 KeepRooms [] (t ∷ ts) = ⊥
 KeepRooms (room ∷ rooms) (t ∷ ts) = KeepsRoom room t × KeepRooms rooms ts

@@ -25,9 +25,9 @@ use Rattle.td_descr.specs.declared.next.Next.TheVariants.{Idle, Overrun, Bad, Me
 use Rattle.td_descr.specs.declared.next.Standing.{Standing}
 use Rattle.td_descr.specs.declared.next.Standing.TheVariants.{Nothing, Lost, Waiting}
 use Rattle.td_descr.specs.Words.{load_of, raised}
-use Rattle.td_descr.specs.Ring.{standing, ring_words, desc_word, desc_bytes, answer, IsDescribed, IsSoundOn}
+use Rattle.td_descr.specs.Ring.{standing, ring_words, desc_word, desc_bytes, answer, IsDescribed, IsDescSoundOn}
 use Rattle.td_takes.specs.declared.take.Take.{Take}
-use Rattle.td_takes.specs.declared.take.Room.{Room}
+use Rattle.td_takes.specs.declared.take.TakeRoom.{TakeRoom}
 use Rattle.td_takes.specs.Codes.{IsMeantUnder}
 
 -- ---- where things lie
@@ -43,7 +43,7 @@ message_layout place size = (record { place = place; size = size }) ∷ []
 -- this module of descriptors has this code, and each expression that it evaluates in such a room lies in its type's range
 pub record Describes (m : Module) (c : Parts) (room most : ℕ) : Type 0 where
   pub code : IsCodeOf c m
-  pub sound : (b : List ℕ) → AreBytes b → length b < 2 ^ 32 → IsSoundOn m room most b
+  pub sound : (b : List ℕ) → AreBytes b → length b < 2 ^ 32 → IsDescSoundOn m room most b
 
 -- ---- one take
 -- a reply of no guest, under version 0, whose message has this list of stretches or none
@@ -163,10 +163,10 @@ IfJudged (Some verdict) X = X
 abbrev pub frames_of : Parts → ℕ
 frames_of c = most_need level c
 
-abbrev pub IsRoom : HostJob → ℕ → ℕ → ℕ → Room → Type 0
+abbrev pub IsRoom : HostJob → ℕ → ℕ → ℕ → TakeRoom → Type 0
 IsRoom job frames desc_frames most r = IsDescRoom desc_frames r.descr × IsMessageRoom job frames most r.message
 
-unfoldable pub AreRooms : HostJob → ℕ → ℕ → ℕ → List Room → Type 0
+unfoldable pub AreRooms : HostJob → ℕ → ℕ → ℕ → List TakeRoom → Type 0
 AreRooms job frames desc_frames most [] = Unit {0}
 AreRooms job frames desc_frames most (r ∷ rs) = IsRoom job frames desc_frames most r × AreRooms job frames desc_frames most rs
 

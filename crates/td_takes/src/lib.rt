@@ -8,5 +8,5 @@ mod take;
 mod validate;
 
 pub use rings::{RingAt, run_ring, take_once};
-pub use take::{Room, Take};
+pub use take::{Take, TakeRoom};
 pub use validate::{Validator, keep};

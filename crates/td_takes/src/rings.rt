@@ -10,7 +10,7 @@ ghost use Rattle.td_takes.specs.Takes.{Describes, IsMessageRoom, IsRoom, AreRoom
 ghost use Rattle.td_takes.specs.Kept.{IsKept};
 ghost use Rattle.td_takes.specs.Memory.{KeepsMemory, KeepsRoom, KeepRooms};
 
-use crate::take::{Room, Take};
+use crate::take::{Take, TakeRoom};
 use crate::validate::{Validator, look_ring, reply_of, validate_message};
 use std::collections::VecDeque;
 use td_descr::{Descr, Next};
@@ -87,7 +87,7 @@ pub fn take_once(
     descr: &mut Descr,
     seat: &mut ReadSeat,
     frame: &mut Frame,
-    room: Room,
+    room: TakeRoom,
 ) -> Take
     requires own { seat.old.table ≡ validator.now.shared.now.table }
     requires entries { descr.old.entries ≡ ring.now.job.now.entries }
@@ -107,7 +107,7 @@ pub fn take_once(
     ensures read { HasDone seat.old seat.new (take_steps ring.now.job.now descr.old.taken result) }
     ensures memory { KeepsRoom room result }
 {
-    let Room {
+    let TakeRoom {
         descr: desc_room,
         message: message_room,
     } = room;
@@ -139,7 +139,7 @@ pub fn run_ring(
     descr: &mut Descr,
     seat: &mut ReadSeat,
     frame: &mut Frame,
-    rooms: &mut VecDeque<Room>,
+    rooms: &mut VecDeque<TakeRoom>,
     takes: &mut Vec<Take>,
 )
     requires own { seat.old.table ≡ validator.now.shared.now.table }

@@ -17,7 +17,7 @@ pub struct Take {
 
 /// Room for the two replies of a take.
 #[derive(Drop)]
-pub struct Room {
+pub struct TakeRoom {
     pub descr: Reply,
     pub message: Reply,
 }

@@ -25,7 +25,7 @@ use Rattle.td_core.specs.declared.outcome.TraceFrame.{TraceFrame}
 use Rattle.std.specs.List.{All}
 use Rattle.std.proofs.lemmas.List.Elements.{All-weaker}
 use Rattle.td_stream.specs.declared.stretch.Stretch.{Stretch}
-use Rattle.td_stream.specs.Layouts.{count_in, counted, laid, plain, IsNumberOf, IsOver}
+use Rattle.td_stream.specs.Layouts.{count_in, loadable, layout_or_plain, plain, IsNumberOf, IsOver}
 use Rattle.td_stream.specs.Loads.{IsRising, Inside, Carries}
 use Rattle.td_meaning.specs.Copies.{IsSoundOn}
 use Rattle.td_fetch.specs.Outcomes.{IsMeant}
@@ -53,13 +53,13 @@ run_is_meant c m job outcome loads args cells words stores layout of sound room 
 
 -- a run whose outcome is the meaning's, from lists that are alike, is meant
 pub outcome_is_meant : (m : Module) (job : RunJob) (loads : List Load) (args start left cells : List ℕ) (held copies : List (List ℕ)) (verdict : Verdict) (trace : List TraceFrame) (layout : List Stretch) → IsSoundJob m job → HasRoom job
-    → layout ≡ laid job.length job.layout → args ≡ job.args → start ≡ job.cells → cells ≡ left → copies ≡ held → IsRising loads → Inside layout loads
+    → layout ≡ layout_or_plain job.length job.layout → args ≡ job.args → start ≡ job.cells → cells ≡ left → copies ≡ held → IsRising loads → Inside layout loads
     → ((b : List ℕ) → Carries layout b loads → IsSoundOn m job.entry args start b → IsMeant layout m job.entry args start b loads (record { verdict = verdict; trace = trace; cells = left; copies = held }))
     → IsJobMeant m job (record { verdict = verdict; trace = trace; cells = cells; copies = copies }) loads
 outcome_is_meant m job loads args start left cells held copies verdict trace layout sound room o p q r same rising inside told =
     let R : List (List ℕ) → List ℕ → List ℕ → List ℕ → List Stretch → Type 0 = λ w a s z l. (b : List ℕ) → Carries l b loads → IsSoundOn m job.entry a s b → IsMeant l m job.entry a s b loads (record { verdict = verdict; trace = trace; cells = z; copies = w }) in
-    let h : R copies job.args job.cells cells (laid job.length job.layout) =
-    subst (λ w. R w job.args job.cells cells (laid job.length job.layout)) (sym same)
+    let h : R copies job.args job.cells cells (layout_or_plain job.length job.layout) =
+    subst (λ w. R w job.args job.cells cells (layout_or_plain job.length job.layout)) (sym same)
     (subst (λ l. R held job.args job.cells cells l) o (subst (λ z. R held job.args job.cells z layout) (sym r) (subst (λ s. R held job.args s left layout) q (subst (λ a. R held a start left layout) p told)))) in
     record { rising = rising; inside = subst (λ l. Inside l loads) o inside; holds = λ b carried bytes. h b carried (sound b bytes (carried.size ∙ room.long)) }
 

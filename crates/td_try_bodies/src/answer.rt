@@ -20,7 +20,7 @@ use td_job::run_job::RunJob;
 use td_num::items::Items;
 use td_report::report::run_report;
 use td_report_facts::laws::jobs_are_sized;
-use td_run::planned::Run;
+use td_run::planned::PlannedRun;
 
 /// The most bytes of an input, as for `td`.
 const MOST_INPUT: usize = 4_194_304;
@@ -49,7 +49,12 @@ fn are_same(one: &[Items<u8>], other: &[Items<u8>]) -> bool {
 }
 
 // The report of a run, with a semicolon for each line feed.
-fn report_line(alloc: Global, m: &Module, job: &RunJob, run: &Run) -> Result<Vec<u8>, AllocError>
+fn report_line(
+    alloc: Global,
+    m: &Module,
+    job: &RunJob,
+    run: &PlannedRun,
+) -> Result<Vec<u8>, AllocError>
     requires { All (λ l. IsNumberOf job.now.layout l.word) run.now.loads.list }
 {
     let layout = job.layout.as_ref();

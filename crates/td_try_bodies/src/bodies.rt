@@ -1,7 +1,7 @@
 //! The bodies that run a job.
 
 ghost use Rattle.std.specs.Prelude.{◌≡◌, ◌<◌, ◌≤◌, [], length, IfOk};
-ghost use Rattle.td_stream.specs.Layouts.{count_in, counted, laid};
+ghost use Rattle.td_stream.specs.Layouts.{count_in, loadable, layout_or_plain};
 ghost use Rattle.td_front.specs.Checked.{IsChecked};
 ghost use Rattle.td_job.specs.Jobs.{HasRoom, HasValues};
 ghost use Rattle.td_cli_input.specs.Inputs.{IsSoundJob};
@@ -19,7 +19,7 @@ use td_lower::lower::lower;
 use td_lower_means::laws::arguments_fit;
 use td_meaning_plain::meaning::meaning;
 use td_num::items::Items;
-use td_run::planned::{Memory, Run, Start, run_planned};
+use td_run::planned::{Memory, PlannedRun, Start, run_planned};
 use td_sched::planned::Planned;
 use td_stream::laws::message_is_short;
 use td_stream::layout::Layout;
@@ -27,7 +27,7 @@ use td_stream::loads::Loads;
 use td_vm::outcome::held_by_first;
 
 /// Runs a job of a checked module by the module's code, as `td run` does. `AllocError`: there was no memory.
-pub fn run_compiled(alloc: Global, m: &Module, job: &RunJob) -> Result<Run, AllocError>
+pub fn run_compiled(alloc: Global, m: &Module, job: &RunJob) -> Result<PlannedRun, AllocError>
     requires checked { IsChecked m.now }
     requires entry { job.now.entry.number < length m.now.entries }
     requires values { HasValues m.now job.now }
@@ -64,11 +64,11 @@ fn run_on(
     layout: &Layout,
     planned: &mut Planned<'_>,
     room: u32,
-) -> Result<Run, AllocError>
-    requires message { count_in layout.now ≤ counted planned.old.layout (length planned.old.opening) }
-    requires room { counted planned.old.layout (length planned.old.opening) ≤ room }
+) -> Result<PlannedRun, AllocError>
+    requires message { count_in layout.now ≤ loadable planned.old.layout (length planned.old.opening) }
+    requires room { loadable planned.old.layout (length planned.old.opening) ≤ room }
     requires fresh { planned.old.loads ≡ [] }
-    requires laid { layout.now ≡ laid job.now.length job.now.layout }
+    requires laid { layout.now ≡ layout_or_plain job.now.length job.now.layout }
     requires checked { IsChecked m.now }
     requires values { HasValues m.now job.now }
     requires long { HasRoom job.now }
@@ -103,11 +103,11 @@ fn run_on(
         cells: Items::of(cells),
         copies: held_by_first(copies.buffers, kept, count),
     };
-    Ok(Run { outcome, loads })
+    Ok(PlannedRun { outcome, loads })
 }
 
 /// Runs a job of a checked module by the validator, without code. `AllocError`: there was no memory.
-pub fn run_direct(alloc: Global, m: &Module, job: &RunJob) -> Result<Run, AllocError>
+pub fn run_direct(alloc: Global, m: &Module, job: &RunJob) -> Result<PlannedRun, AllocError>
     requires checked { IsChecked m.now }
     requires values { HasValues m.now job.now }
     requires room { HasRoom job.now }

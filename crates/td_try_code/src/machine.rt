@@ -19,7 +19,7 @@ use td_stream::recorder::Recorder;
 use td_verify::verify::Verified;
 use td_vm::laws::fitting_cells_have_room;
 use td_vm::validate::{Frame, validate};
-use td_vm_step::steps::{Steps, Untold};
+use td_vm_step::steps::{NoCounter, Steps};
 
 // One validation, in a frame that has the run's cells.
 fn validated<L: Ledger>(
@@ -44,7 +44,7 @@ fn validated<L: Ledger>(
     let stores = stores_of(alloc, run.stores)?;
     let mut planned = Planned::open(alloc, run.words, stores.as_slice())?;
     let mut words = Recorder::over(&mut planned, loads);
-    let mut steps = Steps::<L, Untold>::none(blank, Untold);
+    let mut steps = Steps::<L, NoCounter>::none(blank, NoCounter);
     let layout = Layout::plain(run.length);
     Ok(validate(
         code, run.entry, run.args, &layout, frame, &mut words, &mut steps,

@@ -9,7 +9,7 @@ use crate::shared_words::SharedWords;
 use std::alloc::{AllocError, Global};
 use td_core::module::Entry;
 use td_core::outcome::Outcome;
-use td_run::compiled::validate_compiled;
+use td_run::validation::validate_compiled;
 use td_stream::layout::Layout;
 use td_verify::verify::Verified;
 use td_vm::laws::fitting_cells_have_room;

@@ -15,7 +15,7 @@ use Rattle.td_ir.specs.declared.tables.Parts.{Parts}
 use Rattle.td_ir.specs.Run as code
 use Rattle.td_ir.specs.Entries.{opened_by}
 use Rattle.td_run.specs.Validation.{IsValidation}
-use Rattle.td_code.specs.Coding.{DoesWhatItMeans}
+use Rattle.td_code.specs.Compile.{DoesWhatItMeans}
 use Rattle.td_use_text.specs.Reports.{Begins}
 use Rattle.td_run.proofs.Behaving.{behaves}
 

@@ -9,7 +9,7 @@ mod text;
 
 ghost use Rattle.std.specs.Prelude.{◌<◌, length};
 ghost use Rattle.td_lower_means.specs.CodeRun.{IsCodeOf};
-ghost use Rattle.td_code.specs.Coding.{DoesWhatItMeans};
+ghost use Rattle.td_code.specs.Compile.{DoesWhatItMeans};
 ghost use Rattle.td_use_text.specs.Reports.{Begins};
 
 use anyhow::{Result, bail, ensure};

@@ -3,7 +3,7 @@
 ghost use Rattle.std.specs.Prelude.{◌≡◌, ◌<◌, ◌^◌, [], Err, length, take, IfOk, OnOk};
 ghost use Rattle.td_ir.specs.Entries.{buffers_of};
 ghost use Rattle.td_lower_means.specs.CodeRun.{IsCodeOf};
-ghost use Rattle.td_code.specs.Coding.{DoesWhatItMeans};
+ghost use Rattle.td_code.specs.Compile.{DoesWhatItMeans};
 ghost use Rattle.td_vm.specs.Frames.{IsArmed, outcome_in};
 ghost use Rattle.td_use_text.specs.declared.message.MessageError.{MessageError};
 ghost use Rattle.td_use_text.specs.Reports.{Begins, IsRunOf, Reports, FailsToReport};
@@ -17,7 +17,7 @@ use td_job::words::fill_words;
 use td_lower_means::laws::arguments_fit;
 use td_report::outcome::OutcomeParts;
 use td_report::report::report_of_parts;
-use td_run::compiled::validate_recorded;
+use td_run::validation::validate_recorded;
 use td_sched::laws::loads_are_planned;
 use td_sched::planned::Planned;
 use td_stream::copies::Buffer;

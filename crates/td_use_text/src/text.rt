@@ -4,7 +4,7 @@ ghost use Rattle.std.specs.Prelude.{◌≡◌, ◌<◌, ◌-◌, ◌^◌, ◌⊎
 ghost use Rattle.td_front.specs.Checked.{IsChecked};
 ghost use Rattle.td_front.specs.ModuleText.{IsModuleText, RefusedBy};
 ghost use Rattle.td_lower_means.specs.CodeRun.{IsCodeOf};
-ghost use Rattle.td_code.specs.Coding.{DoesWhatItMeans};
+ghost use Rattle.td_code.specs.Compile.{DoesWhatItMeans};
 ghost use Rattle.td_use_text.specs.Reports.{BeginsAtZeros, TakesArguments};
 
 use std::alloc::{AllocError, Global};

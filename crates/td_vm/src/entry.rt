@@ -9,10 +9,10 @@ ghost use Rattle.td_stream.specs.Loads.{IsFetchedOnce};
 ghost use Rattle.td_stream.specs.Copies.{rooms_of, held_by, empty_with};
 ghost use Rattle.td_vm_step.specs.Stepping.{IsLent};
 ghost use Rattle.td_vm.specs.Exits.{frames_of};
-ghost use Rattle.td_vm.specs.Outcomes.{IsRun};
+ghost use Rattle.td_vm.specs.Outcomes.{IsCodeRun};
 ghost use Rattle.td_vm.specs.Machine.{HasEntryRoom, IsKept, AreRoomy};
 
-use crate::level::{Call, Spare, Stretch};
+use crate::level::{Call, CodeStretch, Spare};
 use crate::machine::{place_count, run_block, set_registers};
 use std::sync::ledger::Ledger;
 use td_core::outcome::Verdict;
@@ -58,7 +58,7 @@ pub fn run_entry<W: Words, L: Ledger, C: Counter>(
     ensures lent { IsLent slate.old slate.new }
     ensures frames { slate.new.trace.now.count ≤ length slate.new.trace.now.frames.items }
     ensures fetched { IsFetchedOnce layout.now (W.loads words.new) (λ (b : List ℕ).
-        IsRun layout.now (routine_of call.now.code.parts.now call.now.n).cells b (W.loads words.new)
+        IsCodeRun layout.now (routine_of call.now.code.parts.now call.now.n).cells b (W.loads words.new)
         (run_routine call.now.code.parts.now call.now.n call.now.args.now slate.old.cells.now b)
         (record {
           verdict = result;
@@ -86,7 +86,7 @@ pub fn run_entry<W: Words, L: Ledger, C: Counter>(
         first: routine.cells as usize,
         places: mine_places,
     };
-    let whole = Stretch {
+    let whole = CodeStretch {
         level: &level,
         first: from,
         to,

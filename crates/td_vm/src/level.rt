@@ -12,7 +12,7 @@ pub struct Call<'c, 'a> {
 
 /// From an instruction of a running routine on, up to another.
 #[derive(Clone, Copy)]
-pub struct Stretch<'l, 'c, 'p> {
+pub struct CodeStretch<'l, 'c, 'p> {
     pub level: &'l Level<'c, 'p>,
     pub first: usize,
     pub to: usize,

@@ -19,7 +19,7 @@ ghost use Rattle.td_vm.specs.Exits.{frames_of, exit_by, way_of, call_way, loop_e
 ghost use Rattle.td_vm.specs.Machine.{AreLaws, HasRoom, IsStretch, IsCallee, IsKept, IdleTurn, IdleReturn};
 ghost use Rattle.td_vm.specs.Need.{room_below, level as levels};
 
-use crate::level::{Callee, Spare, Stretch};
+use crate::level::{Callee, CodeStretch, Spare};
 use std::sync::ledger::Ledger;
 use td_core::outcome::Reason;
 use td_ir::laws::{
@@ -160,7 +160,7 @@ fn set_callee_places(level: &Level<'_, '_>, callee: Callee, routine: &Routine, m
 /// Runs from an instruction on, to the end of the routine or of a loop's turn.
 #[cycle(machine)]
 pub fn run_block<W: Words, L: Ledger, C: Counter>(
-    stretch: &Stretch<'_, '_, '_>,
+    stretch: &CodeStretch<'_, '_, '_>,
     spare: &mut Spare<'_, '_>,
     regs: &mut [u64],
     slate: &mut Slate<'_, '_, '_>,
@@ -242,7 +242,7 @@ pub fn run_block<W: Words, L: Ledger, C: Counter>(
             }
             Effect::Returns => return BlockExit::Returned,
             Effect::Loops(target) => {
-                let turns = Stretch {
+                let turns = CodeStretch {
                     level,
                     first: pc,
                     to: target,
@@ -263,7 +263,7 @@ pub fn run_block<W: Words, L: Ledger, C: Counter>(
 // a step.
 #[cycle(machine)]
 fn run_turns<W: Words, L: Ledger, C: Counter>(
-    stretch: &Stretch<'_, '_, '_>,
+    stretch: &CodeStretch<'_, '_, '_>,
     spare: &mut Spare<'_, '_>,
     regs: &mut [u64],
     slate: &mut Slate<'_, '_, '_>,
@@ -291,7 +291,7 @@ fn run_turns<W: Words, L: Ledger, C: Counter>(
         ≡ loop_exit result behind (state_of regs.new slate.new.cells.now act.new stream.new) (frames_of slate.new.trace.now) touched taken) }
 {
     let first = stretch.first + 1;
-    let body = Stretch {
+    let body = CodeStretch {
         level: stretch.level,
         first,
         to: stretch.to,
@@ -359,7 +359,7 @@ fn call<W: Words, L: Ledger, C: Counter>(
         places: rest_places,
         registers: rest,
     };
-    let whole = Stretch {
+    let whole = CodeStretch {
         level: &inner,
         first: from,
         to,

@@ -8,7 +8,7 @@ ghost use Rattle.td_stream.specs.Loads.{IsFetchedOnce};
 ghost use Rattle.td_stream.specs.Copies.{rooms_of, held_by, empty_with};
 ghost use Rattle.td_vm_step.specs.Stepping.{IsLent};
 ghost use Rattle.td_vm.specs.Exits.{frames_of};
-ghost use Rattle.td_vm.specs.Outcomes.{IsRun};
+ghost use Rattle.td_vm.specs.Outcomes.{IsCodeRun};
 ghost use Rattle.td_vm.specs.Machine.{HasEntryRoom, IsKept, AreRoomy};
 ghost use Rattle.td_vm.specs.Need.{cells as cells_in};
 
@@ -55,7 +55,7 @@ pub fn run_message<W: Words, L: Ledger, C: Counter>(
     ensures lent { IsLent slate.old slate.new }
     ensures frames { slate.new.trace.now.count ≤ length slate.new.trace.now.frames.items }
     ensures fetched { IsFetchedOnce layout.now (W.loads words.new) (λ (b : List ℕ).
-        IsRun layout.now (routine_of call.now.code.parts.now call.now.n).cells b (W.loads words.new)
+        IsCodeRun layout.now (routine_of call.now.code.parts.now call.now.n).cells b (W.loads words.new)
         (run_routine call.now.code.parts.now call.now.n call.now.args.now (take (routine_of call.now.code.parts.now call.now.n).cells slate.old.cells.now ++ replicate (2 * length (routine_of call.now.code.parts.now call.now.n).buffers) 0) b)
         (record {
           verdict = result;

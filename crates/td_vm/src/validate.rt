@@ -10,7 +10,7 @@ ghost use Rattle.td_stream.specs.Loads.{IsFetchedOnce};
 ghost use Rattle.td_vm.specs.Frames.{IsArmed, outcome_in};
 ghost use Rattle.td_vm.specs.Machine.{IsRunnable};
 ghost use Rattle.td_vm.specs.Need.{most_rooms};
-ghost use Rattle.td_vm.specs.Outcomes.{IsRun};
+ghost use Rattle.td_vm.specs.Outcomes.{IsCodeRun};
 
 use crate::arm::{NeedKind, begins_of, buffer_count, most_cells, need_of, rooms_for};
 use crate::level::{Call, Spare};
@@ -236,7 +236,7 @@ pub fn validate<W: Words, L: Ledger, C: Counter>(
     requires fresh { W.loads words.old ≡ [] }
     ensures reaches { W.reaches words.old words.new }
     ensures fetched { IsFetchedOnce layout.now (W.loads words.new) (λ (b : List ℕ).
-        IsRun layout.now (size_of frame.old.cells) b (W.loads words.new) (run code.now entry args.now (opened_by code.now entry frame.old.cells) b)
+        IsCodeRun layout.now (size_of frame.old.cells) b (W.loads words.new) (run code.now entry args.now (opened_by code.now entry frame.old.cells) b)
         (outcome_in frame.new (buffers_of code.now entry) result) steps.old steps.new) }
     ensures cell_count { size_of frame.new.cells ≡ size_of frame.old.cells }
     ensures armed { IsArmed code.now frame.new }

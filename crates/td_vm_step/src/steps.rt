@@ -21,9 +21,9 @@ pub trait Counter {
 
 /// Tells nothing. It takes no bytes, and counting has no code.
 #[derive(Drop)]
-pub struct Untold;
+pub struct NoCounter;
 
-impl Counter for Untold {
+impl Counter for NoCounter {
     ghost tells = { λ _ _. Unit {0} };
 
     fn more(&mut self) {}
@@ -33,11 +33,11 @@ impl Counter for Untold {
 
 /// Tells how many steps there were; at 2^64 - 1 it stands still.
 #[derive(Drop)]
-pub struct Told {
+pub struct StepCounter {
     pub count: u64,
 }
 
-impl Counter for Told {
+impl Counter for StepCounter {
     ghost use Rattle.std.specs.Prelude.{◌≡◌, ◌-◌, ◌^◌, min};
 
     ghost tells = { λ c n. c.count ≡ min n (2 ^ 64 - 1) };

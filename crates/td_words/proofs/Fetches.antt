@@ -10,7 +10,7 @@ use Rattle.td_words.specs.declared.view.Access.TheVariants.{Load, Store}
 use Rattle.td_words.specs.declared.view.SeatView.{SeatView}
 use Rattle.td_words.specs.declared.view.HostView.{HostView}
 use Rattle.td_words.specs.History.{Entry, after, Gives, IsHistory, steps_of, Has}
-use Rattle.td_words.specs.Gathered.{Ended, Told, Fetched}
+use Rattle.td_words.specs.Gathered.{Ended, IsHistoryOf, Fetched}
 
 index_set : (l : List ℕ) (j v i : ℕ) → (slice_index (set l j v) i ≡ slice_index l i) ⊎ ((j ≡ i) × (slice_index (set l j v) i ≡ v))
 index_set [] j v i = inl refl
@@ -70,7 +70,7 @@ in_steps n (x ∷ h) a (suc k) e = more (eqb x.0 n) (in_steps n h a k e)
     more true t = (suc t.0, t.1)
     more false t = t
 
-pub fetches : (h : HostView) → ((log : List Entry) × Told h log) → length h.ended ≡ h.made → Fetched h
+pub fetches : (h : HostView) → ((log : List Entry) × IsHistoryOf h log) → length h.ended ≡ h.made → Fetched h
 unfolding From
 fetches h (log, t) all k v i w at has =
     let mine = t.steps k v at in

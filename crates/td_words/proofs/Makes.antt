@@ -13,7 +13,7 @@ use Rattle.td_words.specs.declared.view.View.{View}
 use Rattle.td_words.specs.declared.view.View.TheVariants.{Host, Seat, Spent}
 use Rattle.td_words.specs.Views.{seat_view, host_view, one_more, new_seat, with_ended}
 use Rattle.td_words.specs.Rule.{seat_count, seats_out, IsInHistory, IsPlaced, IsHeld, KeepsHistory, seat_in, host_in, IsSeat, IsHost, Holding, Learned}
-use Rattle.td_words.specs.Gathered.{Ended, Apart, Told}
+use Rattle.td_words.specs.Gathered.{Ended, Apart, IsHistoryOf}
 use Rattle.td_words.proofs.Steps.{set_same, seats_out_set, seats_out-push, seat_not_host, seat_is, two_numbers, some_apart}
 
 pub snoc_at : {A : Type 0} (l : List A) (a b : A) (j : ℕ) → get_elem? (l ++ a ∷ []) j ≡ some b → (get_elem? l j ≡ some b) ⊎ ((j ≡ length l) × (a ≡ b))
@@ -186,10 +186,10 @@ module _ {S : Type 0} where
       (subst (λ i. KeepsHistory {S = S} record { words = s.words; homes = s.homes; views = set (set s.views i (Host (host_view k.opened k.made (k.ended ++ u ∷ [])))) j Spent }) (sym f.0) (gathers s k j u was))
 
   -- what the host learns
-  pub tells : (s : State S View) (k : KeepsHistory s) (id : ℕ) (h : HostView) → get_elem? s.views id ≡ some (Host h) → Told h k.log
+  pub tells : (s : State S View) (k : KeepsHistory s) (id : ℕ) (h : HostView) → get_elem? s.views id ≡ some (Host h) → IsHistoryOf h k.log
   tells s k id h at =
       let f = k.each id (Host h) at in
-      subst (λ (x : HostView). Told x k.log) (sym f.1) record {
+      subst (λ (x : HostView). IsHistoryOf x k.log) (sym f.1) record {
         legal = k.legal;
         steps = λ i v e. let b = k.each_ended i v e in (b.0.0, b.0.2);
         apart = k.apart;

@@ -17,7 +17,7 @@ Apart ended = (k l : ℕ) (v w : SeatView) → get_elem? ended k ≡ some v → 
 
 -- the log is one history from the opening words, and each gathered seat's own steps are those under its number there, in
 -- their order. Once as many seats were gathered as were made, no other seat has a step in it
-pub record Told (h : HostView) (log : List Entry) : Type 0 where
+pub record IsHistoryOf (h : HostView) (log : List Entry) : Type 0 where
   pub legal : IsHistory h.opened log
   pub steps : (k : ℕ) (v : SeatView) → get_elem? h.ended k ≡ some v → (v.opened ≡ h.opened) × (steps_of v.number log ≡ v.steps)
   pub apart : Apart h.ended

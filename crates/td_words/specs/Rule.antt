@@ -10,7 +10,7 @@ use Rattle.td_words.specs.declared.view.View.{View}
 use Rattle.td_words.specs.declared.view.View.TheVariants.{Host, Seat, Spent}
 use Rattle.td_words.specs.History.{Entry, memory_after, IsHistory, steps_of}
 use Rattle.td_words.specs.Views.{seat_view, host_view, did}
-use Rattle.td_words.specs.Gathered.{Ended, Apart, Told}
+use Rattle.td_words.specs.Gathered.{Ended, Apart, IsHistoryOf}
 
 abbrev pub seat_count : View → ℕ
 seat_count (Host h) = 0
@@ -89,4 +89,4 @@ Stored s m new m' = (i : ℕ) → s.word ≡ i + 1 → m' ≡ (Seat (did (seat_i
 
 -- what the host's load of word 0 tells: its view is the same, and there is one history
 abbrev pub Learned : {S : Type 0} → Step S → Holding S → ℕ → Holding S → Type 0
-Learned s m found m' = (m' ≡ m) × ((log : List Entry) × Told (host_in m.0) log)
+Learned s m found m' = (m' ≡ m) × ((log : List Entry) × IsHistoryOf (host_in m.0) log)

@@ -6,7 +6,7 @@ ghost use lib.ListN.{get_elem?};
 ghost use Rattle.td_words.specs.declared.view.Access.TheVariants.{Load};
 ghost use Rattle.td_words.specs.declared.view.HostView.{HostView};
 ghost use Rattle.td_words.specs.History.{Entry, IsHistory, last_stored, memory_after};
-ghost use Rattle.td_words.specs.Gathered.{Fetched, Told};
+ghost use Rattle.td_words.specs.Gathered.{Fetched, IsHistoryOf};
 
 /// The word that a history leaves is the last store to it, or without one the opening word.
 pub fn words_are_last_stored()
@@ -22,5 +22,5 @@ pub fn loads_are_last_stored()
 
 /// The fetch rule: where each seat made was gathered, what one of them loaded is the opening word, or one of them stored it.
 pub fn loads_were_opened_or_stored()
-    ensures { (h : HostView) (log : List Entry) → Told h log → length h.ended ≡ h.made → Fetched h }
+    ensures { (h : HostView) (log : List Entry) → IsHistoryOf h log → length h.ended ≡ h.made → Fetched h }
 {}

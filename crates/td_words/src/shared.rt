@@ -4,7 +4,7 @@ ghost use Rattle.std.specs.Prelude.{◌≡◌, ℕ, suc, ◌+◌, ◌-◌, ◌^�
 ghost use Rattle.td_words.specs.declared.view.Access.TheVariants.{Load, Store};
 ghost use Rattle.td_words.specs.History.{Entry, memory_after};
 ghost use Rattle.td_words.specs.Views.{host_view, one_more, new_seat, with_ended};
-ghost use Rattle.td_words.specs.Gathered.{Told, Fetched};
+ghost use Rattle.td_words.specs.Gathered.{IsHistoryOf, Fetched};
 ghost use Rattle.td_words.specs.Seats.{then_did, with_view, seat_state};
 
 use crate::final_words::Final;
@@ -136,7 +136,7 @@ impl Shared {
     pub fn learn(&self, host: &mut HostSeat)
         requires { host.old.table ≡ self.now.table }
         ensures same { host.new ≡ host.old }
-        ensures told { (log : List Entry) × Told host.old.view log }
+        ensures told { (log : List Entry) × IsHistoryOf host.old.view log }
         ensures fetched { length host.old.view.ended ≡ host.old.view.made → Fetched host.old.view }
     {
         self.table.shared.load::<Learns>(&mut host.seat, 0);
@@ -147,7 +147,7 @@ impl Shared {
     pub fn close(self, host: HostSeat) -> Final
         requires { host.table ≡ self.table }
         ensures count { length result ≡ self.count }
-        ensures told { (log : List Entry) × Told host.view log × (result ≡ memory_after host.view.opened log) }
+        ensures told { (log : List Entry) × IsHistoryOf host.view log × (result ≡ memory_after host.view.opened log) }
     {
         let Shared { table } = self;
         let HostSeat { seat } = host;

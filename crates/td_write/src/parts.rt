@@ -1,7 +1,7 @@
 //! The tests of a type's own.
 
 ghost use Rattle.std.specs.Prelude.{◌≡◌, IfOk, IfErr, true, false};
-ghost use Rattle.td_meaning.specs.Machine as machine;
+ghost use Rattle.td_meaning.specs.Words64 as words64;
 ghost use Rattle.td_meaning.specs.Meaning.{extended};
 ghost use Rattle.td_write.specs.Writes.{Passes, Fails};
 
@@ -43,10 +43,10 @@ pub fn test_parts(
     bytes: FieldBytes,
 ) -> Result<(), Halt>
     ensures ok { IfOk result (λ _. Passes
-        (machine.parts_meaning ty bytes.start number parts.now env.old.items walk.now.places.now bytes.end cells.old).ending cells.new) }
+        (words64.parts_meaning ty bytes.start number parts.now env.old.items walk.now.places.now bytes.end cells.old).ending cells.new) }
     ensures scope { IfOk result (λ _. env.new.items ≡ extended env.old.items number parts.now) }
     ensures err { IfErr result (λ h. Fails h
-        (machine.parts_meaning ty bytes.start number parts.now env.old.items walk.now.places.now bytes.end cells.old).ending) }
+        (words64.parts_meaning ty bytes.start number parts.now env.old.items walk.now.places.now bytes.end cells.old).ending) }
 {
     let mut trace = Items::new(walk.alloc);
     match check_parts(

@@ -31,12 +31,12 @@ use Rattle.td_expr.specs.Safe.{first_unsafe, first}
 use Rattle.td_expr.proofs.Admitting.{neither}
 use Rattle.td_meaning.specs.Copies.{opened}
 use Rattle.td_meaning.specs.Doing.{natural_of}
-use Rattle.td_meaning.specs.Machine as machine
+use Rattle.td_meaning.specs.Words64 as words64
 use Rattle.td_meaning.specs.Meaning.{values, values_of, refined, checked, acted, parts_meaning, bits_of, extended, case_for, pick, entry_place}
 use Rattle.td_meaning.specs.Throughout.{OnEnding, OnAction}
 use Rattle.td_meaning.proofs.Ending.{on_then, on_map}
-use Rattle.td_meaning.proofs.MachineValues.{natural_is}
-use Rattle.td_meaning.proofs.MachineMeaning.{values_is, refined_is, checked_is, parts_is}
+use Rattle.td_meaning.proofs.Values64.{natural_is}
+use Rattle.td_meaning.proofs.Meaning64.{values_is, refined_is, checked_is, parts_is}
 use Rattle.td_arith.specs.SafeModule.{option_unsafe, known_after, action_unsafe, part_unsafe, parts_unsafe, known_after_parts, element_unsafe, extent_unsafe, copy_unsafe, field_unsafe, fields_unsafe, cases_unsafe, default_unsafe, body_unsafe, definition_unsafe}
 use Rattle.td_arith.proofs.Fitting.{Stand, fit_length, stand_at, fit_set}
 use Rattle.td_arith.proofs.States.{State, pushed, sound}
@@ -187,7 +187,7 @@ module _ (sets : List (List ℕ)) (ours means : ℕ → Writer) (ds : List TypeD
       on_then (refined part.refinement values start q cells).ending (refined part.refinement values start q cells).reads (acted part.action values places start) After After met (λ r more h. (acting r more h).1) in
       let is = checked_is part values places start q cells (option_sound wider facts values part.refinement form.0 here own.0)
       (on_map (refined part.refinement values start q cells).ending After (λ r more. OnAction Sound part.action values places start more) met (λ r more h. (acting r more h).0)) in
-      tested_same all start (machine.checked part values places start q cells).ending (checked part values places start q cells).ending at _ _ After (ap (λ (y : Behavior). y.ending) is) done
+      tested_same all start (words64.checked part values places start q cells).ending (checked part values places start q cells).ending at _ _ After (ap (λ (y : Behavior). y.ending) is) done
       (λ r more h. parts_same t e x bound parts wider then values path (suc i) start more vs (λ ns. go (v ∷ ns)) (λ ns. next (v ∷ ns)) form.1.1 h.1.1 both.1 h.1.0 le (λ ns env i cells vs s f. k (v ∷ ns) env i cells vs s f))))
 
   -- Fields
@@ -249,7 +249,7 @@ module _ (sets : List (List ℕ)) (ours means : ℕ → Writer) (ds : List TypeD
             let shaped = copied_done x.copy places p means_here bytes more d in
             let q = p + length bytes in
             let parts = parts_sound all bounds places x.element x.extent ty p m (number_small sets means x.element x.extent env places at p cells v bytes shaped.0 e shaped.1) low st x.parts scope facts env q more form.1.1.0 s c k.1 in
-            tested_same all q (machine.parts_meaning ty p m x.parts env places q more).ending (parts_meaning ty p m x.parts env places q more).ending at _ _
+            tested_same all q (words64.parts_meaning ty p m x.parts env places q more).ending (parts_meaning ty p m x.parts env places q more).ending at _ _
             (λ r last. (r ≡ q) × (AllFit all last × State (parts_scope x.element x.extent scope x.parts) (known_after_parts facts x.parts) (extended env m x.parts)))
             (ap (λ (y : Behavior). y.ending) (parts_is ty p m x.parts env places q more parts.sound)) parts.stays
             (λ r last h. next (extended env m x.parts) (suc i) q last vs h.1.1 k.0 h.1.0))

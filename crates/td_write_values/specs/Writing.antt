@@ -26,7 +26,7 @@ use Rattle.td_core.specs.declared.outcome.Reason.TheVariants.{Constraint, Imposs
 use Rattle.td_core.specs.Outcome.{Ending, Accepted, Rejected, Behavior}
 use Rattle.td_meaning.specs.Doing.{natural_of}
 use Rattle.td_meaning.specs.Meaning.{values_of, with_copy, extended, case_for, pick, entry_place, refined, checked, parts_meaning, demanded}
-use Rattle.td_meaning.specs.Machine as machine
+use Rattle.td_meaning.specs.Words64 as words64
 use Rattle.td_write_values.specs.declared.error.WriteRule.{WriteRule}
 use Rattle.td_write_values.specs.declared.error.WriteRule.TheVariants.{Shape, Range, Broken, Size, Long}
 use Rattle.td_write_values.specs.declared.limits.TheConstants.{MOST_WRITTEN}
@@ -50,10 +50,10 @@ whole = record { value = natural_of; guarded = refined; checked = checked; parts
 -- as arithmetic in 64 bits gives them
 abbrev pub in_machine : Tests
 in_machine = record {
-  value = machine.value_of;
-  guarded = λ guard env start q cells. demanded Constraint (machine.is_met guard env) start q cells;
-  checked = machine.checked;
-  parts = machine.parts_meaning;
+  value = words64.value_of;
+  guarded = λ guard env start q cells. demanded Constraint (words64.is_met guard env) start q cells;
+  checked = words64.checked;
+  parts = words64.parts_meaning;
 }
 
 -- What is written

@@ -12,7 +12,7 @@ use Rattle.td_write_values.specs.Bytes.{unit_type, is_byte}
 use Rattle.td_write_values.specs.Spelling.{number_in}
 use Rattle.td_write_values.specs.Writing.{Later, Done, Refused, after_writing, tested, element_written, items_written, shape_written, noted, copied, field_written, fields_written, body_written, listed_written, writers_below, in_machine}
 use Rattle.td_meaning.specs.Meaning.{extended}
-use Rattle.td_meaning.specs.Machine as machine
+use Rattle.td_meaning.specs.Words64 as words64
 use Rattle.td_write.specs.Writes.{Wrote, Halts, Passes}
 use Rattle.td_write.specs.declared.halt.Halt.TheVariants as halt
 use Rattle.td_write.proofs.Definitions.{data_back, writers_past, named_by, contents_are, fields_next, fields_end, fields_left, whole_total}
@@ -184,8 +184,8 @@ fields::one_field-returns-in-Ok-test_parts-clause-ok t c = λ later.
     let to : length new ≡ c.len-end.result = sym (c.len-end.ensures ∙ c.content.new.draft.out.ok.0) in
     let number : number_in f.element f.extent v ≡ c.number_in-number.result = sym c.number_in-number.ensures in
     let parts : f.parts ≡ c.as_slice-in-None.result.now = sym c.as_slice-in-None.ensures in
-    let passes : Passes (machine.parts_meaning a.ty p (number_in f.element f.extent v) f.parts a.env.now.items a.walk.now.places.now (length new) c.content.new.cells).ending c.test_parts.new.cells = λ path go.
-    (λ k. tested (machine.parts_meaning a.ty (from k) (number k) (parts k) a.env.now.items a.walk.now.places.now (to k) c.content.new.cells).ending path go) ∙ c.in-Ok-test_parts.ensures.ok path go in
+    let passes : Passes (words64.parts_meaning a.ty p (number_in f.element f.extent v) f.parts a.env.now.items a.walk.now.places.now (length new) c.content.new.cells).ending c.test_parts.new.cells = λ path go.
+    (λ k. tested (words64.parts_meaning a.ty (from k) (number k) (parts k) a.env.now.items a.walk.now.places.now (to k) c.content.new.cells).ending path go) ∙ c.in-Ok-test_parts.ensures.ok path go in
     let after : extended a.env.now.items (number_in f.element f.extent v) f.parts ≡ c.test_parts.new.env.items = (λ k. extended a.env.now.items (number k) (parts k)) ∙ sym c.in-Ok-test_parts.ensures.scope in
     record {
       total = whole_total in_machine sets writers a.ty a.walk.now.places.now a.draft.now.path.items (unit_type f.element f.extent) f a.env.now.items a.left.now.index a.cells.now (drop a.left.now.index vs) (drop (a.left.now.index + 1) vs) v a.draft.now.out.items new c.content.new.cells c.test_parts.new.cells later none split shape passes

@@ -1,5 +1,5 @@
 use Rattle.std.proofs.Common.{refl}
-use Rattle.td_cli.specs.Ends.{passage}
+use Rattle.td_cli.specs.CallEnds.{passage}
 use Rattle.td_cli.proofs.Benches.{never_refused, bench_answers, bench_unanswered}
 use Rattle.td_cli.proofs.bench.answer_bench.Goals as goal
 

@@ -2,7 +2,7 @@ use Rattle.std.proofs.Common.{refl}
 use Rattle.td_front.specs.ModuleText.{IsModuleText}
 use Rattle.td_report.specs.Summary.{summary}
 use Rattle.td_cli_command.specs.declared.command.Command.TheVariants.{Check}
-use Rattle.td_cli.specs.Ends.{passage}
+use Rattle.td_cli.specs.CallEnds.{passage}
 use Rattle.td_cli.proofs.Texts.{of_check, text_answers, text_unanswered}
 use Rattle.td_cli.proofs.check.answer_check.Goals as goal
 

@@ -1,7 +1,7 @@
 use Rattle.std.proofs.Common.{refl, sym, subst}
 use Rattle.td_cli_command.specs.declared.command.Command.TheVariants.{Code}
 use Rattle.td_cli.specs.Answers.{IsListingOf}
-use Rattle.td_cli.specs.Ends.{passage}
+use Rattle.td_cli.specs.CallEnds.{passage}
 use Rattle.td_cli.proofs.Texts.{of_code, text_answers, text_unanswered}
 use Rattle.td_cli.proofs.code.answer_code.Goals as goal
 

@@ -1,7 +1,7 @@
 use Rattle.std.proofs.Common.{refl, sym, subst}
-use Rattle.td_code.specs.Coding.{IsImageOf}
+use Rattle.td_code.specs.Compile.{IsImageOf}
 use Rattle.td_cli_command.specs.declared.command.Command.TheVariants.{Pack}
-use Rattle.td_cli.specs.Ends.{passage}
+use Rattle.td_cli.specs.CallEnds.{passage}
 use Rattle.td_cli.proofs.Texts.{of_pack, text_answers, text_unanswered}
 use Rattle.td_cli.proofs.pack.answer_pack.Goals as goal
 

@@ -1,5 +1,5 @@
 use Rattle.std.proofs.Common.{arith}
-use Rattle.td_code.specs.Coding.{IsImageOf}
+use Rattle.td_code.specs.Compile.{IsImageOf}
 use Rattle.td_cli.proofs.Inputs.{text_made, text_refused, text_unmade}
 use Rattle.td_cli.proofs.pack.pack_input.Goals as goal
 

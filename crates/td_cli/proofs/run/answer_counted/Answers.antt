@@ -1,7 +1,7 @@
 use Rattle.std.proofs.Common.{refl}
 use Rattle.std.proofs.lemmas.Bool.{false≢true}
 use Rattle.td_report_facts.proofs.Words.{numbered}
-use Rattle.td_cli.specs.Ends.{passage}
+use Rattle.td_cli.specs.CallEnds.{passage}
 use Rattle.td_cli.proofs.Runs.{run_answers, run_unanswered}
 use Rattle.td_cli.proofs.run.answer_counted.Goals as goal
 

@@ -1,5 +1,5 @@
 use Rattle.std.proofs.lemmas.Result.{err_from_is_err_and}
-use Rattle.td_cli_input.specs.Marker.{text_part, job_part}
+use Rattle.td_cli_input.specs.Marker.{module_part, job_part}
 use Rattle.td_cli.proofs.run.run_input.Goals as goal
 
 pub returns-in_err-parsed-clause-complete : goal.returns-in_err-parsed-clause-complete
@@ -18,14 +18,14 @@ returns-in_err-parsed-clause-no_job g c =
 pub ready_input-requires-clause-checked : goal.ready_input-requires-clause-checked
 ready_input-requires-clause-checked g c =
     let h = c.in_ok-parsed.ensures.input in
-    c.modules_are_checked.ensures (text_part c.args.input.now h.place) c.in_ok-parsed.parsed.«module» h.text
+    c.modules_are_checked.ensures (module_part c.args.input.now h.place) c.in_ok-parsed.parsed.«module» h.text
 
 pub run_ready-run-requires-clause-entry : goal.run_ready-run-requires-clause-entry
 run_ready-run-requires-clause-entry g c =
     let h = c.in_ok-parsed.ensures.input in
-    (c.jobs_are_sized.ensures (job_part c.args.input.now h.place) c.in_ok-parsed.parsed.«module» c.in_ok-parsed.parsed.job (c.modules_are_checked.ensures (text_part c.args.input.now h.place) c.in_ok-parsed.parsed.«module» h.text) h.good).entry
+    (c.jobs_are_sized.ensures (job_part c.args.input.now h.place) c.in_ok-parsed.parsed.«module» c.in_ok-parsed.parsed.job (c.modules_are_checked.ensures (module_part c.args.input.now h.place) c.in_ok-parsed.parsed.«module» h.text) h.good).entry
 
 pub run_ready-run-requires-clause-values : goal.run_ready-run-requires-clause-values
 run_ready-run-requires-clause-values g c =
     let h = c.in_ok-parsed.ensures.input in
-    (c.jobs_are_sized.ensures (job_part c.args.input.now h.place) c.in_ok-parsed.parsed.«module» c.in_ok-parsed.parsed.job (c.modules_are_checked.ensures (text_part c.args.input.now h.place) c.in_ok-parsed.parsed.«module» h.text) h.good).values
+    (c.jobs_are_sized.ensures (job_part c.args.input.now h.place) c.in_ok-parsed.parsed.«module» c.in_ok-parsed.parsed.job (c.modules_are_checked.ensures (module_part c.args.input.now h.place) c.in_ok-parsed.parsed.«module» h.text) h.good).values

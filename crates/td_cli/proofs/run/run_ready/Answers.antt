@@ -2,7 +2,7 @@ use Rattle.std.specs.Prelude.{◌≤◌, length, List, Option, option_map}
 use Rattle.std.proofs.Common.{◌∙◌, sym, subst}
 use Rattle.td_core.specs.declared.outcome.Outcome.{Outcome}
 use Rattle.td_stream.specs.declared.stretch.Stretch.{Stretch}
-use Rattle.td_stream.specs.Layouts.{count_in, counted, laid}
+use Rattle.td_stream.specs.Layouts.{count_in, loadable, layout_or_plain}
 use Rattle.td_ir.specs.Entries.{buffers_of}
 use Rattle.td_vm.specs.Frames.{outcome_in}
 use Rattle.td_cli.specs.Run.{IsRunOf}
@@ -24,7 +24,7 @@ run_counted-ran-requires-clause-room g c =
     let job = c.args.input.now.job in
     let words = c.args.ready.prepared.words.opening in
     let layout : Option (List Stretch) = option_map (λ l. l.now) c.as_ref-layout.result in
-    subst (λ (o : Option (List Stretch)). count_in (laid job.length layout) ≤ counted o (length words)) (sym (c.requires.layout ∙ sym c.as_ref-layout.ensures.value))
+    subst (λ (o : Option (List Stretch)). count_in (layout_or_plain job.length layout) ≤ loadable o (length words)) (sym (c.requires.layout ∙ sym c.as_ref-layout.ensures.value))
     (ends_with job layout words c.as_ref-layout.ensures.value c.requires.opening c.requires.room)
 
 pub returns-clause-run : goal.returns-clause-run

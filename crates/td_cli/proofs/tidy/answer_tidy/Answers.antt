@@ -1,7 +1,7 @@
 use Rattle.std.proofs.Common.{refl, sym, subst}
 use Rattle.td_cli_command.specs.declared.command.Command.TheVariants.{Tidy}
 use Rattle.td_cli.specs.Answers.{IsTidy}
-use Rattle.td_cli.specs.Ends.{passage}
+use Rattle.td_cli.specs.CallEnds.{passage}
 use Rattle.td_cli.proofs.Texts.{of_tidy, text_answers, text_unanswered}
 use Rattle.td_cli.proofs.tidy.answer_tidy.Goals as goal
 

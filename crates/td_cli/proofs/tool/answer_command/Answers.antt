@@ -2,7 +2,7 @@ use Rattle.std.proofs.Common.{List, ℕ, refl, subst}
 use Rattle.td_cli_command.specs.declared.command.Command.{Command}
 use Rattle.td_cli_command.specs.declared.command.Command.TheVariants.{Check, Tidy, Run, Code, Pack, Bench}
 use Rattle.td_cli_command.specs.Command.{Means}
-use Rattle.td_cli.specs.Ends.{passage}
+use Rattle.td_cli.specs.CallEnds.{passage}
 use Rattle.td_cli.proofs.Calls.{answered_call, bench_call}
 use Rattle.td_cli.proofs.tool.answer_command.Goals as goal
 

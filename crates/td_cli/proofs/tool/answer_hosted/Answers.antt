@@ -2,7 +2,7 @@ use Rattle.std.proofs.Common.{ℕ, List, refl, ap, Err, subst, sym}
 use Rattle.td_io.specs.Causes.{ReadWhole}
 use Rattle.td_cli.specs.declared.status.Status.TheVariants as at
 use Rattle.td_cli_command.specs.declared.command.Command.TheVariants.{Host}
-use Rattle.td_cli.specs.Ends.{passage}
+use Rattle.td_cli.specs.CallEnds.{passage}
 use Rattle.td_cli.proofs.Calls.{WasRead, WasUnread, was_taken, input_ends, input_never, unread_ends, unread_never, unread_good, admits_read, refuses_read, ok_no_error}
 use Rattle.td_cli.proofs.tool.answer_hosted.Goals as goal
 use Rattle.td_num.proofs.Equals.{same_error}

@@ -4,8 +4,8 @@ use Rattle.td_cli_command.specs.declared.command.Command.TheVariants.{Host}
 use Rattle.td_cli.specs.declared.status.Status.{Status}
 use Rattle.td_cli.specs.declared.status.Status.TheVariants as at
 use Rattle.td_cli_command.specs.Command.{Means, MeansNone}
-use Rattle.td_cli.specs.Ends.{passage}
-use Rattle.td_cli.specs.Endings.{EndsWith}
+use Rattle.td_cli.specs.CallEnds.{passage}
+use Rattle.td_cli.specs.InputEnds.{EndsWith}
 use Rattle.td_cli.specs.Lines.{memory_line}
 use Rattle.td_cli_command.proofs.OneCommand.{in_range, one_command}
 use Rattle.td_cli.proofs.Calls.{usage_call, memory_call, never_read}

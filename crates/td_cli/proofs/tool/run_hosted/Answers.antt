@@ -1,5 +1,5 @@
 use Rattle.td_cli_command.specs.declared.command.Command.TheVariants.{Host}
-use Rattle.td_cli.specs.Ends.{passage}
+use Rattle.td_cli.specs.CallEnds.{passage}
 use Rattle.td_cli.proofs.Calls.{answered_call}
 use Rattle.td_cli.proofs.tool.run_hosted.Goals as goal
 

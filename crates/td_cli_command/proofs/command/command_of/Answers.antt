@@ -6,7 +6,7 @@ use Rattle.clap.specs.Faults.{is_simple_and_free, fault_of}
 use Rattle.clap.specs.Simple.{is_simple, subcommand_of}
 use Rattle.clap.specs.Kinds.{Kinds, IsAmong}
 use Rattle.clap.specs.declared.error.kind.ErrorKind.TheVariants.{OutOfMemory}
-use Rattle.td_cli_command.specs.Command.{tool}
+use Rattle.td_cli_command.specs.Command.{command_app}
 use Rattle.td_cli_command.proofs.Words.{IsFound, is_simple_tool, is_free_tool, name_entered, found_means, none_meant}
 use Rattle.td_cli_command.proofs.Matches.{fits_is}
 use Rattle.td_cli_command.proofs.command.command_of.Goals as goal
@@ -14,14 +14,14 @@ use Rattle.td_cli_command.proofs.command.command_of.Goals as goal
 pub returns-in-Ok : goal.returns-in-Ok
 returns-in-Ok c =
     let words : List (List ℕ) = map (string_bytes {Z = Global}) c.args.words.now in
-    let free : fault_of tool words ≡ [] = ap (λ (a : App). fault_of a words) (sym c.in_ok-tool.ensures) ∙ c.in-Ok.ensures.kinds (ap is_simple_and_free c.in_ok-tool.ensures ∙ is_free_tool) in
+    let free : fault_of command_app words ≡ [] = ap (λ (a : App). fault_of a words) (sym c.in_ok-tool.ensures) ∙ c.in-Ok.ensures.kinds (ap is_simple_and_free c.in_ok-tool.ensures ∙ is_free_tool) in
     let matches = c.in-Ok.ensures.matches (ap is_simple c.in_ok-tool.ensures ∙ is_simple_tool) in
     let rows = subcommand_rows_of c.in-Ok.matches in
-    let is : subcommand_of tool words ≡ rows = ap (λ (a : App). subcommand_of a words) (sym c.in_ok-tool.ensures) ∙ sym matches.1 in
+    let is : subcommand_of command_app words ≡ rows = ap (λ (a : App). subcommand_of a words) (sym c.in_ok-tool.ensures) ∙ sym matches.1 in
     let count = length c.args.words.now in
-    let P : ℕ → Type 0 = λ n. IsFound n rows c.found.result in
-    let found : IsFound count rows c.found.result = fits_is count rows (option_map (λ text. text.now) c.subcommand_name.result) c.number_of-number.result c.found.result (name_entered c.in-Ok.matches ∙ sym c.subcommand_name.ensures) c.number_of-number.ensures c.found.ensures in
-    found_means words rows c.found.result free is (subst P (sym (length-map c.args.words.now (string_bytes {Z = Global}))) found)
+    let P : ℕ → Type 0 = λ n. IsFound n rows c.named_command.result in
+    let found : IsFound count rows c.named_command.result = fits_is count rows (option_map (λ text. text.now) c.subcommand_name.result) c.number_of-number.result c.named_command.result (name_entered c.in-Ok.matches ∙ sym c.subcommand_name.ensures) c.number_of-number.ensures c.named_command.ensures in
+    found_means words rows c.named_command.result free is (subst P (sym (length-map c.args.words.now (string_bytes {Z = Global}))) found)
 
 pub returns-in-Err : goal.returns-in-Err
 returns-in-Err c =

@@ -9,8 +9,8 @@ returns c =
         checked = c.modules_are_checked.ensures;
         sized = c.host_jobs_are_sized.ensures;
         words = c.modules_have_words.ensures;
-        told = c.replies_are_told.ensures;
+        told = c.replies_are_reportable.ensures;
         carry = c.some_message_carries.ensures;
       };
-      takes = record { told = c.outcomes_are_told.ensures; fits = c.shape_fits.ensures; within = c.shape_lies_within.ensures; none = c.shape_has_no_buffers.ensures };
+      takes = record { told = c.outcomes_are_reportable.ensures; fits = c.shape_fits.ensures; within = c.shape_lies_within.ensures; none = c.shape_has_no_buffers.ensures };
     })

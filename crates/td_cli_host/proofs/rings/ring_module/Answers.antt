@@ -10,9 +10,9 @@ pub returns-in-Err-clause-err : goal.returns-in-Err-clause-err
 returns-in-Err-clause-err c =
     let e : FrontError = c.in-Err.error in
     elim c.in-Err.ensures.refused [
-      | inl none ↦ inl (c.unread.ensures.memory none)
+      | inl none ↦ inl (c.ring_refusal.ensures.memory none)
       | inr refused ↦ inr (
-        c.unread.ensures.refused (λ same. subst (RefusedBy c.ring_text.result.now) same refused),
+        c.ring_refusal.ensures.refused (λ same. subst (RefusedBy c.ring_text.result.now) same refused),
         λ m is. subst (RefusedBy c.ring_text.result.now) (c.in-Err.ensures.complete m (subst (λ (t : List ℕ). IsModuleText t m) (sym (same_bytes c.ring_text.result.now c.ring_text.ensures.text)) is.0)) refused,
       )
     ]

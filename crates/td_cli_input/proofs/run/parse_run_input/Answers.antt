@@ -11,7 +11,7 @@ use Rattle.td_job.specs.Jobs.{IsRunJob, RefusedJob}
 use Rattle.td_cli_input.specs.declared.refusal.Refusal.TheVariants.{BadModule}
 use Rattle.td_cli_input.specs.declared.refusal.InputError.TheVariants.{NoMemory}
 use Rattle.td_cli_input.specs.Causes.{HasCause}
-use Rattle.td_cli_input.specs.Marker.{text_part, job_part}
+use Rattle.td_cli_input.specs.Marker.{module_part, job_part}
 use Rattle.td_cli_input.specs.Inputs.{RefusesRun}
 use Rattle.td_cli_input.proofs.Memory.{job_memory}
 use Rattle.td_cli_input.proofs.Inputs.{text_cause, job_error, job_errors, nothing_refuses, no_error}
@@ -60,7 +60,7 @@ pub returns-in-Err-clause-complete : goal.returns-in-Err-clause-complete
 returns-in-Err-clause-complete c =
     let part = c.in_ok-part.part in
     let known = c.in_ok-part.ensures in
-    let one : (m : Module) → IsModuleText (text_part c.args.input.now part.place) m → part.«module» ≡ m = λ m h. known.complete part.place m known.marker h in
+    let one : (m : Module) → IsModuleText (module_part c.args.input.now part.place) m → part.«module» ≡ m = λ m h. known.complete part.place m known.marker h in
     let only : (j : RunJob) → IsRunJob (job_part c.args.input.now part.place) part.«module» j → c.in-Err.error ≡ jobs.NoMemory =
     λ j h. c.in-Err.ensures.complete j (subst (λ (t : List ℕ). IsRunJob t part.«module» j) (sym c.job_part.ensures) h) in
     λ types job given. c.of_job.ensures ∙ job_errors IsRunJob c.args.input.now part.place part.«module» c.in-Err.error jobs.NoMemory known.marker one only types job given
@@ -92,8 +92,8 @@ pub returns-in-Ok-clause-refused : goal.returns-in-Ok-clause-refused
 returns-in-Ok-clause-refused c =
     let part = c.in_ok-part.part in
     let known = c.in_ok-part.ensures in
-    let one : (m : Module) → IsModuleText (text_part c.args.input.now part.place) m → part.«module» ≡ m = λ m h. known.complete part.place m known.marker h in
-    let text : (e : FrontError) → RefusedBy (text_part c.args.input.now part.place) e → ⊥ = λ e h. false≢true (known.refused (BadModule e) (part.place, known.marker, h)) in
+    let one : (m : Module) → IsModuleText (module_part c.args.input.now part.place) m → part.«module» ≡ m = λ m h. known.complete part.place m known.marker h in
+    let text : (e : FrontError) → RefusedBy (module_part c.args.input.now part.place) e → ⊥ = λ e h. false≢true (known.refused (BadModule e) (part.place, known.marker, h)) in
     let job : (e : JobError) → RefusedJob (job_part c.args.input.now part.place) part.«module» e → ⊥ =
     λ e h. no_error c.in-Ok.job e jobs.NoMemory (c.in-Ok.ensures.exact e (subst (λ (t : List ℕ). RefusedJob t part.«module» e) (sym c.job_part.ensures) h)) in
     λ refusal h. absurd (nothing_refuses RefusedJob c.args.input.now part.place part.«module» known.marker one text job refusal h)

@@ -4,7 +4,7 @@ use Rattle.td_front.specs.declared.error.FrontError.TheVariants as front
 use Rattle.td_front.specs.ModuleText.{IsModuleText, RefusedBy}
 use Rattle.td_lexer.specs.Splits.{HasToken}
 use Rattle.td_cli_input.specs.Causes.{HasCause, of_module}
-use Rattle.td_cli_input.specs.Marker.{text_part}
+use Rattle.td_cli_input.specs.Marker.{module_part}
 use Rattle.td_cli_input.specs.Inputs.{RefusesText}
 use Rattle.td_cli_input.proofs.Memory.{module_memory}
 use Rattle.td_cli_input.proofs.Inputs.{text_there, text_not_refused, text_error}
@@ -19,12 +19,12 @@ returns-in-Ok-clause-stands c = subst (λ (t : List ℕ). IsModuleText t c.in-Ok
 pub returns-in-Ok-clause-complete : goal.returns-in-Ok-clause-complete
 returns-in-Ok-clause-complete c =
     λ n m marker stands.
-    let here : IsModuleText (text_part c.args.input.now c.in-Some.place) m = text_there (λ (t : List ℕ). IsModuleText t m) c.args.input.now n c.in-Some.place marker c.in-Some.ensures stands in
+    let here : IsModuleText (module_part c.args.input.now c.in-Some.place) m = text_there (λ (t : List ℕ). IsModuleText t m) c.args.input.now n c.in-Some.place marker c.in-Some.ensures stands in
     c.in-Ok.ensures.complete m (subst (λ (t : List ℕ). IsModuleText t m) (sym c.module_part.ensures) here)
 
 pub returns-in-Ok-clause-refused : goal.returns-in-Ok-clause-refused
 returns-in-Ok-clause-refused c =
-    let never : (e : FrontError) → RefusedBy (text_part c.args.input.now c.in-Some.place) e → ⊥ =
+    let never : (e : FrontError) → RefusedBy (module_part c.args.input.now c.in-Some.place) e → ⊥ =
     λ e h. c.in-Ok.ensures.exact e (subst (λ (t : List ℕ). RefusedBy t e) (sym c.module_part.ensures) h) in
     λ refusal h. absurd (text_not_refused c.args.input.now c.in-Some.place c.in-Some.ensures never refusal h)
 
@@ -38,7 +38,7 @@ returns-in-Err-clause-cause c =
 pub returns-in-Err-clause-complete : goal.returns-in-Err-clause-complete
 returns-in-Err-clause-complete c =
     λ n m marker stands.
-    let here : IsModuleText (text_part c.args.input.now c.in-Some.place) m = text_there (λ (t : List ℕ). IsModuleText t m) c.args.input.now n c.in-Some.place marker c.in-Some.ensures stands in
+    let here : IsModuleText (module_part c.args.input.now c.in-Some.place) m = text_there (λ (t : List ℕ). IsModuleText t m) c.args.input.now n c.in-Some.place marker c.in-Some.ensures stands in
     c.of_module.ensures ∙ ap of_module (c.in-Err.ensures.complete m (subst (λ (t : List ℕ). IsModuleText t m) (sym c.module_part.ensures) here))
 
 pub returns-in-Err-clause-memory : goal.returns-in-Err-clause-memory

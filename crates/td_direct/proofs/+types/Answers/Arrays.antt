@@ -12,7 +12,7 @@ use Rattle.td_core.specs.declared.outcome.Verdict.{Verdict}
 use Rattle.td_core.specs.declared.outcome.Verdict.TheVariants.{Accept, Reject}
 use Rattle.td_core.specs.Outcome.{plain, and_then, accepted}
 use Rattle.td_meaning.specs.Meaning.{values_of, taken, zeros_meaning, elements, element_up_to_zero, filled, filled_once, demanded, divides, equals}
-use Rattle.td_meaning.specs.Machine.{values, listed_meaning, shape_meaning, element_meaning}
+use Rattle.td_meaning.specs.Words64.{values, listed_meaning, shape_meaning, element_meaning}
 use Rattle.td_meaning.specs.Verdicts.{ending_of, IsAt}
 use Rattle.td_stream.specs.Copies.{rooms_of}
 use Rattle.td_stream.specs.StreamInvariant.{Moves, position}

@@ -11,7 +11,7 @@ use Rattle.td_core.specs.declared.outcome.Spot.TheVariants.{Field}
 use Rattle.td_core.specs.declared.outcome.Verdict.{Verdict}
 use Rattle.td_core.specs.Outcome.{plain, and_then, ending_within}
 use Rattle.td_meaning.specs.Meaning.{values_of as values_in, field_place, first_name}
-use Rattle.td_meaning.specs.Machine.{fields_meaning, content_meaning, copied_meaning}
+use Rattle.td_meaning.specs.Words64.{fields_meaning, content_meaning, copied_meaning}
 use Rattle.td_meaning.specs.Verdicts.{ending_of, frame_place, IsAt}
 use Rattle.td_stream.specs.StreamInvariant.{position}
 use Rattle.td_direct.specs.declared.counting.Counted.{Counted}

@@ -7,7 +7,7 @@ use Rattle.td_core.specs.declared.module.Field.{Field}
 use Rattle.td_core.specs.declared.outcome.Spot.TheVariants.{Field as FieldSpot}
 use Rattle.td_core.specs.Outcome.{Ending, ending_within, plain, and_then, within}
 use Rattle.td_meaning.specs.Meaning.{field_place, first_name, values_of}
-use Rattle.td_meaning.specs.Machine.{listed_meaning}
+use Rattle.td_meaning.specs.Words64.{listed_meaning}
 use Rattle.td_meaning.specs.Verdicts.{ending_of, frame_place}
 use Rattle.td_direct.specs.Validates.{Reads, rest_meaning}
 use Rattle.td_direct.proofs.Stepping.{step_from, step_to, step_then, step_within, step_only, only_from, only_then, then_verdict}

@@ -2,7 +2,7 @@ use Rattle.std.proofs.Common.{rules, ◌≡◌, ◌+◌, ◌≤◌, ℕ, List, N
 use Rattle.td_core.specs.declared.module.TypeDef.{TypeDef}
 use Rattle.td_core.specs.declared.module.Body.TheVariants.{Struct}
 use Rattle.td_core.specs.Outcome.{accepted}
-use Rattle.td_meaning.specs.Machine.{below, definition_meaning}
+use Rattle.td_meaning.specs.Words64.{below, definition_meaning}
 use Rattle.td_direct.specs.Passing.{AreQuiet}
 use Rattle.td_direct.proofs.PassingLemmas.{struct_pass, if_some_map}
 use Rattle.td_direct.proofs.sizes.passed_definition.Goals as goal

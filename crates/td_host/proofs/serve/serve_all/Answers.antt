@@ -2,7 +2,7 @@ use Rattle.std.proofs.Common.{rules, ◌≡◌, ℕ, ◌+◌, ◌*◌, ◌-◌, 
 use Rattle.std.specs.List.{All, sum_by}
 use Rattle.std.specs.List.Sorted.{IsPermutation}
 use Rattle.td_num.proofs.Lists.{lent, all_left}
-use Rattle.td_words.specs.Gathered.{Fetched, Told}
+use Rattle.td_words.specs.Gathered.{Fetched, IsHistoryOf}
 use Rattle.td_words.specs.Seats.{HostState}
 use Rattle.td_ring.specs.Ring.{PassState, with_takes}
 use Rattle.td_ring.specs.Tickets.{DrawerState}
@@ -162,7 +162,7 @@ returns-clause-served g c m described =
     let found : c.gather_all.new.found.items ≡ all_replies news = e.found ∙ ((λ i. r.none_found i ++ all_replies (v i))) in
     let k_is = ap (λ (p : HostState). p.view) (c.learn.ensures.same ∙ e.seat) ∙ ap (seats_all k.seat.view) v in
     let fetched = subst (λ (p : HostState). length p.view.ended ≡ p.view.made → Fetched p.view) (sym c.learn.ensures.same) c.learn.ensures.fetched in
-    let told = subst (λ (p : HostState). Told p.view c.learn.ensures.told.0) (sym c.learn.ensures.same) c.learn.ensures.told.1 in
+    let told = subst (λ (p : HostState). IsHistoryOf p.view c.learn.ensures.told.0) (sym c.learn.ensures.same) c.learn.ensures.told.1 in
     let rs : c.of.result ≡ c.put_in_order.new.replies.items = c.of.ensures in
     let named = ap (map reply_name) rs ∙ (c.put_in_order.ensures.names ∙ ap (map (λ (m : Mail). m.name)) c.as_slice.ensures.value) in
     let order = subst (λ (y : List Reply × List Reply). IsPermutation y.0 y.1) (λ i. (found i, sym rs i)) c.put_in_order.ensures.order in

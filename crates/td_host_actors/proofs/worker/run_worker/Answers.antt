@@ -50,7 +50,7 @@ loop-seat-preserved g c =
     let less : c.draw.result < length mails = search rules in
     let free : length l.replies.items < length mails = search rules in
     let In : Reply → Type 0 = IsInRoom c.args.desk.now.codes.codes job in
-    let kept : In r = in_room (most_frames c.args.desk.now.codes.codes) job.cells job.rooms c.take-post.result.room r e.memory (c.requires.says c.take-post.result c.take-post.ensures.named).memory in
+    let kept : In r = in_room (most_frames c.args.desk.now.codes.codes) job.cells job.rooms c.take-post.result.room r e.memory (c.requires.named_fit c.take-post.result c.take-post.ensures.named).memory in
     let read = subst (λ (ms : List Mail). HasLoaded (layout_in ms r) l.seat c.answer_now-reply.new.seat r.loads.list) c.requires.mails e.read in
     record {
       seat = e.table ∙ i.seat;

@@ -6,7 +6,7 @@ use Rattle.td_image.proofs.image.verified_of.Goals as goal
 
 pub returns-clause-refused : goal.returns-clause-refused
 returns-clause-refused c =
-    subst (λ (e : ImageError). answer.IsRefused c.args.bytes.now e) (sym c.told.ensures)
+    subst (λ (e : ImageError). answer.IsRefused c.args.bytes.now e) (sym c.of_verify_error.ensures)
     (verifier_told c.args.bytes.now c.in_ok-code.code c.in-Err.error c.in_ok-code.ensures.found c.in-Err.ensures.refused.1)
 
 pub returns-clause-memory : goal.returns-clause-memory

@@ -4,7 +4,7 @@ use Rattle.serde_json.specs.View.{view}
 use Rattle.td_job_host.proofs.Naming.{ring_named, handed}
 use Rattle.td_job_host.proofs.rings.ring_of.Goals as goal
 
-pub returns-in_err-check_names-clause-memory : goal.returns-in_err-check_names-clause-memory
-returns-in_err-check_names-clause-memory c = λ memory.
-    let told = handed c.from_residual-in_err-check_names.result c.in_err-check_names.field-0.0 c.from_residual-in_err-check_names.ensures.1 memory in
-    ring_named c.args.words c.args.ring (view c.args.value.now) (as_object (view c.args.value.now)) c.in_ok-check_fields.ensures.ok (c.in_err-check_names.ensures.memory (ap Err told))
+pub returns-in_err-check_ring_names-clause-memory : goal.returns-in_err-check_ring_names-clause-memory
+returns-in_err-check_ring_names-clause-memory c = λ memory.
+    let told = handed c.from_residual-in_err-check_ring_names.result c.in_err-check_ring_names.field-0.0 c.from_residual-in_err-check_ring_names.ensures.1 memory in
+    ring_named c.args.words c.args.ring (view c.args.value.now) (as_object (view c.args.value.now)) c.in_ok-check_fields.ensures.ok (c.in_err-check_ring_names.ensures.memory (ap Err told))

@@ -3,7 +3,7 @@ use Rattle.std.proofs.lemmas.List.{drop_more, drop_all}
 use Rattle.td_core.specs.declared.module.Part.{Part}
 use Rattle.td_core.specs.declared.outcome.Verdict.{Verdict}
 use Rattle.td_core.specs.Outcome.{plain, and_then}
-use Rattle.td_meaning.specs.Machine.{parts_meaning, with_part}
+use Rattle.td_meaning.specs.Words64.{parts_meaning, with_part}
 use Rattle.td_meaning.specs.Meaning.{extended}
 use Rattle.td_meaning.specs.Verdicts.{ending_of, IsAt}
 use Rattle.td_meaning.proofs.Steps.{parts_next, parts_none}

@@ -1,5 +1,5 @@
 use Rattle.std.proofs.Common.{◌≡◌, [], drop}
-use Rattle.td_meaning.specs.Machine.{parts_meaning}
+use Rattle.td_meaning.specs.Words64.{parts_meaning}
 use Rattle.td_meaning.specs.Meaning.{extended}
 use Rattle.td_meaning.proofs.checking.check_parts.Given as goal
 

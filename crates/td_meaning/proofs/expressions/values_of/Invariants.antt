@@ -1,5 +1,5 @@
 use Rattle.std.proofs.Common.{◌≡◌, ◌++◌, drop}
-use Rattle.td_meaning.specs.Machine.{values}
+use Rattle.td_meaning.specs.Words64.{values}
 use Rattle.td_meaning.proofs.expressions.values_of.Given as goal
 
 -- the values found, and those of what is left

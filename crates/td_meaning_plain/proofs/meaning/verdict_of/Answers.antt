@@ -3,7 +3,7 @@ use Rattle.std.specs.Prelude.{slice_get, None}
 use Rattle.td_num.specs.Numbers.{places_from}
 use Rattle.td_core.specs.declared.outcome.Reason.TheVariants.{Impossible}
 use Rattle.td_core.specs.Outcome.{Behavior, Rejected}
-use Rattle.td_meaning.proofs.MachineMeaning.{meaning_is}
+use Rattle.td_meaning.proofs.Meaning64.{meaning_is}
 use Rattle.td_meaning_plain.proofs.Copied.{if_ok_map}
 use Rattle.td_meaning.proofs.Filling.{no_entry}
 use Rattle.td_meaning_plain.proofs.Endings.{entry_is}

@@ -11,7 +11,7 @@ use Rattle.td_core.specs.declared.outcome.Reason.TheVariants.{Impossible}
 use Rattle.td_core.specs.declared.outcome.Verdict.{Verdict}
 use Rattle.td_core.specs.Outcome.{Ending, Behavior, Rejected, plain, and_then, ending_within}
 use Rattle.td_meaning.specs.Meaning.{elements, filled, field_number, extended, field_place, first_name}
-use Rattle.td_meaning.specs.Machine.{below, fields_meaning, content_meaning, shape_meaning, element_meaning, parts_meaning}
+use Rattle.td_meaning.specs.Words64.{below, fields_meaning, content_meaning, shape_meaning, element_meaning, parts_meaning}
 use Rattle.td_meaning.specs.Verdicts.{ending_of, frame_place}
 use Rattle.td_meaning.proofs.Below.{below_past}
 use Rattle.td_meaning_plain.proofs.Endings.{empty_at, then_same, field_by, elements_over, elements_on}

@@ -1,6 +1,6 @@
 use Rattle.std.proofs.Common.{◌≡◌, suc, ◌+◌, ◌-◌, ◌*◌, [], drop}
 use Rattle.td_meaning.specs.Meaning.{elements}
-use Rattle.td_meaning.specs.Machine.{below, fields_meaning, element_meaning}
+use Rattle.td_meaning.specs.Words64.{below, fields_meaning, element_meaning}
 use Rattle.td_meaning_plain.proofs.types.+types.Given as goal
 
 abbrev pub decreases-named : goal.decreases-named

@@ -1,7 +1,7 @@
 use Rattle.std.proofs.Common.{◌≡◌, ℕ, Option, Some, None, List, [], refl, ap, subst, ◌∙◌}
 use Rattle.td_stream.specs.declared.load.Load.{Load}
 use Rattle.td_stream.specs.declared.stretch.Stretch.{Stretch}
-use Rattle.td_stream.specs.Layouts.{laid}
+use Rattle.td_stream.specs.Layouts.{layout_or_plain}
 use Rattle.td_stream.specs.Loads.{buffered}
 use Rattle.td_sched.specs.declared.store.PlannedStore.{PlannedStore}
 use Rattle.td_sched.specs.Plan.{ArePlanned}
@@ -28,7 +28,7 @@ held v w loads plays fresh recorded =
     nothing (Some layout) = refl
 
 -- the same validation, of cells that were set and of a layout by another name
-moved : (p : Parts) (entry : Entry) (args : List ℕ) (n : ℕ) (o : Option (List Stretch)) (words : List ℕ) (stores : List PlannedStore) (loads : List Load) (outcome : Outcome) (cells cells' : List ℕ) (layout : List Stretch) → cells' ≡ cells → layout ≡ laid n o
+moved : (p : Parts) (entry : Entry) (args : List ℕ) (n : ℕ) (o : Option (List Stretch)) (words : List ℕ) (stores : List PlannedStore) (loads : List Load) (outcome : Outcome) (cells cells' : List ℕ) (layout : List Stretch) → cells' ≡ cells → layout ≡ layout_or_plain n o
     → ArePlanned words stores 0 (buffered o loads) → IsValidation p entry args cells' layout loads outcome
     → IsRunBy p (record { entry = entry; args = args; cells = cells; length = n; layout = o; words = words; stores = stores }) outcome loads
 moved p entry args n o words stores loads outcome cells cells' layout same at planned validated =

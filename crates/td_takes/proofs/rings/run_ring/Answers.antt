@@ -1,6 +1,6 @@
 use Rattle.std.proofs.Common.{◌≡◌, List, ◌∷◌, ◌++◌, length, drop, option_to_list, refl, sym, ap, ◌∙◌, subst, arith}
 use Rattle.td_ir.specs.declared.tables.Parts.{Parts}
-use Rattle.td_takes.specs.declared.take.Room.{Room}
+use Rattle.td_takes.specs.declared.take.TakeRoom.{TakeRoom}
 use Rattle.td_takes.specs.Takes.{IsRoom, frames_of}
 use Rattle.td_takes.specs.declared.take.Take.{Take}
 use Rattle.td_takes.specs.Memory.{KeepRooms}
@@ -36,7 +36,7 @@ loop-i-preserved c =
     let t = c.take_once-take in
     let out : l.rooms.items ≡ c.in-Some.room ∷ c.pop_front.new.self.items = c.pop_front.ensures.items ∙ ap (λ o. option_to_list o ++ c.pop_front.new.self.items) c.in-Some.is in
     let rest = first_room a.validator.now.job.now (frames_of a.validator.now.code.now) (frames_of a.descr.now.code) a.ring.now.job.now.most l.rooms.items c.pop_front.new.self.items c.in-Some.room v.rooms out in
-    let shorter = ap (λ (rs : List Room). length rs) out in
+    let shorter = ap (λ (rs : List TakeRoom). length rs) out in
     record {
       running = goes_on a.validator.now.job.now a.descr.now.code a.descr.now.room a.ring.now.job.now a.ring.now.number l.i a.seat.now l.seat t.new.seat a.descr.now l.descr t.new.descr l.takes.items c.push_reserved.new.self.items t.result
           v.running t.ensures.table t.ensures.descr t.ensures.ring t.ensures.number t.ensures.take t.ensures.read refl refl c.push_reserved.ensures.items;

@@ -5,7 +5,7 @@ use Rattle.td_core.specs.declared.module.Entry.{Entry}
 use Rattle.td_posts.specs.declared.job.HostJob.{HostJob}
 use Rattle.td_posts.specs.declared.reply.Reply.{Reply}
 use Rattle.td_report_host.specs.Report.{HasMessageWords, HasTakenWords, HasVersion}
-use Rattle.td_cli_host.specs.Serving.{CanBeShown}
+use Rattle.td_cli_host.specs.ServedInput.{CanBeShown}
 use Rattle.td_test_tool.proofs.hosts.host_answer.Goals as goal
 
 pub host_report-written-requires-clause-words : goal.host_report-written-requires-clause-words

@@ -3,7 +3,7 @@ use Rattle.std.proofs.lemmas.List.{drop_more, drop_all}
 use Rattle.td_num.specs.Numbers.{bytes_in}
 use Rattle.td_core.specs.declared.outcome.Verdict.{Verdict}
 use Rattle.td_core.specs.Outcome.{Behavior}
-use Rattle.td_meaning.specs.Machine.{checked}
+use Rattle.td_meaning.specs.Words64.{checked}
 use Rattle.td_meaning.specs.Verdicts.{ending_of}
 use Rattle.td_write_values.specs.declared.error.WriteRule.TheVariants.{Shape, Range, Broken, Long}
 use Rattle.td_write_values.specs.Datum.{Datum, Number}

@@ -4,7 +4,7 @@ use Rattle.std.specs.List.{All}
 use Rattle.std.proofs.lemmas.List.Elements.{All-weaker}
 use Rattle.td_stream.specs.declared.load.Load.{Load}
 use Rattle.td_stream.specs.declared.stretch.Stretch.{Stretch}
-use Rattle.td_stream.specs.Layouts.{named, counted}
+use Rattle.td_stream.specs.Layouts.{buffer_word_of, loadable}
 use Rattle.td_stream.specs.Loads.{IsNext, buffered}
 use Rattle.td_stream.proofs.Rising.{few}
 use Rattle.td_stream.proofs.Buffered.{in_buffer, buffered_push, buffered_length, named_within, number_of}
@@ -39,7 +39,7 @@ overflow_add-self c =
 pub push_reserved-requires : goal.push_reserved-requires
 push_reserved-requires c =
     let n : length c.self.inside.loads.items ≤ c.args.i = few c.args.i c.self.inside.loads.items (subst (λ p. IsNext c.args.i p.loads) (sym c.self.view_is) c.requires.next) in
-    let i : c.args.i < counted (option_map (λ l. l.now) c.self.inside.layout) (length c.self.inside.words.now) = subst (λ p. c.args.i < size_of p) (sym c.self.view_is) c.requires.within in
+    let i : c.args.i < loadable (option_map (λ l. l.now) c.self.inside.layout) (length c.self.inside.words.now) = subst (λ p. c.args.i < size_of p) (sym c.self.view_is) c.requires.within in
     omega (arith, n, i, c.self.invariant.space)
 
 pub returns-clause-reaches : goal.returns-clause-reaches
@@ -56,7 +56,7 @@ returns-clause-reaches c =
     let is = c.word_at-held.ensures.value (subst (λ ys. IsByWord ys) (sym stores) plan.order) (subst (λ ys. All (λ (t : PlannedStore). t.word < word) (take c.first_for-from.result ys)) (sym stores) early) in
     let l : Load = record { word = c.args.i; value = c.word_at-held.result.value } in
     let z : length s.loads.items ≡ 0 + length (buffered layout s.loads.items) = omega (arith, buffered_length layout s.loads.items) in
-    let value : l.value ≡ at o g (0 + length (buffered layout s.loads.items)) (named layout c.args.i) =
+    let value : l.value ≡ at o g (0 + length (buffered layout s.loads.items)) (buffer_word_of layout c.args.i) =
     is ∙ (ap (λ (ys : List PlannedStore). last_value (slice_index o word) (due c.len-number.result (to_word word ys))) stores
     ∙ (ap (last_value (slice_index o word)) (sym (plan.of_plan c.len-number.result word)) ∙ (ap (λ k. at o g k word) (number ∙ z) ∙ ap (at o g (0 + length (buffered layout s.loads.items))) c.word_named-near.ensures))) in
     subst (λ (p : PlannedView). PlannedReaches p (record { opening = o; stores = g; layout = layout; loads = c.push_reserved.new.self.items })) c.self.view_is (record {
@@ -80,5 +80,5 @@ invariant_of-self c =
       past = All-weaker (λ (t : PlannedStore). t.word ≤ word) (λ (t : PlannedStore). t.word < word + 1) (λ t h. omega (arith, h)) _ passed;
       over = c.self.invariant.over;
       small = c.self.invariant.small;
-      space = subst (λ n. counted (option_map (λ l. l.now) s.layout) (length s.words.now) ≤ n) (sym c.push_reserved.ensures.capacity) c.self.invariant.space;
+      space = subst (λ n. loadable (option_map (λ l. l.now) s.layout) (length s.words.now) ≤ n) (sym c.push_reserved.ensures.capacity) c.self.invariant.space;
     }

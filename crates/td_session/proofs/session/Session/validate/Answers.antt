@@ -8,7 +8,7 @@ use Rattle.td_session.proofs.session.Session.validate.Goals as goal
 
 pub returns-clause-validated : goal.returns-clause-validated
 returns-clause-validated g c =
-    let done = c.validate_told-found in
+    let done = c.validate_with_steps-found in
     let V : Parts → List ℕ → List ℕ → Type 0 = λ code before after. IsValidated code c.args.entry c.args.args.now before c.args.layout.now
     (g.W.Words.loads done.new.words) (record { verdict = done.result.0; trace = done.new.frame.trace; cells = after; copies = held_by (take (buffers_of code c.args.entry) done.new.frame.copies) }) done.result.1 in
     let v : V c.verified-2.result.now c.set_cells.new.self.cells done.new.frame.cells = record {

@@ -1,6 +1,6 @@
 use Rattle.std.proofs.Common.{List, sym, ap, ◌∙◌, subst}
 use Rattle.td_words.specs.History.{Entry}
-use Rattle.td_words.specs.Gathered.{Told}
+use Rattle.td_words.specs.Gathered.{IsHistoryOf}
 use Rattle.td_words.specs.Seats.{HostState, BufferState}
 use Rattle.td_words.proofs.Makes.{learns}
 use Rattle.td_words.proofs.Fetches.{fetches}
@@ -10,4 +10,4 @@ pub load-requires : goal.load-requires
 load-requires c = (ap (λ (x : HostState). x.table) c.host.view_is ∙ (c.requires ∙ sym (ap (λ (x : BufferState). x.table) c.self.view_is)), c.self.invariant.0, learns _ _ _ c.host.invariant)
 
 pub returns-clause-fetched : goal.returns-clause-fetched
-returns-clause-fetched c = fetches c.args.host.now.view (subst (λ (x : HostState). (log : List Entry) × Told x.view log) c.host.view_is c.load.ensures.2.1)
+returns-clause-fetched c = fetches c.args.host.now.view (subst (λ (x : HostState). (log : List Entry) × IsHistoryOf x.view log) c.host.view_is c.load.ensures.2.1)

@@ -1,6 +1,0 @@
-use Rattle.std.proofs.Common.{◌≡◌, ◌++◌, map, take}
-use Rattle.td_image_upgrade.specs.Turning.{renumbered, new_number}
-use Rattle.td_image_upgrade.proofs.turning.put_code.Given as goal
-
-abbrev pub invariant-loop-instruction : goal.invariant-loop-instruction
-invariant-loop-instruction l = l.instructions ≡ l.fn.instructions ++ map (renumbered (new_number l.old l.base l.used)) (take l.instruction-index l.code)
