@@ -175,7 +175,10 @@ fn parsed_host_job(alloc: Global, bytes: &[u8], m: &Module) -> Result<HostJob, J
     ensures memory { result ≡ Err JobError.NoMemory → 0 < length bytes.now }
 {
     let job = read_json(alloc, bytes)?;
-    host_job_of(alloc, &job, m)
+    let answer = host_job_of(alloc, &job, m);
+    // by a call, as each way through its variants, where it is let go, is a way through the function
+    drop(job);
+    answer
 }
 
 /// The host job that the bytes stand for, with a copy of the module. J1 to J9: their first fault, each exactly where the
