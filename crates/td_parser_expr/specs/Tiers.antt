@@ -97,5 +97,11 @@ range_okay_at n = (terminal kinds.IsRangeOkay then triple_at n) making λ (at, p
 abbrev pub expr_at : ℕ → Grammar Tree
 expr_at n = expr_from (group_at n) (triple_at n) (branches_at n)
 
+abbrev pub triple_end_at : ℕ → Grammar (Span × (Tree × Span))
+triple_end_at n = terminal kinds.Comma then nested_expr n then terminal kinds.CloseParen
+
 abbrev pub triple_rest_at : ℕ → Grammar (Span × (Tree × (Span × (Tree × Span))))
-triple_rest_at n = terminal kinds.Comma then nested_expr n then terminal kinds.Comma then nested_expr n then terminal kinds.CloseParen
+triple_rest_at n = terminal kinds.Comma then nested_expr n then triple_end_at n
+
+abbrev pub other_branch_at : ℕ → Grammar (Span × Tree)
+other_branch_at n = terminal kinds.Colon then nested_expr n
