@@ -12,25 +12,12 @@ use td_ast::definitions::{Def, StructTree};
 use td_ast::fields::FieldTree;
 use td_ast::names::Name;
 use td_ast::parameters::HeadTree;
-use td_ast::token::{Span, Token, TokenKind};
+use td_ast::token::{Token, TokenKind};
 use td_num::items::Items;
 use td_parser_expr::failure::Failure;
 use td_parser_expr::token::{expect, name};
 use td_parser_parts::fields::fields;
 use td_parser_parts::parameters::head;
-
-// "{" field { field } closing
-fn body(
-    alloc: Global,
-    tokens: &[Token],
-) -> Result<(Span, Items<FieldTree>, Name, &[Token]), Failure<'_>>
-    ensures { Gives (λ x. Got (x.0, (x.1, x.2)) x.3.now) result (pieces.struct_body.reader.read tokens.now) }
-{
-    let (opening, rest) = expect(tokens, &TokenKind::OpenBrace)?;
-    let (fields, rest) = fields(alloc, rest)?;
-    let (name, rest) = closing(alloc, rest)?;
-    Ok((opening, fields, name, rest))
-}
 
 // NAME head "{" field { field } closing
 #[tactic(auto, unfolding(td_grammar::specs::Definitions::struct_rest))]
@@ -42,14 +29,10 @@ fn struct_rest(
 {
     let (tag, rest) = name(alloc, tokens)?;
     let (head, rest) = head(alloc, rest)?;
-    match body(alloc, rest) {
-        Ok((_, fields, name, rest)) => Ok((tag, head, fields, name, rest)),
-        // by a call, as each way through its variants, where it is let go, is a way through the function
-        Err(failure) => {
-            drop(head);
-            Err(failure)
-        }
-    }
+    let (_, rest) = expect(rest, &TokenKind::OpenBrace)?;
+    let (fields, rest) = fields(alloc, rest)?;
+    let (name, rest) = closing(alloc, rest)?;
+    Ok((tag, head, fields, name, rest))
 }
 
 /// `"struct" ..`, after `["entrypoint"] "typedef"`.
