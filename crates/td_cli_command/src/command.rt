@@ -1,8 +1,10 @@
 //! The commands of the tool, and which one the words of a command line mean.
 
-ghost use Rattle.std.specs.Prelude.{◌≡◌, ◌≢◌, ◌≤◌, ◌↔◌, ℕ, IfOk, IsTrue, MatchOption, MatchResult, None, decimal, map, option_map, string_bytes};
-ghost use Rattle.clap.specs.Words.{app_of, kind_of, subcommand_rows_of};
-ghost use Rattle.td_cli_command.specs.Command.{Is, IsNamed, Means, MeansNone, command_app};
+ghost use Rattle.std.specs.Prelude.{◌≡◌, ◌≢◌, ◌≤◌, ◌↔◌, ℕ, IfOk, IsTrue, MatchOption, MatchResult, None, decimal, false, map, option_map, string_bytes};
+ghost use Rattle.clap.specs.Words.{app_of, kind_of, shape_of, subcommand_rows_of, with_subcommand};
+ghost use Rattle.clap.specs.Simple.{new_shape};
+ghost use Rattle.clap.specs.declared.builder.command.Command.TheViews.{out-Command};
+ghost use Rattle.td_cli_command.specs.Command.{Is, IsNamed, Means, MeansNone, bench, command_app};
 
 use clap::error::ErrorKind;
 use clap::{Arg, ArgAction, ArgMatches};
@@ -106,27 +108,43 @@ fn named_command(name: Option<&str>, number: Option<u32>) -> Option<Command>
     }
 }
 
+// The command line with one more command, behind whose name no word stands.
+fn with_command<'a>(
+    alloc: Global,
+    tool: clap::Command<'a>,
+    name: &'a str,
+) -> Result<clap::Command<'a>, AllocError>
+    ensures { IfOk result (λ c. app_of c ≡ with_subcommand (app_of tool.entry) (new_shape name.entry.now)) }
+{
+    let command = clap::Command::new(alloc, name);
+    let made = tool.subcommand(command)?;
+    Ok(made)
+}
+
+// The command `bench`, behind which one word stands.
+fn bench_command<'a>(alloc: Global) -> Result<clap::Command<'a>, AllocError>
+    ensures shape { IfOk result (λ c. shape_of c ≡ bench) }
+    ensures local { IfOk result (λ c. (out-Command c).has_globals ≡ false) }
+{
+    let number = Arg::new(alloc, "N");
+    let number = number.required(true).action(ArgAction::Set);
+    let command = clap::Command::new(alloc, "bench");
+    let made = command.arg(number)?;
+    Ok(made)
+}
+
 // The command line as `clap` knows it.
 fn command_app<'a>(alloc: Global) -> Result<clap::Command<'a>, AllocError>
     ensures { IfOk result (λ c. app_of c ≡ command_app) }
 {
     let tool = clap::Command::new(alloc, "td");
-    let check = clap::Command::new(alloc, "check");
-    let tool = tool.subcommand(check)?;
-    let tidy = clap::Command::new(alloc, "tidy");
-    let tool = tool.subcommand(tidy)?;
-    let run = clap::Command::new(alloc, "run");
-    let tool = tool.subcommand(run)?;
-    let host = clap::Command::new(alloc, "host");
-    let tool = tool.subcommand(host)?;
-    let code = clap::Command::new(alloc, "code");
-    let tool = tool.subcommand(code)?;
-    let pack = clap::Command::new(alloc, "pack");
-    let tool = tool.subcommand(pack)?;
-    let number = Arg::new(alloc, "N");
-    let number = number.required(true).action(ArgAction::Set);
-    let bench = clap::Command::new(alloc, "bench");
-    let bench = bench.arg(number)?;
+    let tool = with_command(alloc, tool, "check")?;
+    let tool = with_command(alloc, tool, "tidy")?;
+    let tool = with_command(alloc, tool, "run")?;
+    let tool = with_command(alloc, tool, "host")?;
+    let tool = with_command(alloc, tool, "code")?;
+    let tool = with_command(alloc, tool, "pack")?;
+    let bench = bench_command(alloc)?;
     let tool = tool.subcommand(bench)?;
     Ok(tool.subcommand_required(true))
 }

@@ -1,18 +1,14 @@
 -- The module of descriptors, and the readers of rings by it.
-use Rattle.std.proofs.Common.{◌≡◌, ◌⊎◌, inl, inr, ℕ, ◌+◌, ◌<◌, ◌^◌, Bool, true, false, List, [], ◌∷◌, ◌++◌, length, Option, Some, None, refl, sym, ap, ◌∙◌, subst, arith}
+use Rattle.std.proofs.Common.{◌≡◌, ◌⊎◌, inl, inr, ℕ, ◌+◌, ◌<◌, ◌^◌, Bool, true, false, List, [], ◌∷◌, ◌++◌, length, Some, None, refl, sym, ap, ◌∙◌, subst, arith}
 use Rattle.std.specs.Prelude.{Result, Ok, Err, IfOk}
 use Rattle.std.specs.List.{All}
 use Rattle.std.proofs.lemmas.Bool.{false≢true}
 use Rattle.std.proofs.lemmas.List.Elements.{All-weaker}
 use Rattle.td_num.specs.Lists.{AreBytes}
-use Rattle.td_num.proofs.Lists.{got, each_at}
 use Rattle.td_num.proofs.Truths.{both_true}
 use Rattle.td_core.specs.declared.module.Module.{Module}
-use Rattle.td_core.specs.declared.module.TypeDef.{TypeDef}
-use Rattle.td_core.specs.Entries.{entry_definition}
-use Rattle.td_core.specs.Formed.{AllFit, params_at, cells_at}
-use Rattle.td_core.proofs.Found.{entry_found}
 use Rattle.td_arith.specs.Laws.{EvaluatedIsSound}
+use Rattle.td_arith.proofs.Entering.{entry_is_sound}
 use Rattle.td_front.specs.ModuleText.{IsModuleText}
 use Rattle.td_front.specs.Checked.{IsChecked}
 use Rattle.td_front.specs.Laws.{AlwaysOne, OneModuleEach, NeverBoth}
@@ -48,14 +44,8 @@ module _ (below : Below) (m : Module) (shape : has_ring_shape m ≡ true) (room 
   -- each expression that it evaluates lies in its type's range
   pub ring_sound : IsChecked m → (b : List ℕ) → AreBytes b → length b < 2 ^ 32 → IsDescSoundOn m room most b
   ring_sound checked b bytes short =
-      let place = got m.entries 0 (entry_there m shape) in
-      let there : place.0 < length m.definitions = each_at (λ p. p < length m.definitions) m.entries 0 place.0 checked.whole.entries place.1 in
-      let d = got m.definitions place.0 there in
-      let same : entry_definition m 0 ≡ Some d.0 = entry_found m 0 place.0 d.0 place.1 d.1 in
       let fit = below.fits m shape room most few_room few_most in
-      below.sound m desc_entry place.0 d.0 (desc_args room most) desc_cells b checked.formed checked.copying checked.safe place.1 d.1
-      (subst (λ (o : Option TypeDef). AllFit (params_at o) (desc_args room most)) same fit.0)
-      (subst (λ (o : Option TypeDef). AllFit (cells_at o) desc_cells) same fit.1) bytes short
+      entry_is_sound m desc_entry (desc_args room most) desc_cells below.sound checked.formed checked.copying checked.safe checked.whole (entry_there m shape) fit.0 fit.1 b bytes short
 
   -- so its code is one of descriptors
   pub ring_code : IsChecked m → (c : Parts) → IsCodeOf c m → IsRingCode c room most

@@ -13,7 +13,7 @@ use td_write_values::error::WriteRule;
 use thiserror::Error;
 
 /// The name of a field of a run job, of a host job, or of a guest or a ring in one, or of a total over a host job.
-#[derive(Clone, Copy, PartialEq, Eq, Debug)]
+#[derive(Clone, Copy)]
 pub enum Key {
     /// The name of the entry point.
     Entry,
@@ -141,6 +141,13 @@ impl JobRule {
     {
         JobError::Fault { rule: self, path }
     }
+
+    /// The fault of a job that breaks the rule at an element of a field's list.
+    pub fn at_element(self, key: Key, index: usize) -> JobError
+        ensures { result ≡ JobError.Fault self (Path.Element key index) }
+    {
+        self.at(Path::Element { key, index })
+    }
 }
 
 /// The code of what is wrong with a value that isn't written, in error lines.
@@ -174,14 +181,8 @@ impl fmt::Display for ValueFault {
     }
 }
 
-impl fmt::Debug for ValueFault {
-    fn fmt<W: fmt::Write>(&self, f: &mut fmt::Formatter<W>) -> fmt::Result {
-        write!(f, "{self}")
-    }
-}
-
 /// Where a job is at fault.
-#[derive(Debug, Drop)]
+#[derive(Drop)]
 pub enum Path {
     /// The job as a whole.
     Job,
@@ -324,7 +325,7 @@ impl fmt::Display for Path {
 }
 
 /// Why there is no job. It prints as its error line does: a code and a path.
-#[derive(Debug, Drop, Error)]
+#[derive(Drop, Error)]
 pub enum JobError {
     /// The text breaks a rule at a place.
     #[error("{} {path}", rule.code())]
@@ -332,6 +333,12 @@ pub enum JobError {
     /// There was no memory to read the job.
     #[error("out of memory")]
     NoMemory,
+}
+
+impl fmt::Debug for JobError {
+    fn fmt<W: fmt::Write>(&self, f: &mut fmt::Formatter<W>) -> fmt::Result {
+        write!(f, "{self}")
+    }
 }
 
 impl From<AllocError> for JobError {

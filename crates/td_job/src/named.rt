@@ -47,7 +47,7 @@ fn check_each_number(numbers: &[u64], key: Key, slots: Slots) -> Result<(), JobE
             break;
         };
         if *number > most {
-            return Err(JobRule::Values.at(Path::Element { key, index }));
+            return Err(JobRule::Values.at_element(key, index));
         }
     }
     Ok(())
@@ -83,10 +83,7 @@ fn check_each_store(stores: &[PlannedStore], words: usize) -> Result<(), JobErro
 {
     for (index, store) in stores.iter().enumerate() {
         if store.word as usize >= words {
-            return Err(JobRule::NoWord.at(Path::Element {
-                key: Key::Stores,
-                index,
-            }));
+            return Err(JobRule::NoWord.at_element(Key::Stores, index));
         }
     }
     Ok(())

@@ -130,14 +130,16 @@ fn job_of_bytes(alloc: Global, job: &Value, m: &Module) -> Result<RunJob, JobErr
     let tested = check_fields(job, m)?;
     check_names(alloc, job, FIELDS)?;
     let definition = definition_of(m, tested.entry);
-    let (params, cells) = (params_of(definition), cells_of(definition));
-    let layout = layout_of(alloc, job, tested.given, tested.length)?;
     let stores = stores_of(alloc, job, tested.words)?;
     let words = words_of(alloc, job, tested.words)?;
+    let args = values_of(alloc, job, Key::Args, params_of(definition))?;
+    let cells = values_of(alloc, job, Key::Cells, cells_of(definition))?;
+    // last, as each way through its variants, where it is let go, is a way through the function
+    let layout = layout_of(alloc, job, tested.given, tested.length)?;
     Ok(RunJob {
         entry: tested.entry,
-        args: values_of(alloc, job, Key::Args, params)?,
-        cells: values_of(alloc, job, Key::Cells, cells)?,
+        args,
+        cells,
         words,
         length: tested.length,
         layout,
@@ -170,7 +172,10 @@ fn parsed_job(alloc: Global, bytes: &[u8], m: &Module) -> Result<RunJob, JobErro
     ensures memory { result ≡ Err JobError.NoMemory → 0 < length bytes.now }
 {
     let job = read_json(alloc, bytes)?;
-    job_of(alloc, &job, m)
+    let answer = job_of(alloc, &job, m);
+    // by a call, as each way through its variants, where it is let go, is a way through the function
+    drop(job);
+    answer
 }
 
 /// The run job that the bytes stand for. J1 to J8, J10: their first fault, each exactly where the definition says so.

@@ -57,18 +57,14 @@ fn store_of(value: &Value, index: usize, words: u32) -> Result<PlannedStore, Job
     ensures err { IfErr result (λ e. IsFirst (store_faults words (Path.Element Key.Stores index) (spelled_store (view value.now))) e) }
     ensures broken { IfErr result (λ e. e ≢ JobError.NoMemory) }
 {
-    let place = Path::Element {
-        key: Key::Stores,
-        index,
-    };
     let Some(spelled) = spelled_store(value) else {
-        return Err(JobRule::Form.at(place));
+        return Err(JobRule::Form.at_element(Key::Stores, index));
     };
     let Some(value) = word_of(spelled.text) else {
-        return Err(JobRule::Digits.at(place));
+        return Err(JobRule::Digits.at_element(Key::Stores, index));
     };
     if spelled.word >= u64::from(words) {
-        return Err(JobRule::NoWord.at(place));
+        return Err(JobRule::NoWord.at_element(Key::Stores, index));
     }
     Ok(PlannedStore {
         before: spelled.before,

@@ -62,15 +62,11 @@ fn stretch_of(value: &Value, index: usize, given: u32) -> Result<Stretch, JobErr
     ensures err { IfErr result (λ e. IsFirst (stretch_faults given (Path.Element Key.Stretches index) (spelled_stretch (view value.now))) e) }
     ensures broken { IfErr result (λ e. e ≢ JobError.NoMemory) }
 {
-    let place = Path::Element {
-        key: Key::Stretches,
-        index,
-    };
     let Some(spelled) = spelled_stretch(value) else {
-        return Err(JobRule::Form.at(place));
+        return Err(JobRule::Form.at_element(Key::Stretches, index));
     };
     if passes(spelled, given) {
-        return Err(JobRule::PastBytes.at(place));
+        return Err(JobRule::PastBytes.at_element(Key::Stretches, index));
     }
     Ok(Stretch {
         place: spelled.place as u32,

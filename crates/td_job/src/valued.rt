@@ -114,7 +114,10 @@ fn bytes_of_value(
     kinds_are_admitted();
     let value = read_value(alloc, value)?;
     let mut bytes = Vec::new(alloc);
-    match write_value(alloc, m, entry, args, cells, &value, &mut bytes) {
+    let written = write_value(alloc, m, entry, args, cells, &value, &mut bytes);
+    // by a call, as each way through its variants, where it is let go, is a way through the function
+    drop(value);
+    match written {
         Ok(_) => Ok(Text::of(bytes)),
         Err(error) => Err(fault_of(error)),
     }

@@ -97,9 +97,9 @@ fn check_value(value: &Value, key: Key, index: usize, most: u64) -> Result<(), J
     ensures broken { IfErr result (λ e. e ≢ JobError.NoMemory) }
 {
     match value.as_u64() {
-        None => Err(JobRule::Form.at(Path::Element { key, index })),
+        None => Err(JobRule::Form.at_element(key, index)),
         Some(number) => if number > most {
-            Err(JobRule::Values.at(Path::Element { key, index }))
+            Err(JobRule::Values.at_element(key, index))
         } else {
             Ok(())
         },

@@ -81,10 +81,7 @@ fn check_guest(alloc: Global, value: &Value, guest: usize, words: u32) -> Result
     ensures memory { result ≡ Err JobError.NoMemory → BeginsWithName (guest_faults words guest (view value.now)) }
 {
     if value.as_object().is_none() {
-        return Err(JobRule::Form.at(Path::Element {
-            key: Key::Guests,
-            index: guest,
-        }));
+        return Err(JobRule::Form.at_element(Key::Guests, guest));
     }
     check_script(value, guest, words)?;
     check_guest_names(alloc, value, guest)?;

@@ -1,11 +1,17 @@
 //! Host jobs.
 
-ghost use Rattle.std.specs.Prelude.{◌≡◌, [], ◌∷◌, ◌⊎◌, ◌<◌, ◌≤◌, ◌*◌, ◌^◌, Err, Some, length, IfOk, IfErr, OnOk, OnErr, MatchResult};
+ghost use Rattle.std.specs.Prelude.{◌≡◌, [], ◌∷◌, ◌⊎◌, ◌<◌, ◌≤◌, ◌*◌, ◌^◌, Err, Some, length, option_map, IfOk, IfErr, OnOk, OnErr, MatchResult};
 ghost use Rattle.serde_json.specs.View.{view};
 ghost use Rattle.td_core.specs.Entries.{entry_definition};
+ghost use Rattle.td_core.specs.Formed.{cells_at};
 ghost use Rattle.td_posts.specs.Servable.{IsServable};
-ghost use Rattle.td_job.specs.Fields.{number_of};
-ghost use Rattle.td_job_host.specs.HostJobs.{buffer_words, FirstFault, rest_faults, after_faults, AreSwapsOf, HasGoodFields, MayLackMemory, IsHost, IsHostJob, RefusedHostJob, HasHostValues, HasShortMessages};
+ghost use Rattle.td_job.specs.Fields.{number_of, text_of};
+ghost use Rattle.td_job.specs.Jobs.{bytes_faults};
+ghost use Rattle.td_job.specs.Values.{given_args};
+ghost use Rattle.td_job.specs.Words.{IsFilled};
+ghost use Rattle.td_job_host.specs.Guests.{given_guests};
+ghost use Rattle.td_job_host.specs.Rings.{given_rings};
+ghost use Rattle.td_job_host.specs.HostJobs.{given_buffer, buffer_words, rooms_in, FirstFault, rest_faults, after_faults, AreSwapsOf, HasGoodFields, MayLackMemory, IsHost, IsHostJob, RefusedHostJob, HasHostValues, HasShortMessages};
 
 use crate::copies::rooms_of;
 use crate::fields::{check_after, check_first, check_rest};
@@ -14,7 +20,7 @@ use crate::rings::rings_of;
 use crate::swaps::{Versions, swaps_of};
 use serde_json::Value;
 use std::alloc::{AllocError, Global};
-use td_core::module::{Entry, Module};
+use td_core::module::{Entry, Module, TypeDef};
 use td_front::laws::one_answer_each;
 use td_job::checks::bytes_of;
 use td_job::error::{JobError, Key};
@@ -23,7 +29,7 @@ use td_job::stretches::small_count;
 use td_job::values::{cells_of, definition_of, params_of, values_of};
 use td_job::words::fill_words;
 use td_num::items::Items;
-use td_posts::job::HostJob;
+use td_posts::job::{HostJob, Step};
 use td_posts::ring::RingJob;
 
 /// Tests the fields of a job up to the elements of `swaps`, and gives its entry point, how many words its buffer has, and how many
@@ -115,6 +121,79 @@ fn check_bytes(rings: &Items<RingJob>, words: u32) -> Result<(), JobError>
     }
 }
 
+/// The modules of a job by version, and their entry points.
+#[derive(Drop)]
+struct Served {
+    formats: Items<Module>,
+    entries: Items<Entry>,
+}
+
+/// The versions of a job: its own, and then those of the swaps. `AllocError`: there was no memory for them.
+fn served_of(alloc: Global, m: &Module, entry: Entry, swaps: Versions) -> Result<Served, AllocError>
+    ensures formats { IfOk result (λ s. s.formats ≡ m.now ∷ swaps.formats.items) }
+    ensures entries { IfOk result (λ s. s.entries ≡ entry ∷ swaps.entries.items) }
+{
+    let Versions { formats, entries } = swaps;
+    let formats = formats_of(alloc, m, formats)?;
+    let entries = entries_of(alloc, entry, entries)?;
+    Ok(Served { formats, entries })
+}
+
+/// What each validation of a job begins with: the arguments, the count of the cells, and the rooms of the copy buffers.
+#[derive(Drop)]
+struct Begins {
+    args: Items<u64>,
+    cells: u32,
+    rooms: Items<u32>,
+}
+
+/// What each validation of a job begins with, from an entry point with this definition. `NoMemory`: there was no memory for it.
+fn begins_of(alloc: Global, job: &Value, definition: Option<&TypeDef>) -> Result<Begins, JobError>
+    ensures args { IfOk result (λ b. b.args ≡ given_args (option_map (λ d. d.now) definition.entry) (view job.now)) }
+    ensures cells { IfOk result (λ b. b.cells ≡ length (cells_at (option_map (λ d. d.now) definition.entry))) }
+    ensures rooms { IfOk result (λ b. b.rooms ≡ rooms_in (option_map (λ d. d.now) definition.entry)) }
+    ensures err { IfErr result (λ e. e ≡ JobError.NoMemory) }
+{
+    let args = values_of(alloc, job, Key::Args, params_of(definition))?;
+    let cells = small_count(cells_of(definition).len())?;
+    let rooms = rooms_of(alloc, definition)?;
+    Ok(Begins { args, cells, rooms })
+}
+
+/// What acts on a job's buffer.
+#[derive(Drop)]
+struct Actors {
+    guests: Items<Items<Step>>,
+    rings: Items<RingJob>,
+}
+
+/// The guests and the rings of a job that has no fault, for a buffer of so many words. `NoMemory`: there was no memory for them, or none
+/// for a buffer of so many words with a ring.
+fn actors_of(alloc: Global, job: &Value, words: u32) -> Result<Actors, JobError>
+    requires { rest_faults words (view job.now) ≡ [] }
+    ensures guests { IfOk result (λ a. a.guests ≡ given_guests (view job.now)) }
+    ensures rings { IfOk result (λ a. a.rings ≡ given_rings (view job.now)) }
+    ensures bytes { IfOk result (λ a. 0 < length a.rings → 8 * words < 2 ^ 32) }
+    ensures err { IfErr result (λ e. e ≡ JobError.NoMemory) }
+{
+    let guests = guests_of(alloc, job, words)?;
+    let rings = rings_of(alloc, job, words)?;
+    check_bytes(&rings, words)?;
+    Ok(Actors { guests, rings })
+}
+
+/// The words of a job's buffer, this many, where its text has no fault. `NoMemory`: there was no memory for them.
+fn buffer_of(alloc: Global, job: &Value, words: u32) -> Result<Items<u64>, JobError>
+    requires faultless { bytes_faults Key.Buffer (text_of Key.Buffer (view job.now)) ≡ [] }
+    requires words { buffer_words (view job.now) ≡ words }
+    ensures ok { IfOk result (λ filled. IsFilled (given_buffer (view job.now)) words filled) }
+    ensures err { IfErr result (λ e. e ≡ JobError.NoMemory) }
+{
+    let bytes = bytes_of(alloc, job, Key::Buffer)?;
+    let filled = fill_words(alloc, bytes.as_slice(), words)?;
+    Ok(filled)
+}
+
 /// The host job of a parsed text that was found to have no fault. `NoMemory`: there was no memory for it.
 fn made_of(alloc: Global, job: &Value, m: &Module, tested: Tested) -> Result<HostJob, JobError>
     requires good { HasGoodFields m.now (view job.now) tested.entry }
@@ -134,23 +213,20 @@ fn made_of(alloc: Global, job: &Value, m: &Module, tested: Tested) -> Result<Hos
         workers,
         swaps,
     } = tested;
-    let Versions { formats, entries } = swaps;
-    let definition = definition_of(m, entry);
-    let params = params_of(definition);
-    let bytes = bytes_of(alloc, job, Key::Buffer)?;
-    let guests = guests_of(alloc, job, words)?;
-    let rings = rings_of(alloc, job, words)?;
-    check_bytes(&rings, words)?;
+    let served = served_of(alloc, m, entry, swaps)?;
+    let begins = begins_of(alloc, job, definition_of(m, entry))?;
+    let actors = actors_of(alloc, job, words)?;
+    let filled = buffer_of(alloc, job, words)?;
     Ok(HostJob {
-        formats: formats_of(alloc, m, formats)?,
-        entries: entries_of(alloc, entry, entries)?,
-        args: values_of(alloc, job, Key::Args, params)?,
-        cells: small_count(cells_of(definition).len())?,
-        rooms: rooms_of(alloc, definition)?,
-        words: fill_words(alloc, bytes.as_slice(), words)?,
+        formats: served.formats,
+        entries: served.entries,
+        args: begins.args,
+        cells: begins.cells,
+        rooms: begins.rooms,
+        words: filled,
         workers,
-        guests,
-        rings,
+        guests: actors.guests,
+        rings: actors.rings,
     })
 }
 
@@ -175,7 +251,10 @@ fn parsed_host_job(alloc: Global, bytes: &[u8], m: &Module) -> Result<HostJob, J
     ensures memory { result ≡ Err JobError.NoMemory → 0 < length bytes.now }
 {
     let job = read_json(alloc, bytes)?;
-    host_job_of(alloc, &job, m)
+    let answer = host_job_of(alloc, &job, m);
+    // by a call, as each way through its variants, where it is let go, is a way through the function
+    drop(job);
+    answer
 }
 
 /// The host job that the bytes stand for, with a copy of the module. J1 to J9: their first fault, each exactly where the

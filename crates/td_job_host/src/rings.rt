@@ -134,15 +134,11 @@ impl SpelledRing {
         ensures err { IfErr result (IsFirst (place_faults words (Path.Element Key.Rings ring) (ring_in self))) }
         ensures broken { IfErr result (λ e. e ≢ JobError.NoMemory) }
     {
-        let place = Path::Element {
-            key: Key::Rings,
-            index: ring,
-        };
         if self.is_past(words) {
-            return Err(JobRule::PastBytes.at(place));
+            return Err(JobRule::PastBytes.at_element(Key::Rings, ring));
         }
         if self.is_past_limit() {
-            return Err(JobRule::Limit.at(place));
+            return Err(JobRule::Limit.at_element(Key::Rings, ring));
         }
         Ok(RingJob {
             base: self.base as u32,
@@ -162,10 +158,7 @@ fn ring_of(alloc: Global, value: &Value, ring: usize, words: u32) -> Result<Ring
     ensures memory { result ≡ Err JobError.NoMemory → BeginsWithName (ring_faults words ring (view value.now)) }
 {
     if value.as_object().is_none() {
-        return Err(JobRule::Form.at(Path::Element {
-            key: Key::Rings,
-            index: ring,
-        }));
+        return Err(JobRule::Form.at_element(Key::Rings, ring));
     }
     check_fields(value, ring)?;
     check_ring_names(alloc, value, ring)?;

@@ -2,16 +2,18 @@
 
 ghost use Rattle.std.specs.Prelude.{◌≡◌, ◌≢◌, ◌-◌, ◌^◌, ◌≤◌, ◌||◌, [], ◌∷◌, ◌⊎◌, min, nat_lt, length, Err, OnOk, OnErr, IfOk, IfErr};
 ghost use Rattle.serde_json.specs.View.{view, items_view};
+ghost use Rattle.td_job.specs.declared.error.Path.TheVariants as path;
 ghost use Rattle.td_job.specs.Fields.{IsFirst};
 ghost use Rattle.td_stream.specs.Layouts.{words_in, length_in};
 ghost use Rattle.td_job.specs.Stretches.{spelled_stretch, stretch_of, each_stretch};
 ghost use Rattle.td_job_host.specs.Steps.{are_stretches, are_within, scatter_faults, scatter_in};
 ghost use Rattle.td_job_host.specs.Scatter.{measured};
 
+use crate::steps::StepAt;
 use serde_json::Value;
 use std::alloc::Global;
 use td_job::checks::MOST_BYTES;
-use td_job::error::{JobError, JobRule, Path};
+use td_job::error::{JobError, JobRule};
 use td_job::stretches::{SpelledStretch, spelled_stretch};
 use td_num::items::Items;
 use td_posts::job::Step;
@@ -107,15 +109,15 @@ fn is_past_limit(values: &[Value]) -> bool
 
 /// Tests a post of a message of the stretches that these values spell, in a buffer of so many words, at this place of the job. J7:
 /// a stretch passes the end of the buffer. J8: there are more than 64 stretches, or more than 1,048,576 bytes. Takes no memory.
-pub(crate) fn check_scatter(values: &[Value], place: Path, words: u32) -> Result<(), JobError>
-    ensures ok { OnOk result (scatter_faults words place (each_stretch (items_view values.now)) ≡ []) }
-    ensures err { IfErr result (IsFirst (scatter_faults words place (each_stretch (items_view values.now)))) }
+pub(crate) fn check_scatter(values: &[Value], place: StepAt, words: u32) -> Result<(), JobError>
+    ensures ok { OnOk result (scatter_faults words (path.Step place.guest place.index) (each_stretch (items_view values.now)) ≡ []) }
+    ensures err { IfErr result (IsFirst (scatter_faults words (path.Step place.guest place.index) (each_stretch (items_view values.now)))) }
     ensures broken { IfErr result (λ e. e ≢ JobError.NoMemory) }
 {
     if !are_within(values, words) {
-        Err(JobRule::PastBytes.at(place))
+        Err(place.fault(JobRule::PastBytes))
     } else if is_past_limit(values) {
-        Err(JobRule::Limit.at(place))
+        Err(place.fault(JobRule::Limit))
     } else {
         Ok(())
     }
@@ -157,12 +159,12 @@ fn stretches_of(alloc: Global, values: &[Value]) -> Result<Items<Stretch>, JobEr
 pub(crate) fn scatter_of(
     alloc: Global,
     values: &[Value],
-    place: Path,
+    place: StepAt,
     words: u32,
 ) -> Result<Step, JobError>
-    ensures ok { IfOk result (λ s. (scatter_faults words place (each_stretch (items_view values.now)) ≡ []) × (scatter_in (each_stretch (items_view values.now)) ≡ s ∷ [])) }
-    ensures err { IfErr result (λ e. (e ≡ JobError.NoMemory) ⊎ IsFirst (scatter_faults words place (each_stretch (items_view values.now))) e) }
-    ensures memory { result ≡ Err JobError.NoMemory → scatter_faults words place (each_stretch (items_view values.now)) ≡ [] }
+    ensures ok { IfOk result (λ s. (scatter_faults words (path.Step place.guest place.index) (each_stretch (items_view values.now)) ≡ []) × (scatter_in (each_stretch (items_view values.now)) ≡ s ∷ [])) }
+    ensures err { IfErr result (λ e. (e ≡ JobError.NoMemory) ⊎ IsFirst (scatter_faults words (path.Step place.guest place.index) (each_stretch (items_view values.now))) e) }
+    ensures memory { result ≡ Err JobError.NoMemory → scatter_faults words (path.Step place.guest place.index) (each_stretch (items_view values.now)) ≡ [] }
 {
     check_scatter(values, place, words)?;
     let stretches = stretches_of(alloc, values)?;

@@ -15,6 +15,25 @@ use td_job::stores::word_of;
 use td_num::items::Items;
 use td_posts::job::Step;
 
+/// The place of a step: that of its guest in the list of guests, and its own in the script, each from 0.
+#[derive(Clone, Copy)]
+pub(crate) struct StepAt {
+    pub guest: usize,
+    pub index: usize,
+}
+
+impl StepAt {
+    /// The fault of a job that breaks a rule at this step.
+    pub(crate) fn fault(self, rule: JobRule) -> JobError
+        ensures { result ≡ JobError.Fault rule (Path.Step self.guest self.index) }
+    {
+        rule.at(Path::Step {
+            guest: self.guest,
+            index: self.index,
+        })
+    }
+}
+
 /// A step of a script, as a job spells it.
 #[derive(Clone, Copy)]
 pub(crate) enum Spelled<'a> {
@@ -94,16 +113,16 @@ pub(crate) fn spelled_step(value: &Value) -> Option<Spelled<'_>>
 
 /// A store to a buffer of so many words, at this place of the job. J5: the text is not 16 hexadecimal digits. J6: the word
 /// is none of the buffer's.
-fn store_of(word: u64, text: &str, place: Path, words: u32) -> Result<Step, JobError>
-    ensures ok { IfOk result (λ s. (store_faults words place word text.now ≡ []) × (store_in word text.now ≡ s ∷ [])) }
-    ensures err { IfErr result (IsFirst (store_faults words place word text.now)) }
+fn store_of(word: u64, text: &str, place: StepAt, words: u32) -> Result<Step, JobError>
+    ensures ok { IfOk result (λ s. (store_faults words (Path.Step place.guest place.index) word text.now ≡ []) × (store_in word text.now ≡ s ∷ [])) }
+    ensures err { IfErr result (IsFirst (store_faults words (Path.Step place.guest place.index) word text.now)) }
     ensures broken { IfErr result (λ e. e ≢ JobError.NoMemory) }
 {
     let Some(value) = word_of(text) else {
-        return Err(JobRule::Digits.at(place));
+        return Err(place.fault(JobRule::Digits));
     };
     if word >= u64::from(words) {
-        return Err(JobRule::NoWord.at(place));
+        return Err(place.fault(JobRule::NoWord));
     }
     Ok(Step::Store {
         word: word as u32,
@@ -113,16 +132,16 @@ fn store_of(word: u64, text: &str, place: Path, words: u32) -> Result<Step, JobE
 
 /// A post of a message in a buffer of so many words, at this place of the job. J7: the message passes the end of the
 /// buffer. J8: it has more than 1,048,576 bytes.
-fn post_of(base: u64, length: u64, place: Path, words: u32) -> Result<Step, JobError>
-    ensures ok { IfOk result (λ s. (post_faults words place base length ≡ []) × (post_in base length ≡ s ∷ [])) }
-    ensures err { IfErr result (IsFirst (post_faults words place base length)) }
+fn post_of(base: u64, length: u64, place: StepAt, words: u32) -> Result<Step, JobError>
+    ensures ok { IfOk result (λ s. (post_faults words (Path.Step place.guest place.index) base length ≡ []) × (post_in base length ≡ s ∷ [])) }
+    ensures err { IfErr result (IsFirst (post_faults words (Path.Step place.guest place.index) base length)) }
     ensures broken { IfErr result (λ e. e ≢ JobError.NoMemory) }
 {
     let words = u64::from(words);
     if base > words || length.div_ceil(8) > words - base {
-        Err(JobRule::PastBytes.at(place))
+        Err(place.fault(JobRule::PastBytes))
     } else if length > MOST_BYTES {
-        Err(JobRule::Limit.at(place))
+        Err(place.fault(JobRule::Limit))
     } else {
         Ok(Step::Post {
             base: base as u32,
@@ -139,15 +158,16 @@ fn check_step(value: &Value, guest: usize, index: usize, words: u32) -> Result<(
     ensures err { IfErr result (IsFirst (step_faults words (Path.Step guest index) (spelled_step (view value.now)))) }
     ensures broken { IfErr result (λ e. e ≢ JobError.NoMemory) }
 {
-    let place = Path::Step { guest, index };
+    let place = StepAt { guest, index };
+    // what isn't kept is let go by a call, as each way through its variants is a way through the function
     match spelled_step(value) {
-        None => Err(JobRule::Form.at(place)),
+        None => Err(place.fault(JobRule::Form)),
         Some(Spelled::Store { word, text }) => {
-            store_of(word, text, place, words)?;
+            drop(store_of(word, text, place, words)?);
             Ok(())
         }
         Some(Spelled::Post { base, length }) => {
-            post_of(base, length, place, words)?;
+            drop(post_of(base, length, place, words)?);
             Ok(())
         }
         Some(Spelled::Scatter { stretches }) => check_scatter(stretches, place, words),
@@ -166,9 +186,9 @@ fn step_of(
     ensures ok { IfOk result (λ s. (step_faults words (Path.Step guest index) (spelled_step (view value.now)) ≡ []) × (step_in (spelled_step (view value.now)) ≡ s ∷ [])) }
     ensures err { IfErr result (λ e. (e ≡ JobError.NoMemory) ⊎ IsFirst (step_faults words (Path.Step guest index) (spelled_step (view value.now))) e) }
 {
-    let place = Path::Step { guest, index };
+    let place = StepAt { guest, index };
     match spelled_step(value) {
-        None => Err(JobRule::Form.at(place)),
+        None => Err(place.fault(JobRule::Form)),
         Some(Spelled::Store { word, text }) => store_of(word, text, place, words),
         Some(Spelled::Post { base, length }) => post_of(base, length, place, words),
         Some(Spelled::Scatter { stretches }) => scatter_of(alloc, stretches, place, words),

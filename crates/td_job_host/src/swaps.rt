@@ -200,10 +200,7 @@ fn fault_of(error: FrontError, index: usize) -> JobError
 {
     match error {
         FrontError::NoMemory => JobError::NoMemory,
-        _ => JobRule::Swap.at(Path::Element {
-            key: Key::Swaps,
-            index,
-        }),
+        _ => JobRule::Swap.at_element(Key::Swaps, index),
     }
 }
 
@@ -239,10 +236,7 @@ fn version_of(
     let format = module_of(alloc, text, index)?;
     match replacing(job, m, entry, &format) {
         Some(entry) => Ok(Version { format, entry }),
-        None => Err(JobRule::Swap.at(Path::Element {
-            key: Key::Swaps,
-            index,
-        })),
+        None => Err(JobRule::Swap.at_element(Key::Swaps, index)),
     }
 }
 
@@ -260,10 +254,7 @@ fn element_of(
     ensures memory { result ≡ Err JobError.NoMemory → MayLackText m.now entry (text_of Key.Entry (view job.now)) (view value.now) }
 {
     match value.as_str() {
-        None => Err(JobRule::Form.at(Path::Element {
-            key: Key::Swaps,
-            index,
-        })),
+        None => Err(JobRule::Form.at_element(Key::Swaps, index)),
         Some(text) => version_of(alloc, job, m, entry, text, index),
     }
 }

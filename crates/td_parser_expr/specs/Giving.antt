@@ -1,7 +1,6 @@
 -- What a function of the parser gives, by what reading gives.
-use Rattle.std.specs.Prelude.{◌≡◌, List, Result, Ok, Err}
-use Rattle.td_ast.specs.declared.token.Token.{Token}
-use Rattle.td_grammar.specs.Reading.{Outcome, Got, Bad, Deep}
+use Rattle.std.specs.Prelude.{◌≡◌, Result, Ok, Err}
+use Rattle.td_grammar.specs.Reading.{Outcome, Bad, Deep}
 use Rattle.td_parser_expr.specs.declared.failure.Failure.{Failure}
 use Rattle.td_parser_expr.specs.declared.failure.Failure.TheVariants as failures
 

@@ -8,7 +8,7 @@ use Rattle.td_ast.specs.Trees.{Tree, Sizeof, RangeOkay, over}
 use Rattle.td_grammar.specs.Grammar.{Grammar, ◌then◌, ◌making◌, too_deep, spelled_by}
 use Rattle.td_grammar.specs.Tokens.{terminal, word}
 use Rattle.td_ast.specs.declared.token.TokenKind.TheVariants as kinds
-use Rattle.td_grammar.specs.Expressions.{leaning, comparing, products, sums, shifts, orders, equalities, bit_ands, bit_xors, bit_ors, ands, ors, un_from, prim_from, expr_from, sizeof_operand, group_of, triple_of, branches_of, SpellsExpr, nested_expr}
+use Rattle.td_grammar.specs.Expressions.{leaning, comparing, products, sums, shifts, orders, equalities, bit_ands, bit_xors, bit_ors, ands, un_from, prim_from, expr_from, sizeof_operand, group_of, triple_of, branches_of, SpellsExpr, nested_expr}
 use Rattle.td_grammar.specs.Operators.{product_operator_of, sum_operator_of, shift_operator_of, order_operator_of, equality_operator_of, bit_and_operator_of, bit_xor_operator_of, bit_or_operator_of, and_operator_of, or_operator_of, and_kinds, bit_and_kinds, bit_or_kinds, bit_xor_kinds, equality_kinds, or_kinds, order_kinds, product_kinds, shift_kinds, sum_kinds}
 use Rattle.td_parser_expr.specs.declared.tier.Tier.{Tier}
 use Rattle.td_parser_expr.specs.declared.tier.Tier.TheVariants as tiers
@@ -97,5 +97,14 @@ range_okay_at n = (terminal kinds.IsRangeOkay then triple_at n) making λ (at, p
 abbrev pub expr_at : ℕ → Grammar Tree
 expr_at n = expr_from (group_at n) (triple_at n) (branches_at n)
 
+abbrev pub group_end_at : ℕ → Grammar (Tree × Span)
+group_end_at n = nested_expr n then terminal kinds.CloseParen
+
+abbrev pub triple_end_at : ℕ → Grammar (Span × (Tree × Span))
+triple_end_at n = terminal kinds.Comma then group_end_at n
+
 abbrev pub triple_rest_at : ℕ → Grammar (Span × (Tree × (Span × (Tree × Span))))
-triple_rest_at n = terminal kinds.Comma then nested_expr n then terminal kinds.Comma then nested_expr n then terminal kinds.CloseParen
+triple_rest_at n = terminal kinds.Comma then nested_expr n then triple_end_at n
+
+abbrev pub other_branch_at : ℕ → Grammar (Span × Tree)
+other_branch_at n = terminal kinds.Colon then nested_expr n

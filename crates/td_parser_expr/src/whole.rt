@@ -28,6 +28,8 @@ fn cut<'a>(
     match expr(alloc, OPERATORS, &tokens[..len]) {
         Ok((e, rest)) => {
             if rest.is_empty() {
+                // by a call, as each way through its variants, where it is let go, is a way through the function
+                drop(e);
                 return Err(Failure::TooDeep(over));
             }
             Ok((e, &tokens[len - rest.len()..]))

@@ -27,6 +27,10 @@ other_at n = (terminal kinds.Else then braced_at n) making λ (at, block). block
 abbrev pub condition : Grammar (Span × (Tree × Span))
 condition = terminal kinds.OpenParen then expr then terminal kinds.CloseParen
 
+-- what an `if` does, after its condition
+abbrev pub branches_at : ℕ → Grammar ((List Statement × Span) × Option (List Statement × Span))
+branches_at n = braced_at n then maybe (other_at n)
+
 abbrev pub store : Grammar Statement
 store = (terminal kinds.Star then name then terminal kinds.Assign then assigned then terminal kinds.Semicolon) making λ (at, (cell, (assign, (value, end)))). Store (over at end) cell value
 

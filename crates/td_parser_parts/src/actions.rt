@@ -54,6 +54,9 @@ fn assigned(alloc: Global, tokens: &[Token]) -> Result<(Assigned, &[Token]), Fai
     Ok((Assigned::FieldPtr(at), rest))
 }
 
+// Where an expression is let go, each way through its variants is a way through the function. So it is let go by a call where what
+// comes after it fails.
+
 // "=" rhs ";"
 fn assignment(
     alloc: Global,
@@ -63,8 +66,13 @@ fn assignment(
 {
     let (assign, rest) = expect(tokens, &TokenKind::Assign)?;
     let (value, rest) = assigned(alloc, rest)?;
-    let (end, rest) = expect(rest, &TokenKind::Semicolon)?;
-    Ok((assign, value, end, rest))
+    match expect(rest, &TokenKind::Semicolon) {
+        Ok((end, rest)) => Ok((assign, value, end, rest)),
+        Err(failure) => {
+            drop(value);
+            Err(failure)
+        }
+    }
 }
 
 // "*" NAME "=" rhs ";"
@@ -119,12 +127,19 @@ fn returning(alloc: Global, tokens: &[Token]) -> Result<(Stmt, &[Token]), Failur
 {
     let (at, rest) = expect(tokens, &TokenKind::Return)?;
     let (value, rest) = expression(alloc, rest)?;
-    let (end, rest) = expect(rest, &TokenKind::Semicolon)?;
-    let statement = Stmt {
-        span: over(at, end),
-        kind: StmtKind::Return(value),
-    };
-    Ok((statement, rest))
+    match expect(rest, &TokenKind::Semicolon) {
+        Ok((end, rest)) => {
+            let statement = Stmt {
+                span: over(at, end),
+                kind: StmtKind::Return(value),
+            };
+            Ok((statement, rest))
+        }
+        Err(failure) => {
+            drop(value);
+            Err(failure)
+        }
+    }
 }
 
 // "abort" ";". Takes no memory.
@@ -146,8 +161,13 @@ fn condition(alloc: Global, tokens: &[Token]) -> Result<(Span, Expr, Span, &[Tok
 {
     let (opening, rest) = expect(tokens, &TokenKind::OpenParen)?;
     let (value, rest) = expression(alloc, rest)?;
-    let (closing, rest) = expect(rest, &TokenKind::CloseParen)?;
-    Ok((opening, value, closing, rest))
+    match expect(rest, &TokenKind::CloseParen) {
+        Ok((closing, rest)) => Ok((opening, value, closing, rest)),
+        Err(failure) => {
+            drop(value);
+            Err(failure)
+        }
+    }
 }
 
 /// `"{" { stmt } "}"`, and the span of its last token, where so many braces may be open.
@@ -209,6 +229,20 @@ fn if_of(
     }
 }
 
+// braced [ "else" braced ]
+#[cycle(statement)]
+fn branches(
+    alloc: Global,
+    braces: u32,
+    tokens: &[Token],
+) -> Result<(Block, Span, Option<(Block, Span)>, &[Token]), Failure<'_>>
+    ensures { Gives (λ x. Got ((x.0, x.1), x.2) x.3.now) result ((pieces.branches_at braces).reader.read tokens.now) }
+{
+    let (block, closing, rest) = braced(alloc, braces, tokens)?;
+    let (other, rest) = maybe_other(alloc, braces, rest)?;
+    Ok((block, closing, other, rest))
+}
+
 // "if" "(" expr ")" braced [ "else" braced ]
 #[cycle(statement)]
 fn conditional(
@@ -220,9 +254,15 @@ fn conditional(
 {
     let (at, rest) = expect(tokens, &TokenKind::If)?;
     let (_, condition, _, rest) = condition(alloc, rest)?;
-    let (block, closing, rest) = braced(alloc, braces, rest)?;
-    let (other, rest) = maybe_other(alloc, braces, rest)?;
-    Ok((if_of(at, condition, block, closing, other), rest))
+    match branches(alloc, braces, rest) {
+        Ok((block, closing, other, rest)) => {
+            Ok((if_of(at, condition, block, closing, other), rest))
+        }
+        Err(failure) => {
+            drop(condition);
+            Err(failure)
+        }
+    }
 }
 
 #[cycle(statement)]

@@ -26,8 +26,14 @@ fn sized<'a>(
 {
     let (_, rest) = expect(tokens, opening)?;
     let (size, rest) = expression(alloc, rest)?;
-    let (_, rest) = expect(rest, &TokenKind::CloseBracket)?;
-    Ok((size, rest))
+    match expect(rest, &TokenKind::CloseBracket) {
+        Ok((_, rest)) => Ok((size, rest)),
+        // by a call, as each way through its variants, where it is let go, is a way through the function
+        Err(failure) => {
+            drop(size);
+            Err(failure)
+        }
+    }
 }
 
 /// An array part or a bit width.

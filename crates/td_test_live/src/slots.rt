@@ -7,14 +7,11 @@ use crate::validated::{Compiled, ENTRY, Ran, compile, validated};
 use std::alloc::Global;
 use std::test::Fail;
 use td_core::module::Module;
-use td_core::outcome::{Reason, Verdict};
 use td_io::MemorySink;
 use td_live::gate::{Gate, PostName};
 use td_live::message::LiveMessage;
 use td_report::report::run_report;
 use td_stream::layout::Layout;
-use td_stream::load::Load;
-use td_stream::stretch::Stretch;
 use td_verify::verify::Verified;
 use td_words::seats::GuestSeat;
 use td_words::shared::Shared;
@@ -22,10 +19,6 @@ use td_words::shared::Shared;
 /// A message of nine bytes, of which the first and the last are tested: both its words are loaded, and none twice.
 const GAP: &[u8] =
     b"entrypoint typedef struct _V(mutable UINT8 *got) { UINT8 x { x <= 10 } {:act *got = x;}; UINT8 gap[7]; UINT8 z { z == 0 }; } V;";
-
-/// A message of two fields, which are tested for one value.
-const PAIR: &[u8] =
-    b"entrypoint typedef struct _X { UINT16 a { a == 0x2211 }; UINT16 b { b == 0x2211 }; } X;";
 
 // The word to which a guest stores before load 1, what it stores, and the report.
 const ROWS: &[(u32, u64, &str)] = &[
@@ -144,47 +137,5 @@ fn a_store_counts_where_its_word_is_still_to_be_loaded(rt: HostRuntime) -> Resul
         }
     }
     println!(rt; "{} rows", ROWS.len())?;
-    Ok(())
-}
-
-// Validates a message of which both fields are the bytes 3 and 4 of the one word that there is; before load 1 these become others.
-fn raced_pair(alloc: Global) -> Option<Ran> {
-    let compiled = compile(alloc, PAIR)?;
-    let both = Stretch { place: 3, size: 2 };
-    let Ok(layout) = Layout::of(alloc, &[both, both]) else {
-        return None;
-    };
-    raced(
-        alloc,
-        &compiled.code,
-        &[0x0022_1100_0000],
-        &layout,
-        &[],
-        0,
-        0x0044_3300_0000,
-    )
-}
-
-#[test]
-fn a_word_in_two_stretches_is_loaded_once_for_each(rt: HostRuntime) -> Result<(), Fail> {
-    let Some(ran) = raced_pair(rt.alloc()) else {
-        return Err(Fail::new("not validated"));
-    };
-    let loads = [
-        Load {
-            word: 0,
-            value: 0x0022_1100_0000,
-        },
-        Load {
-            word: 1,
-            value: 0x0044_3300_0000,
-        },
-    ];
-    let rejected = Verdict::Reject {
-        reason: Reason::Constraint,
-        pos: 2,
-    };
-    assert_eq!(rt; ran.loads.as_slice(), loads.as_slice());
-    assert_eq!(rt; ran.outcome.verdict, rejected);
     Ok(())
 }

@@ -44,34 +44,6 @@ const OWN_STORES: &str = concat!(
     "reply 2 1\naccept 1\nout got 9\nload 0 0000000000000009\n"
 );
 
-/// A ring of two entries at the buffer's first word, of which one was made, at which the host looks twice.
-const ONE_DESCRIPTOR: &str = concat!(
-    "entrypoint typedef struct _H(mutable UINT8 *got) { UINT8 x {:act *got = x;}; } H;\n%%\n",
-    "{\"entry\":\"H\",\"buffer\":\"010000000000000028000000010000000900000000000000",
-    "000000000000000000000000000000000700000000000000\",\"workers\":1,\"guests\":[{\"script\":[]}],",
-    "\"rings\":[{\"base\":0,\"entries\":2,\"most\":8,\"takes\":2}]}\n"
-);
-
-const ONE_MESSAGE: &str = concat!(
-    "ring 1 1\nhead 0000000000000001\naccept 16\nout r.Place 40\nout r.Size 1\nout r.Id 9\n",
-    "load 0 0000000100000028\nload 1 0000000000000009\n",
-    "message 0\naccept 1\nout got 7\nload 0 5 0000000000000007\n",
-    "ring 1 2\nhead 0000000000000001\nidle\n"
-);
-
-/// The same, of which more were made than it has entries.
-const THREE_DESCRIPTORS: &str = concat!(
-    "entrypoint typedef struct _H(mutable UINT8 *got) { UINT8 x {:act *got = x;}; } H;\n%%\n",
-    "{\"entry\":\"H\",\"buffer\":\"030000000000000028000000010000000900000000000000",
-    "000000000000000000000000000000000700000000000000\",\"workers\":1,\"guests\":[{\"script\":[]}],",
-    "\"rings\":[{\"base\":0,\"entries\":2,\"most\":8,\"takes\":2}]}\n"
-);
-
-const TWO_OVERRUNS: &str = concat!(
-    "ring 1 1\nhead 0000000000000003\noverrun\n",
-    "ring 1 2\nhead 0000000000000003\noverrun\n"
-);
-
 // The post of a guest with this number.
 fn post(guest: u32, number: u32) -> PostName {
     PostName { guest, number }
@@ -179,31 +151,4 @@ fn nor_does_it_where_a_host_serves(rt: HostRuntime) -> Result<(), Fail> {
     assert_eq!(rt; out.written(), OWN_STORES.as_bytes());
     check_notes(&rt, &notes, true, 1);
     Ok(())
-}
-
-// What the tool and what td_host make of the input of a ring is this report.
-fn check_ring<R: AllocGlobal + Threads + Wait + Sync + Abort>(
-    rt: &R,
-    input: &str,
-    report: &str,
-) -> Result<(), Fail> {
-    let alloc = rt.alloc();
-    let notes = Notes::with_room(alloc, 16)?;
-    let mut told = MemorySink::with_room(alloc, 4096, Vec::new(alloc))?;
-    tool_report(rt, &notes, input, &[], post(1, 1), &mut told)?;
-    assert_eq!(rt; told.written(), report.as_bytes());
-    let mut made = MemorySink::with_room(alloc, 4096, Vec::new(alloc))?;
-    host_answer(rt, &notes, input, &[], post(1, 1), &mut made)?;
-    assert_eq!(rt; made.written(), report.as_bytes());
-    Ok(())
-}
-
-#[test]
-fn a_rings_message_is_validated_where_its_descriptor_says(rt: HostRuntime) -> Result<(), Fail> {
-    check_ring(&rt, ONE_DESCRIPTOR, ONE_MESSAGE)
-}
-
-#[test]
-fn nothing_is_taken_of_a_ring_that_lost_descriptors(rt: HostRuntime) -> Result<(), Fail> {
-    check_ring(&rt, THREE_DESCRIPTORS, TWO_OVERRUNS)
 }

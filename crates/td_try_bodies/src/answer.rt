@@ -78,6 +78,29 @@ fn report_line(
     Ok(line)
 }
 
+// Whether the validator has this outcome, and made these loads.
+fn is_direct(alloc: Global, m: &Module, job: &RunJob, run: &PlannedRun) -> Result<bool, AllocError>
+    requires checked { IsChecked m.now }
+    requires values { HasValues m.now job.now }
+    requires room { HasRoom job.now }
+    requires sound { IsSoundJob m.now job.now }
+{
+    let direct = run_direct(alloc, m, job)?;
+    let is_one = run.loads.as_slice() == direct.loads.as_slice();
+    Ok(is_one && is_same(&run.outcome, &direct.outcome))
+}
+
+// Whether this is what the module means, whatever the words have that weren't loaded.
+fn is_meant(alloc: Global, m: &Module, job: &RunJob, run: &PlannedRun) -> Result<bool, AllocError> {
+    for filler in FILLERS {
+        let plain = run_plain(alloc, m, job, &run.loads, filler)?;
+        if !is_same(&run.outcome, &plain) {
+            return Ok(false);
+        }
+    }
+    Ok(true)
+}
+
 fn answer_job(alloc: Global, m: &Module, job: &RunJob) -> Result<Vec<u8>, AllocError>
     requires checked { IsChecked m.now }
     requires entry { job.now.entry.number < length m.now.entries }
@@ -86,16 +109,11 @@ fn answer_job(alloc: Global, m: &Module, job: &RunJob) -> Result<Vec<u8>, AllocE
     requires sound { IsSoundJob m.now job.now }
 {
     let run = run_compiled(alloc, m, job)?;
-    let direct = run_direct(alloc, m, job)?;
-    let is_one = run.loads.as_slice() == direct.loads.as_slice();
-    if !is_one || !is_same(&run.outcome, &direct.outcome) {
+    if !is_direct(alloc, m, job, &run)? {
         return b"differs validator".to_vec(alloc);
     }
-    for filler in FILLERS {
-        let plain = run_plain(alloc, m, job, &run.loads, filler)?;
-        if !is_same(&run.outcome, &plain) {
-            return b"differs meaning".to_vec(alloc);
-        }
+    if !is_meant(alloc, m, job, &run)? {
+        return b"differs meaning".to_vec(alloc);
     }
     report_line(alloc, m, job, &run)
 }

@@ -11,16 +11,22 @@ mod bodies;
 mod carried;
 
 use answer::answer;
+use std::alloc::Global;
 use std::io::{self, BufRead, BufReader, BufWriter, Write};
+
+// Writes the answer to a line.
+fn write_answer(alloc: Global, line: &str, out: &mut impl Write) -> io::Result<()> {
+    let text = answer(alloc, line)?;
+    out.write_all(text.as_slice())?;
+    out.write_all(b"\n")
+}
 
 fn main(rt: HostRuntime) -> io::Result<()> {
     let alloc = rt.alloc();
     let mut out = BufWriter::new(alloc, io::writer(&rt))?;
     for line in BufReader::new(alloc, rt.reader())?.lines(alloc) {
         let line = line?;
-        let text = answer(alloc, line.as_str())?;
-        out.write_all(text.as_slice())?;
-        out.write_all(b"\n")?;
+        write_answer(alloc, line.as_str(), &mut out)?;
     }
     out.flush()
 }

@@ -15,7 +15,7 @@ returns-clause-room c =
     let tested = c.in_ok-tested.tested in
     let words = c.in_ok-words.words in
     let stores = c.in_ok-stores.stores in
-    let j : RunJob = record { entry = tested.entry; args = c.in_ok-values_of.field-0; cells = c.in_ok-values_of-2.field-0; words = words; length = tested.length; layout = c.in_ok-layout.layout; stores = stores; written = None } in
+    let j : RunJob = record { entry = tested.entry; args = c.in_ok-args.args; cells = c.in_ok-cells.cells; words = words; length = tested.length; layout = c.in_ok-layout.layout; stores = stores; written = None } in
     let faultless = none_unknown m job tested.entry c.in_ok-tested.ensures.begins c.in_ok-tested.ensures.ends c.in_ok-check_names.ensures.ok in
     let is : IsJobWith (from_bytes job) m job j = search (rules, faultless) in
     let inside = subst (λ (n : ℕ). All (λ (s : PlannedStore). s.word < n) stores) (sym c.in_ok-words.ensures.ok.count) c.in_ok-stores.ensures.inside in

@@ -10,5 +10,5 @@ use Rattle.td_job.proofs.valued.bytes_of_value.Goals as goal
 pub returns-clause-err : goal.returns-clause-err
 returns-clause-err c =
     let a = c.args in
-    c.fault_of.ensures (writing whole a.m.now a.entry a.args.now (opened a.m.now a.entry a.cells.now) (datum_of (view a.value.now)))
+    c.fault_of.ensures.refused (writing whole a.m.now a.entry a.args.now (opened a.m.now a.entry a.cells.now) (datum_of (view a.value.now)))
     (subst (λ (v : Datum). IsRefusal (writing whole a.m.now a.entry a.args.now (opened a.m.now a.entry a.cells.now) v) c.in-Err.error) c.in_ok-value.ensures c.in-Err.ensures.cause)

@@ -1,4 +1,4 @@
-use Rattle.std.proofs.Common.{◌≡◌, sym, ap, ◌∙◌, List, ◌++◌, ◌∷◌, []}
+use Rattle.std.proofs.Common.{sym, ap, ◌∙◌, List}
 use Rattle.td_ast.specs.declared.token.Span.{Span}
 use Rattle.td_ast.specs.declared.expressions.UnaryOperator.{UnaryOperator}
 use Rattle.td_grammar.specs.Expressions as productions

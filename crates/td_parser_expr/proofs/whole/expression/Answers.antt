@@ -1,4 +1,3 @@
-use Rattle.std.proofs.Common.{sym}
 use Rattle.td_grammar.specs.Expressions.{expr}
 use Rattle.td_parser_expr.proofs.Cut.{none_over}
 use Rattle.td_parser_expr.proofs.whole.expression.Goals as goal

@@ -36,4 +36,4 @@ returns c =
     c.requires.sound c.requires.long c.requires.laid c.as_slice-args.ensures (c.as_mut_slice.ensures.value ∙ c.in_ok-cells.ensures.items ∙ c.as_slice.ensures)
     (c.of.ensures ∙ lent own.len left own.items (c.validate_recorded.auto.cells ∙ c.as_mut_slice.ensures.len))
     (c.held_by_first.ensures ∙ all_held c.len-count.result c.validate_recorded.new.copies.buffers.items (c.len-count.ensures ∙ c.validate_recorded.new.copies.buffers.ok.0))
-    c.validate_recorded.ensures.rising c.validate_recorded.ensures.inside c.in_ok-verdict.ensures.behavior
+    c.validate_recorded.ensures.fetched.rising c.validate_recorded.ensures.fetched.inside c.in_ok-verdict.ensures.behavior

@@ -23,7 +23,7 @@ returns-in_default-clause-cause c =
     let path : c.new-path.result.items ≡ [] = search rules in
     let w : Refused (Broken Impossible) c.new-path.result.items ≡ writing whole a.m.now a.entry a.args.now (opened a.m.now a.entry a.cells.now) a.value.now =
     ap (Refused (Broken Impossible)) path ∙ sym (no_entry a.m.now a.entry a.args.now (opened a.m.now a.entry a.cells.now) a.value.now whole missing) in
-    subst (λ w. IsRefusal w c.broken.result) w c.broken.ensures
+    subst (λ w. IsRefusal w c.broken.result) w c.broken.ensures.rule
 
 pub returns-in_default-clause-none : goal.returns-in_default-clause-none
 returns-in_default-clause-none c =
@@ -77,7 +77,7 @@ returns-in-Err-clause-cause c =
     writing_at m a.entry a.args.now all a.value.now in_machine c.in-Some.place.now there
     ∙ (λ j. writers_below in_machine m.listed m.definitions (sym bound j) c.in-Some.place.now a.args.now (sym places j) (sym left j) (sym path j) (length (sym none j)) a.value.now) in
     let same = same_writing m a.entry a.args.now a.cells.now a.value.now c.writing_is_in_range.ensures c.requires.writable c.requires.args c.requires.cells in
-    c.stopped.ensures (writing whole m a.entry a.args.now all a.value.now)
+    c.stopped.ensures.cause (writing whole m a.entry a.args.now all a.value.now)
     (subst (Halts c.in-Err.halt c.named.new.draft.path.items) (sym by_place ∙ same) c.in-Err.ensures.err)
 
 pub returns-in-Err-clause-none : goal.returns-in-Err-clause-none
