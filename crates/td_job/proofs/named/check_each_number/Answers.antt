@@ -18,7 +18,7 @@ returns-then-number-most-clause-err c =
     let more = each_number_faults c.args.key (i + 1) (drop (i + 1) bounds) (drop (i + 1) numbers) in
     let faults = c.loop-index.invariant ∙ number_at c.args.key i most bounds numbers c.loop-index-test.true (sym c.in-Some.ensures) in
     let first : IsFirst (each_number_faults c.args.key 0 bounds numbers) (Fault rule.Values (path.Element c.args.key i)) = rw faults (too_great (path.Element c.args.key i) most (get_or numbers i 0) more c.if-number-most.true) in
-    rw c.at.ensures first
+    rw c.at_element.ensures first
 
 pub loop-index-preserved : goal.loop-index-preserved
 loop-index-preserved c =

@@ -34,3 +34,9 @@ returns-clause-ok c =
       scripted = c.in_ok-actors.ensures.guests;
       looked_at = c.in_ok-actors.ensures.rings;
     }
+
+pub buffer_of-requires-clause-faultless : goal.buffer_of-requires-clause-faultless
+buffer_of-requires-clause-faultless c = c.requires.good.buffer
+
+pub buffer_of-requires-clause-words : goal.buffer_of-requires-clause-words
+buffer_of-requires-clause-words c = c.requires.words
