@@ -4,7 +4,9 @@
 
 mod answers;
 mod call;
+mod copies;
 mod exports;
+mod frames;
 mod handle;
 mod images;
 mod parts;

@@ -1,9 +1,9 @@
-//! What C calls to find entry points, names, parameters, cells and frames.
+//! What C calls to find entry points, names, parameters, cells and copy buffers.
 
 ghost use Rattle.std.specs.Prelude.{◌≡◌, pos, true, false};
-ghost use Rattle.td_c.specs.Told.{IsLookup, IsFound, IsLost, HasParam, HasCell, HasBuffer, HasCopy, HasFrame, HasEntry, HasName, IsWritten, LacksParam, LacksCell, LacksBuffer, LacksCopy, LacksFrame, LacksEntry, LacksName, param_told, field_told, kind_told, cell_told};
+ghost use Rattle.td_c.specs.Told.{IsLookup, IsFound, IsLost, HasParam, HasCell, HasBuffer, HasEntry, HasName, LacksParam, LacksCell, LacksBuffer, LacksEntry, LacksName, param_told, field_told, kind_told, cell_told};
 
-use crate::answers::{CLOSED, DONE, MISSING, TdFrame, frame_of};
+use crate::answers::{CLOSED, DONE, MISSING};
 use crate::handle::{Slot, TdSession};
 use td_core::module::{Cell, CellKind, Entry, NameId, Param};
 use td_num::number::byte_count;
@@ -314,100 +314,6 @@ pub extern "C" fn td_c_buffer(
     }
     let slot = handle.take();
     let code = buffer_at(slot, number, place, told);
-    handle.put(slot);
-    code
-}
-
-// Writes as many bytes of a text as there is room for.
-fn write_front(text: &[u8], bytes: &mut [u8])
-    ensures { IsWritten text.now bytes.old bytes.new }
-{
-    let count = text.len().min(bytes.len());
-    bytes[..count].copy_from_slice(&text[..count]);
-}
-
-fn copy_at(slot: &Slot, place: usize, bytes: &mut [u8], size: &mut u64) -> i32
-    ensures answer { IsLookup slot.now result }
-    ensures copy { result ≡ pos 0 → HasCopy slot.now place bytes.old bytes.new size.new }
-    ensures missing { result ≡ pos 5 → LacksCopy slot.now place }
-    ensures untold { (result ≡ pos 0 → ⊥) → (bytes.new ≡ bytes.old) × (size.new ≡ size.old) }
-{
-    let Some(session) = &slot.session else {
-        return CLOSED;
-    };
-    let Some(buffer) = session.copies().get(place) else {
-        return MISSING;
-    };
-    let held = buffer.as_slice();
-    write_front(held, bytes);
-    *size = held.len() as u64;
-    DONE
-}
-
-/// Writes as much of what a copy buffer holds after the last validation as there is room for, and how many bytes it holds.
-#[unsafe(no_mangle)]
-pub extern "C" fn td_c_copy(
-    handle: &mut TdSession,
-    full: bool,
-    place: usize,
-    bytes: &mut [u8],
-    size: &mut u64,
-) -> i32
-    requires { handle.old.full ≡ full }
-    ensures closed { full ≡ false → (result ≡ pos 3) × (handle.new ≡ handle.old) }
-    ensures kept { full ≡ true → (handle.new.full ≡ true) × (handle.new.value ≡ handle.old.value) }
-    ensures answer { full ≡ true → IsLookup handle.old.value result }
-    ensures copy { full ≡ true → result ≡ pos 0 → HasCopy handle.old.value place bytes.old bytes.new size.new }
-    ensures missing { full ≡ true → result ≡ pos 5 → LacksCopy handle.old.value place }
-    ensures untold { (result ≡ pos 0 → ⊥) → (bytes.new ≡ bytes.old) × (size.new ≡ size.old) }
-{
-    if !full {
-        return CLOSED;
-    }
-    let slot = handle.take();
-    let code = copy_at(slot, place, bytes, size);
-    handle.put(slot);
-    code
-}
-
-fn frame_at(slot: &Slot, place: usize, told: &mut TdFrame) -> i32
-    ensures answer { IsLookup slot.now result }
-    ensures frame { result ≡ pos 0 → HasFrame slot.now place told.new }
-    ensures missing { result ≡ pos 5 → LacksFrame slot.now place }
-    ensures untold { (result ≡ pos 0 → ⊥) → told.new ≡ told.old }
-{
-    let Some(session) = &slot.session else {
-        return CLOSED;
-    };
-    let trace = session.trace();
-    if place >= trace.len() {
-        return MISSING;
-    }
-    *told = frame_of(&trace[place]);
-    DONE
-}
-
-/// A frame of the last failure, by its place: 0 is the innermost.
-#[unsafe(no_mangle)]
-pub extern "C" fn td_c_frame(
-    handle: &mut TdSession,
-    full: bool,
-    place: usize,
-    told: &mut TdFrame,
-) -> i32
-    requires { handle.old.full ≡ full }
-    ensures closed { full ≡ false → (result ≡ pos 3) × (handle.new ≡ handle.old) }
-    ensures kept { full ≡ true → (handle.new.full ≡ true) × (handle.new.value ≡ handle.old.value) }
-    ensures answer { full ≡ true → IsLookup handle.old.value result }
-    ensures frame { full ≡ true → result ≡ pos 0 → HasFrame handle.old.value place told.new }
-    ensures missing { full ≡ true → result ≡ pos 5 → LacksFrame handle.old.value place }
-    ensures untold { (result ≡ pos 0 → ⊥) → told.new ≡ told.old }
-{
-    if !full {
-        return CLOSED;
-    }
-    let slot = handle.take();
-    let code = frame_at(slot, place, told);
     handle.put(slot);
     code
 }

@@ -1,6 +1,6 @@
 use Rattle.std.proofs.Common.{◌∙◌}
 use Rattle.td_c.proofs.Written.{written}
-use Rattle.td_c.proofs.tables.write_front.Goals as goal
+use Rattle.td_c.proofs.copies.write_front.Goals as goal
 
 pub returns : goal.returns
 returns c = written c.args.text.now c.args.bytes.now _ c.min-count.result c.min-count.ensures c.copy_from_slice.ensures.after
