@@ -1,9 +1,10 @@
 /* td.h: messages in memory that others keep storing to, validated by verified code.
 
-   A session is opened once, from an image (`td pack <MODULE >IMAGE`). From then on only td_again, td_validate_parts and the calls that open
-   codes, seats and their sessions ask for memory, and no call waits for anybody. Each 64-bit word of a message is loaded at most once, by one atomic load, and only where a
-   byte of it is looked at; nothing is expected of what a load gives. docs/c-library.md says what a program owes, and
-   what is proved. Each function but td_close answers a td_code. */
+   A session is opened once, from an image (`td pack <MODULE >IMAGE`). From then on only td_again, td_validate_parts and the
+   calls that open codes, seats and their sessions ask for memory, and no call waits for anybody. Each 64-bit word of a
+   message is loaded at most once, by one atomic load, and only where a byte of it is looked at; nothing is expected of what
+   a load gives. docs/c-library.md says what a program owes, and what is proved. Each function answers a td_code, but for
+   those that close and td_reason_word. */
 #ifndef TD_H
 #define TD_H
 #include <stdbool.h>
@@ -20,10 +21,12 @@ typedef enum {
   TD_UNFIT = 2,     /* arguments or cells are more or fewer than the entry point's, or one is too wide; nothing was loaded */
   TD_CLOSED = 3,    /* the handle holds no session (no codes, no seat) */
   TD_NO_MEMORY = 4,
-  TD_MISSING = 5,   /* the code has no such entry point, parameter, cell, copy buffer or name, the last failure no such frame, or there is no such code */
+  TD_MISSING = 5,   /* the code has no such entry point, parameter, cell, copy buffer or name, the last failure no such
+                       frame, or there is no such code */
   TD_PAST = 6,      /* the message doesn't lie within the words; nothing was loaded */
   TD_POINTER = 7,   /* a pointer is null, or that of the words isn't aligned to 8 */
-  TD_TOO_MUCH = 8,  /* a message of more than 64 stretches, or of 2^32 bytes and more, and nothing was loaded; more than 17 codes */
+  TD_TOO_MUCH = 8,  /* a message of more than 64 stretches, or of 2^32 bytes and more, and nothing was loaded; more than
+                       17 codes */
   TD_I1 = 11,       /* the bytes are no image */
   TD_I2 = 12,       /* unknown version */
   TD_I3 = 13,       /* the image is too short: the place is its length */
@@ -48,8 +51,8 @@ typedef struct { void *at; bool full; } td_session;
 typedef struct { uint64_t place; uint32_t rule; } td_fault;
 
 typedef struct { uint32_t name, unused; uint64_t param_count, cell_count, buffer_count; } td_entry_point;
-/* A parameter or a cell. For a cell that is a field of an output record has_field is 1 and field the number of its name. is_place is 1
-   where it is a place in the message. */
+/* A parameter or a cell. For a cell that is a field of an output record has_field is 1 and field the number of its name.
+   is_place is 1 where it is a place in the message. */
 typedef struct { uint32_t name, has_field, field, bytes, is_place; } td_part;
 /* A copy buffer: the number of its name, and for how many bytes it has room. */
 typedef struct { uint32_t name, room; } td_buffer_part;
@@ -65,11 +68,12 @@ typedef struct {
   uint32_t unused;
   uint64_t frame_count;            /* out, likewise */
   uint64_t load_count;             /* out, likewise: how many loads were made, each of another word of the message */
-  uint64_t step_count;             /* out, likewise: how many steps of code were run: one for each instruction, for each byte or element
-                                      that one looks at for zeros, and for each byte that is copied (docs/language/code.md);
-                                      2^64 - 1 where they are more */
+  uint64_t step_count;             /* out, likewise: how many steps of code were run: one for each instruction, for each byte
+                                      or element that one looks at for zeros, and for each byte that is copied
+                                      (docs/language/code.md); 2^64 - 1 where they are more */
   uint64_t args[16];               /* in */
-  uint64_t cells[64];              /* in and out: as the validation left them, where it rejected, too. What was copied td_copy tells */
+  uint64_t cells[64];              /* in and out: as the validation left them, where it rejected, too. What was copied td_copy
+                                      tells */
 } td_call;
 
 typedef struct { const uint64_t *at; size_t count; } td_words;
@@ -80,8 +84,8 @@ typedef struct { uint32_t place, size; } td_stretch;
 /* A load that was made: the stretch, from 0 (0 where the message is one), the word of the words, and what the load gave. */
 typedef struct { uint32_t stretch, word; uint64_t value; } td_load;
 
-/* Codes of which one is published after the other, so that a validator is replaced while others validate (a handle as td_session is, for the one
-   who publishes), and a seat that asks which one is published (for each thread). */
+/* Codes of which one is published after the other, so that a validator is replaced while others validate (a handle as
+   td_session is, for the one who publishes), and a seat that asks which one is published (for each thread). */
 typedef struct { td_session inner; } td_codes;
 typedef struct { td_session inner; } td_seat;
 
@@ -154,9 +158,9 @@ static inline int32_t td_buffer(td_session *s, uint32_t entry, size_t place, td_
   return td_c_buffer(s, s->full, entry, place, told);
 }
 
-/* As many bytes of what the entry point's copy buffer at this place holds after the last validation as there is room for, and how many it holds. They
-   are bytes of the loads that were validated. After a rejection it holds what was copied before the failure. TD_MISSING: no entry point has so many
-   buffers. */
+/* As many bytes of what the entry point's copy buffer at this place holds after the last validation as there is room for,
+   and how many it holds. They are bytes of the loads that were validated. After a rejection it holds what was copied before
+   the failure. TD_MISSING: no entry point has so many buffers. */
 static inline int32_t td_copy(td_session *s, size_t place, void *bytes, size_t room, uint64_t *size) {
   if (!s || (!bytes && room) || !size) return TD_POINTER;
   uint8_t none;
@@ -175,9 +179,9 @@ static inline int32_t td_name(td_session *s, uint32_t number, char *bytes, size_
   return td_c_name(s, s->full, number, (uint8_t *)bytes, room, size);
 }
 
-/* Validates the message that begins at byte call->place of `count` words. Where the answer isn't 0 or 1, the call is as before. The words are mapped until this returns; whoever
-   touches them meanwhile does so by atomic operations, or from another process, device or machine. No pointer to them is
-   kept. */
+/* Validates the message that begins at byte call->place of `count` words. Where the answer isn't 0 or 1, the call is as
+   before. The words are mapped until this returns; whoever touches them meanwhile does so by atomic operations, or from
+   another process, device or machine. No pointer to them is kept. */
 static inline int32_t td_validate(td_session *s, const uint64_t *words, size_t count, td_call *call) {
   if (!s || !call || (!words && count) || (uintptr_t)words % 8) return TD_POINTER;
   td_words w = {words, count};
@@ -194,9 +198,9 @@ static inline int32_t td_validate_loads(td_session *s, const uint64_t *words, si
   return td_c_validate(s, s->full, call, &w, count, loads, room);
 }
 
-/* The same for a message whose bytes are these stretches of the words, one after the other (a scatter list), with the loads that
-   were made; call->place and call->length aren't looked at, nor are the stretches where the handle holds no session. Memory for the list of stretches is taken before the first load,
-   and given back. */
+/* The same for a message whose bytes are these stretches of the words, one after the other (a scatter list), with the loads
+   that were made; call->place and call->length aren't looked at, nor are the stretches where the handle holds no session.
+   Memory for the list of stretches is taken before the first load, and given back. */
 static inline int32_t td_validate_parts_loads(td_session *s, const uint64_t *words, size_t count, const td_stretch *parts,
                                               size_t part_count, td_call *call, td_load *loads, size_t room) {
   if (!s || !call || !parts || !loads || (!words && count) || (uintptr_t)words % 8) return TD_POINTER;
@@ -216,15 +220,15 @@ static inline int32_t td_codes_open(td_codes *c) {
   return td_c_codes(&c->inner, c->inner.full);
 }
 
-/* A code more, by its image; they are numbered from 0 in this order. TD_TOO_MUCH: there are 17. TD_CLOSED: the handle isn't open, or the first
-   one is published already. */
+/* A code more, by its image; they are numbered from 0 in this order. TD_TOO_MUCH: there are 17. TD_CLOSED: the handle isn't
+   open, or the first one is published already. */
 static inline int32_t td_codes_add(td_codes *c, const void *image, size_t size, td_fault *fault) {
   if (!c || !image || !fault) return TD_POINTER;
   return td_c_add(&c->inner, c->inner.full, (const uint8_t *)image, size, fault);
 }
 
-/* From now on code 0 is published, and no code is added any more. TD_MISSING: there is none, and some may be added still. TD_NO_MEMORY: the codes
-   are freed. */
+/* From now on code 0 is published, and no code is added any more. TD_MISSING: there is none, and some may be added still.
+   TD_NO_MEMORY: the codes are freed. */
 static inline int32_t td_codes_begin(td_codes *c) {
   if (!c) return TD_POINTER;
   return td_c_begin(&c->inner, c->inner.full);
