@@ -1,4 +1,5 @@
-//! Takes all room for a job, and makes what acts in it.
+//! Takes all room for a job, and makes what acts in it. Where a value is let go, each way through its variants is a way through the
+//! function. So what has many is let go by a call.
 
 ghost use Rattle.std.specs.Prelude.{◌≡◌, ◌+◌, ◌-◌, ◌*◌, ◌<◌, ◌≤◌, ◌^◌, [], ◌++◌, map, length, vec_capacity, IfOk, OnOk, None, Some};
 ghost use Rattle.std.specs.List.{All};
@@ -201,6 +202,25 @@ fn frames_for(alloc: Global, codes: &Codes) -> Result<Vec<Frame>, AllocError>
     Ok(frames)
 }
 
+/// A frame for each version, and room for a reply to each post.
+fn worker_rooms<J: Naming>(
+    alloc: Global,
+    desk: &Desk<J>,
+) -> Result<(Vec<Frame>, Vec<Reply>), AllocError>
+    ensures armed { IfOk result (λ r. AreArmed desk.now.codes.codes r.0.items) }
+    ensures none { IfOk result (λ r. r.1.items ≡ []) }
+    ensures room { IfOk result (λ r. length desk.now.mails.items ≤ vec_capacity r.1) }
+{
+    let frames = frames_for(alloc, &desk.codes)?;
+    match Vec::with_capacity(alloc, desk.mails.len()) {
+        Ok(replies) => Ok((frames, replies)),
+        Err(error) => {
+            drop(frames);
+            Err(error)
+        }
+    }
+}
+
 /// Makes a worker for each gate, with room for validations and for a reply to each post.
 fn seat_workers<J: Naming, G: Drop>(
     alloc: Global,
@@ -220,19 +240,44 @@ fn seat_workers<J: Naming, G: Drop>(
     ensures swap { OnOk result (swap.new ≡ swap.old) }
 {
     for gate in gates {
+        let (frames, replies) = worker_rooms(alloc, desk)?;
         let own = desk.codes.split(swap);
         let worker = Worker {
             seat: desk.shared.split_reader(&mut heads.seat),
             pass: desk.ring.split_take(&mut heads.takes),
             drawer: desk.tickets.split(&mut heads.drawer),
             swap: own,
-            frames: frames_for(alloc, &desk.codes)?,
-            replies: Vec::with_capacity(alloc, desk.mails.len())?,
+            frames,
+            replies,
             gate,
         };
         actors.push(Actor::Worker(worker))?;
     }
     Ok(())
+}
+
+/// A copy of a guest's script, and a room for each of its posts.
+fn script_and_rooms<J: Naming>(
+    alloc: Global,
+    job: &HostJob,
+    frames: usize,
+    guest: u32,
+    script: &[Step],
+) -> Result<(Items<Step>, VecDeque<Reply>), AllocError>
+    requires few { length script.now < 2 ^ 32 }
+    requires first { All (λ m. mail_named m.name (all_mails 1 job.now.guests) ≡ Some m) (mails_of guest script.now) }
+    requires fitting_are_named { (p : Post) → PostFits frames job.now p → J.names p }
+    ensures script { IfOk result (λ r. r.0 ≡ script.now) }
+    ensures rooms { IfOk result (λ r. RoomsFor J.names (mails_of guest script.now) r.1.items) }
+{
+    let copy = copied_script(alloc, script)?;
+    match rooms_for::<J>(alloc, job, frames, guest, script) {
+        Ok(rooms) => Ok((copy, rooms)),
+        Err(error) => {
+            drop(copy);
+            Err(error)
+        }
+    }
 }
 
 /// Makes a guest for each script, with rooms for failures of so many frames.
@@ -258,12 +303,14 @@ fn seat_guests<J: Naming, G: Drop>(
     for gate in gates {
         let script = desk.job.guests.as_slice()[n].as_slice();
         n += 1;
+        let number = n as u32;
+        let (copy, rooms) = script_and_rooms::<J>(alloc, &desk.job, frames, number, script)?;
         let guest = Guest {
-            number: n as u32,
-            script: copied_script(alloc, script)?,
+            number,
+            script: copy,
             seat: desk.shared.split_guest(&mut heads.seat),
             pass: desk.ring.split_post(&mut heads.posts),
-            rooms: rooms_for::<J>(alloc, &desk.job, frames, n as u32, script)?,
+            rooms,
             gate,
         };
         actors.push(Actor::Guest(guest))?;
