@@ -1,6 +1,5 @@
 //! Casetypes.
 
-ghost use Rattle.td_ast.specs.declared.definitions.Def.TheVariants as defs;
 ghost use Rattle.td_grammar.specs.Reading.{Got, with_first};
 ghost use Rattle.td_grammar.specs.Grammar as grammar;
 ghost use Rattle.td_grammar.specs.Sequences as sequences;
@@ -203,13 +202,13 @@ fn casetype_end(
 fn casetype_rest(
     alloc: Global,
     tokens: &[Token],
-) -> Result<(Name, HeadTree, Switch, Name, &[Token]), Failure<'_>>
-    ensures { Gives (λ x. Got (λ entry. defs.Casetype (record { entry = entry; tag = x.0; head = x.1; subject = x.2.subject; cases = x.2.cases; default = x.2.default; name = x.3 })) x.4.now) result (pieces.casetype_rest.reader.read tokens.now) }
+) -> Result<(Name, HeadTree, Span, Switch, Name, &[Token]), Failure<'_>>
+    ensures { Gives (λ x. Got (x.0, (x.1, (x.2, ((x.3.subject, x.3.cases, x.3.default), x.4)))) x.5.now) result (pieces.casetype_rest.reader.read tokens.now) }
 {
     let (tag, rest) = name(alloc, tokens)?;
     match head(alloc, rest) {
         Ok((head, rest)) => match casetype_end(alloc, rest) {
-            Ok((_, cases, name, rest)) => Ok((tag, head, cases, name, rest)),
+            Ok((opening, cases, name, rest)) => Ok((tag, head, opening, cases, name, rest)),
             Err(failure) => {
                 drop(tag);
                 drop(head);
@@ -234,7 +233,7 @@ pub fn casetype(
 {
     let (_, rest) = expect(tokens, &TokenKind::Casetype)?;
     match casetype_rest(alloc, rest) {
-        Ok((tag, head, cases, name, rest)) => {
+        Ok((tag, head, _, cases, name, rest)) => {
             let definition = Def::Casetype(CasetypeTree {
                 entry,
                 tag,
