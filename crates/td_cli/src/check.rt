@@ -39,7 +39,15 @@ pub(crate) fn answer_check<O: Sink, E: Sink>(
         (passage O.state out.old out.new) (passage E.state err.old err.new) result }
 {
     match check_input(alloc, input) {
-        Ok(m) => finish_summary(&m, out),
-        Err(error) => finish_unanswered(input, &error, err),
+        Ok(m) => {
+            let status = finish_summary(&m, out);
+            drop(m);
+            status
+        }
+        Err(error) => {
+            let status = finish_unanswered(input, &error, err);
+            drop(error);
+            status
+        }
     }
 }

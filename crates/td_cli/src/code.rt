@@ -44,6 +44,10 @@ pub(crate) fn answer_code<O: Sink, E: Sink>(
 {
     match code_input(alloc, input) {
         Ok(text) => finish_bytes(text.as_slice(), out),
-        Err(error) => finish_unanswered(input, &error, err),
+        Err(error) => {
+            let status = finish_unanswered(input, &error, err);
+            drop(error);
+            status
+        }
     }
 }

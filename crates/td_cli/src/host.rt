@@ -31,7 +31,15 @@ pub(crate) fn answer_host<
         (passage O.state out.old out.new) (passage E.state err.old err.new) result }
 {
     match serve_input(rt, input, gates) {
-        Ok(served) => finish_served(&served, out),
-        Err(error) => finish_unanswered(input, &error, err),
+        Ok(served) => {
+            let status = finish_served(&served, out);
+            drop(served);
+            status
+        }
+        Err(error) => {
+            let status = finish_unanswered(input, &error, err);
+            drop(error);
+            status
+        }
     }
 }

@@ -44,6 +44,10 @@ pub(crate) fn answer_pack<O: Sink, E: Sink>(
 {
     match pack_input(alloc, input) {
         Ok(image) => finish_bytes(image.as_slice(), out),
-        Err(error) => finish_unanswered(input, &error, err),
+        Err(error) => {
+            let status = finish_unanswered(input, &error, err);
+            drop(error);
+            status
+        }
     }
 }

@@ -4,6 +4,8 @@ ghost use Rattle.std.specs.Prelude.{◌≡◌, ◌<◌, ◌++◌, IfOk, OnOk, On
 ghost use Rattle.td_core.specs.declared.module.Body.TheVariants.{Struct as StructBody};
 ghost use Rattle.td_elab_defs.specs.Slots.{record_parts};
 ghost use Rattle.td_elab_rules.specs.Breach.{first_of};
+ghost use Rattle.td_elab_rules.specs.Constants.{global_breaches};
+ghost use Rattle.td_names.specs.Names.{number_of};
 ghost use Rattle.td_elab_rules.specs.Known.{nothing_known};
 ghost use Rattle.td_elab_rules.specs.Sorts.{option_core};
 ghost use Rattle.td_elab_rules.specs.ExprRules.{test_breaches};
@@ -17,8 +19,9 @@ ghost use Rattle.td_elab.specs.Firsts.{breaches_each, earlier, first_among};
 use crate::casetypes::switch;
 use std::alloc::{AllocError, Global};
 use td_ast::definitions::{CasetypeTree, Def, OutputTree, StructTree};
+use td_ast::names::Name;
 use td_core::expressions::CoreExpr;
-use td_core::module::{Body, NameId, TypeDef};
+use td_core::module::{Body, Buffer, Cell, NameId, Param, TypeDef};
 use td_elab_actions::scopes::Bindings;
 use td_elab_defs::aliases::alias;
 use td_elab_defs::constants::{check_global, check_literal, declare, define};
@@ -33,6 +36,7 @@ use td_elab_exprs::findings::Findings;
 use td_elab_fields::fields::fields;
 use td_elab_fields::leading::leading_size;
 use td_elab_rules::known::{Known, Meaning, Parameter};
+use td_elab_rules::parameters::Head;
 use td_kinds::casetypes::body_kind;
 use td_names::names::Names;
 use td_num::items::Items;
@@ -116,11 +120,77 @@ fn push_type(
     known.signatures.push(parameters)
 }
 
+/// What a head says to those who use the definition.
+#[derive(Drop)]
+struct Signature {
+    parameters: Items<Parameter>,
+    params: Items<Param>,
+    cells: Items<Cell>,
+    buffers: Items<Buffer>,
+}
+
+/// What a head says to those who use the definition, and the bindings in which its body stands.
+fn parts_of(head: Head) -> (Signature, Bindings)
+    ensures signature { result.0 ≡ record { parameters = head.parameters; params = head.params; cells = head.cells; buffers = head.buffers } }
+    ensures bindings { result.1 ≡ record { scope = head.scope; taken = head.taken } }
+{
+    let signature = Signature {
+        parameters: head.parameters,
+        params: head.params,
+        cells: head.cells,
+        buffers: head.buffers,
+    };
+    let bindings = Bindings {
+        scope: head.scope,
+        taken: head.taken,
+    };
+    (signature, bindings)
+}
+
 /// `where` and the body of a struct or casetype.
 #[derive(Drop)]
 struct Inner {
     guard: Option<CoreExpr>,
     body: Body,
+}
+
+/// What is known after a struct or casetype of that name, by its head and what it consists of, which gave these names; that its name is
+/// taken is noted. `AllocError`: out of memory.
+fn add_definition(
+    alloc: Global,
+    names: &Names,
+    known: &mut Known,
+    is_entry: bool,
+    name: &Name,
+    signature: Signature,
+    given: &Names,
+    inner: Inner,
+    findings: &mut Findings,
+) -> Result<(), AllocError>
+    ensures known { OnOk result (known.new ≡ with_type known.old is_entry name.now.text signature.parameters given.now (record { name = record { number = number_of names.now name.now.text }; params = signature.params; cells = signature.cells; buffers = signature.buffers; guard = inner.guard; body = inner.body })) }
+    ensures first { findings.new.first ≡ first_of findings.old.first (global_breaches known.old name.now) }
+{
+    check_global(known, name, findings);
+    let text = name.text.as_slice();
+    let definition = TypeDef {
+        name: NameId {
+            number: names.number(text),
+        },
+        params: signature.params,
+        cells: signature.cells,
+        buffers: signature.buffers,
+        guard: inner.guard,
+        body: inner.body,
+    };
+    add_type(
+        alloc,
+        known,
+        is_entry,
+        text,
+        signature.parameters,
+        given,
+        definition,
+    )
 }
 
 /// `where` and the fields of a struct, in the scope of its head; their breaches are noted. `AllocError`: out of memory.
@@ -182,29 +252,29 @@ fn structure(
         tree.head.params.as_slice(),
         findings,
     )?;
-    let (scope, taken) = (head.scope, head.taken);
-    let mut bindings = Bindings { scope, taken };
-    let inner = struct_inner(alloc, names, known, &mut bindings, tree, findings)?;
-    check_global(known, &tree.name, findings);
-    let name = tree.name.text.as_slice();
-    let number = names.number(name);
-    let definition = TypeDef {
-        name: NameId { number },
-        params: head.params,
-        cells: head.cells,
-        buffers: head.buffers,
-        guard: inner.guard,
-        body: inner.body,
-    };
-    add_type(
-        alloc,
-        known,
-        tree.entry,
-        name,
-        head.parameters,
-        &bindings.taken.all,
-        definition,
-    )
+    let (signature, mut bindings) = parts_of(head);
+    match struct_inner(alloc, names, known, &mut bindings, tree, findings) {
+        Ok(inner) => {
+            let added = add_definition(
+                alloc,
+                names,
+                known,
+                tree.entry,
+                &tree.name,
+                signature,
+                &bindings.taken.all,
+                inner,
+                findings,
+            );
+            drop(bindings);
+            added
+        }
+        Err(error) => {
+            drop(signature);
+            drop(bindings);
+            Err(error)
+        }
+    }
 }
 
 /// `where` and the body of a casetype, in the scope of its head; their breaches are noted. `AllocError`: out of memory.
@@ -260,29 +330,29 @@ fn casetype(
         tree.head.params.as_slice(),
         findings,
     )?;
-    let (scope, taken) = (head.scope, head.taken);
-    let mut bindings = Bindings { scope, taken };
-    let inner = casetype_inner(alloc, names, known, &mut bindings, tree, findings)?;
-    check_global(known, &tree.name, findings);
-    let name = tree.name.text.as_slice();
-    let number = names.number(name);
-    let definition = TypeDef {
-        name: NameId { number },
-        params: head.params,
-        cells: head.cells,
-        buffers: head.buffers,
-        guard: inner.guard,
-        body: inner.body,
-    };
-    add_type(
-        alloc,
-        known,
-        tree.entry,
-        name,
-        head.parameters,
-        &bindings.taken.all,
-        definition,
-    )
+    let (signature, mut bindings) = parts_of(head);
+    match casetype_inner(alloc, names, known, &mut bindings, tree, findings) {
+        Ok(inner) => {
+            let added = add_definition(
+                alloc,
+                names,
+                known,
+                tree.entry,
+                &tree.name,
+                signature,
+                &bindings.taken.all,
+                inner,
+                findings,
+            );
+            drop(bindings);
+            added
+        }
+        Err(error) => {
+            drop(signature);
+            drop(bindings);
+            Err(error)
+        }
+    }
 }
 
 /// What is known after an output record, the cells for its slots too; its breaches are noted. `AllocError`: out of memory.

@@ -77,9 +77,17 @@ fn check_passes(alloc: Global, text: &[u8]) -> Result<CheckedInput, FrontError>
     ensures memory { result ≡ Err FrontError.NoMemory → HasToken text.now }
 {
     let tokens = tokens(alloc, text)?;
-    let input = input(alloc, text, tokens.as_slice())?;
-    let module = checked_module(alloc, text, &input)?;
-    Ok(CheckedInput { input, module })
+    let input = input(alloc, text, tokens.as_slice());
+    drop(tokens);
+    let input = input?;
+    match checked_module(alloc, text, &input) {
+        Ok(module) => Ok(CheckedInput { input, module }),
+        Err(error) => {
+            // Let go where the function ends, its variants would each be a way through the function.
+            drop(input);
+            Err(error)
+        }
+    }
 }
 
 // The tokens of a text.

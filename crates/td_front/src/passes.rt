@@ -113,6 +113,21 @@ fn check_sizes(alloc: Global, tree: &ModuleTree) -> Result<(), FrontError>
     }
 }
 
+/// Tests all that is tested of a tree's module and after it. `NoMemory`: there is a definition, and out of memory.
+fn check_found(alloc: Global, tree: &ModuleTree, m: &Module) -> Result<(), FrontError>
+    requires stands { HasModule tree.now }
+    requires m { m.now ≡ module_of tree.now }
+    ensures ok { OnOk result (IsAdmitted tree.now) }
+    ensures err { IfErr result (λ e. (e ≡ FrontError.NoMemory) ⊎ RefusesTree tree.now e) }
+    ensures memory { result ≡ Err FrontError.NoMemory → 0 < length tree.now.definitions }
+{
+    check_kinds(alloc, tree, m)?;
+    check_safety(alloc, tree, m)?;
+    check_sizes(alloc, tree)
+}
+
+// Where a tree or a module is let go, each way through its variants is a way through the function. So it is let go by a call.
+
 /// The module of a tree that passes the passes after the counts. `NoMemory`: there is a definition, and out of memory.
 fn tree_module(alloc: Global, tree: &ModuleTree) -> Result<Module, FrontError>
     requires { HasCounts tree.now }
@@ -122,10 +137,13 @@ fn tree_module(alloc: Global, tree: &ModuleTree) -> Result<Module, FrontError>
     ensures memory { result ≡ Err FrontError.NoMemory → 0 < length tree.now.definitions }
 {
     let found = module_of(alloc, tree)?;
-    check_kinds(alloc, tree, &found)?;
-    check_safety(alloc, tree, &found)?;
-    check_sizes(alloc, tree)?;
-    Ok(found)
+    match check_found(alloc, tree, &found) {
+        Ok(()) => Ok(found),
+        Err(error) => {
+            drop(found);
+            Err(error)
+        }
+    }
 }
 
 // The module of parts, from that of their one tree.
@@ -153,8 +171,9 @@ fn parts_module(alloc: Global, parts: &[PartTree]) -> Result<Module, FrontError>
 {
     counts_stay();
     let tree = flat(alloc, parts)?;
-    let found = tree_module(alloc, &tree)?;
-    with_spelled_names(alloc, parts, found)
+    let found = tree_module(alloc, &tree);
+    drop(tree);
+    with_spelled_names(alloc, parts, found?)
 }
 
 /// The module of an input that is admitted, or its refusal. `NoMemory`: there is a part or a definition, and out of memory.

@@ -121,6 +121,20 @@ fn spelled_names(
     Ok(told)
 }
 
+// Names of the one tree of parts, as they are spelled.
+fn names_spelled(
+    alloc: Global,
+    parts: &[PartTree],
+    names: &[FullName],
+) -> Result<Items<FullName>, AllocError>
+    ensures { IfOk result (λ told. told ≡ map (spelled (names_of parts.now)) names.now) }
+{
+    let parts = part_names(alloc, parts)?;
+    let told = spelled_names(alloc, parts.as_slice(), names);
+    drop(parts);
+    told
+}
+
 /// A module of the one tree of parts, with its names as they are spelled; the names in one part share the part's name.
 /// `AllocError`: out of memory.
 pub(crate) fn spelled_module(
@@ -130,8 +144,16 @@ pub(crate) fn spelled_module(
 ) -> Result<Module, AllocError>
     ensures { IfOk result (λ m. m ≡ with_names (map (spelled (names_of parts.now)) found.names) found) }
 {
-    let names = part_names(alloc, parts)?;
-    let mut module = found;
-    module.names = spelled_names(alloc, names.as_slice(), module.names.as_slice())?;
-    Ok(module)
+    match names_spelled(alloc, parts, found.names.as_slice()) {
+        Ok(names) => {
+            let mut module = found;
+            module.names = names;
+            Ok(module)
+        }
+        Err(error) => {
+            // Let go where the function ends, its variants would each be a way through the function.
+            drop(found);
+            Err(error)
+        }
+    }
 }

@@ -1,6 +1,7 @@
-//! Takes all room for a job, and makes what acts in it.
+//! Takes all room for a job, and makes what acts in it. Where a value is let go, each way through its variants is a way through the
+//! function. So what has many is let go by a call.
 
-ghost use Rattle.std.specs.Prelude.{◌≡◌, ◌+◌, ◌-◌, ◌*◌, ◌<◌, ◌≤◌, ◌^◌, [], ◌++◌, map, length, vec_capacity, IfOk, OnOk, None, Some};
+ghost use Rattle.std.specs.Prelude.{◌≡◌, ◌+◌, ◌-◌, ◌*◌, ◌<◌, ◌≤◌, ◌^◌, List, [], ◌∷◌, ◌++◌, map, length, vec_capacity, IfOk, OnOk, None, Some};
 ghost use Rattle.std.specs.List.{All};
 ghost use Rattle.td_ring.specs.declared.post.Post.{Post};
 ghost use Rattle.td_stream.specs.Copies.{empty_with};
@@ -10,9 +11,10 @@ ghost use Rattle.td_posts.specs.Servable.{IsServable};
 ghost use Rattle.td_core.specs.declared.module.Module.{Module};
 ghost use Rattle.td_posts.specs.declared.limits.TheConstants.{MOST_WORKERS, MOST_POSTS};
 ghost use Rattle.td_host_actors.specs.Acting.{AreArmed, PostFits, most_frames, RoomsFor};
-ghost use Rattle.td_host.specs.Hosts.{IsOpened, AreFresh, IsCrew, first_swap};
+ghost use Rattle.td_host.specs.Hosts.{IsOpened, AreFresh, IsCrew, first_swap, takes_in};
 ghost use Rattle.td_host_actors.specs.Actors.{service_at};
-ghost use Rattle.td_host.specs.Gathered.{IsBounded, host_at, posts_at, takes_at, draws_at, WorkersSeated, GuestsSeated, AreReadersOf, IsReaderBy, IsDescribedBy};
+ghost use Rattle.td_host_actors.specs.declared.actor.Actor.TheVariants as kind;
+ghost use Rattle.td_host.specs.Gathered.{Armed, IsBounded, host_at, posts_at, takes_at, draws_at, WorkersSeated, GuestsSeated, AreReadersOf, IsReaderBy, IsDescribedBy};
 
 use crate::gather::{Heads, VersionSeats};
 use crate::lists::{buffers_of, zeros_of};
@@ -35,7 +37,8 @@ use td_stream::copies::Copies;
 use td_stream::layout::Layout;
 use td_stream::loads::Loads;
 use td_swap::codes::Codes;
-use td_swap::seats::SwapSeat;
+use td_swap::seats::{PublishSeat, SwapSeat};
+use td_takes::Take;
 use td_vm::validate::Frame;
 
 /// The post of a message that lies in these stretches. Takes no memory.
@@ -201,6 +204,25 @@ fn frames_for(alloc: Global, codes: &Codes) -> Result<Vec<Frame>, AllocError>
     Ok(frames)
 }
 
+/// A frame for each version, and room for a reply to each post.
+fn worker_rooms<J: Naming>(
+    alloc: Global,
+    desk: &Desk<J>,
+) -> Result<(Vec<Frame>, Vec<Reply>), AllocError>
+    ensures armed { IfOk result (λ r. AreArmed desk.now.codes.codes r.0.items) }
+    ensures none { IfOk result (λ r. r.1.items ≡ []) }
+    ensures room { IfOk result (λ r. length desk.now.mails.items ≤ vec_capacity r.1) }
+{
+    let frames = frames_for(alloc, &desk.codes)?;
+    match Vec::with_capacity(alloc, desk.mails.len()) {
+        Ok(replies) => Ok((frames, replies)),
+        Err(error) => {
+            drop(frames);
+            Err(error)
+        }
+    }
+}
+
 /// Makes a worker for each gate, with room for validations and for a reply to each post.
 fn seat_workers<J: Naming, G: Drop>(
     alloc: Global,
@@ -220,19 +242,44 @@ fn seat_workers<J: Naming, G: Drop>(
     ensures swap { OnOk result (swap.new ≡ swap.old) }
 {
     for gate in gates {
+        let (frames, replies) = worker_rooms(alloc, desk)?;
         let own = desk.codes.split(swap);
         let worker = Worker {
             seat: desk.shared.split_reader(&mut heads.seat),
             pass: desk.ring.split_take(&mut heads.takes),
             drawer: desk.tickets.split(&mut heads.drawer),
             swap: own,
-            frames: frames_for(alloc, &desk.codes)?,
-            replies: Vec::with_capacity(alloc, desk.mails.len())?,
+            frames,
+            replies,
             gate,
         };
         actors.push(Actor::Worker(worker))?;
     }
     Ok(())
+}
+
+/// A copy of a guest's script, and a room for each of its posts.
+fn script_and_rooms<J: Naming>(
+    alloc: Global,
+    job: &HostJob,
+    frames: usize,
+    guest: u32,
+    script: &[Step],
+) -> Result<(Items<Step>, VecDeque<Reply>), AllocError>
+    requires few { length script.now < 2 ^ 32 }
+    requires first { All (λ m. mail_named m.name (all_mails 1 job.now.guests) ≡ Some m) (mails_of guest script.now) }
+    requires fitting_are_named { (p : Post) → PostFits frames job.now p → J.names p }
+    ensures script { IfOk result (λ r. r.0 ≡ script.now) }
+    ensures rooms { IfOk result (λ r. RoomsFor J.names (mails_of guest script.now) r.1.items) }
+{
+    let copy = copied_script(alloc, script)?;
+    match rooms_for::<J>(alloc, job, frames, guest, script) {
+        Ok(rooms) => Ok((copy, rooms)),
+        Err(error) => {
+            drop(copy);
+            Err(error)
+        }
+    }
 }
 
 /// Makes a guest for each script, with rooms for failures of so many frames.
@@ -258,12 +305,14 @@ fn seat_guests<J: Naming, G: Drop>(
     for gate in gates {
         let script = desk.job.guests.as_slice()[n].as_slice();
         n += 1;
+        let number = n as u32;
+        let (copy, rooms) = script_and_rooms::<J>(alloc, &desk.job, frames, number, script)?;
         let guest = Guest {
-            number: n as u32,
-            script: copied_script(alloc, script)?,
+            number,
+            script: copy,
             seat: desk.shared.split_guest(&mut heads.seat),
             pass: desk.ring.split_post(&mut heads.posts),
-            rooms: rooms_for::<J>(alloc, &desk.job, frames, n as u32, script)?,
+            rooms,
             gate,
         };
         actors.push(Actor::Guest(guest))?;
@@ -301,6 +350,80 @@ fn reply_rooms(
     Ok((found, replies))
 }
 
+/// The room for what a crew does.
+#[derive(Drop)]
+struct Rooms {
+    /// How many frames a failure has at most.
+    frames: usize,
+    found: Vec<Reply>,
+    replies: Vec<Reply>,
+    takes: Vec<Take>,
+}
+
+/// Room for as many replies as all workers may make, for one to each post, and for all takes. `AllocError`: there was no memory for it.
+fn crew_rooms<J: Naming>(alloc: Global, desk: &Desk<J>) -> Result<Rooms, AllocError>
+    requires servable { IsServable desk.now.job }
+    requires posts { length desk.now.mails.items ≤ MOST_POSTS }
+    ensures frames { IfOk result (λ r. r.frames ≡ most_frames desk.now.codes.codes) }
+    ensures none_found { IfOk result (λ r. r.found.items ≡ []) }
+    ensures found_room { IfOk result (λ r. desk.now.job.workers * length desk.now.mails.items ≤ vec_capacity r.found) }
+    ensures no_reply { IfOk result (λ r. r.replies.items ≡ []) }
+    ensures reply_room { IfOk result (λ r. length desk.now.mails.items ≤ vec_capacity r.replies) }
+    ensures no_take { IfOk result (λ r. r.takes.items ≡ []) }
+    ensures take_room { IfOk result (λ r. takes_in desk.now.job.rings ≤ vec_capacity r.takes) }
+{
+    let frames = frames_of(alloc, &desk.codes)?;
+    let workers = desk.job.workers as usize;
+    let (found, replies) = reply_rooms(alloc, workers, desk.mails.len())?;
+    match takes_for(alloc, desk.job.rings.as_slice()) {
+        Ok(takes) => Ok(Rooms {
+            frames,
+            found,
+            replies,
+            takes,
+        }),
+        Err(error) => {
+            drop(found);
+            drop(replies);
+            Err(error)
+        }
+    }
+}
+
+/// Makes what acts at a desk, with a gate for each worker and then one for each guest, a reader for each ring, and last the publisher.
+fn seat_all<J: Naming, G: Drop>(
+    alloc: Global,
+    desk: &Desk<J>,
+    frames: usize,
+    heads: &mut Heads,
+    swap: &mut SwapSeat,
+    publisher: PublishSeat,
+    descrs: Vec<Descr>,
+    gates: Vec<G>,
+    actors: &mut Vec<Actor<G>>,
+) -> Result<(), AllocError>
+    requires servable { IsServable desk.now.job }
+    requires opened { IsOpened desk.now heads.old }
+    requires swap { swap.old ≡ first_swap desk.now.codes }
+    requires readers { AreReadersOf (8 * length desk.now.job.words) desk.now.job.rings descrs.items }
+    requires gates { length gates.items ≡ desk.now.job.workers + length desk.now.job.guests }
+    requires some { 0 < length desk.now.codes.codes }
+    requires empty { actors.old.items ≡ [] }
+    requires fitting_are_named { (p : Post) → PostFits frames desk.now.job p → J.names p }
+    ensures armed { OnOk result ((before : List (Actor G)) × (actors.new.items ≡ before ++ kind.Publisher publisher ∷ [])
+        × Armed J.names desk.now.shared desk.now.ring (service_at desk.now) desk.now.job heads.new.seat heads.new.posts heads.new.takes heads.new.drawer before) }
+    ensures swap { OnOk result (swap.new ≡ swap.old) }
+    ensures described { (m : Module) → All (IsReaderBy m) descrs.items → OnOk result (All (IsDescribedBy m) actors.new.items) }
+{
+    let mut gates = gates;
+    let guest_gates = gates.split_off(desk.job.workers as usize)?;
+    seat_workers(alloc, desk, heads, swap, gates, actors)?;
+    seat_guests(alloc, desk, frames, heads, guest_gates, actors)?;
+    seat_takers(alloc, desk, heads, descrs, actors)?;
+    actors.push(Actor::Publisher(publisher))?;
+    Ok(())
+}
+
 /// What acts at a desk, with a gate for each worker and then one for each guest, a reader for each ring, and last the publisher; and the
 /// room for what they do.
 pub(crate) fn make_crew<J: Naming, G: Drop>(
@@ -321,28 +444,48 @@ pub(crate) fn make_crew<J: Naming, G: Drop>(
     ensures crew { IfOk result (λ crew. IsCrew J.names desk.now crew) }
     ensures described { (m : Module) → All (IsReaderBy m) descrs.items → IfOk result (λ crew. All (IsDescribedBy m) crew.actors.items) }
 {
-    let workers = desk.job.workers as usize;
-    let (found, replies) = reply_rooms(alloc, workers, desk.mails.len())?;
-    let takes = takes_for(alloc, desk.job.rings.as_slice())?;
-    let frames = frames_of(alloc, &desk.codes)?;
-    let VersionSeats {
-        publisher,
-        mut swap,
-    } = versions;
-    let mut heads = heads;
-    let mut gates = gates;
-    let guest_gates = gates.split_off(workers)?;
-    let mut actors = Vec::new(alloc);
-    seat_workers(alloc, desk, &mut heads, &mut swap, gates, &mut actors)?;
-    seat_guests(alloc, desk, frames, &mut heads, guest_gates, &mut actors)?;
-    seat_takers(alloc, desk, &mut heads, descrs, &mut actors)?;
-    actors.push(Actor::Publisher(publisher))?;
-    Ok(Crew {
-        heads,
-        swap,
-        actors,
-        found,
-        replies,
-        takes,
-    })
+    match crew_rooms(alloc, desk) {
+        Ok(rooms) => {
+            let VersionSeats {
+                publisher,
+                mut swap,
+            } = versions;
+            let mut heads = heads;
+            let mut actors = Vec::new(alloc);
+            match seat_all(
+                alloc,
+                desk,
+                rooms.frames,
+                &mut heads,
+                &mut swap,
+                publisher,
+                descrs,
+                gates,
+                &mut actors,
+            ) {
+                Ok(()) => Ok(Crew {
+                    heads,
+                    swap,
+                    actors,
+                    found: rooms.found,
+                    replies: rooms.replies,
+                    takes: rooms.takes,
+                }),
+                Err(error) => {
+                    drop(heads);
+                    drop(swap);
+                    drop(actors);
+                    drop(rooms);
+                    Err(error)
+                }
+            }
+        }
+        Err(error) => {
+            drop(heads);
+            drop(versions);
+            drop(descrs);
+            drop(gates);
+            Err(error)
+        }
+    }
 }

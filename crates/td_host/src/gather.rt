@@ -1,4 +1,5 @@
-//! The host takes back what all actors had.
+//! The host takes back what all actors had. Where a value is let go, each way through its variants is a way through the function. So
+//! what has many is let go by a call.
 
 ghost use Rattle.std.specs.Prelude.{◌≡◌, ◌+◌, ◌≤◌, ◌++◌, length, vec_capacity};
 ghost use Rattle.std.specs.List.{All};
@@ -19,7 +20,7 @@ use td_ring::passes::{PostPass, TakePass};
 use td_ring::ticket_seat::TicketSeat;
 use td_swap::seats::{PublishSeat, SwapSeat};
 use td_takes::Take;
-use td_words::seats::HostSeat;
+use td_words::seats::{HostSeat, ReadSeat};
 
 /// What the host acts with: its seat at the buffer, and the first passes and the first ticket seat.
 #[derive(Drop)]
@@ -104,6 +105,25 @@ fn gather_guest<J: Naming, G: Drop>(desk: &Desk<J>, heads: &mut Heads, guest: Gu
     desk.ring.gather_post(&mut heads.posts, pass);
 }
 
+/// The seat and the takes of a taker, alone.
+fn parts_of(taker: Taker) -> (ReadSeat, Vec<Take>)
+    ensures { result ≡ (taker.seat, taker.takes) }
+{
+    let Taker {
+        number: _,
+        ring: _,
+        descr,
+        seat,
+        frame,
+        rooms,
+        takes,
+    } = taker;
+    drop(descr);
+    drop(frame);
+    drop(rooms);
+    (seat, takes)
+}
+
 /// Takes back what a ring's taker had.
 fn gather_taker<J: Naming>(desk: &Desk<J>, heads: &mut Heads, takes: &mut Vec<Take>, taker: Taker)
     requires seat { heads.old.seat.table ≡ desk.now.shared.table }
@@ -116,16 +136,7 @@ fn gather_taker<J: Naming>(desk: &Desk<J>, heads: &mut Heads, takes: &mut Vec<Ta
     ensures made { takes.new.items ≡ takes.old.items ++ taker.takes.items }
     ensures capacity { vec_capacity takes.old ≤ vec_capacity takes.new }
 {
-    let Taker {
-        number: _,
-        ring: _,
-        descr: _,
-        seat: reader,
-        frame: _,
-        rooms: _,
-        takes: made,
-    } = taker;
-    let mut made = made;
+    let (reader, mut made) = parts_of(taker);
     let Ok(()) = takes.append(&mut made) else {
         unreachable!()
     };

@@ -1,4 +1,5 @@
-//! A host: armed for a job, it serves the job's posts, and makes the takes of its rings, once.
+//! A host: armed for a job, it serves the job's posts, and makes the takes of its rings, once. Where a value is let go, each way
+//! through its variants is a way through the function. So what has many is let go by a call.
 
 ghost use Rattle.std.specs.Prelude.{◌≡◌, ◌+◌, ◌*◌, [], length, IfOk};
 ghost use Rattle.std.specs.List.{All};
@@ -85,12 +86,17 @@ impl<J: Naming + Send + Sync, G: Gate + Send + Drop> Host<J, G> {
         ensures desk { IfOk result (λ h. h.desk ≡ desk) }
         ensures described { (m : Module) → All (IsReaderBy m) descrs.items → IfOk result (HasDescribed m) }
     {
-        let crew = make_crew(alloc, &desk, heads, versions, descrs, gates)?;
-        Ok(Host {
-            desk,
-            crew: Some(crew),
-            finished: None,
-        })
+        match make_crew(alloc, &desk, heads, versions, descrs, gates) {
+            Ok(crew) => Ok(Host {
+                desk,
+                crew: Some(crew),
+                finished: None,
+            }),
+            Err(error) => {
+                drop(desk);
+                Err(error)
+            }
+        }
     }
 
     /// Serves the job's posts, and meanwhile makes the takes of its rings, and publishes its versions one after the other: each worker,

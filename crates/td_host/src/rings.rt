@@ -1,4 +1,5 @@
-//! Makes the takers of a job's rings, and takes all room for their takes.
+//! Makes the takers of a job's rings, and takes all room for their takes. Where a value is let go, each way through its variants is a
+//! way through the function. So what has many is let go by a call.
 
 ghost use Rattle.std.specs.Prelude.{◌≡◌, ◌*◌, ◌<◌, ◌≤◌, [], length, vec_capacity, IfOk, OnOk};
 ghost use Rattle.std.specs.List.{All};
@@ -66,6 +67,29 @@ fn take_rooms(
     Ok(rooms)
 }
 
+/// Room for each take from a ring, and for the list of the takes.
+fn rooms_and_takes(
+    alloc: Global,
+    job: &HostJob,
+    frames: usize,
+    desc_frames: usize,
+    ring: RingJob,
+) -> Result<(VecDeque<TakeRoom>, Vec<Take>), AllocError>
+    ensures rooms { IfOk result (λ r. AreRooms job.now frames desc_frames ring.most r.0.items) }
+    ensures as_many { IfOk result (λ r. length r.0.items ≡ ring.takes) }
+    ensures empty { IfOk result (λ r. r.1.items ≡ []) }
+    ensures space { IfOk result (λ r. ring.takes ≤ vec_capacity r.1) }
+{
+    let rooms = take_rooms(alloc, job, frames, desc_frames, ring)?;
+    match Vec::with_capacity(alloc, ring.takes as usize) {
+        Ok(takes) => Ok((rooms, takes)),
+        Err(error) => {
+            drop(rooms);
+            Err(error)
+        }
+    }
+}
+
 /// The taker of a ring, from this seat, with room for all takes.
 fn taker_for<J: Naming>(
     alloc: Global,
@@ -87,19 +111,34 @@ fn taker_for<J: Naming>(
     ensures ready { IfOk result (λ t. IsTakerReady desk.now.shared desk.now.codes.codes desk.now.job t) }
 {
     let versions = desk.codes.versions();
-    let frame = Frame::arm(alloc, &versions[0].code)?;
-    let desc_frames = descr.frame().trace_room();
-    let rooms = take_rooms(alloc, &desk.job, frame.trace_room(), desc_frames, ring)?;
-    let takes = Vec::with_capacity(alloc, ring.takes as usize)?;
-    Ok(Taker {
-        number,
-        ring,
-        descr,
-        seat,
-        frame,
-        rooms,
-        takes,
-    })
+    match Frame::arm(alloc, &versions[0].code) {
+        Ok(frame) => {
+            let desc_frames = descr.frame().trace_room();
+            let frames = frame.trace_room();
+            match rooms_and_takes(alloc, &desk.job, frames, desc_frames, ring) {
+                Ok((rooms, takes)) => Ok(Taker {
+                    number,
+                    ring,
+                    descr,
+                    seat,
+                    frame,
+                    rooms,
+                    takes,
+                }),
+                Err(error) => {
+                    drop(frame);
+                    drop(descr);
+                    drop(seat);
+                    Err(error)
+                }
+            }
+        }
+        Err(error) => {
+            drop(descr);
+            drop(seat);
+            Err(error)
+        }
+    }
 }
 
 /// Makes a taker for each ring, with its reader.

@@ -55,6 +55,10 @@ pub rooms_flat : (xs : List ℕ) → rows.rooms xs ≡ to_le_bytes w32 (length x
 unfolding format.rooms
 rooms_flat xs = ap (λ (l : List ℕ). to_le_bytes w32 (length xs) ++ l) (flat_times (length xs) format.buffer_room xs)
 
+pub cell_flat : (x : Cell) → rows.cell x ≡ to_le_bytes w32 x.name.number ++ (to_le_bytes w32 (format.field_number x.field) ++ to_le_bytes w32 (format.kind_bits x.kind))
+unfolding format.cell
+cell_flat x = refl
+
 pub routine_flat : (r : Routine) → rows.routine r ≡ to_le_bytes w32 r.name.number ++ (to_le_bytes w32 r.params ++ (to_le_bytes w32 r.cells ++ (to_le_bytes w32 r.registers ++ (to_le_bytes w32 r.length ++ rows.rooms r.buffers))))
 unfolding format.routine
 routine_flat r = refl

@@ -4,6 +4,7 @@ ghost use Rattle.std.specs.Prelude.{◌≡◌};
 ghost use Rattle.std.specs.Int.{w8, w16, w32, w64};
 ghost use Rattle.td_image.specs.Format.{times};
 ghost use Rattle.td_image.specs.Image as format;
+ghost use Rattle.td_image.specs.Behind as behind;
 ghost use Rattle.td_image.specs.Reading.{Reads, IsDecided, RanOutOnlyIf};
 
 use crate::fault::{Cause, ReadError};
@@ -76,6 +77,17 @@ fn u64_operand(used: bool, bytes: &[u8]) -> Result<(u64, &[u8]), ReadError>
     }
 }
 
+// The operands of 32 and 64 bits, of an instruction of this number.
+fn wide_operands_at(number: u8, bytes: &[u8]) -> Result<(u32, u32, u64, &[u8]), ReadError>
+    ensures read { Reads (λ x. ((x.0, (x.1, x.2)), x.3.now)) result ((behind.wide_operands number).read bytes.now) }
+    ensures decided { IsDecided result }
+{
+    let (t, rest) = u32_operand(has(number, OperandField::T), bytes)?;
+    let (site, rest) = u32_operand(has(number, OperandField::Site), rest)?;
+    let (k, rest) = u64_operand(has(number, OperandField::K), rest)?;
+    Ok((t, site, k, rest))
+}
+
 #[tactic(auto, unfolding(crate::specs::Image::fields))]
 fn fields_at(version: ImageVersion, bytes: &[u8]) -> Result<(Fields, &[u8]), ReadError>
     ensures read { Reads (λ x. (x.0, x.1.now)) result ((format.fields version).read bytes.now) }
@@ -86,9 +98,7 @@ fn fields_at(version: ImageVersion, bytes: &[u8]) -> Result<(Fields, &[u8]), Rea
     let (a, rest) = u16_operand(has(number, OperandField::A), rest)?;
     let (b, rest) = u16_operand(has(number, OperandField::B), rest)?;
     let (c, rest) = u16_operand(has(number, OperandField::C), rest)?;
-    let (t, rest) = u32_operand(has(number, OperandField::T), rest)?;
-    let (site, rest) = u32_operand(has(number, OperandField::Site), rest)?;
-    let (k, rest) = u64_operand(has(number, OperandField::K), rest)?;
+    let (t, site, k, rest) = wide_operands_at(number, rest)?;
     let fields = Fields {
         number,
         x,

@@ -1,12 +1,12 @@
 //! Writes the code of refinements and actions.
 #![tactic(auto, using(crate::proofs::Writing::laid_then, crate::proofs::Writing::laid_stop, crate::proofs::Writing::laid_leave, crate::proofs::Values::some_top, crate::proofs::Values::some_deed))]
 
-ghost use Rattle.std.specs.Prelude.{◌≤◌, ◌^◌, OnOk};
-ghost use Rattle.td_lower_blocks.specs.Block.{Done, Scope};
-ghost use Rattle.td_lower_blocks.specs.Constructs.{tested, acts};
+ghost use Rattle.std.specs.Prelude.{◌≡◌, ◌≤◌, ◌^◌, ◌+◌, true, false, OnOk};
+ghost use Rattle.td_lower_blocks.specs.Block.{Block, Done, Guard, Scope};
+ghost use Rattle.td_lower_blocks.specs.Constructs.{value, tested, acts};
 ghost use Rattle.td_lower_blocks.specs.Lowered.{expr_of, action_of};
 ghost use Rattle.td_lower_blocks.specs.Tops.{term_top, deed_top, deed_cells};
-ghost use Rattle.td_lower_emit.specs.Emission.{Writes, Finishes};
+ghost use Rattle.td_lower_emit.specs.Emission.{laid, Writes, Finishes};
 
 use crate::expressions::{land, write_value};
 use crate::writer::Writer;
@@ -36,7 +36,39 @@ pub fn write_test(
     Ok(())
 }
 
+// Writes one of two actions, by an expression; a statement that ends one leaves to a place behind both.
+#[cycle(statements)]
+fn write_branches(
+    code: &mut Writer,
+    leave: u32,
+    t: u16,
+    site: u32,
+    level: u32,
+    e: &CoreExpr,
+    one: &Action,
+    other: &Action,
+) -> Result<(), AllocError>
+    requires test { term_top t e.now ≤ 2 ^ 16 }
+    requires one_registers { deed_top level (t + 1) one.now ≤ 2 ^ 16 }
+    requires other_registers { deed_top level (t + 1) other.now ≤ 2 ^ 16 }
+    requires one_cells { deed_cells one.now ≤ 2 ^ 16 }
+    requires other_cells { deed_cells other.now ≤ 2 ^ 16 }
+    ensures { OnOk result ((k : Block) → laid code.new leave k ≡ laid code.old leave (value t (expr_of e.now) (Guard false t (acts (t + 1) site (action_of level one.now) Done) (Guard true t (acts (t + 1) site (action_of level other.now) Done) k)))) }
+{
+    write_value(code, t, e)?;
+    let first = code.place();
+    code.write(Instr::Mark)?;
+    write_statements(code, leave, t + 1, site, level, one)?;
+    land(code, first, false, t);
+    let second = code.place();
+    code.write(Instr::Mark)?;
+    write_statements(code, leave, t + 1, site, level, other)?;
+    land(code, second, true, t);
+    Ok(())
+}
+
 // Writes an action that leaves to a place behind it. A value that is read comes into the register of the next level.
+#[cycle(statements)]
 fn write_statements(
     code: &mut Writer,
     leave: u32,
@@ -69,15 +101,7 @@ fn write_statements(
             Ok(())
         }
         ActionStep::If(e, one, other, then) => {
-            write_value(code, t, e)?;
-            let first = code.place();
-            code.write(Instr::Mark)?;
-            write_statements(code, leave, t + 1, site, level, one)?;
-            land(code, first, false, t);
-            let second = code.place();
-            code.write(Instr::Mark)?;
-            write_statements(code, leave, t + 1, site, level, other)?;
-            land(code, second, true, t);
+            write_branches(code, leave, t, site, level, e, one, other)?;
             write_statements(code, leave, t, site, level, then)?;
             Ok(())
         }

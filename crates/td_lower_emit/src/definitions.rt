@@ -76,8 +76,10 @@ fn write_field_list(
 {
     let scope = vec![in alloc; 0; level as usize]?;
     let needed = needed_of(alloc, &scope, fields)?;
-    write_fields(code, t, site, level, fields, &needed)?;
-    Ok(())
+    let told = write_fields(code, t, site, level, fields, &needed);
+    drop(needed);
+    drop(scope);
+    told
 }
 
 // What all cases of a switch value have in common.
@@ -114,17 +116,14 @@ fn write_default(
             })?;
             Ok(())
         }
-        Some(fields) => {
-            write_field_list(
-                alloc,
-                code,
-                switch.unit,
-                site,
-                switch.level,
-                fields.as_slice(),
-            )?;
-            Ok(())
-        }
+        Some(fields) => write_field_list(
+            alloc,
+            code,
+            switch.unit,
+            site,
+            switch.level,
+            fields.as_slice(),
+        ),
     }
 }
 
@@ -188,10 +187,7 @@ fn write_body(
     ensures { OnOk result ((x : ℕ) → Finishes x code.old code.new (body (body_of t switch site level all.now))) }
 {
     match all {
-        Body::Struct(fields) => {
-            write_field_list(alloc, code, t, site, level, fields.as_slice())?;
-            Ok(())
-        }
+        Body::Struct(fields) => write_field_list(alloc, code, t, site, level, fields.as_slice()),
         Body::Casetype {
             switch: value,
             cases,
@@ -227,10 +223,7 @@ pub fn write_definition(
 {
     let level = d.params.len() as u32;
     match &d.guard {
-        None => {
-            write_body(alloc, code, t, first + 1, first + 2, level, &d.body)?;
-            Ok(())
-        }
+        None => write_body(alloc, code, t, first + 1, first + 2, level, &d.body),
         Some(e) => {
             write_test(code, t + 1, e, CONSTRAINT, first)?;
             write_body(alloc, code, t, first + 1, first + 2, level, &d.body)?;

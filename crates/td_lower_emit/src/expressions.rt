@@ -3,9 +3,9 @@
 
 ghost use Rattle.std.specs.Prelude.{◌≡◌, ℕ, ◌≤◌, ◌^◌, ◌<◌, ◌+◌, OnOk, length, slice_set};
 ghost use Rattle.td_lower_blocks.specs.Block.{guard};
-ghost use Rattle.td_lower_blocks.specs.Constructs.{value, Choice};
-ghost use Rattle.td_lower_blocks.specs.Lowered.{expr_of};
-ghost use Rattle.td_lower_blocks.specs.Tops.{term_top};
+ghost use Rattle.td_lower_blocks.specs.Constructs.{value, Choice, Range};
+ghost use Rattle.td_lower_blocks.specs.Lowered.{computed_of, compared_of, expr_of, mask_of};
+ghost use Rattle.td_lower_blocks.specs.Tops.{top, term_top};
 ghost use Rattle.td_lower_emit.specs.Emission.{Writes, operator_number, operation_then, by_number_then, masked_then, operator_then, relation_number, is_turned, range_then, both_then};
 
 use crate::writer::Writer;
@@ -165,10 +165,84 @@ fn write_choice(
     Ok(())
 }
 
+// Writes the values of two expressions into register `t` and the next.
+#[cycle(value)]
+#[tactic(auto, using(crate::proofs::Writing::laid_then, crate::proofs::Values::some_top))]
+fn write_pair(code: &mut Writer, t: u16, a: &CoreExpr, b: &CoreExpr) -> Result<(), AllocError>
+    requires first { term_top t a.now ≤ 2 ^ 16 }
+    requires second { term_top (t + 1) b.now ≤ 2 ^ 16 }
+    ensures { OnOk result (Writes code.old code.new (λ k. value t (expr_of a.now) (value (t + 1) (expr_of b.now) k))) }
+{
+    write_value(code, t, a)?;
+    write_value(code, t + 1, b)?;
+    Ok(())
+}
+
+// Writes an operator on two expressions.
+#[cycle(value)]
+#[tactic(auto, using(crate::proofs::Writing::laid_then, crate::proofs::Values::computed_value, crate::proofs::Values::some_top))]
+fn write_computed(
+    code: &mut Writer,
+    t: u16,
+    op: Binary,
+    a: &CoreExpr,
+    b: &CoreExpr,
+) -> Result<(), AllocError>
+    requires first { term_top t a.now ≤ 2 ^ 16 }
+    requires second { term_top (t + 1) b.now ≤ 2 ^ 16 }
+    ensures { OnOk result (Writes code.old code.new (value t (computed_of op (mask_of a.now) (expr_of a.now) (expr_of b.now)))) }
+{
+    write_pair(code, t, a, b)?;
+    write_operator(code, t, op, greatest_of(type_of(a)))?;
+    Ok(())
+}
+
+// Writes a comparison of two expressions.
+#[cycle(value)]
+#[tactic(auto, using(crate::proofs::Writing::laid_then, crate::proofs::Values::turned_top, crate::proofs::Values::straight_top, crate::proofs::Values::turned_value, crate::proofs::Values::straight_value, crate::proofs::Values::some_top))]
+fn write_compared(
+    code: &mut Writer,
+    t: u16,
+    relation: Relation,
+    a: &CoreExpr,
+    b: &CoreExpr,
+) -> Result<(), AllocError>
+    requires { top t (compared_of relation (expr_of a.now) (expr_of b.now)) ≤ 2 ^ 16 }
+    ensures { OnOk result (Writes code.old code.new (value t (compared_of relation (expr_of a.now) (expr_of b.now)))) }
+{
+    if is_turned(relation) {
+        write_pair(code, t, b, a)?;
+        write_operation(code, t, relation_code(relation))?;
+        return Ok(());
+    }
+    write_pair(code, t, a, b)?;
+    write_operation(code, t, relation_code(relation))?;
+    Ok(())
+}
+
+// Writes whether so many bytes from an offset on lie in a size.
+#[cycle(value)]
+#[tactic(auto, using(crate::proofs::Writing::laid_then, crate::proofs::Values::some_top))]
+fn write_okay(
+    code: &mut Writer,
+    t: u16,
+    size: &CoreExpr,
+    offset: &CoreExpr,
+    access: &CoreExpr,
+) -> Result<(), AllocError>
+    requires { top t (Range (expr_of size.now) (expr_of offset.now) (expr_of access.now)) ≤ 2 ^ 16 }
+    ensures { OnOk result (Writes code.old code.new (value t (Range (expr_of size.now) (expr_of offset.now) (expr_of access.now)))) }
+{
+    write_pair(code, t, size, offset)?;
+    write_value(code, t + 2, access)?;
+    write_range(code, t)?;
+    Ok(())
+}
+
 /// Writes the code that puts an expression's value into register `t`, with the registers above it. `AllocError`: there was
 /// no memory for it.
 #[cycle(value)]
-#[tactic(auto, using(crate::proofs::Writing::laid_then, td_lower_blocks::proofs::Heights::computed_top, crate::proofs::Values::computed_value, crate::proofs::Values::turned_top, crate::proofs::Values::straight_top, crate::proofs::Values::turned_value, crate::proofs::Values::straight_value, crate::proofs::Values::some_top))]
+#[tactic(auto, using(crate::proofs::Writing::laid_then, td_lower_blocks::proofs::Heights::computed_top, crate::proofs::Values::some_top))]
 pub fn write_value(code: &mut Writer, t: u16, e: &CoreExpr) -> Result<(), AllocError>
     requires { term_top t e.now ≤ 2 ^ 16 }
     ensures { OnOk result (Writes code.old code.new (value t (expr_of e.now))) }
@@ -201,43 +275,12 @@ pub fn write_value(code: &mut Writer, t: u16, e: &CoreExpr) -> Result<(), AllocE
             write_by_number(code, t, EQ, 0)?;
             Ok(())
         }
-        Node::Compute(op, _, a, b) => {
-            write_value(code, t, a)?;
-            write_value(code, t + 1, b)?;
-            write_operator(code, t, *op, greatest_of(type_of(a)))?;
-            Ok(())
-        }
-        Node::Compare(relation, a, b) => {
-            if is_turned(*relation) {
-                write_value(code, t, b)?;
-                write_value(code, t + 1, a)?;
-                write_operation(code, t, relation_code(*relation))?;
-                return Ok(());
-            }
-            write_value(code, t, a)?;
-            write_value(code, t + 1, b)?;
-            write_operation(code, t, relation_code(*relation))?;
-            Ok(())
-        }
-        Node::Both(a, b) => {
-            write_both(code, t, a, b, false)?;
-            Ok(())
-        }
-        Node::Either(a, b) => {
-            write_both(code, t, a, b, true)?;
-            Ok(())
-        }
-        Node::Choice(c, a, b) => {
-            write_choice(code, t, c, a, b)?;
-            Ok(())
-        }
-        Node::RangeOkay(size, offset, access) => {
-            write_value(code, t, size)?;
-            write_value(code, t + 1, offset)?;
-            write_value(code, t + 2, access)?;
-            write_range(code, t)?;
-            Ok(())
-        }
+        Node::Compute(op, _, a, b) => write_computed(code, t, *op, a, b),
+        Node::Compare(relation, a, b) => write_compared(code, t, *relation, a, b),
+        Node::Both(a, b) => write_both(code, t, a, b, false),
+        Node::Either(a, b) => write_both(code, t, a, b, true),
+        Node::Choice(c, a, b) => write_choice(code, t, c, a, b),
+        Node::RangeOkay(size, offset, access) => write_okay(code, t, size, offset, access),
     }
 }
 

@@ -1,6 +1,7 @@
 //! Enums.
 
 ghost use Rattle.std.specs.Prelude.{◌≡◌};
+ghost use Rattle.td_ast.specs.declared.definitions.Def.TheVariants as defs;
 ghost use Rattle.td_grammar.specs.Reading.{Got};
 ghost use Rattle.td_grammar.specs.Sets.{comes};
 ghost use Rattle.td_grammar.specs.Grammar as grammar;
@@ -99,14 +100,61 @@ fn maybe_semicolon(tokens: &[Token]) -> Result<(Option<Span>, &[Token]), Failure
     Ok((Some(at), rest))
 }
 
-/// An enum.
+// Where a value is let go, each way through its variants is a way through the function. So what has many is let go by a call, and
+// the result that holds it is matched.
+
+// "}" [";"]. Takes no memory.
+fn enum_end(tokens: &[Token]) -> Result<(Span, Option<Span>, &[Token]), Failure<'_>>
+    ensures { Reads (λ x. Got (x.0, x.1) x.2.now) result (pieces.enum_end.reader.read tokens.now) }
+{
+    let (closing, rest) = expect(tokens, &TokenKind::CloseBrace)?;
+    let (end, rest) = maybe_semicolon(rest)?;
+    Ok((closing, end, rest))
+}
+
+// item { "," item } [","] "}" [";"]
+fn enum_body(
+    alloc: Global,
+    tokens: &[Token],
+) -> Result<(Items<ItemTree>, Span, Option<Span>, &[Token]), Failure<'_>>
+    ensures { Gives (λ x. Got (x.0, (x.1, x.2)) x.3.now) result (pieces.enum_body.reader.read tokens.now) }
+{
+    match items(alloc, tokens) {
+        Ok((items, rest)) => match enum_end(rest) {
+            Ok((closing, end, rest)) => Ok((items, closing, end, rest)),
+            Err(failure) => {
+                drop(items);
+                Err(failure)
+            }
+        },
+        Err(failure) => Err(failure),
+    }
+}
+
+// An enum, by its parts.
 #[tactic(auto, unfolding(td_grammar::specs::Definitions::enumeration))]
+fn enum_parts(
+    alloc: Global,
+    tokens: &[Token],
+) -> Result<(NumberTree, Name, Items<ItemTree>, &[Token]), Failure<'_>>
+    ensures { Gives (λ x. Got (defs.Enum (record { base = x.0; name = x.1; items = x.2 })) x.3.now) result (definitions.enumeration.reader.read tokens.now) }
+{
+    let (base, name, rest) = enum_head(alloc, tokens)?;
+    match enum_body(alloc, rest) {
+        Ok((items, _, _, rest)) => Ok((base, name, items, rest)),
+        Err(failure) => {
+            drop(name);
+            Err(failure)
+        }
+    }
+}
+
+/// An enum.
 pub fn enumeration(alloc: Global, tokens: &[Token]) -> Result<(Def, &[Token]), Failure<'_>>
     ensures { Gives (λ x. Got x.0 x.1.now) result (definitions.enumeration.reader.read tokens.now) }
 {
-    let (base, name, rest) = enum_head(alloc, tokens)?;
-    let (items, rest) = items(alloc, rest)?;
-    let (_, rest) = expect(rest, &TokenKind::CloseBrace)?;
-    let (_, rest) = maybe_semicolon(rest)?;
-    Ok((Def::Enum(EnumTree { base, name, items }), rest))
+    match enum_parts(alloc, tokens) {
+        Ok((base, name, items, rest)) => Ok((Def::Enum(EnumTree { base, name, items }), rest)),
+        Err(failure) => Err(failure),
+    }
 }

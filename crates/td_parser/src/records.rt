@@ -1,28 +1,32 @@
 //! Output records.
 
 ghost use Rattle.std.specs.Prelude.{◌≡◌};
+ghost use Rattle.td_ast.specs.declared.definitions.Def.TheVariants as defs;
 ghost use Rattle.td_grammar.specs.Reading.{Got, with_first};
 ghost use Rattle.td_grammar.specs.Sets.{comes};
 ghost use Rattle.td_grammar.specs.Grammar as grammar;
 ghost use Rattle.td_grammar.specs.Sequences as sequences;
 ghost use Rattle.td_grammar.specs.Definitions as definitions;
-ghost use Rattle.td_parser_expr.specs.Giving.{Gives};
+ghost use Rattle.td_parser_expr.specs.Giving.{Gives, Reads};
 ghost use Rattle.td_parser.specs.Pieces as pieces;
 
-use crate::closing::closing;
+use crate::closing::{closing, ending};
 use std::alloc::Global;
 use td_ast::definitions::{Def, OutputTree, SlotKind, SlotTree};
-use td_ast::token::{Token, TokenKind};
+use td_ast::names::Name;
+use td_ast::token::{Span, Token, TokenKind};
 use td_num::items::Items;
 use td_parser_expr::failure::Failure;
 use td_parser_expr::token::{expect, name, number_type};
 
-/// `(INT | "PUINT8") NAME ";"`
-#[tactic(auto, unfolding(td_grammar::specs::Definitions::slot))]
-fn slot(alloc: Global, tokens: &[Token]) -> Result<(SlotTree, &[Token]), Failure<'_>>
-    ensures { Gives (λ x. Got x.0 x.1.now) result (definitions.slot.reader.read tokens.now) }
+// Where a value is let go, each way through its variants is a way through the function. So what has many is let go by a call, and
+// the result that holds it is matched.
+
+/// `INT | "PUINT8"`. Takes no memory.
+fn slot_kind(tokens: &[Token]) -> Result<(SlotKind, &[Token]), Failure<'_>>
+    ensures { Reads (λ x. Got x.0 x.1.now) result (pieces.slot_kind.reader.read tokens.now) }
 {
-    let (kind, rest) = match tokens {
+    match tokens {
         [
             Token {
                 kind: TokenKind::Int(_),
@@ -31,16 +35,28 @@ fn slot(alloc: Global, tokens: &[Token]) -> Result<(SlotTree, &[Token]), Failure
             ..
         ] => {
             let (number, rest) = number_type(tokens)?;
-            (SlotKind::Number(number), rest)
+            Ok((SlotKind::Number(number), rest))
         }
         _ => {
             let (at, rest) = expect(tokens, &TokenKind::Pointer)?;
-            (SlotKind::Pointer(at), rest)
+            Ok((SlotKind::Pointer(at), rest))
         }
-    };
-    let (name, rest) = name(alloc, rest)?;
-    let (_, rest) = expect(rest, &TokenKind::Semicolon)?;
-    Ok((SlotTree { kind, name }, rest))
+    }
+}
+
+/// `(INT | "PUINT8") NAME ";"`
+#[tactic(auto, unfolding(td_grammar::specs::Definitions::slot))]
+fn slot(alloc: Global, tokens: &[Token]) -> Result<(SlotTree, &[Token]), Failure<'_>>
+    ensures { Gives (λ x. Got x.0 x.1.now) result (definitions.slot.reader.read tokens.now) }
+{
+    let (kind, rest) = slot_kind(tokens)?;
+    match ending(alloc, rest) {
+        Ok((name, _, rest)) => Ok((SlotTree { kind, name }, rest)),
+        Err(failure) => {
+            drop(kind);
+            Err(failure)
+        }
+    }
 }
 
 fn peek_is_slot(tokens: &[Token]) -> bool
@@ -79,24 +95,63 @@ fn slots(alloc: Global, tokens: &[Token]) -> Result<(Items<SlotTree>, &[Token]),
     slots_from(alloc, first, rest)
 }
 
-// NAME "{" slot { slot } closing
-fn output_body(alloc: Global, tokens: &[Token]) -> Result<(Def, &[Token]), Failure<'_>>
-    ensures { Gives (λ x. Got x.0 x.1.now) result (pieces.output_body.reader.read tokens.now) }
+// "{" slot { slot } closing
+fn output_end(
+    alloc: Global,
+    tokens: &[Token],
+) -> Result<(Span, Items<SlotTree>, Name, &[Token]), Failure<'_>>
+    ensures { Gives (λ x. Got (x.0, (x.1, x.2)) x.3.now) result (pieces.output_end.reader.read tokens.now) }
 {
-    let (tag, rest) = name(alloc, tokens)?;
-    let (_, rest) = expect(rest, &TokenKind::OpenBrace)?;
-    let (slots, rest) = slots(alloc, rest)?;
-    let (name, rest) = closing(alloc, rest)?;
-    Ok((Def::Output(OutputTree { tag, slots, name }), rest))
+    let (opening, rest) = expect(tokens, &TokenKind::OpenBrace)?;
+    match slots(alloc, rest) {
+        Ok((slots, rest)) => match closing(alloc, rest) {
+            Ok((name, rest)) => Ok((opening, slots, name, rest)),
+            Err(failure) => {
+                drop(slots);
+                Err(failure)
+            }
+        },
+        Err(failure) => Err(failure),
+    }
 }
 
-/// An output record.
+// NAME "{" slot { slot } closing
+fn output_body(
+    alloc: Global,
+    tokens: &[Token],
+) -> Result<(Name, Items<SlotTree>, Name, &[Token]), Failure<'_>>
+    ensures { Gives (λ x. Got (defs.Output (record { tag = x.0; slots = x.1; name = x.2 })) x.3.now) result (pieces.output_body.reader.read tokens.now) }
+{
+    let (tag, rest) = name(alloc, tokens)?;
+    match output_end(alloc, rest) {
+        Ok((_, slots, name, rest)) => Ok((tag, slots, name, rest)),
+        Err(failure) => {
+            drop(tag);
+            Err(failure)
+        }
+    }
+}
+
+// An output record, by its parts.
 #[tactic(auto, unfolding(td_grammar::specs::Definitions::output))]
-pub fn output(alloc: Global, tokens: &[Token]) -> Result<(Def, &[Token]), Failure<'_>>
-    ensures { Gives (λ x. Got x.0 x.1.now) result (definitions.output.reader.read tokens.now) }
+fn output_parts(
+    alloc: Global,
+    tokens: &[Token],
+) -> Result<(Name, Items<SlotTree>, Name, &[Token]), Failure<'_>>
+    ensures { Gives (λ x. Got (defs.Output (record { tag = x.0; slots = x.1; name = x.2 })) x.3.now) result (definitions.output.reader.read tokens.now) }
 {
     let (_, rest) = expect(tokens, &TokenKind::Output)?;
     let (_, rest) = expect(rest, &TokenKind::Typedef)?;
     let (_, rest) = expect(rest, &TokenKind::Struct)?;
     output_body(alloc, rest)
+}
+
+/// An output record.
+pub fn output(alloc: Global, tokens: &[Token]) -> Result<(Def, &[Token]), Failure<'_>>
+    ensures { Gives (λ x. Got x.0 x.1.now) result (definitions.output.reader.read tokens.now) }
+{
+    match output_parts(alloc, tokens) {
+        Ok((tag, slots, name, rest)) => Ok((Def::Output(OutputTree { tag, slots, name }), rest)),
+        Err(failure) => Err(failure),
+    }
 }

@@ -55,27 +55,38 @@ fn reads_fail_at_listed_calls(rt: HostRuntime) -> Result<(), Fail> {
     let fails = [2, 4].to_vec(rt.alloc())?;
     let mut source = MemorySource::over(bytes, fails);
     let mut buf = [0u8; 2];
-    for want in [Ok(2), Err(Failed), Ok(2), Err(Failed), Ok(1), Ok(0)] {
-        assert_eq!(rt; source.read(&mut buf), want);
-    }
-    assert_eq!(rt; buf[0], b'e');
-    assert!(rt; source.left().is_empty());
+    let found = [
+        source.read(&mut buf),
+        source.read(&mut buf),
+        source.read(&mut buf),
+        source.read(&mut buf),
+        source.read(&mut buf),
+        source.read(&mut buf),
+    ];
+    let left = source.left().len();
+    drop(source);
+    assert_eq!(rt;
+        found,
+        [Ok(2), Err(Failed), Ok(2), Err(Failed), Ok(1), Ok(0)]
+    );
+    assert_eq!(rt; (buf[0], left), (b'e', 0));
     Ok(())
 }
 
 #[test]
 fn writes_fail_at_listed_calls_and_without_room(rt: HostRuntime) -> Result<(), Fail> {
     let mut sink = MemorySink::with_room(rt.alloc(), 4, [2].to_vec(rt.alloc())?)?;
-    for (piece, want) in [
-        (b"ab".as_slice(), Ok(2)),
-        (b"cd".as_slice(), Err(Failed)),
-        (b"cde".as_slice(), Ok(2)),
-        (b"e".as_slice(), Err(Failed)),
-        (b"".as_slice(), Ok(0)),
-    ] {
-        assert_eq!(rt; sink.write(piece), want);
-    }
-    assert_eq!(rt; sink.written(), b"abcd".as_slice());
+    let found = [
+        sink.write(b"ab"),
+        sink.write(b"cd"),
+        sink.write(b"cde"),
+        sink.write(b"e"),
+        sink.write(b""),
+    ];
+    let same = sink.written() == b"abcd".as_slice();
+    drop(sink);
+    assert_eq!(rt; found, [Ok(2), Err(Failed), Ok(2), Err(Failed), Ok(0)]);
+    assert!(rt; same);
     Ok(())
 }
 
@@ -90,6 +101,7 @@ fn check_whole(
     let fails = [fail].to_vec(rt.alloc())?;
     let mut source = MemorySource::over(bytes, fails);
     let read = read_whole(rt.alloc(), &mut source, limit);
+    drop(source);
     assert_eq!(rt;
         read.as_ref().map(|v| v.as_slice()).map_err(|e| *e),
         want,
@@ -132,6 +144,7 @@ fn streams_are_read_byte_by_byte(rt: HostRuntime) -> Result<(), Fail> {
     ] {
         let mut source = ReaderSource::over(Dripping { left, broken });
         let read = read_whole(rt.alloc(), &mut source, limit);
+        drop(source);
         assert_eq!(rt; read.map(|v| v.len()), want, "{left} bytes, limit {limit}");
     }
     Ok(())
@@ -147,12 +160,10 @@ fn check_written(
 ) -> Result<(), Fail> {
     let fails = [fail].to_vec(rt.alloc())?;
     let mut sink = MemorySink::with_room(rt.alloc(), room, fails)?;
-    assert_eq!(rt;
-        write_all(&mut sink, b"abc"),
-        want,
-        "room {room}, fail {fail}"
-    );
-    assert_eq!(rt; sink.written(), written, "room {room}, fail {fail}");
+    let found = write_all(&mut sink, b"abc");
+    let same = sink.written() == written;
+    drop(sink);
+    assert_eq!(rt; (found, same), (want, true), "room {room}, fail {fail}");
     Ok(())
 }
 
@@ -167,7 +178,9 @@ fn texts_are_written_until_a_write_fails(rt: HostRuntime) -> Result<(), Fail> {
 fn streams_are_written_until_they_take_nothing(rt: HostRuntime) -> Result<(), Fail> {
     for (room, want) in [(3, Ok(())), (2, Err(WriteFault))] {
         let mut sink = WriterSink::over(Clogging { room });
-        assert_eq!(rt; write_all(&mut sink, b"abc"), want, "room {room}");
+        let found = write_all(&mut sink, b"abc");
+        drop(sink);
+        assert_eq!(rt; found, want, "room {room}");
     }
     assert_eq!(rt; write_all(&mut QuietSink, b"abc"), Ok(()));
     Ok(())

@@ -1,9 +1,13 @@
 //! Run jobs as values, and errors as they print; what is refused stands in `cases/jobs/`.
 
+ghost use Rattle.td_front.specs.Checked.{IsChecked};
+
 use std::alloc::{AllocError, Global};
 use std::test::Fail;
+use td_core::module::Module;
 use td_front::check_module;
 use td_job::run_job::{RunJob, read_run_job};
+use td_sched::store::PlannedStore;
 
 /// A module with the entry points `P` and `Q`, of which the second has a parameter of 16 bits and a pointer's cell.
 const MODULE: &[u8] =
@@ -18,35 +22,75 @@ fn job_line(alloc: Global, job: &RunJob) -> Result<String, AllocError> {
     let words = job.words.as_slice();
     let length = job.length;
     let mut line = format!(in alloc; "{entry} {args:?} {cells:?} {words:?} {length}")?;
-    if let Some(layout) = &job.layout {
-        for number in 0..layout.count() {
-            let (stretch, word) = layout.word(number);
-            let part = format!(in alloc; " word {stretch} {word}")?;
-            line.push_str(part.as_str())?;
-        }
+    push_words(alloc, job, &mut line)?;
+    push_stores(alloc, job.stores.as_slice(), &mut line)?;
+    push_written(alloc, job, &mut line)?;
+    Ok(line)
+}
+
+fn push_words(alloc: Global, job: &RunJob, line: &mut String) -> Result<(), AllocError> {
+    let Some(layout) = &job.layout else {
+        return Ok(());
+    };
+    for number in 0..layout.count() {
+        let (stretch, word) = layout.word(number);
+        let part = format!(in alloc; " word {stretch} {word}")?;
+        line.push_str(part.as_str())?;
     }
-    for store in job.stores.as_slice() {
+    Ok(())
+}
+
+/// The number, the word and the value of each store.
+pub(crate) fn push_stores(
+    alloc: Global,
+    stores: &[PlannedStore],
+    line: &mut String,
+) -> Result<(), AllocError> {
+    for store in stores {
         let before = store.before;
         let word = store.word;
         let value = store.value;
         let part = format!(in alloc; " store {before} {word} {value:016x}")?;
         line.push_str(part.as_str())?;
     }
+    Ok(())
+}
+
+fn push_written(alloc: Global, job: &RunJob, line: &mut String) -> Result<(), AllocError> {
     if let Some(bytes) = job.written_bytes() {
         let part = format!(in alloc; " written {bytes:?}")?;
         line.push_str(part.as_str())?;
     }
-    Ok(line)
+    Ok(())
+}
+
+// Where a value is let go, each way through its variants is a way through the function. So what has many is let go by a call.
+
+/// The line of a job, or of what is wrong with it.
+fn answer_by(alloc: Global, job: &[u8], m: &Module) -> Result<String, AllocError>
+    requires { IsChecked m.now }
+{
+    match read_run_job(alloc, job, m) {
+        Ok(job) => {
+            let line = job_line(alloc, &job);
+            drop(job);
+            line
+        }
+        Err(error) => {
+            let line = error.to_string(alloc);
+            drop(error);
+            line
+        }
+    }
 }
 
 fn answer(alloc: Global, job: &[u8]) -> Result<String, Fail> {
     let Ok(m) = check_module(alloc, MODULE) else {
-        return Ok("no module".to_string(alloc)?);
+        return Err(Fail::new("no module"));
     };
-    match read_run_job(alloc, job, &m) {
-        Ok(job) => Ok(job_line(alloc, &job)?),
-        Err(error) => Ok(error.to_string(alloc)?),
-    }
+    let line = answer_by(alloc, job, &m);
+    drop(m);
+    Ok(line?)
 }
 
 const ROWS: &[(&[u8], &str)] = &[

@@ -1,5 +1,6 @@
 //! Made messages as values.
 
+use crate::jobs::push_stores;
 use std::alloc::Global;
 use std::test::Fail;
 use td_gen::make_job;
@@ -18,20 +19,16 @@ fn message_line(alloc: Global, job: &NamedJob) -> Result<String, Fail> {
     let mut line = format!(in alloc;
         "{entry} {args:?} {cells:?} {length} {count} {first:016x} {last:016x}"
     )?;
-    for store in job.stores.as_slice() {
-        let before = store.before;
-        let word = store.word;
-        let value = store.value;
-        let part = format!(in alloc; " store {before} {word} {value:016x}")?;
-        line.push_str(part.as_str())?;
-    }
+    push_stores(alloc, job.stores.as_slice(), &mut line)?;
     Ok(line)
 }
 
 /// The line of the made message of a number.
 fn made_line(alloc: Global, n: u32) -> Result<String, Fail> {
     let (_, job) = make_job(alloc, n)?;
-    message_line(alloc, &job)
+    let line = message_line(alloc, &job);
+    drop(job);
+    line
 }
 
 const ROWS: &[(u32, &str)] = &[

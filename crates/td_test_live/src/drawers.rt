@@ -87,5 +87,9 @@ fn eight_threads_draw_each_number_once(rt: HostRuntime) -> Result<(), Fail> {
         DRAWERS,
         &|_, drawer| drawer.draw_all(),
     );
-    check_drawn(&rt, alloc, drawers.as_slice())
+    let checked = check_drawn(&rt, alloc, drawers.as_slice());
+    drop(drawers);
+    drop(first);
+    drop(tickets);
+    checked
 }

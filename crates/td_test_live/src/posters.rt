@@ -190,5 +190,12 @@ fn each_post_is_taken_once_and_each_posters_in_order(rt: HostRuntime) -> Result<
         HANDS,
         &|_, hand| hand.run(&rt, alloc),
     );
-    check_taken(&rt, alloc, hands.as_slice())
+    let checked = check_taken(&rt, alloc, hands.as_slice());
+    drop(hands);
+    drop(takes);
+    drop(posts);
+    drop(ring);
+    drop(host);
+    drop(shared);
+    checked
 }

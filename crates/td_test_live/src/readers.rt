@@ -67,7 +67,9 @@ impl<'a> Reader<'a> {
     // A thread has code of its own.
     fn run(&mut self, alloc: Global) -> Option<()> {
         let compiled = compile(alloc, HOPPING)?;
-        self.validate_all(alloc, &compiled.code)
+        let done = self.validate_all(alloc, &compiled.code);
+        drop(compiled);
+        done
     }
 }
 
@@ -139,11 +141,11 @@ fn is_meant(alloc: Global, m: &Module, ran: &Ran) -> Option<bool> {
     put_loads(bytes.as_mut_slice(), ran.loads.as_slice());
     let plain = meaning(alloc, m, ENTRY, &[], &[0], bytes.as_slice()).ok()?;
     let outcome = &ran.outcome;
-    Some(
-        outcome.verdict == plain.verdict
-            && outcome.trace.as_slice() == plain.trace.as_slice()
-            && outcome.cells.as_slice() == plain.cells.as_slice(),
-    )
+    let same = outcome.verdict == plain.verdict
+        && outcome.trace.as_slice() == plain.trace.as_slice()
+        && outcome.cells.as_slice() == plain.cells.as_slice();
+    drop(plain);
+    Some(same)
 }
 
 // How many validations have the outcome that the module means; None where there is no memory.
@@ -161,7 +163,9 @@ fn count_meant(alloc: Global, m: &Module, actors: &[Actor<'_>]) -> Option<u32> {
 
 fn count_right(alloc: Global, actors: &[Actor<'_>]) -> Option<u32> {
     let compiled = compile(alloc, HOPPING)?;
-    count_meant(alloc, &compiled.checked, actors)
+    let count = count_meant(alloc, &compiled.checked, actors);
+    drop(compiled);
+    count
 }
 
 fn make_actors<'a>(
@@ -204,6 +208,9 @@ fn each_outcome_is_the_meaning_of_what_was_loaded(rt: HostRuntime) -> Result<(),
         &|_, actor| actor.run(alloc, done),
     );
     let right = count_right(alloc, actors.as_slice());
+    drop(actors);
+    drop(host);
+    drop(shared);
     assert_eq!(rt; right, Some(READERS * MESSAGES));
     Ok(())
 }

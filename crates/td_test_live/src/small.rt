@@ -25,23 +25,26 @@ fn number(taken: Option<Post>) -> u32 {
 #[test]
 fn a_full_ring_hands_the_post_back(rt: HostRuntime) -> Result<(), Fail> {
     let alloc = rt.alloc();
+    let one = post(alloc, 1, 1)?;
+    let two = post(alloc, 1, 2)?;
     let (shared, mut host) = Shared::open(alloc, &[])?;
-    let guest = shared.split_guest(&mut host);
     let (ring, mut posts, mut takes) = Ring::<Any>::new(alloc, 1)?;
-    let first = told(
-        alloc,
-        ring.post(&rt, &mut posts, &guest, post(alloc, 1, 1)?),
-    )?;
-    let second = told(
-        alloc,
-        ring.post(&rt, &mut posts, &guest, post(alloc, 1, 2)?),
-    )?;
+    let guest = shared.split_guest(&mut host);
+    let first = ring.post(&rt, &mut posts, &guest, one);
+    let second = ring.post(&rt, &mut posts, &guest, two);
+    let got = ring.take(&rt, &mut takes);
+    let none = ring.take(&rt, &mut takes);
+    ring.settle(&mut posts, takes);
+    drop(posts);
+    drop(ring);
+    drop(guest);
+    drop(host);
+    drop(shared);
+    assert_eq!(rt; (number(got), number(none)), (1, 0));
+    let first = told(alloc, first)?;
+    let second = told(alloc, second)?;
     assert_eq!(rt; first.as_str(), "posted");
     assert_eq!(rt; second.as_str(), "ring full: 2");
-    let got = number(ring.take(&rt, &mut takes));
-    let none = number(ring.take(&rt, &mut takes));
-    assert_eq!(rt; (got, none), (1, 0));
-    ring.settle(&mut posts, takes);
     Ok(())
 }
 

@@ -160,6 +160,10 @@ fn each_thread_meets_the_first_version_and_the_last(rt: HostRuntime) -> Result<(
         LOOKERS + 1,
         &|_, actor| actor.run(begun),
     );
-    assert_eq!(rt; told(actors.as_slice()), (LOOKERS, LOOKERS, LAST));
+    let found = told(actors.as_slice());
+    drop(actors);
+    drop(seat);
+    drop(codes);
+    assert_eq!(rt; found, (LOOKERS, LOOKERS, LAST));
     Ok(())
 }

@@ -68,7 +68,7 @@ fn what_is_published_is_loaded_next(rt: HostRuntime) -> Result<(), Fail> {
     assert_eq!(rt; given.len(), 2);
     let (codes, mut publisher, mut seat) = Codes::open(alloc, given)?;
     let mut other = codes.split(&mut seat);
-    assert_eq!(rt; publisher.number(), 0);
+    let opened = publisher.number();
     let before = told_by(codes.current(&mut other));
     let published = codes.publish(&mut publisher);
     let after = [
@@ -77,8 +77,12 @@ fn what_is_published_is_loaded_next(rt: HostRuntime) -> Result<(), Fail> {
         told_by(codes.current(&mut seat)),
     ];
     codes.gather(&mut seat, other);
-    assert_eq!(rt; (before, published), ((0, 0), 1));
+    let last = publisher.number();
+    drop(seat);
+    drop(publisher);
+    drop(codes);
+    assert_eq!(rt; (opened, before, published), (0, (0, 0), 1));
     assert_eq!(rt; after, [(1, 1); 3]);
-    assert_eq!(rt; publisher.number(), 1);
+    assert_eq!(rt; last, 1);
     Ok(())
 }

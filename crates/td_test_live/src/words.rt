@@ -82,6 +82,15 @@ impl<'a> Guest<'a> {
     }
 }
 
+// Whether each guest saw what it may, and loaded back what it had stored.
+fn are_right(guests: &[Guest<'_>]) -> bool {
+    let mut right = true;
+    for guest in guests {
+        right = right && guest.seen.right && guest.kept == ROUNDS;
+    }
+    right
+}
+
 #[test]
 fn what_is_loaded_was_stored_or_opened(rt: HostRuntime) -> Result<(), Fail> {
     let alloc = rt.alloc();
@@ -102,14 +111,12 @@ fn what_is_loaded_was_stored_or_opened(rt: HostRuntime) -> Result<(), Fail> {
         })?;
     }
     thread::for_each_mut(&rt, guests.as_mut_slice(), 2, &|_, guest| guest.run());
-    for guest in &guests {
-        assert!(rt; guest.seen.right);
-        assert_eq!(rt; guest.kept, ROUNDS);
-    }
+    let right = are_right(guests.as_slice());
     drop(guests);
     let last = shared.close(host);
     let words = [last.word(1), last.word(2)];
     drop(last);
+    assert!(rt; right);
     assert_eq!(rt; words, [FIRST + ROUNDS - 1, SECOND + ROUNDS - 1]);
     Ok(())
 }

@@ -14,4 +14,4 @@ returns-in-Ok g c =
 pub returns-in-Err : goal.returns-in-Err
 returns-in-Err g c =
     let input = c.args.input.now in
-    text_unanswered Code of_code (IsListingOf input) input c.in-Err.error (passage g.O.Sink.state c.args.out.now c.args.out.now) (passage g.E.Sink.state c.args.err.now c.finish_unanswered.new.err) c.finish_unanswered.result c.requires c.in-Err.ensures c.finish_unanswered.ensures refl
+    text_unanswered Code of_code (IsListingOf input) input c.in-Err.error (passage g.O.Sink.state c.args.out.now c.args.out.now) (passage g.E.Sink.state c.args.err.now c.finish_unanswered-status.new.err) c.finish_unanswered-status.result c.requires c.in-Err.ensures c.finish_unanswered-status.ensures refl

@@ -35,6 +35,6 @@ returns-clause-run g c =
     let p = c.args.ready.prepared in
     let loads = c.run_counted-ran.result.loads.list in
     let outcome : Outcome = outcome_in c.run_counted-ran.new.frame (buffers_of code job.entry) c.run_counted-ran.result.verdict in
-    subst (λ (o : Outcome). IsRunOf m job o loads) (sym c.into_outcome.ensures)
+    subst (λ (o : Outcome). IsRunOf m job o loads) (sym c.into_outcome-outcome.ensures)
     (run_of code m job outcome loads c.requires.code c.requires.sound c.requires.room
     (run_with code job outcome loads c.as_slice-args.result.now c.as_slice-cells.result.now p.words.opening p.words.stores p.words.layout c.as_slice-args.ensures c.as_slice-cells.ensures c.requires.opening c.requires.stores c.requires.layout c.run_counted-ran.ensures.run))

@@ -22,8 +22,8 @@ loop-gate-init g c =
       drawer = refl;
     }
 
-pub rooms_for-requires-clause-first : goal.rooms_for-requires-clause-first
-rooms_for-requires-clause-first g c =
+pub script_and_rooms-requires-clause-first : goal.script_and_rooms-requires-clause-first
+script_and_rooms-requires-clause-first g c =
     let a = c.args in
     let l = c.loop-gate in
     let n = l.n in
@@ -52,10 +52,10 @@ loop-gate-preserved g c =
     let is : slice_index_or guests n d ≡ c.as_slice-script.result.now = search rules in
     record {
       seating = one_guest names a.desk.now.shared a.desk.now.ring a.desk.now.job a.actors.now.items n d l.heads.seat c.split_guest.new.host l.heads.posts c.split_post.new.pass l.actors.items c.push.new.self.items
-          (record { number = n + 1; script = c.in_ok-copied_script.field-0; seat = c.split_guest.result; pass = c.split_post.result; rooms = c.in_ok-rooms_for.field-0; gate = c.in-Some.gate })
-          i.seating lt refl (c.in_ok-copied_script.ensures ∙ sym is) c.split_guest.ensures.host c.split_guest.ensures.seat c.split_post.ensures.kept c.split_post.ensures.given
+          (record { number = n + 1; script = c.in_ok-copy.copy; seat = c.split_guest.result; pass = c.split_post.result; rooms = c.in_ok-copy.rooms; gate = c.in-Some.gate })
+          i.seating lt refl (c.in_ok-copy.ensures.script ∙ sym is) c.split_guest.ensures.host c.split_guest.ensures.seat c.split_post.ensures.kept c.split_post.ensures.given
           (subst (λ k. StoresInside k (slice_index_or guests n d)) (sym c.requires.count) (c.requires.bounded.stays n d lt)) (c.requires.bounded.short n d lt)
-          (subst (λ s. RoomsFor names (mails_of (n + 1) s) c.in_ok-rooms_for.field-0.items) (sym is) c.in_ok-rooms_for.ensures) c.in_ok-push.ensures.items;
+          (subst (λ s. RoomsFor names (mails_of (n + 1) s) c.in_ok-copy.rooms.items) (sym is) c.in_ok-copy.ensures.rooms) c.in_ok-push.ensures.items;
       counted = omega arith;
       takes = i.takes;
       drawer = i.drawer;

@@ -1,4 +1,4 @@
-use Rattle.std.proofs.Common.{rules, ◌≡◌, ◌+◌, ◌≤◌, length, vec_capacity, refl, ap, ◌∙◌, arith}
+use Rattle.std.proofs.Common.{rules, ◌≡◌, ◌+◌, length, refl, ap, ◌∙◌, arith}
 use Rattle.td_swap.specs.Views.{new_view}
 use Rattle.td_swap.specs.Seats.{SwapState, swap_state}
 use Rattle.td_host_actors.specs.Actors.{service_at}
@@ -24,12 +24,12 @@ loop-gate-preserved g c =
     let a = c.args in
     let l = c.loop-gate in
     let i = l.invariant in
-    let room : length a.desk.now.mails.items ≤ vec_capacity c.in_ok-with_capacity.field-0 = omega (arith, a.desk.now.mails.ok.0, c.in_ok-with_capacity.ensures.capacity) in
+    let r = c.in_ok-frames in
     record {
       n = i.n + 1;
       seated = one_worker a.desk.now.shared a.desk.now.ring (service_at a.desk.now) a.heads.now.seat.view.opened i.n l.heads.seat c.split_reader.new.host l.heads.takes c.split_take.new.pass l.heads.drawer c.split.new.seat l.actors.items c.push.new.self.items
-          (record { seat = c.split_reader.result; pass = c.split_take.result; drawer = c.split.result; swap = c.split-own.result; frames = c.in_ok-frames_for.field-0; replies = c.in_ok-with_capacity.field-0; gate = c.in-Some.gate }) i.seated
-          c.split_reader.ensures.host c.split_reader.ensures.seat c.split_take.ensures.kept c.split_take.ensures.given c.split.ensures.kept c.split.ensures.given (c.split-own.ensures.given ∙ ap (λ (s : SwapState). swap_state s.table (new_view s.view.count)) (i.swap ∙ c.requires.swap)) c.in_ok-frames_for.ensures c.in_ok-with_capacity.ensures.items room c.in_ok-push.ensures.items;
+          (record { seat = c.split_reader.result; pass = c.split_take.result; drawer = c.split.result; swap = c.split-own.result; frames = r.frames; replies = r.replies; gate = c.in-Some.gate }) i.seated
+          c.split_reader.ensures.host c.split_reader.ensures.seat c.split_take.ensures.kept c.split_take.ensures.given c.split.ensures.kept c.split.ensures.given (c.split-own.ensures.given ∙ ap (λ (s : SwapState). swap_state s.table (new_view s.view.count)) (i.swap ∙ c.requires.swap)) r.ensures.armed r.ensures.none r.ensures.room c.in_ok-push.ensures.items;
       counted = let e = ap length c.in-Some.ensures.steps.0 in let f = i.counted in omega arith;
       posts = i.posts;
       swap = c.split-own.ensures.same ∙ i.swap;

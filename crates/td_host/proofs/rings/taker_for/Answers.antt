@@ -16,8 +16,8 @@ bounds-versions-0 g c =
     let some = c.requires.some in
     omega (arith, n, m, some)
 
-pub returns-clause-ready : goal.returns-clause-ready
-returns-clause-ready g c =
+pub returns-in-Ok-rooms_and_takes-clause-ready : goal.returns-in-Ok-rooms_and_takes-clause-ready
+returns-in-Ok-rooms_and_takes-clause-ready g c =
     let a = c.args in
     let desk = a.desk.now in
     let vs : List Version = c.versions-versions.result.now in
@@ -28,7 +28,7 @@ returns-clause-ready g c =
     let first = version_at vs desk.codes.codes 0 v c.versions-versions.ensures.codes (omega (arith, n, m, some)) in
     let r = c.requires.reader in
     let within = c.requires.within.inside in
-    let frames = c.trace_room.ensures ∙ c.in_ok-frame.ensures.armed.trace_room in
+    let frames = c.trace_room-frames.ensures ∙ c.in-Ok.ensures.armed.trace_room in
     let desc_frames = c.trace_room-desc_frames.ensures ∙ (ap (λ (f : FrameView). f.trace_room) c.frame.ensures.frame ∙ c.frame.ensures.armed.trace_room) in
     record {
       own = c.requires.own;
@@ -40,9 +40,9 @@ returns-clause-ready g c =
       none = r.none;
       code = (slice_index_or vs 0 v).code;
       first = first;
-      armed = c.in_ok-frame.ensures.armed;
-      rooms = subst (λ (x : ℕ × ℕ). AreRooms desk.job x.0 x.1 a.ring.most c.in_ok-rooms.rooms.items) (λ i. (frames i, desc_frames i)) c.in_ok-rooms.ensures.rooms;
-      as_many = c.in_ok-rooms.ensures.as_many;
-      empty = c.in_ok-takes.ensures.items;
-      space = let z = c.in_ok-takes.ensures.capacity in omega (arith, z);
+      armed = c.in-Ok.ensures.armed;
+      rooms = subst (λ (x : ℕ × ℕ). AreRooms desk.job x.0 x.1 a.ring.most c.in-Ok-rooms_and_takes.rooms.items) (λ i. (frames i, desc_frames i)) c.in-Ok-rooms_and_takes.ensures.rooms;
+      as_many = c.in-Ok-rooms_and_takes.ensures.as_many;
+      empty = c.in-Ok-rooms_and_takes.ensures.empty;
+      space = c.in-Ok-rooms_and_takes.ensures.space;
     }

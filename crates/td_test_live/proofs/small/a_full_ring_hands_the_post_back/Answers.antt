@@ -6,10 +6,10 @@ use Rattle.td_test_live.proofs.small.a_full_ring_hands_the_post_back.Goals as go
 pub settle-requires-clause-heads : goal.settle-requires-clause-heads
 settle-requires-clause-heads g c =
     let ring = c.in_ok-ring in
-    let puts = put_head_stays c.post-2.result ring.posts c.post-2.new.pass c.in_ok-post.field-0 c.post-2.ensures.posted c.post-2.ensures.same
+    let puts = put_head_stays c.post-first.result ring.posts c.post-first.new.pass c.in_ok-one.one c.post-first.ensures.posted c.post-first.ensures.same
     (subst (λ s. HasHead s.view.put_head) (sym ring.ensures.posts) refl) in
-    let takes = take_head_stays c.take.result ring.takes c.take.new.pass c.take.ensures.taken c.take.ensures.same
+    let takes = take_head_stays c.take-got.result ring.takes c.take-got.new.pass c.take-got.ensures.taken c.take-got.ensures.same
     (subst (λ s. HasHead s.view.take_head) (sym ring.ensures.takes) refl) in (
-      put_head_stays c.post-4.result c.post-2.new.pass c.post-4.new.pass c.in_ok-post-2.field-0 c.post-4.ensures.posted c.post-4.ensures.same puts,
-      take_head_stays c.take-2.result c.take.new.pass c.take-2.new.pass c.take-2.ensures.taken c.take-2.ensures.same takes,
+      put_head_stays c.post-second.result c.post-first.new.pass c.post-second.new.pass c.in_ok-two.two c.post-second.ensures.posted c.post-second.ensures.same puts,
+      take_head_stays c.take-none.result c.take-got.new.pass c.take-none.new.pass c.take-none.ensures.taken c.take-none.ensures.same takes,
     )
