@@ -16,6 +16,7 @@ pub mod laws;
 mod lists;
 pub mod order;
 mod rings;
+mod rooms;
 mod script;
 pub mod serve;
 

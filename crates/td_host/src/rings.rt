@@ -10,8 +10,8 @@ ghost use Rattle.td_host_actors.specs.Actors.{service_at, IsTakerReady};
 ghost use Rattle.td_host.specs.Hosts.{takes_in};
 ghost use Rattle.td_host.specs.Gathered.{host_at, TakersSeated, IsReaderOf, AreReadersOf};
 
-use crate::arm::room_for;
 use crate::gather::Heads;
+use crate::rooms::room_for;
 use std::alloc::{AllocError, Global};
 use std::collections::VecDeque;
 use td_descr::Descr;

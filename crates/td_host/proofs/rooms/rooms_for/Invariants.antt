@@ -2,7 +2,7 @@ use Rattle.std.proofs.Common.{◌≡◌, drop, Some}
 use Rattle.td_posts.specs.declared.mail.Mail.{Mail}
 use Rattle.td_posts.specs.Posts.{all_mails, mail_named}
 use Rattle.td_host.proofs.Arms.{Rooming}
-use Rattle.td_host.proofs.arm.rooms_for.Given as goal
+use Rattle.td_host.proofs.rooms.rooms_for.Given as goal
 
 abbrev pub invariant-loop-step : goal.invariant-loop-step
 invariant-loop-step g l =

@@ -4,7 +4,7 @@ use Rattle.std.proofs.lemmas.List.{length-map}
 use Rattle.td_swap.specs.declared.version.Version.{Version}
 use Rattle.td_swap.specs.Versions.{version_code}
 use Rattle.td_host.proofs.Arms.{code_at, Framing, no_frame, one_frame, all_frames}
-use Rattle.td_host.proofs.arm.frames_for.Goals as goal
+use Rattle.td_host.proofs.rooms.frames_for.Goals as goal
 
 pub loop-version-init : goal.loop-version-init
 loop-version-init c = subst (Framing c.args.codes.now.codes 0) (sym c.new-frames.ensures.items) (no_frame c.args.codes.now.codes)

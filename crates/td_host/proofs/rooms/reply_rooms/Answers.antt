@@ -1,6 +1,6 @@
 use Rattle.std.proofs.Common.{arith}
 use Rattle.std.proofs.lemmas.Nat.{mul-le}
-use Rattle.td_host.proofs.arm.reply_rooms.Goals as goal
+use Rattle.td_host.proofs.rooms.reply_rooms.Goals as goal
 
 pub overflow_mul-most : goal.overflow_mul-most
 overflow_mul-most c =

@@ -5,7 +5,7 @@ use Rattle.td_posts.specs.declared.ring.RingJob.{RingJob}
 use Rattle.td_posts.specs.declared.limits.TheConstants.{MOST_RINGS, MOST_TAKES}
 use Rattle.td_posts.specs.Servable.{IsRingWithin}
 use Rattle.td_host.specs.Hosts.{takes_in}
-use Rattle.td_host.proofs.arm.crew_rooms.Goals as goal
+use Rattle.td_host.proofs.rooms.crew_rooms.Goals as goal
 
 pub reply_rooms-requires-clause-posts : goal.reply_rooms-requires-clause-posts
 reply_rooms-requires-clause-posts g c = omega (arith, c.args.desk.now.mails.ok.0, c.requires.posts)
