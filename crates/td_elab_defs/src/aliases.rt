@@ -100,6 +100,8 @@ pub fn alias(
     check_target(known, &outside, &tree.target, findings);
     check_global(known, &tree.name, findings);
     let meaning = meaning_or_none(alias_meaning(known, &outside, &tree.target));
+    // Where a scope is let go, each of its parts is a step of every way after it. By a call it is one step.
+    drop(outside);
     declare(alloc, known, tree.name.text.as_slice(), meaning)?;
     known.count = count;
     Ok(())

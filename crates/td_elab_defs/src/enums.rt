@@ -110,21 +110,22 @@ fn check_item(
 fn items(
     alloc: Global,
     known: &mut Known,
+    outside: &Scope,
     base: NumberType,
     trees: &[ItemTree],
     findings: &mut Findings,
 ) -> Result<Items<u64>, AllocError>
+    requires { outside.now ≡ no_scope }
     ensures values { IfOk result (λ vs. vs ≡ item_values known.old (Some 0) trees.now) }
     ensures first { OnOk result (findings.new.first ≡ first_of findings.old.first (items_breaches known.old base [] (Some 0) trees.now)) }
     ensures known { OnOk result (known.new ≡ items_after known.old (Some 0) trees.now) }
 {
-    let outside = no_scope(alloc);
     let mut before = Numbers::new(alloc);
     let mut numbers = Items::new(alloc);
     let mut next = Some(0);
     for tree in trees {
-        check_item(known, &outside, base, &before, next, tree, findings);
-        let value = item_value(known, &outside, next, tree);
+        check_item(known, outside, base, &before, next, tree, findings);
+        let value = item_value(known, outside, next, tree);
         let number = number_or_zero(value);
         declare(
             alloc,
@@ -155,13 +156,18 @@ pub fn enumerate(
     check_global(known, &tree.name, findings);
     let meaning = Meaning::Enum(tree.base.number, place);
     declare(alloc, known, tree.name.text.as_slice(), meaning)?;
+    let outside = no_scope(alloc);
     let values = items(
         alloc,
         known,
+        &outside,
         tree.base.number,
         tree.items.as_slice(),
         findings,
-    )?;
+    );
+    // Where a scope is let go, each of its parts is a step of every way after it. By a call it is one step.
+    drop(outside);
+    let values = values?;
     known.listed.push(values)?;
     known.count = count;
     Ok(())

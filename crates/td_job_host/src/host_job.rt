@@ -194,6 +194,38 @@ fn buffer_of(alloc: Global, job: &Value, words: u32) -> Result<Items<u64>, JobEr
     Ok(filled)
 }
 
+/// What each validation of a job without a fault begins with, from an entry point with this definition, what acts on its buffer, and the
+/// buffer's words, this many. `NoMemory`: there was no memory for them, or none for a buffer of so many words with a ring.
+fn parts_of(
+    alloc: Global,
+    job: &Value,
+    definition: Option<&TypeDef>,
+    words: u32,
+) -> Result<(Begins, Actors, Items<u64>), JobError>
+    requires rest { rest_faults words (view job.now) ≡ [] }
+    requires faultless { bytes_faults Key.Buffer (text_of Key.Buffer (view job.now)) ≡ [] }
+    requires words { buffer_words (view job.now) ≡ words }
+    ensures args { IfOk result (λ x. x.0.args ≡ given_args (option_map (λ d. d.now) definition.entry) (view job.now)) }
+    ensures cells { IfOk result (λ x. x.0.cells ≡ length (cells_at (option_map (λ d. d.now) definition.entry))) }
+    ensures rooms { IfOk result (λ x. x.0.rooms ≡ rooms_in (option_map (λ d. d.now) definition.entry)) }
+    ensures guests { IfOk result (λ x. x.1.guests ≡ given_guests (view job.now)) }
+    ensures rings { IfOk result (λ x. x.1.rings ≡ given_rings (view job.now)) }
+    ensures bytes { IfOk result (λ x. 0 < length x.1.rings → 8 * words < 2 ^ 32) }
+    ensures filled { IfOk result (λ x. IsFilled (given_buffer (view job.now)) words x.2) }
+    ensures err { IfErr result (λ e. e ≡ JobError.NoMemory) }
+{
+    let filled = buffer_of(alloc, job, words)?;
+    let begins = begins_of(alloc, job, definition)?;
+    match actors_of(alloc, job, words) {
+        Ok(actors) => Ok((begins, actors, filled)),
+        Err(error) => {
+            drop(begins);
+            drop(filled);
+            Err(error)
+        }
+    }
+}
+
 /// The host job of a parsed text that was found to have no fault. `NoMemory`: there was no memory for it.
 fn made_of(alloc: Global, job: &Value, m: &Module, tested: Tested) -> Result<HostJob, JobError>
     requires good { HasGoodFields m.now (view job.now) tested.entry }
@@ -214,20 +246,23 @@ fn made_of(alloc: Global, job: &Value, m: &Module, tested: Tested) -> Result<Hos
         swaps,
     } = tested;
     let served = served_of(alloc, m, entry, swaps)?;
-    let begins = begins_of(alloc, job, definition_of(m, entry))?;
-    let actors = actors_of(alloc, job, words)?;
-    let filled = buffer_of(alloc, job, words)?;
-    Ok(HostJob {
-        formats: served.formats,
-        entries: served.entries,
-        args: begins.args,
-        cells: begins.cells,
-        rooms: begins.rooms,
-        words: filled,
-        workers,
-        guests: actors.guests,
-        rings: actors.rings,
-    })
+    match parts_of(alloc, job, definition_of(m, entry), words) {
+        Ok((begins, actors, filled)) => Ok(HostJob {
+            formats: served.formats,
+            entries: served.entries,
+            args: begins.args,
+            cells: begins.cells,
+            rooms: begins.rooms,
+            words: filled,
+            workers,
+            guests: actors.guests,
+            rings: actors.rings,
+        }),
+        Err(error) => {
+            drop(served);
+            Err(error)
+        }
+    }
 }
 
 /// The host job of a parsed text, or its first fault. All that is decided without memory is decided before any is taken, swaps apart.

@@ -14,7 +14,7 @@ returns-clause-known c =
     c.in_ok-declare.ensures.known
     ∙ ap (λ t. with_global k t (Enum d.base.number c.in_ok-place.place)) c.as_slice.ensures
     ∙ ap (λ p. with_global k d.name.text (Enum d.base.number p)) place in
-    enum_known k d c.items.new.known c.in_ok-count.count c.in_ok-values.values c.push.new.self
+    enum_known k d c.items-values.new.known c.in_ok-count.count c.in_ok-values.values c.push.new.self
     (c.in_ok-values.ensures.known
     ∙ ap (λ u. items_after u (Some 0) c.as_slice-2.result.now) named
     ∙ ap (λ is. items_after (with_enum_name k d) (Some 0) is) c.as_slice-2.ensures)

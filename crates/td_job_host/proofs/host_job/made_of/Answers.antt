@@ -7,11 +7,17 @@ use Rattle.td_job_host.specs.HostJobs.{given_buffer, rest_faults, rooms_in}
 use Rattle.td_job_host.proofs.Naming.{none_of_rest}
 use Rattle.td_job_host.proofs.host_job.made_of.Goals as goal
 
-pub actors_of-requires : goal.actors_of-requires
-actors_of-requires c = subst (λ (n : ℕ). rest_faults n (view c.args.job.now) ≡ []) c.requires.words c.requires.rest
+pub parts_of-requires-clause-rest : goal.parts_of-requires-clause-rest
+parts_of-requires-clause-rest c = subst (λ (n : ℕ). rest_faults n (view c.args.job.now) ≡ []) c.requires.words c.requires.rest
 
-pub returns-clause-ok : goal.returns-clause-ok
-returns-clause-ok c =
+pub parts_of-requires-clause-faultless : goal.parts_of-requires-clause-faultless
+parts_of-requires-clause-faultless c = c.requires.good.buffer
+
+pub parts_of-requires-clause-words : goal.parts_of-requires-clause-words
+parts_of-requires-clause-words c = c.requires.words
+
+pub returns-in-Ok-clause-ok : goal.returns-in-Ok-clause-ok
+returns-in-Ok-clause-ok c =
     let m = c.args.m.now in
     let job = view c.args.job.now in
     let entry = c.args.tested.entry in
@@ -26,17 +32,11 @@ returns-clause-ok c =
       after = c.requires.after;
       by = c.in_ok-served.ensures.formats;
       begins = c.in_ok-served.ensures.entries;
-      args = c.in_ok-begins.ensures.args ∙ ap (λ d. given_args d job) own;
-      cells = c.in_ok-begins.ensures.cells ∙ ap (λ d. length (cells_at d)) own;
-      roomy = c.in_ok-begins.ensures.rooms ∙ ap rooms_in own;
-      filled = subst (λ (n : ℕ). IsFilled (given_buffer job) n c.in_ok-filled.filled) (sym c.requires.words) c.in_ok-filled.ensures.ok;
+      args = c.in-Ok.ensures.args ∙ ap (λ d. given_args d job) own;
+      cells = c.in-Ok.ensures.cells ∙ ap (λ d. length (cells_at d)) own;
+      roomy = c.in-Ok.ensures.rooms ∙ ap rooms_in own;
+      filled = subst (λ (n : ℕ). IsFilled (given_buffer job) n c.in-Ok.filled) (sym c.requires.words) c.in-Ok.ensures.filled;
       worked = c.requires.workers;
-      scripted = c.in_ok-actors.ensures.guests;
-      looked_at = c.in_ok-actors.ensures.rings;
+      scripted = c.in-Ok.ensures.guests;
+      looked_at = c.in-Ok.ensures.rings;
     }
-
-pub buffer_of-requires-clause-faultless : goal.buffer_of-requires-clause-faultless
-buffer_of-requires-clause-faultless c = c.requires.good.buffer
-
-pub buffer_of-requires-clause-words : goal.buffer_of-requires-clause-words
-buffer_of-requires-clause-words c = c.requires.words
