@@ -1,6 +1,6 @@
 #!/usr/bin/env bash
 # Runs the proved program with these words and this input. Where it isn't built yet, or a source of any crate but td_test_tool is newer,
-# it is proved and built first; that is said on standard error, and takes half an hour and more the first time. How far it is, is
+# it is proved and built first; that is said on standard error, and takes an hour and more the first time. How far it is, is
 # said there, too: every ten seconds in one line on a terminal (or so many as TD_SECONDS says), else each fifth minute at most.
 set -u
 top=$(dirname "$(readlink -f "$0")")
@@ -70,7 +70,7 @@ tell_progress() {
 build() {
     local log teller
     log=$(mktemp)
-    echo "td: proving and building the program first, half an hour and more where nothing is proved yet; the log: $log" >&2
+    echo "td: proving and building the program first, an hour and more where nothing is proved yet; the log: $log" >&2
     rm -f "$program"
     tell_progress &
     teller=$!

@@ -22,7 +22,7 @@ typedef struct {
   uint64_t size;          /* of the image, where it is written or has no room */
   uint64_t place;         /* where the text is refused: the byte, from 0; at an early end the text's length */
   uint64_t line, column;  /* its line, and its byte in the line, both from 1 */
-  char code[8];           /* as a string: L1 to A1, as `td check` prints it; docs/ERRORS.md has all */
+  char code[8];           /* as a string: L1 to A2, as `td check` prints it; docs/ERRORS.md has all */
   char words[32];         /* likewise: why */
 } td_packed;
 

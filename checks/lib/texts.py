@@ -41,7 +41,7 @@ def found_inputs():
         if os.path.isfile(path) and not path.endswith(".md"):
             with open(path, "rb") as file:
                 yield (os.path.relpath(path, TOP), *parts(file.read()))
-    for path in sorted(glob.glob(os.path.join(TOP, "examples/*/*.3d"))):
+    for path in sorted(glob.glob(os.path.join(TOP, "examples/*/*.3d")) + glob.glob(os.path.join(TOP, "formats/*/*.3d"))):
         with open(path, "rb") as file:
             yield os.path.relpath(path, TOP), file.read(), None
     maker = Maker(SEED)

@@ -19,11 +19,11 @@ pub enum TypeKind {
     AllBytes,
     /// `all_zeros`
     AllZeros,
-    /// `NAME ["(" expr { "," expr } ")"]`, a name and its arguments. Where there are no parentheses, none.
+    /// `qualified ["(" expr { "," expr } ")"]`, a name and its arguments. Where there are no parentheses, none.
     Named(Text, Items<Expr>),
 }
 
-/// A type, and the span of its first token.
+/// A type, and the span of its word or of its name, a dot and a part's name included.
 #[derive(Drop)]
 pub struct TypeTree {
     pub span: Span,

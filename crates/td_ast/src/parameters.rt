@@ -5,7 +5,7 @@ use crate::names::{ConstTree, Name, NumberTree, PlainTree};
 use crate::token::Span;
 use td_num::items::Items;
 
-/// `INT | "PUINT8" | NAME`, what a `mutable` parameter points to.
+/// `INT | "PUINT8" | qualified`, what a `mutable` parameter points to.
 #[derive(Drop)]
 pub enum TargetTree {
     Number(NumberTree),

@@ -123,7 +123,7 @@ pub record Answered (job : HostJob) (r : Reply) : Type 0 where
   pub reply : IsReplyTo job mail r
 
 -- the worker drew tickets below the count of posts, and for each of those took one post and answered it, with loads of its own
--- seat, under the version that it then loaded, one load for each; it ended when it drew one that isn't below the count, or had
+-- seat, under the version that it then loaded, one load for each; it ended when it had drawn one or more that aren't below the count, or had
 -- answered as many posts as there are
 pub record RanWorker (job : HostJob) (count : ℕ) (seat seat' : SeatState) (pass pass' : PassState) (drawer drawer' : DrawerState) (swap swap' : SwapState) (replies : List Reply) : Type 0 where
   pub steps : List Access

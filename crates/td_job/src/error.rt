@@ -95,7 +95,7 @@ impl Key {
 pub enum JobRule {
     /// The bytes are not JSON.
     NotJson,
-    /// A needed field is missing or has another form, or a field has an unknown name.
+    /// A needed field is missing or has another form, a field has an unknown name, or one stands beside a `value`.
     Form,
     /// No entry point has the name.
     NoEntry,

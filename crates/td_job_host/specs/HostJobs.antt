@@ -152,7 +152,7 @@ pub record HasVersionValues (j : HostJob) (f : Module) (g : Entry) : Type 0 wher
 abbrev pub IsOrStands : Module → Module → Type 0
 IsOrStands m f = (f ≡ m) ⊎ ((text : List ℕ) × IsModuleText text f)
 
--- version 0 is the module itself, each other one is a module for which a text stands, and each version has its values
+-- version 0 is the module itself, each other one is that, too, or a module for which a text stands, and each version has its values
 pub record HasHostValues (m : Module) (j : HostJob) : Type 0 where
   pub first : slice_get j.formats 0 ≡ Some m
   pub as_many : length j.entries ≡ length j.formats

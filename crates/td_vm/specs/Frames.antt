@@ -41,7 +41,8 @@ pub record AreBegins (c : Parts) (begins : List ℕ) : Type 0 where
 abbrev pub memory_for : Parts → FrameMemory
 memory_for c = record { registers = most_need (registers c) c; places = most_need (cells c) c; cells = most_entry_cells c; trace = most_need level c }
 
--- a frame has the room that this code needs, and no more; and its lists have memory for just that, so none of them was ever let grow
+-- a frame has the room that this code needs, and no more; and its lists of registers, places, cells and frames have memory for just that, so
+-- none of these was ever let grow
 pub record IsArmed (c : Parts) (f : FrameView) : Type 0 where
   pub begins : AreBegins c f.begins
   pub register_room : f.register_room ≡ most_need (registers c) c
