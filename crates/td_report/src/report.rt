@@ -321,7 +321,7 @@ fn report_by_line<O: Sink>(
 
 /// Writes the report of a run: the bytes that were written, where the message is made of a value, how it ended, the frames of
 /// its failure by the names of the module, the cells of the entry point, what its copy buffers hold, and the loads. A report of at
-/// most 4,096 bytes goes out by one write; of a longer one each line but those of loads, which are gathered in pages of as many
+/// most 4,096 bytes goes out by one write; of a longer one the loads, and the digits of bytes, are gathered in pages of as many
 /// bytes. Takes no memory.
 ///
 /// `WriteFault`: a write failed. What went out is a prefix of the report.
