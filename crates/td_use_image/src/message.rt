@@ -134,6 +134,7 @@ pub fn validate_message(
     }
     let code = match read_image(alloc, image) {
         Ok(code) => code,
+        Err(ImageError::NoMemory) => return Err(AnswerError::NoMemory),
         Err(error) => return Err(AnswerError::Image(error)),
     };
     let Some(entry) = entry_in(code.code(), name) else {
