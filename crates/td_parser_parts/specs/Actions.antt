@@ -37,6 +37,10 @@ store = (terminal kinds.Star then name then terminal kinds.Assign then assigned 
 abbrev pub store_field : Grammar Statement
 store_field = (name then terminal kinds.Arrow then name then terminal kinds.Assign then assigned then terminal kinds.Semicolon) making λ (cells, (arrow, (field, (assign, (value, end))))). StoreField (over cells.span end) cells field value
 
+-- "=" "*" NAME ";"
+abbrev pub load : Grammar (Span × (Span × (Name × Span)))
+load = terminal kinds.Assign then terminal kinds.Star then name then terminal kinds.Semicolon
+
 abbrev pub variable : Grammar Statement
 variable = (terminal kinds.Var then name then terminal kinds.Assign then terminal kinds.Star then name then terminal kinds.Semicolon) making λ (at, (local, (assign, (star, (cell, end))))). Var (over at end) local star cell
 
@@ -52,6 +56,14 @@ aborting = (terminal kinds.Abort then terminal kinds.Semicolon) making λ (at, e
 -- "=" rhs ";"
 abbrev pub assignment : Grammar (Span × (Assigned × Span))
 assignment = terminal kinds.Assign then assigned then terminal kinds.Semicolon
+
+-- "->" NAME "=" rhs ";"
+abbrev pub field_assignment : Grammar (Span × (Name × (Span × (Assigned × Span))))
+field_assignment = terminal kinds.Arrow then name then assignment
+
+-- { stmt } "}"
+abbrev pub braced_end_at : ℕ → Grammar (List Statement × Span)
+braced_end_at n = all_of (statement n) then terminal kinds.CloseBrace
 
 abbrev pub statement_at : ℕ → Grammar Statement
 statement_at n = statement_from (braced_at n)

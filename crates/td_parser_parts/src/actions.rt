@@ -13,6 +13,7 @@ ghost use Rattle.td_parser_parts.specs.Actions as pieces;
 use std::alloc::Global;
 use td_ast::actions::{ActionKind, ActionTree, Assigned, Block, Stmt, StmtKind};
 use td_ast::expressions::Expr;
+use td_ast::names::Name;
 use td_ast::token::{Span, Token, TokenKind};
 use td_grammar::limits::BRACES;
 use td_parser_expr::failure::Failure;
@@ -81,12 +82,37 @@ fn store(alloc: Global, tokens: &[Token]) -> Result<(Stmt, &[Token]), Failure<'_
 {
     let (at, rest) = expect(tokens, &TokenKind::Star)?;
     let (cell, rest) = name(alloc, rest)?;
-    let (_, value, end, rest) = assignment(alloc, rest)?;
-    let statement = Stmt {
-        span: over(at, end),
-        kind: StmtKind::Store(cell, value),
-    };
-    Ok((statement, rest))
+    match assignment(alloc, rest) {
+        Ok((_, value, end, rest)) => {
+            let statement = Stmt {
+                span: over(at, end),
+                kind: StmtKind::Store(cell, value),
+            };
+            Ok((statement, rest))
+        }
+        Err(failure) => {
+            drop(cell);
+            Err(failure)
+        }
+    }
+}
+
+// "->" NAME "=" rhs ";"
+fn field_assignment(
+    alloc: Global,
+    tokens: &[Token],
+) -> Result<(Span, Name, Span, Assigned, Span, &[Token]), Failure<'_>>
+    ensures { Gives (λ x. Got (x.0, (x.1, (x.2, (x.3, x.4)))) x.5.now) result (pieces.field_assignment.reader.read tokens.now) }
+{
+    let (arrow, rest) = expect(tokens, &TokenKind::Arrow)?;
+    let (field, rest) = name(alloc, rest)?;
+    match assignment(alloc, rest) {
+        Ok((assign, value, end, rest)) => Ok((arrow, field, assign, value, end, rest)),
+        Err(failure) => {
+            drop(field);
+            Err(failure)
+        }
+    }
 }
 
 // NAME "->" NAME "=" rhs ";"
@@ -94,14 +120,35 @@ fn store_field(alloc: Global, tokens: &[Token]) -> Result<(Stmt, &[Token]), Fail
     ensures { Gives (λ x. Got x.0 x.1.now) result (pieces.store_field.reader.read tokens.now) }
 {
     let (cells, rest) = name(alloc, tokens)?;
-    let (_, rest) = expect(rest, &TokenKind::Arrow)?;
-    let (field, rest) = name(alloc, rest)?;
-    let (_, value, end, rest) = assignment(alloc, rest)?;
-    let statement = Stmt {
-        span: over(cells.span, end),
-        kind: StmtKind::StoreField(cells, field, value),
-    };
-    Ok((statement, rest))
+    match field_assignment(alloc, rest) {
+        Ok((_, field, _, value, end, rest)) => {
+            let statement = Stmt {
+                span: over(cells.span, end),
+                kind: StmtKind::StoreField(cells, field, value),
+            };
+            Ok((statement, rest))
+        }
+        Err(failure) => {
+            drop(cells);
+            Err(failure)
+        }
+    }
+}
+
+// "=" "*" NAME ";"
+fn load(alloc: Global, tokens: &[Token]) -> Result<(Span, Span, Name, Span, &[Token]), Failure<'_>>
+    ensures { Gives (λ x. Got (x.0, (x.1, (x.2, x.3))) x.4.now) result (pieces.load.reader.read tokens.now) }
+{
+    let (assign, rest) = expect(tokens, &TokenKind::Assign)?;
+    let (star, rest) = expect(rest, &TokenKind::Star)?;
+    let (cell, rest) = name(alloc, rest)?;
+    match expect(rest, &TokenKind::Semicolon) {
+        Ok((end, rest)) => Ok((assign, star, cell, end, rest)),
+        Err(failure) => {
+            drop(cell);
+            Err(failure)
+        }
+    }
 }
 
 // "var" NAME "=" "*" NAME ";"
@@ -110,15 +157,19 @@ fn variable(alloc: Global, tokens: &[Token]) -> Result<(Stmt, &[Token]), Failure
 {
     let (at, rest) = expect(tokens, &TokenKind::Var)?;
     let (local, rest) = name(alloc, rest)?;
-    let (_, rest) = expect(rest, &TokenKind::Assign)?;
-    let (star, rest) = expect(rest, &TokenKind::Star)?;
-    let (cell, rest) = name(alloc, rest)?;
-    let (end, rest) = expect(rest, &TokenKind::Semicolon)?;
-    let statement = Stmt {
-        span: over(at, end),
-        kind: StmtKind::Var(local, star, cell),
-    };
-    Ok((statement, rest))
+    match load(alloc, rest) {
+        Ok((_, star, cell, end, rest)) => {
+            let statement = Stmt {
+                span: over(at, end),
+                kind: StmtKind::Var(local, star, cell),
+            };
+            Ok((statement, rest))
+        }
+        Err(failure) => {
+            drop(local);
+            Err(failure)
+        }
+    }
 }
 
 // "return" expr ";"
@@ -170,6 +221,27 @@ fn condition(alloc: Global, tokens: &[Token]) -> Result<(Span, Expr, Span, &[Tok
     }
 }
 
+// { stmt } "}"
+#[cycle(statement)]
+fn braced_end(
+    alloc: Global,
+    braces: u32,
+    tokens: &[Token],
+) -> Result<(Block, Span, &[Token]), Failure<'_>>
+    ensures { Gives (λ x. Got (x.0, x.1) x.2.now) result ((pieces.braced_end_at braces).reader.read tokens.now) }
+{
+    match statements(alloc, braces, tokens) {
+        Ok((block, rest)) => match expect(rest, &TokenKind::CloseBrace) {
+            Ok((closing, rest)) => Ok((block, closing, rest)),
+            Err(failure) => {
+                drop(block);
+                Err(failure)
+            }
+        },
+        Err(failure) => Err(failure),
+    }
+}
+
 /// `"{" { stmt } "}"`, and the span of its last token, where so many braces may be open.
 #[cycle(statement)]
 fn braced(
@@ -186,9 +258,7 @@ fn braced(
         return Err(Failure::Unexpected(tokens));
     }
     let (_, rest) = expect(tokens, &TokenKind::OpenBrace)?;
-    let (block, rest) = statements(alloc, braces - 1, rest)?;
-    let (closing, rest) = expect(rest, &TokenKind::CloseBrace)?;
-    Ok((block, closing, rest))
+    braced_end(alloc, braces - 1, rest)
 }
 
 // [ "else" braced ]
@@ -204,8 +274,10 @@ fn maybe_other(
         return Ok((None, tokens));
     }
     let (_, rest) = expect(tokens, &TokenKind::Else)?;
-    let (block, closing, rest) = braced(alloc, braces, rest)?;
-    Ok((Some((block, closing)), rest))
+    match braced(alloc, braces, rest) {
+        Ok((block, closing, rest)) => Ok((Some((block, closing)), rest)),
+        Err(failure) => Err(failure),
+    }
 }
 
 fn if_of(
@@ -239,8 +311,13 @@ fn branches(
     ensures { Gives (λ x. Got ((x.0, x.1), x.2) x.3.now) result ((pieces.branches_at braces).reader.read tokens.now) }
 {
     let (block, closing, rest) = braced(alloc, braces, tokens)?;
-    let (other, rest) = maybe_other(alloc, braces, rest)?;
-    Ok((block, closing, other, rest))
+    match maybe_other(alloc, braces, rest) {
+        Ok((other, rest)) => Ok((block, closing, other, rest)),
+        Err(failure) => {
+            drop(block);
+            Err(failure)
+        }
+    }
 }
 
 // "if" "(" expr ")" braced [ "else" braced ]
@@ -371,8 +448,7 @@ fn done(alloc: Global, tokens: &[Token]) -> Result<(ActionTree, &[Token]), Failu
     ensures { Gives (λ x. Got x.0 x.1.now) result (pieces.done.reader.read tokens.now) }
 {
     let (kind, span, rest) = action_word(tokens)?;
-    let (statements, rest) = statements(alloc, BRACES, rest)?;
-    let (_, rest) = expect(rest, &TokenKind::CloseBrace)?;
+    let (statements, _, rest) = braced_end(alloc, BRACES, rest)?;
     let action = ActionTree::Done {
         kind,
         span,

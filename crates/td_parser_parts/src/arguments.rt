@@ -59,6 +59,12 @@ pub fn arguments(alloc: Global, tokens: &[Token]) -> Result<(Items<Expr>, &[Toke
     }
     let (_, rest) = expect(tokens, &TokenKind::OpenParen)?;
     let (arguments, rest) = parted_arguments(alloc, rest)?;
-    let (_, rest) = expect(rest, &TokenKind::CloseParen)?;
-    Ok((arguments, rest))
+    match expect(rest, &TokenKind::CloseParen) {
+        Ok((_, rest)) => Ok((arguments, rest)),
+        // by a call, as each way through its parts, where it is let go, is a way through the function
+        Err(failure) => {
+            drop(arguments);
+            Err(failure)
+        }
+    }
 }

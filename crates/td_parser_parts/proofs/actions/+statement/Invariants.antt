@@ -25,6 +25,9 @@ decreases-statement l = 10 * l.braces + 5
 abbrev pub decreases-statements : goal.decreases-statements
 decreases-statements l = 10 * l.braces + 6
 
+abbrev pub decreases-braced_end : goal.decreases-braced_end
+decreases-braced_end l = 10 * l.braces + 7
+
 abbrev pub invariant-statements-loop-alloc : goal.invariant-statements-loop-alloc
 invariant-statements-loop-alloc l = with_all l.block ((all_of (productions.statement l.braces)).reader.read l.rest) ≡ (all_of (productions.statement l.braces)).reader.read l.tokens
 
