@@ -1,6 +1,8 @@
 -- How the machine leaves a stretch of code, as an exit of run; of use in this crate alone.
 use Rattle.std.specs.Prelude.{◌≡◌, ℕ, ◌≤◌, List, take, length}
 use Rattle.td_core.specs.declared.outcome.TraceFrame.{TraceFrame}
+use Rattle.td_core.specs.declared.outcome.Verdict.{Verdict}
+use Rattle.td_core.specs.declared.outcome.Verdict.TheVariants.{Accept, Reject}
 use Rattle.td_ir.specs.State.{State, Way, Returned, Turned, Failed, Stuck, Exit, after}
 use Rattle.td_vm_step.specs.declared.activation.TraceRoom.{TraceRoom}
 use Rattle.td_vm_step.specs.declared.activation.BlockExit.{BlockExit}
@@ -22,6 +24,12 @@ abbrev pub call_way : BlockExit → ℕ → List ℕ → List TraceFrame → Way
 call_way exit.Returned pos cells trace = Returned pos cells
 call_way exit.Turned pos cells trace = Stuck
 call_way (exit.Failed reason at) pos cells trace = Failed reason at trace cells
+
+-- the verdict where a whole routine is left so, at this position; it isn't left as a turn is
+abbrev pub verdict_by : BlockExit → ℕ → Verdict
+verdict_by exit.Returned pos = Accept pos
+verdict_by exit.Turned pos = Accept pos
+verdict_by (exit.Failed reason at) pos = Reject reason at
 
 -- the exit of a whole loop, which is that of what stands behind it where no turn fails
 abbrev pub loop_exit : BlockExit → (State → Exit) → State → List TraceFrame → List ℕ → ℕ → Exit

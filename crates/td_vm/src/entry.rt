@@ -8,7 +8,7 @@ ghost use Rattle.td_stream.specs.Layouts.{count_in};
 ghost use Rattle.td_stream.specs.Loads.{IsFetchedOnce};
 ghost use Rattle.td_stream.specs.Copies.{rooms_of, held_by, empty_with};
 ghost use Rattle.td_vm_step.specs.Stepping.{IsLent};
-ghost use Rattle.td_vm.specs.Exits.{frames_of};
+ghost use Rattle.td_vm.specs.Exits.{frames_of, verdict_by, NotTurned};
 ghost use Rattle.td_vm.specs.Outcomes.{IsCodeRun};
 ghost use Rattle.td_vm.specs.Machine.{HasEntryRoom, IsKept, AreRoomy};
 
@@ -30,6 +30,18 @@ fn set_own_places(mine: &mut [usize])
 {
     for i in 0..mine.len() {
         mine[i] = i;
+    }
+}
+
+// The verdict where a whole routine was left so, at that position.
+fn verdict_of(exit: BlockExit, pos: u32) -> Verdict
+    requires { NotTurned exit }
+    ensures { result ≡ verdict_by exit pos }
+{
+    match exit {
+        BlockExit::Returned => Verdict::Accept { pos },
+        BlockExit::Turned => unreachable!(),
+        BlockExit::Failed { reason, pos } => Verdict::Reject { reason, pos },
     }
 }
 
@@ -95,9 +107,6 @@ pub fn run_entry<W: Words, L: Ledger, C: Counter>(
         places: rest_places,
         registers: rest,
     };
-    match run_block(&whole, &mut free, mine, slate, &mut act, &mut stream, steps) {
-        BlockExit::Returned => Verdict::Accept { pos: stream.pos() },
-        BlockExit::Turned => unreachable!(),
-        BlockExit::Failed { reason, pos } => Verdict::Reject { reason, pos },
-    }
+    let exit = run_block(&whole, &mut free, mine, slate, &mut act, &mut stream, steps);
+    verdict_of(exit, stream.pos())
 }

@@ -5,11 +5,12 @@ ghost use Rattle.td_ir.specs.declared.tables.Parts as tables;
 ghost use Rattle.td_stream.specs.Copies.{empty_with};
 ghost use Rattle.td_ir.specs.Entries.{Fits, buffers_of, opened_by};
 ghost use Rattle.td_ir.specs.Run.{run};
+ghost use Rattle.td_ir.specs.WellFormed.{IsCode};
 ghost use Rattle.td_stream.specs.Layouts.{count_in};
 ghost use Rattle.td_stream.specs.Loads.{IsFetchedOnce};
-ghost use Rattle.td_vm.specs.Frames.{IsArmed, outcome_in};
+ghost use Rattle.td_vm.specs.Frames.{AreBegins, IsArmed, outcome_in};
 ghost use Rattle.td_vm.specs.Machine.{IsRunnable};
-ghost use Rattle.td_vm.specs.Need.{most_rooms};
+ghost use Rattle.td_vm.specs.Need.{most_need, most_rooms, registers as registers_in, cells as cells_in, level as levels_in};
 ghost use Rattle.td_vm.specs.Outcomes.{IsCodeRun};
 
 use crate::arm::{NeedKind, begins_of, buffer_count, most_cells, need_of, rooms_for};
@@ -99,6 +100,102 @@ fn filled<T: Copy>(alloc: Global, element: T, count: usize) -> Result<Vec<T>, Al
     Ok(list)
 }
 
+// What the chains of calls of this code need, each of the kinds.
+#[derive(Clone, Copy)]
+struct Needs {
+    registers: u64,
+    places: u64,
+    levels: u64,
+}
+
+// What the chains of calls need, by where each routine begins. `AllocError`: there was no memory for a table of them.
+fn needs_of(alloc: Global, parts: &Parts, begins: &[usize]) -> Result<Needs, AllocError>
+    requires runnable { IsRunnable parts.now }
+    requires begins { AreBegins parts.now begins.now }
+    ensures registers { IfOk result (λ needs. needs.registers ≡ most_need (registers_in parts.now) parts.now) }
+    ensures places { IfOk result (λ needs. needs.places ≡ most_need (cells_in parts.now) parts.now) }
+    ensures levels { IfOk result (λ needs. needs.levels ≡ most_need levels_in parts.now) }
+{
+    let registers = need_of(alloc, parts, begins, NeedKind::Registers)?;
+    let places = need_of(alloc, parts, begins, NeedKind::Cells)?;
+    let levels = need_of(alloc, parts, begins, NeedKind::Levels)?;
+    Ok(Needs {
+        registers,
+        places,
+        levels,
+    })
+}
+
+// A trace of no frames, and room and memory for just so many. `AllocError`: there was none.
+fn trace_for(alloc: Global, levels: u64) -> Result<TraceRoom, AllocError>
+    ensures none { IfOk result (λ trace. trace.count ≡ 0) }
+    ensures room { IfOk result (λ trace. size_of trace.frames.items ≡ levels) }
+    ensures memory { IfOk result (λ trace. vec_capacity trace.frames ≡ levels) }
+{
+    let empty = TraceFrame {
+        ty: NameId { number: 0 },
+        field: Spot::Where,
+        reason: Reason::NotEnough,
+        start: 0,
+    };
+    let frames = filled(alloc, empty, levels as usize)?;
+    Ok(TraceRoom { frames, count: 0 })
+}
+
+// The lists of numbers of a frame, and its trace.
+#[derive(Drop)]
+struct Lists {
+    registers: Vec<u64>,
+    places: Vec<usize>,
+    cells: Vec<u64>,
+    trace: TraceRoom,
+}
+
+// Lists that are as long as is needed, with so many cells, and memory for just that; and a trace of no frames. `AllocError`: there was no
+// memory for them.
+fn lists_for(alloc: Global, needs: Needs, cells: u64) -> Result<Lists, AllocError>
+    ensures registers { IfOk result (λ lists. size_of lists.registers.items ≡ needs.registers) }
+    ensures places { IfOk result (λ lists. size_of lists.places.items ≡ needs.places) }
+    ensures cells { IfOk result (λ lists. size_of lists.cells.items ≡ cells) }
+    ensures register_memory { IfOk result (λ lists. vec_capacity lists.registers ≡ needs.registers) }
+    ensures place_memory { IfOk result (λ lists. vec_capacity lists.places ≡ needs.places) }
+    ensures cell_memory { IfOk result (λ lists. vec_capacity lists.cells ≡ cells) }
+    ensures frames { IfOk result (λ lists. lists.trace.count ≡ 0) }
+    ensures levels { IfOk result (λ lists. size_of lists.trace.frames.items ≡ needs.levels) }
+    ensures level_memory { IfOk result (λ lists. vec_capacity lists.trace.frames ≡ needs.levels) }
+{
+    let registers = filled(alloc, 0, needs.registers as usize)?;
+    let places = filled(alloc, 0, needs.places as usize)?;
+    let cells = filled(alloc, 0, cells as usize)?;
+    let trace = trace_for(alloc, needs.levels)?;
+    Ok(Lists {
+        registers,
+        places,
+        cells,
+        trace,
+    })
+}
+
+// Buffers for copies, and no lists, with memory for one of what each of them holds.
+#[derive(Drop)]
+struct CopyRoom {
+    copies: Copies,
+    kept: Vec<Items<u8>>,
+}
+
+// Empty buffers, place by place as large as any entry point's. `AllocError`: there was no memory for them.
+fn copies_for(alloc: Global, parts: &Parts) -> Result<CopyRoom, AllocError>
+    requires { IsCode parts.now }
+    ensures copies { IfOk result (λ room. room.copies.buffers.items ≡ map empty_with (most_rooms parts.now)) }
+    ensures none { IfOk result (λ room. room.kept.items ≡ []) }
+    ensures memory { IfOk result (λ room. size_of room.copies.buffers.items ≤ vec_capacity room.kept) }
+{
+    let rooms = rooms_for(alloc, parts)?;
+    let kept = Vec::with_capacity(alloc, rooms.len())?;
+    let copies = Copies::with_rooms(alloc, &rooms)?;
+    Ok(CopyRoom { copies, kept })
+}
+
 // Puts values at the front of the cells.
 fn fill(cells: &mut [u64], values: &[u64])
     requires { size_of values.now ≤ size_of cells.old }
@@ -130,29 +227,25 @@ impl Frame {
     {
         let parts = runnable(code);
         let begins = begins_of(alloc, parts)?;
-        let registers = need_of(alloc, parts, &begins, NeedKind::Registers)?;
-        let places = need_of(alloc, parts, &begins, NeedKind::Cells)?;
-        let levels = need_of(alloc, parts, &begins, NeedKind::Levels)?;
-        let rooms = rooms_for(alloc, parts)?;
-        let empty = TraceFrame {
-            ty: NameId { number: 0 },
-            field: Spot::Where,
-            reason: Reason::NotEnough,
-            start: 0,
-        };
-        Ok(Frame {
-            begins,
-            registers: filled(alloc, 0, registers as usize)?,
-            places: filled(alloc, 0, places as usize)?,
-            cells: filled(alloc, 0, most_cells(parts) as usize)?,
-            count: 0,
-            trace: TraceRoom {
-                frames: filled(alloc, empty, levels as usize)?,
+        let needs = needs_of(alloc, parts, &begins)?;
+        let lists = lists_for(alloc, needs, most_cells(parts))?;
+        match copies_for(alloc, parts) {
+            Ok(room) => Ok(Frame {
+                begins,
+                registers: lists.registers,
+                places: lists.places,
+                cells: lists.cells,
                 count: 0,
-            },
-            copies: Copies::with_rooms(alloc, &rooms)?,
-            kept: Vec::with_capacity(alloc, rooms.len())?,
-        })
+                trace: lists.trace,
+                copies: room.copies,
+                kept: room.kept,
+            }),
+            Err(error) => {
+                // Let go by a call: what has many parts is so in one step.
+                drop(lists);
+                Err(error)
+            }
+        }
     }
 
     /// The cells with which the next validation begins, no more than some entry point of the code has. Takes no memory.

@@ -4,13 +4,13 @@ use Rattle.td_image.specs.Answer as answer
 use Rattle.td_image.proofs.Answering.{verifier_told}
 use Rattle.td_image.proofs.image.verified_of.Goals as goal
 
-pub returns-clause-refused : goal.returns-clause-refused
-returns-clause-refused c =
+pub returns-in-Err-clause-refused : goal.returns-in-Err-clause-refused
+returns-in-Err-clause-refused c =
     subst (λ (e : ImageError). answer.IsRefused c.args.bytes.now e) (sym c.of_verify_error.ensures)
     (verifier_told c.args.bytes.now c.in_ok-code.code c.in-Err.error c.in_ok-code.ensures.found c.in-Err.ensures.refused.1)
 
-pub returns-clause-memory : goal.returns-clause-memory
-returns-clause-memory c = λ h. c.in_ok-code.ensures.header
+pub returns-in-Err-clause-memory : goal.returns-in-Err-clause-memory
+returns-in-Err-clause-memory c = λ h. c.in_ok-code.ensures.header
 
-pub returns-clause-rows : goal.returns-clause-rows
-returns-clause-rows c = λ h. inr (c.in_ok-code.code, c.in_ok-code.ensures.found)
+pub returns-in-Err-clause-rows : goal.returns-in-Err-clause-rows
+returns-in-Err-clause-rows c = λ h. inr (c.in_ok-code.code, c.in_ok-code.ensures.found)

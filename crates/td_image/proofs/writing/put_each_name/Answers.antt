@@ -1,6 +1,6 @@
 use Rattle.td_image.specs.Rows as rows
 use Rattle.td_image.proofs.RowByRow.{one_more}
-use Rattle.td_image.proofs.writing.put_names.Goals as goal
+use Rattle.td_image.proofs.writing.put_each_name.Goals as goal
 
 pub loop-row-preserved : goal.loop-row-preserved
 loop-row-preserved c =

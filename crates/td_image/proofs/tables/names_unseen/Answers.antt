@@ -4,7 +4,7 @@ use Rattle.td_image.specs.Image as format
 use Rattle.std.proofs.lemmas.Result.{err_from_is_err_and}
 use Rattle.td_image.proofs.Loop.{goes_on, ends, is_done}
 use Rattle.td_image.proofs.Kept.{first_row, memory_where}
-use Rattle.td_image.proofs.tables.names_of.Goals as goal
+use Rattle.td_image.proofs.tables.names_unseen.Goals as goal
 
 pub returns-in_err-row-clause-read : goal.returns-in_err-row-clause-read
 returns-in_err-row-clause-read c =
