@@ -3,7 +3,7 @@
 use std::alloc::{AllocError, AllocFailed};
 
 /// Which field has a value that isn't allowed: the first four bytes, the version, or another.
-#[derive(Clone, Copy, PartialEq, Eq, Debug, Drop)]
+#[derive(Clone, Copy, Drop)]
 pub enum Cause {
     Magic,
     Version,
@@ -11,7 +11,7 @@ pub enum Cause {
 }
 
 /// The first field that is wrong.
-#[derive(Clone, Copy, PartialEq, Eq, Debug, Drop)]
+#[derive(Clone, Copy, Drop)]
 pub enum Fault {
     /// It isn't whole.
     Short,
@@ -20,7 +20,7 @@ pub enum Fault {
 }
 
 /// Why reading ended.
-#[derive(Clone, Copy, PartialEq, Eq, Debug, Drop)]
+#[derive(Clone, Copy, Drop)]
 pub enum ReadError {
     /// There was no memory for what was read.
     NoMemory,
