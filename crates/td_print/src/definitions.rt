@@ -9,11 +9,11 @@ ghost use Rattle.td_print_layout.specs.Parameters.{head_pieces};
 ghost use Rattle.td_print_layout.specs.Sequences.{name_piece, optional};
 ghost use Rattle.td_print.specs.Writing.{after_comma, piece_text};
 
-use crate::expressions::write_expression;
+use crate::expressions::write_enclosed;
 use crate::fields::{write_case_fields, write_struct_fields};
 use crate::parameters::write_head;
 use crate::printer::Printer;
-use crate::words::{number_word, write_constant, write_name, write_plain};
+use crate::words::{number_word, write_between, write_constant, write_name, write_plain};
 use std::alloc::AllocError;
 use td_ast::definitions::{
     AliasTree, CaseTree, CasetypeTree, Def, DefineTree, EnumTree, ItemTree, OutputTree, SlotKind,
@@ -29,9 +29,7 @@ use td_num::items::Items;
 fn write_define(out: &mut Printer, define: &DefineTree) -> Result<(), AllocError>
     ensures { OnOk result (out.new ≡ out.old ++ text_of (layouts.define_pieces define.now)) }
 {
-    out.write(b"#define ")?;
-    write_name(out, &define.name)?;
-    out.write(b" ")?;
+    write_between(out, b"#define ", &define.name, b" ")?;
     out.write_number(define.value.value, define.value.base)?;
     out.write(b"\n")?;
     Ok(())
@@ -92,9 +90,7 @@ fn write_enum(out: &mut Printer, tree: &EnumTree) -> Result<(), AllocError>
     ensures { OnOk result (out.new ≡ out.old ++ text_of (layouts.enum_pieces tree.now)) }
 {
     out.write(number_word(tree.base.number))?;
-    out.write(b" enum ")?;
-    write_name(out, &tree.name)?;
-    out.write(b" {\n")?;
+    write_between(out, b" enum ", &tree.name, b" {\n")?;
     write_items(out, tree.items.as_slice())?;
     out.write(b"}\n")?;
     Ok(())
@@ -106,9 +102,7 @@ fn write_alias(out: &mut Printer, alias: &AliasTree) -> Result<(), AllocError>
 {
     out.write(b"typedef ")?;
     write_plain(out, &alias.target)?;
-    out.write(b" ")?;
-    write_name(out, &alias.name)?;
-    out.write(b";\n")?;
+    write_between(out, b" ", &alias.name, b";\n")?;
     Ok(())
 }
 
@@ -125,9 +119,7 @@ fn write_entry(out: &mut Printer, entry: bool) -> Result<(), AllocError>
 fn write_closing(out: &mut Printer, name: &Name) -> Result<(), AllocError>
     ensures { OnOk result (out.new ≡ out.old ++ text_of (layouts.closing_pieces name.now)) }
 {
-    out.write(b"} ")?;
-    write_name(out, name)?;
-    out.write(b";\n")?;
+    write_between(out, b"} ", name, b";\n")?;
     Ok(())
 }
 
@@ -156,9 +148,7 @@ fn write_struct(out: &mut Printer, tree: &StructTree) -> Result<(), AllocError>
 fn write_subject(out: &mut Printer, subject: &Expr) -> Result<(), AllocError>
     ensures { OnOk result (out.new ≡ out.old ++ text_of (layouts.subject_pieces subject.now)) }
 {
-    out.write(b"    switch (")?;
-    write_expression(out, subject)?;
-    out.write(b") {\n")?;
+    write_enclosed(out, b"    switch (", subject, b") {\n")?;
     Ok(())
 }
 
@@ -239,9 +229,7 @@ fn write_slot(out: &mut Printer, slot: &SlotTree) -> Result<(), AllocError>
 {
     out.write(b"    ")?;
     write_slot_kind(out, &slot.kind)?;
-    out.write(b" ")?;
-    write_name(out, &slot.name)?;
-    out.write(b";\n")?;
+    write_between(out, b" ", &slot.name, b";\n")?;
     Ok(())
 }
 
@@ -257,9 +245,7 @@ fn write_slots(out: &mut Printer, slots: &[SlotTree]) -> Result<(), AllocError>
 fn write_output(out: &mut Printer, tree: &OutputTree) -> Result<(), AllocError>
     ensures { OnOk result (out.new ≡ out.old ++ text_of (layouts.output_pieces tree.now)) }
 {
-    out.write(b"output typedef struct ")?;
-    write_name(out, &tree.tag)?;
-    out.write(b" {\n")?;
+    write_between(out, b"output typedef struct ", &tree.tag, b" {\n")?;
     write_slots(out, tree.slots.as_slice())?;
     write_closing(out, &tree.name)?;
     Ok(())

@@ -3,7 +3,8 @@
 
 ghost use Rattle.std.specs.Prelude.{◌≡◌, [], ◌∷◌, ◌++◌, OnOk, flat_map};
 ghost use Rattle.td_ast.specs.declared.token.TokenKind.TheVariants as kinds;
-ghost use Rattle.td_print_layout.specs.Pieces.{Word, spelling, text_of};
+ghost use Rattle.td_print_layout.specs.Pieces.{Blank, Word, spelling, text_of};
+ghost use Rattle.td_print_layout.specs.Operators.{binary_kind};
 ghost use Rattle.td_print_layout.specs.Expressions.{expression_pieces, fitted, operand_pieces, tree_level, truth_kind};
 ghost use Rattle.td_print_layout.specs.Sequences.{comma, in_parentheses};
 
@@ -11,7 +12,7 @@ use crate::operators::{binary_sign, left_of, level_of, right_of, unary_sign};
 use crate::printer::Printer;
 use crate::words::{number_word, write_qualified};
 use std::alloc::AllocError;
-use td_ast::expressions::{Expr, ExprKind, SizeofOperand};
+use td_ast::expressions::{BinaryOperator, Expr, ExprKind, SizeofOperand};
 
 /// The loosest level that the condition of `? :` has without parentheses.
 const CONDITION: u8 = 11;
@@ -50,10 +51,7 @@ fn write_sized(out: &mut Printer, operand: &SizeofOperand) -> Result<(), AllocEr
             out.write(number_word(*number))?;
             Ok(())
         }
-        SizeofOperand::Name(text) => {
-            write_qualified(out, text)?;
-            Ok(())
-        }
+        SizeofOperand::Name(text) => write_qualified(out, text),
         SizeofOperand::This => {
             out.write(b"this")?;
             Ok(())
@@ -68,6 +66,16 @@ fn write_sizeof(out: &mut Printer, operand: &SizeofOperand) -> Result<(), AllocE
     out.write(b"sizeof(")?;
     write_sized(out, operand)?;
     out.write(b")")?;
+    Ok(())
+}
+
+// ` + `
+fn write_sign(out: &mut Printer, operator: BinaryOperator) -> Result<(), AllocError>
+    ensures { OnOk result (out.new ≡ out.old ++ text_of (Blank ∷ Word (binary_kind operator) ∷ Blank ∷ [])) }
+{
+    out.write(b" ")?;
+    out.write(binary_sign(operator))?;
+    out.write(b" ")?;
     Ok(())
 }
 
@@ -86,12 +94,12 @@ fn write_operand(out: &mut Printer, loosest: u8, operand: &Expr) -> Result<(), A
     Ok(())
 }
 
-// One more of some expressions: a comma, and the expression.
+// Some bytes, and an expression after them.
 #[cycle(expression)]
-fn write_next(out: &mut Printer, e: &Expr) -> Result<(), AllocError>
-    ensures { OnOk result (out.new ≡ out.old ++ text_of (comma ++ expression_pieces e.now)) }
+fn write_next(out: &mut Printer, before: &[u8], e: &Expr) -> Result<(), AllocError>
+    ensures { OnOk result (out.new ≡ out.old ++ (before.now ++ text_of (expression_pieces e.now))) }
 {
-    out.write(b", ")?;
+    out.write(before)?;
     write_expression(out, e)?;
     Ok(())
 }
@@ -107,10 +115,9 @@ fn write_range(
     ensures { OnOk result (out.new ≡ out.old ++ text_of (Word kinds.IsRangeOkay ∷ Word kinds.OpenParen ∷ (expression_pieces size.now
         ++ (comma ++ (expression_pieces offset.now ++ (comma ++ (expression_pieces access.now ++ Word kinds.CloseParen ∷ []))))))) }
 {
-    out.write(b"is_range_okay(")?;
-    write_expression(out, size)?;
-    write_next(out, offset)?;
-    write_next(out, access)?;
+    write_next(out, b"is_range_okay(", size)?;
+    write_next(out, b", ", offset)?;
+    write_next(out, b", ", access)?;
     out.write(b")")?;
     Ok(())
 }
@@ -129,22 +136,13 @@ pub(crate) fn write_expression(out: &mut Printer, e: &Expr) -> Result<(), AllocE
             out.write(truth_word(*truth))?;
             Ok(())
         }
-        ExprKind::Name(name) => {
-            write_qualified(out, &name.text)?;
-            Ok(())
-        }
+        ExprKind::Name(name) => write_qualified(out, &name.text),
         ExprKind::FieldPos(_) => {
             out.write(b"field_pos")?;
             Ok(())
         }
-        ExprKind::Sizeof(_, operand, _) => {
-            write_sizeof(out, operand)?;
-            Ok(())
-        }
-        ExprKind::RangeOkay(size, offset, access) => {
-            write_range(out, size, offset, access)?;
-            Ok(())
-        }
+        ExprKind::Sizeof(_, operand, _) => write_sizeof(out, operand),
+        ExprKind::RangeOkay(size, offset, access) => write_range(out, size, offset, access),
         ExprKind::Unary(operator, _, operand) => {
             out.write(unary_sign(*operator))?;
             write_operand(out, OPERAND, operand)?;
@@ -152,21 +150,31 @@ pub(crate) fn write_expression(out: &mut Printer, e: &Expr) -> Result<(), AllocE
         }
         ExprKind::Binary(operator, _, left, right) => {
             write_operand(out, left_of(*operator), left)?;
-            out.write(b" ")?;
-            out.write(binary_sign(*operator))?;
-            out.write(b" ")?;
+            write_sign(out, *operator)?;
             write_operand(out, right_of(*operator), right)?;
             Ok(())
         }
         ExprKind::Choice(_, condition, first, second) => {
             write_operand(out, CONDITION, condition)?;
-            out.write(b" ? ")?;
-            write_expression(out, first)?;
-            out.write(b" : ")?;
-            write_expression(out, second)?;
+            write_next(out, b" ? ", first)?;
+            write_next(out, b" : ", second)?;
             Ok(())
         }
     }
+}
+
+/// Writes an expression, with some bytes before it and some after it.
+pub(crate) fn write_enclosed(
+    out: &mut Printer,
+    before: &[u8],
+    e: &Expr,
+    after: &[u8],
+) -> Result<(), AllocError>
+    ensures { OnOk result (out.new ≡ out.old ++ (before.now ++ (text_of (expression_pieces e.now) ++ after.now))) }
+{
+    write_next(out, before, e)?;
+    out.write(after)?;
+    Ok(())
 }
 
 // Expressions, each after a comma.
@@ -174,7 +182,7 @@ fn write_others(out: &mut Printer, others: &[Expr]) -> Result<(), AllocError>
     ensures { OnOk result (out.new ≡ out.old ++ text_of (flat_map (λ e. comma ++ expression_pieces e) others.now)) }
 {
     for e in others {
-        write_next(out, e)?;
+        write_next(out, b", ", e)?;
     }
     Ok(())
 }

@@ -8,7 +8,7 @@ ghost use Rattle.td_print_layout.specs.Sequences.{comma, in_parentheses, optiona
 
 use crate::expressions::write_expression;
 use crate::printer::Printer;
-use crate::words::{number_word, write_constant, write_name, write_plain, write_qualified};
+use crate::words::{number_word, write_between, write_constant, write_plain, write_qualified};
 use std::alloc::AllocError;
 use td_ast::expressions::Expr;
 use td_ast::names::ConstTree;
@@ -26,10 +26,7 @@ fn write_target(out: &mut Printer, target: &TargetTree) -> Result<(), AllocError
             out.write(b"PUINT8")?;
             Ok(())
         }
-        TargetTree::Named(name) => {
-            write_qualified(out, &name.text)?;
-            Ok(())
-        }
+        TargetTree::Named(name) => { write_qualified(out, &name.text) }
     }
 }
 
@@ -50,20 +47,17 @@ fn write_parameter(out: &mut Printer, parameter: &ParamTree) -> Result<(), Alloc
     match parameter {
         ParamTree::Value(plain, name) => {
             write_plain(out, plain)?;
-            out.write(b" ")?;
-            write_name(out, name)?;
+            write_between(out, b" ", name, b"")?;
             Ok(())
         }
         ParamTree::Mutable(target, name) => {
             out.write(b"mutable ")?;
             write_target(out, target)?;
-            out.write(b" *")?;
-            write_name(out, name)?;
+            write_between(out, b" *", name, b"")?;
             Ok(())
         }
         ParamTree::Bytes { name, room } => {
-            out.write(b"mutable UINT8 *")?;
-            write_name(out, name)?;
+            write_between(out, b"mutable UINT8 *", name, b"")?;
             write_room(out, room)?;
             Ok(())
         }

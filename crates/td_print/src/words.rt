@@ -35,6 +35,21 @@ pub(crate) fn write_name(out: &mut Printer, name: &Name) -> Result<(), AllocErro
     Ok(())
 }
 
+/// Writes a name that is never qualified, with some bytes before it and some after it.
+pub(crate) fn write_between(
+    out: &mut Printer,
+    before: &[u8],
+    name: &Name,
+    after: &[u8],
+) -> Result<(), AllocError>
+    ensures { OnOk result (out.new ≡ out.old ++ (before.now ++ (name.now.text ++ after.now))) }
+{
+    out.write(before)?;
+    write_name(out, name)?;
+    out.write(after)?;
+    Ok(())
+}
+
 /// Writes a name that may be qualified: its text, which has the dot then.
 pub(crate) fn write_qualified(out: &mut Printer, text: &Text) -> Result<(), AllocError>
     ensures { OnOk result (out.new ≡ out.old ++ text_of (qualified_pieces text.now)) }
