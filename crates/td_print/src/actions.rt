@@ -29,37 +29,29 @@ fn write_statement(out: &mut Printer, statement: &Stmt) -> Result<(), AllocError
         StmtKind::Store(cell, value) => {
             write_between(out, b"*", cell, b" = ")?;
             write_assigned(out, value)?;
-            out.write(b";")?;
-            Ok(())
+            out.write(b";")
         }
         StmtKind::StoreField(cell, field, value) => {
             write_between(out, b"", cell, b"->")?;
             write_between(out, b"", field, b" = ")?;
             write_assigned(out, value)?;
-            out.write(b";")?;
-            Ok(())
+            out.write(b";")
         }
         StmtKind::Var(local, _, cell) => {
             write_between(out, b"var ", local, b" = *")?;
-            write_between(out, b"", cell, b";")?;
-            Ok(())
+            write_between(out, b"", cell, b";")
         }
         StmtKind::If(condition, block) => {
             write_enclosed(out, b"if (", condition, b") ")?;
-            write_braced(out, block)?;
-            Ok(())
+            write_braced(out, block)
         }
         StmtKind::IfElse(condition, block, other) => {
             write_enclosed(out, b"if (", condition, b") ")?;
             write_braced(out, block)?;
             out.write(b" else ")?;
-            write_braced(out, other)?;
-            Ok(())
+            write_braced(out, other)
         }
-        StmtKind::Return(value) => {
-            write_enclosed(out, b"return ", value, b";")?;
-            Ok(())
-        }
+        StmtKind::Return(value) => { write_enclosed(out, b"return ", value, b";") }
         StmtKind::Abort => out.write(b"abort;"),
     }
 }
@@ -83,8 +75,7 @@ fn write_braced(out: &mut Printer, block: &Block) -> Result<(), AllocError>
 {
     out.write(b"{ ")?;
     write_statements(out, block.as_slice())?;
-    out.write(b"}")?;
-    Ok(())
+    out.write(b"}")
 }
 
 fn action_word(kind: ActionKind) -> &'static [u8]
@@ -120,12 +111,8 @@ pub(crate) fn write_action(out: &mut Printer, action: &ActionTree) -> Result<(),
         } => {
             out.write(action_word(*kind))?;
             write_after_blanks(out, statements.as_slice())?;
-            out.write(b"}")?;
-            Ok(())
+            out.write(b"}")
         }
-        ActionTree::Copied { name, .. } => {
-            write_between(out, b"{:copy ", name, b"}")?;
-            Ok(())
-        }
+        ActionTree::Copied { name, .. } => { write_between(out, b"{:copy ", name, b"}") }
     }
 }

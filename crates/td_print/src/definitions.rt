@@ -31,8 +31,7 @@ fn write_define(out: &mut Printer, define: &DefineTree) -> Result<(), AllocError
 {
     write_between(out, b"#define ", &define.name, b" ")?;
     out.write_number(define.value.value, define.value.base)?;
-    out.write(b"\n")?;
-    Ok(())
+    out.write(b"\n")
 }
 
 // ` = 1`
@@ -43,8 +42,7 @@ fn write_value(out: &mut Printer, value: &Option<ConstTree>) -> Result<(), Alloc
         None => Ok(()),
         Some(value) => {
             out.write(b" = ")?;
-            write_constant(out, value)?;
-            Ok(())
+            write_constant(out, value)
         }
     }
 }
@@ -54,8 +52,7 @@ fn write_item(out: &mut Printer, item: &ItemTree) -> Result<(), AllocError>
     ensures { OnOk result (out.new ≡ out.old ++ text_of (layouts.item_pieces item.now)) }
 {
     write_name(out, &item.name)?;
-    write_value(out, &item.value)?;
-    Ok(())
+    write_value(out, &item.value)
 }
 
 // Items, each on a line of its own after a comma.
@@ -92,8 +89,7 @@ fn write_enum(out: &mut Printer, tree: &EnumTree) -> Result<(), AllocError>
     out.write(number_word(tree.base.number))?;
     write_between(out, b" enum ", &tree.name, b" {\n")?;
     write_items(out, tree.items.as_slice())?;
-    out.write(b"}\n")?;
-    Ok(())
+    out.write(b"}\n")
 }
 
 // `typedef T U;`
@@ -102,8 +98,7 @@ fn write_alias(out: &mut Printer, alias: &AliasTree) -> Result<(), AllocError>
 {
     out.write(b"typedef ")?;
     write_plain(out, &alias.target)?;
-    write_between(out, b" ", &alias.name, b";\n")?;
-    Ok(())
+    write_between(out, b" ", &alias.name, b";\n")
 }
 
 fn write_entry(out: &mut Printer, entry: bool) -> Result<(), AllocError>
@@ -119,8 +114,7 @@ fn write_entry(out: &mut Printer, entry: bool) -> Result<(), AllocError>
 fn write_closing(out: &mut Printer, name: &Name) -> Result<(), AllocError>
     ensures { OnOk result (out.new ≡ out.old ++ text_of (layouts.closing_pieces name.now)) }
 {
-    write_between(out, b"} ", name, b";\n")?;
-    Ok(())
+    write_between(out, b"} ", name, b";\n")
 }
 
 // `_N(..) where e {`: the first name of a definition, its head, and the brace.
@@ -129,8 +123,7 @@ fn write_opening(out: &mut Printer, tag: &Name, head: &HeadTree) -> Result<(), A
 {
     write_name(out, tag)?;
     write_head(out, head)?;
-    out.write(b" {\n")?;
-    Ok(())
+    out.write(b" {\n")
 }
 
 fn write_struct(out: &mut Printer, tree: &StructTree) -> Result<(), AllocError>
@@ -148,8 +141,7 @@ fn write_struct(out: &mut Printer, tree: &StructTree) -> Result<(), AllocError>
 fn write_subject(out: &mut Printer, subject: &Expr) -> Result<(), AllocError>
     ensures { OnOk result (out.new ≡ out.old ++ text_of (layouts.subject_pieces subject.now)) }
 {
-    write_enclosed(out, b"    switch (", subject, b") {\n")?;
-    Ok(())
+    write_enclosed(out, b"    switch (", subject, b") {\n")
 }
 
 // `case K:` and its fields
@@ -212,14 +204,8 @@ fn write_slot_kind(out: &mut Printer, kind: &SlotKind) -> Result<(), AllocError>
     ensures { OnOk result (out.new ≡ out.old ++ piece_text (layouts.slot_piece kind.now)) }
 {
     match kind {
-        SlotKind::Number(tree) => {
-            out.write(number_word(tree.number))?;
-            Ok(())
-        }
-        SlotKind::Pointer(_) => {
-            out.write(b"PUINT8")?;
-            Ok(())
-        }
+        SlotKind::Number(tree) => { out.write(number_word(tree.number)) }
+        SlotKind::Pointer(_) => { out.write(b"PUINT8") }
     }
 }
 
@@ -229,8 +215,7 @@ fn write_slot(out: &mut Printer, slot: &SlotTree) -> Result<(), AllocError>
 {
     out.write(b"    ")?;
     write_slot_kind(out, &slot.kind)?;
-    write_between(out, b" ", &slot.name, b";\n")?;
-    Ok(())
+    write_between(out, b" ", &slot.name, b";\n")
 }
 
 fn write_slots(out: &mut Printer, slots: &[SlotTree]) -> Result<(), AllocError>

@@ -47,15 +47,9 @@ fn write_sized(out: &mut Printer, operand: &SizeofOperand) -> Result<(), AllocEr
     ensures { OnOk result (out.new ≡ out.old ++ text_of (operand_pieces operand.now)) }
 {
     match operand {
-        SizeofOperand::Number(number) => {
-            out.write(number_word(*number))?;
-            Ok(())
-        }
+        SizeofOperand::Number(number) => { out.write(number_word(*number)) }
         SizeofOperand::Name(text) => write_qualified(out, text),
-        SizeofOperand::This => {
-            out.write(b"this")?;
-            Ok(())
-        }
+        SizeofOperand::This => { out.write(b"this") }
     }
 }
 
@@ -65,8 +59,7 @@ fn write_sizeof(out: &mut Printer, operand: &SizeofOperand) -> Result<(), AllocE
 {
     out.write(b"sizeof(")?;
     write_sized(out, operand)?;
-    out.write(b")")?;
-    Ok(())
+    out.write(b")")
 }
 
 // ` + `
@@ -75,8 +68,7 @@ fn write_sign(out: &mut Printer, operator: BinaryOperator) -> Result<(), AllocEr
 {
     out.write(b" ")?;
     out.write(binary_sign(operator))?;
-    out.write(b" ")?;
-    Ok(())
+    out.write(b" ")
 }
 
 // An operand at a place that takes this level or a tighter one without parentheses.
@@ -90,8 +82,7 @@ fn write_operand(out: &mut Printer, loosest: u8, operand: &Expr) -> Result<(), A
     }
     out.write(b"(")?;
     write_expression(out, operand)?;
-    out.write(b")")?;
-    Ok(())
+    out.write(b")")
 }
 
 // Some bytes, and an expression after them.
@@ -100,8 +91,7 @@ fn write_next(out: &mut Printer, before: &[u8], e: &Expr) -> Result<(), AllocErr
     ensures { OnOk result (out.new ≡ out.old ++ (before.now ++ text_of (expression_pieces e.now))) }
 {
     out.write(before)?;
-    write_expression(out, e)?;
-    Ok(())
+    write_expression(out, e)
 }
 
 // `is_range_okay(size, offset, access)`
@@ -128,37 +118,25 @@ pub(crate) fn write_expression(out: &mut Printer, e: &Expr) -> Result<(), AllocE
     ensures { OnOk result (out.new ≡ out.old ++ text_of (expression_pieces e.now)) }
 {
     match &e.kind {
-        ExprKind::Number(value, base) => {
-            out.write_number(*value, *base)?;
-            Ok(())
-        }
-        ExprKind::Truth(truth) => {
-            out.write(truth_word(*truth))?;
-            Ok(())
-        }
+        ExprKind::Number(value, base) => { out.write_number(*value, *base) }
+        ExprKind::Truth(truth) => { out.write(truth_word(*truth)) }
         ExprKind::Name(name) => write_qualified(out, &name.text),
-        ExprKind::FieldPos(_) => {
-            out.write(b"field_pos")?;
-            Ok(())
-        }
+        ExprKind::FieldPos(_) => { out.write(b"field_pos") }
         ExprKind::Sizeof(_, operand, _) => write_sizeof(out, operand),
         ExprKind::RangeOkay(size, offset, access) => write_range(out, size, offset, access),
         ExprKind::Unary(operator, _, operand) => {
             out.write(unary_sign(*operator))?;
-            write_operand(out, OPERAND, operand)?;
-            Ok(())
+            write_operand(out, OPERAND, operand)
         }
         ExprKind::Binary(operator, _, left, right) => {
             write_operand(out, left_of(*operator), left)?;
             write_sign(out, *operator)?;
-            write_operand(out, right_of(*operator), right)?;
-            Ok(())
+            write_operand(out, right_of(*operator), right)
         }
         ExprKind::Choice(_, condition, first, second) => {
             write_operand(out, CONDITION, condition)?;
             write_next(out, b" ? ", first)?;
-            write_next(out, b" : ", second)?;
-            Ok(())
+            write_next(out, b" : ", second)
         }
     }
 }
@@ -173,8 +151,7 @@ pub(crate) fn write_enclosed(
     ensures { OnOk result (out.new ≡ out.old ++ (before.now ++ (text_of (expression_pieces e.now) ++ after.now))) }
 {
     write_next(out, before, e)?;
-    out.write(after)?;
-    Ok(())
+    out.write(after)
 }
 
 // Expressions, each after a comma.

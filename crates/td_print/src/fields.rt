@@ -21,17 +21,13 @@ fn write_type(out: &mut Printer, kind: &TypeKind) -> Result<(), AllocError>
     ensures { OnOk result (out.new ≡ out.old ++ text_of (type_pieces kind.now)) }
 {
     match kind {
-        TypeKind::Number(number) => {
-            out.write(number_word(*number))?;
-            Ok(())
-        }
+        TypeKind::Number(number) => { out.write(number_word(*number)) }
         TypeKind::Unit => out.write(b"unit"),
         TypeKind::AllBytes => out.write(b"all_bytes"),
         TypeKind::AllZeros => out.write(b"all_zeros"),
         TypeKind::Named(name, arguments) => {
             write_qualified(out, name)?;
-            write_arguments(out, arguments.as_slice())?;
-            Ok(())
+            write_arguments(out, arguments.as_slice())
         }
     }
 }
@@ -40,8 +36,7 @@ fn write_type(out: &mut Printer, kind: &TypeKind) -> Result<(), AllocError>
 fn write_size(out: &mut Printer, opening: &[u8], size: &Expr) -> Result<(), AllocError>
     ensures { OnOk result (out.new ≡ out.old ++ (opening.now ++ text_of (expression_pieces size.now ++ Word kinds.CloseBracket ∷ []))) }
 {
-    write_enclosed(out, opening, size, b"]")?;
-    Ok(())
+    write_enclosed(out, opening, size, b"]")
 }
 
 fn write_extent(out: &mut Printer, extent: &Option<ExtentTree>) -> Result<(), AllocError>
@@ -59,8 +54,7 @@ fn write_extent(out: &mut Printer, extent: &Option<ExtentTree>) -> Result<(), Al
         }
         Some(ExtentTree::Bits(width)) => {
             out.write(b" : ")?;
-            out.write_number(width.value, width.base)?;
-            Ok(())
+            out.write_number(width.value, width.base)
         }
     }
 }
@@ -71,10 +65,7 @@ fn write_refinement(out: &mut Printer, refinement: &Option<Expr>) -> Result<(), 
 {
     match refinement {
         None => Ok(()),
-        Some(condition) => {
-            write_enclosed(out, b" { ", condition, b" }")?;
-            Ok(())
-        }
+        Some(condition) => { write_enclosed(out, b" { ", condition, b" }") }
     }
 }
 
@@ -85,8 +76,7 @@ fn write_action_after(out: &mut Printer, action: &Option<ActionTree>) -> Result<
         None => Ok(()),
         Some(action) => {
             out.write(b" ")?;
-            write_action(out, action)?;
-            Ok(())
+            write_action(out, action)
         }
     }
 }
@@ -99,8 +89,7 @@ fn write_field(out: &mut Printer, field: &FieldTree) -> Result<(), AllocError>
     write_extent(out, &field.extent)?;
     write_refinement(out, &field.refinement)?;
     write_action_after(out, &field.action)?;
-    out.write(b";")?;
-    Ok(())
+    out.write(b";")
 }
 
 /// Writes the fields of a struct, a level deep.

@@ -18,14 +18,8 @@ fn write_target(out: &mut Printer, target: &TargetTree) -> Result<(), AllocError
     ensures { OnOk result (out.new ≡ out.old ++ text_of (target_pieces target.now)) }
 {
     match target {
-        TargetTree::Number(tree) => {
-            out.write(number_word(tree.number))?;
-            Ok(())
-        }
-        TargetTree::Pointer(_) => {
-            out.write(b"PUINT8")?;
-            Ok(())
-        }
+        TargetTree::Number(tree) => { out.write(number_word(tree.number)) }
+        TargetTree::Pointer(_) => { out.write(b"PUINT8") }
         TargetTree::Named(name) => { write_qualified(out, &name.text) }
     }
 }
@@ -36,8 +30,7 @@ fn write_room(out: &mut Printer, room: &ConstTree) -> Result<(), AllocError>
 {
     out.write(b"[")?;
     write_constant(out, room)?;
-    out.write(b"]")?;
-    Ok(())
+    out.write(b"]")
 }
 
 // `T a`, `mutable T *a` or `mutable UINT8 *a[8]`
@@ -47,14 +40,12 @@ fn write_parameter(out: &mut Printer, parameter: &ParamTree) -> Result<(), Alloc
     match parameter {
         ParamTree::Value(plain, name) => {
             write_plain(out, plain)?;
-            write_between(out, b" ", name, b"")?;
-            Ok(())
+            write_between(out, b" ", name, b"")
         }
         ParamTree::Mutable(target, name) => {
             out.write(b"mutable ")?;
             write_target(out, target)?;
-            write_between(out, b" *", name, b"")?;
-            Ok(())
+            write_between(out, b" *", name, b"")
         }
         ParamTree::Bytes { name, room } => {
             write_between(out, b"mutable UINT8 *", name, b"")?;
@@ -99,8 +90,7 @@ fn write_condition(out: &mut Printer, condition: &Option<Expr>) -> Result<(), Al
         None => Ok(()),
         Some(condition) => {
             out.write(b" where ")?;
-            write_expression(out, condition)?;
-            Ok(())
+            write_expression(out, condition)
         }
     }
 }
@@ -110,6 +100,5 @@ pub(crate) fn write_head(out: &mut Printer, head: &HeadTree) -> Result<(), Alloc
     ensures { OnOk result (out.new ≡ out.old ++ text_of (head_pieces head.now)) }
 {
     write_parameters(out, head.params.as_slice())?;
-    write_condition(out, &head.condition)?;
-    Ok(())
+    write_condition(out, &head.condition)
 }
