@@ -51,7 +51,7 @@ fn write_statement(out: &mut Printer, statement: &Stmt) -> Result<(), AllocError
             out.write(b" else ")?;
             write_braced(out, other)
         }
-        StmtKind::Return(value) => { write_enclosed(out, b"return ", value, b";") }
+        StmtKind::Return(value) => write_enclosed(out, b"return ", value, b";"),
         StmtKind::Abort => out.write(b"abort;"),
     }
 }
@@ -113,6 +113,6 @@ pub(crate) fn write_action(out: &mut Printer, action: &ActionTree) -> Result<(),
             write_after_blanks(out, statements.as_slice())?;
             out.write(b"}")
         }
-        ActionTree::Copied { name, .. } => { write_between(out, b"{:copy ", name, b"}") }
+        ActionTree::Copied { name, .. } => write_between(out, b"{:copy ", name, b"}"),
     }
 }

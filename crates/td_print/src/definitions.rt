@@ -204,8 +204,8 @@ fn write_slot_kind(out: &mut Printer, kind: &SlotKind) -> Result<(), AllocError>
     ensures { OnOk result (out.new ≡ out.old ++ piece_text (layouts.slot_piece kind.now)) }
 {
     match kind {
-        SlotKind::Number(tree) => { out.write(number_word(tree.number)) }
-        SlotKind::Pointer(_) => { out.write(b"PUINT8") }
+        SlotKind::Number(tree) => out.write(number_word(tree.number)),
+        SlotKind::Pointer(_) => out.write(b"PUINT8"),
     }
 }
 

@@ -47,9 +47,9 @@ fn write_sized(out: &mut Printer, operand: &SizeofOperand) -> Result<(), AllocEr
     ensures { OnOk result (out.new ≡ out.old ++ text_of (operand_pieces operand.now)) }
 {
     match operand {
-        SizeofOperand::Number(number) => { out.write(number_word(*number)) }
+        SizeofOperand::Number(number) => out.write(number_word(*number)),
         SizeofOperand::Name(text) => write_qualified(out, text),
-        SizeofOperand::This => { out.write(b"this") }
+        SizeofOperand::This => out.write(b"this"),
     }
 }
 
@@ -118,10 +118,10 @@ pub(crate) fn write_expression(out: &mut Printer, e: &Expr) -> Result<(), AllocE
     ensures { OnOk result (out.new ≡ out.old ++ text_of (expression_pieces e.now)) }
 {
     match &e.kind {
-        ExprKind::Number(value, base) => { out.write_number(*value, *base) }
-        ExprKind::Truth(truth) => { out.write(truth_word(*truth)) }
+        ExprKind::Number(value, base) => out.write_number(*value, *base),
+        ExprKind::Truth(truth) => out.write(truth_word(*truth)),
         ExprKind::Name(name) => write_qualified(out, &name.text),
-        ExprKind::FieldPos(_) => { out.write(b"field_pos") }
+        ExprKind::FieldPos(_) => out.write(b"field_pos"),
         ExprKind::Sizeof(_, operand, _) => write_sizeof(out, operand),
         ExprKind::RangeOkay(size, offset, access) => write_range(out, size, offset, access),
         ExprKind::Unary(operator, _, operand) => {

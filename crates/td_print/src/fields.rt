@@ -21,7 +21,7 @@ fn write_type(out: &mut Printer, kind: &TypeKind) -> Result<(), AllocError>
     ensures { OnOk result (out.new ≡ out.old ++ text_of (type_pieces kind.now)) }
 {
     match kind {
-        TypeKind::Number(number) => { out.write(number_word(*number)) }
+        TypeKind::Number(number) => out.write(number_word(*number)),
         TypeKind::Unit => out.write(b"unit"),
         TypeKind::AllBytes => out.write(b"all_bytes"),
         TypeKind::AllZeros => out.write(b"all_zeros"),
@@ -65,7 +65,7 @@ fn write_refinement(out: &mut Printer, refinement: &Option<Expr>) -> Result<(), 
 {
     match refinement {
         None => Ok(()),
-        Some(condition) => { write_enclosed(out, b" { ", condition, b" }") }
+        Some(condition) => write_enclosed(out, b" { ", condition, b" }"),
     }
 }
 

@@ -18,9 +18,9 @@ fn write_target(out: &mut Printer, target: &TargetTree) -> Result<(), AllocError
     ensures { OnOk result (out.new ≡ out.old ++ text_of (target_pieces target.now)) }
 {
     match target {
-        TargetTree::Number(tree) => { out.write(number_word(tree.number)) }
-        TargetTree::Pointer(_) => { out.write(b"PUINT8") }
-        TargetTree::Named(name) => { write_qualified(out, &name.text) }
+        TargetTree::Number(tree) => out.write(number_word(tree.number)),
+        TargetTree::Pointer(_) => out.write(b"PUINT8"),
+        TargetTree::Named(name) => write_qualified(out, &name.text),
     }
 }
 

@@ -61,8 +61,8 @@ pub(crate) fn write_constant(out: &mut Printer, constant: &ConstTree) -> Result<
     ensures { OnOk result (out.new ≡ out.old ++ text_of (constant_pieces constant.now)) }
 {
     match constant {
-        ConstTree::Number(literal) => { out.write_number(literal.value, literal.base) }
-        ConstTree::Named(name) => { write_qualified(out, &name.text) }
+        ConstTree::Number(literal) => out.write_number(literal.value, literal.base),
+        ConstTree::Named(name) => write_qualified(out, &name.text),
     }
 }
 
@@ -71,7 +71,7 @@ pub(crate) fn write_plain(out: &mut Printer, plain: &PlainTree) -> Result<(), Al
     ensures { OnOk result (out.new ≡ out.old ++ text_of (plain_pieces plain.now)) }
 {
     match plain {
-        PlainTree::Number(tree) => { out.write(number_word(tree.number)) }
-        PlainTree::Named(name) => { write_qualified(out, &name.text) }
+        PlainTree::Number(tree) => out.write(number_word(tree.number)),
+        PlainTree::Named(name) => write_qualified(out, &name.text),
     }
 }
