@@ -48,6 +48,13 @@ casetype_text t =
     ∙ ap first (opening_text t.tag.text h (c ++ k))
     ∙ ap (λ (l : List ℕ). first ((t.tag.text ++ text_of (h ++ Blank ∷ Word kinds.OpenBrace ∷ LineEnd ∷ [])) ++ l)) (text_append c k)
 
+-- what was written in four steps
+pub four : (o a b c d whole w x y z : List ℕ) → w ≡ o ++ a → x ≡ w ++ b → y ≡ x ++ c → z ≡ y ++ d → whole ≡ a ++ (b ++ (c ++ d)) → z ≡ o ++ whole
+four o a b c d whole w x y z first second third last same =
+    last ∙ ap (λ (l : List ℕ). l ++ d) (third ∙ ap (λ (l : List ℕ). l ++ c) (second ∙ ap (λ (l : List ℕ). l ++ b) first))
+    ∙ append_assoc ((o ++ a) ++ b) c d ∙ append_assoc (o ++ a) b (c ++ d) ∙ append_assoc o a (b ++ (c ++ d))
+    ∙ ap (λ (l : List ℕ). o ++ l) (sym same)
+
 -- what was written in five steps
 pub five : (o a b c d e whole v w x y z : List ℕ) → v ≡ o ++ a → w ≡ v ++ b → x ≡ w ++ c → y ≡ x ++ d → z ≡ y ++ e → whole ≡ a ++ (b ++ (c ++ (d ++ e))) → z ≡ o ++ whole
 five o a b c d e whole v w x y z first second third fourth last same =

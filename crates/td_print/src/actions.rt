@@ -6,9 +6,9 @@ ghost use Rattle.td_ast.specs.Statements.{block_of};
 ghost use Rattle.td_print_layout.specs.Pieces.{spelling, text_of};
 ghost use Rattle.td_print_layout.specs.Actions.{action_kind, action_pieces, assigned_pieces, block_pieces, in_braces, statement_after, statement_pieces};
 
-use crate::expressions::write_expression;
+use crate::expressions::{write_enclosed, write_expression};
 use crate::printer::Printer;
-use crate::words::write_name;
+use crate::words::write_between;
 use std::alloc::AllocError;
 use td_ast::actions::{ActionKind, ActionTree, Assigned, Block, Stmt, StmtKind};
 
@@ -16,14 +16,8 @@ fn write_assigned(out: &mut Printer, assigned: &Assigned) -> Result<(), AllocErr
     ensures { OnOk result (out.new ≡ out.old ++ text_of (assigned_pieces assigned.now)) }
 {
     match assigned {
-        Assigned::Value(value) => {
-            write_expression(out, value)?;
-            Ok(())
-        }
-        Assigned::FieldPtr(_) => {
-            out.write(b"field_ptr")?;
-            Ok(())
-        }
+        Assigned::Value(value) => write_expression(out, value),
+        Assigned::FieldPtr(_) => out.write(b"field_ptr"),
     }
 }
 
@@ -33,56 +27,32 @@ fn write_statement(out: &mut Printer, statement: &Stmt) -> Result<(), AllocError
 {
     match &statement.kind {
         StmtKind::Store(cell, value) => {
-            out.write(b"*")?;
-            write_name(out, cell)?;
-            out.write(b" = ")?;
+            write_between(out, b"*", cell, b" = ")?;
             write_assigned(out, value)?;
-            out.write(b";")?;
-            Ok(())
+            out.write(b";")
         }
         StmtKind::StoreField(cell, field, value) => {
-            write_name(out, cell)?;
-            out.write(b"->")?;
-            write_name(out, field)?;
-            out.write(b" = ")?;
+            write_between(out, b"", cell, b"->")?;
+            write_between(out, b"", field, b" = ")?;
             write_assigned(out, value)?;
-            out.write(b";")?;
-            Ok(())
+            out.write(b";")
         }
         StmtKind::Var(local, _, cell) => {
-            out.write(b"var ")?;
-            write_name(out, local)?;
-            out.write(b" = *")?;
-            write_name(out, cell)?;
-            out.write(b";")?;
-            Ok(())
+            write_between(out, b"var ", local, b" = *")?;
+            write_between(out, b"", cell, b";")
         }
         StmtKind::If(condition, block) => {
-            out.write(b"if (")?;
-            write_expression(out, condition)?;
-            out.write(b") ")?;
-            write_braced(out, block)?;
-            Ok(())
+            write_enclosed(out, b"if (", condition, b") ")?;
+            write_braced(out, block)
         }
         StmtKind::IfElse(condition, block, other) => {
-            out.write(b"if (")?;
-            write_expression(out, condition)?;
-            out.write(b") ")?;
+            write_enclosed(out, b"if (", condition, b") ")?;
             write_braced(out, block)?;
             out.write(b" else ")?;
-            write_braced(out, other)?;
-            Ok(())
+            write_braced(out, other)
         }
-        StmtKind::Return(value) => {
-            out.write(b"return ")?;
-            write_expression(out, value)?;
-            out.write(b";")?;
-            Ok(())
-        }
-        StmtKind::Abort => {
-            out.write(b"abort;")?;
-            Ok(())
-        }
+        StmtKind::Return(value) => write_enclosed(out, b"return ", value, b";"),
+        StmtKind::Abort => out.write(b"abort;"),
     }
 }
 
@@ -105,8 +75,7 @@ fn write_braced(out: &mut Printer, block: &Block) -> Result<(), AllocError>
 {
     out.write(b"{ ")?;
     write_statements(out, block.as_slice())?;
-    out.write(b"}")?;
-    Ok(())
+    out.write(b"}")
 }
 
 fn action_word(kind: ActionKind) -> &'static [u8]
@@ -142,14 +111,8 @@ pub(crate) fn write_action(out: &mut Printer, action: &ActionTree) -> Result<(),
         } => {
             out.write(action_word(*kind))?;
             write_after_blanks(out, statements.as_slice())?;
-            out.write(b"}")?;
-            Ok(())
+            out.write(b"}")
         }
-        ActionTree::Copied { name, .. } => {
-            out.write(b"{:copy ")?;
-            write_name(out, name)?;
-            out.write(b"}")?;
-            Ok(())
-        }
+        ActionTree::Copied { name, .. } => write_between(out, b"{:copy ", name, b"}"),
     }
 }

@@ -9,11 +9,11 @@ ghost use Rattle.td_print_layout.specs.Parameters.{head_pieces};
 ghost use Rattle.td_print_layout.specs.Sequences.{name_piece, optional};
 ghost use Rattle.td_print.specs.Writing.{after_comma, piece_text};
 
-use crate::expressions::write_expression;
+use crate::expressions::write_enclosed;
 use crate::fields::{write_case_fields, write_struct_fields};
 use crate::parameters::write_head;
 use crate::printer::Printer;
-use crate::words::{number_word, write_constant, write_name, write_plain};
+use crate::words::{number_word, write_between, write_constant, write_name, write_plain};
 use std::alloc::AllocError;
 use td_ast::definitions::{
     AliasTree, CaseTree, CasetypeTree, Def, DefineTree, EnumTree, ItemTree, OutputTree, SlotKind,
@@ -29,12 +29,9 @@ use td_num::items::Items;
 fn write_define(out: &mut Printer, define: &DefineTree) -> Result<(), AllocError>
     ensures { OnOk result (out.new ≡ out.old ++ text_of (layouts.define_pieces define.now)) }
 {
-    out.write(b"#define ")?;
-    write_name(out, &define.name)?;
-    out.write(b" ")?;
+    write_between(out, b"#define ", &define.name, b" ")?;
     out.write_number(define.value.value, define.value.base)?;
-    out.write(b"\n")?;
-    Ok(())
+    out.write(b"\n")
 }
 
 // ` = 1`
@@ -45,8 +42,7 @@ fn write_value(out: &mut Printer, value: &Option<ConstTree>) -> Result<(), Alloc
         None => Ok(()),
         Some(value) => {
             out.write(b" = ")?;
-            write_constant(out, value)?;
-            Ok(())
+            write_constant(out, value)
         }
     }
 }
@@ -56,8 +52,7 @@ fn write_item(out: &mut Printer, item: &ItemTree) -> Result<(), AllocError>
     ensures { OnOk result (out.new ≡ out.old ++ text_of (layouts.item_pieces item.now)) }
 {
     write_name(out, &item.name)?;
-    write_value(out, &item.value)?;
-    Ok(())
+    write_value(out, &item.value)
 }
 
 // Items, each on a line of its own after a comma.
@@ -92,12 +87,9 @@ fn write_enum(out: &mut Printer, tree: &EnumTree) -> Result<(), AllocError>
     ensures { OnOk result (out.new ≡ out.old ++ text_of (layouts.enum_pieces tree.now)) }
 {
     out.write(number_word(tree.base.number))?;
-    out.write(b" enum ")?;
-    write_name(out, &tree.name)?;
-    out.write(b" {\n")?;
+    write_between(out, b" enum ", &tree.name, b" {\n")?;
     write_items(out, tree.items.as_slice())?;
-    out.write(b"}\n")?;
-    Ok(())
+    out.write(b"}\n")
 }
 
 // `typedef T U;`
@@ -106,10 +98,7 @@ fn write_alias(out: &mut Printer, alias: &AliasTree) -> Result<(), AllocError>
 {
     out.write(b"typedef ")?;
     write_plain(out, &alias.target)?;
-    out.write(b" ")?;
-    write_name(out, &alias.name)?;
-    out.write(b";\n")?;
-    Ok(())
+    write_between(out, b" ", &alias.name, b";\n")
 }
 
 fn write_entry(out: &mut Printer, entry: bool) -> Result<(), AllocError>
@@ -125,10 +114,7 @@ fn write_entry(out: &mut Printer, entry: bool) -> Result<(), AllocError>
 fn write_closing(out: &mut Printer, name: &Name) -> Result<(), AllocError>
     ensures { OnOk result (out.new ≡ out.old ++ text_of (layouts.closing_pieces name.now)) }
 {
-    out.write(b"} ")?;
-    write_name(out, name)?;
-    out.write(b";\n")?;
-    Ok(())
+    write_between(out, b"} ", name, b";\n")
 }
 
 // `_N(..) where e {`: the first name of a definition, its head, and the brace.
@@ -137,8 +123,7 @@ fn write_opening(out: &mut Printer, tag: &Name, head: &HeadTree) -> Result<(), A
 {
     write_name(out, tag)?;
     write_head(out, head)?;
-    out.write(b" {\n")?;
-    Ok(())
+    out.write(b" {\n")
 }
 
 fn write_struct(out: &mut Printer, tree: &StructTree) -> Result<(), AllocError>
@@ -156,10 +141,7 @@ fn write_struct(out: &mut Printer, tree: &StructTree) -> Result<(), AllocError>
 fn write_subject(out: &mut Printer, subject: &Expr) -> Result<(), AllocError>
     ensures { OnOk result (out.new ≡ out.old ++ text_of (layouts.subject_pieces subject.now)) }
 {
-    out.write(b"    switch (")?;
-    write_expression(out, subject)?;
-    out.write(b") {\n")?;
-    Ok(())
+    write_enclosed(out, b"    switch (", subject, b") {\n")
 }
 
 // `case K:` and its fields
@@ -222,14 +204,8 @@ fn write_slot_kind(out: &mut Printer, kind: &SlotKind) -> Result<(), AllocError>
     ensures { OnOk result (out.new ≡ out.old ++ piece_text (layouts.slot_piece kind.now)) }
 {
     match kind {
-        SlotKind::Number(tree) => {
-            out.write(number_word(tree.number))?;
-            Ok(())
-        }
-        SlotKind::Pointer(_) => {
-            out.write(b"PUINT8")?;
-            Ok(())
-        }
+        SlotKind::Number(tree) => out.write(number_word(tree.number)),
+        SlotKind::Pointer(_) => out.write(b"PUINT8"),
     }
 }
 
@@ -239,10 +215,7 @@ fn write_slot(out: &mut Printer, slot: &SlotTree) -> Result<(), AllocError>
 {
     out.write(b"    ")?;
     write_slot_kind(out, &slot.kind)?;
-    out.write(b" ")?;
-    write_name(out, &slot.name)?;
-    out.write(b";\n")?;
-    Ok(())
+    write_between(out, b" ", &slot.name, b";\n")
 }
 
 fn write_slots(out: &mut Printer, slots: &[SlotTree]) -> Result<(), AllocError>
@@ -257,9 +230,7 @@ fn write_slots(out: &mut Printer, slots: &[SlotTree]) -> Result<(), AllocError>
 fn write_output(out: &mut Printer, tree: &OutputTree) -> Result<(), AllocError>
     ensures { OnOk result (out.new ≡ out.old ++ text_of (layouts.output_pieces tree.now)) }
 {
-    out.write(b"output typedef struct ")?;
-    write_name(out, &tree.tag)?;
-    out.write(b" {\n")?;
+    write_between(out, b"output typedef struct ", &tree.tag, b" {\n")?;
     write_slots(out, tree.slots.as_slice())?;
     write_closing(out, &tree.name)?;
     Ok(())

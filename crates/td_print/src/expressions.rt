@@ -3,7 +3,8 @@
 
 ghost use Rattle.std.specs.Prelude.{◌≡◌, [], ◌∷◌, ◌++◌, OnOk, flat_map};
 ghost use Rattle.td_ast.specs.declared.token.TokenKind.TheVariants as kinds;
-ghost use Rattle.td_print_layout.specs.Pieces.{Word, spelling, text_of};
+ghost use Rattle.td_print_layout.specs.Pieces.{Blank, Word, spelling, text_of};
+ghost use Rattle.td_print_layout.specs.Operators.{binary_kind};
 ghost use Rattle.td_print_layout.specs.Expressions.{expression_pieces, fitted, operand_pieces, tree_level, truth_kind};
 ghost use Rattle.td_print_layout.specs.Sequences.{comma, in_parentheses};
 
@@ -11,7 +12,7 @@ use crate::operators::{binary_sign, left_of, level_of, right_of, unary_sign};
 use crate::printer::Printer;
 use crate::words::{number_word, write_qualified};
 use std::alloc::AllocError;
-use td_ast::expressions::{Expr, ExprKind, SizeofOperand};
+use td_ast::expressions::{BinaryOperator, Expr, ExprKind, SizeofOperand};
 
 /// The loosest level that the condition of `? :` has without parentheses.
 const CONDITION: u8 = 11;
@@ -46,18 +47,9 @@ fn write_sized(out: &mut Printer, operand: &SizeofOperand) -> Result<(), AllocEr
     ensures { OnOk result (out.new ≡ out.old ++ text_of (operand_pieces operand.now)) }
 {
     match operand {
-        SizeofOperand::Number(number) => {
-            out.write(number_word(*number))?;
-            Ok(())
-        }
-        SizeofOperand::Name(text) => {
-            write_qualified(out, text)?;
-            Ok(())
-        }
-        SizeofOperand::This => {
-            out.write(b"this")?;
-            Ok(())
-        }
+        SizeofOperand::Number(number) => out.write(number_word(*number)),
+        SizeofOperand::Name(text) => write_qualified(out, text),
+        SizeofOperand::This => out.write(b"this"),
     }
 }
 
@@ -67,8 +59,16 @@ fn write_sizeof(out: &mut Printer, operand: &SizeofOperand) -> Result<(), AllocE
 {
     out.write(b"sizeof(")?;
     write_sized(out, operand)?;
-    out.write(b")")?;
-    Ok(())
+    out.write(b")")
+}
+
+// ` + `
+fn write_sign(out: &mut Printer, operator: BinaryOperator) -> Result<(), AllocError>
+    ensures { OnOk result (out.new ≡ out.old ++ text_of (Blank ∷ Word (binary_kind operator) ∷ Blank ∷ [])) }
+{
+    out.write(b" ")?;
+    out.write(binary_sign(operator))?;
+    out.write(b" ")
 }
 
 // An operand at a place that takes this level or a tighter one without parentheses.
@@ -82,18 +82,16 @@ fn write_operand(out: &mut Printer, loosest: u8, operand: &Expr) -> Result<(), A
     }
     out.write(b"(")?;
     write_expression(out, operand)?;
-    out.write(b")")?;
-    Ok(())
+    out.write(b")")
 }
 
-// One more of some expressions: a comma, and the expression.
+// Some bytes, and an expression after them.
 #[cycle(expression)]
-fn write_next(out: &mut Printer, e: &Expr) -> Result<(), AllocError>
-    ensures { OnOk result (out.new ≡ out.old ++ text_of (comma ++ expression_pieces e.now)) }
+fn write_next(out: &mut Printer, before: &[u8], e: &Expr) -> Result<(), AllocError>
+    ensures { OnOk result (out.new ≡ out.old ++ (before.now ++ text_of (expression_pieces e.now))) }
 {
-    out.write(b", ")?;
-    write_expression(out, e)?;
-    Ok(())
+    out.write(before)?;
+    write_expression(out, e)
 }
 
 // `is_range_okay(size, offset, access)`
@@ -107,10 +105,9 @@ fn write_range(
     ensures { OnOk result (out.new ≡ out.old ++ text_of (Word kinds.IsRangeOkay ∷ Word kinds.OpenParen ∷ (expression_pieces size.now
         ++ (comma ++ (expression_pieces offset.now ++ (comma ++ (expression_pieces access.now ++ Word kinds.CloseParen ∷ []))))))) }
 {
-    out.write(b"is_range_okay(")?;
-    write_expression(out, size)?;
-    write_next(out, offset)?;
-    write_next(out, access)?;
+    write_next(out, b"is_range_okay(", size)?;
+    write_next(out, b", ", offset)?;
+    write_next(out, b", ", access)?;
     out.write(b")")?;
     Ok(())
 }
@@ -121,52 +118,40 @@ pub(crate) fn write_expression(out: &mut Printer, e: &Expr) -> Result<(), AllocE
     ensures { OnOk result (out.new ≡ out.old ++ text_of (expression_pieces e.now)) }
 {
     match &e.kind {
-        ExprKind::Number(value, base) => {
-            out.write_number(*value, *base)?;
-            Ok(())
-        }
-        ExprKind::Truth(truth) => {
-            out.write(truth_word(*truth))?;
-            Ok(())
-        }
-        ExprKind::Name(name) => {
-            write_qualified(out, &name.text)?;
-            Ok(())
-        }
-        ExprKind::FieldPos(_) => {
-            out.write(b"field_pos")?;
-            Ok(())
-        }
-        ExprKind::Sizeof(_, operand, _) => {
-            write_sizeof(out, operand)?;
-            Ok(())
-        }
-        ExprKind::RangeOkay(size, offset, access) => {
-            write_range(out, size, offset, access)?;
-            Ok(())
-        }
+        ExprKind::Number(value, base) => out.write_number(*value, *base),
+        ExprKind::Truth(truth) => out.write(truth_word(*truth)),
+        ExprKind::Name(name) => write_qualified(out, &name.text),
+        ExprKind::FieldPos(_) => out.write(b"field_pos"),
+        ExprKind::Sizeof(_, operand, _) => write_sizeof(out, operand),
+        ExprKind::RangeOkay(size, offset, access) => write_range(out, size, offset, access),
         ExprKind::Unary(operator, _, operand) => {
             out.write(unary_sign(*operator))?;
-            write_operand(out, OPERAND, operand)?;
-            Ok(())
+            write_operand(out, OPERAND, operand)
         }
         ExprKind::Binary(operator, _, left, right) => {
             write_operand(out, left_of(*operator), left)?;
-            out.write(b" ")?;
-            out.write(binary_sign(*operator))?;
-            out.write(b" ")?;
-            write_operand(out, right_of(*operator), right)?;
-            Ok(())
+            write_sign(out, *operator)?;
+            write_operand(out, right_of(*operator), right)
         }
         ExprKind::Choice(_, condition, first, second) => {
             write_operand(out, CONDITION, condition)?;
-            out.write(b" ? ")?;
-            write_expression(out, first)?;
-            out.write(b" : ")?;
-            write_expression(out, second)?;
-            Ok(())
+            write_next(out, b" ? ", first)?;
+            write_next(out, b" : ", second)
         }
     }
+}
+
+/// Writes an expression, with some bytes before it and some after it.
+pub(crate) fn write_enclosed(
+    out: &mut Printer,
+    before: &[u8],
+    e: &Expr,
+    after: &[u8],
+) -> Result<(), AllocError>
+    ensures { OnOk result (out.new ≡ out.old ++ (before.now ++ (text_of (expression_pieces e.now) ++ after.now))) }
+{
+    write_next(out, before, e)?;
+    out.write(after)
 }
 
 // Expressions, each after a comma.
@@ -174,7 +159,7 @@ fn write_others(out: &mut Printer, others: &[Expr]) -> Result<(), AllocError>
     ensures { OnOk result (out.new ≡ out.old ++ text_of (flat_map (λ e. comma ++ expression_pieces e) others.now)) }
 {
     for e in others {
-        write_next(out, e)?;
+        write_next(out, b", ", e)?;
     }
     Ok(())
 }

@@ -9,9 +9,9 @@ ghost use Rattle.td_print_layout.specs.Fields.{action_after, extent_pieces, fiel
 ghost use Rattle.td_print_layout.specs.Sequences.{optional};
 
 use crate::actions::write_action;
-use crate::expressions::{write_arguments, write_expression};
+use crate::expressions::{write_arguments, write_enclosed};
 use crate::printer::Printer;
-use crate::words::{number_word, write_name, write_qualified};
+use crate::words::{number_word, write_between, write_qualified};
 use std::alloc::AllocError;
 use td_ast::actions::ActionTree;
 use td_ast::expressions::Expr;
@@ -21,26 +21,13 @@ fn write_type(out: &mut Printer, kind: &TypeKind) -> Result<(), AllocError>
     ensures { OnOk result (out.new ≡ out.old ++ text_of (type_pieces kind.now)) }
 {
     match kind {
-        TypeKind::Number(number) => {
-            out.write(number_word(*number))?;
-            Ok(())
-        }
-        TypeKind::Unit => {
-            out.write(b"unit")?;
-            Ok(())
-        }
-        TypeKind::AllBytes => {
-            out.write(b"all_bytes")?;
-            Ok(())
-        }
-        TypeKind::AllZeros => {
-            out.write(b"all_zeros")?;
-            Ok(())
-        }
+        TypeKind::Number(number) => out.write(number_word(*number)),
+        TypeKind::Unit => out.write(b"unit"),
+        TypeKind::AllBytes => out.write(b"all_bytes"),
+        TypeKind::AllZeros => out.write(b"all_zeros"),
         TypeKind::Named(name, arguments) => {
             write_qualified(out, name)?;
-            write_arguments(out, arguments.as_slice())?;
-            Ok(())
+            write_arguments(out, arguments.as_slice())
         }
     }
 }
@@ -49,10 +36,7 @@ fn write_type(out: &mut Printer, kind: &TypeKind) -> Result<(), AllocError>
 fn write_size(out: &mut Printer, opening: &[u8], size: &Expr) -> Result<(), AllocError>
     ensures { OnOk result (out.new ≡ out.old ++ (opening.now ++ text_of (expression_pieces size.now ++ Word kinds.CloseBracket ∷ []))) }
 {
-    out.write(opening)?;
-    write_expression(out, size)?;
-    out.write(b"]")?;
-    Ok(())
+    write_enclosed(out, opening, size, b"]")
 }
 
 fn write_extent(out: &mut Printer, extent: &Option<ExtentTree>) -> Result<(), AllocError>
@@ -60,26 +44,17 @@ fn write_extent(out: &mut Printer, extent: &Option<ExtentTree>) -> Result<(), Al
 {
     match extent {
         None => Ok(()),
-        Some(ExtentTree::Bytes(size)) => {
-            write_size(out, b"[", size)?;
-            Ok(())
-        }
-        Some(ExtentTree::ByteSize(size)) => {
-            write_size(out, b"[:byte-size ", size)?;
-            Ok(())
-        }
+        Some(ExtentTree::Bytes(size)) => write_size(out, b"[", size),
+        Some(ExtentTree::ByteSize(size)) => write_size(out, b"[:byte-size ", size),
         Some(ExtentTree::SingleElement(size)) => {
-            write_size(out, b"[:byte-size-single-element-array ", size)?;
-            Ok(())
+            write_size(out, b"[:byte-size-single-element-array ", size)
         }
         Some(ExtentTree::Zeroterm(size)) => {
-            write_size(out, b"[:zeroterm-byte-size-at-most ", size)?;
-            Ok(())
+            write_size(out, b"[:zeroterm-byte-size-at-most ", size)
         }
         Some(ExtentTree::Bits(width)) => {
             out.write(b" : ")?;
-            out.write_number(width.value, width.base)?;
-            Ok(())
+            out.write_number(width.value, width.base)
         }
     }
 }
@@ -90,12 +65,7 @@ fn write_refinement(out: &mut Printer, refinement: &Option<Expr>) -> Result<(), 
 {
     match refinement {
         None => Ok(()),
-        Some(condition) => {
-            out.write(b" { ")?;
-            write_expression(out, condition)?;
-            out.write(b" }")?;
-            Ok(())
-        }
+        Some(condition) => write_enclosed(out, b" { ", condition, b" }"),
     }
 }
 
@@ -106,8 +76,7 @@ fn write_action_after(out: &mut Printer, action: &Option<ActionTree>) -> Result<
         None => Ok(()),
         Some(action) => {
             out.write(b" ")?;
-            write_action(out, action)?;
-            Ok(())
+            write_action(out, action)
         }
     }
 }
@@ -116,13 +85,11 @@ fn write_field(out: &mut Printer, field: &FieldTree) -> Result<(), AllocError>
     ensures { OnOk result (out.new ≡ out.old ++ text_of (field_pieces field.now)) }
 {
     write_type(out, &field.type_tree.kind)?;
-    out.write(b" ")?;
-    write_name(out, &field.name)?;
+    write_between(out, b" ", &field.name, b"")?;
     write_extent(out, &field.extent)?;
     write_refinement(out, &field.refinement)?;
     write_action_after(out, &field.action)?;
-    out.write(b";")?;
-    Ok(())
+    out.write(b";")
 }
 
 /// Writes the fields of a struct, a level deep.

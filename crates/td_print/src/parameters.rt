@@ -8,7 +8,7 @@ ghost use Rattle.td_print_layout.specs.Sequences.{comma, in_parentheses, optiona
 
 use crate::expressions::write_expression;
 use crate::printer::Printer;
-use crate::words::{number_word, write_constant, write_name, write_plain, write_qualified};
+use crate::words::{number_word, write_between, write_constant, write_plain, write_qualified};
 use std::alloc::AllocError;
 use td_ast::expressions::Expr;
 use td_ast::names::ConstTree;
@@ -18,18 +18,9 @@ fn write_target(out: &mut Printer, target: &TargetTree) -> Result<(), AllocError
     ensures { OnOk result (out.new ≡ out.old ++ text_of (target_pieces target.now)) }
 {
     match target {
-        TargetTree::Number(tree) => {
-            out.write(number_word(tree.number))?;
-            Ok(())
-        }
-        TargetTree::Pointer(_) => {
-            out.write(b"PUINT8")?;
-            Ok(())
-        }
-        TargetTree::Named(name) => {
-            write_qualified(out, &name.text)?;
-            Ok(())
-        }
+        TargetTree::Number(tree) => out.write(number_word(tree.number)),
+        TargetTree::Pointer(_) => out.write(b"PUINT8"),
+        TargetTree::Named(name) => write_qualified(out, &name.text),
     }
 }
 
@@ -39,8 +30,7 @@ fn write_room(out: &mut Printer, room: &ConstTree) -> Result<(), AllocError>
 {
     out.write(b"[")?;
     write_constant(out, room)?;
-    out.write(b"]")?;
-    Ok(())
+    out.write(b"]")
 }
 
 // `T a`, `mutable T *a` or `mutable UINT8 *a[8]`
@@ -50,20 +40,15 @@ fn write_parameter(out: &mut Printer, parameter: &ParamTree) -> Result<(), Alloc
     match parameter {
         ParamTree::Value(plain, name) => {
             write_plain(out, plain)?;
-            out.write(b" ")?;
-            write_name(out, name)?;
-            Ok(())
+            write_between(out, b" ", name, b"")
         }
         ParamTree::Mutable(target, name) => {
             out.write(b"mutable ")?;
             write_target(out, target)?;
-            out.write(b" *")?;
-            write_name(out, name)?;
-            Ok(())
+            write_between(out, b" *", name, b"")
         }
         ParamTree::Bytes { name, room } => {
-            out.write(b"mutable UINT8 *")?;
-            write_name(out, name)?;
+            write_between(out, b"mutable UINT8 *", name, b"")?;
             write_room(out, room)?;
             Ok(())
         }
@@ -105,8 +90,7 @@ fn write_condition(out: &mut Printer, condition: &Option<Expr>) -> Result<(), Al
         None => Ok(()),
         Some(condition) => {
             out.write(b" where ")?;
-            write_expression(out, condition)?;
-            Ok(())
+            write_expression(out, condition)
         }
     }
 }
@@ -116,6 +100,5 @@ pub(crate) fn write_head(out: &mut Printer, head: &HeadTree) -> Result<(), Alloc
     ensures { OnOk result (out.new ≡ out.old ++ text_of (head_pieces head.now)) }
 {
     write_parameters(out, head.params.as_slice())?;
-    write_condition(out, &head.condition)?;
-    Ok(())
+    write_condition(out, &head.condition)
 }

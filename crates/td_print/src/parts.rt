@@ -20,8 +20,7 @@ fn write_part(out: &mut Printer, part: &PartTree) -> Result<(), AllocError>
     out.write(b"module ")?;
     write_name(out, &part.name)?;
     out.write(b"\n\n")?;
-    write_definitions(out, part.definitions.as_slice())?;
-    Ok(())
+    write_definitions(out, part.definitions.as_slice())
 }
 
 // Parts, each after an empty line.

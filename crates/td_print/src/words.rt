@@ -31,8 +31,21 @@ pub(crate) fn number_word(number: NumberType) -> &'static [u8]
 pub(crate) fn write_name(out: &mut Printer, name: &Name) -> Result<(), AllocError>
     ensures { OnOk result (out.new ≡ out.old ++ name.now.text) }
 {
-    out.write(name.text.as_slice())?;
-    Ok(())
+    out.write(name.text.as_slice())
+}
+
+/// Writes a name that is never qualified, with some bytes before it and some after it.
+pub(crate) fn write_between(
+    out: &mut Printer,
+    before: &[u8],
+    name: &Name,
+    after: &[u8],
+) -> Result<(), AllocError>
+    ensures { OnOk result (out.new ≡ out.old ++ (before.now ++ (name.now.text ++ after.now))) }
+{
+    out.write(before)?;
+    write_name(out, name)?;
+    out.write(after)
 }
 
 /// Writes a name that may be qualified: its text, which has the dot then.
@@ -48,14 +61,8 @@ pub(crate) fn write_constant(out: &mut Printer, constant: &ConstTree) -> Result<
     ensures { OnOk result (out.new ≡ out.old ++ text_of (constant_pieces constant.now)) }
 {
     match constant {
-        ConstTree::Number(literal) => {
-            out.write_number(literal.value, literal.base)?;
-            Ok(())
-        }
-        ConstTree::Named(name) => {
-            write_qualified(out, &name.text)?;
-            Ok(())
-        }
+        ConstTree::Number(literal) => out.write_number(literal.value, literal.base),
+        ConstTree::Named(name) => write_qualified(out, &name.text),
     }
 }
 
@@ -64,13 +71,7 @@ pub(crate) fn write_plain(out: &mut Printer, plain: &PlainTree) -> Result<(), Al
     ensures { OnOk result (out.new ≡ out.old ++ text_of (plain_pieces plain.now)) }
 {
     match plain {
-        PlainTree::Number(tree) => {
-            out.write(number_word(tree.number))?;
-            Ok(())
-        }
-        PlainTree::Named(name) => {
-            write_qualified(out, &name.text)?;
-            Ok(())
-        }
+        PlainTree::Number(tree) => out.write(number_word(tree.number)),
+        PlainTree::Named(name) => write_qualified(out, &name.text),
     }
 }

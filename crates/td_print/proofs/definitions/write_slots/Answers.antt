@@ -1,4 +1,4 @@
-use Rattle.std.proofs.Common.{◌++◌, arith}
+use Rattle.std.proofs.Common.{arith}
 use Rattle.td_print_layout.specs.Definitions.{slot_line}
 use Rattle.td_print.proofs.Texts.{texts, text_more}
 use Rattle.td_print.proofs.definitions.write_slots.Goals as goal

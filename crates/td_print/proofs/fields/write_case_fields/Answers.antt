@@ -1,4 +1,4 @@
-use Rattle.std.proofs.Common.{◌++◌, refl, append_assoc, arith}
+use Rattle.std.proofs.Common.{refl, append_assoc, arith}
 use Rattle.td_print_layout.specs.Fields.{field_line}
 use Rattle.td_print.proofs.Texts.{text_append, text_more}
 use Rattle.td_print.proofs.fields.write_case_fields.Goals as goal

@@ -1,4 +1,4 @@
-use Rattle.std.proofs.Common.{◌++◌, arith}
+use Rattle.std.proofs.Common.{arith}
 use Rattle.td_print_layout.specs.Fields.{field_line}
 use Rattle.td_print.proofs.Texts.{texts, text_more}
 use Rattle.td_print.proofs.fields.write_struct_fields.Goals as goal
