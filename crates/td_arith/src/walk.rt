@@ -22,6 +22,8 @@ use td_bigint::whole::Whole;
 use td_core::expressions::{Binary, CoreExpr, Node};
 use td_expr::safety::Unsafe;
 
+// Where a value is let go, each way through its variants is a way through the function. So what has many is let go by a call.
+
 /// What a look at an expression tells: its range, and its first operator that isn't safe.
 #[derive(Drop)]
 struct Seen {
@@ -55,7 +57,9 @@ pub fn expression_unsafe<'a>(
         Node::Complement(a) | Node::Not(a) => expression_unsafe(alloc, a, known),
         Node::Compute(op, span, a, b) => {
             let operands = look_operands(alloc, *op, *span, a, b, known)?;
-            Ok(operands.unsafe_at)
+            let found = operands.unsafe_at;
+            drop(operands);
+            Ok(found)
         }
         Node::Compare(_, a, b) => pair_unsafe(alloc, a, b, known),
         Node::Both(a, b) => second_unsafe(alloc, true, a, b, known),
@@ -193,14 +197,28 @@ fn look_operands<'a>(
     ensures same { OnOk result (known.new.items ≡ known.old.items) }
 {
     let left = look(alloc, a, known)?;
-    let right = look(alloc, b, known)?;
-    let safe = is_safe(alloc, known, op, a, b, &left.ends, &right.ends)?;
-    let here = unless(safe, span, op);
-    Ok(Operands {
-        left: left.ends,
-        right: right.ends,
-        unsafe_at: first_of(left.unsafe_at, first_of(here, right.unsafe_at)),
-    })
+    let right = match look(alloc, b, known) {
+        Ok(right) => right,
+        Err(error) => {
+            drop(left);
+            return Err(error);
+        }
+    };
+    match is_safe(alloc, known, op, a, b, &left.ends, &right.ends) {
+        Ok(safe) => {
+            let here = unless(safe, span, op);
+            Ok(Operands {
+                left: left.ends,
+                right: right.ends,
+                unsafe_at: first_of(left.unsafe_at, first_of(here, right.unsafe_at)),
+            })
+        }
+        Err(error) => {
+            drop(left);
+            drop(right);
+            Err(error)
+        }
+    }
 }
 
 /// An operator that computes a number.
@@ -224,11 +242,11 @@ fn look_computed<'a>(
     ensures same { OnOk result (known.new.items ≡ known.old.items) }
 {
     let operands = look_operands(alloc, op, span, a, b, known)?;
-    let ends = computed_range(alloc, op, e, &operands.left, &operands.right, known)?;
-    Ok(Seen {
-        ends,
-        unsafe_at: operands.unsafe_at,
-    })
+    let unsafe_at = operands.unsafe_at;
+    let told = computed_range(alloc, op, e, &operands.left, &operands.right, known);
+    drop(operands);
+    let ends = told?;
+    Ok(Seen { ends, unsafe_at })
 }
 
 /// `?:`, where the condition is known to be true in the first branch, and to be false in the second.
@@ -252,7 +270,13 @@ fn look_choice<'a>(
 {
     let test = expression_unsafe(alloc, c, known)?;
     let one = look_under(alloc, true, c, a, known)?;
-    let other = look_under(alloc, false, c, b, known)?;
+    let other = match look_under(alloc, false, c, b, known) {
+        Ok(other) => other,
+        Err(error) => {
+            drop(one);
+            return Err(error);
+        }
+    };
     let found = first_of(test, first_of(one.unsafe_at, other.unsafe_at));
     let ends = spanned_range(alloc, e, one.ends, other.ends, known)?;
     Ok(Seen {
@@ -295,5 +319,7 @@ pub(crate) fn passes<'a>(
     ensures same { OnOk result (known.new.items ≡ known.old.items) }
 {
     let size = look(alloc, e, known)?;
-    Whole::small(i128::from(most)).is_below(alloc, &size.ends.high)
+    let told = Whole::small(i128::from(most)).is_below(alloc, &size.ends.high);
+    drop(size);
+    told
 }

@@ -4,11 +4,12 @@ use Rattle.std.proofs.lemmas.List.{drop-set-add, map-set, length-drop}
 use Rattle.td_num.specs.Numbers.{places_from}
 use Rattle.td_core.specs.declared.module.CopyOut.{CopyOut}
 use Rattle.td_core.specs.Held.{AreHeld}
-use Rattle.td_core.specs.Outcome.{accepted, after_reading, and_then, bytes_at, copies_by}
+use Rattle.td_core.specs.Outcome.{accepted, rejected, after_reading, and_then, bytes_at, copies_by}
+use Rattle.td_core.specs.declared.outcome.Reason.TheVariants.{NotEnough}
 use Rattle.td_core.proofs.Copies.{copies_set}
 use Rattle.td_meaning.specs.Meaning.{with_copy}
 use Rattle.td_meaning.specs.Words64.{copied_meaning}
-use Rattle.td_meaning.proofs.Filling.{taken_long}
+use Rattle.td_meaning.proofs.Filling.{taken_long, taken_short}
 use Rattle.td_stream.specs.Copies.{BufferView, held_by}
 
 -- place and next are those of the buffer's cells
@@ -26,3 +27,6 @@ held_put b cells first number place next p n copies buffer at after size there h
 
 pub copied_long : (c : CopyOut) (places : List ℕ) (n end p : ℕ) (cells : List ℕ) → p + n ≤ end → copied_meaning c places n end p cells ≡ after_reading (places_from p (min n c.room)) (accepted (p + n) (with_copy c places p (min n c.room) cells))
 copied_long c places n end p cells h = ap (λ t. and_then t (λ q cells. after_reading (places_from p (min n c.room)) (accepted q (with_copy c places p (min n c.room) cells)))) (taken_long n p end p cells h)
+
+pub copied_short : (c : CopyOut) (places : List ℕ) (n end p : ℕ) (cells : List ℕ) → end < p + n → copied_meaning c places n end p cells ≡ rejected NotEnough p cells
+copied_short c places n end p cells h = ap (λ t. and_then t (λ q cells. after_reading (places_from p (min n c.room)) (accepted q (with_copy c places p (min n c.room) cells)))) (taken_short n p end p cells h)

@@ -74,10 +74,6 @@ pub fn validate_zero_ended<W: Words>(
 {
     match element {
         Element::Number(number_type) => validate_up_to_zero(*number_type, size, stream),
-        Element::Listed { .. } => unfit(stream.pos()),
-        Element::Named { .. } => unfit(stream.pos()),
-        Element::Unit => unfit(stream.pos()),
-        Element::Rest => unfit(stream.pos()),
-        Element::Zeros => unfit(stream.pos()),
+        _ => unfit(stream.pos()),
     }
 }

@@ -1,7 +1,6 @@
 -- The answers of elements and arrays.
-use Rattle.std.proofs.Common.{rules, ◌≡◌, ℕ, suc, ◌+◌, ◌-◌, ◌*◌, ◌<◌, ◌≤◌, List, [], length, true, false, refl, sym, ap, ◌∙◌, subst, arith}
+use Rattle.std.proofs.Common.{◌≡◌, ℕ, suc, ◌+◌, ◌-◌, ◌*◌, ◌<◌, ◌≤◌, List, [], length, true, false, refl, sym, ap, ◌∙◌, subst, arith}
 use Rattle.std.specs.Prelude.{slice_index, map, nat_eq, Option, IfSome}
-use Rattle.std.proofs.lemmas.Grind.{common_steps}
 use Rattle.std.proofs.lemmas.Result.{err_from_is_err_and}
 use Rattle.td_core.specs.declared.module.Element.{Element}
 use Rattle.td_core.specs.declared.module.Extent.{Extent}
@@ -22,6 +21,7 @@ use Rattle.td_direct.specs.Placing.{IsElementPlaced}
 use Rattle.td_direct.specs.Validates.{senses}
 use Rattle.td_direct.proofs.TypeLemmas.{filled_unfit, filled_fit, once_short, once_unfit, once_fit, elements_over, elements_done, elements_on, window_pass}
 use Rattle.td_direct.proofs.Validations.{lent_self, lent_size, from, to, then, followed, still, rejects, accepts, unwritten, passed, windowed, out_from, out_then, out_after, out_still, out_windowed}
+use Rattle.td_direct.proofs.Results.{with_one, or_err}
 use Rattle.td_direct.proofs.+types.Goals as goal
 use Rattle.td_meaning.proofs.Filling.{filled_short, accepted_at}
 
@@ -48,7 +48,7 @@ arrays::validate_elements-validate_element-requires g t c =
     let empty_trace = i.at.1 in
     let size : length l.slate.cells.now ≡ a.walk.now.first + 2 * length l.slate.copies.now = lent_size a.slate.now l.slate a.walk.now.first i.lent c.requires.size in
     let placed : IsElementPlaced ds a.walk.now.places.now a.walk.now.first (rooms_of l.slate.copies.now) a.element.now = subst (λ rooms. IsElementPlaced ds a.walk.now.places.now a.walk.now.first rooms a.element.now) (sym i.lent.rooms) c.requires.placed in
-    first_of (search (rules, whole, empty_trace, size, placed), grind (arith, common_steps, whole, empty_trace, size, placed))
+    λ lives live. (omega (arith, c.decreases), (live, (whole, (empty_trace, (c.requires.given, (size, placed))))))
 
 pub arrays::validate_elements-returns-then-pos-end-clause-decides : goal.arrays::validate_elements-returns-then-pos-end-clause-decides
 arrays::validate_elements-returns-then-pos-end-clause-decides g t c =
@@ -179,25 +179,25 @@ pub elements::validate_element-returns-in_err-own-in-Named-clause-runs_out : goa
 elements::validate_element-returns-in_err-own-in-Named-clause-runs_out g t c = let p = err_from_is_err_and c.from_residual-in_err-own-in-Named.result c.from_residual-in_err-own-in-Named.ensures.1 in rw p.1 (
     out_still g.met.W.Words.reaches_itself c.args.stream.now _ c.requires.whole (lent_self c.args.slate.now))
 
-pub elements::validate_element-returns-in_ok-validate_named-in-Named-clause-decides : goal.elements::validate_element-returns-in_ok-validate_named-in-Named-clause-decides
-elements::validate_element-returns-in_ok-validate_named-in-Named-clause-decides g t c =
+pub elements::validate_element-returns-in_ok-own-in-Named-clause-decides : goal.elements::validate_element-returns-in_ok-own-in-Named-clause-decides
+elements::validate_element-returns-in_ok-own-in-Named-clause-decides g t c =
     let a = c.args in
     let s = a.stream.now in
     let m = a.walk.now.types.now.module.now in
     let cells = a.slate.now.cells.now in
     let args : values c.in-Named.args a.env.now ≡ c.as_slice-in-Named-4.result.now = (λ k. values (sym c.as_slice-in-Named.ensures k) a.env.now) ∙ sym c.in_ok-args-in-Named.ensures.ok ∙ sym c.as_slice-in-Named-4.ensures.value in
     let own : map (slice_index a.walk.now.places.now) c.in-Named.own ≡ c.as_slice-in-Named-3.result.now = (λ k. map (slice_index a.walk.now.places.now) (sym c.as_slice-in-Named-2.ensures k)) ∙ sym c.in_ok-own-in-Named.ensures.ok ∙ sym c.as_slice-in-Named-3.ensures.value in
-    from _ (λ b. ap (λ (x : Element). element_meaning m.listed (senses m a.walk.now.bound) x a.env.now a.walk.now.places.now b a.start s.end s.pos cells) c.in-Named.is ∙ (λ k. senses m a.walk.now.bound c.in-Named.definition (args k) (own k) cells b s.pos s.end)) c.in_ok-validate_named-in-Named.ensures.decides
+    with_one c.validate_named-told.result c.validate_named-told.ensures.decides (λ v. from _ (λ b. ap (λ (x : Element). element_meaning m.listed (senses m a.walk.now.bound) x a.env.now a.walk.now.places.now b a.start s.end s.pos cells) c.in-Named.is ∙ (λ k. senses m a.walk.now.bound c.in-Named.definition (args k) (own k) cells b s.pos s.end)))
 
-pub elements::validate_element-returns-in_err-validate_named-in-Named-clause-runs_out : goal.elements::validate_element-returns-in_err-validate_named-in-Named-clause-runs_out
-elements::validate_element-returns-in_err-validate_named-in-Named-clause-runs_out g t c = let p = err_from_is_err_and c.from_residual-in_err-validate_named-in-Named.result c.from_residual-in_err-validate_named-in-Named.ensures.1 in rw p.1 (
+pub elements::validate_element-returns-in_ok-own-in-Named-clause-runs_out : goal.elements::validate_element-returns-in_ok-own-in-Named-clause-runs_out
+elements::validate_element-returns-in_ok-own-in-Named-clause-runs_out g t c =
     let a = c.args in
     let s = a.stream.now in
     let m = a.walk.now.types.now.module.now in
     let cells = a.slate.now.cells.now in
     let args : values c.in-Named.args a.env.now ≡ c.as_slice-in-Named-4.result.now = (λ k. values (sym c.as_slice-in-Named.ensures k) a.env.now) ∙ sym c.in_ok-args-in-Named.ensures.ok ∙ sym c.as_slice-in-Named-4.ensures.value in
     let own : map (slice_index a.walk.now.places.now) c.in-Named.own ≡ c.as_slice-in-Named-3.result.now = (λ k. map (slice_index a.walk.now.places.now) (sym c.as_slice-in-Named-2.ensures k)) ∙ sym c.in_ok-own-in-Named.ensures.ok ∙ sym c.as_slice-in-Named-3.ensures.value in
-    out_from _ (λ b. ap (λ (x : Element). element_meaning m.listed (senses m a.walk.now.bound) x a.env.now a.walk.now.places.now b a.start s.end s.pos cells) c.in-Named.is ∙ (λ k. senses m a.walk.now.bound c.in-Named.definition (args k) (own k) cells b s.pos s.end)) c.in_err-validate_named-in-Named.ensures.runs_out)
+    or_err c.validate_named-told.result c.validate_named-told.ensures.runs_out (out_from _ (λ b. ap (λ (x : Element). element_meaning m.listed (senses m a.walk.now.bound) x a.env.now a.walk.now.places.now b a.start s.end s.pos cells) c.in-Named.is ∙ (λ k. senses m a.walk.now.bound c.in-Named.definition (args k) (own k) cells b s.pos s.end)))
 
 pub elements::validate_element-returns-in-Unit-clause-decides : goal.elements::validate_element-returns-in-Unit-clause-decides
 elements::validate_element-returns-in-Unit-clause-decides g t c =
@@ -268,7 +268,7 @@ arrays::validate_filling-returns-then-not-divides-clause-decides g t c =
     let s = a.stream.now in
     let m = a.walk.now.types.now.module.now in
     let long : s.pos + a.size ≤ s.end = omega (arith, c.if-size-end.false, c.pos-pos.ensures, c.end-end.ensures, c.requires.whole.within) in
-    let bad : divides a.step a.size ≡ false = search rules in
+    let bad : divides a.step a.size ≡ false = sym c.divides.ensures ∙ c.if-not-divides.true in
     rw c.unfit.ensures (rejects g.met.W.Words.reaches_itself s ListSize c.pos-pos.result s.pos _ c.requires.whole c.requires.empty_trace c.pos-pos.ensures
     (λ b. filled_unfit (element_meaning m.listed (senses m a.walk.now.bound) a.element.now a.env.now a.walk.now.places.now b s.pos) a.step a.size s.end s.pos a.slate.now.cells.now long bad))
 
@@ -280,8 +280,8 @@ arrays::validate_filling-returns-then-passes_all-clause-decides g t c =
     let cells = a.slate.now.cells.now in
     let each = λ (b : List ℕ). element_meaning m.listed (senses m a.walk.now.bound) a.element.now a.env.now a.walk.now.places.now b s.pos in
     let long : s.pos + a.size ≤ s.end = omega (arith, c.if-size-end.false, c.pos-pos.ensures, c.end-end.ensures, c.requires.whole.within) in
-    let good : divides a.step a.size ≡ true = search rules in
-    let passes : passes_all c.passed_size.result a.size ≡ true = search rules in
+    let good : divides a.step a.size ≡ true = sym c.divides.ensures ∙ c.if-not-divides.false in
+    let passes : passes_all c.passed_size.result a.size ≡ true = sym c.passes_all.ensures ∙ c.if-passes_all.true in
     passed c.pos.result (s.pos + a.size) _ c.requires.empty_trace c.skip.ensures.moves c.pos.ensures
     (λ b. filled_fit (each b) a.step a.size s.end s.pos cells long good
     ∙ window_pass (each b (s.pos + a.size)) c.passed_size.result a.size s.pos (s.pos + a.size) s.pos cells (λ w e p r. subst (λ (o : Option ℕ). IfSome o (λ size. IsPassed m a.walk.now.bound a.element.now size)) e c.passed_size.ensures a.env.now a.walk.now.places.now b s.pos (s.pos + a.size) p cells r) passes refl)
@@ -295,7 +295,7 @@ arrays::validate_filling-returns-clause-decides g t c =
     let n = c.validate_elements.new.stream in
     let r = c.narrow.new.self in
     let long : s.pos + a.size ≤ s.end = omega (arith, c.if-size-end.false, c.pos-pos.ensures, c.end-end.ensures, c.requires.whole.within) in
-    let good : divides a.step a.size ≡ true = search rules in
+    let good : divides a.step a.size ≡ true = sym c.divides.ensures ∙ c.if-not-divides.false in
     let st : s.pos ≡ c.pos-pos.result = sym c.pos-pos.ensures in
     let ends : s.pos + a.size ≡ r.end = sym c.narrow.ensures.moves.ends in
     let at : s.pos ≡ r.pos = sym c.narrow.ensures.moves.at in
@@ -313,7 +313,7 @@ arrays::validate_filling-returns-in_err-verdict-clause-runs_out g t c = let p = 
     let cells = a.slate.now.cells.now in
     let r = c.narrow.new.self in
     let long : s.pos + a.size ≤ s.end = omega (arith, c.if-size-end.false, c.pos-pos.ensures, c.end-end.ensures, c.requires.whole.within) in
-    let good : divides a.step a.size ≡ true = search rules in
+    let good : divides a.step a.size ≡ true = sym c.divides.ensures ∙ c.if-not-divides.false in
     let st : s.pos ≡ c.pos-pos.result = sym c.pos-pos.ensures in
     let ends : s.pos + a.size ≡ r.end = sym c.narrow.ensures.moves.ends in
     let at : s.pos ≡ r.pos = sym c.narrow.ensures.moves.at in
@@ -339,7 +339,7 @@ arrays::validate_once-returns-then-not-equals-clause-decides g t c =
     let s = a.stream.now in
     let m = a.walk.now.types.now.module.now in
     let long : s.pos + a.size ≤ s.end = omega (arith, c.if-size-end.false, c.pos-pos.ensures, c.end-end.ensures, c.requires.whole.within) in
-    let bad : equals a.step a.size ≡ false = search rules in
+    let bad : equals a.step a.size ≡ false = sym c.equals.ensures ∙ c.if-not-equals.true in
     rw c.unfit.ensures (rejects g.met.W.Words.reaches_itself s ListSize c.pos-pos.result s.pos _ c.requires.whole c.requires.empty_trace c.pos-pos.ensures
     (λ b. once_unfit (element_meaning m.listed (senses m a.walk.now.bound) a.element.now a.env.now a.walk.now.places.now b s.pos) a.step a.size s.end s.pos a.slate.now.cells.now long bad))
 
@@ -352,7 +352,7 @@ arrays::validate_once-returns-clause-decides g t c =
     let n = c.validate_single.new.stream in
     let r = c.narrow.new.self in
     let long : s.pos + a.size ≤ s.end = omega (arith, c.if-size-end.false, c.pos-pos.ensures, c.end-end.ensures, c.requires.whole.within) in
-    let good : equals a.step a.size ≡ true = search rules in
+    let good : equals a.step a.size ≡ true = sym c.equals.ensures ∙ c.if-not-equals.false in
     let st : s.pos ≡ c.pos-pos.result = sym c.pos-pos.ensures in
     let ends : s.pos + a.size ≡ r.end = sym c.narrow.ensures.moves.ends in
     let at : s.pos ≡ r.pos = sym c.narrow.ensures.moves.at in
@@ -369,7 +369,7 @@ arrays::validate_once-returns-in_err-verdict-clause-runs_out g t c = let p = err
     let cells = a.slate.now.cells.now in
     let r = c.narrow.new.self in
     let long : s.pos + a.size ≤ s.end = omega (arith, c.if-size-end.false, c.pos-pos.ensures, c.end-end.ensures, c.requires.whole.within) in
-    let good : equals a.step a.size ≡ true = search rules in
+    let good : equals a.step a.size ≡ true = sym c.equals.ensures ∙ c.if-not-equals.false in
     let st : s.pos ≡ c.pos-pos.result = sym c.pos-pos.ensures in
     let ends : s.pos + a.size ≡ r.end = sym c.narrow.ensures.moves.ends in
     let at : s.pos ≡ r.pos = sym c.narrow.ensures.moves.at in
@@ -379,59 +379,59 @@ arrays::validate_once-returns-in_err-verdict-clause-runs_out g t c = let p = err
 
 -- What stands in a field
 
-pub arrays::validate_shape-returns-in_ok-validate_element-in-Once-clause-decides : goal.arrays::validate_shape-returns-in_ok-validate_element-in-Once-clause-decides
-arrays::validate_shape-returns-in_ok-validate_element-in-Once-clause-decides g t c =
+pub arrays::validate_shape-returns-in-Once-clause-decides : goal.arrays::validate_shape-returns-in-Once-clause-decides
+arrays::validate_shape-returns-in-Once-clause-decides g t c =
     let a = c.args in
     let s = a.stream.now in
     let m = a.walk.now.types.now.module.now in
     let cells = a.slate.now.cells.now in
-    from _ (λ b. ap (λ (x : Extent). shape_meaning m.listed (senses m a.walk.now.bound) a.element.now x a.env.now a.walk.now.places.now b s.end s.pos cells) c.in-Once.is
-    ∙ (λ k. element_meaning m.listed (senses m a.walk.now.bound) a.element.now a.env.now a.walk.now.places.now b (sym c.pos.ensures k) s.end s.pos cells)) c.in_ok-validate_element-in-Once.ensures.decides
+    with_one c.validate_element.result c.validate_element.ensures.decides (λ v. from _ (λ b. ap (λ (x : Extent). shape_meaning m.listed (senses m a.walk.now.bound) a.element.now x a.env.now a.walk.now.places.now b s.end s.pos cells) c.in-Once.is
+    ∙ (λ k. element_meaning m.listed (senses m a.walk.now.bound) a.element.now a.env.now a.walk.now.places.now b (sym c.pos.ensures k) s.end s.pos cells)))
 
-pub arrays::validate_shape-returns-in_err-validate_element-in-Once-clause-runs_out : goal.arrays::validate_shape-returns-in_err-validate_element-in-Once-clause-runs_out
-arrays::validate_shape-returns-in_err-validate_element-in-Once-clause-runs_out g t c = let p = err_from_is_err_and c.from_residual.result c.from_residual.ensures.1 in rw p.1 (
+pub arrays::validate_shape-returns-in-Once-clause-runs_out : goal.arrays::validate_shape-returns-in-Once-clause-runs_out
+arrays::validate_shape-returns-in-Once-clause-runs_out g t c =
     let a = c.args in
     let s = a.stream.now in
     let m = a.walk.now.types.now.module.now in
     let cells = a.slate.now.cells.now in
-    out_from _ (λ b. ap (λ (x : Extent). shape_meaning m.listed (senses m a.walk.now.bound) a.element.now x a.env.now a.walk.now.places.now b s.end s.pos cells) c.in-Once.is
-    ∙ (λ k. element_meaning m.listed (senses m a.walk.now.bound) a.element.now a.env.now a.walk.now.places.now b (sym c.pos.ensures k) s.end s.pos cells)) c.in_err-validate_element-in-Once.ensures.runs_out)
+    or_err c.validate_element.result c.validate_element.ensures.runs_out (out_from _ (λ b. ap (λ (x : Extent). shape_meaning m.listed (senses m a.walk.now.bound) a.element.now x a.env.now a.walk.now.places.now b s.end s.pos cells) c.in-Once.is
+    ∙ (λ k. element_meaning m.listed (senses m a.walk.now.bound) a.element.now a.env.now a.walk.now.places.now b (sym c.pos.ensures k) s.end s.pos cells)))
 
-pub arrays::validate_shape-returns-in_ok-validate_filling-in-Filling-clause-decides : goal.arrays::validate_shape-returns-in_ok-validate_filling-in-Filling-clause-decides
-arrays::validate_shape-returns-in_ok-validate_filling-in-Filling-clause-decides g t c =
+pub arrays::validate_shape-returns-in-Filling-clause-decides : goal.arrays::validate_shape-returns-in-Filling-clause-decides
+arrays::validate_shape-returns-in-Filling-clause-decides g t c =
     let a = c.args in
     let s = a.stream.now in
     let m = a.walk.now.types.now.module.now in
     let cells = a.slate.now.cells.now in
-    from _ (λ b. ap (λ (x : Extent). shape_meaning m.listed (senses m a.walk.now.bound) a.element.now x a.env.now a.walk.now.places.now b s.end s.pos cells) c.in-Filling.is
-    ∙ (λ k. filled (element_meaning m.listed (senses m a.walk.now.bound) a.element.now a.env.now a.walk.now.places.now b s.pos) c.in-Filling.step (sym c.value_of.ensures k) s.end s.pos cells)) c.in_ok-validate_filling-in-Filling.ensures.decides
+    with_one c.validate_filling.result c.validate_filling.ensures.decides (λ v. from _ (λ b. ap (λ (x : Extent). shape_meaning m.listed (senses m a.walk.now.bound) a.element.now x a.env.now a.walk.now.places.now b s.end s.pos cells) c.in-Filling.is
+    ∙ (λ k. filled (element_meaning m.listed (senses m a.walk.now.bound) a.element.now a.env.now a.walk.now.places.now b s.pos) c.in-Filling.step (sym c.value_of.ensures k) s.end s.pos cells)))
 
-pub arrays::validate_shape-returns-in_err-validate_filling-in-Filling-clause-runs_out : goal.arrays::validate_shape-returns-in_err-validate_filling-in-Filling-clause-runs_out
-arrays::validate_shape-returns-in_err-validate_filling-in-Filling-clause-runs_out g t c = let p = err_from_is_err_and c.from_residual-in_err-validate_filling-in-Filling.result c.from_residual-in_err-validate_filling-in-Filling.ensures.1 in rw p.1 (
+pub arrays::validate_shape-returns-in-Filling-clause-runs_out : goal.arrays::validate_shape-returns-in-Filling-clause-runs_out
+arrays::validate_shape-returns-in-Filling-clause-runs_out g t c =
     let a = c.args in
     let s = a.stream.now in
     let m = a.walk.now.types.now.module.now in
     let cells = a.slate.now.cells.now in
-    out_from _ (λ b. ap (λ (x : Extent). shape_meaning m.listed (senses m a.walk.now.bound) a.element.now x a.env.now a.walk.now.places.now b s.end s.pos cells) c.in-Filling.is
-    ∙ (λ k. filled (element_meaning m.listed (senses m a.walk.now.bound) a.element.now a.env.now a.walk.now.places.now b s.pos) c.in-Filling.step (sym c.value_of.ensures k) s.end s.pos cells)) c.in_err-validate_filling-in-Filling.ensures.runs_out)
+    or_err c.validate_filling.result c.validate_filling.ensures.runs_out (out_from _ (λ b. ap (λ (x : Extent). shape_meaning m.listed (senses m a.walk.now.bound) a.element.now x a.env.now a.walk.now.places.now b s.end s.pos cells) c.in-Filling.is
+    ∙ (λ k. filled (element_meaning m.listed (senses m a.walk.now.bound) a.element.now a.env.now a.walk.now.places.now b s.pos) c.in-Filling.step (sym c.value_of.ensures k) s.end s.pos cells)))
 
-pub arrays::validate_shape-returns-in_ok-validate_once-in-OnceFilling-clause-decides : goal.arrays::validate_shape-returns-in_ok-validate_once-in-OnceFilling-clause-decides
-arrays::validate_shape-returns-in_ok-validate_once-in-OnceFilling-clause-decides g t c =
+pub arrays::validate_shape-returns-in-OnceFilling-clause-decides : goal.arrays::validate_shape-returns-in-OnceFilling-clause-decides
+arrays::validate_shape-returns-in-OnceFilling-clause-decides g t c =
     let a = c.args in
     let s = a.stream.now in
     let m = a.walk.now.types.now.module.now in
     let cells = a.slate.now.cells.now in
-    from _ (λ b. ap (λ (x : Extent). shape_meaning m.listed (senses m a.walk.now.bound) a.element.now x a.env.now a.walk.now.places.now b s.end s.pos cells) c.in-OnceFilling.is
-    ∙ (λ k. filled_once (element_meaning m.listed (senses m a.walk.now.bound) a.element.now a.env.now a.walk.now.places.now b s.pos) c.in-OnceFilling.step (sym c.value_of-in-OnceFilling.ensures k) s.end s.pos cells)) c.in_ok-validate_once-in-OnceFilling.ensures.decides
+    with_one c.validate_once.result c.validate_once.ensures.decides (λ v. from _ (λ b. ap (λ (x : Extent). shape_meaning m.listed (senses m a.walk.now.bound) a.element.now x a.env.now a.walk.now.places.now b s.end s.pos cells) c.in-OnceFilling.is
+    ∙ (λ k. filled_once (element_meaning m.listed (senses m a.walk.now.bound) a.element.now a.env.now a.walk.now.places.now b s.pos) c.in-OnceFilling.step (sym c.value_of-in-OnceFilling.ensures k) s.end s.pos cells)))
 
-pub arrays::validate_shape-returns-in_err-validate_once-in-OnceFilling-clause-runs_out : goal.arrays::validate_shape-returns-in_err-validate_once-in-OnceFilling-clause-runs_out
-arrays::validate_shape-returns-in_err-validate_once-in-OnceFilling-clause-runs_out g t c = let p = err_from_is_err_and c.from_residual-in_err-validate_once-in-OnceFilling.result c.from_residual-in_err-validate_once-in-OnceFilling.ensures.1 in rw p.1 (
+pub arrays::validate_shape-returns-in-OnceFilling-clause-runs_out : goal.arrays::validate_shape-returns-in-OnceFilling-clause-runs_out
+arrays::validate_shape-returns-in-OnceFilling-clause-runs_out g t c =
     let a = c.args in
     let s = a.stream.now in
     let m = a.walk.now.types.now.module.now in
     let cells = a.slate.now.cells.now in
-    out_from _ (λ b. ap (λ (x : Extent). shape_meaning m.listed (senses m a.walk.now.bound) a.element.now x a.env.now a.walk.now.places.now b s.end s.pos cells) c.in-OnceFilling.is
-    ∙ (λ k. filled_once (element_meaning m.listed (senses m a.walk.now.bound) a.element.now a.env.now a.walk.now.places.now b s.pos) c.in-OnceFilling.step (sym c.value_of-in-OnceFilling.ensures k) s.end s.pos cells)) c.in_err-validate_once-in-OnceFilling.ensures.runs_out)
+    or_err c.validate_once.result c.validate_once.ensures.runs_out (out_from _ (λ b. ap (λ (x : Extent). shape_meaning m.listed (senses m a.walk.now.bound) a.element.now x a.env.now a.walk.now.places.now b s.end s.pos cells) c.in-OnceFilling.is
+    ∙ (λ k. filled_once (element_meaning m.listed (senses m a.walk.now.bound) a.element.now a.env.now a.walk.now.places.now b s.pos) c.in-OnceFilling.step (sym c.value_of-in-OnceFilling.ensures k) s.end s.pos cells)))
 
 pub arrays::validate_shape-returns-in-UpToZero-clause-decides : goal.arrays::validate_shape-returns-in-UpToZero-clause-decides
 arrays::validate_shape-returns-in-UpToZero-clause-decides g t c =

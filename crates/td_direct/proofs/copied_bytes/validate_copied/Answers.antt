@@ -1,16 +1,17 @@
-use Rattle.std.proofs.Common.{◌≡◌, ◌+◌, ◌-◌, ◌≤◌, min, [], map, sym, ap, ◌∙◌, subst, arith, slice_index, slice_set}
+use Rattle.std.proofs.Common.{◌≡◌, ◌+◌, ◌-◌, ◌≤◌, ◌<◌, min, [], refl, map, sym, ap, ◌∙◌, subst, arith, slice_index, slice_set}
 use Rattle.std.proofs.lemmas.List.{append-nil, length-map}
 use Rattle.std.proofs.Math.Seq.{map-set_same}
 use Rattle.td_num.specs.Numbers.{places_from}
 use Rattle.td_core.specs.Held.{AreHeld}
-use Rattle.td_core.specs.Outcome.{accepted, after_reading}
+use Rattle.td_core.specs.declared.outcome.Reason.TheVariants.{NotEnough}
+use Rattle.td_core.specs.Outcome.{accepted, rejected, after_reading}
 use Rattle.td_meaning.specs.Meaning.{with_copy}
 use Rattle.td_stream.specs.Loads.{Carries}
 use Rattle.td_stream.specs.Copies.{BufferView, held_by, rooms_of}
 use Rattle.td_stream.specs.StreamInvariant.{Looked, position, end_of, layout_of}
-use Rattle.td_stream.proofs.Places.{look_more}
+use Rattle.td_stream.proofs.Places.{look_more, look_nowhere}
 use Rattle.td_stream.proofs.Rooms.{room_at}
-use Rattle.td_direct.proofs.Held.{held_put, copied_long}
+use Rattle.td_direct.proofs.Held.{held_put, copied_long, copied_short}
 use Rattle.td_direct.proofs.copied_bytes.validate_copied.Goals as goal
 
 pub copy_to-requires-clause-room : goal.copy_to-requires-clause-room
@@ -21,6 +22,13 @@ copy_to-requires-clause-room g c =
     let room = room_at a.copies.now c.number_of-number.result c.index-copies-number.result (omega (arith, at.there, number, length-map a.copies.now (λ (b : BufferView). b.room))) in
     let given : slice_index (rooms_of a.copies.now) at.number ≡ slice_index (rooms_of a.copies.now) c.number_of-number.result = ap (slice_index (rooms_of a.copies.now)) (sym number) in
     omega (arith, c.min-count.ensures, at.room_is, room, given)
+
+pub returns-then-size-from-clause-step : goal.returns-then-size-from-clause-step
+returns-then-size-from-clause-step g c = λ b h.
+    let a = c.args in
+    let s = a.stream.now in
+    let less : s.end < s.pos + a.size = omega (arith, c.if-size-from.true, c.from.ensures, c.end.ensures, c.pos-start.ensures, c.requires.whole.within) in
+    record { seen = []; looked = look_nowhere s s refl refl; is = copied_short a.copy a.places.now a.size s.end s.pos a.cells.now less ∙ (λ k. rejected NotEnough (sym c.pos-start.ensures k) a.cells.now) }
 
 pub returns-clause-rooms : goal.returns-clause-rooms
 returns-clause-rooms g c = map-set_same (λ (b : BufferView). b.room) c.args.copies.now c.number_of-number.result c.copy_to.new.buffer c.index-copies-number.result c.copy_to.ensures.room

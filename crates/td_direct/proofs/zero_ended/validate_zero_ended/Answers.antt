@@ -1,5 +1,7 @@
-use Rattle.std.proofs.Common.{[], refl, sym, ap, ◌∙◌}
+use Rattle.std.proofs.Common.{◌≡◌, ℕ, List, [], refl, sym, ◌∙◌}
+use Rattle.td_num.specs.declared.number.NumberType.{NumberType}
 use Rattle.td_core.specs.declared.module.Element.{Element}
+use Rattle.td_core.specs.declared.module.Element.TheVariants.{Number, Listed, Named, Unit, Rest, Zeros}
 use Rattle.td_core.specs.declared.outcome.Reason.TheVariants.{ListSize}
 use Rattle.td_core.specs.Outcome.{plain, rejected}
 use Rattle.td_meaning.specs.Meaning.{element_up_to_zero}
@@ -7,12 +9,16 @@ use Rattle.td_meaning.specs.Verdicts.{ending_of}
 use Rattle.td_stream.proofs.Places.{look_nowhere}
 use Rattle.td_direct.proofs.zero_ended.validate_zero_ended.Goals as goal
 
-pub returns-in-Listed-clause-step : goal.returns-in-Listed-clause-step
-returns-in-Listed-clause-step g c = λ b cells h.
-    let s = c.args.stream.now in
-    record { seen = []; looked = look_nowhere s s refl refl; is = ap (λ (x : Element). element_up_to_zero x c.args.size b s.end s.pos cells) c.in-Listed.is ∙ (λ k. rejected ListSize (sym c.pos.ensures k) cells) ∙ (λ k. plain (ending_of (sym c.unfit.ensures k) [] cells)) }
+-- nothing but numbers
+only_numbers : (x : Element) (size : ℕ) (b : List ℕ) (end p : ℕ) (cells : List ℕ) → ((t : NumberType) → x ≡ Number t → ⊥) → element_up_to_zero x size b end p cells ≡ rejected ListSize p cells
+only_numbers (Number t) size b end p cells other = absurd (other t refl)
+only_numbers (Listed base values) size b end p cells other = refl
+only_numbers (Named definition args own) size b end p cells other = refl
+only_numbers Unit size b end p cells other = refl
+only_numbers Rest size b end p cells other = refl
+only_numbers Zeros size b end p cells other = refl
 
-pub returns-in-Named-clause-step : goal.returns-in-Named-clause-step
-returns-in-Named-clause-step g c = λ b cells h.
+pub returns-in_default-clause-step : goal.returns-in_default-clause-step
+returns-in_default-clause-step g c = λ b cells h.
     let s = c.args.stream.now in
-    record { seen = []; looked = look_nowhere s s refl refl; is = ap (λ (x : Element). element_up_to_zero x c.args.size b s.end s.pos cells) c.in-Named.is ∙ (λ k. rejected ListSize (sym c.pos-in-Named.ensures k) cells) ∙ (λ k. plain (ending_of (sym c.unfit-in-Named.ensures k) [] cells)) }
+    record { seen = []; looked = look_nowhere s s refl refl; is = only_numbers c.args.element.now c.args.size b s.end s.pos cells c.in_default.not-Number ∙ (λ k. rejected ListSize (sym c.pos.ensures k) cells) ∙ (λ k. plain (ending_of (sym c.unfit.ensures k) [] cells)) }
