@@ -9,6 +9,7 @@ use crate::names::{copied_name, given_name, is_qualified, used_name};
 use crate::own::Own;
 use std::alloc::{AllocError, Global};
 use td_ast::actions::{ActionTree, Assigned, Block, Stmt, StmtKind};
+use td_ast::expressions::Expr;
 use td_ast::names::Name;
 use td_ast::parameters::{ParamTree, TargetTree};
 use td_ast::token::Span;
@@ -149,7 +150,74 @@ fn see_var(alloc: Global, scope: &mut Names, statement: &Stmt) -> Result<(), All
     }
 }
 
-/// A statement. An expression comes last, as each way through its variants, where it is let go, is a way through the function.
+// Where a value is let go, each way through its variants is a way through the function. So what has many is let go by a call.
+
+/// `if (e) { .. }`, of this block.
+fn flat_if(
+    alloc: Global,
+    own: &Own,
+    scope: &Names,
+    span: Span,
+    e: &Expr,
+    one: Block,
+) -> Result<Stmt, AllocError>
+    ensures { IfOk result (λ s. s ≡ statements.If span (specs.flat_tree own.now scope.now e.now) (statements.block_of one)) }
+{
+    match flat_tree(alloc, own, scope, e) {
+        Ok(e) => Ok(Stmt {
+            span,
+            kind: StmtKind::If(e, one),
+        }),
+        Err(error) => {
+            drop(one);
+            Err(error)
+        }
+    }
+}
+
+/// `if (e) { .. } else { .. }`, of these blocks.
+fn flat_if_else(
+    alloc: Global,
+    own: &Own,
+    scope: &Names,
+    span: Span,
+    e: &Expr,
+    one: Block,
+    other: Block,
+) -> Result<Stmt, AllocError>
+    ensures { IfOk result (λ s. s ≡ statements.IfElse span (specs.flat_tree own.now scope.now e.now) (statements.block_of one) (statements.block_of other)) }
+{
+    match flat_tree(alloc, own, scope, e) {
+        Ok(e) => Ok(Stmt {
+            span,
+            kind: StmtKind::IfElse(e, one, other),
+        }),
+        Err(error) => {
+            drop(one);
+            drop(other);
+            Err(error)
+        }
+    }
+}
+
+/// `return e;`
+fn flat_return(
+    alloc: Global,
+    own: &Own,
+    scope: &Names,
+    span: Span,
+    e: &Expr,
+) -> Result<Stmt, AllocError>
+    ensures { IfOk result (λ s. s ≡ statements.Return span (specs.flat_tree own.now scope.now e.now)) }
+{
+    let e = flat_tree(alloc, own, scope, e)?;
+    Ok(Stmt {
+        span,
+        kind: StmtKind::Return(e),
+    })
+}
+
+/// A statement.
 #[cycle(statement)]
 #[tactic(auto, using(crate::proofs::Scopes::block_is))]
 fn flat_statement(
@@ -172,28 +240,19 @@ fn flat_statement(
         StmtKind::Var(x, star, p) => flat_var(alloc, own, scope, span, x, *star, p),
         StmtKind::If(e, one) => {
             let one = flat_block(alloc, own, params, scope, one)?;
-            let e = flat_tree(alloc, own, scope, e)?;
-            Ok(Stmt {
-                span,
-                kind: StmtKind::If(e, one),
-            })
+            flat_if(alloc, own, scope, span, e, one)
         }
         StmtKind::IfElse(e, one, other) => {
             let one = flat_block(alloc, own, params, scope, one)?;
-            let other = flat_block(alloc, own, params, scope, other)?;
-            let e = flat_tree(alloc, own, scope, e)?;
-            Ok(Stmt {
-                span,
-                kind: StmtKind::IfElse(e, one, other),
-            })
+            match flat_block(alloc, own, params, scope, other) {
+                Ok(other) => flat_if_else(alloc, own, scope, span, e, one, other),
+                Err(error) => {
+                    drop(one);
+                    Err(error)
+                }
+            }
         }
-        StmtKind::Return(e) => {
-            let e = flat_tree(alloc, own, scope, e)?;
-            Ok(Stmt {
-                span,
-                kind: StmtKind::Return(e),
-            })
-        }
+        StmtKind::Return(e) => flat_return(alloc, own, scope, span, e),
         StmtKind::Abort => Ok(Stmt {
             span,
             kind: StmtKind::Abort,
