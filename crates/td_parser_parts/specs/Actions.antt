@@ -57,10 +57,6 @@ aborting = (terminal kinds.Abort then terminal kinds.Semicolon) making λ (at, e
 abbrev pub assignment : Grammar (Span × (Assigned × Span))
 assignment = terminal kinds.Assign then assigned then terminal kinds.Semicolon
 
--- "->" NAME "=" rhs ";"
-abbrev pub field_assignment : Grammar (Span × (Name × (Span × (Assigned × Span))))
-field_assignment = terminal kinds.Arrow then name then assignment
-
 -- { stmt } "}"
 abbrev pub braced_end_at : ℕ → Grammar (List Statement × Span)
 braced_end_at n = all_of (statement n) then terminal kinds.CloseBrace

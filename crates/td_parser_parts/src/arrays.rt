@@ -5,7 +5,7 @@ ghost use Rattle.td_grammar.specs.Reading.{Got};
 ghost use Rattle.td_grammar.specs.Sets.{comes};
 ghost use Rattle.td_grammar.specs.Grammar as grammar;
 ghost use Rattle.td_grammar.specs.Fields as fields;
-ghost use Rattle.td_parser_expr.specs.Giving.{Gives, Reads};
+ghost use Rattle.td_parser_expr.specs.Giving.{Gives};
 ghost use Rattle.td_parser_parts.specs.Pieces as pieces;
 
 use std::alloc::Global;
@@ -13,7 +13,7 @@ use td_ast::expressions::Expr;
 use td_ast::fields::ExtentTree;
 use td_ast::token::{Token, TokenKind};
 use td_parser_expr::failure::Failure;
-use td_parser_expr::token::{expect, literal};
+use td_parser_expr::token::{expect, literal, peek_is};
 use td_parser_expr::whole::expression;
 
 // What opens an array part, expr and "]".
@@ -36,58 +36,30 @@ fn sized<'a>(
     }
 }
 
-fn bytes(alloc: Global, tokens: &[Token]) -> Result<(ExtentTree, &[Token]), Failure<'_>>
-    ensures { Gives (λ x. Got x.0 x.1.now) result (pieces.bytes.reader.read tokens.now) }
-{
-    let (size, rest) = sized(alloc, tokens, &TokenKind::OpenBracket)?;
-    Ok((ExtentTree::Bytes(size), rest))
-}
-
-fn byte_size(alloc: Global, tokens: &[Token]) -> Result<(ExtentTree, &[Token]), Failure<'_>>
-    ensures { Gives (λ x. Got x.0 x.1.now) result (pieces.byte_size.reader.read tokens.now) }
-{
-    let (size, rest) = sized(alloc, tokens, &TokenKind::ByteSize)?;
-    Ok((ExtentTree::ByteSize(size), rest))
-}
-
-fn single_element(alloc: Global, tokens: &[Token]) -> Result<(ExtentTree, &[Token]), Failure<'_>>
-    ensures { Gives (λ x. Got x.0 x.1.now) result (pieces.single_element.reader.read tokens.now) }
-{
-    let (size, rest) = sized(alloc, tokens, &TokenKind::SingleElement)?;
-    Ok((ExtentTree::SingleElement(size), rest))
-}
-
-fn zeroterm(alloc: Global, tokens: &[Token]) -> Result<(ExtentTree, &[Token]), Failure<'_>>
-    ensures { Gives (λ x. Got x.0 x.1.now) result (pieces.zeroterm.reader.read tokens.now) }
-{
-    let (size, rest) = sized(alloc, tokens, &TokenKind::Zeroterm)?;
-    Ok((ExtentTree::Zeroterm(size), rest))
-}
-
-// Takes no memory.
-fn bits(tokens: &[Token]) -> Result<(ExtentTree, &[Token]), Failure<'_>>
-    ensures { Reads (λ x. Got x.0 x.1.now) result (pieces.bits.reader.read tokens.now) }
-{
-    let (_, rest) = expect(tokens, &TokenKind::Colon)?;
-    let (width, rest) = literal(rest)?;
-    Ok((ExtentTree::Bits(width), rest))
-}
-
 /// An array part or a bit width.
 #[tactic(auto, unfolding(td_grammar::specs::Fields::extent))]
 fn extent(alloc: Global, tokens: &[Token]) -> Result<(ExtentTree, &[Token]), Failure<'_>>
     ensures { Gives (λ x. Got x.0 x.1.now) result (fields.extent.reader.read tokens.now) }
 {
-    let [first, ..] = tokens else {
-        return Err(Failure::Unexpected(tokens));
-    };
-    match &first.kind {
-        TokenKind::OpenBracket => bytes(alloc, tokens),
-        TokenKind::ByteSize => byte_size(alloc, tokens),
-        TokenKind::SingleElement => single_element(alloc, tokens),
-        TokenKind::Zeroterm => zeroterm(alloc, tokens),
-        _ => bits(tokens),
+    if peek_is(tokens, &TokenKind::OpenBracket) {
+        let (size, rest) = sized(alloc, tokens, &TokenKind::OpenBracket)?;
+        return Ok((ExtentTree::Bytes(size), rest));
     }
+    if peek_is(tokens, &TokenKind::ByteSize) {
+        let (size, rest) = sized(alloc, tokens, &TokenKind::ByteSize)?;
+        return Ok((ExtentTree::ByteSize(size), rest));
+    }
+    if peek_is(tokens, &TokenKind::SingleElement) {
+        let (size, rest) = sized(alloc, tokens, &TokenKind::SingleElement)?;
+        return Ok((ExtentTree::SingleElement(size), rest));
+    }
+    if peek_is(tokens, &TokenKind::Zeroterm) {
+        let (size, rest) = sized(alloc, tokens, &TokenKind::Zeroterm)?;
+        return Ok((ExtentTree::Zeroterm(size), rest));
+    }
+    let (_, rest) = expect(tokens, &TokenKind::Colon)?;
+    let (width, rest) = literal(rest)?;
+    Ok((ExtentTree::Bits(width), rest))
 }
 
 fn peek_is_extent(tokens: &[Token]) -> bool

@@ -9,3 +9,4 @@ pub mod arrays;
 pub mod fields;
 pub mod parameters;
 mod places;
+mod simple_statements;

@@ -5,13 +5,12 @@ ghost use Rattle.td_grammar.specs.Reading.{Got, first_passes};
 ghost use Rattle.td_grammar.specs.Grammar as grammar;
 ghost use Rattle.td_grammar.specs.Parameters as parameters;
 ghost use Rattle.td_parser_expr.specs.Giving.{Gives, Reads};
-ghost use Rattle.td_parser_parts.specs.Pieces as pieces;
 
 use crate::parameters::constant;
 use std::alloc::Global;
 use td_ast::names::{ConstTree, Name, NumberTree};
 use td_ast::parameters::{ParamTree, TargetTree};
-use td_ast::token::{Span, Token, TokenKind};
+use td_ast::token::{Token, TokenKind};
 use td_num::number::{ByteOrder, NumberType, Width};
 use td_parser_expr::failure::Failure;
 use td_parser_expr::token::{expect, name, number_type, peek_is, qualified};
@@ -88,21 +87,14 @@ fn target(alloc: Global, tokens: &[Token]) -> Result<(TargetTree, &[Token]), Fai
     }
 }
 
-// Where a value is let go, each way through its variants is a way through the function. So what has many is let go by a call.
-
 // "[" const "]"
 fn room(alloc: Global, tokens: &[Token]) -> Result<(ConstTree, &[Token]), Failure<'_>>
     ensures { Gives (λ x. Got x.0 x.1.now) result (parameters.room.reader.read tokens.now) }
 {
     let (_, rest) = expect(tokens, &TokenKind::OpenBracket)?;
     let (count, rest) = constant(alloc, rest)?;
-    match expect(rest, &TokenKind::CloseBracket) {
-        Ok((_, rest)) => Ok((count, rest)),
-        Err(failure) => {
-            drop(count);
-            Err(failure)
-        }
-    }
+    let (_, rest) = expect(rest, &TokenKind::CloseBracket)?;
+    Ok((count, rest))
 }
 
 fn maybe_room(alloc: Global, tokens: &[Token]) -> Result<(Option<ConstTree>, &[Token]), Failure<'_>>
@@ -131,22 +123,8 @@ fn bytes(alloc: Global, tokens: &[Token]) -> Result<(ParamTree, &[Token]), Failu
     let (number, rest) = byte(tokens)?;
     let (_, rest) = expect(rest, &TokenKind::Star)?;
     let (name, rest) = name(alloc, rest)?;
-    match maybe_room(alloc, rest) {
-        Ok((count, rest)) => Ok((bytes_of(number, name, count), rest)),
-        Err(failure) => {
-            drop(name);
-            Err(failure)
-        }
-    }
-}
-
-// "*" NAME
-fn pointed(alloc: Global, tokens: &[Token]) -> Result<(Span, Name, &[Token]), Failure<'_>>
-    ensures { Gives (λ x. Got (x.0, x.1) x.2.now) result (pieces.pointed.reader.read tokens.now) }
-{
-    let (star, rest) = expect(tokens, &TokenKind::Star)?;
-    let (name, rest) = name(alloc, rest)?;
-    Ok((star, name, rest))
+    let (count, rest) = maybe_room(alloc, rest)?;
+    Ok((bytes_of(number, name, count), rest))
 }
 
 // target "*" NAME
@@ -154,13 +132,9 @@ fn cell(alloc: Global, tokens: &[Token]) -> Result<(ParamTree, &[Token]), Failur
     ensures { Gives (λ x. Got x.0 x.1.now) result (parameters.cell.reader.read tokens.now) }
 {
     let (target, rest) = target(alloc, tokens)?;
-    match pointed(alloc, rest) {
-        Ok((_, name, rest)) => Ok((ParamTree::Mutable(target, name), rest)),
-        Err(failure) => {
-            drop(target);
-            Err(failure)
-        }
-    }
+    let (_, rest) = expect(rest, &TokenKind::Star)?;
+    let (name, rest) = name(alloc, rest)?;
+    Ok((ParamTree::Mutable(target, name), rest))
 }
 
 /// `"UINT8" "*" NAME ["[" const "]"] | target "*" NAME`
