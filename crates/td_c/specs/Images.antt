@@ -4,7 +4,7 @@ use Rattle.td_ir.specs.declared.tables.Parts.{Parts}
 use Rattle.td_verify.specs.declared.rule.Rule.{Rule}
 use Rattle.td_verify.specs.declared.rule.Rule.TheVariants as rules
 use Rattle.td_image.specs.declared.error.ImageError.TheVariants as errors
-use Rattle.td_image.specs.Answer.{IsImage, IsBreach, IsRefused}
+use Rattle.td_image.specs.Answer.{IsImage, IsBreach, IsRefused, MayRunOut}
 use Rattle.td_c.specs.declared.images.TdFault.{TdFault}
 
 abbrev pub rule_number : Rule → ℕ
@@ -24,9 +24,11 @@ IsOpening code = (code ≡ pos 0) ⊎ ((code ≡ pos 4) ⊎ ((code ≡ pos 11) �
 abbrev pub IsPlaceless : ℤ → Type 0
 IsPlaceless code = (code ≡ pos 0) ⊎ ((code ≡ pos 4) ⊎ ((code ≡ pos 11) ⊎ (code ≡ pos 12)))
 
--- each is answered only where its cause holds of the bytes; want of memory (4) has no cause. What isn't told of the fault is as it was
+-- each is answered only where its cause holds of the bytes; want of memory (4) only where a first row of a table was read, or the bytes are an
+-- image. What isn't told of the fault is as it was
 pub record IsFault (code : ℤ) (was fault : TdFault) (bytes : List ℕ) : Type 0 where
   pub answer : IsOpening code
+  pub memory : code ≡ pos 4 → MayRunOut bytes
   pub magic : code ≡ pos 11 → IsRefused bytes errors.Magic
   pub version : code ≡ pos 12 → IsRefused bytes errors.Version
   pub short : code ≡ pos 13 → IsRefused bytes (errors.Short fault.place)

@@ -15,7 +15,8 @@ pub record AreMessage (parts : List TdStretch) : Type 0 where
   pub few : length parts ≤ 64
   pub short : length_in (stretches_told parts) < 2 ^ 32
 
--- the number of an answer to stretches that have no layout: they are no message (8), or there was no memory, which has no cause (4)
+-- the number of an answer to stretches that have no layout: they are no message (8), or they are one and there was no memory for its layout (4)
 pub record IsTooMuch (parts : List TdStretch) (code : ℤ) : Type 0 where
   pub which : (code ≡ pos 4) ⊎ (code ≡ pos 8)
   pub cause : code ≡ pos 8 → AreMessage parts → ⊥
+  pub memory : code ≡ pos 4 → AreMessage parts

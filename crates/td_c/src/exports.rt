@@ -23,6 +23,8 @@ pub(crate) fn put(alloc: Global, handle: &mut TdSession, full: bool, content: Sl
     ensures which { (result ≡ pos 0) ⊎ (result ≡ pos 4) }
     ensures held { result ≡ pos 0 → (handle.new.full ≡ true) × (handle.new.value ≡ content) }
     ensures kept { result ≡ pos 4 → handle.new ≡ handle.old }
+    // A handle that has its slot takes no memory.
+    ensures memory { result ≡ pos 4 → full ≡ false }
 {
     if full {
         let slot = handle.take();
@@ -49,7 +51,7 @@ pub extern "C" fn td_c_open(
     requires { handle.old.full ≡ full }
     // Where it is done, the handle holds a session by the code of which the bytes are the image, and nothing else.
     ensures opened { result ≡ pos 0 → (handle.new.full ≡ true) × HoldsImage handle.new.value image.now }
-    // Else the number says why the bytes are no image, or there was no memory, and the handle is as before.
+    // Else the number says why the bytes are no image, or there was no memory for what they hold, and the handle is as before.
     ensures refused { IsFault result fault.old fault.new image.now }
     ensures kept { (result ≡ pos 0 → ⊥) → handle.new ≡ handle.old }
 {

@@ -1,7 +1,7 @@
 //! Why bytes are no image, as numbers of C.
 
 ghost use Rattle.std.specs.Prelude.{◌≡◌, ℕ, List, pos};
-ghost use Rattle.td_image.specs.Answer.{IsRefused};
+ghost use Rattle.td_image.specs.Answer.{IsRefused, MayRunOut, RanOut};
 ghost use Rattle.td_c.specs.Images.{IsFault, rule_number};
 
 use crate::answers::NO_MEMORY;
@@ -34,7 +34,8 @@ fn number_of(rule: Rule) -> u32
 /// 11 to 16 for I1 to I6.
 pub(crate) fn code_of(error: ImageError, fault: &mut TdFault) -> i32
     ensures done { result ≡ pos 0 → ⊥ }
-    ensures fault { (bytes : List ℕ) → IsRefused bytes error → IsFault result fault.old fault.new bytes }
+    ensures fault { (bytes : List ℕ) → IsRefused bytes error → (RanOut error → MayRunOut bytes) → IsFault result fault.old fault.new bytes }
+    ensures memory { result ≡ pos 4 → RanOut error }
 {
     match error {
         ImageError::Magic => 11,

@@ -33,15 +33,22 @@ fn stretches(alloc: Global, parts: &[TdStretch]) -> Result<Items<Stretch>, Alloc
 }
 
 // How many bytes they have.
-fn length_of(stretches: &[Stretch]) -> u64
-    requires { length stretches.now ≤ 64 }
-    ensures { result ≡ length_in stretches.now }
+fn length_of(parts: &[TdStretch]) -> u64
+    requires { length parts.now ≤ 64 }
+    ensures { result ≡ length_in (stretches_told parts.now) }
 {
     let mut sum = 0u64;
-    for stretch in stretches {
-        sum += stretch.size as u64;
+    for part in parts {
+        sum += part.size as u64;
     }
     sum
+}
+
+// Whether they are a message: at most 64, of fewer than 2^32 bytes in all. Takes no memory.
+fn are_message(parts: &[TdStretch]) -> bool
+    ensures { IsTrue result ↔ AreMessage parts.now }
+{
+    parts.len() <= MOST_STRETCHES && length_of(parts) < 1 << 32
 }
 
 // Whether a stretch ends within so many words.
@@ -72,7 +79,7 @@ fn are_within(stretches: &[Stretch], count: usize) -> bool
 }
 
 /// The layout of these stretches, and whether it is within so many words. The number of an answer: there are more than 64 of
-/// them, or they have 2^32 bytes and more; or there was no memory for the layout.
+/// them, or they have 2^32 bytes and more; or they are a message, and there was no memory for its layout.
 pub(crate) fn layout_of(
     alloc: Global,
     parts: &[TdStretch],
@@ -83,15 +90,12 @@ pub(crate) fn layout_of(
     ensures inside { IfOk result (λ r. IsTrue r.1 ↔ AreWithin count (stretches_told parts.now)) }
     ensures refused { IfErr result (λ code. IsTooMuch parts.now code) }
 {
-    if parts.len() > MOST_STRETCHES {
+    if !are_message(parts) {
         return Err(TOO_MUCH);
     }
     let Ok(list) = stretches(alloc, parts) else {
         return Err(NO_MEMORY);
     };
-    if list.len() > MOST_STRETCHES || length_of(list.as_slice()) >= 1 << 32 {
-        return Err(TOO_MUCH);
-    }
     let inside = are_within(list.as_slice(), count);
     match Layout::of(alloc, list.as_slice()) {
         Ok(layout) => Ok((layout, inside)),

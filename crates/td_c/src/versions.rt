@@ -1,8 +1,8 @@
 //! What C calls to replace a code while others validate by it.
 
-ghost use Rattle.std.specs.Prelude.{◌≡◌, ◌⊎◌, ◌≤◌, pos, true, false, Some, IfOk, IfErr, IsSomeAnd, length, slice_get};
+ghost use Rattle.std.specs.Prelude.{◌≡◌, ◌⊎◌, ◌<◌, ◌≤◌, ◌↔◌, pos, true, false, Some, IfOk, IfErr, OnOk, IsSomeAnd, length, slice_get};
 ghost use Rattle.std.specs.Arc.{arc_value};
-ghost use Rattle.td_image.specs.Answer.{IsImage};
+ghost use Rattle.td_image.specs.Answer.{IsImage, MayRunOut};
 ghost use Rattle.td_c.specs.Images.{IsFault};
 ghost use Rattle.td_c.specs.Versions.{IsNew, IsAdding, IsBeginning, IsPublishing, IsSeating, IsLoading, IsVersioning, IsVersion, HasVersion, LacksVersion, HasSeat, GoesOn, HasBegun, IsAddition, IsPublication, IsSeatOf};
 ghost use Rattle.td_session.specs.Room.{IsFresh};
@@ -25,6 +25,8 @@ pub extern "C" fn td_c_codes(alloc: Global, handle: &mut TdSession, full: bool) 
     ensures which { (result ≡ pos 0) ⊎ (result ≡ pos 4) }
     ensures new { result ≡ pos 0 → (handle.new.full ≡ true) × IsNew handle.new.value }
     ensures kept { result ≡ pos 4 → handle.new ≡ handle.old }
+    // A handle that has its slot takes no memory.
+    ensures memory { result ≡ pos 4 → full ≡ false }
 {
     put(alloc, handle, full, Slot::of_versions(Vec::new(alloc)))
 }
@@ -33,6 +35,7 @@ pub extern "C" fn td_c_codes(alloc: Global, handle: &mut TdSession, full: bool) 
 fn code_in(alloc: Global, image: &[u8], fault: &mut TdFault) -> Result<Verified, i32>
     ensures found { IfOk result (λ p. IsImage p image.now) }
     ensures untold { IfOk result (λ p. fault.new ≡ fault.old) }
+    ensures room { OnOk result (MayRunOut image.now) }
     ensures refused { IfErr result (λ code. IsFault code fault.old fault.new image.now × (code ≡ pos 0 → ⊥) × (code ≡ pos 8 → ⊥)) }
 {
     match read_image(alloc, image) {
@@ -256,7 +259,8 @@ pub extern "C" fn td_c_current(handle: &mut TdSession, full: bool, number: &mut 
 fn session_of(alloc: Global, reader: &Reader, number: u32) -> Result<Session, i32>
     ensures session { IfOk result (λ s. slice_get (arc_value reader.now.codes).codes number ≡ Some (arc_value s.code)) }
     ensures fresh { IfOk result (λ s. IsFresh (arc_value s.code) s.frame) }
-    ensures code { IfErr result (λ code. (code ≡ pos 4) ⊎ ((code ≡ pos 5) × (length (arc_value reader.now.codes).codes ≤ number))) }
+    ensures there { OnOk result (number < length (arc_value reader.now.codes).codes) }
+    ensures code { IfErr result (λ code. ((code ≡ pos 4) × (number < length (arc_value reader.now.codes).codes)) ⊎ ((code ≡ pos 5) × (length (arc_value reader.now.codes).codes ≤ number))) }
 {
     if (number as usize) >= reader.count() {
         return Err(MISSING);
@@ -269,7 +273,8 @@ fn session_of(alloc: Global, reader: &Reader, number: u32) -> Result<Session, i3
 
 fn version_in(alloc: Global, slot: &Slot, number: u32) -> Result<Session, i32>
     ensures session { IfOk result (IsVersion slot.now number) }
-    ensures code { IfErr result (λ code. IsVersioning slot.now code × (code ≡ pos 0 → ⊥) × (code ≡ pos 5 → LacksVersion slot.now number)) }
+    ensures there { OnOk result (LacksVersion slot.now number → ⊥) }
+    ensures code { IfErr result (λ code. IsVersioning slot.now code × (code ≡ pos 0 → ⊥) × ((code ≡ pos 5) ↔ LacksVersion slot.now number)) }
 {
     match &slot.reader {
         Some(reader) => session_of(alloc, reader, number),
@@ -291,7 +296,7 @@ pub extern "C" fn td_c_version(
     requires other { other.old.full ≡ other_full }
     ensures closed { full ≡ false → (result ≡ pos 3) × (handle.new ≡ handle.old) }
     ensures answer { full ≡ true → IsVersioning handle.old.value result }
-    ensures missing { full ≡ true → result ≡ pos 5 → LacksVersion handle.old.value number }
+    ensures missing { full ≡ true → ((result ≡ pos 5) ↔ LacksVersion handle.old.value number) }
     ensures kept { full ≡ true → (handle.new.full ≡ true) × (handle.new.value ≡ handle.old.value) }
     ensures other { (result ≡ pos 0 → ⊥) → other.new ≡ other.old }
     ensures version { result ≡ pos 0 → (full ≡ true) × (other.new.full ≡ true) × HasVersion handle.old.value number other.new.value }

@@ -4,7 +4,7 @@ ghost use Rattle.std.specs.Prelude.{◌≡◌, ◌≤◌, ◌<◌, ◌-◌, ◌^
 ghost use Rattle.td_front.specs.declared.error.FrontError.{FrontError};
 ghost use Rattle.td_front.specs.ModuleText.{RefusedBy};
 ghost use Rattle.td_code.specs.Compile.{IsImageOf};
-ghost use Rattle.td_c_pack.specs.Packed.{IsPacking, TellsSize};
+ghost use Rattle.td_c_pack.specs.Packed.{IsPacking, MayRunOut, TellsSize};
 
 use crate::refusal::{TdPacked, tell_refusal};
 use std::alloc::Global;
@@ -26,6 +26,7 @@ fn image_of(alloc: Global, text: &[u8]) -> Result<Items<u8>, FrontError>
     requires { length text.now < 2 ^ 32 - 1 }
     ensures image { IfOk result (IsImageOf text.now) }
     ensures refused { IfErr result (λ e. (e ≡ FrontError.NoMemory) ⊎ RefusedBy text.now e) }
+    ensures memory { IfErr result (λ e. e ≡ FrontError.NoMemory → MayRunOut text.now) }
 {
     match check_module(alloc, text) {
         Err(error) => Err(error),
@@ -57,7 +58,7 @@ fn put_image(found: &[u8], image: &mut [u8], told: &mut TdPacked) -> i32
 
 /// Checks a module text, and writes the image of its code where there is room, and no other byte. 0: it is written; 21: the text has more
 /// bytes than texts have; 22: it is refused, and what was told says why; 23: the image has more bytes than there is room for, as was
-/// told; 4: there was no memory.
+/// told; 4: there was no memory, which comes of no text that is refused before its first token.
 #[unsafe(no_mangle)]
 pub extern "C" fn td_c_pack(
     alloc: Global,

@@ -1,6 +1,6 @@
 //! What C is told of a module text.
 
-ghost use Rattle.std.specs.Prelude.{◌≡◌, ◌≤◌, ◌<◌, ◌-◌, ◌⊎◌, ◌++◌, length, replicate, pos};
+ghost use Rattle.std.specs.Prelude.{◌≡◌, ◌≤◌, ◌<◌, ◌-◌, ◌⊎◌, ◌↔◌, ◌++◌, length, replicate, pos};
 ghost use Rattle.td_c_pack.specs.Told.{IsTold};
 
 use td_front::{FrontError, line_of};
@@ -36,13 +36,13 @@ fn put_string(bytes: &[u8], room: &mut [u8])
     rest.fill(0);
 }
 
-/// Tells the refusal of a text: 22, or 4 where it is that there was no memory.
+/// Tells the refusal of a text: 22, or 4 exactly where it is that there was no memory.
 pub(crate) fn tell_refusal(text: &[u8], error: &FrontError, told: &mut TdPacked) -> i32
     ensures which { (result ≡ pos 4) ⊎ (result ≡ pos 22) }
     ensures told { result ≡ pos 22 → IsTold text.now error.now told.new }
     ensures size { told.new.size ≡ told.old.size }
     ensures untold { result ≡ pos 4 → told.new ≡ told.old }
-    ensures memory { error.now ≡ FrontError.NoMemory → result ≡ pos 4 }
+    ensures memory { (result ≡ pos 4) ↔ (error.now ≡ FrontError.NoMemory) }
 {
     let Some(line) = line_of(error) else {
         return NO_MEMORY;

@@ -2,7 +2,7 @@
 
 ghost use Rattle.std.specs.Prelude.{◌≡◌, ℕ, ◌<◌, ◌^◌, ◌≤◌, ◌↔◌, [], IfOk, IfErr, IfSome, IsSome, IsNone, MatchOption, Some, length as size_of, slice_get, take};
 ghost use Rattle.std.specs.Arc.{arc_value};
-ghost use Rattle.td_image.specs.Answer.{IsImage, IsRefused};
+ghost use Rattle.td_image.specs.Answer.{IsImage, IsRefused, MayRunOut, RanOut};
 ghost use Rattle.td_stream.specs.Layouts.{count_in};
 ghost use Rattle.td_ir.specs.Entries.{Fits, IsEntryNamed, IsFirstNamed, buffers_of};
 ghost use Rattle.td_stream.specs.Copies.{held_by};
@@ -54,11 +54,12 @@ impl Session {
     }
 
     /// The code of which the bytes are the image, with room for validations. The errors are those of `read_image`; `NoMemory`
-    /// comes also where there was none for the room.
+    /// comes also where there was none for the room: so only where a first row of a table was read, or the bytes are an image.
     pub fn read(alloc: Global, image: &[u8]) -> Result<Session, ImageError>
         ensures found { IfOk result (λ s. IsImage (arc_value s.code) image.now) }
         ensures fresh { IfOk result (λ s. IsFresh (arc_value s.code) s.frame) }
         ensures refused { IfErr result (λ e. IsRefused image.now e) }
+        ensures memory { IfErr result (λ e. RanOut e → MayRunOut image.now) }
     {
         let code = read_image(alloc, image)?;
         match Session::over(alloc, Kept::own(code)) {

@@ -8,8 +8,12 @@ use Rattle.td_stream.specs.declared.load.Load.{Load}
 use Rattle.td_stream.specs.Layouts.{plain}
 use Rattle.td_ir.specs.declared.tables.Parts.{Parts}
 use Rattle.td_ir.specs.Entries.{Fits, IsEntryNamed, IsFirstNamed}
+use Rattle.td_image.specs.declared.error.ImageError.{ImageError}
+use Rattle.td_image.specs.declared.error.ImageError.TheVariants as errors
 use Rattle.td_image.specs.Answer.{IsImage}
 use Rattle.td_run.specs.Validation.{IsValidation}
+use Rattle.td_use_image.specs.declared.message.AnswerError.{AnswerError}
+use Rattle.td_use_image.specs.declared.message.AnswerError.TheVariants.{Image, NoMemory}
 use Rattle.td_use_image.specs.declared.shared_words.SharedWord.{SharedWord}
 
 pub same_on : (u v w : ℕ) → v ≡ u → w ≡ v → w ≡ u
@@ -18,6 +22,16 @@ same_on u v w p q = q ∙ p
 -- with what these words began
 abbrev pub firsts : List SharedWord → List ℕ
 firsts words = map (λ w. w.first.value) words
+
+-- why bytes are no image, among the reasons why there is no answer: that there was no memory is one of its own
+abbrev pub image_refused : ImageError → AnswerError
+image_refused errors.NoMemory = NoMemory
+image_refused errors.Magic = Image errors.Magic
+image_refused errors.Version = Image errors.Version
+image_refused (errors.Short at) = Image (errors.Short at)
+image_refused (errors.Field at) = Image (errors.Field at)
+image_refused (errors.Rest at) = Image (errors.Rest at)
+image_refused (errors.Refused breach) = Image (errors.Refused breach)
 
 -- no entry point of this name takes these arguments: none of the first 2^32 has the name, or the first one that has it takes others, whatever its cells
 abbrev pub LacksEntry : Parts → List ℕ → List ℕ → Type 0

@@ -7,7 +7,7 @@ ghost use Rattle.td_job.specs.Words.{IsFilled};
 ghost use Rattle.td_ir.specs.Tables.{entry_of};
 ghost use Rattle.td_ir.specs.Entries.{Fits};
 ghost use Rattle.td_image.specs.declared.error.ImageError.{ImageError};
-ghost use Rattle.td_image.specs.Answer.{IsRefused};
+ghost use Rattle.td_image.specs.Answer.{IsRefused, MayRunOut, RanOut};
 ghost use Rattle.td_use_image.specs.declared.message.AnswerError.{AnswerError};
 ghost use Rattle.td_run.specs.Validation.{IsValidation};
 ghost use Rattle.td_use_image.specs.Answers.{firsts, IsAnswer, IsWithoutEntry};
@@ -52,6 +52,20 @@ impl From<AllocError> for AnswerError {
 
     fn from(_: AllocError) -> AnswerError {
         AnswerError::NoMemory
+    }
+}
+
+impl From<ImageError> for AnswerError {
+    ghost use Rattle.std.specs.Prelude.{◌≡◌};
+    ghost use Rattle.td_use_image.specs.Answers.{image_refused};
+
+    ghost from_gives = { λ e a. a ≡ image_refused e };
+
+    fn from(error: ImageError) -> AnswerError {
+        match error {
+            ImageError::NoMemory => AnswerError::NoMemory,
+            error => AnswerError::Image(error),
+        }
     }
 }
 
@@ -117,7 +131,8 @@ fn validate_shared(
 
 /// Validates a message by the code of an image, from its first entry point of this name on, which takes the message's length and
 /// nothing else. The cells begin at zero. `Image`: why the bytes are no image; `Entry`: they are one, whose code has no such entry point;
-/// `Long`: the message has 2^32 bytes or more; `NoMemory`: there was no memory.
+/// `Long`: the message has 2^32 bytes or more; `NoMemory`: there was no memory, which comes only where a first row of a table was read, or the
+/// bytes are an image.
 pub fn validate_message(
     alloc: Global,
     image: &[u8],
@@ -125,18 +140,15 @@ pub fn validate_message(
     message: &[u8],
 ) -> Result<Answer, AnswerError>
     ensures answer { IfOk result (λ a. IsAnswer image.now name.now (length message.now ∷ []) (length message.now) a.loads.list a.outcome) }
-    ensures image { (e : ImageError) → result ≡ Err (AnswerError.Image e) → IsRefused image.now e }
+    ensures image { (e : ImageError) → result ≡ Err (AnswerError.Image e) → IsRefused image.now e × (RanOut e → ⊥) }
+    ensures memory { result ≡ Err AnswerError.NoMemory → MayRunOut image.now }
     ensures entry { result ≡ Err AnswerError.Entry → IsWithoutEntry image.now name.now (length message.now ∷ []) }
     ensures long { result ≡ Err AnswerError.Long → 2 ^ 32 ≤ length message.now }
 {
     if message.len() >= 1 << 32 {
         return Err(AnswerError::Long);
     }
-    let code = match read_image(alloc, image) {
-        Ok(code) => code,
-        Err(ImageError::NoMemory) => return Err(AnswerError::NoMemory),
-        Err(error) => return Err(AnswerError::Image(error)),
-    };
+    let code = read_image(alloc, image)?;
     let Some(entry) = entry_in(code.code(), name) else {
         return Err(AnswerError::Entry);
     };
