@@ -24,7 +24,7 @@ typedef enum {
   TD_MISSING = 5,   /* the code has no such entry point, parameter, cell, copy buffer or name, the last failure no such
                        frame, or there is no such code */
   TD_PAST = 6,      /* the message doesn't lie within the words; nothing was loaded */
-  TD_POINTER = 7,   /* a pointer is null, or that of the words isn't aligned to 8 */
+  TD_POINTER = 7,   /* a pointer is null, that of the words isn't aligned to 8, or what has to be two handles is one */
   TD_TOO_MUCH = 8,  /* a message of more than 64 stretches, or of 2^32 bytes and more, and nothing was loaded; more than
                        17 codes */
   TD_I1 = 11,       /* the bytes are no image */
