@@ -173,10 +173,12 @@ static inline int32_t td_frame(td_session *s, size_t place, td_frame_row *told) 
   return td_c_frame(s, s->full, place, told);
 }
 
-/* As many bytes of a name as there is room for, and how many it has. No zero is put behind them. */
+/* As many bytes of a name as there is room for (without any, bytes may be null), and how many it has. No zero is put behind
+   them. */
 static inline int32_t td_name(td_session *s, uint32_t number, char *bytes, size_t room, uint64_t *size) {
-  if (!s || !bytes || !size) return TD_POINTER;
-  return td_c_name(s, s->full, number, (uint8_t *)bytes, room, size);
+  if (!s || (!bytes && room) || !size) return TD_POINTER;
+  uint8_t none;
+  return td_c_name(s, s->full, number, room ? (uint8_t *)bytes : &none, room, size);
 }
 
 /* Validates the message that begins at byte call->place of `count` words. Where the answer isn't 0 or 1, the call is as
