@@ -24,7 +24,7 @@ typedef enum {
   TD_MISSING = 5,   /* the code has no such entry point, parameter, cell, copy buffer or name, the last failure no such
                        frame, or there is no such code */
   TD_PAST = 6,      /* the message doesn't lie within the words; nothing was loaded */
-  TD_POINTER = 7,   /* a pointer is null, or that of the words isn't aligned to 8 */
+  TD_POINTER = 7,   /* a pointer is null, that of the words isn't aligned to 8, or what has to be two handles is one */
   TD_TOO_MUCH = 8,  /* a message of more than 64 stretches, or of 2^32 bytes and more, and nothing was loaded; more than
                        17 codes */
   TD_I1 = 11,       /* the bytes are no image */
@@ -173,10 +173,12 @@ static inline int32_t td_frame(td_session *s, size_t place, td_frame_row *told) 
   return td_c_frame(s, s->full, place, told);
 }
 
-/* As many bytes of a name as there is room for, and how many it has. No zero is put behind them. */
+/* As many bytes of a name as there is room for (without any, bytes may be null), and how many it has. No zero is put behind
+   them. */
 static inline int32_t td_name(td_session *s, uint32_t number, char *bytes, size_t room, uint64_t *size) {
-  if (!s || !bytes || !size) return TD_POINTER;
-  return td_c_name(s, s->full, number, (uint8_t *)bytes, room, size);
+  if (!s || (!bytes && room) || !size) return TD_POINTER;
+  uint8_t none;
+  return td_c_name(s, s->full, number, room ? (uint8_t *)bytes : &none, room, size);
 }
 
 /* Validates the message that begins at byte call->place of `count` words. Where the answer isn't 0 or 1, the call is as

@@ -41,6 +41,9 @@ static void tables(td_session *s, uint32_t entry) {
   td_buffer_part buffer = {0};
   row("a copy buffer too many", TD_MISSING, td_buffer(s, entry, point.buffer_count, &buffer));
   uint64_t size = 0;
+  row("the size of a name alone", TD_DONE, td_name(s, point.name, 0, 0, &size));
+  row("as many bytes as RNDIS has", 5, (int32_t)size);
+  row("a name that is to stand at null", TD_POINTER, td_name(s, point.name, 0, 5, &size));
   row("a copy that no entry point has", TD_MISSING, td_copy(s, 16, 0, 0, &size));
   row("an entry point too many", TD_MISSING, td_describe(s, 99, &point));
 }

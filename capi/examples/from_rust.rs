@@ -100,6 +100,7 @@ impl Session {
     }
 }
 
+/// The handle's slot stays (docs/c-library.md): sessions are kept, and not made without end.
 impl Drop for Session {
     fn drop(&mut self) {
         unsafe { td_c_close(&mut self.0, self.0.full) }
@@ -114,6 +115,11 @@ fn main() {
     let image = std::fs::read(path).expect("the image");
     let messages: u64 = messages.parse().expect("a number");
     assert_eq!(Session::open(&image[..9]).err(), Some((13, 9)));
+    let mut first = Session::open(&image).expect("a session");
+    let mut session = first.again().expect("another one");
+    drop(first);
+    let entry = session.entry("RNDIS").expect("the entry point");
+    assert_eq!(session.entry("NOWHERE"), None);
     let words: Vec<AtomicU64> = (0..64).map(|_| AtomicU64::new(0)).collect();
     let is_over = AtomicBool::new(false);
     std::thread::scope(|scope| {
@@ -125,11 +131,6 @@ fn main() {
                 words[1].store(36 | (468 + n % 4) << 32, Ordering::Relaxed);
             }
         });
-        let mut first = Session::open(&image).expect("a session");
-        let mut session = first.again().expect("another one");
-        drop(first);
-        let entry = session.entry("RNDIS").expect("the entry point");
-        assert_eq!(session.entry("NOWHERE"), None);
         let mut call: TdCall = unsafe { std::mem::zeroed() };
         let (mut seen, mut wrong, mut loads) = ([0u64; 2], 0, [TdLoad::default(); 8]);
         for _ in 0..messages {

@@ -1,6 +1,6 @@
 /* A validator is replaced while threads validate: replaced MESSAGES IMAGE.. Code n accepts a message of 8 bytes just where its first four are n.
-   Four threads validate, each with a seat and a session for each code, opened before; one thread stores the messages, and the first one publishes
-   code after code. Each answer is that of the code whose number the seat loaded, on the word that was loaded. */
+   Four threads validate, each with a seat and a session for each code, opened before; one thread stores the messages, and one publishes code
+   after code. Each answer is that of the code whose number the seat loaded, on the word that was loaded. */
 #include "common.h"
 #include <pthread.h>
 #include <stdatomic.h>

@@ -33,14 +33,16 @@ static size_t put_parts(const char *text) {
   while (count < MOST_STRETCHES && strchr(text, '+')) {
     char *end = 0;
     parts[count].place = (uint32_t)strtoul(text, &end, 10);
+    if (*end != '+') stop("no stretch", (long)count);
     parts[count++].size = (uint32_t)strtoul(end + 1, &end, 10);
     text = *end == ',' ? end + 1 : end;
   }
   return count;
 }
 
+/* Stretches may overlap, and have more words than there are rows. */
 static void say_loads(const td_call *call, size_t part_count) {
-  for (size_t i = 0; i < call->load_count; i++) {
+  for (size_t i = 0; i < call->load_count && i < sizeof loads / sizeof *loads; i++) {
     printf("load ");
     if (part_count) printf("%u ", loads[i].stretch);
     printf("%u %016llx\n", loads[i].word, (unsigned long long)loads[i].value);
@@ -92,6 +94,7 @@ int main(int argc, char **argv) {
   call.entry = entry_of(&s, argv[2]);
   size_t part_count = put_parts(argv[3]), room = sizeof loads / sizeof *loads;
   call.place = part_count ? 0 : (uint32_t)atoi(argv[3]);
+  if (call.place > sizeof words) stop("the message begins after the words", (long)call.place);
   /* Bytes beside the message are no part of it. `td run`, whose loads are told too, has zeros there. */
   memset(words, call.place ? 0xa5 : 0, sizeof words);
   size_t digits = strcspn(argv[5], ".");

@@ -54,9 +54,10 @@ static void put_net(memory *m, unsigned n) {
   put(m, NET_PLACE, head, sizeof head);
 }
 
-static void store_without_end(const char *path) {
+/* It ends where the process that validates has ended, too. */
+static void store_without_end(const char *path, pid_t parent) {
   memory *m = mapped(path);
-  for (unsigned n = 0; !atomic_load(&m->is_over); n++) {
+  for (unsigned n = 0; !atomic_load(&m->is_over) && (n % 1024 || getppid() == parent); n++) {
     put_rndis(m, n);
     put_net(m, n / 2);
     atomic_store(&m->rounds, n);
@@ -123,9 +124,9 @@ int main(int argc, char **argv) {
   atomic_store(&m->rounds, 0);
   put_rndis(m, 0);
   put_net(m, 0);
-  pid_t child = fork();
+  pid_t parent = getpid(), child = fork();
   if (child < 0) stop("fork", child);
-  if (!child) store_without_end(argv[3]);
+  if (!child) store_without_end(argv[3], parent);
   tally of_rndis = {0}, of_net = {0};
   time_t end = time(0) + atoi(argv[4]) + 1;
   /* On a busy machine it is waited for the other process to have stored some. */

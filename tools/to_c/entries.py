@@ -50,14 +50,14 @@ class Entry:
             self.numbers += [own] if bits == 0 else []
             return
         if name not in self.records:
-            title = unique("%s_%s_%s" % (prefix, undotted(self.type), name), titles)
+            title = unique("%s_%s_%s" % (prefix, undotted(self.type), undotted(name)), titles)
             self.records[name] = Record(unique(escaped(name), self.taken), title)
             self.parameters.append("struct %s *%s" % (title, self.records[name].name))
         self.places.append((self.records[name].add(self.code.name(field), bits), bits))
 
     def copy_of(self, name, room, prefix, titles):
         """A copy buffer: its name and its struct, with room for so many bytes."""
-        title = unique("%s_%s_%s" % (prefix, undotted(self.type), name), titles)
+        title = unique("%s_%s_%s" % (prefix, undotted(self.type), undotted(name)), titles)
         own = unique(escaped(name), self.taken)
         self.parameters.append("struct %s *%s" % (title, own))
         return own, ["struct %s {" % title, "    uint32_t count; /* so many of the bytes are the copy */", "    uint8_t bytes[%d];" % room, "};"]

@@ -19,21 +19,24 @@ KEYWORDS = set(
 )
 # Names that C's headers, or the written code, have for themselves.
 TAKEN = re.compile(r"td_\w*|TD_\w*|\w*_t|U?INT\w*|PTRDIFF_\w*|SIZE_\w*|WCHAR_\w*|WINT_\w*|SIG_ATOMIC_\w*|E[A-Z0-9]\w*|SIG\w*")
+# How a name of the compiler's begins, and how one of a written routine does.
+OWN = re.compile(r"_|routine_[0-9]")
 # What a file's name is, as the beginning of its functions' names.
 PREFIX = re.compile(r"[A-Za-z][A-Za-z0-9_]*")
 
 
+def undotted(name):
+    """A name with a dot, as a part's type has, as a piece of a name of C: a `_` stands in the dot's place."""
+    return name.replace(".", "_")
+
+
 def escaped(name):
     """A name that may stand as a parameter or a member: one that C has already gets a `_` behind it; before a `_` that begins
-    one, since such names are the compiler's, gets an `x`."""
-    if name.startswith("_"):
+    one, since such names are the compiler's, gets an `x`, as does the beginning of a written function's name."""
+    name = undotted(name)
+    if OWN.match(name):
         name = "x" + name
     return name + "_" if name in KEYWORDS or TAKEN.fullmatch(name) else name
-
-
-def undotted(name):
-    """A name of a part's type, which has a dot, as a piece of a name of C: a `_` stands in the dot's place."""
-    return name.replace(".", "_")
 
 
 def unique(name, taken):

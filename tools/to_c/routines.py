@@ -39,7 +39,8 @@ class Routine:
         self.code, self.index = code, index
         _, self.params, self.cells, _, length, *self.rooms = code.routines[index]
         self.instructions = [(place, *code.instructions[place]) for place in range(begin, begin + length)]
-        self.kinds = {kind for _, kind, *_ in self.instructions}
+        # Of a SkipK of no bytes no line is written.
+        self.kinds = {kind for _, kind, *operands in self.instructions if kind != "SkipK" or operands[0]}
         self.targets = {operands[TARGETS[kind]] for _, kind, *operands in self.instructions if kind in TARGETS}
         self.depth = 1
         self.lines = []
