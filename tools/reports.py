@@ -3,6 +3,7 @@
 import re
 
 LARGEST = 2**64 - 1
+MOST_DIGITS = len(str(LARGEST))
 NUMBER = re.compile(r"0|[1-9][0-9]*")
 NAME = r"[A-Za-z_][A-Za-z0-9_]*"
 # A type of a module of several parts has the part's name before its own.
@@ -28,7 +29,7 @@ class NoReport(Exception):
 
 
 def number(text, line):
-    if not NUMBER.fullmatch(text) or int(text) > LARGEST:
+    if not NUMBER.fullmatch(text) or len(text) > MOST_DIGITS or int(text) > LARGEST:
         raise NoReport(line, "`%s` isn't a number" % text)
     return int(text)
 

@@ -19,6 +19,8 @@ RUN_FIELDS = ("entry", "args", "cells", "bytes", "length", "stretches", "value",
 GIVEN_FIELDS = ("bytes", "length", "stretches")
 HOST_FIELDS = ("entry", "args", "buffer", "workers", "guests", "rings", "swaps")
 GUEST_FIELDS = ("script",)
+# Of a number with more digits the first ones are read: Python reads no more than 4,300, and it is past all size anyway.
+MOST_DIGITS = 4_000
 # The form of each field, and an example.
 FORMS = {
     "entry": ("a text, the name of an entry point", '"entry":"P"'),
@@ -79,7 +81,7 @@ class Job:
         self.known, self.text, self.value, self.fault = known, text, None, None
         if text is not None:
             try:
-                self.value = json.loads(text.decode("utf-8"))
+                self.value = json.loads(text.decode("utf-8"), parse_int=lambda digits: int(digits[:MOST_DIGITS]))
             except (ValueError, RecursionError) as fault:
                 self.fault = fault
         self.entry = None
