@@ -20,20 +20,6 @@ SECONDS = 60
 STACK = 512 * 1024 * 1024
 
 
-class Usage(Exception):
-    """The words of the command line are wrong."""
-
-
-def usage_of(document):
-    """The lines of a script's head that say how it is called."""
-    return document[document.index("usage:") :].split("\n\n")[0]
-
-
-def read(path):
-    with open(path, "rb") as file:
-        return file.read()
-
-
 def lines_of(written):
     """What td wrote as lines, without their ends; the name that a J2 tells isn't cut at a line feed of its own."""
     lines = written.split(b"\n")
