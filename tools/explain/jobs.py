@@ -5,7 +5,7 @@ import json
 import re
 
 from reference.errors import ModuleError
-from reference.jobs import HEXADECIMAL, is_whole, parts_in
+from reference.jobs import HEXADECIMAL, arguments_in, is_whole, parts_in
 from reference.modules import module_of
 
 from ..places import escaped, place_of
@@ -201,7 +201,7 @@ def wrong_values(job, path):
         number = int(index.rstrip("]"))
         for made in job.entries():
             wanted = values_wanted(made) if which == "args" else cells_wanted(made)
-            bits = [p.bits for p in made.parameters if not p.mutable] if which == "args" else [bits or 32 for _, _, bits in made.cells]
+            bits = [parameter.bits for parameter in arguments_in(made)] if which == "args" else [bits or 32 for _, _, bits in made.cells]
             if number < len(bits):
                 there, value = at_path(job.value, path) if isinstance(job.value, dict) else (False, None)
                 given = "; the job gives %s" % shown(value) if there else ""
