@@ -172,7 +172,10 @@ def field_wrong(job, path):
     if form in ("args", "cells"):
         lines += [wanted_line(made, form) for made in job.entries()]
     if form == "length" and isinstance(job.value, dict) and isinstance(job.value.get("bytes"), str) and "length" not in job.value:
-        return lines + ['mend: write `"length":%d`, all of its bytes; `td-run` fills it in.' % (len(job.value["bytes"]) // 2)]
+        stretches = numbers_of(job.value.get("stretches"))
+        length = len(job.value["bytes"]) // 2 if stretches is None else sum(size for _, size in stretches)
+        what = "all of its bytes" if stretches is None else "that of its stretches together"
+        return lines + ['mend: write `"length":%d`, %s; `td-run` fills it in.' % (length, what)]
     return lines + (["mend: write it as the example does, outside of quotes." if form == "length" else "mend: write it as the example does."] if not job.entries() else [example_of(job.entries()[0], job.is_host() or form.startswith(("guests", "workers", "buffer", "rings", "swaps")))])
 
 
