@@ -80,7 +80,7 @@ def filled(name, job, data=None, path=None):
 
 
 def program():
-    return os.environ.get("TD", os.path.join(TOP, "td"))
+    return os.environ.get("TD") or os.path.join(TOP, "td")
 
 
 def started(name, words, text, **outputs):
