@@ -12,6 +12,7 @@ CELL = re.compile(r"%s(\.%s)?" % (NAME, NAME))
 BUFFER = re.compile(NAME)
 VALUE = re.compile(r"[0-9a-f]{16}")
 BYTES = re.compile(r"([0-9a-f]{2})+")
+MOST_GUESTS = 16
 MOST_STRETCHES = 64
 MOST_SWAPS = 16
 MOST_RINGS = 16
@@ -165,7 +166,8 @@ def replies_of(lines):
         reply = {"guest": lines.number(words[0]), "number": lines.number(words[1])}
         before = (found[-1]["guest"], found[-1]["number"]) if found else (0, 0)
         now = reply["guest"], reply["number"]
-        if now not in ((before[0], before[1] + 1), (max(before[0] + 1, now[0]), 1)) or now[0] > 16 or before == (0, 0) and now[1] != 1:
+        is_next = found and now == (before[0], before[1] + 1)
+        if not is_next and not (before[0] < now[0] <= MOST_GUESTS and now[1] == 1):
             lines.wrong("reply %d %d doesn't follow %d %d: replies stand by guest and number, from 1" % (now + before))
         version = version_of(lines, found[-1] if found else None)
         found.append({**reply, **version, **run_of(lines)})
