@@ -10,6 +10,7 @@ standard error.
 """
 
 import os
+import signal
 import sys
 
 sys.dont_write_bytecode = True
@@ -23,6 +24,8 @@ def report_in(path):
 
 
 def main():
+    for number in (signal.SIGINT, signal.SIGPIPE):
+        signal.signal(number, signal.SIG_DFL)
     words = sys.argv[1:]
     is_host = len(words) == 2 and words[0] == "host"
     if words not in (["check"], ["tidy"], ["run"]) and not is_host:
