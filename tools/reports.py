@@ -17,10 +17,10 @@ MOST_STRETCHES = 64
 MOST_SWAPS = 16
 MOST_RINGS = 16
 REASONS = ("notenough", "constraint", "impossible", "listsize", "action", "padding")
-MODULE_ERROR = re.compile(r"error ([A-Z][0-9]) ([0-9]+):([0-9]+) (.+)")
+MODULE_ERROR = re.compile(r"error ([A-Z][0-9]) ([1-9][0-9]*):([1-9][0-9]*) (.+)")
 INPUT_ERROR = re.compile(r"error (Z[0-9]) (.+)")
 # A name in a job is printed raw, and may have line feeds or be empty.
-JOB_ERROR = re.compile(r"error (J[0-9]+)(?: (.*))?", re.DOTALL)
+JOB_ERROR = re.compile(r"error (J(?:10|[1-9]))(?: (.*))?", re.DOTALL)
 OTHER_ERROR = re.compile(r"error (read|memory)")
 COUNTS = re.compile(r"ok definitions ([0-9]+) entries ([0-9]+)")
 
