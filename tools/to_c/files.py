@@ -69,7 +69,8 @@ BEGIN = """\
 #include "{name}.h"
 
 /* How a word is loaded: one relaxed atomic load. `__atomic_load_n` takes plain memory, as a guest's is, where C11's `atomic_load` asks for
- * an object that was declared _Atomic. Another compiler needs its own. */
+ * an object that was declared _Atomic. Another compiler needs its own; so does a message in which one word tells that another was written
+ * (a ring's index): there an acquire load keeps the order. */
 #ifndef TD_LOAD
 #if __GCC_ATOMIC_LLONG_LOCK_FREE != 2
 #error "a load of 64 bits isn't one instruction here"
