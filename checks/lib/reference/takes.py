@@ -2,7 +2,7 @@
 
 import functools
 
-from .hosts import Told, Version, Wrong, judge_replies, lines_and_cells, loads_of, replies_of, version_in
+from .hosts import Told, Version, Wrong, judge_replies, lines_and_cells, loads_of, name_in, replies_of, version_in
 from .layouts import Layout, plain
 from .modules import module_of
 from .orders import have_one_order
@@ -63,7 +63,7 @@ def takes_in(report):
     for line in lines[first:]:
         words = line.split()
         if words[0] == "ring":
-            takes.append(((int(words[1]), int(words[2])), []))
+            takes.append((name_in(line), []))
         else:
             takes[-1][1].append(line)
     return takes
@@ -146,5 +146,5 @@ def judge(job, report):
     order of all stores has the loads of each ring's reader in turn, beside those of the others and of the replies."""
     judge_replies(job, report)
     chains = judge_takes(job, takes_in(report))
-    if chains and not have_one_order(job, chains + list(chains_of_replies(job, report))):
+    if not have_one_order(job, chains + list(chains_of_replies(job, report))):
         raise Wrong("no order of the stores has all loads")
