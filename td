@@ -68,8 +68,10 @@ tell_progress() {
 }
 
 build() {
-    local log teller
+    local teller
     log=$(mktemp)
+    # (an interrupt ends the script by this, too)
+    trap 'rm -f "$log"' EXIT
     echo "td: proving and building the program first, an hour and more where nothing is proved yet; the log: $log" >&2
     rm -f "$program"
     tell_progress &

@@ -14,7 +14,8 @@ begin() {
     trap 'rm -rf "$work"' EXIT
 }
 
-# expect NAME STATUS COMMAND..: with this status it writes, to both its outputs, exactly what stands on standard input.
+# expect NAME STATUS COMMAND..: with this status it writes, to both its outputs, exactly what stands on standard input, but for line
+# feeds at its end.
 expect() {
     local name=$1 want=$2 status written
     shift 2

@@ -1,5 +1,5 @@
-"""Parts of the scripts beside the program (td-explain, td-why, td-job, td-fields, td-draw, td-json, td-link). Nothing here is proved: the scripts
-are worth what checks/explain, checks/scripts and checks/tools show of them. What they know of the language they have from checks/lib/reference, the second reading."""
+"""Parts of the scripts beside the program. Nothing here is proved: the scripts are worth what checks/explain, checks/scripts and checks/tools
+show of them. What they know of the language they have from checks/lib/reference, the second reading."""
 
 import os
 import sys

@@ -10,7 +10,7 @@ from .explain import Unknown, help_of
 from .places import NoPlace, escaped, shown, visible
 
 # A job's error has a path, which may look like a place.
-ERROR = re.compile(rb"error (?:(J[0-9]{1,2}|Z[0-9])|([A-Z][0-9]) ([0-9]+):([0-9]+))(?: .*)?", re.DOTALL)
+ERROR = re.compile(rb"error (?:(J[0-9]{1,2}|Z[0-9])|([A-Z][0-9]) ([0-9]{1,18}):([0-9]{1,18}))(?: .*)?", re.DOTALL)
 # Lines that td-explain explains; of others it prints what they are.
 EXPLAINED = re.compile(rb"(error |usage: |td-image: |[IV][0-9]( |$)).*", re.DOTALL)
 # A name of a job is printed raw, line feeds too, so all that follows belongs to it.
@@ -18,20 +18,6 @@ RAW = b"error J2 "
 # The second reading is slow: a text of 4 MiB takes it a minute.
 SECONDS = 60
 STACK = 512 * 1024 * 1024
-
-
-class Usage(Exception):
-    """The words of the command line are wrong."""
-
-
-def usage_of(document):
-    """The lines of a script's head that say how it is called."""
-    return document[document.index("usage:") :].split("\n\n")[0]
-
-
-def read(path):
-    with open(path, "rb") as file:
-        return file.read()
 
 
 def lines_of(written):
@@ -122,6 +108,6 @@ def explain(name, path, text, written, job):
         print("%s: the file '%s' has no such place: the line is of another module" % (name, path), file=sys.stderr)
         return 2
     except Unknown:
-        print("%s: td writes no such line: %s" % (name, escaped(errors[-1])), file=sys.stderr)
+        print("%s: td writes no such line: %s" % (name, escaped(line)), file=sys.stderr)
         return 2
     return 1 if errors else 0

@@ -8,7 +8,7 @@ from reference.tokens import KEYWORDS, NUMBER_TYPES, WORD, after_trivia, word
 from .places import line_and_column
 
 # The next line is this one of the file; 0 where it is none of it, but names the part.
-ORIGIN = re.compile(rb"//@ (0|[1-9][0-9]*) (.+)")
+ORIGIN = re.compile(rb"//@ (0|[1-9][0-9]{0,17}) (.+)")
 
 
 class Unnamed(Exception):

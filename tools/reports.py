@@ -3,6 +3,7 @@
 import re
 
 LARGEST = 2**64 - 1
+MOST_DIGITS = len(str(LARGEST))
 NUMBER = re.compile(r"0|[1-9][0-9]*")
 NAME = r"[A-Za-z_][A-Za-z0-9_]*"
 # A type of a module of several parts has the part's name before its own.
@@ -11,14 +12,15 @@ CELL = re.compile(r"%s(\.%s)?" % (NAME, NAME))
 BUFFER = re.compile(NAME)
 VALUE = re.compile(r"[0-9a-f]{16}")
 BYTES = re.compile(r"([0-9a-f]{2})+")
+MOST_GUESTS = 16
 MOST_STRETCHES = 64
 MOST_SWAPS = 16
 MOST_RINGS = 16
 REASONS = ("notenough", "constraint", "impossible", "listsize", "action", "padding")
-MODULE_ERROR = re.compile(r"error ([A-Z][0-9]) ([0-9]+):([0-9]+) (.+)")
+MODULE_ERROR = re.compile(r"error ([A-Z][0-9]) ([1-9][0-9]*):([1-9][0-9]*) (.+)")
 INPUT_ERROR = re.compile(r"error (Z[0-9]) (.+)")
 # A name in a job is printed raw, and may have line feeds or be empty.
-JOB_ERROR = re.compile(r"error (J[0-9]+)(?: (.*))?", re.DOTALL)
+JOB_ERROR = re.compile(r"error (J(?:10|[1-9]))(?: (.*))?", re.DOTALL)
 OTHER_ERROR = re.compile(r"error (read|memory)")
 COUNTS = re.compile(r"ok definitions ([0-9]+) entries ([0-9]+)")
 
@@ -28,7 +30,7 @@ class NoReport(Exception):
 
 
 def number(text, line):
-    if not NUMBER.fullmatch(text) or int(text) > LARGEST:
+    if not NUMBER.fullmatch(text) or len(text) > MOST_DIGITS or int(text) > LARGEST:
         raise NoReport(line, "`%s` isn't a number" % text)
     return int(text)
 
@@ -164,7 +166,8 @@ def replies_of(lines):
         reply = {"guest": lines.number(words[0]), "number": lines.number(words[1])}
         before = (found[-1]["guest"], found[-1]["number"]) if found else (0, 0)
         now = reply["guest"], reply["number"]
-        if now not in ((before[0], before[1] + 1), (max(before[0] + 1, now[0]), 1)) or now[0] > 16 or before == (0, 0) and now[1] != 1:
+        is_next = found and now == (before[0], before[1] + 1)
+        if not is_next and not (before[0] < now[0] <= MOST_GUESTS and now[1] == 1):
             lines.wrong("reply %d %d doesn't follow %d %d: replies stand by guest and number, from 1" % (now + before))
         version = version_of(lines, found[-1] if found else None)
         found.append({**reply, **version, **run_of(lines)})

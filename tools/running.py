@@ -1,7 +1,8 @@
-"""Running the program on a module and a job: what td-run, td-fields and td-test share."""
+"""Running the program on a module and a job: what td-run, td-fields, td-draw and td-test share."""
 
 import json
 import os
+import signal
 import subprocess
 
 from . import TOP
@@ -79,23 +80,28 @@ def filled(name, job, data=None, path=None):
 
 
 def program():
-    return os.environ.get("TD", os.path.join(TOP, "td"))
+    return os.environ.get("TD") or os.path.join(TOP, "td")
+
+
+def started(name, words, text, **outputs):
+    """Runs the program. It may end before it took its input, and that doesn't end the script."""
+    before = signal.signal(signal.SIGPIPE, signal.SIG_IGN)
+    try:
+        return subprocess.run([program(), *words], input=text, check=False, **outputs)
+    except OSError:
+        raise Wrong("%s: can't start the program '%s'" % (name, program()), 127) from None
+    finally:
+        signal.signal(signal.SIGPIPE, before)
 
 
 def run(name, words, text, capture=True):
     """Runs the program; its standard error is ours where `capture` is False or the output alone is captured."""
-    try:
-        return subprocess.run([program(), *words], input=text, stdout=subprocess.PIPE if capture else None, check=False)
-    except OSError:
-        raise Wrong("%s: can't start the program '%s'" % (name, program()), 127) from None
+    return started(name, words, text, stdout=subprocess.PIPE if capture else None)
 
 
 def run_apart(name, words, text):
     """Runs the program; both of its outputs are kept."""
-    try:
-        return subprocess.run([program(), *words], input=text, capture_output=True, check=False)
-    except OSError:
-        raise Wrong("%s: can't start the program '%s'" % (name, program()), 127) from None
+    return started(name, words, text, capture_output=True)
 
 
 def status(code):

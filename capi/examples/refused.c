@@ -69,6 +69,7 @@ int main(int argc, char **argv) {
     int32_t code = rounds();
     tried += code == TD_NO_MEMORY;
     if (code && code != TD_NO_MEMORY) stop("an answer for want of memory", code);
+    if (!code && allocations >= refused_at) stop("an allocation that was refused, and no call that says so", refused_at);
     if (blocks != slots) stop("blocks that were left", blocks - slots);
   }
   refused_at = 0;

@@ -18,6 +18,7 @@ int main(int argc, char **argv) {
     code = td_pack(text, size, again, sizeof again, &told);
     tried += code == TD_PACK_NO_MEMORY;
     if (code && code != TD_PACK_NO_MEMORY) stop("an answer for want of memory", code);
+    if (!code && allocations >= refused_at) stop("an allocation that was refused, and no call that says so", refused_at);
     if (!code && memcmp(image, again, told.size)) stop("another image", refused_at);
     if (blocks) stop("blocks that were left", blocks);
   }

@@ -330,8 +330,15 @@ def carried(length, loads):
     return bytes(words[:length])
 
 
-def judged(code, entry, args, cells, message, line):
-    """What is wrong with the machine's line of a run, or None; and the steps of the plain run on this message, with their bound."""
+def held(words, stores, load, word):
+    """What a word holds at the load of this number, where others stored meanwhile."""
+    due = sorted((store for store in stores if store[0] <= load and store[1] == word), key=lambda store: store[0])
+    return due[-1][2] if due else words[word]
+
+
+def judged(code, entry, args, cells, message, line, words, stores=()):
+    """What is wrong with the machine's line of a run in these words, or None; and the steps of the plain run on this message, with their
+    bound."""
     head, loads = split_loads(line)
     run = Run(code, message)
     wanted = run.outcome(entry, args, cells)
@@ -341,6 +348,8 @@ def judged(code, entry, args, cells, message, line):
         wrong = f"{head!r} in place of {wanted!r}"
     elif [word for word, _ in loads] != sorted({place // 8 for place in run.touched}):
         wrong = f"loads {loads}, looked at {run.touched}"
+    elif [value for _, value in loads] != [held(words, stores, load, word) for load, (word, _) in enumerate(loads)]:
+        wrong = f"loads {loads} of words {words} with stores {stores}"
     elif run.steps > bound:
         wrong = f"{run.steps} steps of {bound}"
     return wrong, run.steps, bound

@@ -44,12 +44,20 @@ class History:
         """What stands in a word of the buffer at a moment."""
         return next((value for to, value in reversed(self.stores[:moment]) if to == word), self.job.words[word])
 
-    def reply(self, guest, number, layout):
-        """The lines of a reply. It is under the version that was published when its post was made."""
+    def reply(self, guest, number, layout, now):
+        """The lines of a reply of a worker who has come so far. It is under the version that was published when its post was made."""
         posted = self.posted[guest, number]
+        now[0] = max(now[0], posted)
         version = sum(moment <= posted for moment in self.published)
         lines = "reply %d %d\n" % (guest, number) + ("version %d\n" % version if self.published else "")
-        return lines + lines_and_cells(self.job.versions[version], self.job.arguments, Moments(self, layout, 0, [posted]))[0]
+        return lines + lines_and_cells(self.job.versions[version], self.job.arguments, Moments(self, layout, 0, now))[0]
+
+    def replies(self):
+        """The lines of each reply: some worker takes each post, all of them in the order in which they were made."""
+        posts = {(guest, number): layout for guest, number, layout, _ in self.job.posts()}
+        workers = [[0] for _ in range(self.job.workers)]
+        found = {name: self.reply(*name, posts[name], self.random.choice(workers)) for name in self.posted}
+        return [found[name] for name in posts]
 
     def takes(self, number, ring):
         """The lines of all takes of a ring."""
@@ -62,5 +70,4 @@ class History:
         return lines
 
     def report(self):
-        replies = [self.reply(guest, number, layout) for guest, number, layout, _ in self.job.posts()]
-        return "".join(replies + [self.takes(number, ring) for number, ring in enumerate(self.job.rings, 1)])
+        return "".join(self.replies() + [self.takes(number, ring) for number, ring in enumerate(self.job.rings, 1)])

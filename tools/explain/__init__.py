@@ -6,7 +6,7 @@ from ..places import NoPlace, line_and_column
 from . import copies, habits, images, jobs, names, safety, sizes, sorts, tokens
 from .reading import Module
 
-MODULE_ERROR = re.compile(r"error ([A-IK-Y][0-9]) ([0-9]+):([0-9]+) .*")
+MODULE_ERROR = re.compile(r"error ([A-IK-Y][0-9]) ([0-9]{1,18}):([0-9]{1,18}) .*")
 # A name of a job is printed raw, so a path may have any bytes.
 OTHER_ERROR = re.compile(r"error (J[0-9]{1,2}|Z[0-9])(?: (.*))?", re.DOTALL)
 OTHERS = {

@@ -2,6 +2,8 @@
 
 from types import SimpleNamespace as Advice
 
+from reference.tokens import whole
+
 # The first words of what other languages have in a definition's place.
 FIRST_WORDS = {
     "extern": "There is no `extern`: deliver what the function needs by an out-parameter, and call it when the message was accepted.",
@@ -97,9 +99,10 @@ def constant_value(here):
             number = here.word(1)
             return advise("A constant is a number alone: write `#define %s %s`." % (name, number), (here.begin(), here.end(2), number))
         if here.kind == "-" and here.kind_at(1) == "NUM":
-            value = int(here.word(1), 0) if not here.word(1).lstrip("0").isdecimal() else int(here.word(1))
-            number = hex(2**16 - value) if value <= 2**15 else hex(2**64 - value)
-            said = "There are no negative numbers: write what its bytes hold, of 16 bits `#define %s %s`." % (name, number)
+            value = here.module.token(here.index + 1)[1]
+            bits = 16 if value <= 2**15 else 64
+            number = hex(-value % 2**bits)
+            said = "There are no negative numbers: write what its bytes hold, of %d bits `#define %s %s`." % (bits, name, number)
             return advise(said, (here.begin(), here.end(1), number))
         if here.kind == "sizeof":
             closing = here.matching(1)
@@ -141,7 +144,7 @@ def worked_out(here, last):
     shifted = [number for sign, number in zip(words, words[1:]) if sign == "<<"]
     if last > 20 or any(len(number) > 2 for number in shifted):
         return None
-    words = [str(int(word, 16) if word[:2] in ("0x", "0X") else int(word)) if word[0].isdigit() else word for word in words]
+    words = [str(int(word, 16) if word[:2] in ("0x", "0X") else whole(word)) if word[0].isdigit() else word for word in words]
     try:
         # Numbers and C's operators alone, of which Python's have the same levels; `/` rounds down.
         value = eval(" ".join(words).replace("/", "//"), {"__builtins__": {}})  # noqa: S307

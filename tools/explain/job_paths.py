@@ -18,7 +18,7 @@ def at_path(job, path):
     for index, name in STEP.findall(path):
         try:
             value = value[int(index)] if index else value[name]
-        except (KeyError, IndexError, TypeError):
+        except (KeyError, IndexError, TypeError, ValueError):
             return False, None
     return True, value
 

@@ -5,7 +5,7 @@ import json
 import re
 
 from reference.errors import ModuleError
-from reference.jobs import HEXADECIMAL, is_whole, parts_in
+from reference.jobs import HEXADECIMAL, arguments_in, is_whole, parts_in
 from reference.modules import module_of
 
 from ..places import escaped, place_of
@@ -19,6 +19,8 @@ RUN_FIELDS = ("entry", "args", "cells", "bytes", "length", "stretches", "value",
 GIVEN_FIELDS = ("bytes", "length", "stretches")
 HOST_FIELDS = ("entry", "args", "buffer", "workers", "guests", "rings", "swaps")
 GUEST_FIELDS = ("script",)
+# Of a number with more digits the first ones are read: Python reads no more than 4,300, and it is past all size anyway.
+MOST_DIGITS = 4_000
 # The form of each field, and an example.
 FORMS = {
     "entry": ("a text, the name of an entry point", '"entry":"P"'),
@@ -79,7 +81,7 @@ class Job:
         self.known, self.text, self.value, self.fault = known, text, None, None
         if text is not None:
             try:
-                self.value = json.loads(text.decode("utf-8"))
+                self.value = json.loads(text.decode("utf-8"), parse_int=lambda digits: int(digits[:MOST_DIGITS]))
             except (ValueError, RecursionError) as fault:
                 self.fault = fault
         self.entry = None
@@ -170,7 +172,10 @@ def field_wrong(job, path):
     if form in ("args", "cells"):
         lines += [wanted_line(made, form) for made in job.entries()]
     if form == "length" and isinstance(job.value, dict) and isinstance(job.value.get("bytes"), str) and "length" not in job.value:
-        return lines + ['mend: write `"length":%d`, all of its bytes; `td-run` fills it in.' % (len(job.value["bytes"]) // 2)]
+        stretches = numbers_of(job.value.get("stretches"))
+        length = len(job.value["bytes"]) // 2 if stretches is None else sum(size for _, size in stretches)
+        what = "all of its bytes" if stretches is None else "that of its stretches together"
+        return lines + ['mend: write `"length":%d`, %s; `td-run` fills it in.' % (length, what)]
     return lines + (["mend: write it as the example does, outside of quotes." if form == "length" else "mend: write it as the example does."] if not job.entries() else [example_of(job.entries()[0], job.is_host() or form.startswith(("guests", "workers", "buffer", "rings", "swaps")))])
 
 
@@ -199,7 +204,7 @@ def wrong_values(job, path):
         number = int(index.rstrip("]"))
         for made in job.entries():
             wanted = values_wanted(made) if which == "args" else cells_wanted(made)
-            bits = [p.bits for p in made.parameters if not p.mutable] if which == "args" else [bits or 32 for _, _, bits in made.cells]
+            bits = [parameter.bits for parameter in arguments_in(made)] if which == "args" else [bits or 32 for _, _, bits in made.cells]
             if number < len(bits):
                 there, value = at_path(job.value, path) if isinstance(job.value, dict) else (False, None)
                 given = "; the job gives %s" % shown(value) if there else ""

@@ -149,8 +149,9 @@ def action(module, tree, trees):
 def cells(module, tree, trees):
     counts = []
     for parameter in tree.parameters:
-        record = module.definition_named(parameter.type[1]) if parameter.mutable else None
-        counts.append(len(record.slots) if record is not None and record.kind == "output" else 1 if parameter.mutable else 0)
+        is_cell = parameter.mutable and parameter.room is None
+        record = module.definition_named(parameter.type[1]) if is_cell else None
+        counts.append(len(record.slots) if record is not None and record.kind == "output" else int(is_cell))
     parts = ["`%s` %d" % (parameter.name[1], count) for parameter, count in zip(tree.parameters, counts) if count]
     return [passed("cells", sum(counts), "`" + tree.name[1] + "` has %d cells"), "Of its parameters: %s." % ", ".join(parts)]
 

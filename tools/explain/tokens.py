@@ -7,6 +7,8 @@ from ..places import visible
 SUFFIX = re.compile(rb"(0[xX][0-9a-fA-F]+|[0-9]+)([A-Za-z_][A-Za-z0-9_]*)")
 C_SUFFIX = re.compile(r"(?i)(u|l|ul|lu|ull|llu|ll|uy|us|y|s)")
 LARGEST = 2**64 - 1
+# Of a decimal number with more digits these are counted, and not its bits.
+MOST_DIGITS = 4_000
 DIRECTIVES = {
     "include": "There is one text: give both to `td-link`, which makes each a part, and write `Base.T` for the other's `T`.",
     "if": "There is no `#if`: run `cpp -P` over the text first, or take a parameter and a casetype.",
@@ -97,9 +99,12 @@ def open_comment(module):
 
 def number_too_large(module):
     spelling = re.match(rb"0[xX][0-9a-fA-F]+|[0-9]+", module.text[module.error.at :])[0].decode()
-    value = int(spelling, 16) if spelling[:2] in ("0x", "0X") else int(spelling)
+    if spelling[:2] in ("0x", "0X") or len(spelling) <= MOST_DIGITS:
+        takes = "takes %d bits, and the widest number type has 64" % int(spelling, 16 if spelling[:2] in ("0x", "0X") else 10).bit_length()
+    else:
+        takes = "has %d digits, and the widest number type has 64 bits" % len(spelling.lstrip("0"))
     return [
-        "The number takes %d bits, and the widest number type has 64: the largest is %d (`0xffffffffffffffff`)." % (value.bit_length(), LARGEST),
+        "The number %s: the largest is %d (`0xffffffffffffffff`)." % (takes, LARGEST),
         "mend: test a longer value by its parts, each a field of up to 64 bits, or leave it as `UINT8 name[n]`.",
     ]
 

@@ -68,13 +68,14 @@ FOOTER = """\
 BEGIN = """\
 #include "{name}.h"
 
-/* How a word is loaded: one relaxed atomic load. `__atomic_load_n` takes plain memory, as a guest's is, where C11's `atomic_load` asks for
- * an object that was declared _Atomic. Another compiler needs its own. */
+/* How a word is loaded: one atomic load, before all later ones, so that what a word tells of others (a ring's index) isn't newer than they
+ * are. `__atomic_load_n` takes plain memory, as a guest's is, where C11's `atomic_load` asks for an object that was declared _Atomic.
+ * Another compiler needs its own. */
 #ifndef TD_LOAD
 #if __GCC_ATOMIC_LLONG_LOCK_FREE != 2
 #error "a load of 64 bits isn't one instruction here"
 #endif
-#define TD_LOAD(word) __atomic_load_n((word), __ATOMIC_RELAXED)
+#define TD_LOAD(word) __atomic_load_n((word), __ATOMIC_ACQUIRE)
 #endif
 #if __BYTE_ORDER__ != __ORDER_LITTLE_ENDIAN__
 #error "the bytes of a word are taken in little-endian order"

@@ -1,8 +1,7 @@
 """Actions: their rules, and what they stand for: lists of ("set", cell, core), ("var", cell), ("if", test, one, other),
 ("return", core) and ("abort",)."""
 
-from .expressions import Typing, number_core, type_alone
-from .expressions import Core
+from .expressions import Core, type_alone
 
 
 class Actions:

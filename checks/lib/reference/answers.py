@@ -12,6 +12,7 @@ from .runs import Memory, outcome_of
 from .takes import judge
 
 INPUT_LIMIT = 4_194_304
+TOO_LONG = 1, b"", b"error Z1 input too long\n"
 
 
 def written_line(written):
@@ -88,15 +89,17 @@ def hosted(text, report):
             judge(job, report.decode())
         except Wrong as wrong:
             return 3, b"", b"%s\n" % str(wrong).encode()
+        except (ValueError, IndexError):
+            return 3, b"", b"a line that no report has\n"
         return 0, b"", b""
 
-    return of_input(text, judged)
+    return of_input(text, judged) if len(text) <= INPUT_LIMIT else TOO_LONG
 
 
 def answer(text, command="run"):
     """The exit status, and what is written to standard output and to standard error."""
     if len(text) > INPUT_LIMIT:
-        return 1, b"", b"error Z1 input too long\n"
+        return TOO_LONG
     return {"run": reported, "check": checked, "tidy": tidied}[command](text)
 
 

@@ -189,15 +189,24 @@ class Told(Memory):
         return self.loaded.setdefault(number, self.told[number])
 
 
+def name_in(line):
+    """The two numbers of a line that begins a reply or a take."""
+    word, *numbers = line.split()
+    name = int(numbers[0]), int(numbers[1])
+    if line != "%s %d %d\n" % (word, *name):
+        raise Wrong("a line that no report has")
+    return name
+
+
 def replies_of(report):
     """The replies of a report: for each its guest and number, and the lines of its run. Behind them stand the takes of rings."""
     replies = []
     for line in report.splitlines(keepends=True):
         words = line.split()
-        if words[0] == "ring":
+        if line.startswith("ring "):
             break
         if words[0] == "reply":
-            replies.append(((int(words[1]), int(words[2])), []))
+            replies.append((name_in(line), []))
         elif not replies:
             raise Wrong("a line before the first reply")
         else:

@@ -17,6 +17,9 @@ class Steps:
         for after, loads in chains:
             last = self.lasts.get(after)
             for word, value in loads:
+                if word not in self.stores and job.words[word] == value:
+                    # Nobody stores there, so it was loaded at some time or other.
+                    continue
                 last = self.add(last)
                 sources = [OPENING] * (job.words[word] == value) + [store for store, stored in self.stores[word] if stored == value]
                 self.loads.append((last, word, sources))

@@ -1,5 +1,7 @@
 """Validation of a message, word by word."""
 
+import collections
+
 from .scopes import bits_of
 from .sizes import constant_size, element_kind
 from .tokens import NUMBER_TYPES
@@ -10,12 +12,14 @@ class Memory:
     """A message in words to which others store by a plan, and the loads made of it, by the number of the message word."""
 
     def __init__(self, layout, words, stores):
-        self.layout, self.words, self.stores, self.loaded = layout, words, stores, {}
+        self.layout, self.words, self.stores, self.loaded = layout, words, collections.defaultdict(list), {}
+        for store in stores:
+            self.stores[store[1]].append(store)
 
     def load(self, number):
         if number not in self.loaded:
             word = self.layout.buffer_word(number)
-            due = [s for s in self.stores if s[0] <= len(self.loaded) and s[1] == word]
+            due = [s for s in self.stores[word] if s[0] <= len(self.loaded)]
             due.sort(key=lambda s: s[0])
             self.loaded[number] = due[-1][2] if due else self.words[word]
         return self.loaded[number]

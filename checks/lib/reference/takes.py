@@ -2,7 +2,7 @@
 
 import functools
 
-from .hosts import Told, Version, Wrong, judge_replies, lines_and_cells, loads_of, replies_of, version_in
+from .hosts import Told, Version, Wrong, judge_replies, lines_and_cells, loads_of, name_in, replies_of, version_in
 from .layouts import Layout, plain
 from .modules import module_of
 from .orders import have_one_order
@@ -63,7 +63,7 @@ def takes_in(report):
     for line in lines[first:]:
         words = line.split()
         if words[0] == "ring":
-            takes.append(((int(words[1]), int(words[2])), []))
+            takes.append((name_in(line), []))
         else:
             takes[-1][1].append(line)
     return takes
@@ -140,11 +140,21 @@ def chains_of_replies(job, report):
         yield (guest, made), [(layout.buffer_word(number), value) for number, value in loads]
 
 
+def chains_of_one_worker(replies):
+    """The loads of each guest's replies in turn, as one worker makes them: it takes a guest's posts in their order."""
+    chains = {}
+    for (guest, made), loads in replies:
+        chains.setdefault(guest, ((guest, made), []))[1].extend(loads)
+    return list(chains.values())
+
+
 def judge(job, report):
     """Raises `Wrong` where this can't be the report of the job: where its replies can't be (`judge_replies`); where there is another take
     than those of the rings, one that isn't what the words that it loaded say, a load of what can't stand in its word; or where no
-    order of all stores has the loads of each ring's reader in turn, beside those of the others and of the replies."""
+    order of all stores has the loads of each ring's reader in turn, beside those of the others and of the replies; and, where there is
+    one worker, those of a guest's replies in turn."""
     judge_replies(job, report)
-    chains = judge_takes(job, takes_in(report))
-    if chains and not have_one_order(job, chains + list(chains_of_replies(job, report))):
+    chains, replies = judge_takes(job, takes_in(report)), list(chains_of_replies(job, report))
+    in_turn = chains_of_one_worker(replies) if job.workers == 1 else []
+    if not have_one_order(job, chains + replies + in_turn):
         raise Wrong("no order of the stores has all loads")

@@ -18,6 +18,8 @@ ARRAY_WORDS = ("[:byte-size", "[:byte-size-single-element-array", "[:zeroterm-by
 MARKED_WORDS = ("#define", COPY_WORD) + ACTION_WORDS + ARRAY_WORDS
 NUMBER = re.compile(rb"0[xX][0-9a-fA-F]+|[0-9]+")
 WORD = re.compile(rb"[A-Za-z_][A-Za-z0-9_]*")
+# A number of so many digits, the first of which isn't 0, is 2^64 or more.
+MOST_DIGITS = 21
 
 
 def follows(text, at, more=""):
@@ -40,12 +42,17 @@ def after_trivia(text, at):
     return None
 
 
+def whole(digits):
+    """The number that decimal digits spell; in place of one of 2^64 or more some such number, as Python reads no more than 4,300 digits."""
+    return int(digits.lstrip("0")[:MOST_DIGITS] or "0")
+
+
 def number(text, at):
     spelling = NUMBER.match(text, at).group().decode()
     end = at + len(spelling)
     if follows(text, end):
         raise ModuleError("L1", end, "bad byte")
-    value = int(spelling, 16) if spelling[:2] in ("0x", "0X") else int(spelling)
+    value = int(spelling, 16) if spelling[:2] in ("0x", "0X") else whole(spelling)
     if value >= 2**64:
         raise ModuleError("L3", at, "number too large")
     return ("NUM", value, at), end
