@@ -1,6 +1,6 @@
 //! What C calls to replace a code while others validate by it.
 
-ghost use Rattle.std.specs.Prelude.{◌≡◌, ◌⊎◌, ◌<◌, ◌≤◌, ◌↔◌, pos, true, false, Some, IfOk, IfErr, OnOk, IsSomeAnd, length, slice_get};
+ghost use Rattle.std.specs.Prelude.{◌≡◌, ◌⊎◌, ◌<◌, ◌≤◌, ◌↔◌, ◌++◌, ◌∷◌, [], pos, true, false, Some, IfOk, IfErr, OnOk, IsSomeAnd, length, slice_get};
 ghost use Rattle.std.specs.Arc.{arc_value};
 ghost use Rattle.td_image.specs.Answer.{IsImage, MayRunOut};
 ghost use Rattle.td_c.specs.Images.{IsFault};
@@ -44,6 +44,18 @@ fn code_in(alloc: Global, image: &[u8], fault: &mut TdFault) -> Result<Verified,
     }
 }
 
+// One more that waits. The number of an answer: it does, or there was no memory for it.
+fn keep(codes: &mut Vec<Verified>, code: Verified) -> i32
+    ensures which { (result ≡ pos 0) ⊎ (result ≡ pos 4) }
+    ensures kept { result ≡ pos 0 → codes.new.items ≡ codes.old.items ++ code ∷ [] }
+    ensures refused { result ≡ pos 4 → codes.new.items ≡ codes.old.items }
+{
+    match codes.push(code) {
+        Ok(()) => DONE,
+        Err(_) => NO_MEMORY,
+    }
+}
+
 // A version more.
 fn add_to(alloc: Global, codes: &mut Vec<Verified>, image: &[u8], fault: &mut TdFault) -> i32
     ensures { IsAddition codes.old.items codes.new.items fault.old fault.new image.now result }
@@ -52,10 +64,7 @@ fn add_to(alloc: Global, codes: &mut Vec<Verified>, image: &[u8], fault: &mut Td
         return TOO_MUCH;
     }
     match code_in(alloc, image, fault) {
-        Ok(code) => match codes.push(code) {
-            Ok(()) => DONE,
-            Err(_) => NO_MEMORY,
-        },
+        Ok(code) => keep(codes, code),
         Err(code) => code,
     }
 }

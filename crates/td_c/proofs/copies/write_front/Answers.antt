@@ -1,4 +1,3 @@
-use Rattle.std.proofs.Common.{◌∙◌}
 use Rattle.td_c.proofs.Written.{written}
 use Rattle.td_c.proofs.copies.write_front.Goals as goal
 
