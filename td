@@ -90,6 +90,34 @@ build() {
     rm -f "$log"
 }
 
+# Words that ask for help are answered here, at once: the program itself, whose usage line is proved, would be built for it first.
+help_text() {
+    cat <<'END'
+td: validate messages by a format in 3D, in memory that others keep changing
+
+  td check  < FORMAT     is the format accepted? if not, why, and where
+  td run    < INPUT      validate a job's message while others store to it
+  td host   < INPUT      serve the messages of several guests, by threads
+  td pack   < FORMAT     the format's compiled image, for the C library
+  td code   < FORMAT     the same code as text
+  td tidy   < FORMAT     the format in its canonical layout
+  td bench N             validate N made messages, 1 to 10,000, and count
+
+An INPUT is a format, a line %%, and a job. Try: td run < examples/two_numbers/input
+The first call proves and builds the program, which takes an hour and more. For a first look without it:
+  python3 checks/lib/reference run < examples/two_numbers/input
+Status: 0 done (a rejected message, too), 1 refused, 2 wrong words, 3 read, 4 write, 5 memory; 70 td isn't built.
+More: man -l man/td.1, README.md, docs/ERRORS.md
+END
+}
+
+case "$*" in
+    -h | --help | help)
+        help_text
+        exit 0
+        ;;
+esac
+
 if is_stale; then
     if ! command -v rt >/dev/null; then
         echo "td: the program isn't built, or is older than its sources, and \`rt\`, which builds it, isn't on the path" >&2
