@@ -1,4 +1,5 @@
-/* td.h: messages in memory that others keep storing to, validated by verified code.
+/* SPDX-License-Identifier: Apache-2.0 OR MIT
+   td.h: messages in memory that others keep storing to, validated by verified code.
 
    A session is opened once, from an image (`td pack <MODULE >IMAGE`). From then on only td_again, td_validate_parts and the
    calls that open codes, seats and their sessions ask for memory, and no call waits for anybody. Each 64-bit word of a
@@ -7,6 +8,10 @@
    those that close and td_reason_word. */
 #ifndef TD_H
 #define TD_H
+
+/* The version of this header: major, minor and patch, eight bits each. */
+#define TD_VERSION 0x010100
+
 #include <stdbool.h>
 #include <stddef.h>
 #include <stdint.h>
