@@ -20,7 +20,7 @@ extern "C" {
 #endif
 
 typedef enum {
-  TD_ACCEPTED = 0,  /* td_validate; elsewhere 0 is TD_DONE */
+  TD_ACCEPTED = 0,  /* of td_validate; every other call answers TD_DONE */
   TD_DONE = 0,
   TD_REJECTED = 1,  /* td_validate: position and reason are in the call, the frames by td_frame */
   TD_UNFIT = 2,     /* arguments or cells are more or fewer than the entry point's, or one is too wide; nothing was loaded */
