@@ -10,7 +10,7 @@ datadir = $(PREFIX)/share
 mandir = $(datadir)/man
 VERSION := $(shell cat VERSION)
 PROGRAM = crates/td/out/td
-SCRIPTS = td-check td-draw td-explain td-fields td-image td-job td-json td-link td-run td-second td-test td-why
+SCRIPTS = td-check td-draw td-explain td-fields td-header td-image td-job td-json td-link td-lint td-run td-second td-test td-why
 # What the scripts read, beside themselves.
 FILES = VERSION LICENSE docs/report.schema.json
 FOLDERS = tools checks/lib/reference errors docs/language
