@@ -1,5 +1,5 @@
 mod Sentence
-mod Laying
+pub mod Laying
 mod Sound
 mod Entry
 mod Text
