@@ -13,7 +13,7 @@ use Rattle.td_swap.specs.declared.view.PublisherView.{PublisherView}
 use Rattle.td_swap.specs.declared.view.SwapView.{SwapView}
 use Rattle.td_swap.specs.declared.view.View.{View}
 use Rattle.td_swap.specs.declared.view.View.TheVariants.{Publisher, Swap, Spent}
-use Rattle.td_swap.specs.Views.{publisher_view, swap_view, new_view, did_load, with_ended, IsVersionRun, AreVersions}
+use Rattle.td_swap.specs.Views.{publisher_view, swap_view, new_view, did_load, one_more as then_more, with_ended, IsVersionRun, AreVersions}
 use Rattle.td_swap.specs.Rule.{IsPlaced, KeepsVersions, Holding, publisher_in, swap_in, IsPublisher, IsSwap, Published, LoadedVersion}
 
 -- which kind a view is of
@@ -44,7 +44,7 @@ none_loaded count = ((λ i j d le lt. absurd (omega (arith, lt))), All-nil (λ (
 -- what is known of a seat that gathered another
 both_versions : (v w : SwapView) → w.count ≡ v.count → AreVersions v → AreVersions w → AreVersions (with_ended v w)
 both_versions v w same a b =
-    let c : AreVersions (swap_view v.count w.loads w.ended) = subst (λ n. AreVersions (swap_view n w.loads w.ended)) same b in
+    let c : AreVersions (swap_view v.count w.made w.loads w.ended) = subst (λ n. AreVersions (swap_view n w.made w.loads w.ended)) same b in
     (a.0, All-append (IsVersionRun v.count) v.ended (w.loads ∷ w.ended) a.1 (All-cons (IsVersionRun v.count) w.loads w.ended c.0 c.1))
 
 module _ {S : Type 0} where
@@ -84,7 +84,7 @@ module _ {S : Type 0} where
         tt,
         subst (λ (x : PublisherView). KeepsVersions {S = S} record { words = set s.words 0 new; homes = s.homes; views = set s.views id (Publisher (publisher_view x.count new)) }) (sym f.1)
             (subst (λ i. KeepsVersions {S = S} record { words = set s.words 0 new; homes = s.homes; views = set s.views i (Publisher (publisher_view k.count new)) }) (sym f.0) (published s k new less' few')),
-        refl,
+        (refl, less),
       )
 
   pub publishes : (slots id new : ℕ) (m : Holding S) → IsPublisher m → (publisher_in m.0).number < new → new < (publisher_in m.0).count
@@ -146,11 +146,31 @@ module _ {S : Type 0} where
   pub first : (id : ℕ) (m : Holding S) (v : PublisherView) → m ≡ (Publisher v, []) → Splits {S = S} KeepsVersions id m.0 m.0 (Swap (new_view (publisher_in m.0).count))
   first id m v is = subst (λ (x : View). Splits {S = S} KeepsVersions id x x (Swap (new_view (publisher_in x).count))) (sym (ap (λ (y : Holding S). y.0) is)) (first_at id v)
 
-  another_at : (id : ℕ) (v : SwapView) → Splits {S = S} KeepsVersions id (Swap v) (Swap v) (Swap (new_view v.count))
-  another_at id v s k at = one_more s k id v.count (Swap v) at (k.each id (Swap v) at).0
+  another_at : (id : ℕ) (v : SwapView) → Splits {S = S} KeepsVersions id (Swap v) (Swap (then_more v)) (Swap (new_view v.count))
+  another_at id v s k at =
+      let f = k.each id (Swap v) at in
+      let W : View = Swap (then_more v) in
+      let F : View = Swap (new_view v.count) in
+      let vs : List View = set s.views id W in
+      let P = publisher_view k.count k.word in
+      record {
+        count = k.count;
+        publisher = k.publisher;
+        word = k.word;
+        words = k.words;
+        below = k.below;
+        one_publisher = at_longer vs (F ∷ []) k.publisher (Publisher P) (set_else s.views id k.publisher W (swap_not_publisher s.views k.publisher id P v k.one_publisher at) ∙ k.one_publisher);
+        each = λ j u t. ⊎_elim
+            (λ (x : get_elem? vs j ≡ some u). ⊎_elim
+            (λ (y : (j ≡ id) × (W ≡ u)). subst (IsPlaced k.publisher k.count k.word j) y.1 f)
+            (λ (y : (j ≢ id) × (get_elem? s.views j ≡ some u)). k.each j u y.1)
+            (at_set s.views id j W u x))
+            (λ (x : F ≡ u). subst (IsPlaced k.publisher k.count k.word j) x (f.0, none_loaded (k.word + 1), All-nil (IsVersionRun (k.word + 1))))
+            (at_snoc vs F u j t);
+      }
 
-  pub another : (id : ℕ) (m : Holding S) → IsSwap m → Splits {S = S} KeepsVersions id m.0 m.0 (Swap (new_view (swap_in m.0).count))
-  another id m is = subst (λ (x : View). Splits {S = S} KeepsVersions id x x (Swap (new_view (swap_in x).count))) (sym (ap (λ (y : Holding S). y.0) is)) (another_at id (swap_in m.0))
+  pub another : (id : ℕ) (m : Holding S) → IsSwap m → Splits {S = S} KeepsVersions id m.0 (Swap (then_more (swap_in m.0))) (Swap (new_view (swap_in m.0).count))
+  another id m is = subst (λ (x : View). Splits {S = S} KeepsVersions id x (Swap (then_more (swap_in x))) (Swap (new_view (swap_in x).count))) (sym (ap (λ (y : Holding S). y.0) is)) (another_at id (swap_in m.0))
 
   -- ---- a seat is gathered
   joins_at : (id : ℕ) (v : SwapView) (other : ℕ) (w : SwapView) → Joins {S = S} KeepsVersions id (Swap v) other (Swap w) (Swap (with_ended v w)) Spent
@@ -208,8 +228,11 @@ module _ {S : Type 0} where
   pub loaded_versions : (m m' : Holding S) (n : ℕ) → AreVersions (swap_in m.0) → m' ≡ (Swap (did_load (swap_in m.0) n), []) → IsVersionRun (swap_in m.0).count ((swap_in m.0).loads ++ n ∷ []) → AreVersions (swap_in m'.0)
   loaded_versions m m' n a e r = subst (λ (x : Holding S). AreVersions (swap_in x.0)) (sym e) (r, a.1)
 
-  pub still : (m m' : Holding S) → m' ≡ (m.0, m.1) → IsSwap m → AreVersions (swap_in m.0) → IsSwap m' × AreVersions (swap_in m'.0)
-  still m m' e is a = subst (λ (x : Holding S). IsSwap x × AreVersions (swap_in x.0)) (sym e) (is, a)
+  pub still : (m m' : Holding S) → m' ≡ (Swap (then_more (swap_in m.0)), m.1) → IsSwap m → AreVersions (swap_in m.0) → IsSwap m' × AreVersions (swap_in m'.0)
+  still m m' e is a =
+      let none : m.1 ≡ [] = ap (λ (x : Holding S). x.1) is in
+      let f : m' ≡ (Swap (then_more (swap_in m.0)), []) = e ∙ (λ i. (Swap (then_more (swap_in m.0)), none i)) in
+      (stays m' (then_more (swap_in m.0)) f, subst (λ (x : Holding S). AreVersions (swap_in x.0)) (sym f) a)
 
   pub joined : (m n m' : Holding S) → IsSwap m → (swap_in n.0).count ≡ (swap_in m.0).count → AreVersions (swap_in m.0) → AreVersions (swap_in n.0)
       → m' ≡ (Swap (with_ended (swap_in m.0) (swap_in n.0)), m.1) → IsSwap m' × AreVersions (swap_in m'.0)

@@ -39,9 +39,9 @@ publisher_in Spent = publisher_view 0 0
 
 -- the view of a seat that loads
 abbrev pub swap_in : View → SwapView
-swap_in (Publisher v) = swap_view 0 [] []
+swap_in (Publisher v) = swap_view 0 0 [] []
 swap_in (Swap v) = v
-swap_in Spent = swap_view 0 [] []
+swap_in Spent = swap_view 0 0 [] []
 
 abbrev pub IsPublisher : {S : Type 0} → Holding S → Type 0
 IsPublisher {S} m = m ≡ (Publisher (publisher_in m.0), [])
@@ -49,9 +49,9 @@ IsPublisher {S} m = m ≡ (Publisher (publisher_in m.0), [])
 abbrev pub IsSwap : {S : Type 0} → Holding S → Type 0
 IsSwap {S} m = m ≡ (Swap (swap_in m.0), [])
 
--- what a publication tells: the publisher's number is the one that was stored
+-- what a publication tells: the publisher's number is the one that was stored, and it was less before
 abbrev pub Published : {S : Type 0} → Step S → Holding S → ℕ → Holding S → Type 0
-Published s m new m' = m' ≡ (Publisher (publisher_view (publisher_in m.0).count new), [])
+Published s m new m' = (m' ≡ (Publisher (publisher_view (publisher_in m.0).count new), [])) × ((publisher_in m.0).number < new)
 
 -- what a load tells: the seat has just that number more; it is a version's, and the seat's numbers never fall
 abbrev pub LoadedVersion : {S : Type 0} → Step S → Holding S → ℕ → Holding S → Type 0

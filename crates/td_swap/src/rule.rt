@@ -53,10 +53,10 @@ pub(crate) struct Another;
 
 impl Split<View> for Another {
     ghost use Rattle.td_swap.specs.Rule.{swap_in};
-    ghost use Rattle.td_swap.specs.Views.{new_view};
+    ghost use Rattle.td_swap.specs.Views.{new_view, one_more};
     ghost use Rattle.td_swap.specs.declared.view.View.TheVariants.{Swap};
 
-    ghost left = { λ v. v };
+    ghost left = { λ v. Swap (one_more (swap_in v)) };
 
     ghost right = { λ v. Swap (new_view (swap_in v).count) };
 }

@@ -9,10 +9,11 @@ pub struct PublisherView {
     pub number: u64,
 }
 
-/// What a seat that loads the version word knows: how many versions there are, the numbers that it loaded, the oldest first,
-/// and the lists of the seats that were gathered into it, in that order.
+/// What a seat that loads the version word knows: how many versions there are, how many seats it made, with those that gathered
+/// seats made, the numbers that it loaded, the oldest first, and the lists of the seats that were gathered into it, in that order.
 pub struct SwapView {
     pub count: u64,
+    pub made: u64,
     pub loads: LinkedList<u64>,
     pub ended: LinkedList<LinkedList<u64>>,
 }
