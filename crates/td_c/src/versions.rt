@@ -19,9 +19,10 @@ use td_session::versions::{Publisher, Reader};
 use td_swap::version::MOST_VERSIONS;
 use td_verify::verify::Verified;
 
-/// A handle for versions, which waits for the first one.
+/// A handle for versions, which waits for the first one. The number in the name is that of the layouts of capi/td.h, so a header of
+/// other layouts doesn't link.
 #[unsafe(no_mangle)]
-pub extern "C" fn td_c_codes(alloc: Global, handle: &mut TdSession, full: bool) -> i32
+pub extern "C" fn td_c_codes_1(alloc: Global, handle: &mut TdSession, full: bool) -> i32
     requires { handle.old.full ≡ full }
     ensures which { (result ≡ pos 0) ⊎ (result ≡ pos 4) }
     ensures new { result ≡ pos 0 → (handle.new.full ≡ true) × IsNew handle.new.value }

@@ -18,9 +18,10 @@ pub struct SwapView {
     pub ended: LinkedList<LinkedList<u64>>,
 }
 
-/// A view of the table. `Spent` is that of a seat that was gathered.
+/// A view of the table: the publisher's, with how many of the seats that load it made; that of a seat that loads; and `Spent`, that of a
+/// seat that was gathered.
 pub enum View {
-    Publisher(PublisherView),
+    Publisher(PublisherView, u64),
     Swap(SwapView),
     Spent,
 }
