@@ -107,7 +107,7 @@ module _ {S : Type 0} where
         record {
           count = k.count;
           publisher = k.publisher;
-        made = k.made;
+          made = k.made;
           word = k.word;
           words = set-get_or s.words 0 0 ∙ k.words;
           below = k.below;
@@ -135,7 +135,7 @@ module _ {S : Type 0} where
       let more : n + 1 ≡ k.made + 1 = ap (λ x. x + 1) f.2 in
       let here : get_elem? vs k.publisher ≡ some (Publisher (publisher_view k.count k.word) (k.made + 1)) =
       subst (λ i. get_elem? vs i ≡ some (Publisher (publisher_view k.count k.word) (k.made + 1))) f.0
-          (subst (λ (x : PublisherView × ℕ). get_elem? vs id ≡ some (Publisher x.0 x.1)) (λ i. (f.1 i, more i)) (set_at s.views id (Publisher v n) W at)) in
+      (subst (λ (x : PublisherView × ℕ). get_elem? vs id ≡ some (Publisher x.0 x.1)) (λ i. (f.1 i, more i)) (set_at s.views id (Publisher v n) W at)) in
       record {
         count = k.count;
         publisher = k.publisher;
