@@ -81,6 +81,10 @@ all_counted n (k ∷ below) above all more =
 one_more_few : (a b c n m : ℕ) → a ≡ b + c → b ≤ n → c ≤ m → a ≤ m + n
 one_more_few a b c n m e h k = omega arith
 
+-- nothing more was gathered
+with_none : (v : SwapView) → v ≡ swap_view v.count (v.made + 0) v.loads (v.ended ++ [])
+with_none v = λ i. swap_view v.count (sym (add-zero v.made) i) v.loads (sym (append-nil v.ended) i)
+
 module _ {G : Type 0} where
   -- the part that an actor hands back, of each kind
   abbrev pub put_of : Actor G → Option (Part Post)
@@ -158,9 +162,6 @@ module _ {G : Type 0} where
   draw_one_is h d (kind.Guest g) = refl
   draw_one_is h d (kind.Ring r) = refl
   draw_one_is h d (kind.Publisher q) = refl
-
-  with_none : (v : SwapView) → v ≡ swap_view v.count (v.made + 0) v.loads (v.ended ++ [])
-  with_none v = λ i. swap_view v.count (sym (add-zero v.made) i) v.loads (sym (append-nil v.ended) i)
 
   swap_one_is : (v : SwapView) (a : Actor G) → swap_one v a ≡ swap_view v.count (v.made + made_of a) v.loads (v.ended ++ swaps_of a)
   swap_one_is v (kind.Worker w) = refl
