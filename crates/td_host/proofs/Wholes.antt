@@ -338,8 +338,8 @@ module _ {G : Type 0} where
       -- the lists of numbers are the versions of the replies
       numbers_are : (count made : ℕ) → swaps_all (swap_view count made [] []) news ≡ swap_view count made [] (map (map version_in) h.worked.shares)
       numbers_are count made =
-          let lists = of_first swap_lists numbers-append h.stored_by.no_swaps h.taken_by.no_swaps ∙ h.worked.numbers in
-          let same = ap (λ n. made + n) none_made ∙ add-zero made in
+          let lists : swap_lists news ≡ map (map version_in) h.worked.shares = of_first swap_lists numbers-append h.stored_by.no_swaps h.taken_by.no_swaps ∙ h.worked.numbers in
+          let same : made + swaps_made news ≡ made = ap (λ (n : ℕ). made + n) none_made ∙ add-zero made in
           swaps_are (swap_view count made [] []) news ∙ (λ i. swap_view count (same i) [] (lists i))
 
       pub versioned : (count : ℕ) → count ≡ length job.formats → (w : SwapView) → w ≡ swaps_all (swap_view count job.workers [] []) news → AreVersions w
