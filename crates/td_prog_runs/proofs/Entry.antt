@@ -28,11 +28,12 @@ use Rattle.td_prog_code.specs.Program.{program}
 use Rattle.td_stream.specs.declared.load.Load.{Load}
 use Rattle.td_stream.proofs.Plain.{plain_is}
 use Rattle.td_prog_code.specs.Sentence.{held, IsEnd, HasNumber, HasNumbers, ProgramRuns}
-use Rattle.td_prog_runs.specs.Laid.{AreNumbers}
-use Rattle.td_prog_runs.specs.Agree.{Basis, IsKept}
+use Rattle.td_prog_steps.specs.Laid.{AreNumbers}
+use Rattle.td_prog_trees.specs.Agree.{Basis, IsKept}
 use Rattle.td_prog_runs.specs.Theorem.{AreEmpty, IsLeftBy}
 use Rattle.td_prog_runs.proofs.Sound.{sound_code_in_c}
-use Rattle.td_prog_runs.proofs.Guarded.{StaysBelow, unguarded}
+use Rattle.td_prog_trees.specs.Laws.{StaysBelow}
+use Rattle.td_prog_trees.proofs.Guarded.{unguarded}
 
 zeros_small : (k : ℕ) → Each (λ v. v < 2 ^ 64) (replicate k 0)
 zeros_small zero = tt

@@ -14,7 +14,7 @@ use Rattle.td_verify.specs.Verify.{IsIn, IsSound}
 use Rattle.td_verify.specs.Safe.{IsSafe}
 use Rattle.td_vm.proofs.Bounds as bounds
 use Rattle.td_vm.proofs.Bounds.{run_answers, turn_takes}
-use Rattle.td_prog_runs.specs.Laid.{IsBusy}
+use Rattle.td_prog_steps.specs.Laid.{IsBusy}
 use Rattle.td_prog_runs.specs.Theorem.{IsAnswer, SoundCodeInC}
 use Rattle.td_prog_runs.proofs.Laying.{sound_is_laid}
 use Rattle.td_prog_runs.proofs.Sentence.{code_in_c}

@@ -26,8 +26,8 @@ use Rattle.td_prog_code.specs.Prelude.{little_helper, number_helper, little, big
 use Rattle.td_prog_code.specs.Instructions.{statement, operated}
 use Rattle.td_prog_code.specs.Program.{stated, looped, put, blocks, first_block, function, functions, program}
 use Rattle.td_prog_code.specs.Sentence.{HasNumber, HasNumbers, ProgramIsText}
-use Rattle.td_prog_runs.proofs.Goods.{small_at}
-use Rattle.td_prog_runs.proofs.Whole.{function_at}
+use Rattle.td_prog_steps.proofs.Goods.{small_at}
+use Rattle.td_prog_steps.proofs.Whole.{function_at}
 
 each_below : (n : ℕ) (xs : List ℕ) → AreBelow n xs → Each (λ k. k < n) xs
 each_below n [] h = tt

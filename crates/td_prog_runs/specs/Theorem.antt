@@ -1,6 +1,6 @@
 -- What the C of code does, whatever memory gives to its loads (own rule).
 use Rattle.std.specs.Prelude.{◌≡◌, ℕ, ◌+◌, ◌^◌, ◌<◌, List, length, map, take, slice_index, ◌*◌}
-use Rattle.td_prog_runs.specs.Agree.{Basis, IsKept}
+use Rattle.td_prog_trees.specs.Agree.{Basis, IsKept}
 use Rattle.std.specs.List.{All}
 use Rattle.td_num.specs.Lists.{Each}
 use Rattle.td_stream.specs.declared.load.Load.{Load}
@@ -15,7 +15,7 @@ use Rattle.td_prog.specs.Means.{Out, Gave, Refused, Undefined}
 use Rattle.td_prog.specs.Run.{free_run}
 use Rattle.td_ir.specs.WellFormed.{IsCode}
 use Rattle.td_verify.specs.Verify.{IsSound}
-use Rattle.td_prog_runs.specs.Laid.{IsWellLaid, AreNumbers}
+use Rattle.td_prog_steps.specs.Laid.{IsWellLaid, AreNumbers}
 use Rattle.td_prog_code.specs.Program.{program}
 
 -- so many buffers hold nothing at first
