@@ -1,5 +1,4 @@
 mod Sentence
-mod Laying
-mod Sound
+pub mod Laying
+pub mod Sound
 mod Entry
-mod Text

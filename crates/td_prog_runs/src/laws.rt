@@ -1,7 +1,7 @@
 //! Laws. They do nothing when they are called.
 
 ghost use Rattle.td_prog.specs.Tree.{PlaysAreCarried};
-ghost use Rattle.td_prog_code.specs.Sentence.{ProgramRuns, ProgramIsText};
+ghost use Rattle.td_prog_code.specs.Sentence.{ProgramRuns};
 ghost use Rattle.td_prog_runs.specs.Theorem.{CodeInC, SoundCodeInC};
 
 use td_verify::laws::sound_code_is_safe;
@@ -29,8 +29,3 @@ pub fn program_runs()
 {
     sound_code_is_safe();
 }
-
-/// A compiler of C accepts the program: what it names is declared, once.
-pub fn program_is_text()
-    ensures { ProgramIsText }
-{}

@@ -23,7 +23,8 @@ use Rattle.td_prog_code.specs.Instructions.{statement, skipped, narrowed}
 use Rattle.td_prog_code.specs.Program.{looped, put, blocks, first_block, body}
 use Rattle.td_prog_trees.specs.Memory.{IsMemory}
 use Rattle.td_prog_trees.specs.Agree.{Basis, state_of, IsGood, AgreesBy, Agrees, IsOnward}
-use Rattle.td_prog_steps.specs.Laid.{OwnFits, HasLabel, tail_of, begins_behind, begins, IsLoop, IsLaid, AreLaid}
+use Rattle.td_prog.specs.Text.{HasLabel}
+use Rattle.td_prog_steps.specs.Laid.{OwnFits, tail_of, begins_behind, begins, IsLoop, IsLaid, AreLaid}
 use Rattle.td_prog_steps.proofs.Plain as plain
 use Rattle.td_prog_steps.proofs.Plain.{at, IsAt}
 use Rattle.td_prog_steps.proofs.Loading.{case_fetch}

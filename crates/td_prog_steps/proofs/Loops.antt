@@ -14,7 +14,7 @@ use Rattle.td_prog.specs.Syntax.{Pos, End, Ne, Get, Binary, Block}
 use Rattle.td_prog.specs.Values.{Locals, value}
 use Rattle.td_prog.specs.Run.{helpers_below}
 use Rattle.td_prog_code.specs.Prelude.{prelude}
-use Rattle.td_prog.specs.Means.{Onward, Routines, both, turns}
+use Rattle.td_prog.specs.Means.{Continuation, Routines, block_means, turns}
 use Rattle.td_prog_trees.specs.Agree.{Basis, state_of, IsGood, Agrees, IsOnward}
 use Rattle.td_prog_steps.specs.Laid.{IsBusy}
 use Rattle.td_prog_trees.proofs.Composing.{again_after, again_again}
