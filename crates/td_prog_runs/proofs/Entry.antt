@@ -16,12 +16,9 @@ use Rattle.td_core.specs.Outcome.{copies_by}
 use Rattle.td_ir.specs.declared.instructions.Instr.TheVariants as i
 use Rattle.td_ir.specs.declared.tables.Parts.{Parts}
 use Rattle.td_ir.specs.Tables.{entry_of, routine_of, param_of, cell_of}
-use Rattle.td_ir.specs.WellFormed.{IsCode}
 use Rattle.td_ir.specs.Entries.{cell_bits, opened_by, buffers_of}
 use Rattle.td_ir.specs.State.{Way, Returned, Turned, Failed, Stuck}
 use Rattle.td_ir.specs.Run.{run_routine}
-use Rattle.td_verify.specs.Verify.{IsSound}
-use Rattle.td_verify.specs.Safe.{IsSafe}
 use Rattle.td_prog.specs.Means.{Out, Gave, Refused, Undefined}
 use Rattle.td_prog.specs.Run.{free_run}
 use Rattle.td_prog_code.specs.Program.{program}
@@ -30,8 +27,7 @@ use Rattle.td_stream.proofs.Plain.{plain_is}
 use Rattle.td_prog_code.specs.Sentence.{held, IsEnd, HasNumber, HasNumbers, ProgramRuns}
 use Rattle.td_prog_steps.specs.Laid.{AreNumbers}
 use Rattle.td_prog_trees.specs.Agree.{Basis, IsKept}
-use Rattle.td_prog_runs.specs.Theorem.{AreEmpty, IsLeftBy}
-use Rattle.td_prog_runs.proofs.Sound.{sound_code_in_c}
+use Rattle.td_prog_runs.specs.Theorem.{AreEmpty, IsLeftBy, SoundCodeInC}
 use Rattle.td_prog_trees.specs.Laws.{StaysBelow}
 use Rattle.td_prog_trees.proofs.Guarded.{unguarded}
 
@@ -96,8 +92,8 @@ ends basis (Refused reason pos trace s) (Failed reason' pos' trace' cells) h = (
 ends basis (Refused reason pos trace s) Stuck h = h
 ends basis Undefined w h = absurd h
 
-pub program_runs : ((c : Parts) → IsCode c → IsSound c → IsSafe c) → ProgramRuns
-program_runs safe_of c names entry size most args cells buffers loads out code sound nums fits short big rooms plays values =
+pub program_runs : SoundCodeInC → ProgramRuns
+program_runs sound_code c names entry size most args cells buffers loads out code sound nums fits short big rooms plays values =
     let e = entry_of c entry.number in
     let n = e.routine in
     let is = code.entries entry.number fits.there in
@@ -112,9 +108,9 @@ program_runs safe_of c names entry size most args cells buffers loads out code s
     ∙ get_or-append-add cells (replicate (2 * buffers_of c entry) 0) (2 * b + 1) 0 ∙ index_zeros (2 * buffers_of c entry) (2 * b + 1) in
     let below : StaysBelow ((size + 7) / 8) (free_run most (program c names) n size args (opened_by c entry cells) buffers) = λ ls y q s.
     subst (λ k. All (λ (l : Load). l.word < k) ls) ((plain_is size).count)
-    (sound_code_in_c safe_of c names most n size args (opened_by c entry cells) buffers ls y code sound (numbers c nums) is.there short rooms (omega (arith, behind, zeros, front)) empty big sa sc q s).inside in
+    (sound_code c names most n size args (opened_by c entry cells) buffers ls y code sound (numbers c nums) is.there short rooms (omega (arith, behind, zeros, front)) empty big sa sc q s).inside in
     let free = unguarded ((size + 7) / 8) (free_run most (program c names) n size args (opened_by c entry cells) buffers) loads out below values plays in
-    let r = sound_code_in_c safe_of c names most n size args (opened_by c entry cells) buffers loads out code sound (numbers c nums) is.there short rooms (omega (arith, behind, zeros, front)) empty big sa sc free values in
+    let r = sound_code c names most n size args (opened_by c entry cells) buffers loads out code sound (numbers c nums) is.there short rooms (omega (arith, behind, zeros, front)) empty big sa sc free values in
     record {
       rising = r.rising;
       inside = r.inside;

@@ -28,7 +28,8 @@ use Rattle.td_prog_trees.specs.Memory.{IsMemory}
 use Rattle.td_prog_trees.specs.Agree.{Basis, IsKept, fresh, behind, IsForward, IsReturn, IsFailure, AgreesBy, Agrees}
 use Rattle.td_prog_steps.specs.Laid.{IsWellLaid}
 use Rattle.td_prog_code.specs.Program.{program}
-use Rattle.td_prog_runs.specs.Theorem.{IsLeftBy, AreEmpty, IsAnswer, CodeInC}
+use Rattle.td_prog_runs.specs.Theorem.{IsLeftBy, AreEmpty, CodeInC}
+use Rattle.td_verify_runs.specs.Laws.{IsAnswer}
 use Rattle.td_prog_trees.proofs.Trees.{carried as carried_tree}
 use Rattle.td_prog_steps.proofs.Whole.{run_right}
 use Rattle.td_prog_trees.specs.Agree.{RisesFrom}
