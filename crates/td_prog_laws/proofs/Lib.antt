@@ -1,2 +1,7 @@
 mod Declared
 mod Gotos
+mod Names
+mod Text
+mod Depths
+mod Frames
+mod Entry
