@@ -156,7 +156,7 @@ each_front P zero xs f = tt
 each_front P (suc n) [] f = tt
 each_front P (suc n) (x ∷ xs) f = (f 0 x refl (omega arith), each_front P n xs (λ p y e l. f (suc p) y e (omega (arith, l))))
 
-each_behind : {A : Type 0} (P : A → Type 0) (n a : ℕ) (xs : List A) → ((p : ℕ) (x : A) → slice_get xs p ≡ Some x → a ≤ p → p < a + n → P x) → Each P (take n (drop a xs))
+pub each_behind : {A : Type 0} (P : A → Type 0) (n a : ℕ) (xs : List A) → ((p : ℕ) (x : A) → slice_get xs p ≡ Some x → a ≤ p → p < a + n → P x) → Each P (take n (drop a xs))
 each_behind P n zero xs f = each_front P n xs (λ p x e l. f p x e (omega arith) (omega (arith, l)))
 each_behind P zero (suc a) [] f = tt
 each_behind P (suc n) (suc a) [] f = tt

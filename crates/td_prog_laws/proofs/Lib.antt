@@ -5,3 +5,4 @@ mod Text
 mod Depths
 mod Frames
 mod Entry
+mod Shallow

@@ -1,6 +1,7 @@
 //! Laws. They do nothing when they are called.
 
 ghost use Rattle.td_prog_code.specs.Entry.{EntryRuns};
+ghost use Rattle.td_prog_laws.specs.Depth.{ProgramIsShallow};
 ghost use Rattle.td_prog_laws.specs.Frames.{FewFrames};
 ghost use Rattle.td_prog_laws.specs.Text.{ProgramIsText};
 
@@ -20,6 +21,11 @@ pub fn program_is_text()
 /// A failure of verified code has at most 32 frames, so an outcome of C, which has room for 32, holds them all.
 pub fn few_frames()
     ensures { FewFrames }
+{}
+
+/// The program of verified code calls at most 32 routines deep.
+pub fn program_is_shallow()
+    ensures { ProgramIsShallow }
 {}
 
 /// The C function of an entry point tells its caller what the code's run tells.
