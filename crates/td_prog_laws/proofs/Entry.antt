@@ -1,7 +1,8 @@
 -- What the caller of an entry point is told, by the program's end.
-use Rattle.std.proofs.Common.{◌≡◌, ℕ, zero, suc, ◌+◌, ◌-◌, ◌*◌, ◌%◌, ◌^◌, ◌<◌, ◌≤◌, min, Bool, true, false, cond, List, [], ◌∷◌, ◌++◌, length, length-take, length-map, map, Option, Some, None, refl, sym, ap, ◌∙◌, subst, arith, take, drop, replicate}
+use Rattle.std.proofs.Common.{◌≡◌, ℕ, zero, suc, ◌+◌, ◌-◌, ◌*◌, ◌%◌, ◌^◌, ◌<◌, ◌≤◌, min, Bool, true, false, cond, List, [], ◌∷◌, ◌++◌, length, length-take, map, Option, Some, None, refl, sym, ap, ◌∙◌, subst, arith, take, drop, replicate}
 use Rattle.std.specs.Prelude.{nat_eq, slice_index}
 use Rattle.std.proofs.lemmas.Bool.{ne_eqb}
+use Rattle.std.proofs.lemmas.List.{length-map}
 use Rattle.std.proofs.Math.Nat.{mod-eq_of_lt}
 use Rattle.td_num.specs.Lists.{Each, AreBytes}
 use Rattle.td_num.specs.Numbers.{places_from}
@@ -39,18 +40,15 @@ plays_bind (Loads word k) g [] y h = absurd h
 plays_bind (Loads word k) g (l ∷ loads) y h = let r = plays_bind (k l.value) g loads y h.1 in record { first = r.first; plays = (h.0, r.plays); is = r.is }
 
 -- the first of a list of lists, and the others
-first_of : List (List ℕ) → List ℕ
+abbrev first_of : List (List ℕ) → List ℕ
 first_of [] = []
 first_of (x ∷ xs) = x
 
-others_of : List (List ℕ) → List (List ℕ)
+abbrev others_of : List (List ℕ) → List (List ℕ)
 others_of [] = []
 others_of (x ∷ xs) = xs
 
--- buffers that hold what their cells say have counts below their rooms
-taken : List CallerBuffer → List (List ℕ)
-taken buffers = map (λ (b : CallerBuffer). take b.count b.bytes) buffers
-
+-- buffers of rooms below 2^32
 abbrev AreSmall : List (List ℕ) → Type 0
 AreSmall buffers = Each (λ (bytes : List ℕ). length bytes < 2 ^ 32) buffers
 

@@ -172,36 +172,30 @@ module _ (c : Parts) (sound : IsSound c) (message : List ℕ) where
       each_behind (CallsFew (depth c k) (callees k places)) (end_of c k - first_of c k) (first_of c k) c.instructions (λ p j e a b. by p j e (record { routine = l; from = a; to = omega (arith, a, b) }))
     where
       by : (p : ℕ) (j : Instr) → slice_get c.instructions p ≡ Some j → IsIn c k p → CallsFew (depth c k) (callees k places) j
-      by p (i.Call first m map site) e i =
+      by p (i.Call first m map site) e place =
           let is : instruction_of c p ≡ i.Call first m map site = get_or_from_slice_get c.instructions p (i.Call first m map site) (i.Fail 0 0) e in
-          let q = depth_lower c sound k m p i (shape_there c p ∙ ap shape is) in
+          let q = depth_lower c sound k m p place (shape_there c p ∙ ap shape is) in
           (depth c m, (q.1, λ t. f m (places_by places (cells_by c k m map)) q.0 (entered (routine_of c m) (registers_from t.regs first (routine_of c m).params) t)))
-      by p j e i = tt
+      by p j e place = tt
 
   depth_some : (n : ℕ) → 1 ≤ depth c n
   depth_some n = omega arith
 
+  below_next : (k n : ℕ) (places : List ℕ) (s : State) → k < length c.routines → ((m : ℕ) (places : List ℕ) → m < k → Few (depth c m) (below c message k m places)) → n < suc k
+      → (b : Bool) → nat_eq n k ≡ b
+      → HasFrames (depth c n) (cond b (pick (exits c k message places (callees k places) (first_of c k) (slice_range c.instructions (first_of c k) (end_of c k))) 0 s) (below c message k n places s)).way
+  below_next k n places s l lower h true e =
+      let same : n ≡ k = eqb-true n k e in
+      let js = slice_range c.instructions (first_of c k) (end_of c k) in
+      let fs = exits c k message places (callees k places) (first_of c k) js in
+      subst (λ m. HasFrames (depth c m) (pick fs 0 s).way) (sym same)
+      (pick_few c k message places (callees k places) (depth c k) (depth_some k) fs
+      (exits_few c k message places (callees k places) (depth c k) (depth_some k) (first_of c k) js (routine_calls k places l lower)) 0 s)
+  below_next k n places s l lower h false e = let apart = eqb-false n k e in lower n places (omega (arith, h, apart)) s
+
   below_few : (k n : ℕ) (places : List ℕ) → k ≤ length c.routines → n < k → Few (depth c n) (below c message k n places)
   below_few zero n places l h s = tt
-  below_few (suc k) n places l h s = by (nat_eq n k) refl
-    where
-      here : State → Exit
-      here s = pick (exits c k message places (callees k places) (first_of c k) (slice_range c.instructions (first_of c k) (end_of c k))) 0 s
-
-      by : (b : Bool) → nat_eq n k ≡ b → HasFrames (depth c n) (cond b (here s) (below c message k n places s)).way
-      by true e =
-          let same : n ≡ k = eqb-true n k e in
-          subst (λ m. HasFrames (depth c m) (here s).way) (sym same)
-          (pick_few c k message places (callees k places) (depth c k) (depth_some k) (exits c k message places (callees k places) (first_of c k) (slice_range c.instructions (first_of c k) (end_of c k)))
-          (exits_few c k message places (callees k places) (depth c k) (depth_some k) (first_of c k) (slice_range c.instructions (first_of c k) (end_of c k))
-          (routine_calls k places (omega (arith, l)) (λ m ps lower. below_few k m ps (omega (arith, l)) lower))) 0 s)
-      by false e = let apart = eqb-false n k e in lower_few (apart_less n k h apart)
-        where
-          apart_less : (n k : ℕ) → n < suc k → (n ≡ k → ⊥) → n < k
-          apart_less n k h f = omega (arith, h, f)
-
-          lower_few : n < k → HasFrames (depth c n) (below c message k n places s).way
-          lower_few m = below_few k n places (omega (arith, l)) m s
+  below_few (suc k) n places l h s = below_next k n places s (omega (arith, l)) (λ m ps lower. below_few k m ps (omega (arith, l)) lower) h (nat_eq n k) refl
 
   block_few : (n : ℕ) (places : List ℕ) → n < length c.routines → Few (depth c n) (block c message n places (first_of c n))
   block_few n places l s =

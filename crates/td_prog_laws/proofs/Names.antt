@@ -91,6 +91,39 @@ name_spelled [] k h = tt
 name_spelled (name ∷ names) zero h = h.0
 name_spelled (name ∷ names) (suc k) h = name_spelled names k h.1
 
+-- a test for identifiers
+abbrev is_inside : List ℕ → Bool
+is_inside [] = true
+is_inside (b ∷ bs) = (is_letter b || is_digit b) && is_inside bs
+
+abbrev is_identifier : List ℕ → Bool
+is_identifier [] = false
+is_identifier (b ∷ bs) = is_letter b && is_inside bs
+
+abbrev are_identifiers : List (List ℕ) → Bool
+are_identifiers [] = true
+are_identifiers (n ∷ ns) = is_identifier n && are_identifiers ns
+
+left : (a b : Bool) → (a && b) ≡ true → a ≡ true
+left true b h = refl
+left false b h = h
+
+right : (a b : Bool) → (a && b) ≡ true → b ≡ true
+right true b h = h
+right false b h = absurd (cc)
+
+all_inside : (bs : List ℕ) → is_inside bs ≡ true → Each IsInside bs
+all_inside [] h = tt
+all_inside (b ∷ bs) h = (left (is_letter b || is_digit b) (is_inside bs) h, all_inside bs (right (is_letter b || is_digit b) (is_inside bs) h))
+
+one_identifier : (bs : List ℕ) → is_identifier bs ≡ true → IsIdentifier bs
+one_identifier [] h = absurd (cc)
+one_identifier (b ∷ bs) h = (left (is_letter b) (is_inside bs) h, all_inside bs (right (is_letter b) (is_inside bs) h))
+
+all_identifiers : (ns : List (List ℕ)) → are_identifiers ns ≡ true → Each IsIdentifier ns
+all_identifiers [] h = tt
+all_identifiers (n ∷ ns) h = (one_identifier n (left (is_identifier n) (are_identifiers ns) h), all_identifiers ns (right (is_identifier n) (are_identifiers ns) h))
+
 module _ (c : Parts) (spelled : Each IsName c.names) where
   pub routine_identifier : (n : ℕ) → n < 2 ^ 64 → IsIdentifier (routine_name c n)
   routine_identifier n h = (
@@ -111,39 +144,7 @@ module _ (c : Parts) (spelled : Each IsName c.names) where
   routines_identifiers (suc count) first l = (routine_identifier first (omega (arith, l)), routines_identifiers count (first + 1) (omega (arith, l)))
 
   helpers_identifiers : Each IsIdentifier (map (λ (h : Helper). h.name) prelude)
-  helpers_identifiers = all (map (λ (h : Helper). h.name) prelude) refl
-    where
-      abbrev is_inside : List ℕ → Bool
-      is_inside [] = true
-      is_inside (b ∷ bs) = (is_letter b || is_digit b) && is_inside bs
-
-      abbrev is_one : List ℕ → Bool
-      is_one [] = false
-      is_one (b ∷ bs) = is_letter b && is_inside bs
-
-      abbrev are : List (List ℕ) → Bool
-      are [] = true
-      are (n ∷ ns) = is_one n && are ns
-
-      left : (a b : Bool) → (a && b) ≡ true → a ≡ true
-      left true b h = refl
-      left false b h = h
-
-      right : (a b : Bool) → (a && b) ≡ true → b ≡ true
-      right true b h = h
-      right false b h = absurd (cc)
-
-      inside : (bs : List ℕ) → is_inside bs ≡ true → Each IsInside bs
-      inside [] h = tt
-      inside (b ∷ bs) h = (left (is_letter b || is_digit b) (is_inside bs) h, inside bs (right (is_letter b || is_digit b) (is_inside bs) h))
-
-      one : (bs : List ℕ) → is_one bs ≡ true → IsIdentifier bs
-      one [] h = absurd (cc)
-      one (b ∷ bs) h = (left (is_letter b) (is_inside bs) h, inside bs (right (is_letter b) (is_inside bs) h))
-
-      all : (ns : List (List ℕ)) → are ns ≡ true → Each IsIdentifier ns
-      all [] h = tt
-      all (n ∷ ns) h = (one n (left (is_one n) (are ns) h), all ns (right (is_one n) (are ns) h))
+  helpers_identifiers = all_identifiers (map (λ (h : Helper). h.name) prelude) refl
 
   pub identifiers : length c.routines < 2 ^ 64 → Each IsIdentifier (function_names (program c (routine_name c)))
   identifiers l =

@@ -71,11 +71,11 @@ module _ (c : Parts) (n : ℕ) where
 
   module _ (sound : IsSound c) (inside : n < length c.routines) where
     call_lower : (p : ℕ) (j : Instr) → slice_get c.instructions p ≡ Some j → IsIn c n p → Calls j
-    call_lower p (i.Call first m map site) e i =
+    call_lower p (i.Call first m map site) e place =
         let is : instruction_of c p ≡ i.Call first m map site = get_or_from_slice_get c.instructions p (i.Call first m map site) (i.Fail 0 0) e in
-        let q = depth_lower c sound n m p i (shape_there c p ∙ ap shape is) in
+        let q = depth_lower c sound n m p place (shape_there c p ∙ ap shape is) in
         let l = q.1 in omega (arith, l)
-    call_lower p j e i = tt
+    call_lower p j e place = tt
 
     calls_lower : Each Calls (slice_range c.instructions (first_of c n) (end_of c n))
     calls_lower =
