@@ -27,7 +27,8 @@ use Rattle.td_stream.proofs.Plain.{plain_is}
 use Rattle.td_prog_code.specs.Sentence.{held, IsEnd, HasNumber, HasNumbers, ProgramRuns}
 use Rattle.td_prog_steps.specs.Laid.{AreNumbers}
 use Rattle.td_prog_trees.specs.Agree.{Basis, IsKept}
-use Rattle.td_prog_runs.specs.Theorem.{AreEmpty, IsLeftBy, SoundCodeInC}
+use Rattle.td_prog_runs.specs.Theorem.{Start, IsStart, AreEmpty, IsLeftBy, SoundCodeInC}
+use Rattle.td_prog_steps.specs.Laws.{basis_of}
 use Rattle.td_prog_trees.specs.Laws.{StaysBelow}
 use Rattle.td_prog_trees.proofs.Guarded.{unguarded}
 
@@ -50,10 +51,6 @@ kind_small Pointer = omega arith
 
 power_small : (v k : ℕ) → v < 2 ^ k → k ≤ 64 → v < 2 ^ 64
 power_small v k h l = let some : 0 < 2 = omega arith in let p : 2 ^ k ≤ 2 ^ 64 = pow-le-pow_right {n = 2} some l in omega (arith, h, p)
-
-all_bytes : (b : List ℕ) → AreBytes b → All (λ x. x < 256) b
-all_bytes [] h = All-nil (λ x. x < 256)
-all_bytes (x ∷ b) h = All-cons (λ x. x < 256) x b (h 0) (all_bytes b (λ i. h (suc i)))
 
 -- what buffers hold, by their cells
 abbrev Hold : (message ds : List ℕ) → List (List ℕ) → Type 0
@@ -106,16 +103,25 @@ program_runs sound_code c names entry size most args cells buffers loads out cod
     let empty : AreEmpty (routine_of c n).cells (length (routine_of c n).buffers) (opened_by c entry cells) = λ b h.
     (let z : (routine_of c n).cells + 2 * b + 1 ≡ length cells + (2 * b + 1) = omega (arith, front) in ap (slice_index (opened_by c entry cells)) z)
     ∙ get_or-append-add cells (replicate (2 * buffers_of c entry) 0) (2 * b + 1) 0 ∙ index_zeros (2 * buffers_of c entry) (2 * b + 1) in
-    let below : StaysBelow ((size + 7) / 8) (free_run most (program c names) n size args (opened_by c entry cells) buffers) = λ ls y q s.
-    subst (λ k. All (λ (l : Load). l.word < k) ls) ((plain_is size).count)
-    (sound_code c names most n size args (opened_by c entry cells) buffers ls y code sound (numbers c nums) is.there short rooms (omega (arith, behind, zeros, front)) empty big sa sc q s).inside in
-    let free = unguarded ((size + 7) / 8) (free_run most (program c names) n size args (opened_by c entry cells) buffers) loads out below values plays in
-    let r = sound_code c names most n size args (opened_by c entry cells) buffers loads out code sound (numbers c nums) is.there short rooms (omega (arith, behind, zeros, front)) empty big sa sc free values in
+    let start : Start = record { names = names; limit = most; routine = n; size = size; args = args; cells = opened_by c entry cells; buffers = buffers } in
+    let is_start : IsStart c start = record {
+      there = is.there;
+      short = short;
+      big = big;
+      rooms = rooms;
+      many = omega (arith, behind, zeros, front);
+      empty = empty;
+      args = sa;
+      cells = sc;
+    } in
+    let tree = free_run most (program c names) n size args (opened_by c entry cells) buffers in
+    let runs = sound_code c start code sound (numbers c nums) is_start in
+    let below : StaysBelow ((size + 7) / 8) tree = λ ls y q s. subst (λ k. All (λ (l : Load). l.word < k) ls) ((plain_is size).count) (runs ls y q s).inside in
+    let r = runs loads out (unguarded ((size + 7) / 8) tree loads out below values plays) values in
     record {
       rising = r.rising;
       inside = r.inside;
       holds = λ b carries bytes.
-          let q = r.holds b carries (all_bytes b bytes) in
-          let g : Basis = record { lengths = map length buffers; first = (routine_of c n).cells; message = b } in
-          (let w = (run_routine c n args (opened_by c entry cells) b).way in subst (λ k. IsEnd k b out w) (sym front) (ends g out w q.0), q.1);
+          let q = r.holds b carries bytes in
+          (let w = (run_routine c n args (opened_by c entry cells) b).way in subst (λ k. IsEnd k b out w) (sym front) (ends (basis_of c n b buffers) out w q.0), q.1);
     }

@@ -21,4 +21,4 @@ ProgramAgrees =
     (memory : ℕ → ℕ) (c : Parts) (names : ℕ → List ℕ) (message : List ℕ) (most n : ℕ) (args cells : List ℕ) (buffers : List (List ℕ)) →
     IsMemory memory message → length message < 2 ^ 32 → 2 ^ 32 < most → IsWellLaid c → n < length c.routines → map length buffers ≡ (routine_of c n).buffers →
     IsKept (basis_of c n message buffers) cells buffers → Each (λ v. v < 2 ^ 64) args → Each (λ v. v < 2 ^ 64) cells →
-    Agrees memory (basis_of c n message buffers) 0 (length message) 0 (free_run most (program c names) n (length message) args cells buffers) (run_routine c n args cells message)
+    Agrees (record { memory = memory; basis = basis_of c n message buffers; from = 0; to = length message }) 0 (free_run most (program c names) n (length message) args cells buffers) (run_routine c n args cells message)
