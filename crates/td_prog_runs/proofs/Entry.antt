@@ -37,7 +37,7 @@ zeros_small zero = tt
 zeros_small (suc k) = (omega arith, zeros_small k)
 
 numbers : (c : Parts) → HasNumbers c → AreNumbers c
-numbers c h p into value e = each_at (HasNumber c) c.instructions p (i.Const into value) h e
+numbers c h p into value e = each_at (HasNumber c) c.instructions p (i.Const into value) h.instructions e
 
 width_small : (w : Width) → 8 * bytes_in w ≤ 64
 width_small One = omega arith
@@ -78,8 +78,8 @@ kept_copies basis cells bs k =
     (λ z. take ((at (2 * b + 1) ∙ ap (slice_index cells) e) z) (slice_index_or bs b [])) ∙ k.copies b (omega (arith, h, count))
     ∙ (λ z. map (slice_index basis.message) (places_from (sym (at (2 * b)) z) (sym (at (2 * b + 1) ∙ ap (slice_index cells) e) z))))
 
-ends : (basis : Basis) (y : Out) (w : Way) → IsLeftBy basis y w → IsEnd basis.first basis.message y w
-ends basis (Gave v s) (Returned pos cells) h = (h.0, h.1, kept_copies basis s.cells s.buffers h.2 ∙ ap (λ cs. copies_by basis.message (drop basis.first cs)) h.1)
+ends : (basis : Basis) (y : Out) (w : Way) → IsLeftBy basis y w → IsEnd basis.first basis.lengths basis.message y w
+ends basis (Gave v s) (Returned pos cells) h = (h.0, h.1, h.2.lengths, kept_copies basis s.cells s.buffers h.2 ∙ ap (λ cs. copies_by basis.message (drop basis.first cs)) h.1)
 ends basis (Gave v s) (Turned t) h = h
 ends basis (Gave v s) (Failed reason pos trace cells) h = h
 ends basis (Gave v s) Stuck h = h
@@ -123,5 +123,5 @@ program_runs sound_code c names entry size most args cells buffers loads out cod
       inside = r.inside;
       holds = λ b carries bytes.
           let q = r.holds b carries bytes in
-          (let w = (run_routine c n args (opened_by c entry cells) b).way in subst (λ k. IsEnd k b out w) (sym front) (ends (basis_of c n b buffers) out w q.0), q.1);
+          (let w = (run_routine c n args (opened_by c entry cells) b).way in subst (λ k. IsEnd k (map length buffers) b out w) (sym front) (ends (basis_of c n b buffers) out w q.0), q.1);
     }

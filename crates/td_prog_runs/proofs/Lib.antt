@@ -1,5 +1,4 @@
 mod Sentence
 pub mod Laying
-mod Sound
+pub mod Sound
 mod Entry
-mod Text

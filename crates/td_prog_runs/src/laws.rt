@@ -1,6 +1,6 @@
 //! Laws. They do nothing when they are called.
 
-ghost use Rattle.td_prog_code.specs.Sentence.{ProgramRuns, ProgramIsText};
+ghost use Rattle.td_prog_code.specs.Sentence.{ProgramRuns};
 ghost use Rattle.td_prog_runs.specs.Theorem.{CodeInC, SoundCodeInC};
 
 use td_prog_steps::laws::program_agrees;
@@ -30,8 +30,3 @@ pub fn program_runs()
 {
     sound_code_in_c();
 }
-
-/// A compiler of C accepts the program: what it names is declared, once.
-pub fn program_is_text()
-    ensures { ProgramIsText }
-{}

@@ -8,7 +8,7 @@ use Rattle.td_ir.specs.State.{State, Exit}
 use Rattle.td_ir.specs.Run.{again, entered, block}
 use Rattle.td_prog.specs.Syntax.{Block}
 use Rattle.td_prog.specs.Values.{Locals}
-use Rattle.td_prog.specs.Means.{Onward, Labels, Routines, both}
+use Rattle.td_prog.specs.Means.{Continuation, Labels, Routines, block_means}
 use Rattle.td_prog.specs.Run.{helpers_below}
 use Rattle.td_prog_code.specs.Prelude.{prelude}
 use Rattle.td_prog_trees.specs.Agree.{Extent, IsWithin, called_at, state_of, IsGood, Agrees}
@@ -30,8 +30,8 @@ module _ (activation : Activation) where
   open basis use {message}
 
   -- what a block means there, and what its labels do, by what comes behind it and the labels around it
-  abbrev pub meaning : Block → Onward → Labels → Onward × Labels
-  meaning b go around = both limit (helpers_below limit prelude 9) routines places own b go around
+  abbrev pub meaning : Block → Continuation → Labels → Continuation × Labels
+  meaning b go around = block_means limit (helpers_below limit prelude 9) routines places own b go around
 
   -- the exit of the code from a place on, where a turn's end goes on so
   abbrev pub exit : (State → Exit) → ℕ → State → Exit

@@ -14,16 +14,17 @@ use Rattle.std.proofs.Math.Seq.{drop-cons}
 use Rattle.td_num.proofs.Lists.{got}
 use Rattle.td_ir.proofs.Blocks.{run_turns}
 use Rattle.td_prog.specs.Tree.{Tree}
-use Rattle.td_prog.specs.Syntax.{Block, Ends, Let, Outer, While, Label, Ne, Pos, End, Get, Num, Binary}
+use Rattle.td_prog.specs.Syntax.{Block, Ends, Assign, Outer, While, Label, Ne, Pos, End, Get, Num, Binary}
 use Rattle.td_prog.specs.Values.{Locals}
-use Rattle.td_prog.specs.Means.{Out, Onward, Labels, Routines, nowhere, jump, both}
+use Rattle.td_prog.specs.Means.{Out, Continuation, Labels, Routines, nowhere, jump, block_means}
 use Rattle.td_prog.specs.Run.{helpers_below}
 use Rattle.td_prog_code.specs.Prelude.{prelude}
 use Rattle.td_prog_code.specs.Instructions.{statement, skipped, narrowed}
 use Rattle.td_prog_code.specs.Program.{looped, put, blocks, first_block, body}
 use Rattle.td_prog_trees.specs.Memory.{IsMemory}
 use Rattle.td_prog_trees.specs.Agree.{Basis, state_of, IsGood, AgreesBy, Agrees, IsOnward}
-use Rattle.td_prog_steps.specs.Laid.{OwnFits, HasLabel, tail_of, begins_behind, begins, IsLoop, IsLaid, AreLaid}
+use Rattle.td_prog.specs.Text.{HasLabel}
+use Rattle.td_prog_steps.specs.Laid.{OwnFits, tail_of, begins_behind, begins, IsLoop, IsLaid, AreLaid}
 use Rattle.td_prog_trees.proofs.CopyHelper.{Copy}
 use Rattle.td_prog_steps.proofs.Activation.{Activation, IsActive}
 use Rattle.td_prog_steps.proofs.Activation as routine
@@ -44,29 +45,29 @@ module _ (activation : Activation) (is : IsActive activation) where
   abbrev exit : (State → Exit) → ℕ → State → Exit
   exit f pc s = routine.exit activation f pc s
 
-  abbrev Follows : Onward → (State → Exit) → Type 0
+  abbrev Follows : Continuation → (State → Exit) → Type 0
   Follows go f = IsOnward extent go f
 
   abbrev IsHere : ℕ → Instr → Type 0
   IsHere pc j = routine.IsHere activation pc j
 
-  abbrev meaning : Block → Onward → Onward × Labels
+  abbrev meaning : Block → Continuation → Continuation × Labels
   meaning b go = routine.meaning activation b go []
 
   -- a block does what the code from a place on does, and so do its labels
   pub record Does (b : Block) (q : ℕ) : Type 0 where
-    pub runs : (go : Onward) (f : State → Exit) → Follows go f → Follows (meaning b go).0 (exit f q)
-    pub labels : (go : Onward) (f : State → Exit) → Follows go f → (l : ℕ) → HasLabel l b → Follows (jump l (meaning b go).1) (exit f l)
+    pub runs : (go : Continuation) (f : State → Exit) → Follows go f → Follows (meaning b go).0 (exit f q)
+    pub labels : (go : Continuation) (f : State → Exit) → Follows go f → (l : ℕ) → HasLabel l b → Follows (jump l (meaning b go).1) (exit f l)
 
   -- a label is found
-  here_or : (l m : ℕ) (x y : Onward) (f : State → Exit) → (l ≡ m → Follows x f) → ((l ≡ m → ⊥) → Follows y f) → Follows (λ s. cond (nat_eq l m) (x s) (y s)) f
+  here_or : (l m : ℕ) (x y : Continuation) (f : State → Exit) → (l ≡ m → Follows x f) → ((l ≡ m → ⊥) → Follows y f) → Follows (λ s. cond (nat_eq l m) (x s) (y s)) f
   here_or l m x y f h k s g =
       by_cases (λ b. Agrees extent s.next (cond b (x s) (y s)) (f (state_of s))) (nat_eq l m) (λ e. h (eq_is l m e) s g)
       (λ e. k (λ q. let t = equal_itself m in let u : nat_eq l m ≡ true = ap (λ z. nat_eq z m) q ∙ t in cc) s g)
 
   -- a labelled block, of which the labels behind are those of another
-  labelled : (pc : ℕ) (b rest : Block) (q : ℕ) → Does rest q → ((go : Onward) → (meaning b go).1 ≡ (meaning rest go).1) → ((l : ℕ) → HasLabel l b → HasLabel l rest)
-      → ((go : Onward) (f : State → Exit) → Follows go f → Follows (meaning b go).0 (exit f pc)) → Does (Label pc b) pc
+  labelled : (pc : ℕ) (b rest : Block) (q : ℕ) → Does rest q → ((go : Continuation) → (meaning b go).1 ≡ (meaning rest go).1) → ((l : ℕ) → HasLabel l b → HasLabel l rest)
+      → ((go : Continuation) (f : State → Exit) → Follows go f → Follows (meaning b go).0 (exit f pc)) → Does (Label pc b) pc
   labelled pc b rest q d same has runs = record {
     runs = runs;
     labels = λ go f h l there.
@@ -88,7 +89,7 @@ module _ (activation : Activation) (is : IsActive activation) where
     labels = λ go f h l there. here_or l pc go (jump l []) (exit f l) (λ e. subst (λ k. Follows go (exit f k)) (sym e) (runs go f h)) (λ apart. elim there [ inl e ↦ absurd (apart e) | inr k ↦ absurd k ]);
   }
     where
-      runs : (go : Onward) (f : State → Exit) → Follows go f → Follows go (exit f pc)
+      runs : (go : Continuation) (f : State → Exit) → Follows go f → Follows go (exit f pc)
       runs go f h s g =
           let r = run_turns c message places n pc (state_of s) (state_of s) [] 1 (record { instruction = i.Again target; there = a.there; within = a.within; is = refl }) in
           subst (λ y. Agrees extent s.next (go s) (again f y)) (sym r) (h s g)
@@ -105,15 +106,15 @@ module _ (activation : Activation) (is : IsActive activation) where
       )
 
   done : (pc : ℕ) (j : Instr) (rest : Block) → Does rest (pc + 1)
-      → ((go : Onward) → (meaning (statement c n j rest) go).1 ≡ (meaning rest go).1) → ((l : ℕ) → HasLabel l (statement c n j rest) → HasLabel l rest)
-      → ((go : Onward) (f : State → Exit) → Follows go f → Follows (meaning (statement c n j rest) go).0 (exit f pc)) → Does (Label pc (statement c n j rest)) pc
+      → ((go : Continuation) → (meaning (statement c n j rest) go).1 ≡ (meaning rest go).1) → ((l : ℕ) → HasLabel l (statement c n j rest) → HasLabel l rest)
+      → ((go : Continuation) (f : State → Exit) → Follows go f → Follows (meaning (statement c n j rest) go).0 (exit f pc)) → Does (Label pc (statement c n j rest)) pc
   done pc j rest d same has runs = labelled pc (statement c n j rest) rest (pc + 1) d same has runs
 
-  jumps : (pc target : ℕ) (rest : Block) (q : ℕ) → Does rest q → HasLabel target rest → (go : Onward) (f : State → Exit) → Follows go f → Follows (jump target (meaning rest go).1) (exit f target)
+  jumps : (pc target : ℕ) (rest : Block) (q : ℕ) → Does rest q → HasLabel target rest → (go : Continuation) (f : State → Exit) → Follows go f → Follows (jump target (meaning rest go).1) (exit f target)
   jumps pc target rest q d has go f h = d.labels go f h target has
 
   -- labels behind a skip or a window of no bytes
-  same_labels : (b : Bool) (x y rest : Block) (go : Onward) → (meaning x go).1 ≡ (meaning rest go).1 → (meaning y go).1 ≡ (meaning rest go).1 → (meaning (cond b x y) go).1 ≡ (meaning rest go).1
+  same_labels : (b : Bool) (x y rest : Block) (go : Continuation) → (meaning x go).1 ≡ (meaning rest go).1 → (meaning y go).1 ≡ (meaning rest go).1 → (meaning (cond b x y) go).1 ≡ (meaning rest go).1
   same_labels b x y rest go e f = by_cases (λ b. (meaning (cond b x y) go).1 ≡ (meaning rest go).1) b (λ t. e) (λ t. f)
 
   same_has : (b : Bool) (x y rest : Block) (l : ℕ) → (HasLabel l x → HasLabel l rest) → (HasLabel l y → HasLabel l rest) → HasLabel l (cond b x y) → HasLabel l rest
@@ -155,7 +156,7 @@ module _ (activation : Activation) (is : IsActive activation) where
   instruction_done pc (i.Zeroterm bound width site) qs [] a l d = tt
   instruction_done pc (i.Zeroterm bound width site) qs (rest ∷ more) a l d = (done pc (i.Zeroterm bound width site) rest d.0 (λ go. refl) (λ k h. h) (λ go f h. case_zeroterm activation is f pc rest go [] l.0 (d.0.runs go f h) bound width site a l.1), d.1)
   instruction_done pc (i.NarrowK bytes site) qs [] a l d = tt
-  instruction_done pc (i.NarrowK bytes site) qs (rest ∷ more) a l d = (done pc (i.NarrowK bytes site) rest d.0 (λ go. same_labels (nat_eq bytes 0) (Let Outer (Get End) (Let End (Get Pos) rest)) (narrowed c n (Num bytes) site rest) rest go refl refl) (λ k h. same_has (nat_eq bytes 0) (Let Outer (Get End) (Let End (Get Pos) rest)) (narrowed c n (Num bytes) site rest) rest k (λ x. x) (λ x. x) h) (λ go f h. plain.case_narrow_k activation is f pc rest go [] l (d.0.runs go f h) bytes site a), d.1)
+  instruction_done pc (i.NarrowK bytes site) qs (rest ∷ more) a l d = (done pc (i.NarrowK bytes site) rest d.0 (λ go. same_labels (nat_eq bytes 0) (Assign Outer (Get End) (Assign End (Get Pos) rest)) (narrowed c n (Num bytes) site rest) rest go refl refl) (λ k h. same_has (nat_eq bytes 0) (Assign Outer (Get End) (Assign End (Get Pos) rest)) (narrowed c n (Num bytes) site rest) rest k (λ x. x) (λ x. x) h) (λ go f h. plain.case_narrow_k activation is f pc rest go [] l (d.0.runs go f h) bytes site a), d.1)
   instruction_done pc (i.Narrow size site) qs [] a l d = tt
   instruction_done pc (i.Narrow size site) qs (rest ∷ more) a l d = (done pc (i.Narrow size site) rest d.0 (λ go. refl) (λ k h. h) (λ go f h. plain.case_narrow activation is f pc rest go [] l (d.0.runs go f h) size site a), d.1)
   instruction_done pc (i.Divides size step site) qs [] a l d = tt

@@ -13,7 +13,7 @@ use Rattle.td_ir.specs.Flow.{Goes, effect}
 use Rattle.td_prog.specs.Tree.{Tree, bind}
 use Rattle.td_prog.specs.Syntax.{Number, Block}
 use Rattle.td_prog.specs.Values.{Locals}
-use Rattle.td_prog.specs.Means.{Out, Onward, Labels, told}
+use Rattle.td_prog.specs.Means.{Out, Continuation, Labels, after_helper}
 use Rattle.td_prog.specs.Run.{declared, helpers_below}
 use Rattle.td_prog_code.specs.Prelude.{prelude}
 use Rattle.td_prog_code.specs.Instructions.{statement, taken, reg}
@@ -35,13 +35,13 @@ module _ (activation : Activation) (is : IsActive activation) where
   abbrev exit : (State → Exit) → ℕ → State → Exit
   exit f pc s = routine.exit activation f pc s
 
-  abbrev begin : Block → Onward → Labels → Onward
+  abbrev begin : Block → Continuation → Labels → Continuation
   begin b go around = (routine.meaning activation b go around).0
 
   abbrev IsHere : ℕ → Instr → Type 0
   IsHere pc j = routine.IsHere activation pc j
 
-  abbrev Follows : Onward → (State → Exit) → Type 0
+  abbrev Follows : Continuation → (State → Exit) → Type 0
   Follows go f = IsOnward extent go f
 
   kept_copied : (cells : List ℕ) (buffers bs : List (List ℕ)) (x pos k p q : ℕ) → IsKept basis cells buffers → p ≡ basis.first + 2 * x → q ≡ basis.first + 2 * x + 1 → x < length basis.lengths → map length bs ≡ basis.lengths
@@ -99,7 +99,7 @@ module _ (activation : Activation) (is : IsActive activation) where
     | inr h ↦ (let e : min v r ≡ r = min-eq_right h in (omega (arith, e, h), omega (arith, e)))
   ]
 
-  module _ (f : State → Exit) (pc : ℕ) (rest : Block) (go : Onward) (around : Labels) (l : pc + 1 < end_of c n) (ih : Follows (begin rest go around) (exit f (pc + 1))) where
+  module _ (f : State → Exit) (pc : ℕ) (rest : Block) (go : Continuation) (around : Labels) (l : pc + 1 < end_of c n) (ih : Follows (begin rest go around) (exit f (pc + 1))) where
     pub case_copy : (size buffer site : ℕ) → IsHere pc (i.Copy size buffer site) → buffer < length (routine_of c n).buffers → Follows (begin (statement c n (i.Copy size buffer site) rest) go around) (exit f pc)
     case_copy size buffer site a there s g =
         with_room activation is f pc v site (i.Copy size buffer site) s
@@ -133,11 +133,11 @@ module _ (activation : Activation) (is : IsActive activation) where
         stored : ℕ → Locals
         stored mo = record s { most = mo; cells = slice_set (slice_set s.cells place s.pos) count mo }
 
-        onward : Onward
+        onward : Continuation
         onward = begin (taken (reg size) rest) go around
 
         asking : ℕ → Tree Out
-        asking mo = bind (helpers_below limit prelude 9 8 (s.pos ∷ mo ∷ []) (x ∷ []) (stored mo)) (told Number (stored mo) onward)
+        asking mo = bind (helpers_below limit prelude 9 8 (s.pos ∷ mo ∷ []) (x ∷ []) (stored mo)) (after_helper Number (stored mo) onward)
 
         tree : Tree Out
         tree = cond (nat_eq (bit (nat_lt v r)) 0) (asking r) (asking v)

@@ -15,7 +15,7 @@ use Rattle.td_prog.specs.Syntax.{Pos, End, Ne, Get, Binary, Block}
 use Rattle.td_prog.specs.Values.{Locals, value}
 use Rattle.td_prog.specs.Run.{helpers_below}
 use Rattle.td_prog_code.specs.Prelude.{prelude}
-use Rattle.td_prog.specs.Means.{Out, Onward, Labels, turns}
+use Rattle.td_prog.specs.Means.{Out, Continuation, Labels, turns}
 use Rattle.td_prog_trees.specs.Agree.{Basis, state_of, IsGood, Agrees, IsOnward}
 use Rattle.td_prog_steps.specs.Laid.{IsBusy}
 use Rattle.td_prog_trees.proofs.Composing.{again_after, again_again, by_cases}
@@ -37,14 +37,14 @@ module _ (activation : Activation) (is : IsActive activation) where
   abbrev exit : (State → Exit) → ℕ → State → Exit
   exit f pc s = routine.exit activation f pc s
 
-  abbrev Follows : Onward → (State → Exit) → Type 0
+  abbrev Follows : Continuation → (State → Exit) → Type 0
   Follows go f = IsOnward extent go f
 
   -- a block does what the code from a place on does, whatever follows it
   abbrev pub Runs : Block → ℕ → Type 0
-  Runs b q = (go : Onward) (f : State → Exit) → Follows go f → Follows (routine.meaning activation b go []).0 (exit f q)
+  Runs b q = (go : Continuation) (f : State → Exit) → Follows go f → Follows (routine.meaning activation b go []).0 (exit f q)
 
-  module _ (pc target : ℕ) (inner : Block) (behind : Onward) (f : State → Exit) (busy : IsBusy c message places n pc) (runs : Runs inner (pc + 1)) (rest : Follows behind (exit f target)) where
+  module _ (pc target : ℕ) (inner : Block) (behind : Continuation) (f : State → Exit) (busy : IsBusy c message places n pc) (runs : Runs inner (pc + 1)) (rest : Follows behind (exit f target)) where
     abbrev body : State → Exit
     body s = block c message n places (pc + 1) s
 
@@ -54,7 +54,7 @@ module _ (activation : Activation) (is : IsActive activation) where
     abbrev test : Locals → Option ℕ
     test s = value places (Binary Ne (Get Pos) (Get End)) s
 
-    abbrev looping : ℕ → Onward
+    abbrev looping : ℕ → Continuation
     looping m = turns m test (λ again. (routine.meaning activation inner again []).0) behind
 
     -- after a turn: only where it took a byte

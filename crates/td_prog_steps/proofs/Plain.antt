@@ -14,9 +14,9 @@ use Rattle.td_ir.specs.Flow.{Flow, Goes, Fails, plain, where_so, effect}
 use Rattle.td_ir.specs.Run.{again, block}
 use Rattle.td_ir.proofs.Blocks.{run_returns}
 use Rattle.td_prog.specs.Tree.{Tree, Done}
-use Rattle.td_prog.specs.Syntax.{Start, Pos, End, Outer, Reg, Num, Get, Block, Let, Return}
+use Rattle.td_prog.specs.Syntax.{Start, Pos, End, Outer, Reg, Num, Get, Block, Assign, Return}
 use Rattle.td_prog.specs.Values.{Locals, written}
-use Rattle.td_prog.specs.Means.{Out, Gave, Onward, Labels, given, jump}
+use Rattle.td_prog.specs.Means.{Out, Gave, Continuation, Labels, given, jump}
 use Rattle.td_prog_code.specs.Instructions.{statement, skipped, narrowed, taken}
 use Rattle.td_prog_trees.specs.Agree.{state_of, IsGood, Agrees, IsOnward}
 use Rattle.td_prog_trees.proofs.Composing.{by_cases}
@@ -35,11 +35,11 @@ module _ (activation : Activation) (is : IsActive activation) where
   abbrev exit : (State → Exit) → ℕ → State → Exit
   exit f pc s = routine.exit activation f pc s
 
-  abbrev begin : Block → Onward → Labels → Onward
+  abbrev begin : Block → Continuation → Labels → Continuation
   begin b go around = (routine.meaning activation b go around).0
 
   -- what stands at the labels of a block and around it
-  abbrev labels : Block → Onward → Labels → Labels
+  abbrev labels : Block → Continuation → Labels → Labels
   labels b go around = (routine.meaning activation b go around).1
 
   abbrev IsHere : ℕ → Instr → Type 0
@@ -48,20 +48,20 @@ module _ (activation : Activation) (is : IsActive activation) where
   abbrev Ok : Locals → Tree Out → Exit → Type 0
   Ok s x e = Agrees extent s.next x e
 
-  abbrev Follows : Onward → (State → Exit) → Type 0
+  abbrev Follows : Continuation → (State → Exit) → Type 0
   Follows go f = IsOnward extent go f
 
-  pub case_fail : (f : State → Exit) (pc : ℕ) (rest : Block) (go : Onward) (around : Labels) (reason site : ℕ) → IsHere pc (i.Fail reason site) → Follows (begin (statement c n (i.Fail reason site) rest) go around) (exit f pc)
+  pub case_fail : (f : State → Exit) (pc : ℕ) (rest : Block) (go : Continuation) (around : Labels) (reason site : ℕ) → IsHere pc (i.Fail reason site) → Follows (begin (statement c n (i.Fail reason site) rest) go around) (exit f pc)
   case_fail f pc rest go around reason site a s g =
       fails activation is f pc (i.Fail reason site) s (state_of s) (reason_of reason) site s.start [] 1 (failed activation is (reason_of reason) site s) a refl (failed_ok activation is (reason_of reason) site s g)
 
-  pub case_jump : (f : State → Exit) (pc : ℕ) (rest : Block) (go : Onward) (around : Labels) (target : ℕ) → pc < target → target < end_of c n → Follows (jump target (labels rest go around)) (exit f target)
+  pub case_jump : (f : State → Exit) (pc : ℕ) (rest : Block) (go : Continuation) (around : Labels) (target : ℕ) → pc < target → target < end_of c n → Follows (jump target (labels rest go around)) (exit f target)
       → IsHere pc (i.Jump target) → Follows (begin (statement c n (i.Jump target) rest) go around) (exit f pc)
   case_jump f pc rest go around target forward inside there a s g =
       goes_on activation is f pc target (i.Jump target) s (state_of s) [] 1 (jump target (labels rest go around) s) a forward inside refl (there s g)
 
   -- a routine's rest behind an instruction
-  module _ (f : State → Exit) (pc : ℕ) (rest : Block) (go : Onward) (around : Labels) (l : pc + 1 < end_of c n) (ih : Follows (begin rest go around) (exit f (pc + 1))) where
+  module _ (f : State → Exit) (pc : ℕ) (rest : Block) (go : Continuation) (around : Labels) (l : pc + 1 < end_of c n) (ih : Follows (begin rest go around) (exit f (pc + 1))) where
     next : pc < pc + 1
     next = omega arith
 
@@ -162,7 +162,7 @@ module _ (activation : Activation) (is : IsActive activation) where
         (λ e. narrowing bytes site (i.NarrowK bytes site) a s g refl)
       where
         opened : Block
-        opened = Let Outer (Get End) (Let End (Get Pos) rest)
+        opened = Assign Outer (Get End) (Assign End (Get Pos) rest)
 
         to : ℕ → State
         to e = record (state_of s) { end = e; outer = s.end }
@@ -243,7 +243,7 @@ module _ (activation : Activation) (is : IsActive activation) where
           (λ e m. goes_on activation is f pc target (i.JumpUnless test target) s (state_of s) [] 1 (landed s) a forward inside m (there s g))
           (λ e m. goes_on activation is f pc (pc + 1) (i.JumpUnless test target) s (state_of s) [] 1 (begin rest go around s) a next l m (ih s g)) refl
 
-  pub case_return : (f : State → Exit) (pc : ℕ) (rest : Block) (go : Onward) (around : Labels) → IsHere pc i.Return → Follows (begin (statement c n i.Return rest) go around) (exit f pc)
+  pub case_return : (f : State → Exit) (pc : ℕ) (rest : Block) (go : Continuation) (around : Labels) → IsHere pc i.Return → Follows (begin (statement c n i.Return rest) go around) (exit f pc)
   case_return f pc rest go around a s g =
       let r = run_returns c message places n pc (state_of s) (state_of s) [] 1 (record { instruction = i.Return; there = a.there; within = a.within; is = refl }) in
       subst (λ y. Ok s (Done (Gave s.pos s)) (again f y)) (sym r) ((refl, record { good = g; at = refl; same = refl; then = refl }), refl, tt)

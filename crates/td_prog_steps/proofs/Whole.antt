@@ -17,7 +17,7 @@ use Rattle.std.specs.Prelude.{slice_get, Some, Option}
 use Rattle.td_prog.specs.Tree.{Tree}
 use Rattle.td_prog.specs.Syntax.{Function}
 use Rattle.td_prog.specs.Values.{Locals}
-use Rattle.td_prog.specs.Means.{Out, Routines, nowhere, given, both}
+use Rattle.td_prog.specs.Means.{Out, Routines, nowhere, given, block_means}
 use Rattle.td_prog.specs.Run.{helpers_below, entered, routines_below, started, free_run}
 use Rattle.td_prog_code.specs.Prelude.{prelude}
 use Rattle.td_prog_code.specs.Program.{body, function, functions, program}
@@ -102,7 +102,7 @@ module _ (memory : ℕ → ℕ) (basis : Basis) (c : Parts) (names : ℕ → Lis
 
   -- routine k, where those below it do what they should
   one : (k : ℕ) → k < length c.routines → Calls k → (args places own : List ℕ) (s : Locals) → OwnFits c basis k places own → IsCaller extent s → Each (λ v. v < 2 ^ 64) args
-      → Agrees (called_at extent s) s.next ((both limit (helpers_below limit prelude 9) (table k) places own (body c k) nowhere []).0 (entered (routine_of c k).registers args s)) (exit k args places s)
+      → Agrees (called_at extent s) s.next ((block_means limit (helpers_below limit prelude 9) (table k) places own (body c k) nowhere []).0 (entered (routine_of c k).registers args s)) (exit k args places s)
   one k l ih args places own s fit g small =
       body_right activation is (laid.divided k l) (begin_up (lengths_of c) k (suc k) (omega arith)) (laid.laid message places k l) (laid.some k l)
       (entered (routine_of c k).registers args s) (good_opened extent (routine_of c k).registers args s small g)
@@ -132,7 +132,7 @@ module _ (memory : ℕ → ℕ) (basis : Basis) (c : Parts) (names : ℕ → Lis
       (λ e. calls_right k (omega (arith, l)) m (below_other m k h e) args places own s fit g small)
     where
       called : Option Function → Tree Out
-      called o = given o (λ f. (both limit (helpers_below limit prelude 9) (table k) places own f.body nowhere []).0 (entered f.registers args s))
+      called o = given o (λ f. (block_means limit (helpers_below limit prelude 9) (table k) places own f.body nowhere []).0 (entered f.registers args s))
 
       there : slice_get (program c names).routines k ≡ Some (function c names k)
       there = function_at c names (length c.routines) 0 k (omega (arith, l)) ∙ (let e : 0 + k ≡ k = omega arith in ap (λ n. Some (function c names n)) e)

@@ -14,9 +14,9 @@ use Rattle.td_ir.specs.Values.{numbers_from, is_nonzero}
 use Rattle.td_ir.specs.Flow.{zeros_flow}
 use Rattle.td_ir.specs.Run.{frame, again}
 use Rattle.td_prog.specs.Tree.{Tree, bind}
-use Rattle.td_prog.specs.Syntax.{Pos, End, Number, Ne, Num, Get, Binary, Block, Ends, When, Ask}
+use Rattle.td_prog.specs.Syntax.{Pos, End, Number, Ne, Num, Get, Binary, Block, Ends, If, CallHelper}
 use Rattle.td_prog.specs.Values.{Locals, value}
-use Rattle.td_prog.specs.Means.{Out, Onward, Labels, told, turns}
+use Rattle.td_prog.specs.Means.{Out, Continuation, Labels, after_helper, turns}
 use Rattle.td_prog.specs.Run.{helpers_below}
 use Rattle.td_prog_code.specs.Prelude.{number_helper, little_helper, prelude}
 use Rattle.td_prog_code.specs.Instructions.{statement, taken, failure}
@@ -36,21 +36,21 @@ module _ (activation : Activation) (is : IsActive activation) where
   abbrev exit : (State → Exit) → ℕ → State → Exit
   exit f pc s = routine.exit activation f pc s
 
-  abbrev begin : Block → Onward → Labels → Onward
+  abbrev begin : Block → Continuation → Labels → Continuation
   begin b go around = (routine.meaning activation b go around).0
 
   abbrev IsHere : ℕ → Instr → Type 0
   IsHere pc j = routine.IsHere activation pc j
 
-  abbrev Follows : Onward → (State → Exit) → Type 0
+  abbrev Follows : Continuation → (State → Exit) → Type 0
   Follows go f = IsOnward extent go f
 
   -- Zeros
-  module _ (site : ℕ) (behind_it : Onward) (g : State → Exit) (ih : Follows behind_it g) where
+  module _ (site : ℕ) (behind_it : Continuation) (g : State → Exit) (ih : Follows behind_it g) where
     abbrev turn : Block
-    turn = Ask Number (little_helper 1) (Get Pos ∷ []) [] (When (Get Number) (failure c n Padding (Get Pos) site Ends) (taken (Num 1) Ends))
+    turn = CallHelper Number (little_helper 1) (Get Pos ∷ []) [] (If (Get Number) (failure c n Padding (Get Pos) site Ends) (taken (Num 1) Ends))
 
-    abbrev looping : ℕ → Onward
+    abbrev looping : ℕ → Continuation
     looping m = turns m (value places (Binary Ne (Get Pos) (Get End))) (λ again. (routine.meaning activation turn again []).0) behind_it
 
     -- up to the first of so many bytes that isn't zero
@@ -93,11 +93,11 @@ module _ (activation : Activation) (is : IsActive activation) where
         asking : Tree Out
         asking = helpers_below limit prelude 9 (number_helper 0 1) (s.pos ∷ []) [] s
 
-        onward : Onward
-        onward = (routine.meaning activation (When (Get Number) (failure c n Padding (Get Pos) site Ends) (taken (Num 1) Ends)) (looping m) []).0
+        onward : Continuation
+        onward = (routine.meaning activation (If (Get Number) (failure c n Padding (Get Pos) site Ends) (taken (Num 1) Ends)) (looping m) []).0
 
         tree : Tree Out
-        tree = bind asking (told Number s onward)
+        tree = bind asking (after_helper Number s onward)
 
         v : ℕ
         v = rising_at message s.pos 1
@@ -154,7 +154,7 @@ module _ (activation : Activation) (is : IsActive activation) where
     zeros_right zero (suc m) h s u e = no_zero m s u e
     zeros_right (suc k) (suc m) h s u e = one_zero k m (λ t v w. zeros_right k m (omega (arith, h)) t v w) s u e
 
-  module _ (f : State → Exit) (pc : ℕ) (rest : Block) (go : Onward) (around : Labels) (l : pc + 1 < end_of c n) (ih : Follows (begin rest go around) (exit f (pc + 1))) where
+  module _ (f : State → Exit) (pc : ℕ) (rest : Block) (go : Continuation) (around : Labels) (l : pc + 1 < end_of c n) (ih : Follows (begin rest go around) (exit f (pc + 1))) where
     pub case_zeros : (site : ℕ) → IsHere pc (i.Zeros site) → Follows (begin (statement c n (i.Zeros site) rest) go around) (exit f pc)
     case_zeros site a s u = by (first_where is_nonzero (numbers_from message s.pos 1 (left (state_of s)))) refl
         (zeros_right site (begin rest go around) (exit f (pc + 1)) ih (s.end - s.pos) limit (omega (arith, u.window, u.short, is.big, is.within.short, is.within.inside)) s u refl)

@@ -16,9 +16,9 @@ use Rattle.td_ir.specs.Flow.{zeroterm_flow}
 use Rattle.td_ir.specs.Run.{frame, again}
 use Rattle.td_verify.specs.Operands.{IsWidth}
 use Rattle.td_prog.specs.Tree.{Tree, bind}
-use Rattle.td_prog.specs.Syntax.{Pos, Number, Most, Room, Sub, Eq, Num, Get, Binary, Block, Ends, Let, Ask}
+use Rattle.td_prog.specs.Syntax.{Pos, Number, Most, Room, Sub, Eq, Num, Get, Binary, Block, Ends, Assign, CallHelper}
 use Rattle.td_prog.specs.Values.{Locals, value}
-use Rattle.td_prog.specs.Means.{Out, Onward, Labels, given, told, turns}
+use Rattle.td_prog.specs.Means.{Out, Continuation, Labels, given, after_helper, turns}
 use Rattle.td_prog.specs.Run.{helpers_below}
 use Rattle.td_prog_code.specs.Prelude.{number_helper, little_helper, prelude}
 use Rattle.td_prog_code.specs.Instructions.{statement, taken, fails as fails_block}
@@ -39,13 +39,13 @@ module _ (activation : Activation) (is : IsActive activation) where
   abbrev exit : (State → Exit) → ℕ → State → Exit
   exit f pc s = routine.exit activation f pc s
 
-  abbrev begin : Block → Onward → Labels → Onward
+  abbrev begin : Block → Continuation → Labels → Continuation
   begin b go around = (routine.meaning activation b go around).0
 
   abbrev IsHere : ℕ → Instr → Type 0
   IsHere pc j = routine.IsHere activation pc j
 
-  abbrev Follows : Onward → (State → Exit) → Type 0
+  abbrev Follows : Continuation → (State → Exit) → Type 0
   Follows go f = IsOnward extent go f
 
   le_times : (b w : ℕ) → 0 < w → b ≤ b * w
@@ -89,18 +89,18 @@ module _ (activation : Activation) (is : IsActive activation) where
   less_one a h = omega (arith, h)
 
   -- Zeroterm
-  module _ (site w : ℕ) (wide : IsWidth w) (behind_it : Onward) (g : State → Exit) (ih : Follows behind_it g) where
+  module _ (site w : ℕ) (wide : IsWidth w) (behind_it : Continuation) (g : State → Exit) (ih : Follows behind_it g) where
     abbrev round : Block
     round =
         fails_block c n (Binary Eq (Get Most) (Num 0)) Constraint site
         (fails_block c n (Binary Eq (Get Room) (Num 0)) NotEnough site
-        (Ask Number (little_helper w) (Get Pos ∷ []) []
+        (CallHelper Number (little_helper w) (Get Pos ∷ []) []
         (taken (Num w)
-        (Let Most (Binary Sub (Get Most) (Num 1))
-        (Let Room (Binary Sub (Get Room) (Num 1))
+        (Assign Most (Binary Sub (Get Most) (Num 1))
+        (Assign Room (Binary Sub (Get Room) (Num 1))
         Ends)))))
 
-    abbrev rounds : ℕ → Onward
+    abbrev rounds : ℕ → Continuation
     rounds m = turns m (value places (Get Number)) (λ again. (routine.meaning activation round again []).0) behind_it
 
     abbrev counted : Locals → (a b v : ℕ) → Locals
@@ -175,11 +175,11 @@ module _ (activation : Activation) (is : IsActive activation) where
         asking : Tree Out
         asking = helpers_below limit prelude 9 (number_helper 0 w) (s.pos ∷ []) [] now
 
-        onward : Onward
-        onward = (routine.meaning activation (taken (Num w) (Let Most (Binary Sub (Get Most) (Num 1)) (Let Room (Binary Sub (Get Room) (Num 1)) Ends))) (rounds m) []).0
+        onward : Continuation
+        onward = (routine.meaning activation (taken (Num w) (Assign Most (Binary Sub (Get Most) (Num 1)) (Assign Room (Binary Sub (Get Room) (Num 1)) Ends))) (rounds m) []).0
 
         tree : Tree Out
-        tree = bind asking (told Number now onward)
+        tree = bind asking (after_helper Number now onward)
 
         after_most : Tree Out
         after_most = cond (nat_eq (bit (nat_eq (suc b) 0)) 0) tree (failed_at activation is NotEnough s.start site now)
@@ -250,14 +250,14 @@ module _ (activation : Activation) (is : IsActive activation) where
     terms_right (suc b) (suc a) (suc m) h s v u some la lb =
         one_element a b m (λ t x y z p q. terms_right b a m (omega (arith, h)) t x y z p q) (λ t x y z. stops a b m t x y z (omega (arith, h))) s v u some la lb
 
-  module _ (f : State → Exit) (pc : ℕ) (rest : Block) (go : Onward) (around : Labels) (l : pc + 1 < end_of c n) (ih : Follows (begin rest go around) (exit f (pc + 1))) where
+  module _ (f : State → Exit) (pc : ℕ) (rest : Block) (go : Continuation) (around : Labels) (l : pc + 1 < end_of c n) (ih : Follows (begin rest go around) (exit f (pc + 1))) where
     pub case_zeroterm : (bound width site : ℕ) → IsHere pc (i.Zeroterm bound width site) → IsWidth width → Follows (begin (statement c n (i.Zeroterm bound width site) rest) go around) (exit f pc)
     case_zeroterm bound width site a wide s u =
         subst (λ x. Agrees extent s.next x (exit f pc (state_of s))) (sym tree_is)
         (by (zero_at site width wide behind_it g ih s (min most room)) refl
         (terms_right site width wide behind_it g ih room most limit (omega (arith, u.window, u.short, fewer)) s 1 u refl (quotient_small (slice_index s.regs bound) width (small_at s.regs u.regs bound)) fits))
       where
-        behind_it : Onward
+        behind_it : Continuation
         behind_it = begin rest go around
 
         g : State → Exit

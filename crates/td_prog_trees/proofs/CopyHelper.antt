@@ -11,9 +11,9 @@ use Rattle.td_ir.specs.State.{left}
 use Rattle.td_ir.specs.Values.{bit}
 use Rattle.td_ir.specs.Run.{again, block}
 use Rattle.td_prog.specs.Tree.{Tree, Done, bind}
-use Rattle.td_prog.specs.Syntax.{Pos, Low, Number, More, Room, Count, Sub, Shr, Lt, Num, Get, Binary, Block, Ends, Let, Byte, When, Return}
+use Rattle.td_prog.specs.Syntax.{Pos, Low, Number, More, Room, Count, Sub, Shr, Lt, Num, Get, Binary, Block, Ends, Assign, Byte, If, Return}
 use Rattle.td_prog.specs.Values.{Locals, written, value, applied, with_byte}
-use Rattle.td_prog.specs.Means.{Out, Gave, Onward, Helpers, nowhere, given, told, turns, both}
+use Rattle.td_prog.specs.Means.{Out, Gave, Continuation, Helpers, nowhere, given, after_helper, turns, block_means}
 use Rattle.td_prog.specs.Run.{no_routine}
 use Rattle.td_prog_code.specs.Prelude.{plus, bytes_from, copy_turn}
 use Rattle.td_prog_trees.specs.Agree.{Extent, IsWithin}
@@ -41,8 +41,8 @@ module _ (copy : Copy) where
   Lead next next' y z touched = Leads extent next next' y z touched
 
   -- what a block means in td_copy, before what comes behind it
-  abbrev pub means : Block → Onward → Onward
-  means b go = (both limit helpers no_routine [] (buffer ∷ []) b go []).0
+  abbrev pub means : Block → Continuation → Continuation
+  means b go = (block_means limit helpers no_routine [] (buffer ∷ []) b go []).0
 
   -- the buffer holds so many bytes of the message, and the others what they held
   abbrev pub HasBytes : List (List ℕ) → ℕ → Type 0
@@ -52,7 +52,7 @@ module _ (copy : Copy) where
   HasOthers bs = AreOld message buffer base old bs
 
   -- some bytes are written
-  record Written (go : Onward) (tree : Tree Out) (u : Locals) (b : Block) (n : ℕ) : Type 0 where
+  record Written (go : Continuation) (tree : Tree Out) (u : Locals) (b : Block) (n : ℕ) : Type 0 where
     buffers : List (List ℕ)
     is : tree ≡ means b go (record u { buffers = buffers })
     kept : map length buffers ≡ basis.lengths
@@ -65,7 +65,7 @@ module _ (copy : Copy) where
       lt_le : (a b : ℕ) → b < a → nat_le a b ≡ false
       lt_le a b h = lt-leb a b h
 
-  bytes_written : (go : Onward) (left k : ℕ) (u : Locals) (b : Block) → map length u.buffers ≡ basis.lengths → u.count + k + left ≤ slice_index basis.lengths buffer → u.count + 8 < 2 ^ 64 → k + left ≤ 8
+  bytes_written : (go : Continuation) (left k : ℕ) (u : Locals) (b : Block) → map length u.buffers ≡ basis.lengths → u.count + k + left ≤ slice_index basis.lengths buffer → u.count + 8 < 2 ^ 64 → k + left ≤ 8
       → HasBytes u.buffers (u.count + k) → HasOthers u.buffers → ((i : ℕ) → i < 8 → u.number / 2 ^ (8 * i) % 256 ≡ slice_index message (base + (u.count + i)))
       → Written go (means (bytes_from k left b) go u) u b (u.count + k + left)
   bytes_written go zero k u b kept h small few d o are =
@@ -92,7 +92,7 @@ module _ (copy : Copy) where
         others = r.others;
       }
 
-  abbrev pub looping : ℕ → Onward
+  abbrev pub looping : ℕ → Continuation
   looping m =
       turns m (value [] (Binary Lt (Get Count) (Get Room))) (λ again. means copy_turn again) (means (Return (Get Count) Ends) nowhere)
 
@@ -164,26 +164,26 @@ module _ (copy : Copy) where
     vars mo = record u { low = lo; number = memory k; more = mo; next = k + 1; held = memory k }
 
     abbrev last_block : Block
-    last_block = When (Binary Lt (Get More) (Num 8)) (Byte 0 (Get Count) (Binary Shr (Get Number) (Get Low)) (Let Pos (plus (Get Pos) 1) (Let Count (plus (Get Count) 1) Ends))) Ends
+    last_block = If (Binary Lt (Get More) (Num 8)) (Byte 0 (Get Count) (Binary Shr (Get Number) (Get Low)) (Assign Pos (plus (Get Pos) 1) (Assign Count (plus (Get Count) 1) Ends))) Ends
 
     abbrev eight_block : Block
-    eight_block = When (Binary Lt (Num 7) (Get More)) (bytes_from 0 8 (Let Pos (plus (Get Pos) 8) (Let Count (plus (Get Count) 8) Ends))) last_block
+    eight_block = If (Binary Lt (Num 7) (Get More)) (bytes_from 0 8 (Assign Pos (plus (Get Pos) 8) (Assign Count (plus (Get Count) 8) Ends))) last_block
 
     abbrev low_block : Block
-    low_block = When (Get Low) (Let More (Num 0) Ends) eight_block
+    low_block = If (Get Low) (Assign More (Num 0) Ends) eight_block
 
-    abbrev doing : Block → Onward
+    abbrev doing : Block → Continuation
     doing b = means b (looping m)
 
     -- the word is held
     word_there : (a : ℕ) → 0 < a → u.pos % 8 + a ≤ 8 → a ≤ suc j → Lead u.next (k + 1) (doing copy_turn u) (doing low_block (vars (suc j))) (places_from u.pos a)
     word_there a some l few =
         let first : Locals = record u { low = lo } in
-        let rest = doing (Let More (Binary Sub (Get Room) (Get Count)) low_block) in
+        let rest = doing (Assign More (Binary Sub (Get Room) (Get Count)) low_block) in
         let left : (u.room + (2 ^ 64 - u.count)) % 2 ^ 64 ≡ suc j = (let s = r.sum in let f = r.few in omega (arith, s, f)) in
-        pre extent u.next (k + 1) (doing copy_turn u) (bind (word_tree limit k first) (told Number first rest)) (doing low_block (vars (suc j))) (places_from u.pos a)
-        (ap (λ t. bind t (told Number first rest)) (is_word k first))
-        (post extent u.next (k + 1) (bind (word_tree limit k first) (told Number first rest)) (rest (record u { low = lo; number = memory k; next = k + 1; held = memory k })) (doing low_block (vars (suc j))) (places_from u.pos a)
+        pre extent u.next (k + 1) (doing copy_turn u) (bind (word_tree limit k first) (after_helper Number first rest)) (doing low_block (vars (suc j))) (places_from u.pos a)
+        (ap (λ t. bind t (after_helper Number first rest)) (is_word k first))
+        (post extent u.next (k + 1) (bind (word_tree limit k first) (after_helper Number first rest)) (rest (record u { low = lo; number = memory k; next = k + 1; held = memory k })) (doing low_block (vars (suc j))) (places_from u.pos a)
         (asked extent u.next (k + 1) (word_tree limit k first) (memory k) (held_word memory k first) first Number rest (places_from u.pos a)
         (word_gives extent limit first u.pos a k refl (let h = r.ahead in omega (arith, h)) r.held some l (let w = r.within in omega (arith, w, few))))
         (ap (λ n. doing low_block (vars n)) left))
@@ -209,10 +209,10 @@ module _ (copy : Copy) where
         let small_count : (u.count + 1) % 2 ^ 64 ≡ u.count + 1 = mod-eq_of_lt (let s = r.sum in let f = r.few in let z : u.count + 1 < 2 ^ 64 = omega (arith, s, f) in z) in
         let bits : nat_le 64 (8 * (u.pos % 8)) ≡ false = lt-leb 64 (8 * (u.pos % 8)) (omega arith) in
         let shifted : applied Shr (memory k) lo ≡ Some v = ap (applied Shr (memory k)) (low_is u.pos) ∙ ap (λ b. cond b None (Some v)) bits in
-        let next : Block = Let Pos (plus (Get Pos) 1) (Let Count (plus (Get Count) 1) Ends) in
+        let next : Block = Assign Pos (plus (Get Pos) 1) (Assign Count (plus (Get Count) 1) Ends) in
         let steps : doing low_block (vars (suc j)) ≡ on (u.pos + 1) (u.count + 1) =
         e
-        ∙ ap (λ b. cond (nat_eq (bit b) 0) (doing last_block (vars mo)) (means (bytes_from 0 8 (Let Pos (plus (Get Pos) 8) (Let Count (plus (Get Count) 8) Ends))) (doing last_block) (vars mo))) not7
+        ∙ ap (λ b. cond (nat_eq (bit b) 0) (doing last_block (vars mo)) (means (bytes_from 0 8 (Assign Pos (plus (Get Pos) 8) (Assign Count (plus (Get Count) 8) Ends))) (doing last_block) (vars mo))) not7
         ∙ ap (λ b. cond (nat_eq (bit b) 0) (looping m (vars mo)) (doing (Byte 0 (Get Count) (Binary Shr (Get Number) (Get Low)) next) (vars mo))) is8
         ∙ ap (λ o. given o (λ n. given (with_byte u.buffers buffer u.count n) (λ bytes. doing next (record (vars mo) { buffers = bytes })))) shifted
         ∙ ap (λ o. given o (λ bytes. doing next (record (vars mo) { buffers = bytes }))) p.is
@@ -229,7 +229,7 @@ module _ (copy : Copy) where
     eight_bytes : u.pos % 8 ≡ 0 → 8 ≤ suc j → doing low_block (vars (suc j)) ≡ doing eight_block (vars (suc j))
         → ((bs : List (List ℕ)) → map length bs ≡ basis.lengths → HasBytes bs (u.count + 8) → HasOthers bs → Copied (looping m (record (vars (suc j)) { buffers = bs; pos = u.pos + 8; count = u.count + 8 })) (record (vars (suc j)) { buffers = bs; pos = u.pos + 8; count = u.count + 8 }) (suc j - 8)) → Copied (doing copy_turn u) u (suc j)
     eight_bytes whole many e rec =
-        let next : Block = Let Pos (plus (Get Pos) 8) (Let Count (plus (Get Count) 8) Ends) in
+        let next : Block = Assign Pos (plus (Get Pos) 8) (Assign Count (plus (Get Count) 8) Ends) in
         let is7 : nat_lt 7 (suc j) ≡ true = lt-ltb 7 (suc j) (omega (arith, many)) in
         let not8 : nat_lt (suc j) 8 ≡ false = le-ltb (suc j) 8 many in
         let w = bytes_written (doing last_block) 8 0 (vars (suc j)) next r.kept
@@ -244,7 +244,7 @@ module _ (copy : Copy) where
         ∙ ap (λ b. cond (nat_eq (bit b) 0) (doing last_block (vars (suc j))) (means (bytes_from 0 8 next) (doing last_block) (vars (suc j)))) is7
         ∙ w.is
         ∙ (λ i. after_it (small_pos i) (small_count i))
-        ∙ ap (λ b. cond (nat_eq (bit b) 0) (on (u.pos + 8) (u.count + 8)) (doing (Byte 0 (Get Count) (Binary Shr (Get Number) (Get Low)) (Let Pos (plus (Get Pos) 1) (Let Count (plus (Get Count) 1) Ends))) (record (vars (suc j)) { buffers = w.buffers; pos = u.pos + 8; count = u.count + 8 }))) not8 in
+        ∙ ap (λ b. cond (nat_eq (bit b) 0) (on (u.pos + 8) (u.count + 8)) (doing (Byte 0 (Get Count) (Binary Shr (Get Number) (Get Low)) (Assign Pos (plus (Get Pos) 1) (Assign Count (plus (Get Count) 1) Ends))) (record (vars (suc j)) { buffers = w.buffers; pos = u.pos + 8; count = u.count + 8 }))) not8 in
         let more : 8 + (suc j - 8) ≡ suc j = omega (arith, many) in
         subst (λ n. Copied (doing copy_turn u) u n) more
         (joined (doing copy_turn u) u m 8 (suc j - 8) w.buffers (memory k) (suc j) lo k

@@ -7,7 +7,7 @@ use Rattle.td_core.specs.declared.outcome.TraceFrame.{TraceFrame}
 use Rattle.td_ir.specs.State.{State, Way, Returned, Turned, Failed, Stuck, Exit}
 use Rattle.td_prog.specs.Tree.{Tree, answer, loaded}
 use Rattle.td_prog.specs.Values.{Locals}
-use Rattle.td_prog.specs.Means.{Out, Gave, Refused, Undefined, Onward}
+use Rattle.td_prog.specs.Means.{Out, Gave, Refused, Undefined, Continuation}
 use Rattle.td_prog_trees.specs.Memory.{IsMemory, HasHeld}
 
 -- the words of places, from a word on, each once; and the word behind them
@@ -113,5 +113,5 @@ abbrev pub Agrees : Extent → (next : ℕ) → Tree Out → Exit → Type 0
 Agrees extent next tree exit = AgreesBy extent next tree exit.touched exit.way
 
 -- what comes next agrees
-abbrev pub IsOnward : Extent → Onward → (State → Exit) → Type 0
+abbrev pub IsOnward : Extent → Continuation → (State → Exit) → Type 0
 IsOnward extent go exit = (s : Locals) → IsGood extent s → Agrees extent s.next (go s) (exit (state_of s))
