@@ -34,15 +34,15 @@ zeros_small zero = tt
 zeros_small (suc k) = (omega arith, zeros_small k)
 
 -- what a callee needs of its caller's variables
-record IsCaller (extent : Extent) (s : Locals) : Type 0 where
+record IsCaller (memory : ℕ → ℕ) (basis : Basis) (s : Locals) : Type 0 where
   within : s.pos ≤ s.end
-  short : s.end ≤ length extent.message
+  short : s.end ≤ length basis.message
   ahead : s.next ≤ (s.pos + 7) / 8
-  held : HasHeld extent.memory s
+  held : HasHeld memory s
   cells : Each (λ v. v < 2 ^ 64) s.cells
-  kept : IsKept extent.basis s.cells s.buffers
+  kept : IsKept basis s.cells s.buffers
 
-good_caller : (extent : Extent) (s : Locals) → IsWithin extent → IsGood extent s → IsCaller extent s
+good_caller : (extent : Extent) (s : Locals) → IsWithin extent → IsGood extent s → IsCaller extent.memory extent.basis s
 good_caller extent s within g = record {
   within = g.within;
   short = omega (arith, within.inside, g.window, g.short);
@@ -53,7 +53,7 @@ good_caller extent s within g = record {
 }
 
 -- a function's first variables
-good_opened : (extent : Extent) (registers : ℕ) (args : List ℕ) (s : Locals) → Each (λ v. v < 2 ^ 64) args → IsCaller extent s
+good_opened : (extent : Extent) (registers : ℕ) (args : List ℕ) (s : Locals) → Each (λ v. v < 2 ^ 64) args → IsCaller extent.memory extent.basis s
     → IsGood (called_at extent s) (record (entered registers args s) { start = s.pos; outer = s.end })
 good_opened extent registers args s small g = record {
   begun = omega arith;
@@ -97,11 +97,11 @@ module _ (memory : ℕ → ℕ) (basis : Basis) (c : Parts) (names : ℕ → Lis
   -- the functions of routines below k do what the routines do
   abbrev Calls : ℕ → Type 0
   Calls k =
-      (m : ℕ) → m < k → (args places own : List ℕ) (s : Locals) → OwnFits c basis m places own → IsCaller extent s → Each (λ v. v < 2 ^ 64) args →
+      (m : ℕ) → m < k → (args places own : List ℕ) (s : Locals) → OwnFits c basis m places own → IsCaller memory basis s → Each (λ v. v < 2 ^ 64) args →
       Agrees (called_at extent s) s.next (table k m args places own s) (exit m args places s)
 
   -- routine k, where those below it do what they should
-  one : (k : ℕ) → k < length c.routines → Calls k → (args places own : List ℕ) (s : Locals) → OwnFits c basis k places own → IsCaller extent s → Each (λ v. v < 2 ^ 64) args
+  one : (k : ℕ) → k < length c.routines → Calls k → (args places own : List ℕ) (s : Locals) → OwnFits c basis k places own → IsCaller memory basis s → Each (λ v. v < 2 ^ 64) args
       → Agrees (called_at extent s) s.next ((block_means limit (helpers_below limit prelude 9) (table k) places own (body c k) nowhere []).0 (entered (routine_of c k).registers args s)) (exit k args places s)
   one k l ih args places own s fit g small =
       body_right activation is (laid.divided k l) (begin_up (lengths_of c) k (suc k) (omega arith)) (laid.laid message places k l) (laid.some k l)
