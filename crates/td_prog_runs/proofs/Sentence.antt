@@ -70,7 +70,11 @@ fresh_touched next [] i c = absurd (nowhere i c)
 fresh_touched next (q ∷ ps) i c =
     by_cases (λ b. Contains (cond b (fresh next ps) (q / 8 ∷ fresh (q / 8 + 1) ps)) i → (p : ℕ) × Contains (q ∷ ps) p × (p / 8 ≡ i)) (nat_lt (q / 8) next)
     (λ e d. on (fresh_touched next ps i d))
-    (λ e d. elim (first_or_later (q / 8) i (fresh (q / 8 + 1) ps) d) [ inl here ↦ (q, (0, omega arith, refl), here) | inr there ↦ on (fresh_touched (q / 8 + 1) ps i there) ]) c
+    (λ e d. elim (first_or_later (q / 8) i (fresh (q / 8 + 1) ps) d) [
+      | inl here ↦ (q, (0, omega arith, refl), here)
+      | inr there ↦ on
+          (fresh_touched (q / 8 + 1) ps i there)
+    ]) c
   where
     on : (p : ℕ) × Contains ps p × (p / 8 ≡ i) → (p : ℕ) × Contains (q ∷ ps) p × (p / 8 ≡ i)
     on r = (r.0, later q r.0 ps r.1, r.2)
@@ -90,18 +94,22 @@ touched_fresh to next (q ∷ ps) f p c = by (nat_lt (q / 8) next) refl (first_or
         let n : q / 8 + 1 ≡ next = (let m = f.0 in omega (arith, l, m)) in
         subst (λ k. IsThere p k (fresh k ps)) n (h d)
     by false e (inl same) h = inr (0, omega arith, ap (λ k. k / 8) same)
-    by false e (inr d) h = elim (h d) [ inl s ↦ inr (0, omega arith, omega (arith, s)) | inr there ↦ inr (later (q / 8) (p / 8) (fresh (q / 8 + 1) ps) there) ]
+    by false e (inr d) h =
+        elim (h d) [ inl s ↦ inr (0, omega arith, omega (arith, s)) | inr there ↦ inr (later (q / 8) (p / 8) (fresh (q / 8 + 1) ps) there) ]
 
 forward_below : (to next : ℕ) (ps : List ℕ) → IsForward to next ps → (p : ℕ) → Contains ps p → p < to
 forward_below to next [] f p c = absurd (nowhere p c)
-forward_below to next (q ∷ ps) f p c = elim (first_or_later q p ps c) [ inl e ↦ (let l = f.1 in omega (arith, e, l)) | inr d ↦ forward_below to (q / 8 + 1) ps f.2 p d ]
+forward_below to next (q ∷ ps) f p c =
+    elim (first_or_later q p ps c) [ inl e ↦ (let l = f.1 in omega (arith, e, l)) | inr d ↦ forward_below to (q / 8 + 1) ps f.2 p d ]
 
 all_of : (loads : List Load) (P : ℕ → Type 0) → ((i : ℕ) → Contains (words loads) i → P i) → All (λ (l : Load). P l.word) loads
 all_of [] P h = All-nil (λ (l : Load). P l.word)
-all_of (l ∷ loads) P h = All-cons (λ (l : Load). P l.word) l loads (h l.word (0, omega arith, refl)) (all_of loads P (λ i c. h i (later l.word i (words loads) c)))
+all_of (l ∷ loads) P h =
+    All-cons (λ (l : Load). P l.word) l loads (h l.word (0, omega arith, refl)) (all_of loads P (λ i c. h i (later l.word i (words loads) c)))
 
 -- What agreeing says of an answer
-left_by : (extent : Extent) (x : Tree Out) (touched : List ℕ) (w : Way) (y : Out) → IsAnswer w → AgreesBy extent 0 x touched w → answer extent.memory x ≡ y → IsLeftBy extent.basis y w
+left_by : (extent : Extent) (x : Tree Out) (touched : List ℕ) (w : Way) (y : Out) → IsAnswer w → AgreesBy extent 0 x touched w → answer extent.memory x ≡ y
+    → IsLeftBy extent.basis y w
 left_by extent x touched (Returned pos cells) y a h e = by y (subst (λ o. IsReturn extent (behind 0 touched) pos cells o) e h.0)
   where
     by : (y : Out) → IsReturn extent (behind 0 touched) pos cells y → IsLeftBy extent.basis y (Returned pos cells)
@@ -117,7 +125,8 @@ left_by extent x touched (Failed reason pos trace cells) y a h e = by y (subst (
     by Undefined r = r
 left_by extent x touched Stuck y a h e = absurd a
 
-words_are : (extent : Extent) (x : Tree Out) (touched : List ℕ) (w : Way) → IsAnswer w → AgreesBy extent 0 x touched w → (loaded extent.memory x ≡ fresh 0 touched) × IsForward extent.to 0 touched
+words_are : (extent : Extent) (x : Tree Out) (touched : List ℕ) (w : Way) → IsAnswer w → AgreesBy extent 0 x touched w
+    → (loaded extent.memory x ≡ fresh 0 touched) × IsForward extent.to 0 touched
 words_are extent x touched (Returned pos cells) a h = (h.1, h.2)
 words_are extent x touched (Turned t) a h = absurd a
 words_are extent x touched (Failed reason pos trace cells) a h = (h.1, h.2)
@@ -138,8 +147,10 @@ all_bytes f h from zero = All-nil (λ x. x < 256)
 all_bytes f h from (suc n) = All-cons (λ x. x < 256) (f from) (map f (range_with_len (from + 1) n)) (h from) (all_bytes f h (from + 1) n)
 
 -- the memory of loads holds a message that carries them
-loaded_bytes : (loads : List Load) (b : List ℕ) → AreBytes b → All (AgreesPlain b) loads → (j : ℕ) → j < length b → byte_of (memory_of loads b (j / 8)) (j % 8) ≡ slice_index b j
-loaded_bytes [] b h a j l = let e : 8 * (j / 8) + j % 8 ≡ j = omega arith in digit_of b h 8 (8 * (j / 8)) (j % 8) (mod_below j 8 (omega arith)) ∙ ap (slice_index b) e
+loaded_bytes : (loads : List Load) (b : List ℕ) → AreBytes b → All (AgreesPlain b) loads → (j : ℕ) → j < length b
+    → byte_of (memory_of loads b (j / 8)) (j % 8) ≡ slice_index b j
+loaded_bytes [] b h a j l =
+    let e : 8 * (j / 8) + j % 8 ≡ j = omega arith in digit_of b h 8 (8 * (j / 8)) (j % 8) (mod_below j 8 (omega arith)) ∙ ap (slice_index b) e
 loaded_bytes (x ∷ loads) b h a j l =
     by_cases (λ v. byte_of (cond v x.value (memory_of loads b (j / 8))) (j % 8) ≡ slice_index b j) (nat_eq (j / 8) x.word)
     (λ e.
@@ -148,7 +159,8 @@ loaded_bytes (x ∷ loads) b h a j l =
     sym (All-head (AgreesPlain b) x loads a (j % 8) (mod_below j 8 (omega arith)) (omega (arith, p, l))) ∙ ap (slice_index b) p)
     (λ e. loaded_bytes loads b h (All-tail (AgreesPlain b) x loads a) j l)
 
-module _ (agrees : ProgramAgrees) (c : Parts) (start : Start) (laid : IsWellLaid c) (is : IsStart c start) (answers : (b : List ℕ) → length b ≡ start.size → AreBytes b → IsAnswer (way_on c start b)) where
+module _ (agrees : ProgramAgrees) (c : Parts) (start : Start) (laid : IsWellLaid c) (is : IsStart c start)
+    (answers : (b : List ℕ) → length b ≡ start.size → AreBytes b → IsAnswer (way_on c start b)) where
   open start use {names, limit, routine as n, size, args, cells, buffers}
 
   abbrev tree : Tree Out
@@ -170,14 +182,17 @@ module _ (agrees : ProgramAgrees) (c : Parts) (start : Start) (laid : IsWellLaid
     lengths = refl;
     many = let m = is.many in let e = ap (λ (xs : List ℕ). length xs) is.rooms in omega (arith, m, e);
     copies = λ k h. let e = ap (λ (xs : List ℕ). length xs) is.rooms in let z = is.empty k (omega (arith, h, e)) in
-        (λ i. take (z i) (slice_index_or buffers k [])) ∙ (λ i. map (slice_index b) (places_from (slice_index cells ((routine_of c n).cells + 2 * k)) (sym z i)));
+        (λ i. take (z i) (slice_index_or buffers k [])) ∙
+        (λ i. map (slice_index b) (places_from (slice_index cells ((routine_of c n).cells + 2 * k)) (sym z i)));
   }
 
   -- on memory that stays
   stays : (memory : ℕ → ℕ) (b : List ℕ) → IsMemory memory b → length b ≡ size → Agrees (extent_of memory b) 0 tree (exit b)
   stays memory b holds e =
-      subst (λ k. Agrees (record { memory = memory; basis = basis b; from = 0; to = k }) 0 (free_run limit (program c names) n k args cells buffers) (exit b)) e
-      (agrees memory c names b limit n args cells buffers holds (let s = is.short in omega (arith, e, s)) is.big laid is.there is.rooms (begun b) is.args is.cells)
+      subst (λ k. Agrees (record { memory = memory; basis = basis b; from = 0; to = k }) 0 (free_run limit (program c names) n k args cells buffers)
+      (exit b)) e
+      (agrees memory c names b limit n args cells buffers holds (let s = is.short in omega (arith, e, s))
+      (let m = is.enough in omega (arith, e, m)) laid is.there is.rooms (begun b) is.args is.cells)
 
   on_memory : (memory : ℕ → ℕ) → AreWords memory → RisesFrom 0 (loaded memory tree)
   on_memory memory small =

@@ -20,7 +20,8 @@ use Rattle.td_prog_runs.proofs.Laying.{sound_is_laid}
 both_so : (a b : Bool) → a ≡ true → b ≡ true → (a && b) ≡ true
 both_so a b e f = (λ i. e i && f i)
 
-pub busy : TurnTakes → (c : Parts) → IsCode c → IsSound c → (message places : List ℕ) (n pc t : ℕ) → IsIn c n pc → shape_at (shapes_of c) pc ≡ While t → IsBusy c message places n pc
+pub busy : TurnTakes → (c : Parts) → IsCode c → IsSound c → (message places : List ℕ) (n pc t : ℕ) → IsIn c n pc → shape_at (shapes_of c) pc ≡ While t
+    → IsBusy c message places n pc
 busy takes c code sound message places n pc q i is s t h l e =
     let r = takes c message places n pc q s t code sound i is h l e in
     both_so (nat_lt s.pos t.pos) (nat_eq t.end s.end) (lt-ltb s.pos t.pos r.0) (is_eq t.end s.end r.1)

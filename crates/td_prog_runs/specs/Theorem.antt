@@ -19,7 +19,8 @@ use Rattle.td_prog_trees.specs.Agree.{Basis, IsKept}
 use Rattle.td_prog_steps.specs.Laid.{IsWellLaid, AreNumbers}
 use Rattle.td_prog_steps.specs.Laws.{basis_of}
 
--- a run of a program from outside: the names of its functions, how many turns a loop may take, the routine, how long the message is, arguments, cells and buffers
+-- a run of a program from outside: the names of its functions, how many turns a loop may take, the routine, how long the message is, arguments, cells and
+-- buffers
 pub record Start : Type 0 where
   pub names : ℕ → List ℕ
   pub limit : ℕ
@@ -33,11 +34,12 @@ pub record Start : Type 0 where
 abbrev pub AreEmpty : (first count : ℕ) → List ℕ → Type 0
 AreEmpty first count cells = (b : ℕ) → b < count → slice_index cells (first + 2 * b + 1) ≡ 0
 
--- it fits the code: there is such a routine, the message is short and loops may take more turns than it has bytes, arguments and cells have 64 bits, and buffers are the routine's and hold nothing
+-- it fits the code: there is such a routine, the message is short and loops may take more turns than it has bytes, arguments and cells have 64 bits, and
+-- buffers are the routine's and hold nothing
 pub record IsStart (c : Parts) (start : Start) : Type 0 where
   pub there : start.routine < length c.routines
   pub short : start.size < 2 ^ 32
-  pub big : 2 ^ 32 < start.limit
+  pub enough : start.size + 1 < start.limit
   pub rooms : map length start.buffers ≡ (routine_of c start.routine).buffers
   pub many : length start.cells ≡ (routine_of c start.routine).cells + 2 * length (routine_of c start.routine).buffers
   pub empty : AreEmpty (routine_of c start.routine).cells (length (routine_of c start.routine).buffers) start.cells
@@ -52,7 +54,8 @@ IsLeftBy basis (Gave v s) (Failed reason pos trace cells) = ⊥
 IsLeftBy basis (Gave v s) Stuck = ⊥
 IsLeftBy basis (Refused reason pos trace s) (Returned pos' cells) = ⊥
 IsLeftBy basis (Refused reason pos trace s) (Turned t) = ⊥
-IsLeftBy basis (Refused reason pos trace s) (Failed reason' pos' trace' cells) = (reason ≡ reason') × (pos ≡ pos') × (trace ≡ take 32 trace') × (s.cells ≡ cells)
+IsLeftBy basis (Refused reason pos trace s) (Failed reason' pos' trace' cells) =
+    (reason ≡ reason') × (pos ≡ pos') × (trace ≡ take 32 trace') × (s.cells ≡ cells)
 IsLeftBy basis (Refused reason pos trace s) Stuck = ⊥
 IsLeftBy basis Undefined w = ⊥
 
@@ -60,7 +63,8 @@ IsLeftBy basis Undefined w = ⊥
 abbrev pub way_on : Parts → Start → List ℕ → Way
 way_on c start message = (run_routine c start.routine start.args start.cells message).way
 
--- Over memory that gives any words to its loads, the program does nothing undefined and ends; each word is loaded at most once, in rising order, and within the message; and on each list of bytes that
+-- Over memory that gives any words to its loads, the program does nothing undefined and ends; each word is loaded at most once, in rising order, and within
+-- the message; and on each list of bytes that
 -- carries the loads the program is left as the code's run is, and exactly the words of the bytes at which that run looks were loaded.
 abbrev pub RunsAsCode : Parts → Start → Type 0
 RunsAsCode c start =

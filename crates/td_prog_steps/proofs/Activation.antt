@@ -1,5 +1,5 @@
 -- A routine's activation: what the proofs of its instructions stand on.
-use Rattle.std.proofs.Common.{◌≡◌, ℕ, ◌^◌, ◌<◌, List, [], ◌∷◌, Some, slice_get}
+use Rattle.std.proofs.Common.{◌≡◌, ℕ, ◌^◌, ◌<◌, List, Some, slice_get, length, ◌+◌}
 use Rattle.td_num.specs.Lists.{Each}
 use Rattle.td_ir.specs.declared.instructions.Instr.{Instr}
 use Rattle.td_ir.specs.declared.tables.Parts.{Parts}
@@ -14,7 +14,8 @@ use Rattle.td_prog_code.specs.Prelude.{prelude}
 use Rattle.td_prog_trees.specs.Agree.{Extent, IsWithin, called_at, state_of, IsGood, Agrees}
 use Rattle.td_prog_steps.specs.Laid.{OwnFits}
 
--- A routine that runs: its extent, the code, the routine's number there, the run's cells and buffers to which its own lead, how many turns a loop may take, and what the program's routines mean.
+-- A routine that runs: its extent, the code, the routine's number there, the run's cells and buffers to which its own lead, how many turns a loop may take,
+-- and what the program's routines mean.
 pub record Activation : Type 0 where
   pub extent : Extent
   pub code : Parts
@@ -46,11 +47,12 @@ module _ (activation : Activation) where
   abbrev pub AreRoutines : Type 0
   AreRoutines =
       (m : ℕ) → m < n → (args places own : List ℕ) (s : Locals) → OwnFits c basis m places own → IsGood extent s → Each (λ v. v < 2 ^ 64) args →
-      Agrees (called_at extent s) s.next (routines m args places own s) (block c message m places (first_of c m) (entered (routine_of c m) args (state_of s)))
+      Agrees (called_at extent s) s.next (routines m args places own s)
+      (block c message m places (first_of c m) (entered (routine_of c m) args (state_of s)))
 
--- what holds of an activation in a run of a message of less than 2^32 bytes, with more turns than that
+-- what holds of an activation in a run of a message of less than 2^32 bytes, with more turns than it has bytes
 pub record IsActive (activation : Activation) : Type 0 where
   pub within : IsWithin activation.extent
-  pub big : 2 ^ 32 < activation.limit
+  pub enough : length activation.extent.message + 1 < activation.limit
   pub fits : OwnFits activation.code activation.extent.basis activation.number activation.places activation.own
   pub below : AreRoutines activation

@@ -1,5 +1,5 @@
 -- The instruction Copy.
-use Rattle.std.proofs.Common.{◌≡◌, ℕ, ◌+◌, ◌-◌, ◌*◌, ◌/◌, ◌%◌, ◌^◌, ◌<◌, ◌≤◌, inl, inr, Bool, true, false, cond, min, List, [], ◌∷◌, length, map, refl, sym, ap, ◌∙◌, subst, arith, slice_index, slice_set, length-set, take}
+use Rattle.std.proofs.Common.{◌≡◌, ℕ, ◌+◌, ◌*◌, ◌/◌, ◌%◌, ◌^◌, ◌<◌, ◌≤◌, inl, inr, Bool, true, false, cond, min, List, [], ◌∷◌, length, map, refl, sym, ap, ◌∙◌, subst, arith, slice_index, slice_set, length-set, take}
 use Rattle.std.specs.Prelude.{nat_lt, nat_eq, slice_index_or, ◌⊎◌}
 use Rattle.std.proofs.lemmas.Bool.{cases_lt, cases_eq, ltb-true, ltb-false}
 use Rattle.std.proofs.Math.Nat.{min-eq_left, min-eq_right}
@@ -44,7 +44,8 @@ module _ (activation : Activation) (is : IsActive activation) where
   abbrev Follows : Continuation → (State → Exit) → Type 0
   Follows go f = IsOnward extent go f
 
-  kept_copied : (cells : List ℕ) (buffers bs : List (List ℕ)) (x pos k p q : ℕ) → IsKept basis cells buffers → p ≡ basis.first + 2 * x → q ≡ basis.first + 2 * x + 1 → x < length basis.lengths → map length bs ≡ basis.lengths
+  kept_copied : (cells : List ℕ) (buffers bs : List (List ℕ)) (x pos k p q : ℕ) → IsKept basis cells buffers → p ≡ basis.first + 2 * x
+      → q ≡ basis.first + 2 * x + 1 → x < length basis.lengths → map length bs ≡ basis.lengths
       → IsDone message x pos buffers bs k → AreOld message x pos buffers bs → IsKept basis (slice_set (slice_set cells p pos) q k) bs
   kept_copied cells buffers bs x pos k p q g ep eq there long done old = record {
     lengths = long;
@@ -59,23 +60,37 @@ module _ (activation : Activation) (is : IsActive activation) where
       others i h l = other_cell (slice_set cells p pos) i q k l ∙ other_cell cells i p pos h
 
       by : (b : ℕ) → b < length basis.lengths → (b ≡ x) ⊎ (b ≡ x → ⊥)
-          → take (slice_index now (basis.first + 2 * b + 1)) (slice_index_or bs b []) ≡ map (slice_index message) (places_from (slice_index now (basis.first + 2 * b)) (slice_index now (basis.first + 2 * b + 1)))
+          → take (slice_index now (basis.first + 2 * b + 1)) (slice_index_or bs b [])
+          ≡ map (slice_index message) (places_from (slice_index now (basis.first + 2 * b)) (slice_index now (basis.first + 2 * b + 1)))
       by b h (inl e) =
           let many = g.many in
           let fp : p ≡ basis.first + 2 * b = omega (arith, ep, e) in
           let fq : q ≡ basis.first + 2 * b + 1 = omega (arith, eq, e) in
           let size : slice_index now q ≡ k = same_cell (slice_set cells p pos) q k (let s = length-set cells p pos in omega (arith, s, many, eq, there)) in
-          let at : slice_index now p ≡ pos = other_cell (slice_set cells p pos) p q k (λ z. omega (arith, z, ep, eq)) ∙ same_cell cells p pos (omega (arith, many, ep, there)) in
+          let at : slice_index now p ≡ pos = other_cell (slice_set cells p pos) p q k (λ z. omega (arith, z, ep, eq)) ∙ same_cell cells p pos
+          (omega (arith, many, ep, there)) in
           let size' : slice_index now (basis.first + 2 * b + 1) ≡ k = ap (slice_index now) (sym fq) ∙ size in
           let at' : slice_index now (basis.first + 2 * b) ≡ pos = ap (slice_index now) (sym fp) ∙ at in
           (λ i. take (size' i) (slice_index_or bs (e i) [])) ∙ done ∙ (λ i. map (slice_index message) (places_from (sym at' i) (sym size' i)))
       by b h (inr apart) =
-          let size' : slice_index now (basis.first + 2 * b + 1) ≡ slice_index cells (basis.first + 2 * b + 1) = others (basis.first + 2 * b + 1) (λ z. omega (arith, z, ep)) (λ z. apart (omega (arith, z, eq))) in
-          let at' : slice_index now (basis.first + 2 * b) ≡ slice_index cells (basis.first + 2 * b) = others (basis.first + 2 * b) (λ z. apart (omega (arith, z, ep))) (λ z. omega (arith, z, eq)) in
+          let size' : slice_index now (basis.first + 2 * b + 1) ≡ slice_index cells (basis.first + 2 * b + 1) = others (basis.first + 2 * b + 1)
+          (λ z. omega (arith, z, ep)) (λ z. apart (omega (arith, z, eq))) in
+          let at' : slice_index now (basis.first + 2 * b) ≡ slice_index cells (basis.first + 2 * b) = others (basis.first + 2 * b)
+          (λ z. apart (omega (arith, z, ep))) (λ z. omega (arith, z, eq)) in
           (λ i. take (size' i) (old b apart i)) ∙ g.copies b h ∙ (λ i. map (slice_index message) (places_from (sym at' i) (sym size' i)))
 
-  good_copied : (s : Locals) (n h k v p q mo num : ℕ) (bs : List (List ℕ)) → k ≤ v → s.pos + v ≤ s.end → n ≤ (s.pos + k + 7) / 8 → ((w : ℕ) → n ≡ w + 1 → h ≡ memory w) → IsKept basis (slice_set (slice_set s.cells p s.pos) q k) bs → IsGood extent s
-      → IsGood extent (record s { next = n; held = h; cells = slice_set (slice_set s.cells p s.pos) q k; buffers = bs; most = mo; number = num; pos = s.pos + v })
+  good_copied : (s : Locals) (n h k v p q mo num : ℕ) (bs : List (List ℕ)) → k ≤ v → s.pos + v ≤ s.end → n ≤ (s.pos + k + 7) / 8
+      → ((w : ℕ) → n ≡ w + 1 → h ≡ memory w) → IsKept basis (slice_set (slice_set s.cells p s.pos) q k) bs → IsGood extent s
+      → IsGood extent (record s {
+        next = n;
+        held = h;
+        cells = slice_set
+            (slice_set s.cells p s.pos) q k;
+        buffers = bs;
+        most = mo;
+        number = num;
+        pos = s.pos + v;
+      })
   good_copied s n h k v p q mo num bs few l ahead held kept g = record {
     begun = g.begun;
     started = omega (arith, g.started);
@@ -85,7 +100,8 @@ module _ (activation : Activation) (is : IsActive activation) where
     ahead = omega (arith, ahead, few);
     held = held;
     regs = g.regs;
-    cells = set_small (slice_set s.cells p s.pos) q k (let e = end_small extent s is.within g in omega (arith, few, l, e)) (set_small s.cells p s.pos (let e = end_small extent s is.within g in omega (arith, l, e)) g.cells);
+    cells = set_small (slice_set s.cells p s.pos) q k (let e = end_small extent s is.within g in omega (arith, few, l, e))
+        (set_small s.cells p s.pos (let e = end_small extent s is.within g in omega (arith, l, e)) g.cells);
     kept = kept;
   }
 
@@ -99,12 +115,15 @@ module _ (activation : Activation) (is : IsActive activation) where
     | inr h ↦ (let e : min v r ≡ r = min-eq_right h in (omega (arith, e, h), omega (arith, e)))
   ]
 
-  module _ (f : State → Exit) (pc : ℕ) (rest : Block) (go : Continuation) (around : Labels) (l : pc + 1 < end_of c n) (ih : Follows (begin rest go around) (exit f (pc + 1))) where
-    pub case_copy : (size buffer site : ℕ) → IsHere pc (i.Copy size buffer site) → buffer < length (routine_of c n).buffers → Follows (begin (statement c n (i.Copy size buffer site) rest) go around) (exit f pc)
+  module _ (f : State → Exit) (pc : ℕ) (rest : Block) (go : Continuation) (around : Labels) (l : pc + 1 < end_of c n)
+      (ih : Follows (begin rest go around) (exit f (pc + 1))) where
+    pub case_copy : (size buffer site : ℕ) → IsHere pc (i.Copy size buffer site) → buffer < length (routine_of c n).buffers
+        → Follows (begin (statement c n (i.Copy size buffer site) rest) go around) (exit f pc)
     case_copy size buffer site a there s g =
         with_room activation is f pc v site (i.Copy size buffer site) s
         (record { flow = Goes (pc + 1) next; touched = places_from s.pos k; steps = 1 + k }) tree a g refl
-        (λ e h. step e h (all_copied copy limit u k (let q = min_below v r in omega (arith, q.0, h, ends, is.big)) (ready h)))
+        (λ e h. step e h (all_copied copy limit u k (let q = min_below v r in omega (arith, q.0, h, g.window, g.short, is.enough, is.within.inside))
+        (ready h)))
       where
         v : ℕ
         v = slice_index s.regs size
@@ -178,20 +197,26 @@ module _ (activation : Activation) (is : IsActive activation) where
           others = λ b e. refl;
         }
 
-        step : effect c n message places pc (i.Copy size buffer site) (state_of s) ≡ record { flow = Goes (pc + 1) next; touched = places_from s.pos k; steps = 1 + k } → s.pos + v ≤ s.end
+        step : effect c n message places pc (i.Copy size buffer site) (state_of s)
+            ≡ record { flow = Goes (pc + 1) next; touched = places_from s.pos k; steps = 1 + k }
+            → s.pos + v ≤ s.end
             → Copied copy (looping copy limit u) u k
             → Agrees extent s.next tree (exit f pc (state_of s))
         step e h t =
             let z = t.final in
             let q = min_below v r in
-            let on : List ℕ → ℕ → Tree Out = λ cells p. begin rest go around (record (stored k) { next = z.next; held = z.held; cells = cells; buffers = z.buffers; number = k; pos = p }) in
+            let on : List ℕ → ℕ → Tree Out = λ cells p. begin rest go around
+            (record (stored k) { next = z.next; held = z.held; cells = cells; buffers = z.buffers; number = k; pos = p }) in
             let cells = slice_set (slice_set s.cells place s.pos) count k in
             let whole : (s.pos + v) % 2 ^ 64 ≡ s.pos + v = sum_is s.pos v (omega (arith, h, ends)) in
-            let led = asked extent s.next z.next (helpers_below limit prelude 9 8 (s.pos ∷ k ∷ []) (x ∷ []) (stored k)) k z (stored k) Number onward (places_from s.pos k) t.leads in
+            let led = asked extent s.next z.next (helpers_below limit prelude 9 8 (s.pos ∷ k ∷ []) (x ∷ []) (stored k)) k z (stored k) Number onward
+            (places_from s.pos k) t.leads in
             subst (λ y. Agrees extent s.next y (exit f pc (state_of s))) (sym tree_is)
             (goes_on activation is f pc (pc + 1) (i.Copy size buffer site) s next (places_from s.pos k) (1 + k) (asking k) a (omega arith) l e
             (agrees_after extent s.next z.next (asking k) (on cells (s.pos + v)) (places_from s.pos k) (1 + k) (exit f (pc + 1) next)
-            (subst (λ y. Leads extent s.next z.next (asking k) y (places_from s.pos k)) ((λ i. on (t.cells i) ((s.pos + v) % 2 ^ 64)) ∙ ap (on cells) whole) led)
+            (subst (λ y. Leads extent s.next z.next (asking k) y (places_from s.pos k))
+            ((λ i. on (t.cells i) ((s.pos + v) % 2 ^ 64)) ∙ ap (on cells) whole) led)
             (ih (record (stored k) { next = z.next; held = z.held; cells = cells; buffers = z.buffers; number = k; pos = s.pos + v })
             (good_copied s z.next z.held k v place count k k z.buffers q.0 h t.ahead t.held
-            (kept_copied s.cells s.buffers z.buffers x s.pos k place count g.kept (is.fits.place buffer there) (is.fits.count buffer there) (is.fits.there buffer there) t.kept t.done t.others) g))))
+            (kept_copied s.cells s.buffers z.buffers x s.pos k place count g.kept (is.fits.place buffer there) (is.fits.count buffer there)
+            (is.fits.there buffer there) t.kept t.done t.others) g))))

@@ -5,7 +5,7 @@ use Rattle.td_num.specs.Numbers.{places_from}
 use Rattle.std.proofs.Math.Nat.{mod-eq_of_lt}
 use Rattle.td_num.specs.Lists.{Each}
 use Rattle.td_prog.specs.Values.{Locals}
-use Rattle.td_prog_trees.specs.Agree.{Basis, Extent, IsWithin, IsGood}
+use Rattle.td_prog_trees.specs.Agree.{Extent, IsWithin, IsGood}
 use Rattle.td_prog_trees.proofs.Composing.{by_cases}
 
 pub small_at : (xs : List ℕ) → Each (λ v. v < 2 ^ 64) xs → (k : ℕ) → slice_index xs k < 2 ^ 64
@@ -150,7 +150,15 @@ module _ (extent : Extent) where
 
   -- the variables after a byte or an element was taken
   pub good_passed : (s : Locals) (w v a b : ℕ) → 0 < w → s.pos + w ≤ s.end → IsGood extent s
-      → IsGood extent (record s { next = (s.pos + w - 1) / 8 + 1; held = extent.memory ((s.pos + w - 1) / 8); number = v; pos = s.pos + w; most = a; room = b })
+      → IsGood extent (record s {
+        next = (s.pos + w - 1) / 8 + 1;
+        held = extent.memory
+            ((s.pos + w - 1) / 8);
+        number = v;
+        pos = s.pos + w;
+        most = a;
+        room = b;
+      })
   good_passed s w v a b some l g = record {
     begun = g.begun;
     started = omega (arith, g.started);
@@ -180,7 +188,13 @@ module _ (extent : Extent) where
 
   -- the variables after a number was taken
   pub good_taken : (s : Locals) (w into v : ℕ) → 0 < w → s.pos + w ≤ s.end → v < 2 ^ 64 → IsGood extent s
-      → IsGood extent (record s { next = (s.pos + w - 1) / 8 + 1; held = extent.memory ((s.pos + w - 1) / 8); regs = slice_set s.regs into v; pos = s.pos + w })
+      → IsGood extent (record s {
+        next = (s.pos + w - 1) / 8 + 1;
+        held = extent.memory
+            ((s.pos + w - 1) / 8);
+        regs = slice_set s.regs into v;
+        pos = s.pos + w;
+      })
   good_taken s w into v some l fits g = record {
     begun = g.begun;
     started = omega (arith, g.started);

@@ -1,9 +1,8 @@
 -- Instructions that load.
-use Rattle.std.proofs.Common.{◌≡◌, ℕ, ◌+◌, ◌-◌, ◌/◌, ◌%◌, ◌^◌, ◌<◌, ◌≤◌, List, [], ◌∷◌, length, refl, ap, ◌∙◌, subst, arith, slice_set}
+use Rattle.std.proofs.Common.{◌≡◌, ℕ, ◌+◌, ◌-◌, ◌/◌, ◌%◌, ◌^◌, ◌<◌, ◌≤◌, [], ◌∷◌, refl, ap, ◌∙◌, subst, arith, slice_set}
 use Rattle.td_num.specs.Numbers.{places_from, ordered_at}
 use Rattle.td_ir.specs.declared.instructions.Instr.{Instr}
 use Rattle.td_ir.specs.declared.instructions.Instr.TheVariants as i
-use Rattle.td_ir.specs.declared.tables.Parts.{Parts}
 use Rattle.td_ir.specs.Tables.{end_of}
 use Rattle.td_ir.specs.State.{State, with_reg, at_pos, Exit}
 use Rattle.td_ir.specs.Values.{order_of}
@@ -12,12 +11,11 @@ use Rattle.td_verify.specs.Operands.{IsWidth}
 use Rattle.td_prog.specs.Tree.{Tree, bind}
 use Rattle.td_prog.specs.Syntax.{Reg, Num, Block}
 use Rattle.td_prog.specs.Values.{Locals}
-use Rattle.td_prog.specs.Means.{Out, Continuation, Labels, Routines, after_helper}
+use Rattle.td_prog.specs.Means.{Out, Continuation, Labels, after_helper}
 use Rattle.td_prog.specs.Run.{helpers_below}
 use Rattle.td_prog_code.specs.Prelude.{number_helper, prelude}
 use Rattle.td_prog_code.specs.Instructions.{statement, taken}
-use Rattle.td_prog_trees.specs.Memory.{IsMemory}
-use Rattle.td_prog_trees.specs.Agree.{Basis, state_of, IsGood, Agrees, IsOnward}
+use Rattle.td_prog_trees.specs.Agree.{state_of, Agrees, IsOnward}
 use Rattle.td_prog_trees.proofs.Composing.{Leads, agrees_after}
 use Rattle.td_prog_trees.proofs.Fetching.{GivesOrdered, number_gives, asked, some_width}
 use Rattle.td_prog_steps.proofs.Goods.{sum_is, end_small, good_taken}
@@ -42,12 +40,15 @@ module _ (activation : Activation) (is : IsActive activation) where
   abbrev Follows : Continuation → (State → Exit) → Type 0
   Follows go f = IsOnward extent go f
 
-  module _ (f : State → Exit) (pc : ℕ) (rest : Block) (go : Continuation) (around : Labels) (l : pc + 1 < end_of c n) (ih : Follows (begin rest go around) (exit f (pc + 1))) where
-    pub case_fetch : (into order width site : ℕ) → IsHere pc (i.Fetch into order width site) → IsWidth width → Follows (begin (statement c n (i.Fetch into order width site) rest) go around) (exit f pc)
+  module _ (f : State → Exit) (pc : ℕ) (rest : Block) (go : Continuation) (around : Labels) (l : pc + 1 < end_of c n)
+      (ih : Follows (begin rest go around) (exit f (pc + 1))) where
+    pub case_fetch : (into order width site : ℕ) → IsHere pc (i.Fetch into order width site) → IsWidth width
+        → Follows (begin (statement c n (i.Fetch into order width site) rest) go around) (exit f pc)
     case_fetch into order width site a wide s g =
         with_room activation is f pc width site (i.Fetch into order width site) s
         (record { flow = Goes (pc + 1) next; touched = places_from s.pos width; steps = 1 }) tree a g refl
-        (λ e h. step e h (number_gives extent limit is.within s s.pos (omega (arith, g.ahead)) g.held order width wide (omega (arith, h, g.window, g.short))))
+        (λ e h. step e h (number_gives extent limit is.within s s.pos (omega (arith, g.ahead)) g.held order width wide
+        (omega (arith, h, g.window, g.short))))
       where
         some : 0 < width
         some = some_width width wide
@@ -67,7 +68,9 @@ module _ (activation : Activation) (is : IsActive activation) where
         tree : Tree Out
         tree = bind asking (after_helper (Reg into) s onward)
 
-        step : effect c n message places pc (i.Fetch into order width site) (state_of s) ≡ record { flow = Goes (pc + 1) next; touched = places_from s.pos width; steps = 1 } → s.pos + width ≤ s.end
+        step : effect c n message places pc (i.Fetch into order width site) (state_of s)
+            ≡ record { flow = Goes (pc + 1) next; touched = places_from s.pos width; steps = 1 }
+            → s.pos + width ≤ s.end
             → GivesOrdered extent limit is.within asking s order s.pos width → Agrees extent s.next tree (exit f pc (state_of s))
         step e h t =
             let q = (s.pos + width - 1) / 8 in
@@ -80,4 +83,5 @@ module _ (activation : Activation) (is : IsActive activation) where
             (agrees_after extent s.next (q + 1) tree (x held v (s.pos + width)) (places_from s.pos width) 1 (exit f (pc + 1) next)
             (subst (λ y. Leads extent s.next (q + 1) tree y (places_from s.pos width))
             ((λ i. x (t.gives.back i) (t.right i) ((s.pos + width) % 2 ^ 64)) ∙ ap (x held v) whole) led)
-            (ih (record s { next = q + 1; held = memory q; regs = slice_set s.regs into v; pos = s.pos + width }) (good_taken extent s width into v some h fits g)))
+            (ih (record s { next = q + 1; held = memory q; regs = slice_set s.regs into v; pos = s.pos + width })
+            (good_taken extent s width into v some h fits g)))

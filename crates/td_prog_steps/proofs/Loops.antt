@@ -1,10 +1,9 @@
 -- Loops, turn by turn.
-use Rattle.std.proofs.Common.{◌≡◌, ℕ, zero, suc, ◌+◌, ◌^◌, ◌<◌, ◌≤◌, Bool, true, false, ◌&&◌, cond, List, [], refl, sym, ap, subst, arith}
+use Rattle.std.proofs.Common.{◌≡◌, ℕ, zero, suc, ◌+◌, ◌<◌, ◌≤◌, ◌&&◌, cond, List, [], refl, sym, ap, subst, arith}
 use Rattle.std.specs.Prelude.{nat_lt, nat_eq, Option}
 use Rattle.std.proofs.lemmas.Bool.{ltb-true}
 use Rattle.td_num.proofs.Truths.{both_true, eq_is}
 use Rattle.td_ir.specs.declared.instructions.Instr.TheVariants as i
-use Rattle.td_ir.specs.declared.tables.Parts.{Parts}
 use Rattle.td_ir.specs.Tables.{end_of}
 use Rattle.td_ir.specs.State.{State, left, Way, Returned, Turned, Failed, Stuck, Exit, at_once, after}
 use Rattle.td_ir.specs.Run.{again, again_by, block}
@@ -13,17 +12,16 @@ use Rattle.td_ir.proofs.Blocks.{run_loops}
 use Rattle.td_prog.specs.Tree.{Tree}
 use Rattle.td_prog.specs.Syntax.{Pos, End, Ne, Get, Binary, Block}
 use Rattle.td_prog.specs.Values.{Locals, value}
-use Rattle.td_prog.specs.Run.{helpers_below}
-use Rattle.td_prog_code.specs.Prelude.{prelude}
-use Rattle.td_prog.specs.Means.{Out, Continuation, Labels, turns}
-use Rattle.td_prog_trees.specs.Agree.{Basis, state_of, IsGood, Agrees, IsOnward}
+use Rattle.td_prog.specs.Means.{Out, Continuation, turns}
+use Rattle.td_prog_trees.specs.Agree.{state_of, IsGood, Agrees, IsOnward}
 use Rattle.td_prog_steps.specs.Laid.{IsBusy}
 use Rattle.td_prog_trees.proofs.Composing.{again_after, again_again, by_cases}
 use Rattle.td_prog_steps.proofs.Activation.{Activation, IsActive}
 use Rattle.td_prog_steps.proofs.Activation as routine
 
 -- what is done after each turn that can end is the same
-same_again : (f g : State → Exit) (touched : List ℕ) (steps : ℕ) (w : Way) → ((t : State) → w ≡ Turned t → f t ≡ g t) → again_by f touched steps w ≡ again_by g touched steps w
+same_again : (f g : State → Exit) (touched : List ℕ) (steps : ℕ) (w : Way) → ((t : State) → w ≡ Turned t → f t ≡ g t)
+    → again_by f touched steps w ≡ again_by g touched steps w
 same_again f g touched steps (Returned pos cells) h = refl
 same_again f g touched steps (Turned t) h = ap (after touched (steps + 1)) (h t refl)
 same_again f g touched steps (Failed reason pos trace cells) h = refl
@@ -44,7 +42,8 @@ module _ (activation : Activation) (is : IsActive activation) where
   abbrev pub Runs : Block → ℕ → Type 0
   Runs b q = (go : Continuation) (f : State → Exit) → Follows go f → Follows (routine.meaning activation b go []).0 (exit f q)
 
-  module _ (pc target : ℕ) (inner : Block) (behind : Continuation) (f : State → Exit) (busy : IsBusy c message places n pc) (runs : Runs inner (pc + 1)) (rest : Follows behind (exit f target)) where
+  module _ (pc target : ℕ) (inner : Block) (behind : Continuation) (f : State → Exit) (busy : IsBusy c message places n pc) (runs : Runs inner (pc + 1))
+      (rest : Follows behind (exit f target)) where
     abbrev body : State → Exit
     body s = block c message n places (pc + 1) s
 
@@ -62,18 +61,21 @@ module _ (activation : Activation) (is : IsActive activation) where
     turned k s t = cond (nat_lt s.pos t.pos && nat_eq t.end s.end) (again f (ir.turns k body after_it t)) (at_once Stuck)
 
     abbrev TurnsRight : ℕ → ℕ → Type 0
-    TurnsRight k m = (s : Locals) → IsGood extent s → left (state_of s) < k → Agrees extent s.next (looping m s) (again f (ir.turns k body after_it (state_of s)))
+    TurnsRight k m =
+        (s : Locals) → IsGood extent s → left (state_of s) < k → Agrees extent s.next (looping m s) (again f (ir.turns k body after_it (state_of s)))
 
     one_turn : (k m : ℕ) → TurnsRight k m → TurnsRight (suc k) (suc m)
     one_turn k m ih s g l =
         by_cases
         (λ b.
-        Agrees extent s.next (cond (nat_eq (cond b 0 1) 0) (behind s) (ran s)) (again f (cond b (after_it (state_of s)) (again (ir.turns k body after_it) (body (state_of s))))))
+        Agrees extent s.next (cond (nat_eq (cond b 0 1) 0) (behind s) (ran s))
+        (again f (cond b (after_it (state_of s)) (again (ir.turns k body after_it) (body (state_of s))))))
         (nat_eq s.pos s.end) (λ e. rest s g) (λ e. turn g.within)
       where
         onward : Follows (looping m) (turned k s)
         onward t u =
-            by_cases (λ b. Agrees extent t.next (looping m t) (cond b (again f (ir.turns k body after_it (state_of t))) (at_once Stuck))) (nat_lt s.pos t.pos && nat_eq t.end s.end)
+            by_cases (λ b. Agrees extent t.next (looping m t) (cond b (again f (ir.turns k body after_it (state_of t))) (at_once Stuck)))
+            (nat_lt s.pos t.pos && nat_eq t.end s.end)
             (λ e.
             let p = both_true (nat_lt s.pos t.pos) (nat_eq t.end s.end) e in
             let further : s.pos < t.pos = ltb-true s.pos t.pos p.0 in
@@ -99,8 +101,9 @@ module _ (activation : Activation) (is : IsActive activation) where
 
     pub case_while : routine.IsHere activation pc (i.While target) → pc + 1 < target → target < end_of c n → Follows (looping limit) (exit f pc)
     case_while a l m s g =
-        let r = run_loops c message places n pc target (state_of s) (state_of s) [] 1 (record { instruction = i.While target; there = a.there; within = a.within; is = refl }) l m in
+        let r = run_loops c message places n pc target (state_of s) (state_of s) [] 1
+        (record { instruction = i.While target; there = a.there; within = a.within; is = refl }) l m in
         let k = suc (left (state_of s)) in
         subst (λ y. Agrees extent s.next (looping limit s) (again f y)) (sym r)
         (again_after extent f s.next (looping limit s) [] 1 (ir.turns k body after_it (state_of s))
-        (turns_right k limit (omega (arith, g.window, g.short, is.big, is.within.short, is.within.inside)) s g (omega arith)))
+        (turns_right k limit (omega (arith, g.window, g.short, is.enough, is.within.inside)) s g (omega arith)))

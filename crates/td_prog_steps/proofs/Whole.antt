@@ -1,5 +1,5 @@
 -- The whole program, on memory that stays. Cited by other crates.
-use Rattle.std.proofs.Common.{◌≡◌, ℕ, zero, suc, ◌+◌, ◌-◌, ◌*◌, ◌/◌, ◌^◌, ◌<◌, ◌≤◌, Bool, true, false, cond, List, [], length, slice_index, replicate, refl, sym, ap, ◌∙◌, subst, arith}
+use Rattle.std.proofs.Common.{◌≡◌, ℕ, zero, suc, ◌+◌, ◌-◌, ◌*◌, ◌/◌, ◌^◌, ◌<◌, ◌≤◌, cond, List, [], length, slice_index, replicate, refl, sym, ap, ◌∙◌, subst, arith}
 use Rattle.std.specs.Prelude.{nat_eq}
 use Rattle.td_num.specs.Numbers.{places_from}
 use Rattle.td_num.specs.Lists.{Each}
@@ -69,7 +69,8 @@ good_opened extent registers args s small g = record {
 }
 
 -- the functions of routines
-pub function_at : (c : Parts) (names : ℕ → List ℕ) (count first k : ℕ) → k < count → slice_get (functions c names first count) k ≡ Some (function c names (first + k))
+pub function_at : (c : Parts) (names : ℕ → List ℕ) (count first k : ℕ) → k < count
+    → slice_get (functions c names first count) k ≡ Some (function c names (first + k))
 function_at c names zero first k h = absurd (omega (arith, h))
 function_at c names (suc count) first zero h = let e : first ≡ first + 0 = omega arith in ap (λ n. Some (function c names n)) e
 function_at c names (suc count) first (suc k) h =
@@ -80,7 +81,8 @@ function_count : (c : Parts) (names : ℕ → List ℕ) (count first : ℕ) → 
 function_count c names zero first = refl
 function_count c names (suc count) first = ap suc (function_count c names count (first + 1))
 
-module _ (memory : ℕ → ℕ) (basis : Basis) (c : Parts) (names : ℕ → List ℕ) (limit : ℕ) (holds : IsMemory memory basis.message) (short : length basis.message < 2 ^ 32) (big : 2 ^ 32 < limit) (laid : IsWellLaid c) where
+module _ (memory : ℕ → ℕ) (basis : Basis) (c : Parts) (names : ℕ → List ℕ) (limit : ℕ) (holds : IsMemory memory basis.message)
+    (short : length basis.message < 2 ^ 32) (enough : length basis.message + 1 < limit) (laid : IsWellLaid c) where
   open basis use {message}
 
   -- the whole message
@@ -101,8 +103,11 @@ module _ (memory : ℕ → ℕ) (basis : Basis) (c : Parts) (names : ℕ → Lis
       Agrees (called_at extent s) s.next (table k m args places own s) (exit m args places s)
 
   -- routine k, where those below it do what they should
-  one : (k : ℕ) → k < length c.routines → Calls k → (args places own : List ℕ) (s : Locals) → OwnFits c basis k places own → IsCaller memory basis s → Each (λ v. v < 2 ^ 64) args
-      → Agrees (called_at extent s) s.next ((block_means limit (helpers_below limit prelude 9) (table k) places own (body c k) nowhere []).0 (entered (routine_of c k).registers args s)) (exit k args places s)
+  one : (k : ℕ) → k < length c.routines → Calls k → (args places own : List ℕ) (s : Locals) → OwnFits c basis k places own → IsCaller memory basis s
+      → Each (λ v. v < 2 ^ 64) args
+      → Agrees (called_at extent s) s.next
+      ((block_means limit (helpers_below limit prelude 9) (table k) places own (body c k) nowhere []).0 (entered (routine_of c k).registers args s))
+      (exit k args places s)
   one k l ih args places own s fit g small =
       body_right activation is (laid.divided k l) (begin_up (lengths_of c) k (suc k) (omega arith)) (laid.laid message places k l) (laid.some k l)
       (entered (routine_of c k).registers args s) (good_opened extent (routine_of c k).registers args s small g)
@@ -116,7 +121,7 @@ module _ (memory : ℕ → ℕ) (basis : Basis) (c : Parts) (names : ℕ → Lis
       is : IsActive activation
       is = record {
         within = inside;
-        big = big;
+        enough = enough;
         fits = fit;
         below = λ m h args places own u fits v sm. ih m h args places own u fits (good_caller (called_at extent s) u inside v) sm;
       }
@@ -124,7 +129,8 @@ module _ (memory : ℕ → ℕ) (basis : Basis) (c : Parts) (names : ℕ → Lis
   calls_right : (k : ℕ) → k ≤ length c.routines → Calls k
   calls_right zero l m h args places own s fit g small = absurd (omega (arith, h))
   calls_right (suc k) l m h args places own s fit g small =
-      by_cases (λ b. Agrees (called_at extent s) s.next (cond b (called (slice_get (program c names).routines k)) (table k m args places own s)) (exit m args places s)) (nat_eq m k)
+      by_cases (λ b. Agrees (called_at extent s) s.next (cond b (called (slice_get (program c names).routines k)) (table k m args places own s))
+      (exit m args places s)) (nat_eq m k)
       (λ e.
       subst (λ o. Agrees (called_at extent s) s.next (called o) (exit m args places s)) (sym there)
       (subst (λ j. Agrees (called_at extent s) s.next (called (Some (function c names k))) (exit j args places s)) (sym (eq_is m k e))
@@ -137,12 +143,14 @@ module _ (memory : ℕ → ℕ) (basis : Basis) (c : Parts) (names : ℕ → Lis
       there : slice_get (program c names).routines k ≡ Some (function c names k)
       there = function_at c names (length c.routines) 0 k (omega (arith, l)) ∙ (let e : 0 + k ≡ k = omega arith in ap (λ n. Some (function c names n)) e)
 
-  run_right : (n : ℕ) → n < length c.routines → (args cells : List ℕ) (buffers : List (List ℕ)) → IsKept basis cells buffers → basis.lengths ≡ (routine_of c n).buffers → basis.first ≡ (routine_of c n).cells
+  run_right : (n : ℕ) → n < length c.routines → (args cells : List ℕ) (buffers : List (List ℕ)) → IsKept basis cells buffers
+      → basis.lengths ≡ (routine_of c n).buffers → basis.first ≡ (routine_of c n).cells
       → Each (λ v. v < 2 ^ 64) args → Each (λ v. v < 2 ^ 64) cells
       → Agrees extent 0 (free_run limit (program c names) n (length message) args cells buffers) (run_routine c n args cells message)
   run_right n l args cells buffers kept same front sa sc =
       let s = started (length message) cells buffers in
-      subst (λ k. Agrees extent 0 (table k n args (places_from 0 (length cells)) (places_from 0 (length buffers)) s) (run_routine c n args cells message)) (sym (function_count c names (length c.routines) 0))
+      subst (λ k. Agrees extent 0 (table k n args (places_from 0 (length cells)) (places_from 0 (length buffers)) s) (run_routine c n args cells message))
+      (sym (function_count c names (length c.routines) 0))
       (calls_right (length c.routines) (omega arith) n l args (places_from 0 (length cells)) (places_from 0 (length buffers)) s own_fits
       (record { within = omega arith; short = omega arith; ahead = omega arith; held = λ w e. absurd (omega (arith, e)); cells = sc; kept = kept }) sa)
     where
@@ -163,10 +171,12 @@ module _ (memory : ℕ → ℕ) (basis : Basis) (c : Parts) (names : ℕ → Lis
         rooms = λ b h. ap (slice_index basis.lengths) (own_at b h) ∙ ap (λ xs. slice_index xs b) same;
         there = λ b h. let e = own_at b h in omega (arith, e, h, rooms_count);
         cells = λ k h. let m = kept.many in let e = place_at k (omega (arith, h, front, m)) in omega (arith, e, h, front);
-        place = λ b h. let m = kept.many in let e = own_at b h in place_at ((routine_of c n).cells + 2 * b) (omega (arith, h, front, m, rooms_count)) ∙ omega (arith, e, front);
-        count = λ b h. let m = kept.many in let e = own_at b h in place_at ((routine_of c n).cells + 2 * b + 1) (omega (arith, h, front, m, rooms_count)) ∙ omega (arith, e, front);
+        place = λ b h. let m = kept.many in let e = own_at b h in place_at ((routine_of c n).cells + 2 * b) (omega (arith, h, front, m, rooms_count))
+            ∙ omega (arith, e, front);
+        count = λ b h. let m = kept.many in let e = own_at b h in place_at ((routine_of c n).cells + 2 * b + 1) (omega (arith, h, front, m, rooms_count))
+            ∙ omega (arith, e, front);
       }
 
 pub program_agrees : ProgramAgrees
-program_agrees memory c names message limit n args cells buffers is short big laid there rooms kept small small_cells =
-    run_right memory (basis_of c n message buffers) c names limit is short big laid n there args cells buffers kept rooms refl small small_cells
+program_agrees memory c names message limit n args cells buffers is short enough laid there rooms kept small small_cells =
+    run_right memory (basis_of c n message buffers) c names limit is short enough laid n there args cells buffers kept rooms refl small small_cells

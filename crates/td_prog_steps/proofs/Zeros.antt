@@ -12,7 +12,7 @@ use Rattle.td_ir.specs.Tables.{end_of}
 use Rattle.td_ir.specs.State.{State, left, at_pos, Failed, Exit, at_once, after}
 use Rattle.td_ir.specs.Values.{numbers_from, is_nonzero}
 use Rattle.td_ir.specs.Flow.{zeros_flow}
-use Rattle.td_ir.specs.Run.{frame, again}
+use Rattle.td_ir.specs.Run.{frame}
 use Rattle.td_prog.specs.Tree.{Tree, bind}
 use Rattle.td_prog.specs.Syntax.{Pos, End, Number, Ne, Num, Get, Binary, Block, Ends, If, CallHelper}
 use Rattle.td_prog.specs.Values.{Locals, value}
@@ -65,15 +65,18 @@ module _ (activation : Activation) (is : IsActive activation) where
     scanned s k o = after (places_from s.pos (looked_at o k)) 0 (way_on s o)
 
     -- one byte further
-    next_one : (s t : Locals) (k : ℕ) (o : Option ℕ) → t.pos ≡ s.pos + 1 → t.end ≡ s.end → t.start ≡ s.start → t.cells ≡ s.cells → state_of t ≡ at_pos (state_of s) (s.pos + 1)
+    next_one : (s t : Locals) (k : ℕ) (o : Option ℕ) → t.pos ≡ s.pos + 1 → t.end ≡ s.end → t.start ≡ s.start → t.cells ≡ s.cells
+        → state_of t ≡ at_pos (state_of s) (s.pos + 1)
         → (y : Tree Out) (next : ℕ) → Agrees extent next y (after (s.pos ∷ []) 0 (scanned t k o)) → Agrees extent next y (scanned s (suc k) (one_more o))
     next_one s t k None ep ee es ec et y next h =
         subst (λ p. Agrees extent next y (after (s.pos ∷ places_from p k) 0 (g (at_pos (state_of s) s.end)))) ep
         (subst (λ u. Agrees extent next y (after (s.pos ∷ places_from t.pos k) 0 (g u))) (λ i. record (et i) { pos = ee i }) h)
     next_one s t k (Some j) ep ee es ec et y next h =
         let e : t.pos + j ≡ s.pos + suc j = omega (arith, ep) in
-        subst (λ p. Agrees extent next y (after (s.pos ∷ places_from p (suc j)) 0 (at_once (Failed Padding (s.pos + suc j) (frame c site (state_of s) Padding ∷ []) s.cells)))) ep
-        (subst (λ (z : ℕ × ℕ × List ℕ). Agrees extent next y (after (s.pos ∷ places_from t.pos (suc j)) 0 (at_once (Failed Padding z.0 (frame c site (record (state_of s) { start = z.1 }) Padding ∷ []) z.2))))
+        subst (λ p. Agrees extent next y
+        (after (s.pos ∷ places_from p (suc j)) 0 (at_once (Failed Padding (s.pos + suc j) (frame c site (state_of s) Padding ∷ []) s.cells)))) ep
+        (subst (λ (z : ℕ × ℕ × List ℕ). Agrees extent next y
+        (after (s.pos ∷ places_from t.pos (suc j)) 0 (at_once (Failed Padding z.0 (frame c site (record (state_of s) { start = z.1 }) Padding ∷ []) z.2))))
         (λ i. (e i, es i, ec i)) h)
 
     abbrev ZerosRight : ℕ → ℕ → Type 0
@@ -82,7 +85,8 @@ module _ (activation : Activation) (is : IsActive activation) where
     one_zero : (k m : ℕ) → ZerosRight k m → ZerosRight (suc k) (suc m)
     one_zero k m rec s u e =
         subst (λ b. Agrees extent s.next (cond (nat_eq (cond b 0 1) 0) (behind_it s) tree) (scanned s (suc k) (found s (suc k)))) (sym apart)
-        (by_cases (λ b. Agrees extent s.next tree (scanned s (suc k) (cond (cond b false true) (Some 0) (one_more later)))) (nat_eq v 0) zero_there other_there)
+        (by_cases (λ b. Agrees extent s.next tree (scanned s (suc k) (cond (cond b false true) (Some 0) (one_more later))))
+        (nat_eq v 0) zero_there other_there)
       where
         apart : nat_eq s.pos s.end ≡ false
         apart = ne_eqb s.pos s.end (λ q. omega (arith, e, q))
@@ -137,16 +141,21 @@ module _ (activation : Activation) (is : IsActive activation) where
         other_there : nat_eq v 0 ≡ false → Agrees extent s.next tree (scanned s (suc k) (Some 0))
         other_there z =
             let at : s.pos ≡ s.pos + 0 = omega arith in
-            subst (λ p. Agrees extent s.next tree (after (places_from s.pos 1) 0 (at_once (Failed Padding p (frame c site (state_of s) Padding ∷ []) s.cells)))) at
-            (agrees_after extent s.next (q + 1) tree failing (places_from s.pos 1) 0 (at_once (Failed Padding s.pos (frame c site (state_of s) Padding ∷ []) s.cells))
-            (subst (λ y. Leads extent s.next (q + 1) tree y (places_from s.pos 1)) (ap (λ b. cond b (looping m (seen v ((s.pos + 1) % 2 ^ 64))) failing) z) led)
-            (failed_there activation is Padding s.pos site (seen v s.pos) (let m = end_small extent s is.within u in omega (arith, there, m)) (start_small extent s is.within u)))
+            subst (λ p. Agrees extent s.next tree
+            (after (places_from s.pos 1) 0 (at_once (Failed Padding p (frame c site (state_of s) Padding ∷ []) s.cells)))) at
+            (agrees_after extent s.next (q + 1) tree failing (places_from s.pos 1) 0
+            (at_once (Failed Padding s.pos (frame c site (state_of s) Padding ∷ []) s.cells))
+            (subst (λ y. Leads extent s.next (q + 1) tree y (places_from s.pos 1))
+            (ap (λ b. cond b (looping m (seen v ((s.pos + 1) % 2 ^ 64))) failing) z) led)
+            (failed_there activation is Padding s.pos site (seen v s.pos) (let m = end_small extent s is.within u in omega (arith, there, m))
+            (start_small extent s is.within u)))
 
     no_zero : (m : ℕ) → ZerosRight zero (suc m)
     no_zero m s u e =
         let same : s.pos ≡ s.end = omega (arith, e, u.within) in
         let equal : nat_eq s.pos s.end ≡ true = is_eq s.pos s.end same in
-        subst (λ b. Agrees extent s.next (cond (nat_eq (cond b 0 1) 0) (behind_it s) ((routine.meaning activation turn (looping m) []).0 s)) (scanned s 0 None)) (sym equal)
+        subst (λ b. Agrees extent s.next (cond (nat_eq (cond b 0 1) 0) (behind_it s) ((routine.meaning activation turn (looping m) []).0 s))
+        (scanned s 0 None)) (sym equal)
         (subst (λ p. Agrees extent s.next (behind_it s) (g (at_pos (state_of s) p))) same (ih s u))
 
     zeros_right : (k m : ℕ) → suc k ≤ m → ZerosRight k m
@@ -154,24 +163,38 @@ module _ (activation : Activation) (is : IsActive activation) where
     zeros_right zero (suc m) h s u e = no_zero m s u e
     zeros_right (suc k) (suc m) h s u e = one_zero k m (λ t v w. zeros_right k m (omega (arith, h)) t v w) s u e
 
-  module _ (f : State → Exit) (pc : ℕ) (rest : Block) (go : Continuation) (around : Labels) (l : pc + 1 < end_of c n) (ih : Follows (begin rest go around) (exit f (pc + 1))) where
+  module _ (f : State → Exit) (pc : ℕ) (rest : Block) (go : Continuation) (around : Labels) (l : pc + 1 < end_of c n)
+      (ih : Follows (begin rest go around) (exit f (pc + 1))) where
     pub case_zeros : (site : ℕ) → IsHere pc (i.Zeros site) → Follows (begin (statement c n (i.Zeros site) rest) go around) (exit f pc)
     case_zeros site a s u = by (first_where is_nonzero (numbers_from message s.pos 1 (left (state_of s)))) refl
-        (zeros_right site (begin rest go around) (exit f (pc + 1)) ih (s.end - s.pos) limit (omega (arith, u.window, u.short, is.big, is.within.short, is.within.inside)) s u refl)
+        (zeros_right site (begin rest go around) (exit f (pc + 1)) ih (s.end - s.pos) limit
+        (omega (arith, u.window, u.short, is.enough, is.within.inside)) s u refl)
       where
         tree : Tree Out
         tree = begin (statement c n (i.Zeros site) rest) go around s
 
         by : (o : Option ℕ) → first_where is_nonzero (numbers_from message s.pos 1 (left (state_of s))) ≡ o
-            → Agrees extent s.next tree (scanned site (begin rest go around) (exit f (pc + 1)) ih s (s.end - s.pos) (first_where is_nonzero (numbers_from message s.pos 1 (left (state_of s)))))
+            → Agrees extent s.next tree
+            (scanned site (begin rest go around) (exit f (pc + 1)) ih s (s.end - s.pos)
+            (first_where is_nonzero (numbers_from message s.pos 1 (left (state_of s)))))
             → Agrees extent s.next tree (exit f pc (state_of s))
         by None e h =
             let k = s.end - s.pos in
             goes_on activation is f pc (pc + 1) (i.Zeros site) s (at_pos (state_of s) s.end) (places_from s.pos k) (1 + k) tree a (omega arith) l
-            (λ i. record { flow = zeros_flow (pc + 1) site (e i) (state_of s); touched = places_from s.pos (looked_at (e i) k); steps = 1 + looked_at (e i) k })
+            (λ i. record {
+              flow = zeros_flow (pc + 1) site (e i) (state_of s);
+              touched = places_from s.pos (looked_at (e i) k);
+              steps = 1 + looked_at
+                  (e i) k;
+            })
             (subst (λ o. Agrees extent s.next tree (scanned site (begin rest go around) (exit f (pc + 1)) ih s k o)) e h)
         by (Some j) e h =
             let k = s.end - s.pos in
             fails activation is f pc (i.Zeros site) s (state_of s) Padding site (s.pos + j) (places_from s.pos (suc j)) (1 + suc j) tree a
-            (λ i. record { flow = zeros_flow (pc + 1) site (e i) (state_of s); touched = places_from s.pos (looked_at (e i) k); steps = 1 + looked_at (e i) k })
+            (λ i. record {
+              flow = zeros_flow (pc + 1) site (e i) (state_of s);
+              touched = places_from s.pos (looked_at (e i) k);
+              steps = 1 + looked_at
+                  (e i) k;
+            })
             (subst (λ o. Agrees extent s.next tree (scanned site (begin rest go around) (exit f (pc + 1)) ih s k o)) e h)

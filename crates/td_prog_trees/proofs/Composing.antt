@@ -47,7 +47,8 @@ pub answer_bind : {X Y : Type 0} (memory : ℕ → ℕ) (t : Tree X) (f : X → 
 answer_bind memory (Done x) f = refl
 answer_bind memory (Loads word k) f = answer_bind memory (k (memory word)) f
 
-pub loaded_bind : {X Y : Type 0} (memory : ℕ → ℕ) (t : Tree X) (f : X → Tree Y) → loaded memory (bind t f) ≡ loaded memory t ++ loaded memory (f (answer memory t))
+pub loaded_bind : {X Y : Type 0} (memory : ℕ → ℕ) (t : Tree X) (f : X → Tree Y)
+    → loaded memory (bind t f) ≡ loaded memory t ++ loaded memory (f (answer memory t))
 loaded_bind memory (Done x) f = refl
 loaded_bind memory (Loads word k) f = ap (λ ws. word ∷ ws) (loaded_bind memory (k (memory word)) f)
 
@@ -61,17 +62,21 @@ module _ (extent : Extent) where
     pub behind_them : behind next touched ≡ next'
     pub forward : IsForward to next touched
 
-  both_words : (next next' : ℕ) (y x : Tree Out) (touched more : List ℕ) → Leads next next' y x touched → loaded memory x ≡ fresh next' more → loaded memory y ≡ fresh next (touched ++ more)
+  both_words : (next next' : ℕ) (y x : Tree Out) (touched more : List ℕ) → Leads next next' y x touched → loaded memory x ≡ fresh next' more
+      → loaded memory y ≡ fresh next (touched ++ more)
   both_words next next' y x touched more l h =
       l.words ∙ ap (λ ws. fresh next touched ++ ws) (h ∙ ap (λ k. fresh k more) (sym l.behind_them)) ∙ sym (fresh_append next touched more)
 
-  both_forward : (next next' : ℕ) (y x : Tree Out) (touched more : List ℕ) → Leads next next' y x touched → IsForward to next' more → IsForward to next (touched ++ more)
+  both_forward : (next next' : ℕ) (y x : Tree Out) (touched more : List ℕ) → Leads next next' y x touched → IsForward to next' more
+      → IsForward to next (touched ++ more)
   both_forward next next' y x touched more l h = forward_append to next touched more l.forward (subst (λ k. IsForward to k more) (sym l.behind_them) h)
 
-  after_by : (next next' : ℕ) (y x : Tree Out) (touched more : List ℕ) (w : Way) → Leads next next' y x touched → AgreesBy extent next' x more w → AgreesBy extent next y (touched ++ more) w
+  after_by : (next next' : ℕ) (y x : Tree Out) (touched more : List ℕ) (w : Way) → Leads next next' y x touched → AgreesBy extent next' x more w
+      → AgreesBy extent next y (touched ++ more) w
   after_by next next' y x touched more (Returned pos cells) l h =
       let e : behind next' more ≡ behind next (touched ++ more) = ap (λ k. behind k more) (sym l.behind_them) ∙ sym (behind_append next touched more) in (
-        subst (λ o. IsReturn extent (behind next (touched ++ more)) pos cells o) (sym l.same) (subst (λ k. IsReturn extent k pos cells (answer memory x)) e h.0),
+        subst (λ o. IsReturn extent (behind next (touched ++ more)) pos cells o) (sym l.same)
+            (subst (λ k. IsReturn extent k pos cells (answer memory x)) e h.0),
         both_words next next' y x touched more l h.1,
         both_forward next next' y x touched more l h.2,
       )
@@ -91,7 +96,8 @@ module _ (extent : Extent) where
   again_after_by : (f : State → Exit) (next : ℕ) (y : Tree Out) (touched more : List ℕ) (steps further : ℕ) (w : Way)
       → Agrees extent next y (after touched steps (again_by f more further w)) → Agrees extent next y (again_by f (touched ++ more) (steps + further) w)
   again_after_by f next y touched more steps further (Returned pos cells) h = h
-  again_after_by f next y touched more steps further (Turned t) h = subst (λ xs. AgreesBy extent next y xs (f t).way) (sym (append_assoc touched more (f t).touched)) h
+  again_after_by f next y touched more steps further (Turned t) h =
+      subst (λ xs. AgreesBy extent next y xs (f t).way) (sym (append_assoc touched more (f t).touched)) h
   again_after_by f next y touched more steps further (Failed reason pos trace cells) h = h
   again_after_by f next y touched more steps further Stuck h = tt
 
@@ -107,5 +113,6 @@ module _ (extent : Extent) where
   again_again_by f g next y touched steps (Failed reason pos trace cells) h = h
   again_again_by f g next y touched steps Stuck h = tt
 
-  pub again_again : (f g : State → Exit) (next : ℕ) (y : Tree Out) (e : Exit) → Agrees extent next y (again (λ s. again f (g s)) e) → Agrees extent next y (again f (again g e))
+  pub again_again : (f g : State → Exit) (next : ℕ) (y : Tree Out) (e : Exit) → Agrees extent next y (again (λ s. again f (g s)) e)
+      → Agrees extent next y (again f (again g e))
   again_again f g next y e h = again_again_by f g next y e.touched e.steps e.way h

@@ -1,18 +1,16 @@
 -- The helper that copies bytes into a buffer: what it loads, and what the buffer holds. Cited by other crates.
-use Rattle.std.proofs.Common.{◌≡◌, ℕ, zero, suc, ◌+◌, ◌-◌, ◌*◌, ◌/◌, ◌%◌, ◌^◌, ◌<◌, ◌≤◌, inl, inr, Bool, true, false, cond, List, [], ◌∷◌, length, map, Some, None, refl, sym, ap, ◌∙◌, subst, arith, slice_index, take}
+use Rattle.std.proofs.Common.{◌≡◌, ℕ, zero, suc, ◌+◌, ◌-◌, ◌*◌, ◌/◌, ◌%◌, ◌^◌, ◌<◌, ◌≤◌, inl, inr, Bool, true, false, cond, List, [], ◌∷◌, length, map, Some, None, refl, sym, ap, ◌∙◌, subst, arith, slice_index}
 use Rattle.std.specs.Prelude.{nat_lt, nat_le, nat_eq}
 use Rattle.std.proofs.lemmas.Bool.{lt-ltb, le-ltb, lt-leb, cases_lt}
 use Rattle.std.proofs.lemmas.Nat.{mod_below}
 use Rattle.std.proofs.Math.Nat.{mod-eq_of_lt}
 use Rattle.td_num.specs.Numbers.{places_from}
 use Rattle.td_num.proofs.Truths.{eq_is}
-use Rattle.td_ir.specs.declared.instructions.Instr.TheVariants as i
 use Rattle.td_ir.specs.State.{left}
 use Rattle.td_ir.specs.Values.{bit}
-use Rattle.td_ir.specs.Run.{again, block}
 use Rattle.td_prog.specs.Tree.{Tree, Done, bind}
 use Rattle.td_prog.specs.Syntax.{Pos, Low, Number, More, Room, Count, Sub, Shr, Lt, Num, Get, Binary, Block, Ends, Assign, Byte, If, Return}
-use Rattle.td_prog.specs.Values.{Locals, written, value, applied, with_byte}
+use Rattle.td_prog.specs.Values.{Locals, value, applied, with_byte}
 use Rattle.td_prog.specs.Means.{Out, Gave, Continuation, Helpers, nowhere, given, after_helper, turns, block_means}
 use Rattle.td_prog.specs.Run.{no_routine}
 use Rattle.td_prog_code.specs.Prelude.{plus, bytes_from, copy_turn}
@@ -21,7 +19,8 @@ use Rattle.td_prog_trees.proofs.Composing.{Leads}
 use Rattle.td_prog_trees.proofs.Fetching.{word_gives, word_tree, held_word, asked, places_split, low_is, then, pre, post, same_tree}
 use Rattle.td_prog_trees.proofs.Buffers.{IsDone, AreOld, puts, byte_more, old_more}
 
--- A call of td_copy: its extent, how many turns its loop may take, the run's buffer, the helpers that it may call (td_word is one), where the bytes begin, and what buffers held before.
+-- A call of td_copy: its extent, how many turns its loop may take, the run's buffer, the helpers that it may call (td_word is one), where the bytes begin,
+-- and what buffers held before.
 pub record Copy : Type 0 where
   pub extent : Extent
   pub limit : ℕ
@@ -65,8 +64,10 @@ module _ (copy : Copy) where
       lt_le : (a b : ℕ) → b < a → nat_le a b ≡ false
       lt_le a b h = lt-leb a b h
 
-  bytes_written : (go : Continuation) (left k : ℕ) (u : Locals) (b : Block) → map length u.buffers ≡ basis.lengths → u.count + k + left ≤ slice_index basis.lengths buffer → u.count + 8 < 2 ^ 64 → k + left ≤ 8
-      → HasBytes u.buffers (u.count + k) → HasOthers u.buffers → ((i : ℕ) → i < 8 → u.number / 2 ^ (8 * i) % 256 ≡ slice_index message (base + (u.count + i)))
+  bytes_written : (go : Continuation) (left k : ℕ) (u : Locals) (b : Block) → map length u.buffers ≡ basis.lengths
+      → u.count + k + left ≤ slice_index basis.lengths buffer → u.count + 8 < 2 ^ 64 → k + left ≤ 8
+      → HasBytes u.buffers (u.count + k) → HasOthers u.buffers
+      → ((i : ℕ) → i < 8 → u.number / 2 ^ (8 * i) % 256 ≡ slice_index message (base + (u.count + i)))
       → Written go (means (bytes_from k left b) go u) u b (u.count + k + left)
   bytes_written go zero k u b kept h small few d o are =
       let e : u.count + k + 0 ≡ u.count + k = omega arith in
@@ -79,12 +80,15 @@ module _ (copy : Copy) where
       let next : u.count + k + 1 ≡ u.count + suc k = omega arith in
       let all : u.count + suc k + left ≡ u.count + k + suc left = omega arith in
       let r = bytes_written go left (suc k) (record u { buffers = p.now }) b (p.kept ∙ kept) (omega (arith, h)) small (omega (arith, few))
-      (subst (HasBytes p.now) next (byte_more message buffer base old u.buffers (u.count + k) v p d (are k (omega (arith, few))))) (old_more message buffer base old u.buffers (u.count + k) v p o) are in
+      (subst (HasBytes p.now) next (byte_more message buffer base old u.buffers (u.count + k) v p d (are k (omega (arith, few)))))
+      (old_more message buffer base old u.buffers (u.count + k) v p o) are in
       record {
         buffers = r.buffers;
         is =
-            ap (λ n. given (applied Shr u.number (8 * k)) (λ m. given (with_byte u.buffers buffer n m) (λ bytes. means (bytes_from (suc k) left b) go (record u { buffers = bytes })))) whole
-            ∙ ap (λ o. given o (λ m. given (with_byte u.buffers buffer (u.count + k) m) (λ bytes. means (bytes_from (suc k) left b) go (record u { buffers = bytes })))) (shr_ok u.number (8 * k) (omega (arith, few)))
+            ap (λ n. given (applied Shr u.number (8 * k))
+            (λ m. given (with_byte u.buffers buffer n m) (λ bytes. means (bytes_from (suc k) left b) go (record u { buffers = bytes })))) whole
+            ∙ ap (λ o. given o (λ m. given (with_byte u.buffers buffer (u.count + k) m)
+            (λ bytes. means (bytes_from (suc k) left b) go (record u { buffers = bytes })))) (shr_ok u.number (8 * k) (omega (arith, few)))
             ∙ ap (λ o. given o (λ bytes. means (bytes_from (suc k) left b) go (record u { buffers = bytes }))) p.is
             ∙ r.is;
         kept = r.kept;
@@ -127,7 +131,8 @@ module _ (copy : Copy) where
       record {
         final = c.final;
         leads = subst (λ t. Lead u.next c.final.next tree (Done (Gave u.room c.final)) t) (sym (places_split u.pos a j))
-            (then extent u.next (k + 1) c.final.next tree (looping m v) (Done (Gave u.room c.final)) (places_from u.pos a) (places_from (u.pos + a) j) h c.leads);
+            (then extent u.next (k + 1) c.final.next tree (looping m v) (Done (Gave u.room c.final)) (places_from u.pos a)
+            (places_from (u.pos + a) j) h c.leads);
         cells = c.cells;
         kept = c.kept;
         ahead = (let e = c.ahead in omega (arith, e));
@@ -164,7 +169,9 @@ module _ (copy : Copy) where
     vars mo = record u { low = lo; number = memory k; more = mo; next = k + 1; held = memory k }
 
     abbrev last_block : Block
-    last_block = If (Binary Lt (Get More) (Num 8)) (Byte 0 (Get Count) (Binary Shr (Get Number) (Get Low)) (Assign Pos (plus (Get Pos) 1) (Assign Count (plus (Get Count) 1) Ends))) Ends
+    last_block =
+        If (Binary Lt (Get More) (Num 8))
+        (Byte 0 (Get Count) (Binary Shr (Get Number) (Get Low)) (Assign Pos (plus (Get Pos) 1) (Assign Count (plus (Get Count) 1) Ends))) Ends
 
     abbrev eight_block : Block
     eight_block = If (Binary Lt (Num 7) (Get More)) (bytes_from 0 8 (Assign Pos (plus (Get Pos) 8) (Assign Count (plus (Get Count) 8) Ends))) last_block
@@ -176,14 +183,17 @@ module _ (copy : Copy) where
     doing b = means b (looping m)
 
     -- the word is held
-    word_there : (a : ℕ) → 0 < a → u.pos % 8 + a ≤ 8 → a ≤ suc j → Lead u.next (k + 1) (doing copy_turn u) (doing low_block (vars (suc j))) (places_from u.pos a)
+    word_there : (a : ℕ) → 0 < a → u.pos % 8 + a ≤ 8 → a ≤ suc j
+        → Lead u.next (k + 1) (doing copy_turn u) (doing low_block (vars (suc j))) (places_from u.pos a)
     word_there a some l few =
         let first : Locals = record u { low = lo } in
         let rest = doing (Assign More (Binary Sub (Get Room) (Get Count)) low_block) in
         let left : (u.room + (2 ^ 64 - u.count)) % 2 ^ 64 ≡ suc j = (let s = r.sum in let f = r.few in omega (arith, s, f)) in
-        pre extent u.next (k + 1) (doing copy_turn u) (bind (word_tree limit k first) (after_helper Number first rest)) (doing low_block (vars (suc j))) (places_from u.pos a)
+        pre extent u.next (k + 1) (doing copy_turn u) (bind (word_tree limit k first) (after_helper Number first rest)) (doing low_block (vars (suc j)))
+        (places_from u.pos a)
         (ap (λ t. bind t (after_helper Number first rest)) (is_word k first))
-        (post extent u.next (k + 1) (bind (word_tree limit k first) (after_helper Number first rest)) (rest (record u { low = lo; number = memory k; next = k + 1; held = memory k })) (doing low_block (vars (suc j))) (places_from u.pos a)
+        (post extent u.next (k + 1) (bind (word_tree limit k first) (after_helper Number first rest))
+        (rest (record u { low = lo; number = memory k; next = k + 1; held = memory k })) (doing low_block (vars (suc j))) (places_from u.pos a)
         (asked extent u.next (k + 1) (word_tree limit k first) (memory k) (held_word memory k first) first Number rest (places_from u.pos a)
         (word_gives extent limit first u.pos a k refl (let h = r.ahead in omega (arith, h)) r.held some l (let w = r.within in omega (arith, w, few))))
         (ap (λ n. doing low_block (vars n)) left))
@@ -193,26 +203,34 @@ module _ (copy : Copy) where
         let p : u.pos + i ≡ base + (u.count + i) = (let a = r.at in omega (arith, a)) in
         let word_is : k ≡ (u.pos + i) / 8 = omega (arith, e, few) in
         let place_is : o ≡ (u.pos + i) % 8 = omega (arith, e, few) in
-        (λ z. memory (word_is z) / 2 ^ (8 * (place_is z)) % 256) ∙ within.holds.bytes (u.pos + i) (let w = r.within in omega (arith, w, l, within.inside)) ∙ ap (slice_index message) p
+        (λ z. memory (word_is z) / 2 ^ (8 * (place_is z)) % 256) ∙ within.holds.bytes (u.pos + i) (let w = r.within in omega (arith, w, l, within.inside))
+        ∙ ap (slice_index message) p
 
     -- one byte
     one_byte : (mo : ℕ) → mo < 8 → doing low_block (vars (suc j)) ≡ doing eight_block (vars mo)
-        → ((bs : List (List ℕ)) → map length bs ≡ basis.lengths → HasBytes bs (u.count + 1) → HasOthers bs → Copied (looping m (record (vars mo) { buffers = bs; pos = u.pos + 1; count = u.count + 1 })) (record (vars mo) { buffers = bs; pos = u.pos + 1; count = u.count + 1 }) j) → Copied (doing copy_turn u) u (suc j)
+        → ((bs : List (List ℕ)) → map length bs ≡ basis.lengths → HasBytes bs (u.count + 1) → HasOthers bs
+        → Copied (looping m (record (vars mo) { buffers = bs; pos = u.pos + 1; count = u.count + 1 }))
+        (record (vars mo) { buffers = bs; pos = u.pos + 1; count = u.count + 1 }) j)
+        → Copied (doing copy_turn u) u (suc j)
     one_byte mo few e rec =
-        let room : u.count < slice_index (map length u.buffers) buffer = (let s = r.sum in let f = r.fits in let z = ap (λ ns. slice_index ns buffer) r.kept in omega (arith, s, f, z)) in
+        let room : u.count < slice_index (map length u.buffers) buffer =
+        (let s = r.sum in let f = r.fits in let z = ap (λ ns. slice_index ns buffer) r.kept in omega (arith, s, f, z)) in
         let v = memory k / 2 ^ (8 * (u.pos % 8)) in
         let p = puts u.buffers buffer u.count v room in
         let not7 : nat_lt 7 mo ≡ false = le-ltb 7 mo (omega (arith, few)) in
         let is8 : nat_lt mo 8 ≡ true = lt-ltb mo 8 few in
         let on : ℕ → ℕ → Tree Out = λ q n. looping m (record (vars mo) { buffers = p.now; pos = q; count = n }) in
-        let small_pos : (u.pos + 1) % 2 ^ 64 ≡ u.pos + 1 = mod-eq_of_lt (let w = r.within in let z : u.pos + 1 < 2 ^ 64 = omega (arith, w, within.short, within.inside) in z) in
-        let small_count : (u.count + 1) % 2 ^ 64 ≡ u.count + 1 = mod-eq_of_lt (let s = r.sum in let f = r.few in let z : u.count + 1 < 2 ^ 64 = omega (arith, s, f) in z) in
+        let small_pos : (u.pos + 1) % 2 ^ 64 ≡ u.pos + 1 = mod-eq_of_lt
+        (let w = r.within in let z : u.pos + 1 < 2 ^ 64 = omega (arith, w, within.short, within.inside) in z) in
+        let small_count : (u.count + 1) % 2 ^ 64 ≡ u.count + 1 = mod-eq_of_lt
+        (let s = r.sum in let f = r.few in let z : u.count + 1 < 2 ^ 64 = omega (arith, s, f) in z) in
         let bits : nat_le 64 (8 * (u.pos % 8)) ≡ false = lt-leb 64 (8 * (u.pos % 8)) (omega arith) in
         let shifted : applied Shr (memory k) lo ≡ Some v = ap (applied Shr (memory k)) (low_is u.pos) ∙ ap (λ b. cond b None (Some v)) bits in
         let next : Block = Assign Pos (plus (Get Pos) 1) (Assign Count (plus (Get Count) 1) Ends) in
         let steps : doing low_block (vars (suc j)) ≡ on (u.pos + 1) (u.count + 1) =
         e
-        ∙ ap (λ b. cond (nat_eq (bit b) 0) (doing last_block (vars mo)) (means (bytes_from 0 8 (Assign Pos (plus (Get Pos) 8) (Assign Count (plus (Get Count) 8) Ends))) (doing last_block) (vars mo))) not7
+        ∙ ap (λ b. cond (nat_eq (bit b) 0) (doing last_block (vars mo))
+        (means (bytes_from 0 8 (Assign Pos (plus (Get Pos) 8) (Assign Count (plus (Get Count) 8) Ends))) (doing last_block) (vars mo))) not7
         ∙ ap (λ b. cond (nat_eq (bit b) 0) (looping m (vars mo)) (doing (Byte 0 (Get Count) (Binary Shr (Get Number) (Get Low)) next) (vars mo))) is8
         ∙ ap (λ o. given o (λ n. given (with_byte u.buffers buffer u.count n) (λ bytes. doing next (record (vars mo) { buffers = bytes })))) shifted
         ∙ ap (λ o. given o (λ bytes. doing next (record (vars mo) { buffers = bytes }))) p.is
@@ -220,38 +238,53 @@ module _ (copy : Copy) where
         let more : 1 + j ≡ suc j = omega arith in
         subst (λ n. Copied (doing copy_turn u) u n) more
         (joined (doing copy_turn u) u m 1 j p.now (memory k) mo lo k
-        (post extent u.next (k + 1) (doing copy_turn u) (doing low_block (vars (suc j))) (on (u.pos + 1) (u.count + 1)) (places_from u.pos 1) (word_there 1 (omega arith) (omega arith) (omega arith)) steps)
+        (post extent u.next (k + 1) (doing copy_turn u) (doing low_block (vars (suc j))) (on (u.pos + 1) (u.count + 1)) (places_from u.pos 1)
+        (word_there 1 (omega arith) (omega arith) (omega arith)) steps)
         (rec p.now (p.kept ∙ r.kept)
-        (byte_more message buffer base old u.buffers u.count v p r.done (byte_there 0 (omega arith) (u.pos % 8) (omega arith) (mod_below u.pos 8 (omega arith)) ∙ (let z : base + (u.count + 0) ≡ base + u.count = omega arith in ap (slice_index message) z)))
+        (byte_more message buffer base old u.buffers u.count v p r.done
+        (byte_there 0 (omega arith) (u.pos % 8) (omega arith) (mod_below u.pos 8 (omega arith)) ∙
+        (let z : base + (u.count + 0) ≡ base + u.count = omega arith in ap (slice_index message) z)))
         (old_more message buffer base old u.buffers u.count v p r.others)))
 
     -- eight bytes, where a word begins
     eight_bytes : u.pos % 8 ≡ 0 → 8 ≤ suc j → doing low_block (vars (suc j)) ≡ doing eight_block (vars (suc j))
-        → ((bs : List (List ℕ)) → map length bs ≡ basis.lengths → HasBytes bs (u.count + 8) → HasOthers bs → Copied (looping m (record (vars (suc j)) { buffers = bs; pos = u.pos + 8; count = u.count + 8 })) (record (vars (suc j)) { buffers = bs; pos = u.pos + 8; count = u.count + 8 }) (suc j - 8)) → Copied (doing copy_turn u) u (suc j)
+        → ((bs : List (List ℕ)) → map length bs ≡ basis.lengths → HasBytes bs (u.count + 8) → HasOthers bs
+        → Copied (looping m (record (vars (suc j)) { buffers = bs; pos = u.pos + 8; count = u.count + 8 }))
+        (record (vars (suc j)) { buffers = bs; pos = u.pos + 8; count = u.count + 8 }) (suc j - 8))
+        → Copied (doing copy_turn u) u (suc j)
     eight_bytes whole many e rec =
         let next : Block = Assign Pos (plus (Get Pos) 8) (Assign Count (plus (Get Count) 8) Ends) in
         let is7 : nat_lt 7 (suc j) ≡ true = lt-ltb 7 (suc j) (omega (arith, many)) in
         let not8 : nat_lt (suc j) 8 ≡ false = le-ltb (suc j) 8 many in
         let w = bytes_written (doing last_block) 8 0 (vars (suc j)) next r.kept
         (let s = r.sum in let f = r.fits in omega (arith, s, f, many)) (let s = r.sum in let f = r.few in omega (arith, s, f)) (omega arith)
-        (let z : u.count + 0 ≡ u.count = omega arith in subst (HasBytes u.buffers) (sym z) r.done) r.others (λ i l. byte_there i (omega (arith, l, many)) i (omega (arith, whole)) l) in
+        (let z : u.count + 0 ≡ u.count = omega arith in subst (HasBytes u.buffers) (sym z) r.done) r.others
+        (λ i l. byte_there i (omega (arith, l, many)) i (omega (arith, whole)) l) in
         let on : ℕ → ℕ → Tree Out = λ q n. looping m (record (vars (suc j)) { buffers = w.buffers; pos = q; count = n }) in
         let after_it : ℕ → ℕ → Tree Out = λ q n. doing last_block (record (vars (suc j)) { buffers = w.buffers; pos = q; count = n }) in
-        let small_pos : (u.pos + 8) % 2 ^ 64 ≡ u.pos + 8 = mod-eq_of_lt (let v = r.within in let z : u.pos + 8 < 2 ^ 64 = omega (arith, v, within.short, within.inside) in z) in
-        let small_count : (u.count + 8) % 2 ^ 64 ≡ u.count + 8 = mod-eq_of_lt (let s = r.sum in let f = r.few in let z : u.count + 8 < 2 ^ 64 = omega (arith, s, f) in z) in
+        let small_pos : (u.pos + 8) % 2 ^ 64 ≡ u.pos + 8 = mod-eq_of_lt
+        (let v = r.within in let z : u.pos + 8 < 2 ^ 64 = omega (arith, v, within.short, within.inside) in z) in
+        let small_count : (u.count + 8) % 2 ^ 64 ≡ u.count + 8 = mod-eq_of_lt
+        (let s = r.sum in let f = r.few in let z : u.count + 8 < 2 ^ 64 = omega (arith, s, f) in z) in
         let steps : doing low_block (vars (suc j)) ≡ on (u.pos + 8) (u.count + 8) =
         e
         ∙ ap (λ b. cond (nat_eq (bit b) 0) (doing last_block (vars (suc j))) (means (bytes_from 0 8 next) (doing last_block) (vars (suc j)))) is7
         ∙ w.is
         ∙ (λ i. after_it (small_pos i) (small_count i))
-        ∙ ap (λ b. cond (nat_eq (bit b) 0) (on (u.pos + 8) (u.count + 8)) (doing (Byte 0 (Get Count) (Binary Shr (Get Number) (Get Low)) (Assign Pos (plus (Get Pos) 1) (Assign Count (plus (Get Count) 1) Ends))) (record (vars (suc j)) { buffers = w.buffers; pos = u.pos + 8; count = u.count + 8 }))) not8 in
+        ∙ ap (λ b. cond (nat_eq (bit b) 0) (on (u.pos + 8) (u.count + 8))
+        (doing (Byte 0 (Get Count) (Binary Shr (Get Number) (Get Low)) (Assign Pos (plus (Get Pos) 1) (Assign Count (plus (Get Count) 1) Ends)))
+        (record (vars (suc j)) { buffers = w.buffers; pos = u.pos + 8; count = u.count + 8 }))) not8 in
         let more : 8 + (suc j - 8) ≡ suc j = omega (arith, many) in
         subst (λ n. Copied (doing copy_turn u) u n) more
         (joined (doing copy_turn u) u m 8 (suc j - 8) w.buffers (memory k) (suc j) lo k
-        (post extent u.next (k + 1) (doing copy_turn u) (doing low_block (vars (suc j))) (on (u.pos + 8) (u.count + 8)) (places_from u.pos 8) (word_there 8 (omega arith) (omega (arith, whole)) many) steps)
+        (post extent u.next (k + 1) (doing copy_turn u) (doing low_block (vars (suc j))) (on (u.pos + 8) (u.count + 8)) (places_from u.pos 8)
+        (word_there 8 (omega arith) (omega (arith, whole)) many) steps)
         (rec w.buffers w.kept (let z : u.count + 0 + 8 ≡ u.count + 8 = omega arith in subst (HasBytes w.buffers) z w.done) w.others))
 
-    ready_on : (a num mo l : ℕ) (bs : List (List ℕ)) → map length bs ≡ basis.lengths → HasBytes bs (u.count + a) → HasOthers bs → 0 < a → a ≤ suc j → u.pos % 8 + a ≤ 8 → Ready (record u { low = l; number = num; more = mo; next = k + 1; held = memory k; buffers = bs; pos = u.pos + a; count = u.count + a }) (suc j - a)
+    ready_on : (a num mo l : ℕ) (bs : List (List ℕ)) → map length bs ≡ basis.lengths → HasBytes bs (u.count + a) → HasOthers bs → 0 < a → a ≤ suc j
+        → u.pos % 8 + a ≤ 8
+        → Ready (record u { low = l; number = num; more = mo; next = k + 1; held = memory k; buffers = bs; pos = u.pos + a; count = u.count + a })
+        (suc j - a)
     ready_on a num mo l bs kept d o some few in_it = record {
       sum = (let s = r.sum in omega (arith, s, few));
       fits = r.fits;
@@ -271,16 +304,25 @@ module _ (copy : Copy) where
         one_less : suc j - 1 ≡ j
         one_less = omega arith
 
-        single : (mo : ℕ) (bs : List (List ℕ)) → map length bs ≡ basis.lengths → HasBytes bs (u.count + 1) → HasOthers bs → Copied (looping m (record (vars mo) { buffers = bs; pos = u.pos + 1; count = u.count + 1 })) (record (vars mo) { buffers = bs; pos = u.pos + 1; count = u.count + 1 }) j
-        single mo bs kept d o = rec (record (vars mo) { buffers = bs; pos = u.pos + 1; count = u.count + 1 }) j (omega arith) (subst (Ready (record (vars mo) { buffers = bs; pos = u.pos + 1; count = u.count + 1 })) one_less (ready_on 1 (memory k) mo lo bs kept d o (omega arith) (omega arith) (omega arith)))
+        single : (mo : ℕ) (bs : List (List ℕ)) → map length bs ≡ basis.lengths → HasBytes bs (u.count + 1) → HasOthers bs
+            → Copied (looping m (record (vars mo) { buffers = bs; pos = u.pos + 1; count = u.count + 1 }))
+            (record (vars mo) { buffers = bs; pos = u.pos + 1; count = u.count + 1 }) j
+        single mo bs kept d o =
+            rec (record (vars mo) { buffers = bs; pos = u.pos + 1; count = u.count + 1 }) j (omega arith)
+            (subst (Ready (record (vars mo) { buffers = bs; pos = u.pos + 1; count = u.count + 1 })) one_less
+            (ready_on 1 (memory k) mo lo bs kept d o (omega arith) (omega arith) (omega arith)))
 
         eight : 8 ≤ suc j → u.pos % 8 ≡ 0 → (bs : List (List ℕ)) → map length bs ≡ basis.lengths → HasBytes bs (u.count + 8) → HasOthers bs
-            → Copied (looping m (record (vars (suc j)) { buffers = bs; pos = u.pos + 8; count = u.count + 8 })) (record (vars (suc j)) { buffers = bs; pos = u.pos + 8; count = u.count + 8 }) (suc j - 8)
-        eight many z bs kept d o = rec (record (vars (suc j)) { buffers = bs; pos = u.pos + 8; count = u.count + 8 }) (suc j - 8) (omega (arith, many)) (ready_on 8 (memory k) (suc j) lo bs kept d o (omega arith) many (omega (arith, z)))
+            → Copied (looping m (record (vars (suc j)) { buffers = bs; pos = u.pos + 8; count = u.count + 8 }))
+            (record (vars (suc j)) { buffers = bs; pos = u.pos + 8; count = u.count + 8 }) (suc j - 8)
+        eight many z bs kept d o =
+            rec (record (vars (suc j)) { buffers = bs; pos = u.pos + 8; count = u.count + 8 }) (suc j - 8) (omega (arith, many))
+            (ready_on 8 (memory k) (suc j) lo bs kept d o (omega arith) many (omega (arith, z)))
 
         by : (b : Bool) → nat_eq lo 0 ≡ b → Copied (doing copy_turn u) u (suc j)
         by false e =
-            one_byte 0 (omega arith) (ap (λ b. cond b (doing eight_block (vars (suc j))) (doing eight_block (vars 0))) e) (λ bs kept d o. single 0 bs kept d o)
+            one_byte 0 (omega arith) (ap (λ b. cond b (doing eight_block (vars (suc j))) (doing eight_block (vars 0))) e)
+            (λ bs kept d o. single 0 bs kept d o)
         by true e =
             let none : lo ≡ 0 = eq_is lo 0 e in
             let z : u.pos % 8 ≡ 0 = (let l = low_is u.pos in omega (arith, none, l)) in

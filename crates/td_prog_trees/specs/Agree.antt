@@ -69,7 +69,8 @@ pub record IsKept (basis : Basis) (cells : List ℕ) (buffers : List (List ℕ))
 abbrev pub state_of : Locals → State
 state_of s = record { regs = s.regs; cells = s.cells; start = s.start; pos = s.pos; end = s.end; outer = s.outer }
 
--- the invariant of a function's variables: positions are in order and within its extent; no word behind the position's was loaded, but that of the byte before it; what is held is the word that was
+-- the invariant of a function's variables: positions are in order and within its extent; no word behind the position's was loaded, but that of the byte
+-- before it; what is held is the word that was
 -- loaded last; registers and cells have 64 bits; and buffers hold bytes of the message
 pub record IsGood (extent : Extent) (s : Locals) : Type 0 where
   pub begun : extent.from ≤ s.start
@@ -100,10 +101,12 @@ IsFailure reason pos trace cells (Gave value s) = ⊥
 IsFailure reason pos trace cells (Refused reason' pos' trace' s) = (reason' ≡ reason) × (pos' ≡ pos) × (trace' ≡ take 32 trace) × (s.cells ≡ cells)
 IsFailure reason pos trace cells Undefined = ⊥
 
--- on memory that stays, after the words below `next`: the same way out, and just the words of the places that the code looks at are loaded; nothing is said where code is stuck
+-- on memory that stays, after the words below `next`: the same way out, and just the words of the places that the code looks at are loaded; nothing is said
+-- where code is stuck
 abbrev pub AgreesBy : Extent → (next : ℕ) → Tree Out → List ℕ → Way → Type 0
 AgreesBy extent next tree touched (Returned pos cells) =
-    IsReturn extent (behind next touched) pos cells (answer extent.memory tree) × (loaded extent.memory tree ≡ fresh next touched) × IsForward extent.to next touched
+    IsReturn extent (behind next touched) pos cells (answer extent.memory tree) ×
+    (loaded extent.memory tree ≡ fresh next touched) × IsForward extent.to next touched
 AgreesBy extent next tree touched (Turned s) = Unit {0}
 AgreesBy extent next tree touched (Failed reason pos trace cells) =
     IsFailure reason pos trace cells (answer extent.memory tree) × (loaded extent.memory tree ≡ fresh next touched) × IsForward extent.to next touched

@@ -1,4 +1,0 @@
-mod Fitting
-mod Entries
-mod Means
-mod Image

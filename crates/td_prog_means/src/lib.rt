@@ -1,4 +1,0 @@
-//! What the program of a module's code tells its caller.
-#![tactic(auto)]
-
-pub mod laws;
