@@ -1,0 +1,6 @@
+pub mod Tree
+pub mod Syntax
+pub mod Values
+pub mod Means
+pub mod Run
+pub mod Text

@@ -1,0 +1,103 @@
+-- What programs in a small C mean (own rule): each function calls those before it, so a run is a recursion on their number.
+use Rattle.std.specs.Prelude.{ℕ, zero, suc, ◌-◌, ◌++◌, cond, List, [], ◌∷◌, length, replicate, slice_get, nat_eq, nat_lt, ◌+◌, ◌/◌}
+use Rattle.td_num.specs.Numbers.{places_from}
+use Rattle.td_prog.specs.Tree.{Tree, Done, Loads}
+use Rattle.td_prog.specs.Syntax.{Var, Reg, Helper, Program}
+use Rattle.td_prog.specs.Values.{Locals, written}
+use Rattle.td_prog.specs.Means.{Out, Undefined, nowhere, given, Helpers, Routines, both}
+
+-- variables that are declared with 0, and what is shared
+abbrev pub declared : List ℕ → Locals → Locals
+declared regs s = record {
+  next = s.next;
+  held = s.held;
+  cells = s.cells;
+  buffers = s.buffers;
+  pos = 0;
+  end = 0;
+  start = 0;
+  outer = 0;
+  regs = regs;
+  word = 0;
+  low = 0;
+  number = 0;
+  more = 0;
+  most = 0;
+  room = 0;
+  count = 0;
+}
+
+-- parameters get their values
+abbrev pub with_values : List Var → List ℕ → Locals → Locals
+with_values [] vs s = s
+with_values (x ∷ xs) [] s = s
+with_values (x ∷ xs) (v ∷ vs) s = with_values xs vs (written x v s)
+
+abbrev pub no_routine : Routines
+no_routine n args places buffers s = Done Undefined
+
+-- so many registers as variables name
+abbrev pub registers_of : List Var → ℕ → ℕ
+registers_of [] n = n
+registers_of (Reg k ∷ xs) n = registers_of xs (cond (nat_lt k n) n (suc k))
+registers_of (x ∷ xs) n = registers_of xs n
+
+-- a helper's variables, before its parameters get their values
+abbrev pub begun : Helper → Locals → Locals
+begun h s = declared (replicate (registers_of h.locals (registers_of h.params 0)) 0) s
+
+-- helper n, of those below k
+abbrev pub helpers_below : ℕ → List Helper → ℕ → Helpers
+helpers_below most hs zero n vs buffers s = Done Undefined
+helpers_below most hs (suc k) n vs buffers s =
+    cond (nat_eq n k)
+    (given (slice_get hs k) (λ h. (both most (helpers_below most hs k) no_routine [] buffers h.body nowhere []).0 (with_values h.params vs (begun h s))))
+    (helpers_below most hs k n vs buffers s)
+
+-- the first registers are the parameters; a routine begins at the caller's position, and its end is the caller's
+abbrev pub entered : ℕ → List ℕ → Locals → Locals
+entered registers args s = record (declared (args ++ replicate (registers - length args) 0) s) { pos = s.pos; end = s.end }
+
+-- routine n, of those below k
+abbrev pub routines_below : ℕ → Program → ℕ → Routines
+routines_below most p zero n args places buffers s = Done Undefined
+routines_below most p (suc k) n args places buffers s =
+    cond (nat_eq n k)
+    (given (slice_get p.routines k) (λ f.
+    (both most (helpers_below most p.helpers (length p.helpers)) (routines_below most p k) places buffers f.body nowhere []).0 (entered f.registers args s)))
+    (routines_below most p k n args places buffers s)
+
+-- before the first statement: from byte 0 to a message's end, with cells and buffers; nothing was loaded
+abbrev pub started : (size : ℕ) → (cells : List ℕ) → (buffers : List (List ℕ)) → Locals
+started size cells buffers = record (declared [] (record {
+  next = 0;
+  held = 0;
+  cells = cells;
+  buffers = buffers;
+  pos = 0;
+  end = 0;
+  start = 0;
+  outer = 0;
+  regs = [];
+  word = 0;
+  low = 0;
+  number = 0;
+  more = 0;
+  most = 0;
+  room = 0;
+  count = 0;
+})) { end = size }
+
+-- a routine, run from outside, with all cells and all buffers, where each loop takes at most so many turns
+abbrev pub free_run : (most : ℕ) → Program → (routine : ℕ) → (size : ℕ) → (args cells : List ℕ) → (buffers : List (List ℕ)) → Tree Out
+free_run most p n size args cells buffers =
+    routines_below most p (length p.routines) n args (places_from 0 (length cells)) (places_from 0 (length buffers)) (started size cells buffers)
+
+-- the same over so many words: C has no word behind them, so there is no such load
+abbrev pub guarded : (words : ℕ) → Tree Out → Tree Out
+guarded words (Done x) = Done x
+guarded words (Loads w k) = cond (nat_lt w words) (Loads w (λ v. guarded words (k v))) (Done Undefined)
+
+-- over a message of so many bytes
+abbrev pub run : (most : ℕ) → Program → (routine : ℕ) → (size : ℕ) → (args cells : List ℕ) → (buffers : List (List ℕ)) → Tree Out
+run most p n size args cells buffers = guarded ((size + 7) / 8) (free_run most p n size args cells buffers)

@@ -1,0 +1,5 @@
+mod Sentence
+pub mod Laying
+mod Sound
+mod Entry
+mod Text

@@ -1,0 +1,33 @@
+//! Laws. They do nothing when they are called.
+
+ghost use Rattle.td_prog_code.specs.Sentence.{ProgramRuns, ProgramIsText};
+ghost use Rattle.td_prog_runs.specs.Theorem.{CodeInC, SoundCodeInC};
+
+use td_verify::laws::sound_code_is_safe;
+use td_verify_runs::laws::{run_answers, turn_takes};
+
+/// The program of code does what the code does, whatever memory gives to its loads.
+pub fn code_in_c()
+    ensures { CodeInC }
+{}
+
+/// The same of code that the verifier accepts.
+pub fn sound_code_in_c()
+    ensures { SoundCodeInC }
+{
+    sound_code_is_safe();
+    run_answers();
+    turn_takes();
+}
+
+/// The sentence: the program of verified code, from its entry points.
+pub fn program_runs()
+    ensures { ProgramRuns }
+{
+    sound_code_in_c();
+}
+
+/// A compiler of C accepts the program: what it names is declared, once.
+pub fn program_is_text()
+    ensures { ProgramIsText }
+{}
