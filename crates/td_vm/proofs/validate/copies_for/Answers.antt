@@ -14,4 +14,6 @@ pub returns-clause-copy_memory : goal.returns-clause-copy_memory
 returns-clause-copy_memory c = c.in_ok-copies.ensures.memory ∙ ap length (c.deref.ensures.value ∙ c.in_ok-rooms.ensures) ∙ many_rooms c.args.parts.now
 
 pub returns-clause-memory : goal.returns-clause-memory
-returns-clause-memory c = c.in_ok-kept.ensures.exact ∙ c.len.ensures ∙ ap length c.in_ok-rooms.ensures ∙ many_rooms c.args.parts.now
+returns-clause-memory c =
+    let rooms : length c.in_ok-rooms.rooms.items ≡ most_buffers c.args.parts.now = ap length c.in_ok-rooms.ensures ∙ many_rooms c.args.parts.now in
+    c.in_ok-kept.ensures.exact ∙ c.len.ensures ∙ c.in_ok-rooms.rooms.ok.0 ∙ rooms
