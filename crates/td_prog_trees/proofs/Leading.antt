@@ -1,5 +1,5 @@
 -- Trees that load the words of some places, and then go on. Cited by other crates.
-use Rattle.std.proofs.Common.{◌≡◌, ℕ, zero, suc, ◌+◌, ◌-◌, ◌*◌, ◌/◌, ◌%◌, ◌<◌, ◌≤◌, true, false, cond, List, [], ◌∷◌, ◌++◌, append_assoc, append-nil, refl, sym, ap, ◌∙◌, subst, arith}
+use Rattle.std.proofs.Common.{◌≡◌, ℕ, zero, suc, ◌+◌, ◌*◌, ◌/◌, ◌%◌, ◌<◌, ◌≤◌, true, false, cond, List, [], ◌∷◌, ◌++◌, append_assoc, append-nil, refl, sym, ap, ◌∙◌, subst, arith}
 use Rattle.std.specs.Prelude.{nat_lt}
 use Rattle.std.proofs.lemmas.Bool.{lt-ltb, le-ltb}
 use Rattle.td_num.specs.Numbers.{places_from}
@@ -7,7 +7,6 @@ use Rattle.td_prog.specs.Tree.{Tree, Done, Loads, bind, answer, loaded}
 use Rattle.td_prog.specs.Syntax.{Var}
 use Rattle.td_prog.specs.Values.{Locals, written}
 use Rattle.td_prog.specs.Means.{Out, Gave, Continuation, shared, after_helper}
-use Rattle.td_prog_code.specs.Prelude.{word}
 use Rattle.td_prog_trees.specs.Agree.{Extent, fresh, behind, IsForward}
 use Rattle.td_prog_trees.proofs.Composing.{Leads, fresh_append, behind_append, forward_append, answer_bind, loaded_bind}
 
