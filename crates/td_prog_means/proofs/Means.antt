@@ -8,11 +8,12 @@ use Rattle.td_stream.specs.Layouts.{plain}
 use Rattle.td_stream.specs.Loads.{Exactly}
 use Rattle.td_stream.proofs.Plain.{plain_carries}
 use Rattle.td_ir.specs.WellFormed.{IsCode}
-use Rattle.td_image.specs.Laws.{TablesFit}
+use Rattle.td_image.specs.Laws.{TablesFit, ReadIsWritten}
 use Rattle.td_lower_means.specs.CodeRun.{way_of}
 use Rattle.td_prog.specs.Means.{Out, Gave, Refused, Undefined}
 use Rattle.td_prog_code.specs.Sentence.{held, IsEnd, ProgramRuns}
 use Rattle.td_code_means.specs.Laws.{CodeDoesAsMeant, ImageHasCode}
+use Rattle.td_prog_means.proofs.Numbers.{image_numbers}
 use Rattle.td_prog_means.specs.Laws.{Tells, DoesInC, ImagesDoInC, ImagesRunInC}
 
 -- an end of the code's run that is a meaning's is told
@@ -42,9 +43,11 @@ does_in_c runs means c m code of numbers names entry size most args cells buffer
           );
     }
 
-pub images_do_in_c : DoesInC → ImageHasCode → ImagesDoInC
-images_do_in_c does has text bytes c is image numbers = let h = has text bytes c is image in (h.0, h.1, does c h.0 h.2 h.3 numbers)
+pub images_do_in_c : DoesInC → ImageHasCode → ReadIsWritten → ImagesDoInC
+images_do_in_c does has read text bytes c is image =
+    let h = has text bytes c is image in
+    (h.0, h.1, does c h.0 h.2 h.3 (image_numbers read bytes c image))
 
-pub images_run_in_c : ProgramRuns → TablesFit → ImagesRunInC
-images_run_in_c runs fit bytes c names entry size most args cells buffers loads out image sound numbers =
-    runs c names entry size most args cells buffers loads out (subst IsCode image.2 (fit image.0 image.1.0)) sound numbers
+pub images_run_in_c : ProgramRuns → TablesFit → ReadIsWritten → ImagesRunInC
+images_run_in_c runs fit read bytes c names entry size most args cells buffers loads out image sound =
+    runs c names entry size most args cells buffers loads out (subst IsCode image.2 (fit image.0 image.1.0)) sound (image_numbers read bytes c image)

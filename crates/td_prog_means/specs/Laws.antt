@@ -53,14 +53,14 @@ DoesInC = (c : Parts) (m : Module) → IsCode c → IsCodeFor c m → HasNumbers
 -- So does the program of code that is read of the image of a module's text.
 abbrev pub ImagesDoInC : Type 0
 ImagesDoInC =
-    (text bytes : List ℕ) (c : Parts) → IsImageOf text bytes → IsImage c bytes → HasNumbers c → (m : Module) × IsModuleText text m × TellsWhatIsMeant c m
+    (text bytes : List ℕ) (c : Parts) → IsImageOf text bytes → IsImage c bytes → (m : Module) × IsModuleText text m × TellsWhatIsMeant c m
 
 -- The program of code that is read of any image, and that the verifier accepts, does what the code does.
 abbrev pub ImagesRunInC : Type 0
 ImagesRunInC =
     (bytes : List ℕ) (c : Parts) (names : ℕ → List ℕ) (entry : Entry) (size most : ℕ) (args cells : List ℕ) (buffers : List (List ℕ)) (loads : List Load)
     (out : Out) →
-    IsImage c bytes → IsSound c → HasNumbers c → Fits c entry args cells → size < 2 ^ 32 → size + 1 < most → map length buffers ≡ rooms_of c entry →
+    IsImage c bytes → IsSound c → Fits c entry args cells → size < 2 ^ 32 → size + 1 < most → map length buffers ≡ rooms_of c entry →
     Plays (run most (program c names) (entry_of c entry.number).routine size args (opened_by c entry cells) buffers) loads out →
     Each (λ (l : Load). l.value < 2 ^ 64) loads →
     IsFetchedOnce (plain size) loads (λ b. AreBytes b →

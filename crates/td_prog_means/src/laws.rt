@@ -3,7 +3,7 @@
 ghost use Rattle.td_prog_means.specs.Laws.{DoesInC, ImagesDoInC, ImagesRunInC};
 
 use td_code_means::laws::{code_does_as_meant, image_has_code};
-use td_image::laws::tables_fit;
+use td_image::laws::{tables_fit, what_is_read_can_be_written};
 use td_prog_runs::laws::program_runs;
 
 /// The program of a module's code tells what the module means, whatever memory gives to its loads.
@@ -20,6 +20,7 @@ pub fn images_do_in_c()
 {
     does_in_c();
     image_has_code();
+    what_is_read_can_be_written();
 }
 
 /// The program of code that is read of any image, and that the verifier accepts, does what the code does.
@@ -28,4 +29,5 @@ pub fn images_run_in_c()
 {
     program_runs();
     tables_fit();
+    what_is_read_can_be_written();
 }
