@@ -1,6 +1,5 @@
 -- What is read of the image of a module's text is the module's code.
 use Rattle.std.proofs.Common.{◌≡◌, subst}
-use Rattle.td_ir.specs.declared.tables.Parts.{Parts}
 use Rattle.td_ir.specs.WellFormed.{IsCode}
 use Rattle.td_image.specs.Answer.{IsImage}
 use Rattle.td_image.specs.Laws.{OfOneCode, OneSpelling, TablesFit}

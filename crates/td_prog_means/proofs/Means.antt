@@ -1,7 +1,7 @@
 -- The program of a module's code tells what the module means.
-use Rattle.std.proofs.Common.{◌≡◌, ℕ, ◌<◌, ◌^◌, List, length, map, take, drop, refl, sym, ap, ◌∙◌, subst}
+use Rattle.std.proofs.Common.{◌≡◌, ℕ, ◌<◌, ◌^◌, List, length, map, take, refl, sym, ap, subst}
 use Rattle.td_core.specs.declared.outcome.Verdict.TheVariants.{Accept, Reject}
-use Rattle.td_core.specs.Outcome.{Ending, Accepted, Rejected, outcome_of, copies_by}
+use Rattle.td_core.specs.Outcome.{Ending, Accepted, Rejected, outcome_of}
 use Rattle.td_meaning.specs.Meaning.{meaning}
 use Rattle.td_meaning.specs.Copies.{opened}
 use Rattle.td_stream.specs.Layouts.{plain}
@@ -11,7 +11,7 @@ use Rattle.td_ir.specs.WellFormed.{IsCode}
 use Rattle.td_image.specs.Laws.{TablesFit, ReadIsWritten}
 use Rattle.td_lower_means.specs.CodeRun.{way_of}
 use Rattle.td_prog.specs.Means.{Out, Gave, Refused, Undefined}
-use Rattle.td_prog_code.specs.Sentence.{held, IsEnd, ProgramRuns}
+use Rattle.td_prog_code.specs.Sentence.{IsEnd, ProgramRuns}
 use Rattle.td_code_means.specs.Laws.{CodeDoesAsMeant, ImageHasCode}
 use Rattle.td_prog_means.proofs.Numbers.{image_numbers}
 use Rattle.td_prog_means.specs.Laws.{Tells, DoesInC, ImagesDoInC, ImagesRunInC}

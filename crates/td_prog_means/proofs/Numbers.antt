@@ -1,5 +1,5 @@
 -- Numbers of an image's code are those of the format: constants, divisors and the numbers of sets have 64 bits, rooms of buffers 32.
-use Rattle.std.proofs.Common.{◌≡◌, ℕ, zero, suc, ◌^◌, ◌<◌, List, [], ◌∷◌, Some, None, subst}
+use Rattle.std.proofs.Common.{ℕ, zero, suc, ◌^◌, ◌<◌, List, [], ◌∷◌, Some, None, subst}
 use Rattle.std.specs.Prelude.{slice_index_or}
 use Rattle.td_num.specs.Lists.{Each}
 use Rattle.td_ir.specs.declared.instructions.Instr.{Instr}
@@ -7,7 +7,6 @@ use Rattle.td_ir.specs.declared.instructions.Instr.TheVariants as i
 use Rattle.td_ir.specs.declared.tables.Parts.{Parts}
 use Rattle.td_ir.specs.declared.tables.Routine.{Routine}
 use Rattle.td_ir.specs.Fields.{fields_of}
-use Rattle.td_ir.specs.Tables.{set_of}
 use Rattle.td_image.specs.declared.routines.Room.{Room}
 use Rattle.td_image.specs.declared.version.ImageVersion.TheVariants.{Third}
 use Rattle.td_image.specs.Format.{Format, all_fit}
