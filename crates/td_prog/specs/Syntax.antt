@@ -63,18 +63,18 @@ pub data Expr : Type 0 where
 --   `pos = td_3_T(run, pos, end, r4, r5, c0, .., b0, ..); if (pos == TD_FAILED) return td_frame(run->outcome, "T", "x", start);`, of a routine that stands above
 pub data Block : Type 0 where
   Ends : Block
-  Let : Var → Expr → Block → Block
+  Assign : Var → Expr → Block → Block
   Store : (cell : ℕ) → Expr → Block → Block
   Byte : (buffer : ℕ) → Expr → Expr → Block → Block
   Member : Var → Var → List ℕ → Block → Block
   Load : Block → Block
-  When : Expr → Block → Block → Block
+  If : Expr → Block → Block → Block
   While : Expr → Block → Block → Block
   Label : ℕ → Block → Block
   Goto : ℕ → Block → Block
   Fail : Reason → Expr → NameId → Spot → Block → Block
   Return : Expr → Block → Block
-  Ask : Var → (helper : ℕ) → List Expr → (buffers : List ℕ) → Block → Block
+  CallHelper : Var → (helper : ℕ) → List Expr → (buffers : List ℕ) → Block → Block
   Call : (first params routine : ℕ) → (cells buffers : List ℕ) → NameId → Spot → Block → Block
 
 -- `static inline uint64_t NAME(struct td_run *run, uint64_t pos, .., uint8_t *b0, ..)`: a function that never fails; it calls those before it

@@ -3,7 +3,7 @@
 use Rattle.std.specs.Prelude.{◌≡◌, ℕ, ◌+◌, ◌^◌, ◌<◌, ◌≤◌, List, [], ◌∷◌, ◌++◌, true, Option, Some, None, length, map, slice_get}
 use Rattle.td_num.specs.Lists.{Each, is_among}
 use Rattle.td_ir.specs.WellFormed.{Rises}
-use Rattle.td_prog.specs.Syntax.{Var, Next, Held, Pos, End, Start, Outer, Reg, Word, Low, Number, More, Most, Room, Count, Expr, Num, Get, Cell, Binary, Choice, Swapped, Block, Ends, Let, Store, Byte, Member, Load, When, While, Label, Goto, Fail, Return, Ask, Call, Helper, Function, Program}
+use Rattle.td_prog.specs.Syntax.{Var, Next, Held, Pos, End, Start, Outer, Reg, Word, Low, Number, More, Most, Room, Count, Expr, Num, Get, Cell, Binary, Choice, Swapped, Block, Ends, Assign, Store, Byte, Member, Load, If, While, Label, Goto, Fail, Return, CallHelper, Call, Helper, Function, Program}
 
 -- variables by number, each its own
 abbrev pub number_of : Var → ℕ
@@ -64,18 +64,18 @@ module _ (p : Program) (Has : Var → Type 0) (cells buffers helpers routines : 
 
   abbrev pub IsDeclared : Block → Type 0
   IsDeclared Ends = Unit {0}
-  IsDeclared (Let x e rest) = Has x × IsWritten e × IsDeclared rest
+  IsDeclared (Assign x e rest) = Has x × IsWritten e × IsDeclared rest
   IsDeclared (Store k e rest) = (k < cells) × IsWritten e × IsDeclared rest
   IsDeclared (Byte b e f rest) = (b < buffers) × IsWritten e × IsWritten f × IsDeclared rest
   IsDeclared (Member x y numbers rest) = Has x × Has y × Each (λ n. n < 2 ^ 64) numbers × Rises numbers × IsDeclared rest
   IsDeclared (Load rest) = Has Word × IsDeclared rest
-  IsDeclared (When e inner rest) = IsWritten e × IsDeclared inner × IsDeclared rest
+  IsDeclared (If e inner rest) = IsWritten e × IsDeclared inner × IsDeclared rest
   IsDeclared (While e inner rest) = IsWritten e × IsDeclared inner × IsDeclared rest
   IsDeclared (Label l rest) = IsDeclared rest
   IsDeclared (Goto l rest) = IsDeclared rest
   IsDeclared (Fail reason e ty field rest) = Has Start × IsWritten e × IsDeclared rest
   IsDeclared (Return e rest) = IsWritten e × IsDeclared rest
-  IsDeclared (Ask x helper es bs rest) = Has x × (helper < helpers) × IsAsked (length es) (length bs) (slice_get p.helpers helper) × Each IsWritten es × Each (λ b. b < buffers) bs × IsDeclared rest
+  IsDeclared (CallHelper x helper es bs rest) = Has x × (helper < helpers) × IsAsked (length es) (length bs) (slice_get p.helpers helper) × Each IsWritten es × Each (λ b. b < buffers) bs × IsDeclared rest
   IsDeclared (Call first params routine cs bs ty field rest) =
       ((k : ℕ) → k < params → Has (Reg (first + k))) × Has Pos × Has End × Has Start × (routine < routines) × IsCalled params (length cs) (length bs) (slice_get p.routines routine)
       × Each (λ k. k < cells) cs × Each (λ b. b < buffers) bs × IsDeclared rest
@@ -83,18 +83,18 @@ module _ (p : Program) (Has : Var → Type 0) (cells buffers helpers routines : 
 -- labels, in the order of the text
 abbrev pub labels : Block → List ℕ
 labels Ends = []
-labels (Let x e rest) = labels rest
+labels (Assign x e rest) = labels rest
 labels (Store k e rest) = labels rest
 labels (Byte b e f rest) = labels rest
 labels (Member x y numbers rest) = labels rest
 labels (Load rest) = labels rest
-labels (When e inner rest) = labels inner ++ labels rest
+labels (If e inner rest) = labels inner ++ labels rest
 labels (While e inner rest) = labels inner ++ labels rest
 labels (Label l rest) = l ∷ labels rest
 labels (Goto l rest) = labels rest
 labels (Fail reason e ty field rest) = labels rest
 labels (Return e rest) = labels rest
-labels (Ask x helper es bs rest) = labels rest
+labels (CallHelper x helper es bs rest) = labels rest
 labels (Call first params routine cs bs ty field rest) = labels rest
 
 -- each above those before it, from one on

@@ -14,9 +14,9 @@ use Rattle.std.proofs.Math.Seq.{drop-cons}
 use Rattle.td_num.proofs.Lists.{got}
 use Rattle.td_ir.proofs.Blocks.{run_turns}
 use Rattle.td_prog.specs.Tree.{Tree}
-use Rattle.td_prog.specs.Syntax.{Block, Ends, Let, Outer, While, Label, Ne, Pos, End, Get, Num, Binary}
+use Rattle.td_prog.specs.Syntax.{Block, Ends, Assign, Outer, While, Label, Ne, Pos, End, Get, Num, Binary}
 use Rattle.td_prog.specs.Values.{Locals}
-use Rattle.td_prog.specs.Means.{Out, Onward, Labels, Routines, nowhere, jump, both}
+use Rattle.td_prog.specs.Means.{Out, Continuation, Labels, Routines, nowhere, jump, block_means}
 use Rattle.td_prog.specs.Run.{helpers_below}
 use Rattle.td_prog_code.specs.Prelude.{prelude}
 use Rattle.td_prog_code.specs.Instructions.{statement, skipped, narrowed}
@@ -37,22 +37,22 @@ module _ (memory : ℕ → ℕ) (basis : Basis) (from to : ℕ) (small : to < 2 
   abbrev exit : (State → Exit) → ℕ → State → Exit
   exit f pc s = at memory basis from to small c message places own n fuel routines f pc s
 
-  abbrev Right : Onward → (State → Exit) → Type 0
+  abbrev Right : Continuation → (State → Exit) → Type 0
   Right go f = IsOnward memory basis from to go f
 
   abbrev IsHere : ℕ → Instr → Type 0
   IsHere pc j = IsAt memory basis from to small c message places own n fuel routines pc j
 
-  abbrev meaning : Block → Onward → Onward × Labels
-  meaning b go = both fuel (helpers_below fuel prelude 9) routines places own b go []
+  abbrev meaning : Block → Continuation → Continuation × Labels
+  meaning b go = block_means fuel (helpers_below fuel prelude 9) routines places own b go []
 
   -- a block does what the code from a place on does, and so do its labels
   pub record Does (b : Block) (q : ℕ) : Type 0 where
-    pub runs : (go : Onward) (f : State → Exit) → Right go f → Right (meaning b go).0 (exit f q)
-    pub labels : (go : Onward) (f : State → Exit) → Right go f → (l : ℕ) → HasLabel l b → Right (jump l (meaning b go).1) (exit f l)
+    pub runs : (go : Continuation) (f : State → Exit) → Right go f → Right (meaning b go).0 (exit f q)
+    pub labels : (go : Continuation) (f : State → Exit) → Right go f → (l : ℕ) → HasLabel l b → Right (jump l (meaning b go).1) (exit f l)
 
   -- a label is found
-  here_or : (l m : ℕ) (x y : Onward) (f : State → Exit) → (l ≡ m → Right x f) → ((l ≡ m → ⊥) → Right y f) → Right (λ s. cond (nat_eq l m) (x s) (y s)) f
+  here_or : (l m : ℕ) (x y : Continuation) (f : State → Exit) → (l ≡ m → Right x f) → ((l ≡ m → ⊥) → Right y f) → Right (λ s. cond (nat_eq l m) (x s) (y s)) f
   here_or l m x y f h k s g = by (nat_eq l m) refl
     where
       by : (b : Bool) → nat_eq l m ≡ b → Agrees memory basis from to s.next (cond (nat_eq l m) (x s) (y s)) (f (state_of s))
@@ -62,8 +62,8 @@ module _ (memory : ℕ → ℕ) (basis : Basis) (from to : ℕ) (small : to < 2 
           (k (λ q. let t = equal_itself m in let u : nat_eq l m ≡ true = ap (λ z. nat_eq z m) q ∙ t in cc) s g)
 
   -- a labelled block, of which the labels behind are those of another
-  labelled : (pc : ℕ) (b rest : Block) (q : ℕ) → Does rest q → ((go : Onward) → (meaning b go).1 ≡ (meaning rest go).1) → ((l : ℕ) → HasLabel l b → HasLabel l rest)
-      → ((go : Onward) (f : State → Exit) → Right go f → Right (meaning b go).0 (exit f pc)) → Does (Label pc b) pc
+  labelled : (pc : ℕ) (b rest : Block) (q : ℕ) → Does rest q → ((go : Continuation) → (meaning b go).1 ≡ (meaning rest go).1) → ((l : ℕ) → HasLabel l b → HasLabel l rest)
+      → ((go : Continuation) (f : State → Exit) → Right go f → Right (meaning b go).0 (exit f pc)) → Does (Label pc b) pc
   labelled pc b rest q d same has runs = record {
     runs = runs;
     labels = λ go f h l there.
@@ -85,7 +85,7 @@ module _ (memory : ℕ → ℕ) (basis : Basis) (from to : ℕ) (small : to < 2 
     labels = λ go f h l there. here_or l pc go (jump l []) (exit f l) (λ e. subst (λ k. Right go (exit f k)) (sym e) (runs go f h)) (λ apart. elim there [ inl e ↦ absurd (apart e) | inr k ↦ absurd k ]);
   }
     where
-      runs : (go : Onward) (f : State → Exit) → Right go f → Right go (exit f pc)
+      runs : (go : Continuation) (f : State → Exit) → Right go f → Right go (exit f pc)
       runs go f h s g =
           let r = run_turns c message places n pc (state_of s) (state_of s) [] 1 (record { instruction = i.Again target; there = a.there; within = a.within; is = refl }) in
           subst (λ y. Agrees memory basis from to s.next (go s) (again f y)) (sym r) (h s g)
@@ -102,15 +102,15 @@ module _ (memory : ℕ → ℕ) (basis : Basis) (from to : ℕ) (small : to < 2 
       )
 
   done : (pc : ℕ) (j : Instr) (rest : Block) → Does rest (pc + 1)
-      → ((go : Onward) → (meaning (statement c n j rest) go).1 ≡ (meaning rest go).1) → ((l : ℕ) → HasLabel l (statement c n j rest) → HasLabel l rest)
-      → ((go : Onward) (f : State → Exit) → Right go f → Right (meaning (statement c n j rest) go).0 (exit f pc)) → Does (Label pc (statement c n j rest)) pc
+      → ((go : Continuation) → (meaning (statement c n j rest) go).1 ≡ (meaning rest go).1) → ((l : ℕ) → HasLabel l (statement c n j rest) → HasLabel l rest)
+      → ((go : Continuation) (f : State → Exit) → Right go f → Right (meaning (statement c n j rest) go).0 (exit f pc)) → Does (Label pc (statement c n j rest)) pc
   done pc j rest d same has runs = labelled pc (statement c n j rest) rest (pc + 1) d same has runs
 
-  jumps : (pc target : ℕ) (rest : Block) (q : ℕ) → Does rest q → HasLabel target rest → (go : Onward) (f : State → Exit) → Right go f → Right (jump target (meaning rest go).1) (exit f target)
+  jumps : (pc target : ℕ) (rest : Block) (q : ℕ) → Does rest q → HasLabel target rest → (go : Continuation) (f : State → Exit) → Right go f → Right (jump target (meaning rest go).1) (exit f target)
   jumps pc target rest q d has go f h = d.labels go f h target has
 
   -- labels behind a skip or a window of no bytes
-  same_labels : (b : Bool) (x y rest : Block) (go : Onward) → (meaning x go).1 ≡ (meaning rest go).1 → (meaning y go).1 ≡ (meaning rest go).1 → (meaning (cond b x y) go).1 ≡ (meaning rest go).1
+  same_labels : (b : Bool) (x y rest : Block) (go : Continuation) → (meaning x go).1 ≡ (meaning rest go).1 → (meaning y go).1 ≡ (meaning rest go).1 → (meaning (cond b x y) go).1 ≡ (meaning rest go).1
   same_labels true x y rest go e f = e
   same_labels false x y rest go e f = f
 
@@ -154,7 +154,7 @@ module _ (memory : ℕ → ℕ) (basis : Basis) (from to : ℕ) (small : to < 2 
   instruction_done pc (i.Zeroterm bound width site) qs [] a l d = tt
   instruction_done pc (i.Zeroterm bound width site) qs (rest ∷ more) a l d = (done pc (i.Zeroterm bound width site) rest d.0 (λ go. refl) (λ k h. h) (λ go f h. case_zeroterm memory basis from to small c message places own n fuel routines is short inside f pc rest go [] l.0 (d.0.runs go f h) enough bound width site a l.1), d.1)
   instruction_done pc (i.NarrowK bytes site) qs [] a l d = tt
-  instruction_done pc (i.NarrowK bytes site) qs (rest ∷ more) a l d = (done pc (i.NarrowK bytes site) rest d.0 (λ go. same_labels (nat_eq bytes 0) (Let Outer (Get End) (Let End (Get Pos) rest)) (narrowed c n (Num bytes) site rest) rest go refl refl) (λ k h. same_has (nat_eq bytes 0) (Let Outer (Get End) (Let End (Get Pos) rest)) (narrowed c n (Num bytes) site rest) rest k (λ x. x) (λ x. x) h) (λ go f h. plain.case_narrow_k memory basis from to small c message places own n fuel routines f pc rest go [] l (d.0.runs go f h) bytes site a), d.1)
+  instruction_done pc (i.NarrowK bytes site) qs (rest ∷ more) a l d = (done pc (i.NarrowK bytes site) rest d.0 (λ go. same_labels (nat_eq bytes 0) (Assign Outer (Get End) (Assign End (Get Pos) rest)) (narrowed c n (Num bytes) site rest) rest go refl refl) (λ k h. same_has (nat_eq bytes 0) (Assign Outer (Get End) (Assign End (Get Pos) rest)) (narrowed c n (Num bytes) site rest) rest k (λ x. x) (λ x. x) h) (λ go f h. plain.case_narrow_k memory basis from to small c message places own n fuel routines f pc rest go [] l (d.0.runs go f h) bytes site a), d.1)
   instruction_done pc (i.Narrow size site) qs [] a l d = tt
   instruction_done pc (i.Narrow size site) qs (rest ∷ more) a l d = (done pc (i.Narrow size site) rest d.0 (λ go. refl) (λ k h. h) (λ go f h. plain.case_narrow memory basis from to small c message places own n fuel routines f pc rest go [] l (d.0.runs go f h) size site a), d.1)
   instruction_done pc (i.Divides size step site) qs [] a l d = tt
@@ -227,11 +227,11 @@ module _ (memory : ℕ → ℕ) (basis : Basis) (from to : ℕ) (small : to < 2 
   -- the routine's body, run as a function's
   pub body_right : end_of c n ≤ length c.instructions → first_of c n ≤ end_of c n → AreLaid c message places n (first_of c n) (code_from (first_of c n)) → 0 < length (blocks c n (first_of c n) (code_from (first_of c n)))
       → (s : Locals) → IsGood memory basis from to (record s { start = s.pos; outer = s.end })
-      → Agrees memory basis from to s.next ((both fuel (helpers_below fuel prelude 9) routines places own (body c n) nowhere []).0 s) (block c message n places (first_of c n) (state_of (record s { start = s.pos; outer = s.end })))
+      → Agrees memory basis from to s.next ((block_means fuel (helpers_below fuel prelude 9) routines places own (body c n) nowhere []).0 s) (block c message n places (first_of c n) (state_of (record s { start = s.pos; outer = s.end })))
   body_right l m h some s g =
       let p = first_of c n in
       let ds = blocks_done (end_of c n - p) p (omega (arith, m)) l h in
       let d = first_done p (tail_of (begins p (code_from p))) (blocks c n p (code_from p)) (subst (λ z. AreDone z (blocks c n p (code_from p))) (begins_there p (code_from p)) ds) some in
       let u : Locals = record s { start = s.pos; outer = s.end } in
       let e = block c message n places p (state_of u) in
-      unagain s.next ((both fuel (helpers_below fuel prelude 9) routines places own (body c n) nowhere []).0 s) e.touched e.steps e.way (d.runs nowhere (λ t. at_once Stuck) (λ t u. tt) u g)
+      unagain s.next ((block_means fuel (helpers_below fuel prelude 9) routines places own (body c n) nowhere []).0 s) e.touched e.steps e.way (d.runs nowhere (λ t. at_once Stuck) (λ t u. tt) u g)

@@ -22,7 +22,7 @@ use Rattle.std.proofs.Math.ListN.{get_or-append}
 use Rattle.td_prog.specs.Tree.{Tree, Done, bind, answer, loaded}
 use Rattle.td_prog.specs.Syntax.{Block}
 use Rattle.td_prog.specs.Values.{Locals}
-use Rattle.td_prog.specs.Means.{Out, Gave, Refused, Undefined, Onward, Labels, Routines, back, both}
+use Rattle.td_prog.specs.Means.{Out, Gave, Refused, Undefined, Continuation, Labels, Routines, after_routine, block_means}
 use Rattle.td_prog.specs.Run.{helpers_below}
 use Rattle.td_prog_code.specs.Prelude.{prelude}
 use Rattle.td_prog_code.specs.Instructions.{statement, spot}
@@ -65,10 +65,10 @@ module _ (memory : ℕ → ℕ) (basis : Basis) (from to : ℕ) (small : to < 2 
   abbrev exit : (State → Exit) → ℕ → State → Exit
   exit f pc s = at memory basis from to small c message places own n fuel routines f pc s
 
-  abbrev Right : Onward → (State → Exit) → Type 0
+  abbrev Right : Continuation → (State → Exit) → Type 0
   Right go f = IsOnward memory basis from to go f
 
-  module _ (s : Locals) (g : IsGood memory basis from to s) (k : ℕ) (f : State → Exit) (go : Onward) (next : State → Exit) (ih : Right go (λ t. again f (next t))) (x : Tree Out) where
+  module _ (s : Locals) (g : IsGood memory basis from to s) (k : ℕ) (f : State → Exit) (go : Continuation) (next : State → Exit) (ih : Right go (λ t. again f (next t))) (x : Tree Out) where
     abbrev ty : NameId
     ty = (site_of c k).ty
 
@@ -76,7 +76,7 @@ module _ (memory : ℕ → ℕ) (basis : Basis) (from to : ℕ) (small : to < 2 
     field = spot c k
 
     abbrev there : Tree Out
-    there = bind x (back ty field s go)
+    there = bind x (after_routine ty field s go)
 
     returned : (o : Out) (pos : ℕ) (cells touched : List ℕ) (steps : ℕ) → answer memory x ≡ o → IsReturn memory basis s.pos s.end (behind s.next touched) pos cells o → loaded memory x ≡ fresh s.next touched → IsForward s.end s.next touched
         → Agrees memory basis from to s.next there (again f (after touched steps (next (record (state_of s) { cells = cells; pos = pos }))))
@@ -102,8 +102,8 @@ module _ (memory : ℕ → ℕ) (basis : Basis) (from to : ℕ) (small : to < 2 
         again_after memory basis from to f s.next there touched steps (next (record (state_of s) { cells = cells; pos = pos }))
         (agrees_after memory basis from to s.next t.next there (go u) touched steps (again f (next (record (state_of s) { cells = cells; pos = pos })))
         (record {
-          same = answer_bind memory x (back ty field s go) ∙ ap (λ o. answer memory (back ty field s go o)) e ∙ ap (λ b. answer memory (on b)) no;
-          words = loaded_bind memory x (back ty field s go) ∙ ap (λ ws. ws ++ loaded memory (back ty field s go (answer memory x))) l ∙ ap (λ o. fresh s.next touched ++ loaded memory (back ty field s go o)) e ∙ ap (λ b. fresh s.next touched ++ loaded memory (on b)) no;
+          same = answer_bind memory x (after_routine ty field s go) ∙ ap (λ o. answer memory (after_routine ty field s go o)) e ∙ ap (λ b. answer memory (on b)) no;
+          words = loaded_bind memory x (after_routine ty field s go) ∙ ap (λ ws. ws ++ loaded memory (after_routine ty field s go (answer memory x))) l ∙ ap (λ o. fresh s.next touched ++ loaded memory (after_routine ty field s go o)) e ∙ ap (λ b. fresh s.next touched ++ loaded memory (on b)) no;
           behind_them = sym r.then;
           forward = forward_up s.end to s.next touched (omega (arith, g.window, g.short)) forward;
         })
@@ -115,10 +115,10 @@ module _ (memory : ℕ → ℕ) (basis : Basis) (from to : ℕ) (small : to < 2 
         → Agrees memory basis from to s.next there (record { way = Failed reason pos (trace ++ frame c k (state_of s) reason ∷ []) cells; touched = touched; steps = steps })
     failed (Gave v t) reason pos trace cells touched steps e r l forward = absurd r
     failed (Refused reason' at trace' t) reason pos trace cells touched steps e r l forward =
-        let same = answer_bind memory x (back ty field s go) ∙ ap (λ o. answer memory (back ty field s go o)) e in (
+        let same = answer_bind memory x (after_routine ty field s go) ∙ ap (λ o. answer memory (after_routine ty field s go o)) e in (
           subst (λ o. IsFailure reason pos (trace ++ frame c k (state_of s) reason ∷ []) cells o) (sym same)
               (r.0, r.1, ap (λ p. take 32 (trace' ++ frame_at (record { ty = ty; field = field; start = p }) reason' ∷ [])) (cut_is s.start (start_small memory basis from to s small g)) ∙ (λ i. take 32 (r.2 i ++ frame c k (state_of s) (r.0 i) ∷ [])) ∙ take_again 32 trace (frame c k (state_of s) reason ∷ []), r.3),
-          loaded_bind memory x (back ty field s go) ∙ ap (λ o. loaded memory x ++ loaded memory (back ty field s go o)) e ∙ append-nil (loaded memory x) ∙ l,
+          loaded_bind memory x (after_routine ty field s go) ∙ ap (λ o. loaded memory x ++ loaded memory (after_routine ty field s go o)) e ∙ append-nil (loaded memory x) ∙ l,
           forward_up s.end to s.next touched (omega (arith, g.window, g.short)) forward,
         )
     failed Undefined reason pos trace cells touched steps e r l forward = absurd r
@@ -179,9 +179,9 @@ module _ (memory : ℕ → ℕ) (basis : Basis) (from to : ℕ) (small : to < 2 
             ∙ ap (λ x. basis.first + 2 * x + 1) (sym (own_there m k b h l));
       }
 
-  pub case_call : AreRoutines → OwnFits c basis n places own → (f : State → Exit) (pc : ℕ) (rest : Block) (go : Onward) (around : Labels) (l : pc + 1 < end_of c n) (ih : Right (both fuel (helpers_below fuel prelude 9) routines places own rest go around).0 (exit f (pc + 1)))
+  pub case_call : AreRoutines → OwnFits c basis n places own → (f : State → Exit) (pc : ℕ) (rest : Block) (go : Continuation) (around : Labels) (l : pc + 1 < end_of c n) (ih : Right (block_means fuel (helpers_below fuel prelude 9) routines places own rest go around).0 (exit f (pc + 1)))
       → (first_reg m k site : ℕ) → IsAt memory basis from to small c message places own n fuel routines pc (i.Call first_reg m k site) → m < n → IsCellMap c n m k
-      → Right (both fuel (helpers_below fuel prelude 9) routines places own (statement c n (i.Call first_reg m k site) rest) go around).0 (exit f pc)
+      → Right (block_means fuel (helpers_below fuel prelude 9) routines places own (statement c n (i.Call first_reg m k site) rest) go around).0 (exit f pc)
   case_call fs fit f pc rest go around l ih first_reg m k site a lower cell_map s g =
       let r = run_calls c message places n pc first_reg m k site (state_of s) (state_of s) [] 1 (record { instruction = i.Call first_reg m k site; there = a.there; within = a.within; is = refl }) l lower in
       let args = registers_from s.regs first_reg (routine_of c m).params in
@@ -189,7 +189,7 @@ module _ (memory : ℕ → ℕ) (basis : Basis) (from to : ℕ) (small : to < 2 
       let x = routines m args theirs (map (slice_index own) (drop (routine_of c m).cells (map_of c k))) s in
       let e = block c message m theirs (first_of c m) (entered (routine_of c m) args (state_of s)) in
       let next = block c message n places (pc + 1) in
-      let there = bind x (back (site_of c site).ty (spot c site) s (both fuel (helpers_below fuel prelude 9) routines places own rest go around).0) in
+      let there = bind x (after_routine (site_of c site).ty (spot c site) s (block_means fuel (helpers_below fuel prelude 9) routines places own rest go around).0) in
       subst (λ y. Agrees memory basis from to s.next there (again f y)) (sym r)
       (again_after memory basis from to f s.next there [] 1 (ir.back c site (state_of s) next e)
-      (backed s g site f (both fuel (helpers_below fuel prelude 9) routines places own rest go around).0 next ih x e.touched e.steps e.way (fs m lower args theirs (map (slice_index own) (drop (routine_of c m).cells (map_of c k))) s (theirs_fit fit m k cell_map) g (args_small s.regs g.regs (routine_of c m).params first_reg))))
+      (backed s g site f (block_means fuel (helpers_below fuel prelude 9) routines places own rest go around).0 next ih x e.touched e.steps e.way (fs m lower args theirs (map (slice_index own) (drop (routine_of c m).cells (map_of c k))) s (theirs_fit fit m k cell_map) g (args_small s.regs g.regs (routine_of c m).params first_reg))))

@@ -7,9 +7,9 @@ use Rattle.td_num.specs.Numbers.{places_from}
 use Rattle.td_num.proofs.Truths.{eq_is}
 use Rattle.td_ir.specs.Values.{bit}
 use Rattle.td_prog.specs.Tree.{Tree, Done, bind}
-use Rattle.td_prog.specs.Syntax.{Pos, Low, Number, More, Room, Count, Sub, Shr, Lt, Num, Get, Binary, Block, Ends, Let, Byte, When, Return}
+use Rattle.td_prog.specs.Syntax.{Pos, Low, Number, More, Room, Count, Sub, Shr, Lt, Num, Get, Binary, Block, Ends, Assign, Byte, If, Return}
 use Rattle.td_prog.specs.Values.{Locals, value, and_then, applied, with_byte}
-use Rattle.td_prog.specs.Means.{Out, Gave, Onward, Helpers, nowhere, given, told, turns, both}
+use Rattle.td_prog.specs.Means.{Out, Gave, Continuation, Helpers, nowhere, given, after_helper, turns, block_means}
 use Rattle.td_prog.specs.Run.{declared, no_routine, helpers_below}
 use Rattle.td_prog_code.specs.Prelude.{plus, bytes_from, copy_turn, prelude}
 use Rattle.td_prog_runs.specs.Agree.{Basis}
@@ -107,9 +107,9 @@ module _ (message : List ℕ) (x base : ℕ) (old : List (List ℕ)) where
   old_more : (bs : List (List ℕ)) (k v : ℕ) → (p : Puts bs x k v) → AreOld bs → AreOld p.now
   old_more bs k v p o b e = p.others b e ∙ o b e
 
-module _ (memory : ℕ → ℕ) (basis : Basis) (from to : ℕ) (fuel x : ℕ) (helpers : Helpers) (is_word : (w : ℕ) (s : Locals) → helpers 0 (w ∷ []) [] s ≡ word_tree memory basis from to fuel w s) (base : ℕ) (old : List (List ℕ)) (go : Onward) where
-  abbrev means : Block → Onward
-  means b = (both fuel helpers no_routine [] (x ∷ []) b go []).0
+module _ (memory : ℕ → ℕ) (basis : Basis) (from to : ℕ) (fuel x : ℕ) (helpers : Helpers) (is_word : (w : ℕ) (s : Locals) → helpers 0 (w ∷ []) [] s ≡ word_tree memory basis from to fuel w s) (base : ℕ) (old : List (List ℕ)) (go : Continuation) where
+  abbrev means : Block → Continuation
+  means b = (block_means fuel helpers no_routine [] (x ∷ []) b go []).0
 
   abbrev Leading : (next next' : ℕ) → Tree Out → Tree Out → List ℕ → Type 0
   Leading next next' y z touched = Leads memory basis from to next next' y z touched
@@ -159,10 +159,10 @@ module _ (memory : ℕ → ℕ) (basis : Basis) (from to : ℕ) (small : to < 2 
   abbrev Lead : (next next' : ℕ) → Tree Out → Tree Out → List ℕ → Type 0
   Lead next next' y z touched = Leads memory basis from to next next' y z touched
 
-  abbrev looping : ℕ → Onward
+  abbrev looping : ℕ → Continuation
   looping m =
-      turns m (value [] (Binary Lt (Get Count) (Get Room))) (λ again. (both fuel helpers no_routine [] (x ∷ []) copy_turn again []).0)
-      (both fuel helpers no_routine [] (x ∷ []) (Return (Get Count) Ends) nowhere []).0
+      turns m (value [] (Binary Lt (Get Count) (Get Room))) (λ again. (block_means fuel helpers no_routine [] (x ∷ []) copy_turn again []).0)
+      (block_means fuel helpers no_routine [] (x ∷ []) (Return (Get Count) Ends) nowhere []).0
 
   record Ready (u : Locals) (j : ℕ) : Type 0 where
     sum : u.count + j ≡ u.room
@@ -212,7 +212,7 @@ module _ (memory : ℕ → ℕ) (basis : Basis) (from to : ℕ) (small : to < 2 
       record {
         final = u;
         leads = same_tree memory basis from to u.next (looping (suc m) u) (Done (Gave u.room u))
-            (ap (λ b. cond (nat_eq (bit b) 0) (Done (Gave u.count u)) ((both fuel helpers no_routine [] (x ∷ []) copy_turn (looping m) []).0 u)) no ∙ ap (λ n. Done (Gave n u)) same);
+            (ap (λ b. cond (nat_eq (bit b) 0) (Done (Gave u.count u)) ((block_means fuel helpers no_routine [] (x ∷ []) copy_turn (looping m) []).0 u)) no ∙ ap (λ n. Done (Gave n u)) same);
         cells = refl;
         kept = r.kept;
         ahead = (let a = r.ahead in omega (arith, a));
@@ -232,26 +232,26 @@ module _ (memory : ℕ → ℕ) (basis : Basis) (from to : ℕ) (small : to < 2 
     vars mo = record u { low = lo; number = memory k; more = mo; next = k + 1; held = memory k }
 
     abbrev last_block : Block
-    last_block = When (Binary Lt (Get More) (Num 8)) (Byte 0 (Get Count) (Binary Shr (Get Number) (Get Low)) (Let Pos (plus (Get Pos) 1) (Let Count (plus (Get Count) 1) Ends))) Ends
+    last_block = If (Binary Lt (Get More) (Num 8)) (Byte 0 (Get Count) (Binary Shr (Get Number) (Get Low)) (Assign Pos (plus (Get Pos) 1) (Assign Count (plus (Get Count) 1) Ends))) Ends
 
     abbrev eight_block : Block
-    eight_block = When (Binary Lt (Num 7) (Get More)) (bytes_from 0 8 (Let Pos (plus (Get Pos) 8) (Let Count (plus (Get Count) 8) Ends))) last_block
+    eight_block = If (Binary Lt (Num 7) (Get More)) (bytes_from 0 8 (Assign Pos (plus (Get Pos) 8) (Assign Count (plus (Get Count) 8) Ends))) last_block
 
     abbrev low_block : Block
-    low_block = When (Get Low) (Let More (Num 0) Ends) eight_block
+    low_block = If (Get Low) (Assign More (Num 0) Ends) eight_block
 
-    abbrev doing : Block → Onward
-    doing b = (both fuel helpers no_routine [] (x ∷ []) b (looping m) []).0
+    abbrev doing : Block → Continuation
+    doing b = (block_means fuel helpers no_routine [] (x ∷ []) b (looping m) []).0
 
     -- the word is held
     word_there : (a : ℕ) → 0 < a → u.pos % 8 + a ≤ 8 → a ≤ suc j → Lead u.next (k + 1) (doing copy_turn u) (doing low_block (vars (suc j))) (places_from u.pos a)
     word_there a some l few =
         let first : Locals = record u { low = lo } in
-        let rest = doing (Let More (Binary Sub (Get Room) (Get Count)) low_block) in
+        let rest = doing (Assign More (Binary Sub (Get Room) (Get Count)) low_block) in
         let left : (u.room + (2 ^ 64 - u.count)) % 2 ^ 64 ≡ suc j = (let s = r.sum in let f = r.few in omega (arith, s, f)) in
-        pre memory basis from to u.next (k + 1) (doing copy_turn u) (bind (word_tree memory basis from to fuel k first) (told Number first rest)) (doing low_block (vars (suc j))) (places_from u.pos a)
-        (ap (λ t. bind t (told Number first rest)) (is_word k first))
-        (post memory basis from to u.next (k + 1) (bind (word_tree memory basis from to fuel k first) (told Number first rest)) (rest (record u { low = lo; number = memory k; next = k + 1; held = memory k })) (doing low_block (vars (suc j))) (places_from u.pos a)
+        pre memory basis from to u.next (k + 1) (doing copy_turn u) (bind (word_tree memory basis from to fuel k first) (after_helper Number first rest)) (doing low_block (vars (suc j))) (places_from u.pos a)
+        (ap (λ t. bind t (after_helper Number first rest)) (is_word k first))
+        (post memory basis from to u.next (k + 1) (bind (word_tree memory basis from to fuel k first) (after_helper Number first rest)) (rest (record u { low = lo; number = memory k; next = k + 1; held = memory k })) (doing low_block (vars (suc j))) (places_from u.pos a)
         (asked memory basis from to u.next (k + 1) (word_tree memory basis from to fuel k first) (memory k) (held_word memory basis from to fuel k first) first Number rest (places_from u.pos a)
         (word_gives memory basis from to fuel first u.pos a k refl (let h = r.ahead in omega (arith, h)) r.held some l (let w = r.within in omega (arith, w, few))))
         (ap (λ n. doing low_block (vars n)) left))
@@ -277,10 +277,10 @@ module _ (memory : ℕ → ℕ) (basis : Basis) (from to : ℕ) (small : to < 2 
         let small_count : (u.count + 1) % 2 ^ 64 ≡ u.count + 1 = mod-eq_of_lt (let s = r.sum in let f = r.few in let z : u.count + 1 < 2 ^ 64 = omega (arith, s, f) in z) in
         let bits : nat_le 64 (8 * (u.pos % 8)) ≡ false = lt-leb 64 (8 * (u.pos % 8)) (omega arith) in
         let shifted : applied Shr (memory k) lo ≡ Some v = ap (applied Shr (memory k)) (low_is u.pos) ∙ ap (λ b. cond b None (Some v)) bits in
-        let next : Block = Let Pos (plus (Get Pos) 1) (Let Count (plus (Get Count) 1) Ends) in
+        let next : Block = Assign Pos (plus (Get Pos) 1) (Assign Count (plus (Get Count) 1) Ends) in
         let steps : doing low_block (vars (suc j)) ≡ on (u.pos + 1) (u.count + 1) =
         e
-        ∙ ap (λ b. cond (nat_eq (bit b) 0) (doing last_block (vars mo)) ((both fuel helpers no_routine [] (x ∷ []) (bytes_from 0 8 (Let Pos (plus (Get Pos) 8) (Let Count (plus (Get Count) 8) Ends))) (doing last_block) []).0 (vars mo))) not7
+        ∙ ap (λ b. cond (nat_eq (bit b) 0) (doing last_block (vars mo)) ((block_means fuel helpers no_routine [] (x ∷ []) (bytes_from 0 8 (Assign Pos (plus (Get Pos) 8) (Assign Count (plus (Get Count) 8) Ends))) (doing last_block) []).0 (vars mo))) not7
         ∙ ap (λ b. cond (nat_eq (bit b) 0) (looping m (vars mo)) (doing (Byte 0 (Get Count) (Binary Shr (Get Number) (Get Low)) next) (vars mo))) is8
         ∙ ap (λ o. given o (λ n. given (with_byte u.buffers x u.count n) (λ bytes. doing next (record (vars mo) { buffers = bytes })))) shifted
         ∙ ap (λ o. given o (λ bytes. doing next (record (vars mo) { buffers = bytes }))) p.is
@@ -297,7 +297,7 @@ module _ (memory : ℕ → ℕ) (basis : Basis) (from to : ℕ) (small : to < 2 
     eight_bytes : u.pos % 8 ≡ 0 → 8 ≤ suc j → doing low_block (vars (suc j)) ≡ doing eight_block (vars (suc j))
         → ((bs : List (List ℕ)) → map length bs ≡ basis.lengths → IsDone basis.message x base old bs (u.count + 8) → AreOld basis.message x base old bs → Copied (looping m (record (vars (suc j)) { buffers = bs; pos = u.pos + 8; count = u.count + 8 })) (record (vars (suc j)) { buffers = bs; pos = u.pos + 8; count = u.count + 8 }) (suc j - 8)) → Copied (doing copy_turn u) u (suc j)
     eight_bytes whole many e rec =
-        let next : Block = Let Pos (plus (Get Pos) 8) (Let Count (plus (Get Count) 8) Ends) in
+        let next : Block = Assign Pos (plus (Get Pos) 8) (Assign Count (plus (Get Count) 8) Ends) in
         let is7 : nat_lt 7 (suc j) ≡ true = lt-ltb 7 (suc j) (omega (arith, many)) in
         let not8 : nat_lt (suc j) 8 ≡ false = le-ltb (suc j) 8 many in
         let w = bytes_written memory basis from to fuel x helpers is_word base old (doing last_block) 8 0 (vars (suc j)) next r.kept
@@ -309,10 +309,10 @@ module _ (memory : ℕ → ℕ) (basis : Basis) (from to : ℕ) (small : to < 2 
         let small_count : (u.count + 8) % 2 ^ 64 ≡ u.count + 8 = mod-eq_of_lt (let s = r.sum in let f = r.few in let z : u.count + 8 < 2 ^ 64 = omega (arith, s, f) in z) in
         let steps : doing low_block (vars (suc j)) ≡ on (u.pos + 8) (u.count + 8) =
         e
-        ∙ ap (λ b. cond (nat_eq (bit b) 0) (doing last_block (vars (suc j))) ((both fuel helpers no_routine [] (x ∷ []) (bytes_from 0 8 next) (doing last_block) []).0 (vars (suc j)))) is7
+        ∙ ap (λ b. cond (nat_eq (bit b) 0) (doing last_block (vars (suc j))) ((block_means fuel helpers no_routine [] (x ∷ []) (bytes_from 0 8 next) (doing last_block) []).0 (vars (suc j)))) is7
         ∙ w.is
         ∙ (λ i. after_it (small_pos i) (small_count i))
-        ∙ ap (λ b. cond (nat_eq (bit b) 0) (on (u.pos + 8) (u.count + 8)) (doing (Byte 0 (Get Count) (Binary Shr (Get Number) (Get Low)) (Let Pos (plus (Get Pos) 1) (Let Count (plus (Get Count) 1) Ends))) (record (vars (suc j)) { buffers = w.buffers; pos = u.pos + 8; count = u.count + 8 }))) not8 in
+        ∙ ap (λ b. cond (nat_eq (bit b) 0) (on (u.pos + 8) (u.count + 8)) (doing (Byte 0 (Get Count) (Binary Shr (Get Number) (Get Low)) (Assign Pos (plus (Get Pos) 1) (Assign Count (plus (Get Count) 1) Ends))) (record (vars (suc j)) { buffers = w.buffers; pos = u.pos + 8; count = u.count + 8 }))) not8 in
         let more : 8 + (suc j - 8) ≡ suc j = omega (arith, many) in
         subst (λ n. Copied (doing copy_turn u) u n) more
         (joined (doing copy_turn u) u m 8 (suc j - 8) w.buffers (memory k) (suc j) lo k
@@ -365,19 +365,19 @@ module _ (memory : ℕ → ℕ) (basis : Basis) (from to : ℕ) (small : to < 2 
   all_copied (suc m) u (suc j) l r =
       let yes : nat_lt u.count u.room ≡ true = lt-ltb u.count u.room (let s = r.sum in omega (arith, s)) in
       let c = one_turn m u j r (λ v i h q. all_copied m v i (omega (arith, l, h)) q) in
-      subst (λ t. Copied t u (suc j)) (sym (ap (λ b. cond (nat_eq (bit b) 0) (Done (Gave u.count u)) ((both fuel helpers no_routine [] (x ∷ []) copy_turn (looping m) []).0 u)) yes)) c
+      subst (λ t. Copied t u (suc j)) (sym (ap (λ b. cond (nat_eq (bit b) 0) (Done (Gave u.count u)) ((block_means fuel helpers no_routine [] (x ∷ []) copy_turn (looping m) []).0 u)) yes)) c
 
 module _ (memory : ℕ → ℕ) (basis : Basis) (from to : ℕ) (small : to < 2 ^ 32) (c : Parts) (message places own : List ℕ) (n fuel : ℕ) (routines : Routines) (is : IsMemory memory message) (short : length message < 2 ^ 32) (inside : to ≤ length message) where
   abbrev exit : (State → Exit) → ℕ → State → Exit
   exit f pc s = at memory basis from to small c message places own n fuel routines f pc s
 
-  abbrev begin : Block → Onward → Labels → Onward
+  abbrev begin : Block → Continuation → Labels → Continuation
   begin b go around = first memory basis from to small c message places own n fuel routines b go around
 
   abbrev IsHere : ℕ → Instr → Type 0
   IsHere pc j = IsAt memory basis from to small c message places own n fuel routines pc j
 
-  abbrev Right : Onward → (State → Exit) → Type 0
+  abbrev Right : Continuation → (State → Exit) → Type 0
   Right go f = IsOnward memory basis from to go f
 
   kept_copied : (cells : List ℕ) (buffers bs : List (List ℕ)) (x pos k p q : ℕ) → IsKept basis cells buffers → p ≡ basis.first + 2 * x → q ≡ basis.first + 2 * x + 1 → x < length basis.lengths → map length bs ≡ basis.lengths
@@ -435,7 +435,7 @@ module _ (memory : ℕ → ℕ) (basis : Basis) (from to : ℕ) (small : to < 2 
     | inr h ↦ (let e : min v r ≡ r = min-eq_right h in (omega (arith, e, h), omega (arith, e)))
   ]
 
-  module _ (f : State → Exit) (pc : ℕ) (rest : Block) (go : Onward) (around : Labels) (l : pc + 1 < end_of c n) (ih : Right (begin rest go around) (exit f (pc + 1))) (big : 2 ^ 32 < fuel) (fit : OwnFits c basis n places own) (said : basis.message ≡ message) where
+  module _ (f : State → Exit) (pc : ℕ) (rest : Block) (go : Continuation) (around : Labels) (l : pc + 1 < end_of c n) (ih : Right (begin rest go around) (exit f (pc + 1))) (big : 2 ^ 32 < fuel) (fit : OwnFits c basis n places own) (said : basis.message ≡ message) where
     pub case_copy : (size buffer site : ℕ) → IsHere pc (i.Copy size buffer site) → buffer < length (routine_of c n).buffers → Right (begin (statement c n (i.Copy size buffer site) rest) go around) (exit f pc)
     case_copy size buffer site a there s g =
         with_room memory basis from to small c message places own n fuel routines f pc v site (i.Copy size buffer site) s
@@ -469,11 +469,11 @@ module _ (memory : ℕ → ℕ) (basis : Basis) (from to : ℕ) (small : to < 2 
         stored : ℕ → Locals
         stored mo = record s { most = mo; cells = slice_set (slice_set s.cells place s.pos) count mo }
 
-        onward : Onward
+        onward : Continuation
         onward = begin (taken (reg size) rest) go around
 
         asking : ℕ → Tree Out
-        asking mo = bind (helpers_below fuel prelude 9 8 (s.pos ∷ mo ∷ []) (x ∷ []) (stored mo)) (told Number (stored mo) onward)
+        asking mo = bind (helpers_below fuel prelude 9 8 (s.pos ∷ mo ∷ []) (x ∷ []) (stored mo)) (after_helper Number (stored mo) onward)
 
         tree : Tree Out
         tree = cond (nat_eq (bit (nat_lt v r)) 0) (asking r) (asking v)

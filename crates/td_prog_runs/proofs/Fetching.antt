@@ -11,9 +11,9 @@ use Rattle.td_stream.proofs.Digits.{rising_digits, falling_digits, fits_word}
 use Rattle.td_ir.specs.Values.{bit, order_of}
 use Rattle.td_verify.specs.Operands.{IsWidth}
 use Rattle.td_prog.specs.Tree.{Tree, Done, Loads, bind, answer, loaded}
-use Rattle.td_prog.specs.Syntax.{Var, Pos, Low, Number, More, Add, Sub, And, Shl, Shr, Lt, Num, Get, Binary, Swapped, Block, Ends, Let, When, Return, Ask}
+use Rattle.td_prog.specs.Syntax.{Var, Pos, Low, Number, More, Add, Sub, And, Shl, Shr, Lt, Num, Get, Binary, Swapped, Block, Ends, Assign, If, Return, CallHelper}
 use Rattle.td_prog.specs.Values.{Locals, written, and_then, applied}
-use Rattle.td_prog.specs.Means.{Out, Gave, Onward, Helpers, nowhere, given, shared, told, both}
+use Rattle.td_prog.specs.Means.{Out, Gave, Continuation, Helpers, nowhere, given, shared, after_helper, block_means}
 use Rattle.td_prog.specs.Run.{declared, no_routine, helpers_below}
 use Rattle.td_prog_code.specs.Prelude.{word, plus, td_word, little_body, number_helper, prelude}
 use Rattle.td_prog_runs.specs.Memory.{IsMemory}
@@ -128,10 +128,10 @@ module _ (memory : ℕ → ℕ) (basis : Basis) (from to : ℕ) where
   post n m x y z t h e = subst (λ u. Leading n m x u t) e h
 
   -- behind a helper's answer
-  pub asked : (n m : ℕ) (tree : Tree Out) (v : ℕ) (t s : Locals) (x : Var) (go : Onward) (touched : List ℕ) → Leading n m tree (Done (Gave v t)) touched → Leading n m (bind tree (told x s go)) (go (written x v (shared s t))) touched
+  pub asked : (n m : ℕ) (tree : Tree Out) (v : ℕ) (t s : Locals) (x : Var) (go : Continuation) (touched : List ℕ) → Leading n m tree (Done (Gave v t)) touched → Leading n m (bind tree (after_helper x s go)) (go (written x v (shared s t))) touched
   asked n m tree v t s x go touched h = record {
-    same = answer_bind memory tree (told x s go) ∙ ap (λ o. answer memory (told x s go o)) h.same;
-    words = loaded_bind memory tree (told x s go) ∙ ap (λ ws. ws ++ loaded memory (told x s go (answer memory tree))) (h.words ∙ append-nil (fresh n touched)) ∙ ap (λ o. fresh n touched ++ loaded memory (told x s go o)) h.same;
+    same = answer_bind memory tree (after_helper x s go) ∙ ap (λ o. answer memory (after_helper x s go o)) h.same;
+    words = loaded_bind memory tree (after_helper x s go) ∙ ap (λ ws. ws ++ loaded memory (after_helper x s go (answer memory tree))) (h.words ∙ append-nil (fresh n touched)) ∙ ap (λ o. fresh n touched ++ loaded memory (after_helper x s go o)) h.same;
     behind_them = h.behind_them;
     forward = h.forward;
   }
@@ -139,7 +139,7 @@ module _ (memory : ℕ → ℕ) (basis : Basis) (from to : ℕ) where
   module _ (most : ℕ) where
     -- td_word, of a word
     abbrev pub word_tree : ℕ → Locals → Tree Out
-    word_tree w s = (both most (helpers_below most prelude 0) no_routine [] [] td_word.body nowhere []).0 (record (declared [] s) { word = w })
+    word_tree w s = (block_means most (helpers_below most prelude 0) no_routine [] [] td_word.body nowhere []).0 (record (declared [] s) { word = w })
 
     abbrev pub held_word : ℕ → Locals → Locals
     held_word w s = record (declared [] s) { word = w; next = w + 1; held = memory w }
@@ -205,7 +205,7 @@ module _ (memory : ℕ → ℕ) (basis : Basis) (from to : ℕ) where
 
       module _ (helpers : Helpers) (is_word : (w : ℕ) (s : Locals) → helpers 0 (w ∷ []) [] s ≡ word_tree w s) where
         abbrev pub little_tree : ℕ → ℕ → Locals → Tree Out
-        little_tree w p s = (both most helpers no_routine [] [] (little_body w) nowhere []).0 (record (declared [] s) { pos = p })
+        little_tree w p s = (block_means most helpers no_routine [] [] (little_body w) nowhere []).0 (record (declared [] s) { pos = p })
 
         pub little_gives : (s : Locals) (p w : ℕ) → s.next ≤ p / 8 + 1 → ((k : ℕ) → s.next ≡ k + 1 → s.held ≡ memory k) → 0 < w → w ≤ 8 → p + w ≤ to → GivesNumber (little_tree w p s) s p w
         little_gives s p w n h some few there = by (nat_lt (64 - 8 * w) (8 * (p % 8))) refl
@@ -227,13 +227,13 @@ module _ (memory : ℕ → ℕ) (basis : Basis) (from to : ℕ) where
             last = Return (Binary And (Get Number) (Num (2 ^ (8 * w) - 1))) Ends
 
             second : Block
-            second = Let Number (Binary Add (Get Number) (Binary Shl (Get More) (Binary Sub (Num 64) (Get Low)))) Ends
+            second = Assign Number (Binary Add (Get Number) (Binary Shl (Get More) (Binary Sub (Num 64) (Get Low)))) Ends
 
             test : Block
-            test = When (Binary Lt (Num (64 - 8 * w)) (Get Low)) (Ask More 0 (plus word 1 ∷ []) [] second) last
+            test = If (Binary Lt (Num (64 - 8 * w)) (Get Low)) (CallHelper More 0 (plus word 1 ∷ []) [] second) last
 
-            means : Block → Onward
-            means b = (both most helpers no_routine [] [] b nowhere []).0
+            means : Block → Continuation
+            means b = (block_means most helpers no_routine [] [] b nowhere []).0
 
             held_small : memory (p / 8) < 2 ^ 64
             held_small = is.words (p / 8)
@@ -241,16 +241,16 @@ module _ (memory : ℕ → ℕ) (basis : Basis) (from to : ℕ) where
             -- the word is held, and its part taken
             to_number : (a : ℕ) → 0 < a → p % 8 + a ≤ 8 → p + a ≤ to → Leading s.next (p / 8 + 1) (little_tree w p s) (means test (vars (p / 8) number 0)) (places_from p a)
             to_number a sa l in_it =
-                pre s.next (p / 8 + 1) (little_tree w p s) (bind (word_tree (p / 8) first_vars) (told Number first_vars (means (Let Number (Binary Shr (Get Number) (Get Low)) test)))) (means test (vars (p / 8) number 0)) (places_from p a)
-                (ap (λ x. bind x (told Number first_vars (means (Let Number (Binary Shr (Get Number) (Get Low)) test)))) (is_word (p / 8) first_vars))
-                (post s.next (p / 8 + 1) (bind (word_tree (p / 8) first_vars) (told Number first_vars (means (Let Number (Binary Shr (Get Number) (Get Low)) test))))
-                (means (Let Number (Binary Shr (Get Number) (Get Low)) test) (vars (p / 8) (memory (p / 8)) 0)) (means test (vars (p / 8) number 0)) (places_from p a)
-                (asked s.next (p / 8 + 1) (word_tree (p / 8) first_vars) (memory (p / 8)) (held_word (p / 8) first_vars) first_vars Number (means (Let Number (Binary Shr (Get Number) (Get Low)) test)) (places_from p a)
+                pre s.next (p / 8 + 1) (little_tree w p s) (bind (word_tree (p / 8) first_vars) (after_helper Number first_vars (means (Assign Number (Binary Shr (Get Number) (Get Low)) test)))) (means test (vars (p / 8) number 0)) (places_from p a)
+                (ap (λ x. bind x (after_helper Number first_vars (means (Assign Number (Binary Shr (Get Number) (Get Low)) test)))) (is_word (p / 8) first_vars))
+                (post s.next (p / 8 + 1) (bind (word_tree (p / 8) first_vars) (after_helper Number first_vars (means (Assign Number (Binary Shr (Get Number) (Get Low)) test))))
+                (means (Assign Number (Binary Shr (Get Number) (Get Low)) test) (vars (p / 8) (memory (p / 8)) 0)) (means test (vars (p / 8) number 0)) (places_from p a)
+                (asked s.next (p / 8 + 1) (word_tree (p / 8) first_vars) (memory (p / 8)) (held_word (p / 8) first_vars) first_vars Number (means (Assign Number (Binary Shr (Get Number) (Get Low)) test)) (places_from p a)
                 (word_gives first_vars p a (p / 8) refl n h sa l in_it))
                 (ap (λ r. given r (λ v. means test (vars (p / 8) v 0))) (shr_is p (memory (p / 8)))))
 
             more_tree : Tree Out
-            more_tree = bind (helpers 0 ((p / 8 + 1) % 2 ^ 64 ∷ []) [] (vars (p / 8) number 0)) (told More (vars (p / 8) number 0) (both most helpers no_routine [] [] second (means last) []).0)
+            more_tree = bind (helpers 0 ((p / 8 + 1) % 2 ^ 64 ∷ []) [] (vars (p / 8) number 0)) (after_helper More (vars (p / 8) number 0) (block_means most helpers no_routine [] [] second (means last) []).0)
 
             tested : (b : Bool) → nat_lt (64 - 8 * w) (8 * (p % 8)) ≡ b → means test (vars (p / 8) number 0) ≡ cond (nat_eq (bit b) 0) (means last (vars (p / 8) number 0)) more_tree
             tested b e = ap (λ x. cond (nat_eq (bit x) 0) (means last (vars (p / 8) number 0)) more_tree) (ap (nat_lt (64 - 8 * w)) (low_is p) ∙ e)
@@ -280,10 +280,10 @@ module _ (memory : ℕ → ℕ) (basis : Basis) (from to : ℕ) where
                 let v = two_words memory message is p in
                 let split : a + (w - a) ≡ w = omega (arith, two) in
                 let u = vars (p / 8) number 0 in
-                let rest : Onward = (both most helpers no_routine [] [] second (means last) []).0 in
-                let loads : Tree Out = bind (word_tree k u) (told More u rest) in
+                let rest : Continuation = (block_means most helpers no_routine [] [] second (means last) []).0 in
+                let loads : Tree Out = bind (word_tree k u) (after_helper More u rest) in
                 let first_part = post s.next k (little_tree w p s) (means test u) loads (places_from p a) (to_number a (omega arith) (omega arith) (omega (arith, there, two)))
-                (tested true e ∙ ap (λ x. bind (helpers 0 (x ∷ []) [] u) (told More u rest)) whole ∙ ap (λ x. bind x (told More u rest)) (is_word k u)) in
+                (tested true e ∙ ap (λ x. bind (helpers 0 (x ∷ []) [] u) (after_helper More u rest)) whole ∙ ap (λ x. bind x (after_helper More u rest)) (is_word k u)) in
                 let second_part = asked k (k + 1) (word_tree k u) (memory k) (held_word k u) u More rest (places_from (p + a) (w - a))
                 (word_gives u (p + a) (w - a) k (omega arith) (omega arith) (λ j q. let r : p / 8 ≡ j = omega (arith, q) in ap memory r) (omega (arith, two)) (omega (arith, few)) (omega (arith, there, two))) in
                 let last_step : rest (vars k number (memory k)) ≡ Done (Gave (v % 2 ^ (8 * w)) (vars k v (memory k))) =
@@ -305,7 +305,7 @@ module _ (memory : ℕ → ℕ) (basis : Basis) (from to : ℕ) where
         module _ (outer : Helpers) (w number : ℕ) (is_little : (p : ℕ) (s : Locals) → outer number (p ∷ []) [] s ≡ little_tree w p s) where
           abbrev big_tree : ℕ → Locals → Tree Out
           big_tree p s =
-              (both most outer no_routine [] [] (Ask Number number (Get Pos ∷ []) [] (Return (Binary Shr (Swapped (Get Number)) (Num (64 - 8 * w))) Ends)) nowhere []).0 (record (declared [] s) { pos = p })
+              (block_means most outer no_routine [] [] (CallHelper Number number (Get Pos ∷ []) [] (Return (Binary Shr (Swapped (Get Number)) (Num (64 - 8 * w))) Ends)) nowhere []).0 (record (declared [] s) { pos = p })
 
           falling_gives : (s : Locals) (p x : ℕ) (tree : Tree Out) → tree ≡ big_tree p s → 0 < w → w ≤ 8
               → ((u : Locals) → u.next ≡ s.next → ((k : ℕ) → u.next ≡ k + 1 → u.held ≡ memory k) → GivesNumber (little_tree w p u) u p w) → ((k : ℕ) → s.next ≡ k + 1 → s.held ≡ memory k) → GivesOrdered tree s (suc x) p w
@@ -327,8 +327,8 @@ module _ (memory : ℕ → ℕ) (basis : Basis) (from to : ℕ) where
               t : Locals
               t = record (shared u g.gives.final) { number = g.gives.value }
 
-              rest : Onward
-              rest = (both most outer no_routine [] [] (Return (Binary Shr (Swapped (Get Number)) (Num (64 - 8 * w))) Ends) nowhere []).0
+              rest : Continuation
+              rest = (block_means most outer no_routine [] [] (Return (Binary Shr (Swapped (Get Number)) (Num (64 - 8 * w))) Ends) nowhere []).0
 
               k : ℕ
               k = (p + w - 1) / 8
@@ -336,9 +336,9 @@ module _ (memory : ℕ → ℕ) (basis : Basis) (from to : ℕ) where
               leads : Leading s.next (k + 1) (big_tree p s) (Done (Gave v t)) (places_from p w)
               leads =
                   let narrow : nat_le 64 (64 - 8 * w) ≡ false = grind (arith, some) in
-                  pre s.next (k + 1) (big_tree p s) (bind (little_tree w p u) (told Number u rest)) (Done (Gave v t)) (places_from p w)
-                  (ap (λ z. bind z (told Number u rest)) (is_little p u))
-                  (post s.next (k + 1) (bind (little_tree w p u) (told Number u rest)) (rest t) (Done (Gave v t)) (places_from p w)
+                  pre s.next (k + 1) (big_tree p s) (bind (little_tree w p u) (after_helper Number u rest)) (Done (Gave v t)) (places_from p w)
+                  (ap (λ z. bind z (after_helper Number u rest)) (is_little p u))
+                  (post s.next (k + 1) (bind (little_tree w p u) (after_helper Number u rest)) (rest t) (Done (Gave v t)) (places_from p w)
                   (asked s.next (k + 1) (little_tree w p u) g.gives.value g.gives.final u Number rest (places_from p w) g.gives.leads)
                   (ap (λ b. given (cond b None (Some v)) (λ z. Done (Gave z t))) narrow))
 

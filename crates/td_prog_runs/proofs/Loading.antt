@@ -12,7 +12,7 @@ use Rattle.td_verify.specs.Operands.{IsWidth}
 use Rattle.td_prog.specs.Tree.{Tree, bind}
 use Rattle.td_prog.specs.Syntax.{Reg, Num, Block}
 use Rattle.td_prog.specs.Values.{Locals}
-use Rattle.td_prog.specs.Means.{Out, Onward, Labels, Routines, told}
+use Rattle.td_prog.specs.Means.{Out, Continuation, Labels, Routines, after_helper}
 use Rattle.td_prog.specs.Run.{helpers_below}
 use Rattle.td_prog_code.specs.Prelude.{number_helper, prelude}
 use Rattle.td_prog_code.specs.Instructions.{statement, taken}
@@ -27,13 +27,13 @@ module _ (memory : ℕ → ℕ) (basis : Basis) (from to : ℕ) (small : to < 2 
   abbrev exit : (State → Exit) → ℕ → State → Exit
   exit f pc s = at memory basis from to small c message places own n fuel routines f pc s
 
-  abbrev begin : Block → Onward → Labels → Onward
+  abbrev begin : Block → Continuation → Labels → Continuation
   begin b go around = first memory basis from to small c message places own n fuel routines b go around
 
   abbrev IsHere : ℕ → Instr → Type 0
   IsHere pc j = IsAt memory basis from to small c message places own n fuel routines pc j
 
-  abbrev Right : Onward → (State → Exit) → Type 0
+  abbrev Right : Continuation → (State → Exit) → Type 0
   Right go f = IsOnward memory basis from to go f
 
   -- the variables after a number was taken
@@ -52,7 +52,7 @@ module _ (memory : ℕ → ℕ) (basis : Basis) (from to : ℕ) (small : to < 2 
     kept = g.kept;
   }
 
-  module _ (f : State → Exit) (pc : ℕ) (rest : Block) (go : Onward) (around : Labels) (l : pc + 1 < end_of c n) (ih : Right (begin rest go around) (exit f (pc + 1))) where
+  module _ (f : State → Exit) (pc : ℕ) (rest : Block) (go : Continuation) (around : Labels) (l : pc + 1 < end_of c n) (ih : Right (begin rest go around) (exit f (pc + 1))) where
     pub case_fetch : (into order width site : ℕ) → IsHere pc (i.Fetch into order width site) → IsWidth width → Right (begin (statement c n (i.Fetch into order width site) rest) go around) (exit f pc)
     case_fetch into order width site a wide s g =
         with_room memory basis from to small c message places own n fuel routines f pc width site (i.Fetch into order width site) s
@@ -71,11 +71,11 @@ module _ (memory : ℕ → ℕ) (basis : Basis) (from to : ℕ) (small : to < 2 
         asking : Tree Out
         asking = helpers_below fuel prelude 9 (number_helper order width) (s.pos ∷ []) [] s
 
-        onward : Onward
+        onward : Continuation
         onward = begin (taken (Num width) rest) go around
 
         tree : Tree Out
-        tree = bind asking (told (Reg into) s onward)
+        tree = bind asking (after_helper (Reg into) s onward)
 
         step : effect c n message places pc (i.Fetch into order width site) (state_of s) ≡ record { flow = Goes (pc + 1) next; touched = places_from s.pos width; steps = 1 } → s.pos + width ≤ s.end
             → GivesOrdered memory basis from to fuel message is short inside asking s order s.pos width → Agrees memory basis from to s.next tree (exit f pc (state_of s))

@@ -14,7 +14,7 @@ use Rattle.td_prog.specs.Syntax.{Pos, End, Ne, Get, Binary, Block}
 use Rattle.td_prog.specs.Values.{Locals, value}
 use Rattle.td_prog.specs.Run.{helpers_below}
 use Rattle.td_prog_code.specs.Prelude.{prelude}
-use Rattle.td_prog.specs.Means.{Onward, Routines, both, turns}
+use Rattle.td_prog.specs.Means.{Continuation, Routines, block_means, turns}
 use Rattle.td_prog_runs.specs.Agree.{Basis, state_of, IsGood, Agrees, IsOnward}
 use Rattle.td_prog_runs.specs.Laid.{IsBusy}
 use Rattle.td_prog_runs.proofs.Composing.{again_after, again_again}
@@ -31,14 +31,14 @@ module _ (memory : ℕ → ℕ) (basis : Basis) (from to : ℕ) (small : to < 2 
   abbrev exit : (State → Exit) → ℕ → State → Exit
   exit f pc s = at memory basis from to small c message places own n fuel routines f pc s
 
-  abbrev Right : Onward → (State → Exit) → Type 0
+  abbrev Right : Continuation → (State → Exit) → Type 0
   Right go f = IsOnward memory basis from to go f
 
   -- a block does what the code from a place on does, whatever follows it
   abbrev pub Runs : Block → ℕ → Type 0
-  Runs b q = (go : Onward) (f : State → Exit) → Right go f → Right (both fuel (helpers_below fuel prelude 9) routines places own b go []).0 (exit f q)
+  Runs b q = (go : Continuation) (f : State → Exit) → Right go f → Right (block_means fuel (helpers_below fuel prelude 9) routines places own b go []).0 (exit f q)
 
-  module _ (pc target : ℕ) (inner : Block) (behind : Onward) (f : State → Exit) (busy : IsBusy c message places n pc) (runs : Runs inner (pc + 1)) (rest : Right behind (exit f target)) where
+  module _ (pc target : ℕ) (inner : Block) (behind : Continuation) (f : State → Exit) (busy : IsBusy c message places n pc) (runs : Runs inner (pc + 1)) (rest : Right behind (exit f target)) where
     abbrev body : State → Exit
     body s = block c message n places (pc + 1) s
 
@@ -48,8 +48,8 @@ module _ (memory : ℕ → ℕ) (basis : Basis) (from to : ℕ) (small : to < 2 
     abbrev test : Locals → Option ℕ
     test s = value places (Binary Ne (Get Pos) (Get End)) s
 
-    abbrev looping : ℕ → Onward
-    looping m = turns m test (λ again. (both fuel (helpers_below fuel prelude 9) routines places own inner again []).0) behind
+    abbrev looping : ℕ → Continuation
+    looping m = turns m test (λ again. (block_means fuel (helpers_below fuel prelude 9) routines places own inner again []).0) behind
 
     -- after a turn: only where it took a byte
     abbrev turned : ℕ → Locals → State → Exit
@@ -73,18 +73,18 @@ module _ (memory : ℕ → ℕ) (basis : Basis) (from to : ℕ) (small : to < 2 
         onward t u = turned_right (nat_lt s.pos t.pos && nat_eq t.end s.end) t refl u
 
         by : (b : Bool) → nat_eq s.pos s.end ≡ b
-            → Agrees memory basis from to s.next (cond (nat_eq (cond (nat_eq s.pos s.end) 0 1) 0) (behind s) ((both fuel (helpers_below fuel prelude 9) routines places own inner (looping m) []).0 s))
+            → Agrees memory basis from to s.next (cond (nat_eq (cond (nat_eq s.pos s.end) 0 1) 0) (behind s) ((block_means fuel (helpers_below fuel prelude 9) routines places own inner (looping m) []).0 s))
             (again f (cond (nat_eq s.pos s.end) (after_it (state_of s)) (again (ir.turns k body after_it) (body (state_of s)))))
         by true e =
-            subst (λ b. Agrees memory basis from to s.next (cond (nat_eq (cond b 0 1) 0) (behind s) ((both fuel (helpers_below fuel prelude 9) routines places own inner (looping m) []).0 s))
+            subst (λ b. Agrees memory basis from to s.next (cond (nat_eq (cond b 0 1) 0) (behind s) ((block_means fuel (helpers_below fuel prelude 9) routines places own inner (looping m) []).0 s))
             (again f (cond b (after_it (state_of s)) (again (ir.turns k body after_it) (body (state_of s)))))) (sym e) (rest s g)
         by false e =
-            let x = (both fuel (helpers_below fuel prelude 9) routines places own inner (looping m) []).0 s in
+            let x = (block_means fuel (helpers_below fuel prelude 9) routines places own inner (looping m) []).0 s in
             let b = body (state_of s) in
             let h = runs (looping m) (turned k s) onward s g in
             let same = same_again (turned k s) (λ t. again f (ir.turns k body after_it t)) b.touched b.steps b.way
             (λ t w. ap (λ v. cond v (again f (ir.turns k body after_it t)) (at_once Stuck)) (busy (state_of s) t g.within g.window w)) in
-            subst (λ b. Agrees memory basis from to s.next (cond (nat_eq (cond b 0 1) 0) (behind s) ((both fuel (helpers_below fuel prelude 9) routines places own inner (looping m) []).0 s))
+            subst (λ b. Agrees memory basis from to s.next (cond (nat_eq (cond b 0 1) 0) (behind s) ((block_means fuel (helpers_below fuel prelude 9) routines places own inner (looping m) []).0 s))
             (again f (cond b (after_it (state_of s)) (again (ir.turns k body after_it) (body (state_of s)))))) (sym e)
             (again_again memory basis from to f (ir.turns k body after_it) s.next x b (subst (λ y. Agrees memory basis from to s.next x y) same h))
 

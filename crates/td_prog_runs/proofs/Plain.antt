@@ -17,9 +17,9 @@ use Rattle.td_ir.specs.Flow.{Flow, Goes, Fails, Effect, plain, where_so, effect}
 use Rattle.td_ir.specs.Run.{frame, again, block}
 use Rattle.td_ir.proofs.Blocks.{run_goes, run_fails, run_returns}
 use Rattle.td_prog.specs.Tree.{Tree, Done}
-use Rattle.td_prog.specs.Syntax.{Start, Pos, End, Outer, Reg, Num, Get, Block, Let}
+use Rattle.td_prog.specs.Syntax.{Start, Pos, End, Outer, Reg, Num, Get, Block, Assign}
 use Rattle.td_prog.specs.Values.{Locals, written}
-use Rattle.td_prog.specs.Means.{Out, Gave, Refused, Onward, Labels, Routines, given, framed, jump, both}
+use Rattle.td_prog.specs.Means.{Out, Gave, Refused, Continuation, Labels, Routines, given, framed, jump, block_means}
 use Rattle.td_prog.specs.Run.{helpers_below}
 use Rattle.td_prog_code.specs.Prelude.{prelude}
 use Rattle.td_prog_code.specs.Instructions.{statement, skipped, narrowed, spot}
@@ -33,8 +33,8 @@ module _ (memory : ℕ → ℕ) (basis : Basis) (from to : ℕ) (small : to < 2 
   abbrev pub at : (State → Exit) → ℕ → State → Exit
   at f pc s = again f (block c message n places pc s)
 
-  abbrev pub first : Block → Onward → Labels → Onward
-  first b go around = (both fuel (helpers_below fuel prelude 9) routines places own b go around).0
+  abbrev pub first : Block → Continuation → Labels → Continuation
+  first b go around = (block_means fuel (helpers_below fuel prelude 9) routines places own b go around).0
 
   -- instruction pc is this one
   pub record IsAt (pc : ℕ) (j : Instr) : Type 0 where
@@ -44,7 +44,7 @@ module _ (memory : ℕ → ℕ) (basis : Basis) (from to : ℕ) (small : to < 2 
   abbrev pub Ok : Locals → Tree Out → Exit → Type 0
   Ok s x e = Agrees memory basis from to s.next x e
 
-  abbrev pub Follows : Onward → (State → Exit) → Type 0
+  abbrev pub Follows : Continuation → (State → Exit) → Type 0
   Follows go f = IsOnward memory basis from to go f
 
   pub goes_on : (f : State → Exit) (pc target : ℕ) (j : Instr) (s : Locals) (t : State) (touched : List ℕ) (steps : ℕ) (x : Tree Out) → IsAt pc j → pc < target → target < end_of c n
@@ -91,17 +91,17 @@ module _ (memory : ℕ → ℕ) (basis : Basis) (from to : ℕ) (small : to < 2 
           when_true (λ y. Ok s y (at f pc (state_of s))) _ x (failed NotEnough site s) (room_not s.pos v s.end q g.within (end_small memory basis from to s small g))
           (fails f pc j s (state_of s) NotEnough site s.start [] 1 (failed NotEnough site s) a (is ∙ ap (λ b. cond b e (plain (Fails NotEnough site s.start (state_of s)))) q) (failed_ok NotEnough site s g))
 
-  pub case_fail : (f : State → Exit) (pc : ℕ) (rest : Block) (go : Onward) (around : Labels) (reason site : ℕ) → IsAt pc (i.Fail reason site) → Follows (first (statement c n (i.Fail reason site) rest) go around) (at f pc)
+  pub case_fail : (f : State → Exit) (pc : ℕ) (rest : Block) (go : Continuation) (around : Labels) (reason site : ℕ) → IsAt pc (i.Fail reason site) → Follows (first (statement c n (i.Fail reason site) rest) go around) (at f pc)
   case_fail f pc rest go around reason site a s g =
       fails f pc (i.Fail reason site) s (state_of s) (reason_of reason) site s.start [] 1 (failed (reason_of reason) site s) a refl (failed_ok (reason_of reason) site s g)
 
-  pub case_jump : (f : State → Exit) (pc : ℕ) (rest : Block) (go : Onward) (around : Labels) (target : ℕ) → pc < target → target < end_of c n → Follows (jump target (both fuel (helpers_below fuel prelude 9) routines places own rest go around).1) (at f target)
+  pub case_jump : (f : State → Exit) (pc : ℕ) (rest : Block) (go : Continuation) (around : Labels) (target : ℕ) → pc < target → target < end_of c n → Follows (jump target (block_means fuel (helpers_below fuel prelude 9) routines places own rest go around).1) (at f target)
       → IsAt pc (i.Jump target) → Follows (first (statement c n (i.Jump target) rest) go around) (at f pc)
   case_jump f pc rest go around target forward inside there a s g =
-      goes_on f pc target (i.Jump target) s (state_of s) [] 1 (jump target (both fuel (helpers_below fuel prelude 9) routines places own rest go around).1 s) a forward inside refl (there s g)
+      goes_on f pc target (i.Jump target) s (state_of s) [] 1 (jump target (block_means fuel (helpers_below fuel prelude 9) routines places own rest go around).1 s) a forward inside refl (there s g)
 
   -- a routine's rest behind an instruction
-  module _ (f : State → Exit) (pc : ℕ) (rest : Block) (go : Onward) (around : Labels) (l : pc + 1 < end_of c n) (ih : Follows (first rest go around) (at f (pc + 1))) where
+  module _ (f : State → Exit) (pc : ℕ) (rest : Block) (go : Continuation) (around : Labels) (l : pc + 1 < end_of c n) (ih : Follows (first rest go around) (at f (pc + 1))) where
     next : pc < pc + 1
     next = omega arith
 
@@ -195,7 +195,7 @@ module _ (memory : ℕ → ℕ) (basis : Basis) (from to : ℕ) (small : to < 2 
     case_narrow_k bytes site a s g = by (nat_eq bytes 0) refl
       where
         opened : Block
-        opened = Let Outer (Get End) (Let End (Get Pos) rest)
+        opened = Assign Outer (Get End) (Assign End (Get Pos) rest)
 
         by : (b : Bool) → nat_eq bytes 0 ≡ b → Ok s (first (cond (nat_eq bytes 0) opened (narrowed c n (Num bytes) site rest)) go around s) (at f pc (state_of s))
         by true e =
@@ -268,32 +268,32 @@ module _ (memory : ℕ → ℕ) (basis : Basis) (from to : ℕ) (small : to < 2 
             (ap (λ b. plain (cond b (Goes (pc + 1) (record (state_of s) { end = s.outer })) (Fails ListSize site s.start (state_of s)))) e) (failed_ok ListSize site s g))
 
     -- Jumps
-    module _ (target : ℕ) (forward : pc < target) (inside : target < end_of c n) (there : Follows (jump target (both fuel (helpers_below fuel prelude 9) routines places own rest go around).1) (at f target)) where
+    module _ (target : ℕ) (forward : pc < target) (inside : target < end_of c n) (there : Follows (jump target (block_means fuel (helpers_below fuel prelude 9) routines places own rest go around).1) (at f target)) where
       pub case_jump_if : (test : ℕ) → IsAt pc (i.JumpIf test target) → Follows (first (statement c n (i.JumpIf test target) rest) go around) (at f pc)
       case_jump_if test a s g = by (nat_eq (slice_index s.regs test) 0) refl
         where
           by : (b : Bool) → nat_eq (slice_index s.regs test) 0 ≡ b
-              → Ok s (cond (nat_eq (slice_index s.regs test) 0) (first rest go around s) (jump target (both fuel (helpers_below fuel prelude 9) routines places own rest go around).1 s)) (at f pc (state_of s))
+              → Ok s (cond (nat_eq (slice_index s.regs test) 0) (first rest go around s) (jump target (block_means fuel (helpers_below fuel prelude 9) routines places own rest go around).1 s)) (at f pc (state_of s))
           by true e =
-              subst (λ b. Ok s (cond b (first rest go around s) (jump target (both fuel (helpers_below fuel prelude 9) routines places own rest go around).1 s)) (at f pc (state_of s))) (sym e)
+              subst (λ b. Ok s (cond b (first rest go around s) (jump target (block_means fuel (helpers_below fuel prelude 9) routines places own rest go around).1 s)) (at f pc (state_of s))) (sym e)
               (goes_on f pc (pc + 1) (i.JumpIf test target) s (state_of s) [] 1 (first rest go around s) a next l (ap (λ b. plain (cond b (Goes (pc + 1) (state_of s)) (Goes target (state_of s)))) e) (ih s g))
           by false e =
-              subst (λ b. Ok s (cond b (first rest go around s) (jump target (both fuel (helpers_below fuel prelude 9) routines places own rest go around).1 s)) (at f pc (state_of s))) (sym e)
-              (goes_on f pc target (i.JumpIf test target) s (state_of s) [] 1 (jump target (both fuel (helpers_below fuel prelude 9) routines places own rest go around).1 s) a forward inside (ap (λ b. plain (cond b (Goes (pc + 1) (state_of s)) (Goes target (state_of s)))) e) (there s g))
+              subst (λ b. Ok s (cond b (first rest go around s) (jump target (block_means fuel (helpers_below fuel prelude 9) routines places own rest go around).1 s)) (at f pc (state_of s))) (sym e)
+              (goes_on f pc target (i.JumpIf test target) s (state_of s) [] 1 (jump target (block_means fuel (helpers_below fuel prelude 9) routines places own rest go around).1 s) a forward inside (ap (λ b. plain (cond b (Goes (pc + 1) (state_of s)) (Goes target (state_of s)))) e) (there s g))
 
       pub case_jump_unless : (test : ℕ) → IsAt pc (i.JumpUnless test target) → Follows (first (statement c n (i.JumpUnless test target) rest) go around) (at f pc)
       case_jump_unless test a s g = by (nat_eq (slice_index s.regs test) 0) refl
         where
           by : (b : Bool) → nat_eq (slice_index s.regs test) 0 ≡ b
-              → Ok s (cond (nat_eq (bit (nat_eq (slice_index s.regs test) 0)) 0) (first rest go around s) (jump target (both fuel (helpers_below fuel prelude 9) routines places own rest go around).1 s)) (at f pc (state_of s))
+              → Ok s (cond (nat_eq (bit (nat_eq (slice_index s.regs test) 0)) 0) (first rest go around s) (jump target (block_means fuel (helpers_below fuel prelude 9) routines places own rest go around).1 s)) (at f pc (state_of s))
           by true e =
-              subst (λ b. Ok s (cond (nat_eq (bit b) 0) (first rest go around s) (jump target (both fuel (helpers_below fuel prelude 9) routines places own rest go around).1 s)) (at f pc (state_of s))) (sym e)
-              (goes_on f pc target (i.JumpUnless test target) s (state_of s) [] 1 (jump target (both fuel (helpers_below fuel prelude 9) routines places own rest go around).1 s) a forward inside (ap (λ b. plain (cond b (Goes target (state_of s)) (Goes (pc + 1) (state_of s)))) e) (there s g))
+              subst (λ b. Ok s (cond (nat_eq (bit b) 0) (first rest go around s) (jump target (block_means fuel (helpers_below fuel prelude 9) routines places own rest go around).1 s)) (at f pc (state_of s))) (sym e)
+              (goes_on f pc target (i.JumpUnless test target) s (state_of s) [] 1 (jump target (block_means fuel (helpers_below fuel prelude 9) routines places own rest go around).1 s) a forward inside (ap (λ b. plain (cond b (Goes target (state_of s)) (Goes (pc + 1) (state_of s)))) e) (there s g))
           by false e =
-              subst (λ b. Ok s (cond (nat_eq (bit b) 0) (first rest go around s) (jump target (both fuel (helpers_below fuel prelude 9) routines places own rest go around).1 s)) (at f pc (state_of s))) (sym e)
+              subst (λ b. Ok s (cond (nat_eq (bit b) 0) (first rest go around s) (jump target (block_means fuel (helpers_below fuel prelude 9) routines places own rest go around).1 s)) (at f pc (state_of s))) (sym e)
               (goes_on f pc (pc + 1) (i.JumpUnless test target) s (state_of s) [] 1 (first rest go around s) a next l (ap (λ b. plain (cond b (Goes target (state_of s)) (Goes (pc + 1) (state_of s)))) e) (ih s g))
 
-  pub case_return : (f : State → Exit) (pc : ℕ) (rest : Block) (go : Onward) (around : Labels) → IsAt pc i.Return → Follows (first (statement c n i.Return rest) go around) (at f pc)
+  pub case_return : (f : State → Exit) (pc : ℕ) (rest : Block) (go : Continuation) (around : Labels) → IsAt pc i.Return → Follows (first (statement c n i.Return rest) go around) (at f pc)
   case_return f pc rest go around a s g =
       let r = run_returns c message places n pc (state_of s) (state_of s) [] 1 (record { instruction = i.Return; there = a.there; within = a.within; is = refl }) in
       subst (λ y. Ok s (Done (Gave s.pos s)) (again f y)) (sym r) ((refl, record { good = g; at = refl; same = refl; then = refl }), refl, tt)

@@ -20,9 +20,9 @@ use Rattle.td_ir.specs.Flow.{zeros_flow, zeroterm_flow}
 use Rattle.td_ir.specs.Run.{frame}
 use Rattle.td_verify.specs.Operands.{IsWidth}
 use Rattle.td_prog.specs.Tree.{Tree, Done, bind}
-use Rattle.td_prog.specs.Syntax.{Pos, End, Number, Most, Room, Sub, Ne, Eq, Num, Get, Binary, Block, Ends, Let, When, Ask}
+use Rattle.td_prog.specs.Syntax.{Pos, End, Number, Most, Room, Sub, Ne, Eq, Num, Get, Binary, Block, Ends, Assign, If, CallHelper}
 use Rattle.td_prog.specs.Values.{Locals, value}
-use Rattle.td_prog.specs.Means.{Out, Refused, Onward, Labels, Routines, given, framed, told, turns, both}
+use Rattle.td_prog.specs.Means.{Out, Refused, Continuation, Labels, Routines, given, framed, after_helper, turns, block_means}
 use Rattle.td_prog.specs.Run.{helpers_below}
 use Rattle.td_prog_code.specs.Prelude.{number_helper, little_helper, prelude}
 use Rattle.td_prog_code.specs.Instructions.{statement, failure, fails as fails_block, taken, spot}
@@ -38,13 +38,13 @@ module _ (memory : ℕ → ℕ) (basis : Basis) (from to : ℕ) (small : to < 2 
   abbrev exit : (State → Exit) → ℕ → State → Exit
   exit f pc s = at memory basis from to small c message places own n fuel routines f pc s
 
-  abbrev begin : Block → Onward → Labels → Onward
+  abbrev begin : Block → Continuation → Labels → Continuation
   begin b go around = first memory basis from to small c message places own n fuel routines b go around
 
   abbrev IsHere : ℕ → Instr → Type 0
   IsHere pc j = IsAt memory basis from to small c message places own n fuel routines pc j
 
-  abbrev Right : Onward → (State → Exit) → Type 0
+  abbrev Right : Continuation → (State → Exit) → Type 0
   Right go f = IsOnward memory basis from to go f
 
   -- the variables after a byte or an element was taken
@@ -93,12 +93,12 @@ module _ (memory : ℕ → ℕ) (basis : Basis) (from to : ℕ) (small : to < 2 
       ((refl, cut_is pos h, ap (λ p. frame_at (record { ty = (site_of c site).ty; field = spot c site; start = p }) reason ∷ []) (cut_is s.start k), refl), refl, tt)
 
   -- Zeros
-  module _ (site : ℕ) (behind_it : Onward) (g : State → Exit) (ih : Right behind_it g) where
+  module _ (site : ℕ) (behind_it : Continuation) (g : State → Exit) (ih : Right behind_it g) where
     abbrev turn : Block
-    turn = Ask Number (little_helper 1) (Get Pos ∷ []) [] (When (Get Number) (failure c n Padding (Get Pos) site Ends) (taken (Num 1) Ends))
+    turn = CallHelper Number (little_helper 1) (Get Pos ∷ []) [] (If (Get Number) (failure c n Padding (Get Pos) site Ends) (taken (Num 1) Ends))
 
-    abbrev looping : ℕ → Onward
-    looping m = turns m (value places (Binary Ne (Get Pos) (Get End))) (λ again. (both fuel (helpers_below fuel prelude 9) routines places own turn again []).0) behind_it
+    abbrev looping : ℕ → Continuation
+    looping m = turns m (value places (Binary Ne (Get Pos) (Get End))) (λ again. (block_means fuel (helpers_below fuel prelude 9) routines places own turn again []).0) behind_it
 
     -- up to the first of so many bytes that isn't zero
     abbrev found : Locals → ℕ → Option ℕ
@@ -139,11 +139,11 @@ module _ (memory : ℕ → ℕ) (basis : Basis) (from to : ℕ) (small : to < 2 
         asking : Tree Out
         asking = helpers_below fuel prelude 9 (number_helper 0 1) (s.pos ∷ []) [] s
 
-        onward : Onward
-        onward = (both fuel (helpers_below fuel prelude 9) routines places own (When (Get Number) (failure c n Padding (Get Pos) site Ends) (taken (Num 1) Ends)) (looping m) []).0
+        onward : Continuation
+        onward = (block_means fuel (helpers_below fuel prelude 9) routines places own (If (Get Number) (failure c n Padding (Get Pos) site Ends) (taken (Num 1) Ends)) (looping m) []).0
 
         tree : Tree Out
-        tree = bind asking (told Number s onward)
+        tree = bind asking (after_helper Number s onward)
 
         v : ℕ
         v = rising_at message s.pos 1
@@ -187,7 +187,7 @@ module _ (memory : ℕ → ℕ) (basis : Basis) (from to : ℕ) (small : to < 2 
     no_zero m s u e =
         let same : s.pos ≡ s.end = omega (arith, e, u.within) in
         let equal : nat_eq s.pos s.end ≡ true = is_eq s.pos s.end same in
-        subst (λ b. Agrees memory basis from to s.next (cond (nat_eq (cond b 0 1) 0) (behind_it s) ((both fuel (helpers_below fuel prelude 9) routines places own turn (looping m) []).0 s)) (scanned s 0 None)) (sym equal)
+        subst (λ b. Agrees memory basis from to s.next (cond (nat_eq (cond b 0 1) 0) (behind_it s) ((block_means fuel (helpers_below fuel prelude 9) routines places own turn (looping m) []).0 s)) (scanned s 0 None)) (sym equal)
         (subst (λ p. Agrees memory basis from to s.next (behind_it s) (g (at_pos (state_of s) p))) same (ih s u))
 
     zeros_right : (k m : ℕ) → suc k ≤ m → ZerosRight k m
@@ -230,19 +230,19 @@ module _ (memory : ℕ → ℕ) (basis : Basis) (from to : ℕ) (small : to < 2 
   less_one a h = omega (arith, h)
 
   -- Zeroterm
-  module _ (site w : ℕ) (wide : IsWidth w) (behind_it : Onward) (g : State → Exit) (ih : Right behind_it g) where
+  module _ (site w : ℕ) (wide : IsWidth w) (behind_it : Continuation) (g : State → Exit) (ih : Right behind_it g) where
     abbrev round : Block
     round =
         fails_block c n (Binary Eq (Get Most) (Num 0)) Constraint site
         (fails_block c n (Binary Eq (Get Room) (Num 0)) NotEnough site
-        (Ask Number (little_helper w) (Get Pos ∷ []) []
+        (CallHelper Number (little_helper w) (Get Pos ∷ []) []
         (taken (Num w)
-        (Let Most (Binary Sub (Get Most) (Num 1))
-        (Let Room (Binary Sub (Get Room) (Num 1))
+        (Assign Most (Binary Sub (Get Most) (Num 1))
+        (Assign Room (Binary Sub (Get Room) (Num 1))
         Ends)))))
 
-    abbrev rounds : ℕ → Onward
-    rounds m = turns m (value places (Get Number)) (λ again. (both fuel (helpers_below fuel prelude 9) routines places own round again []).0) behind_it
+    abbrev rounds : ℕ → Continuation
+    rounds m = turns m (value places (Get Number)) (λ again. (block_means fuel (helpers_below fuel prelude 9) routines places own round again []).0) behind_it
 
     abbrev counted : Locals → (a b v : ℕ) → Locals
     counted s a b v = record s { most = a; room = b; number = v }
@@ -315,11 +315,11 @@ module _ (memory : ℕ → ℕ) (basis : Basis) (from to : ℕ) (small : to < 2 
         asking : Tree Out
         asking = helpers_below fuel prelude 9 (number_helper 0 w) (s.pos ∷ []) [] now
 
-        onward : Onward
-        onward = (both fuel (helpers_below fuel prelude 9) routines places own (taken (Num w) (Let Most (Binary Sub (Get Most) (Num 1)) (Let Room (Binary Sub (Get Room) (Num 1)) Ends))) (rounds m) []).0
+        onward : Continuation
+        onward = (block_means fuel (helpers_below fuel prelude 9) routines places own (taken (Num w) (Assign Most (Binary Sub (Get Most) (Num 1)) (Assign Room (Binary Sub (Get Room) (Num 1)) Ends))) (rounds m) []).0
 
         tree : Tree Out
-        tree = bind asking (told Number now onward)
+        tree = bind asking (after_helper Number now onward)
 
         after_most : Tree Out
         after_most = cond (nat_eq (bit (nat_eq (suc b) 0)) 0) tree (failed_at NotEnough s.start site now)
@@ -376,7 +376,7 @@ module _ (memory : ℕ → ℕ) (basis : Basis) (from to : ℕ) (small : to < 2 
     stops : (a b m : ℕ) (s : Locals) (v : ℕ) → IsGood memory basis from to s → nat_eq v 0 ≡ true → 0 < m → Agrees memory basis from to s.next (rounds m (counted s a b v)) (g (state_of s))
     stops a b zero s v u z l = absurd (omega (arith, l))
     stops a b (suc m) s v u z l =
-        subst (λ x. Agrees memory basis from to s.next (cond x (behind_it (counted s a b v)) ((both fuel (helpers_below fuel prelude 9) routines places own round (rounds m) []).0 (counted s a b v))) (g (state_of s))) (sym z)
+        subst (λ x. Agrees memory basis from to s.next (cond x (behind_it (counted s a b v)) ((block_means fuel (helpers_below fuel prelude 9) routines places own round (rounds m) []).0 (counted s a b v))) (g (state_of s))) (sym z)
         (ih (counted s a b v) (good_counted s a b v u))
 
     terms_right : (b a m : ℕ) → suc b < m → TermRight a b m
@@ -386,7 +386,7 @@ module _ (memory : ℕ → ℕ) (basis : Basis) (from to : ℕ) (small : to < 2 
     terms_right (suc b) (suc a) (suc m) h s v u some la lb =
         one_element a b m (λ t x y z p q. terms_right b a m (omega (arith, h)) t x y z p q) (λ t x y z. stops a b m t x y z (omega (arith, h))) s v u some la lb
 
-  module _ (f : State → Exit) (pc : ℕ) (rest : Block) (go : Onward) (around : Labels) (l : pc + 1 < end_of c n) (ih : Right (begin rest go around) (exit f (pc + 1))) (enough : to + 1 < fuel) where
+  module _ (f : State → Exit) (pc : ℕ) (rest : Block) (go : Continuation) (around : Labels) (l : pc + 1 < end_of c n) (ih : Right (begin rest go around) (exit f (pc + 1))) (enough : to + 1 < fuel) where
     pub case_zeros : (site : ℕ) → IsHere pc (i.Zeros site) → Right (begin (statement c n (i.Zeros site) rest) go around) (exit f pc)
     case_zeros site a s u = by (first_where is_nonzero (numbers_from message s.pos 1 (left (state_of s)))) refl
         (zeros_right site (begin rest go around) (exit f (pc + 1)) ih (s.end - s.pos) fuel (omega (arith, u.window, u.short, enough)) s u refl)
@@ -414,7 +414,7 @@ module _ (memory : ℕ → ℕ) (basis : Basis) (from to : ℕ) (small : to < 2 
         (by (zero_at site width wide behind_it g ih s (min most room)) refl
         (terms_right site width wide behind_it g ih room most fuel (omega (arith, enough, u.window, u.short, fewer)) s 1 u refl (quotient_small (slice_index s.regs bound) width (small_at s.regs u.regs bound)) fits))
       where
-        behind_it : Onward
+        behind_it : Continuation
         behind_it = begin rest go around
 
         g : State → Exit

@@ -205,9 +205,9 @@ module _ (c : Parts) (names : ℕ → List ℕ) (code : IsCode c) (sound : IsSou
     cell_count : length (cells_by c n m k) ≡ (routine_of c m).cells + 2 * length (routine_of c m).buffers
     cell_count =
         let front = length-take-le (routine_of c m).cells (map_of c k) (let e = h.size in omega (arith, e)) in
-        let both = length-append (take (routine_of c m).cells (map_of c k)) (buffer_cells (routine_of c n).cells (drop (routine_of c m).cells (map_of c k))) in
+        let block_means = length-append (take (routine_of c m).cells (map_of c k)) (buffer_cells (routine_of c n).cells (drop (routine_of c m).cells (map_of c k))) in
         let many = buffer_count (routine_of c n).cells (drop (routine_of c m).cells (map_of c k)) in
-        omega (arith, front, both, many, given_count)
+        omega (arith, front, block_means, many, given_count)
 
     given_each : Each (λ b. b < length (routine_of c n).buffers) (drop (routine_of c m).cells (map_of c k))
     given_each = each_below (length (routine_of c n).buffers) (drop (routine_of c m).cells (map_of c k)) (λ j l. (h.buffers j (omega (arith, l, given_count))).0)

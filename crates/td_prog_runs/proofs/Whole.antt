@@ -17,7 +17,7 @@ use Rattle.std.specs.Prelude.{slice_get, Some, Option}
 use Rattle.td_prog.specs.Tree.{Tree}
 use Rattle.td_prog.specs.Syntax.{Function}
 use Rattle.td_prog.specs.Values.{Locals}
-use Rattle.td_prog.specs.Means.{Out, Routines, nowhere, given, both}
+use Rattle.td_prog.specs.Means.{Out, Routines, nowhere, given, block_means}
 use Rattle.td_prog.specs.Run.{helpers_below, entered, routines_below, started, free_run}
 use Rattle.td_prog_code.specs.Prelude.{prelude}
 use Rattle.td_prog_code.specs.Program.{body, function, functions, program}
@@ -80,7 +80,7 @@ module _ (memory : ℕ → ℕ) (basis : Basis) (c : Parts) (names : ℕ → Lis
 
   -- routine k, where those below it do what they should
   one : (k : ℕ) → k < length c.routines → Calls k → (args places own : List ℕ) (s : Locals) → OwnFits c basis k places own → IsCaller memory basis (length message) s → Each (λ v. v < 2 ^ 64) args
-      → Agrees memory basis s.pos s.end s.next ((both fuel (helpers_below fuel prelude 9) (table k) places own (body c k) nowhere []).0 (entered (routine_of c k).registers args s)) (block c message k places (first_of c k) (ir.entered (routine_of c k) args (state_of s)))
+      → Agrees memory basis s.pos s.end s.next ((block_means fuel (helpers_below fuel prelude 9) (table k) places own (body c k) nowhere []).0 (entered (routine_of c k).registers args s)) (block c message k places (first_of c k) (ir.entered (routine_of c k) args (state_of s)))
   one k l ih args places own s fit g small =
       let within : s.end ≤ length message = g.short in
       body_right memory basis s.pos s.end (omega (arith, within, short)) c message places own k fuel (table k) is short within (omega (arith, within, enough)) big (λ m h args places own u fits v sm. ih m h args places own u fits (good_caller memory basis s.pos s.end (length message) u within v) sm) fit said
@@ -95,7 +95,7 @@ module _ (memory : ℕ → ℕ) (basis : Basis) (c : Parts) (names : ℕ → Lis
       exit = block c message m places (first_of c m) (ir.entered (routine_of c m) args (state_of s))
 
       called : Option Function → Tree Out
-      called o = given o (λ f. (both fuel (helpers_below fuel prelude 9) (table k) places own f.body nowhere []).0 (entered f.registers args s))
+      called o = given o (λ f. (block_means fuel (helpers_below fuel prelude 9) (table k) places own f.body nowhere []).0 (entered f.registers args s))
 
       there : slice_get (program c names).routines k ≡ Some (function c names k)
       there = function_at c names (length c.routines) 0 k (omega (arith, l)) ∙ (let e : 0 + k ≡ k = omega arith in ap (λ n. Some (function c names n)) e)

@@ -8,7 +8,7 @@ use Rattle.td_core.specs.declared.outcome.TraceFrame.{TraceFrame}
 use Rattle.td_ir.specs.State.{State, Way, Returned, Turned, Failed, Stuck, Exit}
 use Rattle.td_prog.specs.Tree.{Tree, answer, loaded}
 use Rattle.td_prog.specs.Values.{Locals}
-use Rattle.td_prog.specs.Means.{Out, Gave, Refused, Undefined, Onward}
+use Rattle.td_prog.specs.Means.{Out, Gave, Refused, Undefined, Continuation}
 
 -- the words of places, from a word on, each once; and the word behind them
 abbrev pub fresh : ℕ → List ℕ → List ℕ
@@ -85,5 +85,5 @@ abbrev pub Agrees : (memory : ℕ → ℕ) → (basis : Basis) → (from to next
 Agrees memory basis from to next x e = AgreesBy memory basis from to next x e.touched e.way
 
 -- what comes next agrees
-abbrev pub IsOnward : (memory : ℕ → ℕ) → (basis : Basis) → (from to : ℕ) → Onward → (State → Exit) → Type 0
+abbrev pub IsOnward : (memory : ℕ → ℕ) → (basis : Basis) → (from to : ℕ) → Continuation → (State → Exit) → Type 0
 IsOnward memory basis from to go f = (s : Locals) → IsGood memory basis from to s → Agrees memory basis from to s.next (go s) (f (state_of s))

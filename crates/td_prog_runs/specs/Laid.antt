@@ -7,25 +7,25 @@ use Rattle.td_ir.specs.declared.tables.Parts.{Parts}
 use Rattle.td_ir.specs.Tables.{routine_of, first_of, end_of}
 use Rattle.td_ir.specs.State.{State, Turned}
 use Rattle.td_ir.specs.Run.{block}
-use Rattle.td_prog.specs.Syntax.{Block, Ends, Let, Store, Byte, Member, Load, When, While, Label, Goto, Fail, Return, Ask, Call}
+use Rattle.td_prog.specs.Syntax.{Block, Ends, Assign, Store, Byte, Member, Load, If, While, Label, Goto, Fail, Return, CallHelper, Call}
 use Rattle.td_verify.specs.Operands.{IsWidth, IsCellMap}
 use Rattle.td_prog_code.specs.Program.{blocks}
 
 -- a label stands in a block, not in an inner one
 abbrev pub HasLabel : ℕ → Block → Type 0
 HasLabel l Ends = ⊥
-HasLabel l (Let x e rest) = HasLabel l rest
+HasLabel l (Assign x e rest) = HasLabel l rest
 HasLabel l (Store k e rest) = HasLabel l rest
 HasLabel l (Byte k e f rest) = HasLabel l rest
 HasLabel l (Member x e numbers rest) = HasLabel l rest
 HasLabel l (Load rest) = HasLabel l rest
-HasLabel l (When e inner rest) = HasLabel l rest
+HasLabel l (If e inner rest) = HasLabel l rest
 HasLabel l (While e inner rest) = HasLabel l rest
 HasLabel l (Label m rest) = (l ≡ m) ⊎ HasLabel l rest
 HasLabel l (Goto m rest) = HasLabel l rest
 HasLabel l (Fail reason e ty field rest) = HasLabel l rest
 HasLabel l (Return e rest) = HasLabel l rest
-HasLabel l (Ask x helper es buffers rest) = HasLabel l rest
+HasLabel l (CallHelper x helper es buffers rest) = HasLabel l rest
 HasLabel l (Call first params callee cells buffers ty field rest) = HasLabel l rest
 
 -- where the blocks begin that stand before a place: the instructions behind an Again begin one of their own
