@@ -1,4 +1,4 @@
--- What programs in a small C mean (own rule): each function calls those before it, so a run is a recursion on their number.
+-- What programs of the small C mean (own rule): each function calls those above it, so a run is a recursion on their number.
 use Rattle.std.specs.Prelude.{ℕ, zero, suc, ◌-◌, ◌++◌, cond, List, [], ◌∷◌, length, replicate, slice_get, nat_eq, nat_lt, ◌+◌, ◌/◌}
 use Rattle.td_num.specs.Numbers.{places_from}
 use Rattle.td_prog.specs.Tree.{Tree, Done, Loads}
@@ -6,7 +6,7 @@ use Rattle.td_prog.specs.Syntax.{Var, Reg, Helper, Program}
 use Rattle.td_prog.specs.Values.{Locals, written}
 use Rattle.td_prog.specs.Means.{Out, Undefined, nowhere, given, Helpers, Routines, block_means}
 
--- variables that are declared with 0, and what is shared
+-- a function's variables, declared with `= 0`, with these registers; and what all functions share
 abbrev pub declared : List ℕ → Locals → Locals
 declared regs s = record {
   next = s.next;
@@ -36,7 +36,7 @@ with_values (x ∷ xs) (v ∷ vs) s = with_values xs vs (written x v s)
 abbrev pub no_routine : Routines
 no_routine n args places buffers s = Done Undefined
 
--- so many registers as variables name
+-- as many registers as these variables name
 abbrev pub registers_of : List Var → ℕ → ℕ
 registers_of [] n = n
 registers_of (Reg k ∷ xs) n = registers_of xs (cond (nat_lt k n) n (suc k))

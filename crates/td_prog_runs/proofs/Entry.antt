@@ -16,30 +16,27 @@ use Rattle.td_core.specs.Outcome.{copies_by}
 use Rattle.td_ir.specs.declared.instructions.Instr.TheVariants as i
 use Rattle.td_ir.specs.declared.tables.Parts.{Parts}
 use Rattle.td_ir.specs.Tables.{entry_of, routine_of, param_of, cell_of}
-use Rattle.td_ir.specs.WellFormed.{IsCode}
 use Rattle.td_ir.specs.Entries.{cell_bits, opened_by, buffers_of}
 use Rattle.td_ir.specs.State.{Way, Returned, Turned, Failed, Stuck}
 use Rattle.td_ir.specs.Run.{run_routine}
-use Rattle.td_verify.specs.Verify.{IsSound}
-use Rattle.td_verify.specs.Safe.{IsSafe}
 use Rattle.td_prog.specs.Means.{Out, Gave, Refused, Undefined}
 use Rattle.td_prog.specs.Run.{free_run}
 use Rattle.td_prog_code.specs.Program.{program}
 use Rattle.td_stream.specs.declared.load.Load.{Load}
 use Rattle.td_stream.proofs.Plain.{plain_is}
 use Rattle.td_prog_code.specs.Sentence.{held, IsEnd, HasNumber, HasNumbers, ProgramRuns}
-use Rattle.td_prog_runs.specs.Laid.{AreNumbers}
-use Rattle.td_prog_runs.specs.Agree.{Basis, IsKept}
-use Rattle.td_prog_runs.specs.Theorem.{AreEmpty, IsLeftBy}
-use Rattle.td_prog_runs.proofs.Sound.{sound_code_in_c}
-use Rattle.td_prog_runs.proofs.Guarded.{StaysBelow, unguarded}
+use Rattle.td_prog_steps.specs.Laid.{AreNumbers}
+use Rattle.td_prog_trees.specs.Agree.{Basis, IsKept}
+use Rattle.td_prog_runs.specs.Theorem.{AreEmpty, IsLeftBy, SoundCodeInC}
+use Rattle.td_prog_trees.specs.Laws.{StaysBelow}
+use Rattle.td_prog_trees.proofs.Guarded.{unguarded}
 
 zeros_small : (k : ℕ) → Each (λ v. v < 2 ^ 64) (replicate k 0)
 zeros_small zero = tt
 zeros_small (suc k) = (omega arith, zeros_small k)
 
 numbers : (c : Parts) → HasNumbers c → AreNumbers c
-numbers c h p into value e = each_at (HasNumber c) c.instructions p (i.Const into value) h e
+numbers c h p into value e = each_at (HasNumber c) c.instructions p (i.Const into value) h.instructions e
 
 width_small : (w : Width) → 8 * bytes_in w ≤ 64
 width_small One = omega arith
@@ -84,8 +81,8 @@ kept_copies basis cells bs k =
     (λ z. take ((at (2 * b + 1) ∙ ap (slice_index cells) e) z) (slice_index_or bs b [])) ∙ k.copies b (omega (arith, h, count))
     ∙ (λ z. map (slice_index basis.message) (places_from (sym (at (2 * b)) z) (sym (at (2 * b + 1) ∙ ap (slice_index cells) e) z))))
 
-ends : (basis : Basis) (y : Out) (w : Way) → IsLeftBy basis y w → IsEnd basis.first basis.message y w
-ends basis (Gave v s) (Returned pos cells) h = (h.0, h.1, kept_copies basis s.cells s.buffers h.2 ∙ ap (λ cs. copies_by basis.message (drop basis.first cs)) h.1)
+ends : (basis : Basis) (y : Out) (w : Way) → IsLeftBy basis y w → IsEnd basis.first basis.lengths basis.message y w
+ends basis (Gave v s) (Returned pos cells) h = (h.0, h.1, h.2.lengths, kept_copies basis s.cells s.buffers h.2 ∙ ap (λ cs. copies_by basis.message (drop basis.first cs)) h.1)
 ends basis (Gave v s) (Turned t) h = h
 ends basis (Gave v s) (Failed reason pos trace cells) h = h
 ends basis (Gave v s) Stuck h = h
@@ -95,8 +92,8 @@ ends basis (Refused reason pos trace s) (Failed reason' pos' trace' cells) h = (
 ends basis (Refused reason pos trace s) Stuck h = h
 ends basis Undefined w h = absurd h
 
-pub program_runs : ((c : Parts) → IsCode c → IsSound c → IsSafe c) → ProgramRuns
-program_runs safe_of c names entry size most args cells buffers loads out code sound nums fits short big rooms plays values =
+pub program_runs : SoundCodeInC → ProgramRuns
+program_runs sound_code c names entry size most args cells buffers loads out code sound nums fits short big rooms plays values =
     let e = entry_of c entry.number in
     let n = e.routine in
     let is = code.entries entry.number fits.there in
@@ -111,14 +108,14 @@ program_runs safe_of c names entry size most args cells buffers loads out code s
     ∙ get_or-append-add cells (replicate (2 * buffers_of c entry) 0) (2 * b + 1) 0 ∙ index_zeros (2 * buffers_of c entry) (2 * b + 1) in
     let below : StaysBelow ((size + 7) / 8) (free_run most (program c names) n size args (opened_by c entry cells) buffers) = λ ls y q s.
     subst (λ k. All (λ (l : Load). l.word < k) ls) ((plain_is size).count)
-    (sound_code_in_c safe_of c names most n size args (opened_by c entry cells) buffers ls y code sound (numbers c nums) is.there short rooms (omega (arith, behind, zeros, front)) empty big sa sc q s).inside in
+    (sound_code c names most n size args (opened_by c entry cells) buffers ls y code sound (numbers c nums) is.there short rooms (omega (arith, behind, zeros, front)) empty big sa sc q s).inside in
     let free = unguarded ((size + 7) / 8) (free_run most (program c names) n size args (opened_by c entry cells) buffers) loads out below values plays in
-    let r = sound_code_in_c safe_of c names most n size args (opened_by c entry cells) buffers loads out code sound (numbers c nums) is.there short rooms (omega (arith, behind, zeros, front)) empty big sa sc free values in
+    let r = sound_code c names most n size args (opened_by c entry cells) buffers loads out code sound (numbers c nums) is.there short rooms (omega (arith, behind, zeros, front)) empty big sa sc free values in
     record {
       rising = r.rising;
       inside = r.inside;
       holds = λ b carries bytes.
           let q = r.holds b carries (all_bytes b bytes) in
           let g : Basis = record { lengths = map length buffers; first = (routine_of c n).cells; message = b } in
-          (let w = (run_routine c n args (opened_by c entry cells) b).way in subst (λ k. IsEnd k b out w) (sym front) (ends g out w q.0), q.1);
+          (let w = (run_routine c n args (opened_by c entry cells) b).way in subst (λ k. IsEnd k (map length buffers) b out w) (sym front) (ends g out w q.0), q.1);
     }

@@ -30,7 +30,8 @@ use Rattle.td_prog.specs.Syntax.{Block, Ends, Label, Ne, Pos, Get, Binary}
 use Rattle.td_prog.specs.Syntax.{End, While as WhileBlock}
 use Rattle.td_prog_code.specs.Instructions.{statement}
 use Rattle.td_prog_code.specs.Program.{stated, looped as looped_blocks, put, blocks}
-use Rattle.td_prog_runs.specs.Laid.{HasLabel, tail_of, begins_behind, begins, IsBusy, IsLoop, IsJump, IsLaid, AreLaid, IsWellLaid, AreNumbers}
+use Rattle.td_prog.specs.Text.{HasLabel}
+use Rattle.td_prog_steps.specs.Laid.{tail_of, begins_behind, begins, IsBusy, IsLoop, IsJump, IsLaid, AreLaid, IsWellLaid, AreNumbers}
 
 either_label : (b : Bool) (x y : Block) (l : ℕ) → HasLabel l x → HasLabel l y → HasLabel l (cond b x y)
 either_label true x y l h k = h

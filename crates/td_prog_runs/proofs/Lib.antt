@@ -1,21 +1,4 @@
-mod Trees
-mod Composing
-mod Goods
-mod Values
-mod Numbers
-mod Fetching
-mod Plain
-mod Loading
-mod Scanning
-mod Copying
-mod Loops
-mod Calling
-mod Blocks
-mod Whole
-mod Adversary
 mod Sentence
-mod Laying
-mod Sound
-mod Guarded
+pub mod Laying
+pub mod Sound
 mod Entry
-mod Text

@@ -24,14 +24,16 @@ use Rattle.td_ir.specs.Tables.{routine_of}
 use Rattle.td_prog.specs.Tree.{Tree, Plays, answer, loaded}
 use Rattle.td_prog.specs.Means.{Out, Gave, Refused, Undefined}
 use Rattle.td_prog.specs.Run.{free_run}
-use Rattle.td_prog_runs.specs.Memory.{IsMemory}
-use Rattle.td_prog_runs.specs.Agree.{Basis, IsKept, fresh, behind, IsForward, IsReturn, IsFailure, AgreesBy, Agrees}
-use Rattle.td_prog_runs.specs.Laid.{IsWellLaid}
+use Rattle.td_prog_trees.specs.Memory.{IsMemory}
+use Rattle.td_prog_trees.specs.Agree.{Basis, IsKept, fresh, behind, IsForward, IsReturn, IsFailure, AgreesBy, Agrees}
+use Rattle.td_prog_steps.specs.Laid.{IsWellLaid}
 use Rattle.td_prog_code.specs.Program.{program}
-use Rattle.td_prog_runs.specs.Theorem.{IsLeftBy, AreEmpty, IsAnswer, CodeInC}
-use Rattle.td_prog_runs.proofs.Trees.{carried as carried_tree}
-use Rattle.td_prog_runs.proofs.Whole.{run_right}
-use Rattle.td_prog_runs.proofs.Adversary.{RisesFrom, fresh_rises, play_rises, loads_rise, memory_of, memory_wordy, memory_holds, digit_of}
+use Rattle.td_prog_runs.specs.Theorem.{IsLeftBy, AreEmpty, CodeInC}
+use Rattle.td_verify_runs.specs.Laws.{IsAnswer}
+use Rattle.td_prog_trees.proofs.Trees.{carried as carried_tree}
+use Rattle.td_prog_steps.proofs.Whole.{run_right}
+use Rattle.td_prog_trees.specs.Agree.{RisesFrom}
+use Rattle.td_prog_trees.proofs.Adversary.{fresh_rises, play_rises, loads_rise, memory_of, memory_wordy, memory_holds, digit_of}
 
 -- Lists
 first_or_later : {X : Type 0} (x y : X) (xs : List X) → Contains (x ∷ xs) y → (x ≡ y) ⊎ Contains xs y

@@ -1,6 +1,6 @@
 -- What the C of code does, whatever memory gives to its loads (own rule).
 use Rattle.std.specs.Prelude.{◌≡◌, ℕ, ◌+◌, ◌^◌, ◌<◌, List, length, map, take, slice_index, ◌*◌}
-use Rattle.td_prog_runs.specs.Agree.{Basis, IsKept}
+use Rattle.td_prog_trees.specs.Agree.{Basis, IsKept}
 use Rattle.std.specs.List.{All}
 use Rattle.td_num.specs.Lists.{Each}
 use Rattle.td_stream.specs.declared.load.Load.{Load}
@@ -12,10 +12,11 @@ use Rattle.td_ir.specs.Run.{run_routine}
 use Rattle.td_ir.specs.Tables.{routine_of}
 use Rattle.td_prog.specs.Tree.{Plays}
 use Rattle.td_prog.specs.Means.{Out, Gave, Refused, Undefined}
+use Rattle.td_verify_runs.specs.Laws.{IsAnswer}
 use Rattle.td_prog.specs.Run.{free_run}
 use Rattle.td_ir.specs.WellFormed.{IsCode}
 use Rattle.td_verify.specs.Verify.{IsSound}
-use Rattle.td_prog_runs.specs.Laid.{IsWellLaid, AreNumbers}
+use Rattle.td_prog_steps.specs.Laid.{IsWellLaid, AreNumbers}
 use Rattle.td_prog_code.specs.Program.{program}
 
 -- so many buffers hold nothing at first
@@ -33,13 +34,6 @@ IsLeftBy basis (Refused reason pos trace s) (Turned t) = ⊥
 IsLeftBy basis (Refused reason pos trace s) (Failed reason' pos' trace' cells) = (reason ≡ reason') × (pos ≡ pos') × (trace ≡ take 32 trace') × (s.cells ≡ cells)
 IsLeftBy basis (Refused reason pos trace s) Stuck = ⊥
 IsLeftBy basis Undefined w = ⊥
-
--- code comes to an answer
-abbrev pub IsAnswer : Way → Type 0
-IsAnswer (Returned pos cells) = Unit {0}
-IsAnswer (Turned t) = ⊥
-IsAnswer (Failed reason pos trace cells) = Unit {0}
-IsAnswer Stuck = ⊥
 
 -- The program of code, over a message of fewer than 2^32 bytes and over memory that gives any words to its loads: it does nothing undefined and ends; each word is loaded at most
 -- once, in rising order, and within the message; and on each list of bytes that carries the loads code's answer is that of the program, and exactly the words of the bytes at which

@@ -1,15 +1,10 @@
 //! Laws. They do nothing when they are called.
 
-ghost use Rattle.td_prog.specs.Tree.{PlaysAreCarried};
-ghost use Rattle.td_prog_code.specs.Sentence.{ProgramRuns, ProgramIsText};
+ghost use Rattle.td_prog_code.specs.Sentence.{ProgramRuns};
 ghost use Rattle.td_prog_runs.specs.Theorem.{CodeInC, SoundCodeInC};
 
 use td_verify::laws::sound_code_is_safe;
-
-/// A play of a tree is what the tree comes to on each memory that stays and holds what was loaded.
-pub fn plays_are_carried()
-    ensures { PlaysAreCarried }
-{}
+use td_verify_runs::laws::{run_answers, turn_takes};
 
 /// The program of code does what the code does, whatever memory gives to its loads.
 pub fn code_in_c()
@@ -21,16 +16,13 @@ pub fn sound_code_in_c()
     ensures { SoundCodeInC }
 {
     sound_code_is_safe();
+    run_answers();
+    turn_takes();
 }
 
 /// The sentence: the program of verified code, from its entry points.
 pub fn program_runs()
     ensures { ProgramRuns }
 {
-    sound_code_is_safe();
+    sound_code_in_c();
 }
-
-/// A compiler of C accepts the program: what it names is declared, once.
-pub fn program_is_text()
-    ensures { ProgramIsText }
-{}

@@ -1,0 +1,5 @@
+//! Laws.
+/// Nothing yet.
+pub fn nothing()
+    ensures { Unit {0} }
+{}

@@ -1,0 +1,6 @@
+pub mod Trees
+pub mod Adversary
+pub mod Guarded
+pub mod Composing
+pub mod Numbers
+pub mod Fetching

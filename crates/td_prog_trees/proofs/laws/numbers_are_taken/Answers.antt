@@ -1,0 +1,5 @@
+use Rattle.td_prog_trees.proofs.Fetching.{numbers_are_taken}
+use Rattle.td_prog_trees.proofs.laws.numbers_are_taken.Goals as goal
+
+pub returns : goal.returns
+returns c = numbers_are_taken
