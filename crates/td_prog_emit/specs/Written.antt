@@ -1,16 +1,17 @@
 -- What is written of code, in pieces (own rule).
-use Rattle.std.specs.Prelude.{◌≡◌, ℕ, ◌+◌, ◌*◌, List, [], ◌∷◌, ◌++◌, codes, decimal, map, length, Result, OnOk}
+use Rattle.std.specs.Prelude.{◌≡◌, ℕ, ◌+◌, ◌-◌, ◌*◌, List, [], ◌∷◌, ◌++◌, codes, decimal, flat_map, map, length, slice_range, Result, OnOk}
 use Rattle.std.specs.declared.alloc.AllocError.{AllocError}
 use Rattle.td_core.specs.declared.outcome.Reason.{Reason}
 use Rattle.td_ir.specs.declared.instructions.Instr.{Instr}
 use Rattle.td_ir.specs.declared.tables.Parts.{Parts}
 use Rattle.td_ir.specs.Tables.{site_of}
-use Rattle.td_prog.specs.Syntax.{Pos, Most, Number, Reg, Lt, Num, Get, Binary, Block, Ends, Assign, Store, Member, If, CallHelper, Helper, Function}
-use Rattle.td_prog_code.specs.Prelude.{prelude, copy_helper}
+use Rattle.td_prog.specs.Syntax.{Pos, End, Start, Outer, Low, Number, More, Most, Room, Count, Reg, Shr, Lt, Num, Get, Binary, Block, Ends, Assign, Store, Byte, Member, If, CallHelper, Helper, Function, registers}
+use Rattle.td_prog_code.specs.Prelude.{bytes_from, copy_helper, plus, prelude}
 use Rattle.td_prog_code.specs.Instructions.{reg, room, taken, spot, statement}
-use Rattle.td_prog_code.specs.Program.{functions}
+use Rattle.td_prog_code.specs.Program.{blocks, body, first_block, function, functions}
 use Rattle.td_prog_text.specs.Names.{routine_name}
 use Rattle.td_prog_text.specs.Expressions.{Pieces, text}
+use Rattle.td_prog_text.specs.Functions as texts
 use Rattle.td_prog_text.specs.Statements as lines
 
 -- where there was memory, these pieces stand behind what was there
@@ -64,3 +65,39 @@ copy_pieces c depth size buffer site most cell =
     (Store (cell + 1) (Get Most)
     (CallHelper Number copy_helper (Get Pos ∷ Get Most ∷ []) (buffer ∷ [])
     (taken (reg size) Ends)))))))
+
+-- of a helper
+abbrev pub helper_pieces : Parts → Helper → Pieces
+helper_pieces c h = texts.helper c.names helper_names (routine_names c) h
+
+-- the two ways in which td_copy goes on: a whole word, and a byte
+abbrev pub whole_pieces : Pieces
+whole_pieces =
+    lines.statements [] [] [] Ends 2
+    (If (Binary Lt (Num 7) (Get More)) (bytes_from 0 8 (Assign Pos (plus (Get Pos) 8) (Assign Count (plus (Get Count) 8) Ends))) Ends)
+
+abbrev pub single_pieces : Pieces
+single_pieces =
+    lines.statements [] [] [] Ends 2
+    (If (Binary Lt (Get More) (Num 8)) (Byte 0 (Get Count) (Binary Shr (Get Number) (Get Low)) (Assign Pos (plus (Get Pos) 1) (Assign Count (plus (Get Count) 1) Ends))) Ends)
+
+-- of routine n
+abbrev pub routine_pieces : Parts → ℕ → Pieces
+routine_pieces c n = texts.routine c.names helper_names (routine_names c) (function c (routine_name c) n)
+
+-- the same, by its counts
+abbrev pub head_pieces : Parts → (n params cells buffers : ℕ) → Pieces
+head_pieces c n params cells buffers = texts.head (routine_name c n) (Pos ∷ End ∷ registers 0 params) cells buffers
+
+abbrev pub locals_pieces : (params count : ℕ) → Pieces
+locals_pieces params count = flat_map texts.declaration (Start ∷ Outer ∷ Number ∷ Most ∷ Room ∷ registers params (count - params)) ∷ []
+
+abbrev pub function_pieces : Parts → (n params count cells buffers : ℕ) → Pieces
+function_pieces c n params count cells buffers =
+    head_pieces c n params cells buffers ++ (locals_pieces params count ++ (lines.statements c.names helper_names (routine_names c) (body c n) 1 (body c n) ++ codes "}\n\n" ∷ []))
+
+-- with the instructions from one place up to another
+abbrev pub function_at : Parts → (n params count cells buffers first end : ℕ) → Pieces
+function_at c n params count cells buffers first end =
+    head_pieces c n params cells buffers ++ (locals_pieces params count ++ (codes "    start = pos;\n    outer = end;\n"
+    ∷ (lines.statements c.names helper_names (routine_names c) (body c n) 1 (first_block c n (blocks c n first (slice_range c.instructions first end))) ++ codes "}\n\n" ∷ [])))

@@ -77,7 +77,6 @@ fn push_called(out: &mut Vec<u8>, parts: &Parts, n: usize) -> Result<(), AllocEr
     push_routine_name(out, parts, n)
 }
 
-#[tactic(auto, using(crate::proofs::Calls::registers_more))]
 fn extend_registers(out: &mut Vec<u8>, first: u16, count: u16) -> Result<(), AllocError>
     ensures { OnOk result (out.new.items ≡ out.old.items ++ registers_text first count) }
 {

@@ -1,11 +1,11 @@
 -- Statements of a small C as text (own rule): a line for each, four blanks before it for each block around it.
-use Rattle.std.specs.Prelude.{ℕ, zero, suc, ◌+◌, ◌*◌, ◌||◌, Bool, false, cond, List, [], ◌∷◌, ◌++◌, codes, decimal, flat_map, replicate, map, nat_eq, slice_index_or}
+use Rattle.std.specs.Prelude.{ℕ, zero, suc, ◌+◌, ◌*◌, ◌||◌, Bool, false, cond, List, [], ◌∷◌, ◌++◌, codes, decimal, flat_map, replicate, nat_eq, slice_index_or}
 use Rattle.td_core.specs.declared.module.NameId.{NameId}
 use Rattle.td_core.specs.declared.outcome.Reason.{Reason}
 use Rattle.td_core.specs.declared.outcome.Reason.TheVariants.{NotEnough, Impossible, ListSize, Action, Constraint, Padding}
 use Rattle.td_core.specs.declared.outcome.Spot.{Spot}
 use Rattle.td_core.specs.declared.outcome.Spot.TheVariants.{Field, Where, Switch}
-use Rattle.td_prog.specs.Syntax.{Var, Reg, Word, Expr, Block, Ends, Assign, Store, Byte, Member, Load, If, While, Label, Goto, Fail, Return, CallHelper, Call}
+use Rattle.td_prog.specs.Syntax.{Var, Word, Expr, Block, Ends, Assign, Store, Byte, Member, Load, If, While, Label, Goto, Fail, Return, CallHelper, Call}
 use Rattle.td_prog_text.specs.Expressions.{Pieces, text, variable, numeral, expression, pointed}
 
 abbrev pub indented : ℕ → List ℕ → List ℕ

@@ -1,6 +1,6 @@
 -- by hand
 use Rattle.td_prog_emit.proofs.calls.push_arguments.Goals as goal
-use Rattle.td_prog_emit.proofs.Calls.{arguments_are}
+use Rattle.td_prog_emit.proofs.Arguments.{arguments_are}
 use Rattle.td_prog_emit.proofs.Texts.{recut}
 
 pub returns : goal.returns

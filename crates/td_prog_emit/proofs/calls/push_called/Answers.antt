@@ -1,7 +1,7 @@
 -- by hand
 use Rattle.td_prog_emit.proofs.calls.push_called.Goals as goal
 use Rattle.std.proofs.Common.{length}
-use Rattle.td_prog_emit.proofs.Calls.{name_there}
+use Rattle.td_prog_emit.proofs.Arguments.{name_there}
 use Rattle.td_prog_emit.proofs.Texts.{same_piece}
 use Rattle.td_prog_text.specs.Names.{routine_name}
 
