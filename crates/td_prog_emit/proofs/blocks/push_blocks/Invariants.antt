@@ -3,7 +3,7 @@ use Rattle.std.specs.Prelude.{slice_index_or, slice_range}
 use Rattle.td_ir.specs.Tables.{end_of}
 use Rattle.td_prog.specs.Syntax as syntax
 use Rattle.td_prog_code.specs.Program.{blocks}
-use Rattle.td_prog_emit.proofs.Standing.{standing}
+use Rattle.td_prog_emit.proofs.Levels.{standing}
 use Rattle.td_prog_emit.proofs.blocks.push_blocks.Given as goal
 use Rattle.td_prog_text.specs.Expressions.{text}
 use Rattle.td_prog_text.specs.Statements.{goes}
