@@ -1,16 +1,9 @@
-/* The heap of libtd_c.a: three functions over malloc, realloc and free. A program that has its own heap, or none, links its own three in
+/* SPDX-License-Identifier: Apache-2.0 OR MIT
+   The heap of libtd_c.a: three functions over malloc, realloc and free. A program that has its own heap, or none, links its own three in
    their place (examples/arena.c). A block of `size` bytes is aligned to `align`, which is at most 16; a size of 0 is
    answered with a block, too. */
-#include <stddef.h>
-#include <stdint.h>
+#include "td_heap.h"
 #include <stdlib.h>
-
-/* 1 and the block, or 0 and any address but null. */
-typedef struct { uint64_t is_ok; void *at; } td_block;
-
-td_block rattle_alloc(size_t size, size_t align);
-td_block rattle_realloc(void *at, size_t old_size, size_t new_size, size_t align);
-void rattle_dealloc(void *at, size_t size);
 
 static char nothing;
 

@@ -1,4 +1,5 @@
-/* td.h: messages in memory that others keep storing to, validated by verified code.
+/* SPDX-License-Identifier: Apache-2.0 OR MIT
+   td.h: messages in memory that others keep storing to, validated by verified code.
 
    A session is opened once, from an image (`td pack <MODULE >IMAGE`). From then on only td_again, td_validate_parts and the
    calls that open codes, seats and their sessions ask for memory, and no call waits for anybody. Each 64-bit word of a
@@ -7,6 +8,10 @@
    those that close and td_reason_word. */
 #ifndef TD_H
 #define TD_H
+
+/* The version of this header: major, minor and patch, eight bits each. */
+#define TD_VERSION 0x010100
+
 #include <stdbool.h>
 #include <stddef.h>
 #include <stdint.h>
@@ -15,7 +20,7 @@ extern "C" {
 #endif
 
 typedef enum {
-  TD_ACCEPTED = 0,  /* td_validate; elsewhere 0 is TD_DONE */
+  TD_ACCEPTED = 0,  /* of td_validate; every other call answers TD_DONE */
   TD_DONE = 0,
   TD_REJECTED = 1,  /* td_validate: position and reason are in the call, the frames by td_frame */
   TD_UNFIT = 2,     /* arguments or cells are more or fewer than the entry point's, or one is too wide; nothing was loaded */
@@ -76,8 +81,9 @@ typedef struct {
                                       or element that one looks at for zeros, and for each byte that is copied
                                       (docs/language/code.md); 2^64 - 1 where they are more */
   uint64_t args[16];               /* in */
-  uint64_t cells[64];              /* in and out: as the validation left them, where it rejected, too. What was copied td_copy
-                                      tells */
+  uint64_t cells[64];              /* in and out: as the validation left them, where it rejected, too. One that the format
+                                      doesn't set for this message stays as it was: put 0 there before. What was copied
+                                      td_copy tells */
 } td_call;
 
 typedef struct { const uint64_t *at; size_t count; } td_words;
@@ -186,8 +192,9 @@ static inline int32_t td_name(td_session *s, uint32_t number, char *bytes, size_
 }
 
 /* Validates the message that begins at byte call->place of `count` words. Where the answer isn't 0 or 1, the call is as
-   before. The words are mapped until this returns; whoever touches them meanwhile does so by atomic operations, or from
-   another process, device or machine. No pointer to them is kept. */
+   before. All words are mapped until this returns: a file that another process cuts takes them away (SIGBUS), so share one
+   that is sealed (F_SEAL_SHRINK). Whoever touches them meanwhile does so by atomic operations, or from another process,
+   device or machine. No pointer to them is kept. A place has 32 bits: never cut a larger one. */
 static inline int32_t td_validate(td_session *s, const uint64_t *words, size_t count, td_call *call) {
   if (!s || !call || (!words && count) || (uintptr_t)words % 8) return TD_POINTER;
   td_words w = {words, count};
@@ -240,7 +247,7 @@ static inline int32_t td_codes_begin(td_codes *c) {
   return td_c_begin(&c->inner, c->inner.full);
 }
 
-/* Publishes the next code, in one store, and tells its number. TD_MISSING: the last one is published. */
+/* Publishes the next code, and tells its number. TD_MISSING: the last one is published. */
 static inline int32_t td_codes_publish(td_codes *c, uint32_t *number) {
   if (!c || !number) return TD_POINTER;
   return td_c_publish(&c->inner, c->inner.full, number);
@@ -256,7 +263,7 @@ static inline void td_codes_close(td_codes *c) {
   if (c) td_close(&c->inner);
 }
 
-/* Loads which code is published, in one load: its number. The numbers that a seat loads never fall. */
+/* Loads which code is published: its number. The numbers that a seat loads never fall. */
 static inline int32_t td_seat_current(td_seat *seat, uint32_t *number) {
   if (!seat || !number) return TD_POINTER;
   return td_c_current(&seat->inner, seat->inner.full, number);

@@ -1,4 +1,5 @@
-/* td_pack.h: a 3D text becomes the image that td_open reads, by the compiler of `td pack`; each image is accepted by the verifier,
+/* SPDX-License-Identifier: Apache-2.0 OR MIT
+   td_pack.h: a 3D text becomes the image that td_open reads, by the compiler of `td pack`; each image is accepted by the verifier,
    and its code does what the text means. The library is libtd_c_pack.a; a program that only validates needs neither. Memory is
    taken from the same heap as by td.h. docs/c-library.md says more. */
 #ifndef TD_PACK_H

@@ -32,6 +32,19 @@ def read(name, path, usage):
         raise Wrong("%s: can't read the file '%s'\n%s" % (name, path, usage)) from None
 
 
+def read_both(name, module, job, usage):
+    """A format and a job, out of their files. That they stand in the wrong order is said by their ends."""
+    if module.endswith(".json") and job.endswith(".3d"):
+        raise Wrong("%s: '%s' is the job, and stands behind the format\n%s" % (name, module, usage))
+    return read(name, module, usage), read(name, job, usage)
+
+
+def is_of_host(job):
+    """Whether a job is one of `td host`: it has guests."""
+    fields = fields_of(job)
+    return fields is not None and "guests" in fields
+
+
 def joined(module, job):
     """An input of `run`: the module as its file has it, ended by a line feed; the marker; the job."""
     return module + (b"" if not module or module.endswith(b"\n") else b"\n") + b"%%\n" + job

@@ -1,9 +1,10 @@
-"""How a script begins and ends: signals, standard input, and an output that can't be written."""
+"""How a script begins and ends: help and version, signals, standard input, and an output that can't be written."""
 
 import os
 import signal
 import sys
 
+from . import TOP
 from .running import Wrong
 
 # The second one is td's own, too.
@@ -43,8 +44,22 @@ def status_of(name, main):
     return status
 
 
-def end(name, main):
-    """Ends as a script's main function says. One that is interrupted, or of which nobody reads the output on, ends by the signal, as other programs do."""
+def version():
+    with open(os.path.join(TOP, "VERSION"), encoding="utf-8") as file:
+        return file.read().strip()
+
+
+def answer_of(name, main, help_text):
+    """What prints the help text or the version, where the one word asks for it; else a script's main function."""
+    words = sys.argv[1:]
+    if words in (["-h"], ["--help"]):
+        return lambda: print(help_text)
+    return (lambda: print(name, version())) if words == ["--version"] else main
+
+
+def end(name, main, help_text):
+    """Ends as a script's main function says, or prints its help text or the version. One that is interrupted, or of which nobody
+    reads the output on, ends by the signal, as other programs do."""
     signal.signal(signal.SIGPIPE, signal.SIG_DFL)
     # What began with the signal ignored, as in the background of a shell script, goes on ignoring it.
     if signal.getsignal(signal.SIGINT) is signal.default_int_handler:
@@ -53,4 +68,4 @@ def end(name, main):
         print("%s: standard output is closed" % name, file=sys.stderr)
         sys.exit(NOT_WRITTEN)
     sys.stdout.reconfigure(errors="replace")
-    sys.exit(status_of(name, main))
+    sys.exit(status_of(name, answer_of(name, main, help_text)))

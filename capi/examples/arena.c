@@ -3,22 +3,20 @@
    a validation takes no memory: the arena may be as large as what td_open took. The stack that it takes is looked at, too. Exit status 0: all
    of it is as said. */
 #include "td.h"
+#include "td_heap.h"
 
 enum { PAINTED = 64 * 1024, PAINT = 0xa5 };
 static _Alignas(16) uint8_t arena[256 * 1024];
 static size_t used;
 
-/* What rattle_alloc gives, in two registers. */
-typedef struct { uint64_t is_ok; void *at; } block;
-
-block rattle_alloc(size_t size, size_t align) {
+td_block rattle_alloc(size_t size, size_t align) {
   (void)align; /* at most 16 */
   size_t need = (size + 15) & ~(size_t)15;
   if (need == 0) need = 16;
-  if (need > sizeof arena - used) return (block){0, (void *)1};
+  if (need > sizeof arena - used) return (td_block){0, (void *)1};
   void *at = arena + used;
   used += need;
-  return (block){1, at};
+  return (td_block){1, at};
 }
 
 /* The arena is given back as a whole. */
@@ -48,8 +46,8 @@ void *memset(void *to, int value, size_t n) {
   return to;
 }
 
-block rattle_realloc(void *at, size_t old_size, size_t new_size, size_t align) {
-  block b = rattle_alloc(new_size, align);
+td_block rattle_realloc(void *at, size_t old_size, size_t new_size, size_t align) {
+  td_block b = rattle_alloc(new_size, align);
   if (b.is_ok) memcpy(b.at, at, old_size < new_size ? old_size : new_size);
   return b;
 }

@@ -1,11 +1,13 @@
-/* Two processes over one file that both have mapped: one stores messages without end, whole ones and broken ones, and the other validates
-   them where they lie. two_processes RNDIS_IMAGE VIRTIO_NET_IMAGE FILE SECONDS. The RNDIS message begins at a word, the other
-   one at byte 5 of one. Whatever is accepted was tested on the very values that were loaded: the cells are never wrong. */
+/* Two processes over memory that both have mapped: one stores messages without end, whole ones and broken ones, and the other validates
+   them where they lie. two_processes RNDIS_IMAGE VIRTIO_NET_IMAGE SECONDS. The RNDIS message begins at a word, the other
+   one at byte 5 of one. Whatever is accepted was tested on the very values that were loaded: the cells are never wrong.
+   The memory is a file that nobody can cut: a load past the end of one that was cut would end the program by SIGBUS. */
 #define _GNU_SOURCE
 #include "common.h"
 #include <fcntl.h>
 #include <stdatomic.h>
 #include <sys/mman.h>
+#include <sys/stat.h>
 #include <sys/wait.h>
 #include <time.h>
 #include <unistd.h>
@@ -19,12 +21,21 @@ typedef struct {
   _Atomic unsigned rounds; /* of the process that stores */
 } memory;
 
-static memory *mapped(const char *path) {
-  int file = open(path, O_RDWR | O_CREAT, 0600);
-  if (file < 0 || ftruncate(file, sizeof(memory))) stop(path, file);
+/* A file in memory that keeps its size. */
+static int sealed_file(void) {
+  int file = memfd_create("messages", MFD_ALLOW_SEALING);
+  if (file < 0 || ftruncate(file, sizeof(memory)) || fcntl(file, F_ADD_SEALS, F_SEAL_SHRINK | F_SEAL_SEAL)) stop("memfd_create", file);
+  return file;
+}
+
+/* Who validates asks for seal and size itself, whoever made the file. */
+static memory *mapped(int file) {
+  struct stat about;
+  int seals = fcntl(file, F_GET_SEALS);
+  if (seals < 0 || !(seals & F_SEAL_SHRINK)) stop("the memory may be cut", seals);
+  if (fstat(file, &about) || about.st_size < (off_t)sizeof(memory)) stop("the memory is too small", 0);
   void *at = mmap(0, sizeof(memory), PROT_READ | PROT_WRITE, MAP_SHARED, file, 0);
   if (at == MAP_FAILED) stop("mmap", 0);
-  close(file);
   return at;
 }
 
@@ -55,8 +66,9 @@ static void put_net(memory *m, unsigned n) {
 }
 
 /* It ends where the process that validates has ended, too. */
-static void store_without_end(const char *path, pid_t parent) {
-  memory *m = mapped(path);
+static void store_without_end(int file, pid_t parent) {
+  memory *m = mapped(file);
+  if (!ftruncate(file, 0)) stop("the memory was cut", 0);
   for (unsigned n = 0; !atomic_load(&m->is_over) && (n % 1024 || getppid() == parent); n++) {
     put_rndis(m, n);
     put_net(m, n / 2);
@@ -114,21 +126,22 @@ static void say(const char *name, const tally *t) {
 }
 
 int main(int argc, char **argv) {
-  if (argc != 5) stop("usage: two_processes RNDIS_IMAGE VIRTIO_NET_IMAGE FILE SECONDS", 0);
+  if (argc != 4) stop("usage: two_processes RNDIS_IMAGE VIRTIO_NET_IMAGE SECONDS", 0);
   static td_session rndis, net; /* a handle keeps its slot, so handles are kept */
   open_image(&rndis, argv[1]);
   open_image(&net, argv[2]);
   uint32_t rndis_entry = entry_of(&rndis, "RNDIS"), net_entry = entry_of(&net, "VIRTIO_NET");
-  memory *m = mapped(argv[3]);
+  int file = sealed_file();
+  memory *m = mapped(file);
   atomic_store(&m->is_over, 0);
   atomic_store(&m->rounds, 0);
   put_rndis(m, 0);
   put_net(m, 0);
   pid_t parent = getpid(), child = fork();
   if (child < 0) stop("fork", child);
-  if (!child) store_without_end(argv[3], parent);
+  if (!child) store_without_end(file, parent);
   tally of_rndis = {0}, of_net = {0};
-  time_t end = time(0) + atoi(argv[4]) + 1;
+  time_t end = time(0) + atoi(argv[3]) + 1;
   /* On a busy machine it is waited for the other process to have stored some. */
   while (time(0) < end || (atomic_load(&m->rounds) < 1000 && time(0) < end + MOST_WAITED))
     for (int i = 0; i < 1000; i++) {

@@ -1,8 +1,6 @@
 """Code as text and as the bytes of an image, and code made at random."""
 
 import functools
-import importlib.machinery
-import importlib.util
 import os
 import random
 import sys
@@ -10,22 +8,12 @@ import sys
 from instructions import FIELDS, FIELDS_OF, NUMBERS, places_of
 
 sys.dont_write_bytecode = True
-TOP = os.path.dirname(os.path.dirname(os.path.dirname(os.path.abspath(__file__))))
+sys.path.append(os.path.dirname(os.path.dirname(os.path.dirname(os.path.abspath(__file__)))))
+from tools import image as IMAGES  # noqa: E402, F401
+
 NO_FIELD = 0xFFFFFFFF
 SITES = places_of("site")
 LIMITS = {field: 256**count for field, count in FIELDS}
-
-
-def loaded_td_image():
-    """The script td-image as a module: it reads images a second time."""
-    path = os.path.join(TOP, "td-image")
-    loader = importlib.machinery.SourceFileLoader("td_image", path)
-    module = importlib.util.module_from_spec(importlib.util.spec_from_loader("td_image", loader))
-    loader.exec_module(module)
-    return module
-
-
-IMAGES = loaded_td_image()
 
 
 class Tables:

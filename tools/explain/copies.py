@@ -3,6 +3,7 @@
 from types import SimpleNamespace as Tree
 
 from reference import safety
+from reference.scopes import bits_of
 from reference.sizes import tree_fields
 
 from .safety import Whole, known_here, ranged, refined_before
@@ -77,7 +78,7 @@ def wrong_room(module, parameter):
             "mend: write the most bytes that the fields copied to `%s` may have." % parameter.name[1]]  # fmt: skip
 
 
-def not_copied(field):
+def not_copied(module, field):
     if field.type[0] == "all_bytes":
         return ["`all_bytes` takes what is left, of no size that is known, and %s." % SOUGHT, "mend: say the bytes: `UINT8 %s[n]`." % field.name[1]]
     if field.array is None and field.type[0] == "INT":
@@ -86,7 +87,22 @@ def not_copied(field):
         return ["`%s` is a number, and %s." % (name, SOUGHT), said % (name, name, field.type[1], field.copy.name[1])]
     if field.array is None:
         return ["`%s` is no array, and %s." % (field.name[1], SOUGHT), "mend: let `%s` be the bytes, `UINT8 %s[n]`." % (field.name[1], field.name[1])]
-    return ["`%s` is an array of another sort, and %s." % (field.name[1], SOUGHT), "mend: write `UINT8 %s[:byte-size ..]`: bytes are copied, whatever they mean." % field.name[1]]
+    return ["`%s` is an array of another sort, and %s." % (field.name[1], SOUGHT), elements_or_bytes(module, field)]
+
+
+def elements_or_bytes(module, field):
+    """Of an array of other elements: its bytes are copied or its elements validated, and no field does both."""
+    name, made, buffer = field.name[1], field.type[1], field.copy.name[1]
+    found = module.watch.known.own(made)
+    base = made if field.type[0] == "INT" else found.base if getattr(found, "kind", None) == "number" else None
+    if base is not None and field.array == "[:byte-size":
+        width = bits_of(base) // 8
+        more = "; that the size is a multiple of %d is then no test: test its number, by `%% %d == 0`" % (width, width) if width > 1 else ", which are the same bytes"
+        return "mend: write `UINT8 %s[:byte-size ..]`%s." % (name, more)
+    return (
+        "mend: no field both validates elements and copies them. `UINT8 %s[:byte-size ..] {:copy %s}` copies the bytes, and what `%s` tests is then no test"
+        " of the format: let the program test its copy, to which nobody else stores. Or take `{:copy %s}` out, and let actions in `%s` deliver numbers."
+    ) % (name, buffer, made, buffer, made)
 
 
 def no_buffer(module, own, field):
@@ -117,7 +133,7 @@ def help_of(module):
     if module.error.code == "Y2" and parameter is not None:
         return wrong_room(module, parameter)
     if module.error.code == "Y4" and field is not None:
-        return not_copied(field)
+        return not_copied(module, field)
     if module.error.code in ("N1", "N4") and field is not None:
         return no_buffer(module, own, field)
     word = module.token(module.index_at(at))[1]

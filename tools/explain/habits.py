@@ -76,6 +76,16 @@ def advise(said, *edits):
     return Advice(said=said, edits=edits)
 
 
+def truth_as_constant(here):
+    """`case true:`: a constant is a number."""
+    if here.kind not in ("true", "false") or here.innermost() != "constant":
+        return None
+    number = "1" if here.kind == "true" else "0"
+    begun = "case " if here.word(-1) == "case" else "%s = " % here.word(-2) if here.word(-1) == "=" else ""
+    more = ", and let what is switched on be a number, as `switch (e ? 1 : 0)` of a condition" if begun == "case " else ""
+    return advise("A constant is a number, and no truth value: write `%s%s`%s." % (begun, number, more), (here.at, here.end(), number))
+
+
 def keyword_as_name(here):
     if "NAME" not in here.asked or (here.kind not in KEYWORDS and here.kind != "INT"):
         return None
@@ -159,7 +169,7 @@ def sign_missing(here):
 
 # Where more tokens than these may stand, none is said to be missing.
 MOST_ASKED = 3
-GENERAL = [pointer_type, keyword_as_name, missing_semicolon, sign_too_many, sign_missing, ended_early]
+GENERAL = [pointer_type, truth_as_constant, keyword_as_name, missing_semicolon, sign_too_many, sign_missing, ended_early]
 
 
 def advice_of(here):

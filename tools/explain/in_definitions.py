@@ -1,8 +1,8 @@
 """What is written instead of definitions that the grammar doesn't have. A rule gives None where it doesn't fit."""
 
-from types import SimpleNamespace as Advice
+import ast
 
-from reference.tokens import whole
+from types import SimpleNamespace as Advice
 
 # The first words of what other languages have in a definition's place.
 FIRST_WORDS = {
@@ -93,25 +93,24 @@ def union(here):
 
 def constant_value(here):
     """What stands in the place of a constant's number."""
-    if here.word(-2) == "#define" and here.kind_at(-1) == "NAME":
-        name, number = here.word(-1), None
-        if here.kind == "(" and here.kind_at(1) == "NUM" and here.kind_at(2) == ")":
-            number = here.word(1)
-            return advise("A constant is a number alone: write `#define %s %s`." % (name, number), (here.begin(), here.end(2), number))
-        if here.kind == "-" and here.kind_at(1) == "NUM":
-            value = here.module.token(here.index + 1)[1]
-            bits = 16 if value <= 2**15 else 64
-            number = hex(-value % 2**bits)
-            said = "There are no negative numbers: write what its bytes hold, of %d bits `#define %s %s`." % (bits, name, number)
-            return advise(said, (here.begin(), here.end(1), number))
-        if here.kind == "sizeof":
-            closing = here.matching(1)
-            said = "A constant is a number alone: write `%s` where %s is used, or the number that it is." % (here.source(0, closing or 0), name)
-            return advise(said, *size_edit(here, closing))
-        if here.kind == "NAME":
-            return advise("A constant is a number alone: write that of `%s` again, or list both in an enum." % here.word())
-        return advise("A constant needs a number: write `#define %s 1`, or take the line out; there is no `#if`." % name)
-    return None
+    if here.word(-2) != "#define" or here.kind_at(-1) != "NAME":
+        return None
+    name = here.word(-1)
+    if here.kind == "-" and here.kind_at(1) == "NUM":
+        value = here.module.token(here.index + 1)[1]
+        bits = 16 if value <= 2**15 else 64
+        number = hex(-value % 2**bits)
+        said = "There are no negative numbers: write what its bytes hold, of %d bits `#define %s %s`." % (bits, name, number)
+        return advise(said, (here.begin(), here.end(1), number))
+    if here.kind == "sizeof":
+        closing = here.matching(1)
+        said = "A constant is a number alone: write `%s` where %s is used, or the number that it is." % (here.source(0, closing or 0), name)
+        return advise(said, *size_edit(here, closing))
+    if here.kind in ("true", "false"):
+        return advise("A constant is a number, and no truth value: write `%s` itself where %s is used." % (here.word(), name))
+    if here.kind in ("(", "~", "+") or here.kind == "NAME" and here.begin() <= end_of_line(here):
+        return one_number(here, name, 0)
+    return advise("A constant needs a number: write `#define %s 1`, or take the line out; there is no `#if`." % name)
 
 
 def size_edit(here, closing):
@@ -127,30 +126,71 @@ def after_constant(here):
     name, number = here.word(-2), here.word(-1)
     if here.kind == ";":
         return advise("No `;` stands after a constant: write `#define %s %s`." % (name, number), (here.begin(), here.end(), ""))
-    last = 0
-    while here.kind_at(last) in ("+", "-", "*", "/", "%", "<<", ">>", "|", "&", "^") and here.kind_at(last + 1) == "NUM":
-        last += 2
-    if last:
-        value = worked_out(here, last)
-        write = ", written `#define %s %s`" % (name, value) if value is not None else ""
-        edits = [(here.begin(-1), here.end(last - 1), str(value))] if value is not None else []
-        return advise("A constant is one number: the one that this makes%s." % write, *edits)
-    return None
+    return one_number(here, name, -1) if here.kind in OPERATORS else None
 
 
-def worked_out(here, last):
-    """The value of a short chain of numbers and operators; None where it isn't a number of 64 bits."""
-    words = [here.word(offset) for offset in range(-1, last)]
-    shifted = [number for sign, number in zip(words, words[1:]) if sign == "<<"]
-    if last > 20 or any(len(number) > 2 for number in shifted):
-        return None
-    words = [str(int(word, 16) if word[:2] in ("0x", "0X") else whole(word)) if word[0].isdigit() else word for word in words]
+def end_of_line(here):
+    """The end of the line on which the token before stands."""
+    end = here.module.text.find(b"\n", here.begin(-1))
+    return end if end >= 0 else len(here.module.text)
+
+
+def one_number(here, name, first):
+    """A constant that an expression is to make: its tokens are those of the line, from an offset on."""
+    end, last = end_of_line(here), first
+    while here.kind_at(last + 1) in (*OPERATORS, "NUM", "NAME", "(", ")", "~") and here.begin(last + 1) < end:
+        last += 1
+    value = worked_out(here, first, last)
+    if value is None:
+        return advise("A constant is one number, in digits: the one that `%s` makes." % here.source(first, last))
+    alone = first == last or (here.kind_at(first) == "(" and first + 2 == last)
+    said = "A constant is a number alone: write `#define %s %s`." if alone else "A constant is one number: the one that this makes, written `#define %s %s`."
+    return advise(said % (name, value), (here.begin(first), here.end(last), str(value)))
+
+
+OPERATORS = ("+", "-", "*", "/", "%", "<<", ">>", "|", "&", "^")
+# What Python's reader of expressions calls them. Its levels are C's.
+WORK = {
+    ast.Add: lambda a, b: a + b, ast.Sub: lambda a, b: a - b, ast.Mult: lambda a, b: a * b, ast.FloorDiv: lambda a, b: a // b, ast.Mod: lambda a, b: a % b,
+    ast.LShift: lambda a, b: a << b if b < 64 else None, ast.RShift: lambda a, b: a >> b, ast.BitOr: lambda a, b: a | b, ast.BitAnd: lambda a, b: a & b,
+    ast.BitXor: lambda a, b: a ^ b,
+}  # fmt: skip
+MOST_WORDS = 40
+
+
+def worked_out(here, first, last):
+    """The value of a short expression of numbers and of constants before it; None where it isn't a number of 64 bits at each step."""
+    before, words = constants_before(here), []
+    for offset in range(first, last + 1):
+        kind, value, _ = here.module.token(here.index + offset)
+        value = before.get(value) if kind == "NAME" else value
+        if kind in ("NUM", "NAME") and value is None:
+            return None
+        words.append(str(value) if kind in ("NUM", "NAME") else "//" if kind == "/" else kind)
     try:
-        # Numbers and C's operators alone, of which Python's have the same levels; `/` rounds down.
-        value = eval(" ".join(words).replace("/", "//"), {"__builtins__": {}})  # noqa: S307
-    except (ArithmeticError, ValueError, MemoryError):
+        return number_of(ast.parse(" ".join(words), mode="eval").body) if len(words) <= MOST_WORDS else None
+    except (SyntaxError, ArithmeticError, ValueError):
         return None
-    return value if isinstance(value, int) and 0 <= value < 2**64 else None
+
+
+def number_of(tree):
+    """The value of an expression that Python read."""
+    if isinstance(tree, ast.Constant):
+        return tree.value
+    if not isinstance(tree, ast.BinOp):
+        return None
+    left, right = number_of(tree.left), number_of(tree.right)
+    value = WORK[type(tree.op)](left, right) if left is not None and right is not None else None
+    return value if value is not None and 0 <= value < 2**64 else None
+
+
+def constants_before(here):
+    """The constants that are defined before the place, by name."""
+    module, found = here.module, {}
+    for index in range(here.index - 2):
+        if module.token(index)[0] == "#define" and module.token(index + 2)[0] == "NUM":
+            found.setdefault(module.token(index + 1)[1], module.token(index + 2)[1])
+    return found
 
 
 def struct_without_typedef(here):

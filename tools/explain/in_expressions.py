@@ -2,6 +2,8 @@
 
 from types import SimpleNamespace as Advice
 
+from . import cells
+
 COMPARISONS = ("==", "!=", "<", "<=", ">", ">=")
 
 
@@ -42,6 +44,21 @@ def member_of_list(here):
     tests = " || ".join("%s == %s" % (name, value) for value in values)
     said = "There is no `in`: write `%s`, or list the values in an enum and give `%s` its type." % (tests, name)
     return advise(said, (here.begin(-1), here.end(at), tests))
+
+
+def cell_read(here):
+    """`*v` where a value stands."""
+    if here.kind != "*" or here.kind_at(1) != "NAME" or "NUM" not in here.asked or not in_expression(here):
+        return None
+    module, cell, opening = here.module, here.word(1), here.first_of("whole") - 1
+    if here.inside("statement"):
+        begin = here.begin(here.first_of("statement"))
+        said = cells.read_before(module, cell, begin, lambda name: (here.begin(), here.end(1), name))
+    elif here.kind_at(opening) == "{" and here.matching(opening) is not None:
+        said = cells.tested_in_action(module, cell, here.index + opening, here.index + here.matching(opening))
+    else:
+        said = ["mend: %s." % cells.ELSEWHERE]
+    return advise("A cell is read in an action alone: " + said[0].removeprefix("mend: "))
 
 
 def cast(here):
@@ -171,6 +188,7 @@ def returned_nothing(here):
 
 
 RULES = [
+    cell_read,
     chained,
     assignment_for_comparison,
     member_of_list,

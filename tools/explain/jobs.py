@@ -136,14 +136,30 @@ def fields_of(path):
 
 
 def field_of_the_other(job, path):
-    """Of a field that has its form, and is refused as only jobs of the other command have it."""
-    if not isinstance(job.value, dict) or path not in job.value:
+    """Of a field that has its form, and is refused as only jobs of the other command have it; or of one that is missing for that."""
+    if not isinstance(job.value, dict):
         return []
+    if path not in job.value:
+        return job_of_the_other(job, path)
     for alone, command, other, fields in ((HOST_ALONE, "host", "run", RUN_FIELDS), (RUN_ALONE, "run", "host", HOST_FIELDS)):
         if path in alone and alone[path](job.value[path]):
             names = ", ".join("`%s`" % field for field in fields)
             return ["`%s` is a field of jobs for `td %s` alone: those for `td %s` have %s." % (path, command, other, names),
                     "mend: take `%s` out, or give a job with it to `td %s`." % (path, command)]  # fmt: skip
+    return []
+
+
+def listed(words):
+    return words[0] if len(words) == 1 else "%s and %s" % (", ".join(words[:-1]), words[-1])
+
+
+def job_of_the_other(job, path):
+    """Of a field that every job of one command has, where all that stands there is the other command's."""
+    for needed, alone, command, other in (("bytes", HOST_ALONE, "run", "host"), ("buffer", RUN_ALONE, "host", "run")):
+        found = ["`%s`" % field for field in alone if field in job.value]
+        if path == needed and found:
+            said = "The job has no `%s`, which each job for `td %s` has; it has %s, which jobs for `td %s` have alone." % (path, command, listed(found), other)
+            return [said, "mend: give it to `td %s`: the module, a line `%%%%` and the job are its input." % other]
     return []
 
 

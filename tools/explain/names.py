@@ -5,7 +5,7 @@ import difflib
 from reference.sizes import tree_fields
 from reference.tokens import NUMBER_TYPES
 
-from .spelling import many, parameter_text, quoted, spelled, word_at
+from .spelling import free_name, many, names_in, parameter_text, quoted, spelled, word_at
 
 TYPES_OF_OTHERS = {
     "uint8_t": "UINT8", "uint16_t": "UINT16", "uint32_t": "UINT32", "uint64_t": "UINT64",
@@ -182,6 +182,9 @@ def unknown_name(module):
     own, first, last = module.definition_at(at)
     if own is not None and word in (own.name[1], tag_of(module, own)):
         said = "`%s` is the type that is being defined, and no type holds itself: each definition names earlier ones alone." % word
+        own_size = size_of_this(module, word)
+        if own_size:
+            return [said] + own_size
         return [said, "mend: elements that follow each other are an array by bytes of a type that is defined before."]
     tagged = next((tree for tree in module.trees if tag_of(module, tree) == word and tree.name[2] < at), None)
     if tagged is not None:
@@ -202,6 +205,17 @@ def unknown_name(module):
         return lines + ["mend: write `%s`." % near[0]]
     lines = lines or ["No name like it is defined before this place."]
     return lines + ["mend: name one of these, or define `%s` before: a constant by `#define %s 1`, a type by `typedef`." % (word, word)]
+
+
+def size_of_this(module, word):
+    """Of `sizeof(T)` in T itself: `sizeof(this)` in its place."""
+    at, index = module.error.at, module.index_at(module.error.at)
+    if [module.token(index - 2)[0], module.token(index - 1)[0]] != ["sizeof", "("]:
+        return []
+    own = module.definition_at(at)[0]
+    if own.kind != "struct" or not module.mends((at, at + len(word), "this")):
+        return ["mend: write the number of bytes, or `sizeof` of a struct before it that holds the same fields."]
+    return ["mend: write `sizeof(this)`: the size of the leading fields of `%s`, up to the first one that has no constant size." % own.name[1]]
 
 
 def in_scope(local):
@@ -254,11 +268,6 @@ def name_twice(module):
         lines.append("`%s` stands first at %s, as a %s." % (word, module.place(place), what))
     other = free_name(module, word)
     return lines + ["mend: give this one another name, as `%s`, here and where it is meant." % other]
-
-
-def free_name(module, word):
-    taken = {token[1] for token in module.tokens if token[0] == "NAME"}
-    return next(name for name in [word + "_"] + ["%s%d" % (word, n) for n in range(2, len(taken) + 3)] if name not in taken)
 
 
 def constant_number(module, token):
@@ -319,7 +328,7 @@ def not_readable(module):
         if field.array:
             return lines + ["mend: test each element in its type: `typedef struct _E { UINT8 k { k > 0 }; } E; .. E %s[:byte-size ..];`; what the"
                             " array's size needs is a refinement of the number that gives it." % field.name[1]]  # fmt: skip
-        return lines + ["mend: write the test in that type, where its fields have names; it may take parameters."]
+        return lines + [test_elsewhere(module, field)]
     word = word_at(module.text, at)
     field = field_named(own, word, at) if own is not None else None
     if field is None:
@@ -329,6 +338,20 @@ def not_readable(module):
         return lines + ["mend: give the bytes that are tested fields of their own, as `UINT8 %s0;` before the rest, or give the elements a struct type"
                         " with a refinement." % word]  # fmt: skip
     return lines + ["mend: name a number; what must be known of `%s` is tested in its type, which may take parameters." % word]
+
+
+def test_elsewhere(module, field):
+    """Of a refinement of a field that is no number: an action may test what doesn't name the field itself."""
+    begin, end, _ = module.span(field.refinement)
+    opening, closing = module.index_at(begin) - 1, module.index_at(end)
+    test = spelled(field.refinement, module.text)
+    edit = (module.token(opening)[2], module.end_of(closing), "{:check return %s;}" % test)
+    if field.action is None and field.copy is None and names_in(field.refinement) and module.mends(edit, safe=True):
+        said = "mend: test it in an action: `%s %s {:check return %s;};`. Where that fails, the reason is `action`."
+        return said % (field.type[1] if field.type[0] == "NAME" and not field.arguments else module.source(module.index_at(field.type[2]), opening - 2), field.name[1], test)
+    if field.type[0] != "NAME":
+        return "mend: test the numbers before it where they stand, or in an action here, `{:check return ..;}`."
+    return "mend: write the test in that type, where its fields have names; it may take parameters."
 
 
 def wrong_arguments(module):

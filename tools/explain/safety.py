@@ -194,7 +194,9 @@ def refined_before(module, whole, tree, condition):
             end = module.end_of(module.index_at(field.width[2] if field.width else field.name[2]))
             new = " { %s }" % condition
         said = "test it where `%s` stands, at %s: `%s`. Messages for which that fails are then rejected."
-        text = " ".join(("%s %s%s" % (field.type[1], field.name[1], " { .. && %s }" % condition if field.refinement is not None else new)).split())
+        width = " : " + module.spelling(module.index_at(field.width[2])) if field.width else ""
+        test = " { .. && %s }" % condition if field.refinement is not None else new
+        text = " ".join(("%s %s%s%s" % (field.type[1], field.name[1], width, test)).split())
         yield said % (field.name[1], module.place(field.name[2]), text), [(end, end, new)]
     elif whole.own.guard is not None and whole.tree is not whole.own.guard:
         new = "%s && %s" % (condition, spelled(whole.own.guard, module.text, LEVEL_OF["&&"]))

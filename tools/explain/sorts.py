@@ -6,6 +6,7 @@ from reference.sizes import tree_fields
 from reference.tokens import NUMBER_TYPES
 
 from . import constants
+from . import cells
 from .spelling import BITWISE, LEVEL_OF, UNARY, parameter_text, spelled, word_at
 
 TIGHTER_THAN_COMPARISON = LEVEL_OF["=="] + 1
@@ -163,7 +164,7 @@ def name_of_wrong_sort(module, tree, scope):
     found = module.watch.known.find(scope, tree.value)
     lines = ["`%s` is %s, and no number or truth value." % (tree.value, STANDS_FOR.get(found.kind, "another sort of name"))]
     if found.kind == "cell":
-        return lines + ["mend: read it in an action, by `var v = *%s;`, and name `v`." % tree.value]
+        return lines + cells.mend_of_name(module, tree.value)
     if found.kind in ("row", "record"):
         return lines + ["mend: a record is written alone; keep what is read again in a cell of its own, `mutable UINT32 *n`."]
     if found.kind in ("type", "number", "enum"):

@@ -93,3 +93,9 @@ def quoted(words):
 
 def many(count, one, more=None):
     return "%d %s" % (count, one if count == 1 else more or one + "s")
+
+
+def free_name(module, word):
+    """A name near this one that nothing in the text has."""
+    taken = {token[1] for token in module.tokens if token[0] == "NAME"}
+    return next(name for name in [word + "_"] + ["%s%d" % (word, n) for n in range(2, len(taken) + 3)] if name not in taken)

@@ -1,6 +1,6 @@
 """Entry points of code as C functions: their declarations for a header, and their bodies."""
 
-from .names import escaped, undotted, unique
+from ..c_names import escaped, undotted, unique
 from .routines import function_name
 
 NO_FIELD = 0xFFFFFFFF

@@ -4,7 +4,7 @@ import re
 
 from instructions import places_of
 
-from .names import undotted
+from ..c_names import undotted
 
 REASONS = ("TD_NOT_ENOUGH", "TD_IMPOSSIBLE", "TD_LIST_SIZE", "TD_ACTION", "TD_CONSTRAINT", "TD_PADDING")
 # What each operator computes of two registers, and of one with itself where a compiler would warn of that.

@@ -1,9 +1,10 @@
 """Modules: what is looked at in a module text, in order."""
 
+from .errors import ModuleError
 from .parts import linked
-from .rules import elaborated
-from .safety import check_safety
-from .sizes import check_counts, check_kinds, check_sizes
+from .rules import elaborated, elaborator_of
+from .safety import check_safety, safety_breaches
+from .sizes import check_counts, check_kinds, check_sizes, kind_breaches
 from .tokens import tokens_of
 from .trees import Parser
 
@@ -23,3 +24,20 @@ def module_of(text):
     check_safety(known.types)
     check_sizes(trees, known)
     return trees, known
+
+
+def refusals_of(text):
+    """Every refusal that the first pass finds that has one, in order: the first is the text's own. Those behind it may come of it."""
+    try:
+        parts = parts_of_module(text)
+        check_counts([tree for part in parts for tree in part.definitions])
+        trees = linked(parts)
+        elaborator = elaborator_of(trees)
+        found = elaborator.breaches.in_order()
+        types = elaborator.known.types
+        found = found or list(kind_breaches(types)) or list(safety_breaches(types))
+        if not found:
+            check_sizes(trees, elaborator.known)
+        return found
+    except ModuleError as refusal:
+        return [refusal]

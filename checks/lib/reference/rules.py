@@ -371,9 +371,15 @@ def gathered(fields):
     return found
 
 
-def elaborated(trees):
+def elaborator_of(trees):
+    """What went over all definitions, with the rules that they break."""
     elaborator = Elaborator()
     for tree in trees:
         elaborator.definition(tree)
+    return elaborator
+
+
+def elaborated(trees):
+    elaborator = elaborator_of(trees)
     elaborator.breaches.refuse_first()
     return elaborator.known

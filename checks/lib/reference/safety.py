@@ -188,6 +188,11 @@ def module_unsafe(types):
         yield from sorted(type_unsafe(made))
 
 
-def check_safety(types):
+def safety_breaches(types):
     for at, words in module_unsafe(types):
-        raise ModuleError("A2" if words == "room" else "A1", at, words)
+        yield ModuleError("A2" if words == "room" else "A1", at, words)
+
+
+def check_safety(types):
+    for breach in safety_breaches(types):
+        raise breach

@@ -30,10 +30,13 @@ class Breaches:
         if test:
             self.note(rule, at)
 
+    def in_order(self):
+        """A refusal for each, the first that is named first. Of one rule at one place there is one."""
+        return [ModuleError(rule, at, RULES[rule]) for _, at, rule in sorted(set(self.found))]
+
     def refuse_first(self):
-        if self.found:
-            _, at, rule = min(self.found)
-            raise ModuleError(rule, at, RULES[rule])
+        for refusal in self.in_order()[:1]:
+            raise refusal
 
 
 # What the name of a definition, a constant or a member stands for: `kind` is constant, member, number, enum, type, record.

@@ -64,17 +64,22 @@ def field_lists(made):
     return [fields for _, fields in made.cases] + ([made.default] if made.default is not None else [])
 
 
-def check_kinds(types):
+def kind_breaches(types):
     """K1: an element of an array by bytes that may be empty. K2: what takes the rest isn't last, or is such an element."""
     for made in types:
         for fields in field_lists(made):
             for place, field in enumerate(fields):
                 kind = element_kind(types, field.element)
                 if field.extent[0] == "bytes" and kind[0] == 0:
-                    raise ModuleError("K1", field.at, "element may be empty")
+                    yield ModuleError("K1", field.at, "element may be empty")
                 last = place + 1 == len(fields)
                 if (field.extent[0] == "bytes" and kind[2]) or (field_kind(types, field)[2] and not last):
-                    raise ModuleError("K2", field.at, "rest not last")
+                    yield ModuleError("K2", field.at, "rest not last")
+
+
+def check_kinds(types):
+    for breach in kind_breaches(types):
+        raise breach
 
 
 # ---- Limits, told on trees. Nodes are definitions, parameters, fields, cases, items, statements and expression nodes.

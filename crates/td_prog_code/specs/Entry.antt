@@ -121,7 +121,7 @@ IsTold e before message Lost way = ⊥
 abbrev pub EntryRuns : Type 0
 EntryRuns =
     (c : Parts) (names : ℕ → List ℕ) (entry : Entry) (size most : ℕ) (args : List ℕ) (before : Caller) (loads : List Load) (answer : Answer) →
-    IsCode c → IsSound c → HasNumbers c → Fits c entry args before.cells → size < 2 ^ 32 → 2 ^ 32 < most → map length (bytes_of before.buffers) ≡ rooms_of c entry →
+    IsCode c → IsSound c → HasNumbers c → Fits c entry args before.cells → size < 2 ^ 32 → size + 1 < most → map length (bytes_of before.buffers) ≡ rooms_of c entry →
     Plays (entry_run most c names entry.number size args before) loads answer →
     Each (λ (l : Load). l.value < 2 ^ 64) loads →
     IsFetchedOnce (plain size) loads (λ b. AreBytes b →

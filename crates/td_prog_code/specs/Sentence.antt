@@ -1,5 +1,5 @@
 -- What the program of a code does (own rule): the sentence about it.
-use Rattle.std.specs.Prelude.{◌≡◌, ℕ, ◌^◌, ◌<◌, List, [], ◌∷◌, length, map, take, drop}
+use Rattle.std.specs.Prelude.{◌≡◌, ℕ, ◌+◌, ◌^◌, ◌<◌, List, [], ◌∷◌, length, map, take, drop}
 use Rattle.td_num.specs.Lists.{Each, AreBytes}
 use Rattle.td_core.specs.declared.module.Entry.{Entry}
 use Rattle.td_core.specs.Outcome.{copies_by}
@@ -60,11 +60,11 @@ pub record HasNumbers (c : Parts) : Type 0 where
 
 -- THE SENTENCE. The program of verified code, run from an entry point over a message of less than 2^32 bytes with arguments and cells that fit, whatever 64 bits each load gives: it ends
 -- without doing what C leaves undefined; each word is loaded at most once, in rising order, and only words of the message; and for each list of bytes that carries the loads, the end is that
--- of the code's run on that list, and exactly the words with a byte that this run looks at were loaded. No loop takes more than 2^32 turns.
+-- of the code's run on that list, and exactly the words with a byte that this run looks at were loaded. No loop takes more turns than the message has bytes.
 abbrev pub ProgramRuns : Type 0
 ProgramRuns =
     (c : Parts) (names : ℕ → List ℕ) (entry : Entry) (size most : ℕ) (args cells : List ℕ) (buffers : List (List ℕ)) (loads : List Load) (out : Out) →
-    IsCode c → IsSound c → HasNumbers c → Fits c entry args cells → size < 2 ^ 32 → 2 ^ 32 < most → map length buffers ≡ rooms_of c entry →
+    IsCode c → IsSound c → HasNumbers c → Fits c entry args cells → size < 2 ^ 32 → size + 1 < most → map length buffers ≡ rooms_of c entry →
     Plays (run most (program c names) (entry_of c entry.number).routine size args (opened_by c entry cells) buffers) loads out →
     Each (λ (l : Load). l.value < 2 ^ 64) loads →
     IsFetchedOnce (plain size) loads (λ b. AreBytes b →

@@ -1,4 +1,5 @@
 mod Sentence
+mod OpenLoops
 pub mod Laying
 pub mod Sound
 mod Entry

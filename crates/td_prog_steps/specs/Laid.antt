@@ -32,12 +32,14 @@ pub record OwnFits (c : Parts) (basis : Basis) (n : ℕ) (places own : List ℕ)
   pub there : (b : ℕ) → b < length (routine_of c n).buffers → slice_index own b < length basis.lengths
   pub cells : (k : ℕ) → k < (routine_of c n).cells → slice_index places k < basis.first
   pub place : (b : ℕ) → b < length (routine_of c n).buffers → slice_index places ((routine_of c n).cells + 2 * b) ≡ basis.first + 2 * slice_index own b
-  pub count : (b : ℕ) → b < length (routine_of c n).buffers → slice_index places ((routine_of c n).cells + 2 * b + 1) ≡ basis.first + 2 * slice_index own b + 1
+  pub count : (b : ℕ) → b < length (routine_of c n).buffers
+      → slice_index places ((routine_of c n).cells + 2 * b + 1) ≡ basis.first + 2 * slice_index own b + 1
 
 -- a turn that ends takes a byte, and leaves the end
 abbrev pub IsBusy : (c : Parts) → (message places : List ℕ) → (n pc : ℕ) → Type 0
 IsBusy c message places n pc =
-    (s t : State) → s.pos ≤ s.end → s.end ≤ s.outer → (block c message n places (pc + 1) s).way ≡ Turned t → (nat_lt s.pos t.pos && nat_eq t.end s.end) ≡ true
+    (s t : State) → s.pos ≤ s.end → s.end ≤ s.outer → (block c message n places (pc + 1) s).way ≡ Turned t →
+    (nat_lt s.pos t.pos && nat_eq t.end s.end) ≡ true
 
 module _ (c : Parts) (message places : List ℕ) (n : ℕ) where
   -- a loop's body stands first, and next what is behind it, which begins at the target
@@ -79,7 +81,8 @@ module _ (c : Parts) (message places : List ℕ) (n : ℕ) where
 -- all routines of code, on each message
 pub record IsWellLaid (c : Parts) : Type 0 where
   pub divided : (n : ℕ) → n < length c.routines → end_of c n ≤ length c.instructions
-  pub laid : (message places : List ℕ) (n : ℕ) → n < length c.routines → AreLaid c message places n (first_of c n) (slice_range c.instructions (first_of c n) (end_of c n))
+  pub laid : (message places : List ℕ) (n : ℕ) → n < length c.routines
+      → AreLaid c message places n (first_of c n) (slice_range c.instructions (first_of c n) (end_of c n))
   pub some : (n : ℕ) → n < length c.routines → 0 < length (blocks c n (first_of c n) (slice_range c.instructions (first_of c n) (end_of c n)))
 
 -- constants are numbers of 64 bits, as their type has it

@@ -4,3 +4,5 @@ pub mod Guarded
 pub mod Composing
 pub mod Numbers
 pub mod Fetching
+pub mod Buffers
+pub mod CopyHelper

@@ -5,3 +5,4 @@ pub mod Costs
 pub mod Stretches
 mod Bounds
 pub mod Runs
+-- (laws' lemmas)
