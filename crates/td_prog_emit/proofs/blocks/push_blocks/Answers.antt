@@ -1,4 +1,3 @@
--- by hand
 use Rattle.td_prog_emit.proofs.blocks.push_blocks.Goals as goal
 use Rattle.std.proofs.Common.{◌≡◌, ◌≤◌, ◌<◌, ◌+◌, ◌-◌, ℕ, ap, subst, sym, ◌∙◌, arith, ◌++◌}
 use Rattle.std.specs.Prelude.{slice_index_or, slice_range}

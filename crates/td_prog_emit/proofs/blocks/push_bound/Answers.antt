@@ -1,4 +1,3 @@
--- by hand
 use Rattle.td_prog_emit.proofs.blocks.push_bound.Goals as goal
 use Rattle.std.proofs.Common.{ap, sym, refl}
 use Rattle.td_prog_emit.proofs.Texts.{recut}

@@ -1,4 +1,3 @@
--- by hand
 use Rattle.td_prog_emit.proofs.blocks.push_marked.Goals as goal
 use Rattle.std.proofs.Common.{refl}
 use Rattle.td_prog_emit.proofs.Texts.{as_one}

@@ -1,4 +1,3 @@
--- by hand
 use Rattle.td_prog_emit.proofs.blocks.push_place.Goals as goal
 use Rattle.std.proofs.Common.{Bool, ap, ◌∙◌}
 use Rattle.std.specs.Prelude.{◌∷◌, ◌++◌}

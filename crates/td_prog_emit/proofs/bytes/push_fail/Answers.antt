@@ -1,4 +1,3 @@
--- by hand
 use Rattle.td_prog_emit.proofs.bytes.push_fail.Goals as goal
 use Rattle.std.proofs.Common.{[], codes, ap}
 use Rattle.td_core.specs.declared.outcome.Reason.{Reason}

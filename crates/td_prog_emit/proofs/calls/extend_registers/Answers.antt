@@ -1,4 +1,3 @@
--- by hand
 use Rattle.td_prog_emit.proofs.calls.extend_registers.Goals as goal
 use Rattle.std.proofs.Common.{◌++◌, ◌+◌, codes, decimal}
 use Rattle.td_prog_emit.proofs.Arguments.{registers_more}

@@ -1,4 +1,3 @@
--- by hand
 use Rattle.td_prog_emit.proofs.calls.push_arguments.Goals as goal
 use Rattle.td_prog_emit.proofs.Arguments.{arguments_are}
 use Rattle.td_prog_emit.proofs.Texts.{recut}

@@ -1,4 +1,3 @@
--- by hand
 use Rattle.td_prog_emit.proofs.calls.push_buffers.Goals as goal
 use Rattle.td_prog_emit.proofs.Texts.{piece}
 

@@ -1,4 +1,3 @@
--- by hand
 use Rattle.td_prog_emit.proofs.calls.push_called.Goals as goal
 use Rattle.std.proofs.Common.{length}
 use Rattle.td_prog_emit.proofs.Arguments.{name_there}

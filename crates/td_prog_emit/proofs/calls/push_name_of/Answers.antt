@@ -1,4 +1,3 @@
--- by hand
 use Rattle.td_prog_emit.proofs.calls.push_name_of.Goals as goal
 use Rattle.std.proofs.Common.{ℕ, List, map, ◌++◌, ap, ◌∙◌}
 use Rattle.std.proofs.lemmas.List.{map-append}

@@ -1,4 +1,3 @@
--- by hand
 use Rattle.td_prog_emit.proofs.calls.push_routine_name.Goals as goal
 use Rattle.std.proofs.Common.{[], ◌∷◌, ◌++◌, codes, decimal, ap, ◌∙◌, append_assoc}
 use Rattle.td_ir.specs.declared.tables.Routine.{Routine}

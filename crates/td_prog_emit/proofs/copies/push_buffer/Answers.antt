@@ -1,4 +1,3 @@
--- by hand
 use Rattle.td_prog_emit.proofs.copies.push_buffer.Goals as goal
 use Rattle.std.proofs.Common.{[], ◌++◌, codes, decimal, sym}
 use Rattle.std.proofs.lemmas.List.{append-nil}

@@ -1,4 +1,3 @@
--- by hand
 use Rattle.td_prog_emit.proofs.copies.push_copy.Goals as goal
 use Rattle.std.proofs.Common.{ℕ, ◌+◌, ◌*◌, ap, ◌∙◌}
 use Rattle.td_ir.specs.Tables.{routine_of}

@@ -1,4 +1,3 @@
--- by hand
 use Rattle.td_prog_emit.proofs.functions.parts_of.Goals as goal
 use Rattle.std.proofs.Common.{sym, subst, ◌∙◌}
 use Rattle.td_ir.specs.WellFormed.{IsCode}

@@ -1,4 +1,3 @@
--- by hand
 use Rattle.td_prog_emit.proofs.functions.push_routines.Goals as goal
 use Rattle.std.proofs.Common.{◌<◌, ◌≡◌, ◌-◌, length, drop, ap, ◌∙◌, arith, length-drop}
 use Rattle.td_ir.specs.Tables.{first_of, routine_of}

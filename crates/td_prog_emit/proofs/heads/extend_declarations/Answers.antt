@@ -1,4 +1,3 @@
--- by hand
 use Rattle.td_prog_emit.proofs.heads.extend_declarations.Goals as goal
 use Rattle.std.proofs.Common.{◌++◌, ◌+◌, codes, decimal, flat_map}
 use Rattle.td_prog.specs.Syntax.{registers}

@@ -1,4 +1,3 @@
--- by hand
 use Rattle.td_prog_emit.proofs.heads.extend_parameters.Goals as goal
 use Rattle.std.proofs.Common.{◌++◌, ◌+◌, codes, decimal, map}
 use Rattle.td_prog.specs.Syntax.{registers}

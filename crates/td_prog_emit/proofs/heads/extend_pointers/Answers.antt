@@ -1,4 +1,3 @@
--- by hand
 use Rattle.td_prog_emit.proofs.heads.extend_pointers.Goals as goal
 use Rattle.std.proofs.Common.{◌++◌, ◌+◌, codes, decimal}
 use Rattle.td_prog_emit.proofs.Texts.{stepped}

@@ -1,4 +1,3 @@
--- by hand
 use Rattle.td_prog_emit.proofs.heads.push_pointers.Goals as goal
 use Rattle.td_prog_emit.proofs.Texts.{piece}
 

@@ -1,4 +1,3 @@
--- by hand
 use Rattle.td_prog_emit.proofs.instruction.push_instruction.Goals as goal
 use Rattle.std.proofs.Common.{ap, sym}
 use Rattle.td_ir.specs.declared.instructions.Instr.{Instr}

@@ -1,4 +1,3 @@
--- by hand
 use Rattle.td_prog_emit.proofs.kinds.push_op.Goals as goal
 use Rattle.std.proofs.Common.{ℕ, List, ◌++◌, ◌*◌, replicate, codes, ap}
 use Rattle.td_prog.specs.Syntax as syntax

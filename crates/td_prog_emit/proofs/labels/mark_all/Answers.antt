@@ -1,4 +1,3 @@
--- by hand
 use Rattle.td_prog_emit.proofs.labels.mark_all.Goals as goal
 use Rattle.std.proofs.Common.{◌+◌, ◌<◌, length, arith}
 use Rattle.td_prog_emit.proofs.Standing.{marked_more}

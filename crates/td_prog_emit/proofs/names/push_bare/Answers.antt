@@ -1,4 +1,3 @@
--- by hand
 use Rattle.td_prog_emit.proofs.names.push_bare.Goals as goal
 use Rattle.td_prog_emit.proofs.Texts.{joined, as_one}
 

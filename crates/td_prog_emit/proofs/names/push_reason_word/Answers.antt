@@ -1,4 +1,3 @@
--- by hand
 use Rattle.td_prog_emit.proofs.names.push_reason_word.Goals as goal
 use Rattle.td_prog_emit.proofs.Texts.{same_piece}
 

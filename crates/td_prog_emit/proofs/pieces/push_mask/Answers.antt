@@ -1,4 +1,3 @@
--- by hand
 use Rattle.td_prog_emit.proofs.pieces.push_mask.Goals as goal
 use Rattle.std.proofs.Common.{ap}
 use Rattle.td_prog_emit.proofs.Texts.{same_piece}

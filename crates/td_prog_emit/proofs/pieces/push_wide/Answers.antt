@@ -1,4 +1,3 @@
--- by hand
 use Rattle.td_prog_emit.proofs.pieces.push_wide.Goals as goal
 use Rattle.std.proofs.Common.{refl}
 use Rattle.td_prog_emit.proofs.Texts.{joined, as_one}

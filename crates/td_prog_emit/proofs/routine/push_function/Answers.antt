@@ -1,4 +1,3 @@
--- by hand
 use Rattle.td_prog_emit.proofs.routine.push_function.Goals as goal
 use Rattle.std.proofs.Common.{refl}
 use Rattle.td_prog_code.specs.Program.{body}

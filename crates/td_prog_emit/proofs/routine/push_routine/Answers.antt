@@ -1,4 +1,3 @@
--- by hand
 use Rattle.td_prog_emit.proofs.routine.push_routine.Goals as goal
 use Rattle.std.proofs.Common.{◌≡◌, ◌<◌, ◌+◌, ◌*◌, ℕ, List, length, false, flat_map, ap, subst, sym, ◌∙◌, Bool}
 use Rattle.std.specs.Prelude.{slice_index_or}

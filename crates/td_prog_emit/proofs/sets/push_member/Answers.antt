@@ -1,4 +1,3 @@
--- by hand
 use Rattle.td_prog_emit.proofs.sets.push_member.Goals as goal
 use Rattle.std.proofs.Common.{ℕ, List, ap}
 use Rattle.td_prog_emit.proofs.Texts.{recut}
