@@ -12,7 +12,9 @@ ghost use Rattle.td_prog_text.specs.Statements.{buffers_text, cells_text, lined,
 ghost use Rattle.td_verify.specs.Operands.{IsCellMap};
 
 use crate::names::{name_at, push_site};
-use crate::pieces::{extend, extend_decimal, push, push_begun, push_close, push_decimal, push_line};
+use crate::pieces::{
+    extend, extend_decimal, push, push_begun, push_close, push_decimal, push_line,
+};
 use crate::tables::{map_at, routine_at};
 use std::alloc::AllocError;
 use td_core::module::NameId;

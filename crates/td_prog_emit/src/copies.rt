@@ -11,7 +11,9 @@ ghost use Rattle.td_prog_text.specs.Expressions.{numeral, pointed, variable};
 ghost use Rattle.td_prog_text.specs.Statements.{buffers_text, lined};
 
 use crate::bytes::{push_room, push_taken};
-use crate::pieces::{push, push_begun, push_close, push_decimal, push_decimal_in, push_numeral_in, push_register_in};
+use crate::pieces::{
+    push, push_begun, push_close, push_decimal, push_decimal_in, push_numeral_in, push_register_in,
+};
 use crate::tables::{room_at, routine_at};
 use std::alloc::AllocError;
 use td_ir::tables::Parts;
@@ -101,5 +103,14 @@ pub fn push_copy(
 {
     let room = room_at(parts, n, buffer as usize);
     let routine = routine_at(parts, n);
-    push_copy_by(out, depth, parts, size, buffer, site, room, routine.cells as u64 + 2 * buffer as u64)
+    push_copy_by(
+        out,
+        depth,
+        parts,
+        size,
+        buffer,
+        site,
+        room,
+        routine.cells as u64 + 2 * buffer as u64,
+    )
 }

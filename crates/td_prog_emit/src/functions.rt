@@ -29,7 +29,15 @@ fn push_routines(alloc: Global, out: &mut Vec<u8>, parts: &Parts) -> Result<(), 
     let mut rest = all;
     for n in 0..parts.routines.len() {
         let (own, more) = rest.split_at(routine_at(parts, n).length as usize);
-        push_routine(alloc, out, parts, n, own, all.len() - rest.len(), all.len() - more.len())?;
+        push_routine(
+            alloc,
+            out,
+            parts,
+            n,
+            own,
+            all.len() - rest.len(),
+            all.len() - more.len(),
+        )?;
         rest = more;
     }
     Ok(())

@@ -113,6 +113,9 @@ pub fn push_locals(out: &mut Vec<u8>, params: u16, count: u16) -> Result<(), All
     requires { params ≤ count }
     ensures { Wrote result out.old.items out.new.items (locals_pieces params count) }
 {
-    push(out, b"    uint64_t start = 0;\n    uint64_t outer = 0;\n    uint64_t number = 0;\n    uint64_t most = 0;\n    uint64_t room = 0;\n")?;
+    push(
+        out,
+        b"    uint64_t start = 0;\n    uint64_t outer = 0;\n    uint64_t number = 0;\n    uint64_t most = 0;\n    uint64_t room = 0;\n",
+    )?;
     push_declarations(out, params, count - params)
 }

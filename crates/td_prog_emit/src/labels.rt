@@ -13,9 +13,8 @@ fn target_of(instruction: Instr) -> Option<u32>
     ensures { MatchOption result (targets instruction ≡ []) (λ target. targets instruction ≡ target ∷ []) }
 {
     match instruction {
-        Instr::Jump { target } | Instr::JumpIf { target, .. } | Instr::JumpUnless { target, .. } => {
-            Some(target)
-        }
+        Instr::Jump { target } | Instr::JumpIf { target, .. } | Instr::JumpUnless { target, .. } =>
+            { Some(target) }
         Instr::Const { .. }
         | Instr::Member { .. }
         | Instr::Op { .. }
@@ -85,11 +84,7 @@ fn mark_all(marks: &mut [bool], first: usize, instructions: &[Instr])
 }
 
 /// For each of these instructions, the first of which stands at a place, whether one of them leads to it.
-pub fn labels(
-    alloc: Global,
-    instructions: &[Instr],
-    first: usize,
-) -> Result<Vec<bool>, AllocError>
+pub fn labels(alloc: Global, instructions: &[Instr], first: usize) -> Result<Vec<bool>, AllocError>
     ensures count { IfOk result (λ marks. length marks.items ≡ length instructions.now) }
     ensures marked { IfOk result (λ marks. (k : ℕ) → k < length marks.items → slice_index_or marks.items k false ≡ is_among (flat_map targets instructions.now) (first + k)) }
 {

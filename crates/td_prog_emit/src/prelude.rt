@@ -14,7 +14,10 @@ use std::alloc::AllocError;
 fn push_word(out: &mut Vec<u8>) -> Result<(), AllocError>
     ensures { (parts : tables.Parts) → Wrote result out.old.items out.new.items (helper_pieces parts td_word) }
 {
-    push(out, b"TD_FUNCTION uint64_t td_word(struct td_run *run, uint64_t word)\n{\n    if (run->next <= word) {\n        run->held = TD_LOAD(&run->words[word]);\n        run->next = word + 1;\n    }\n    return run->held;\n}\n\n")
+    push(
+        out,
+        b"TD_FUNCTION uint64_t td_word(struct td_run *run, uint64_t word)\n{\n    if (run->next <= word) {\n        run->held = TD_LOAD(&run->words[word]);\n        run->next = word + 1;\n    }\n    return run->held;\n}\n\n",
+    )
 }
 
 // `low = (pos % 8) * 8; number = td_word(run, pos / 8);`
@@ -34,13 +37,21 @@ fn push_little(out: &mut Vec<u8>, name: &[u8], width: u16) -> Result<(), AllocEr
 {
     push(out, b"TD_FUNCTION uint64_t ")?;
     push(out, name)?;
-    push(out, b"(struct td_run *run, uint64_t pos)\n{\n    uint64_t low = 0;\n    uint64_t number = 0;\n    uint64_t more = 0;\n")?;
+    push(
+        out,
+        b"(struct td_run *run, uint64_t pos)\n{\n    uint64_t low = 0;\n    uint64_t number = 0;\n    uint64_t more = 0;\n",
+    )?;
     push_found(out, b"    ")?;
     push(out, b"    number = number >> low;\n")?;
     push_numeral_in(out, b"    if (", 64 - 8 * width as u64, b" < low) {\n")?;
     push_numeral_in(out, b"        more = td_word(run, (pos / ", 8, b") + ")?;
     push_numeral_in(out, b"", 1, b");\n")?;
-    push_numeral_in(out, b"        number = number + (more << (", 64, b" - low));\n    }\n")?;
+    push_numeral_in(
+        out,
+        b"        number = number + (more << (",
+        64,
+        b" - low));\n    }\n",
+    )?;
     push(out, b"    return number & ")?;
     push_mask(out, 8 * width)?;
     push(out, b";\n}\n\n")
@@ -52,10 +63,18 @@ fn push_big(out: &mut Vec<u8>, name: &[u8], width: u16) -> Result<(), AllocError
 {
     push(out, b"TD_FUNCTION uint64_t ")?;
     push(out, name)?;
-    push(out, b"(struct td_run *run, uint64_t pos)\n{\n    uint64_t number = 0;\n    number = ")?;
+    push(
+        out,
+        b"(struct td_run *run, uint64_t pos)\n{\n    uint64_t number = 0;\n    number = ",
+    )?;
     push_helper(out, 0, width)?;
     push(out, b"(run, pos);\n")?;
-    push_numeral_in(out, b"    return TD_SWAP(number) >> ", 64 - 8 * width as u64, b";\n}\n\n")
+    push_numeral_in(
+        out,
+        b"    return TD_SWAP(number) >> ",
+        64 - 8 * width as u64,
+        b";\n}\n\n",
+    )
 }
 
 // `b0[count + 1] = (uint8_t)(number >> 8);`
@@ -90,7 +109,12 @@ fn push_single(out: &mut Vec<u8>) -> Result<(), AllocError>
     ensures { Wrote result out.old.items out.new.items single_pieces }
 {
     push_numeral_in(out, b"        if (more < ", 8, b") {\n")?;
-    push_decimal_in(out, b"            b", 0, b"[count] = (uint8_t)(number >> low);\n")?;
+    push_decimal_in(
+        out,
+        b"            b",
+        0,
+        b"[count] = (uint8_t)(number >> low);\n",
+    )?;
     push_numeral_in(out, b"            pos = pos + ", 1, b";\n")?;
     push_numeral_in(out, b"            count = count + ", 1, b";\n        }\n")
 }
@@ -98,9 +122,15 @@ fn push_single(out: &mut Vec<u8>) -> Result<(), AllocError>
 fn push_copy_helper(out: &mut Vec<u8>) -> Result<(), AllocError>
     ensures { (parts : tables.Parts) → Wrote result out.old.items out.new.items (helper_pieces parts td_copy) }
 {
-    push(out, b"TD_FUNCTION uint64_t td_copy(struct td_run *run, uint64_t pos, uint64_t room")?;
+    push(
+        out,
+        b"TD_FUNCTION uint64_t td_copy(struct td_run *run, uint64_t pos, uint64_t room",
+    )?;
     push_pointers(out, b"uint8_t *b", 1)?;
-    push(out, b")\n{\n    uint64_t low = 0;\n    uint64_t number = 0;\n    uint64_t more = 0;\n    uint64_t count = 0;\n    while (count < room) {\n")?;
+    push(
+        out,
+        b")\n{\n    uint64_t low = 0;\n    uint64_t number = 0;\n    uint64_t more = 0;\n    uint64_t count = 0;\n    while (count < room) {\n",
+    )?;
     push_found(out, b"        ")?;
     push(out, b"        more = room - count;\n        if (low) {\n")?;
     push_numeral_in(out, b"            more = ", 0, b";\n        }\n")?;
