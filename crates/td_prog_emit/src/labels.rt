@@ -14,7 +14,7 @@ fn target_of(instruction: Instr) -> Option<u32>
 {
     match instruction {
         Instr::Jump { target } | Instr::JumpIf { target, .. } | Instr::JumpUnless { target, .. } =>
-            { Some(target) }
+            Some(target),
         Instr::Const { .. }
         | Instr::Member { .. }
         | Instr::Op { .. }
