@@ -181,5 +181,5 @@ module _ (p : Program) (Has More : Var → Type 0) (more : (x : Var) → Has x �
   declared_more (Fail reason e ty field rest) h = (more Start h.0, written_more e h.1, declared_more rest h.2)
   declared_more (Return e rest) h = (written_more e h.0, declared_more rest h.1)
   declared_more (CallHelper x helper es bs rest) h = (more x h.0, h.1, h.2, each_more es h.3, h.4, declared_more rest h.5)
-  declared_more (Call first params routine cs bs ty field rest) h =
+  declared_more (Call first count routine cs bs ty field rest) h =
       ((λ k l. more (Reg (first + k)) (h.0 k l)), more Pos h.1, more End h.2, more Start h.3, h.4, h.5, h.6, h.7, declared_more rest h.8)

@@ -100,8 +100,7 @@ module _ (e : EntryPoint) (before : Caller) (message rooms : List ℕ) (short : 
       let cut : v % 2 ^ 32 ≡ pos = ap (λ p. p % 2 ^ 32) is ∙ same in
       let holds : held (drop n s.cells) s.buffers ≡ copies_by message (drop n cells) = h.3 in
       let own : held (drop n s.cells) s.buffers ≡ copies_by message (drop n s.cells) = holds ∙ ap (λ cs. copies_by message (drop n cs)) (sym h.1) in
-      subst (λ b. IsTold e before message (cond b Lost (Answered true now)) (Returned pos cells)) (sym else)
-      (
+      subst (λ b. IsTold e before message (cond b Lost (Answered true now)) (Returned pos cells)) (sym else) (
         refl,
         ap (λ p. outcome_at p) cut,
         ap (narrowed e.cells) h.1,
@@ -138,7 +137,7 @@ entry_runs runs stays few c names entry size most args before loads answer code 
     let p = subst (λ cs. Plays (run most (program c names) e.routine size args cs (bytes_of before.buffers)) loads r.first) opened r.plays in
     let q = runs c names entry size most args before.cells (bytes_of before.buffers) loads r.first code sound numbers fits short big rooms p values in
     let room : Each (λ v. v < 2 ^ 32) (map length (bytes_of before.buffers)) =
-        subst (Each (λ v. v < 2 ^ 32)) (sym rooms) (each_index (λ (x : Routine). Each (λ v. v < 2 ^ 32) x.buffers) c.routines no_routine e.routine numbers.rooms is.there) in
+    subst (Each (λ v. v < 2 ^ 32)) (sym rooms) (each_index (λ (x : Routine). Each (λ v. v < 2 ^ 32) x.buffers) c.routines no_routine e.routine numbers.rooms is.there) in
     record {
       rising = q.rising;
       inside = q.inside;
@@ -146,12 +145,11 @@ entry_runs runs stays few c names entry size most args before loads answer code 
           let h = q.holds b carries bytes in
           let size_is : length b ≡ size = (let z = carries.size in omega (arith, z)) in
           let long : length b < 2 ^ 32 = omega (arith, size_is, short) in
-          let w = (ir.run c entry args (opened_by c entry before.cells) b).way in
-          (
+          let w = (ir.run c entry args (opened_by c entry before.cells) b).way in (
             subst (λ a. IsTold e before b a w) r.is
-            (told e before b (map length (bytes_of before.buffers)) long room r.first w (λ pos cells z. stays c e.routine args (opened_by c entry before.cells) b pos cells code sound is.there z)
-            (λ reason pos trace cells z. few c entry args (opened_by c entry before.cells) b reason pos trace cells code sound fits.there z)
-            (subst (λ n. IsEnd n (map length (bytes_of before.buffers)) b r.first w) fits.cell_count h.0)),
+                (told e before b (map length (bytes_of before.buffers)) long room r.first w (λ pos cells z. stays c e.routine args (opened_by c entry before.cells) b pos cells code sound is.there z)
+                (λ reason pos trace cells z. few c entry args (opened_by c entry before.cells) b reason pos trace cells code sound fits.there z)
+                (subst (λ n. IsEnd n (map length (bytes_of before.buffers)) b r.first w) fits.cell_count h.0)),
             h.1,
           );
     }

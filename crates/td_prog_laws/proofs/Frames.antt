@@ -175,7 +175,7 @@ module _ (c : Parts) (sound : IsSound c) (message : List ℕ) where
       by p (i.Call first m map site) e place =
           let is : instruction_of c p ≡ i.Call first m map site = get_or_from_slice_get c.instructions p (i.Call first m map site) (i.Fail 0 0) e in
           let q = depth_lower c sound k m p place (shape_there c p ∙ ap shape is) in
-          (depth c m, (q.1, λ t. f m (places_by places (cells_by c k m map)) q.0 (entered (routine_of c m) (registers_from t.regs first (routine_of c m).params) t)))
+          (depth c m, q.1, λ t. f m (places_by places (cells_by c k m map)) q.0 (entered (routine_of c m) (registers_from t.regs first (routine_of c m).params) t))
       by p j e place = tt
 
   depth_some : (n : ℕ) → 1 ≤ depth c n

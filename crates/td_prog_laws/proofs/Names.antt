@@ -1,5 +1,5 @@
 -- Names of functions are different identifiers.
-use Rattle.std.proofs.Common.{◌≡◌, ℕ, zero, suc, ◌+◌, ◌-◌, ◌^◌, ◌<◌, ◌≤◌, Bool, true, false, cond, List, [], ◌∷◌, ◌++◌, length, Option, Some, None, refl, sym, ap, ◌∙◌, subst, arith, drop}
+use Rattle.std.proofs.Common.{◌≡◌, ℕ, zero, suc, ◌+◌, ◌-◌, ◌%◌, ◌^◌, ◌<◌, ◌≤◌, Bool, true, false, cond, List, [], ◌∷◌, ◌++◌, length, Option, Some, None, refl, sym, ap, ◌∙◌, subst, arith, drop}
 use Rattle.std.specs.Prelude.{nat_eq, nat_le, ◌||◌, ◌&&◌, map, slice_get, slice_index, slice_index_or, codes, decimal}
 use Rattle.std.specs.Str.{bytes_eq}
 use Rattle.std.specs.Str.Parse.{digits_value}
@@ -133,8 +133,8 @@ module _ (c : Parts) (spelled : Each IsName c.names) where
       (
         refl,
         each_append IsInside (decimal n ++ codes "_") (name_of c (routine_of c n).name)
-        (each_append IsInside (decimal n) (codes "_") (digits_inside (decimal n) (decimal_digits n h)) (refl, tt))
-        (names_inside (slice_index_or c.names (routine_of c n).name.number []) (name_spelled c.names (routine_of c n).name.number spelled)),
+            (each_append IsInside (decimal n) (codes "_") (digits_inside (decimal n) (decimal_digits n h)) (refl, tt))
+            (names_inside (slice_index_or c.names (routine_of c n).name.number []) (name_spelled c.names (routine_of c n).name.number spelled)),
       ),
     ),
   )

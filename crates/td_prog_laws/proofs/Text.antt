@@ -387,7 +387,7 @@ module _ (c : Parts) (names : ℕ → List ℕ) (code : IsCode c) (sound : IsSou
           room = (code.routines n inside).room;
           once = routine_once f;
           declared = declared_more (program c names) (RoutineHas (routine_of c n).registers) (HasVariable (routine_params f) (routine_locals f)) (has_routine f) f.cells f.buffers 9 n (body c n)
-          (tt, tt, (tt, tt, first_is own (all_are (end_of c n - first) first (omega (arith, up)) (omega arith) (omega (arith, past, w)))));
+              (tt, tt, (tt, tt, first_is own (all_are (end_of c n - first) first (omega (arith, up)) (omega arith) (omega (arith, past, w)))));
           labels = record { once = first_rising c n first own (blocks_rising c n first (code_from first)); behind = body_forward c n first (code_from first) (laid.laid [] [] n inside) };
         }
 
