@@ -66,7 +66,7 @@ fn parts_of(code: &Verified) -> &Parts
 }
 
 /// The text of the functions of a code's program, which stand in the file of C between its fixed text and the functions
-/// of entry points. Beside the text it takes memory for a bit for each instruction of one routine. `AllocError`: there was
+/// of entry points. Beside the text it takes a byte for each instruction of one routine. `AllocError`: there was
 /// no memory.
 pub fn c_functions(alloc: Global, code: &Verified) -> Result<Vec<u8>, AllocError>
     ensures { IfOk result (λ written. written.items ≡ text (texts.functions code.now.names (program code.now (routine_name code.now)))) }
