@@ -1,5 +1,5 @@
 -- The blocks that stand before each place of verified code, and what is left to write there.
-use Rattle.std.proofs.Common.{◌≡◌, ℕ, zero, suc, ◌+◌, ◌-◌, ◌<◌, ◌≤◌, Bool, true, false, cond, ◌||◌, nat_eq, List, [], ◌∷◌, ◌++◌, length, take, drop, get_or, flat_map, codes, Option, Ok, Result, Some, None, refl, sym, ap, ◌∙◌, subst, append_assoc, arith}
+use Rattle.std.proofs.Common.{◌≡◌, ℕ, zero, suc, ◌+◌, ◌-◌, ◌<◌, ◌≤◌, Bool, true, false, ◌||◌, List, [], ◌∷◌, ◌++◌, length, take, drop, get_or, flat_map, Option, Some, None, refl, sym, ap, ◌∙◌, subst, append_assoc, arith}
 use Rattle.std.specs.Prelude.{slice_get, slice_range}
 use Rattle.std.proofs.lemmas.Option.{get_or_from_slice_get, slice_get_within}
 use Rattle.std.proofs.Math.Seq.{drop-cons}
@@ -10,7 +10,7 @@ use Rattle.td_num.proofs.Lists.{got}
 use Rattle.td_ir.specs.declared.instructions.Instr.{Instr}
 use Rattle.td_ir.specs.declared.instructions.Instr.TheVariants as i
 use Rattle.td_ir.specs.declared.tables.Parts.{Parts}
-use Rattle.td_ir.specs.Tables.{instruction_of, lengths_of, begin, first_of, end_of}
+use Rattle.td_ir.specs.Tables.{instruction_of, lengths_of, first_of, end_of}
 use Rattle.td_verify.specs.declared.shape.Shape.{Shape}
 use Rattle.td_verify.specs.declared.shape.Shape.TheVariants.{Straight, Jump, Branch, Call, Return, Fail, While, Again, Open, Close}
 use Rattle.td_verify.specs.declared.bracket.Bracket.{Bracket}
@@ -18,7 +18,7 @@ use Rattle.td_verify.specs.declared.bracket.Bracket.TheVariants.{Window, Loop}
 use Rattle.td_verify.specs.declared.rule.Rule.TheVariants as rule
 use Rattle.td_verify.specs.Shape.{shape, shapes_of}
 use Rattle.td_verify.specs.Rules.{StandsWell}
-use Rattle.td_verify.specs.Brackets.{shape_at, opened, and_then, opening, closing_loop, closing_window, in_loop, in_window}
+use Rattle.td_verify.specs.Brackets.{shape_at, opened, and_then, opening, closing_loop, closing_window, in_loop}
 use Rattle.td_verify.specs.Flat.{IsFlat}
 use Rattle.td_verify.specs.Verify.{IsIn, IsSound}
 use Rattle.td_verify.specs.Safe.{IsSafe, looped}
@@ -27,14 +27,11 @@ use Rattle.td_verify.proofs.Flat.{next_opened}
 use Rattle.td_verify.proofs.Safety.{opens}
 use Rattle.td_ir.specs.WellFormed.{IsCode}
 use Rattle.td_ir.proofs.Begins.{begin_up}
-use Rattle.td_prog.specs.Syntax as syntax
-use Rattle.td_prog.specs.Syntax.{Block, Ends, Label}
-use Rattle.td_prog_code.specs.Instructions.{statement}
-use Rattle.td_prog_code.specs.Program.{stated, looped as looped_blocks, put, blocks, first_block, body}
+use Rattle.td_prog.specs.Syntax.{Block, Ends}
+use Rattle.td_prog_code.specs.Program.{put, blocks, first_block, body}
 use Rattle.td_prog_emit.specs.Labels.{after, bound, depth_in, targets}
-use Rattle.td_prog_emit.specs.Written.{helper_names, pieces_of, routine_names}
+use Rattle.td_prog_emit.specs.Written.{pieces_of}
 use Rattle.td_prog_emit.proofs.Levels.{AreLevel, Turns, after_is, among_append, gone, put_goes, put_level, put_stands, S, standing}
-use Rattle.td_prog_emit.specs.Written.{Wrote}
 use Rattle.td_prog_emit.specs.Labels.{place_pieces}
 use Rattle.td_prog_emit.proofs.Texts.{text_append}
 use Rattle.td_prog_text.specs.Expressions.{Pieces, text}

@@ -1,11 +1,7 @@
 use Rattle.td_prog_emit.proofs.blocks.push_blocks.Goals as goal
-use Rattle.std.proofs.Common.{◌≡◌, ◌≤◌, ◌<◌, ◌+◌, ◌-◌, ℕ, ap, subst, sym, ◌∙◌, arith, ◌++◌}
-use Rattle.std.specs.Prelude.{slice_index_or, slice_range}
+use Rattle.std.proofs.Common.{◌≡◌, ◌≤◌, ◌<◌, ◌+◌, ◌-◌, ℕ, ap, subst, sym, ◌∙◌, arith}
 use Rattle.td_ir.specs.Tables.{begin, end_of, lengths_of}
-use Rattle.td_prog_code.specs.Program.{blocks}
-use Rattle.td_prog_emit.proofs.Levels.{standing}
 use Rattle.td_prog_emit.proofs.Standing.{all_written, loop_next, step_written}
-use Rattle.td_prog_text.specs.Expressions.{text}
 use Rattle.td_prog_text.specs.Statements.{goes}
 use Rattle.td_verify.specs.Verify.{IsIn}
 

@@ -1,4 +1,4 @@
-use Rattle.std.proofs.Common.{◌≡◌, ℕ, ◌+◌, ◌++◌, ◌<◌, length, Bool, false}
+use Rattle.std.proofs.Common.{◌≡◌, ℕ, ◌+◌, ◌++◌, ◌<◌, length, false}
 use Rattle.std.specs.Prelude.{slice_index_or, slice_range}
 use Rattle.td_ir.specs.Tables.{end_of}
 use Rattle.td_prog.specs.Syntax as syntax

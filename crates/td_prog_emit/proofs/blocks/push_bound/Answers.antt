@@ -1,5 +1,5 @@
 use Rattle.td_prog_emit.proofs.blocks.push_bound.Goals as goal
-use Rattle.std.proofs.Common.{ap, sym, refl}
+use Rattle.std.proofs.Common.{ap, sym}
 use Rattle.td_prog_emit.proofs.Texts.{recut}
 use Rattle.td_prog_emit.specs.Labels.{bound}
 use Rattle.td_prog_text.specs.Expressions.{text}

@@ -1,5 +1,5 @@
 use Rattle.td_prog_emit.proofs.blocks.push_place.Goals as goal
-use Rattle.std.proofs.Common.{Bool, ap, ◌∙◌}
+use Rattle.std.proofs.Common.{ap, ◌∙◌}
 use Rattle.std.specs.Prelude.{◌∷◌, ◌++◌}
 use Rattle.td_ir.specs.declared.instructions.Instr.{Instr}
 use Rattle.td_prog_emit.specs.Labels.{bound, depth_in}
@@ -10,13 +10,12 @@ use Rattle.td_prog_text.specs.Statements.{label_text}
 use Rattle.td_verify.specs.Shape.{shape}
 use Rattle.td_verify.specs.declared.shape.Shape.{Shape}
 use Rattle.std.proofs.Common.{ℕ, subst, sym}
-use Rattle.td_ir.specs.Tables.{instruction_of, lengths_of}
+use Rattle.td_ir.specs.Tables.{lengths_of}
 use Rattle.td_verify.proofs.Sums.{shape_there}
 use Rattle.td_verify.specs.Operands.{HasOperands, HasTables}
 use Rattle.td_verify.specs.Rules.{CallsWell}
 use Rattle.td_verify.specs.Shape.{shapes_of}
 use Rattle.td_verify.specs.Verify.{depths}
-use Rattle.td_verify.specs.Brackets.{shape_at}
 
 pub push_instruction-requires-clause-tables : goal.push_instruction-requires-clause-tables
 push_instruction-requires-clause-tables c = subst (HasTables c.args.parts.now c.args.n) (sym c.instruction_at-instruction.ensures) (c.requires.safe.each c.args.n c.args.pc c.requires.place).tables

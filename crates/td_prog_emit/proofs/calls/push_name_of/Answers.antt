@@ -1,5 +1,5 @@
 use Rattle.td_prog_emit.proofs.calls.push_name_of.Goals as goal
-use Rattle.std.proofs.Common.{ℕ, List, map, ◌++◌, ap, ◌∙◌}
+use Rattle.std.proofs.Common.{map, ap, ◌∙◌}
 use Rattle.std.proofs.lemmas.List.{map-append}
 use Rattle.td_prog_emit.proofs.Texts.{joined, as_one}
 use Rattle.td_prog_text.specs.Names.{undotted_byte}

@@ -1,9 +1,9 @@
 use Rattle.td_prog_emit.proofs.calls.push_routine_name.Goals as goal
-use Rattle.std.proofs.Common.{[], ◌∷◌, ◌++◌, codes, decimal, ap, ◌∙◌, append_assoc}
+use Rattle.std.proofs.Common.{[], ◌∷◌, codes, decimal, ap, ◌∙◌, append_assoc}
 use Rattle.td_ir.specs.declared.tables.Routine.{Routine}
 use Rattle.td_prog_emit.proofs.Texts.{recut}
 use Rattle.td_prog_text.specs.Expressions.{text}
-use Rattle.td_prog_text.specs.Names.{name_of, routine_name}
+use Rattle.td_prog_text.specs.Names.{name_of}
 
 pub returns : goal.returns
 returns c =

@@ -1,6 +1,6 @@
 use Rattle.td_prog_emit.proofs.functions.push_routines.Goals as goal
-use Rattle.std.proofs.Common.{◌<◌, ◌≡◌, ◌-◌, length, drop, ap, ◌∙◌, arith, length-drop}
-use Rattle.td_ir.specs.Tables.{first_of, routine_of}
+use Rattle.std.proofs.Common.{◌<◌, ◌≡◌, ◌-◌, length, ap, ◌∙◌, arith, length-drop}
+use Rattle.td_ir.specs.Tables.{first_of}
 use Rattle.td_ir.specs.declared.tables.Routine.{Routine}
 use Rattle.td_prog_emit.proofs.Growing.{end_is, functions_more, rest_is}
 use Rattle.td_prog_emit.proofs.Standing.{fits}

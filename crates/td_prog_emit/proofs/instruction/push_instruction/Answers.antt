@@ -1,7 +1,7 @@
 use Rattle.td_prog_emit.proofs.instruction.push_instruction.Goals as goal
 use Rattle.std.proofs.Common.{ap, sym}
 use Rattle.td_ir.specs.declared.instructions.Instr.{Instr}
-use Rattle.td_prog_emit.proofs.Texts.{none, recut}
+use Rattle.td_prog_emit.proofs.Texts.{recut}
 use Rattle.td_prog_emit.specs.Written.{pieces_of}
 use Rattle.td_prog_text.specs.Expressions.{text}
 

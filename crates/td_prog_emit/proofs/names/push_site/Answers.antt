@@ -1,5 +1,5 @@
 use Rattle.td_prog_emit.proofs.names.push_site.Goals as goal
-use Rattle.std.proofs.Common.{ℕ, List, ap}
+use Rattle.std.proofs.Common.{ap}
 use Rattle.td_ir.specs.Run.{spot_named}
 use Rattle.td_ir.specs.declared.tables.Site.{Site}
 use Rattle.std.specs.Prelude.{slice_index_or, []}

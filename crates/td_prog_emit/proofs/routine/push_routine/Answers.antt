@@ -1,11 +1,10 @@
 use Rattle.td_prog_emit.proofs.routine.push_routine.Goals as goal
-use Rattle.std.proofs.Common.{◌≡◌, ◌<◌, ◌+◌, ◌*◌, ℕ, List, length, false, flat_map, ap, subst, sym, ◌∙◌, Bool}
+use Rattle.std.proofs.Common.{◌<◌, ◌+◌, ◌*◌, ℕ, List, length, false, flat_map, ap, subst, sym, ◌∙◌, Bool}
 use Rattle.std.specs.Prelude.{slice_index_or}
-use Rattle.td_ir.specs.Tables.{end_of, first_of, routine_of}
+use Rattle.td_ir.specs.Tables.{first_of, routine_of}
 use Rattle.td_ir.specs.declared.instructions.Instr.{Instr}
 use Rattle.td_ir.specs.declared.tables.Routine.{Routine}
 use Rattle.td_num.specs.Lists.{is_among}
-use Rattle.td_prog_code.specs.Program.{body}
 use Rattle.td_prog_emit.proofs.Standing.{goes_is}
 use Rattle.td_prog_emit.proofs.Texts.{recut}
 use Rattle.td_prog_emit.specs.Labels.{targets}
