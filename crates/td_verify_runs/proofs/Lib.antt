@@ -5,4 +5,3 @@ pub mod Costs
 pub mod Stretches
 mod Bounds
 pub mod Runs
--- (laws' lemmas)
