@@ -95,8 +95,9 @@ typedef struct { uint32_t stretch, word; uint64_t value; } td_load;
 typedef struct { td_session inner; } td_codes;
 typedef struct { td_session inner; } td_seat;
 
-/* The exports. A program calls the functions below in their place. */
-int32_t td_c_open(td_session *s, bool full, const uint8_t *image, size_t size, td_fault *fault);
+/* The exports. A program calls the functions below in their place. The number in the names of the two by which a handle begins is
+   that of the layouts above, so a header of other layouts doesn't link. */
+int32_t td_c_open_1(td_session *s, bool full, const uint8_t *image, size_t size, td_fault *fault);
 int32_t td_c_again(td_session *s, bool full, td_session *other, bool other_full);
 void td_c_close(td_session *s, bool full);
 int32_t td_c_entry(td_session *s, bool full, const uint8_t *name, size_t size, uint32_t *number);
@@ -110,7 +111,7 @@ int32_t td_c_name(td_session *s, bool full, uint32_t number, uint8_t *bytes, siz
 int32_t td_c_validate(td_session *s, bool full, td_call *call, td_words *words, size_t count, td_load *loads, size_t room);
 int32_t td_c_validate_parts(td_session *s, bool full, td_call *call, const td_stretch *parts, size_t part_count, td_words *words,
                             size_t count, td_load *loads, size_t room);
-int32_t td_c_codes(td_session *s, bool full);
+int32_t td_c_codes_1(td_session *s, bool full);
 int32_t td_c_add(td_session *s, bool full, const uint8_t *image, size_t size, td_fault *fault);
 int32_t td_c_begin(td_session *s, bool full);
 int32_t td_c_publish(td_session *s, bool full, uint32_t *number);
@@ -123,7 +124,7 @@ int32_t td_c_version(td_session *s, bool full, uint32_t number, td_session *othe
    alone while this runs: an image of a guest is copied first. */
 static inline int32_t td_open(td_session *s, const void *image, size_t size, td_fault *fault) {
   if (!s || !image || !fault) return TD_POINTER;
-  return td_c_open(s, s->full, (const uint8_t *)image, size, fault);
+  return td_c_open_1(s, s->full, (const uint8_t *)image, size, fault);
 }
 
 /* Another session by the same code, with room of its own. */
@@ -226,7 +227,7 @@ static inline int32_t td_validate_parts(td_session *s, const uint64_t *words, si
 /* A handle for codes, which has none yet. What it held before is freed. */
 static inline int32_t td_codes_open(td_codes *c) {
   if (!c) return TD_POINTER;
-  return td_c_codes(&c->inner, c->inner.full);
+  return td_c_codes_1(&c->inner, c->inner.full);
 }
 
 /* A code more, by its image; they are numbered from 0 in this order. TD_TOO_MUCH: there are 17. TD_CLOSED: the handle isn't

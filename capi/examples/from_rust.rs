@@ -45,7 +45,7 @@ struct TdLoad {
 }
 
 unsafe extern "C" {
-    fn td_c_open(s: *mut TdSession, full: bool, image: *const u8, size: usize, fault: *mut TdFault) -> i32;
+    fn td_c_open_1(s: *mut TdSession, full: bool, image: *const u8, size: usize, fault: *mut TdFault) -> i32;
     fn td_c_again(s: *mut TdSession, full: bool, other: *mut TdSession, other_full: bool) -> i32;
     fn td_c_entry(s: *mut TdSession, full: bool, name: *const u8, size: usize, number: *mut u32) -> i32;
     fn td_c_validate(
@@ -73,7 +73,7 @@ impl Session {
 
     fn open(image: &[u8]) -> Result<Session, (i32, u64)> {
         let (mut s, mut fault) = (Session::closed(), TdFault { place: 0, rule: 0 });
-        match unsafe { td_c_open(&mut s.0, false, image.as_ptr(), image.len(), &mut fault) } {
+        match unsafe { td_c_open_1(&mut s.0, false, image.as_ptr(), image.len(), &mut fault) } {
             0 => Ok(s),
             code => Err((code, fault.place)),
         }

@@ -1,6 +1,7 @@
 """The module texts of this repository, with the jobs beside them, and texts made at random."""
 
 import glob
+import json
 import os
 
 from inputs import Maker
@@ -47,3 +48,20 @@ def found_inputs():
     maker = Maker(SEED)
     for count in range(MADE):
         yield ("made %d" % count, *parts(maker.input()[1]))
+
+
+def plain_jobs():
+    """Text, job and report of each job of examples/ and formats/ that has no stores and isn't refused."""
+    for path in sorted(glob.glob(TOP + "/examples/*/*.json") + glob.glob(TOP + "/formats/*/*.json")):
+        folder, report = os.path.dirname(path), path[: -len("json")] + "report"
+        texts = glob.glob(folder + "/*.3d")
+        if len(texts) != 1 or not os.path.exists(report):
+            continue
+        with open(path, encoding="utf-8") as file, open(report, encoding="utf-8") as lines:
+            try:
+                job = json.load(file)
+            except ValueError:
+                continue
+            wanted = lines.read()
+        if isinstance(job, dict) and set(job) <= {"entry", "args", "bytes", "length", "stretches"} and wanted.startswith(("accept", "reject")):
+            yield texts[0], job, wanted

@@ -159,7 +159,7 @@ def job_of_the_other(job, path):
         found = ["`%s`" % field for field in alone if field in job.value]
         if path == needed and found:
             said = "The job has no `%s`, which each job for `td %s` has; it has %s, which jobs for `td %s` have alone." % (path, command, listed(found), other)
-            return [said, "mend: give it to `td %s`: the module, a line `%%%%` and the job are its input." % other]
+            return [said, "mend: give it to `td %s`: the module, a line `%%%%` and the job are its input; `td-run MODULE JOB` runs a job of either." % other]
     return []
 
 

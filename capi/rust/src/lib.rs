@@ -189,7 +189,7 @@ impl Session {
     /// is accepted; [`Error::NoMemory`].
     pub fn open(image: &[u8]) -> Result<Session, Error> {
         let (mut s, mut fault) = (Session::closed(), raw::Fault::default());
-        match unsafe { raw::td_c_open(&mut s.0, false, image.as_ptr(), image.len(), &mut fault) } {
+        match unsafe { raw::td_c_open_1(&mut s.0, false, image.as_ptr(), image.len(), &mut fault) } {
             0 => Ok(s),
             code => Err(Error::of_image(code, &fault)),
         }

@@ -27,7 +27,7 @@ pub struct Fault {
 }
 
 extern "C" {
-    pub fn td_c_open(s: *mut Handle, full: bool, image: *const u8, size: usize, fault: *mut Fault) -> i32;
+    pub fn td_c_open_1(s: *mut Handle, full: bool, image: *const u8, size: usize, fault: *mut Fault) -> i32;
     pub fn td_c_again(s: *mut Handle, full: bool, other: *mut Handle, other_full: bool) -> i32;
     pub fn td_c_close(s: *mut Handle, full: bool);
     pub fn td_c_entry(s: *mut Handle, full: bool, name: *const u8, size: usize, number: *mut u32) -> i32;
@@ -58,7 +58,7 @@ extern "C" {
         loads: *mut crate::Load,
         room: usize,
     ) -> i32;
-    pub fn td_c_codes(s: *mut Handle, full: bool) -> i32;
+    pub fn td_c_codes_1(s: *mut Handle, full: bool) -> i32;
     pub fn td_c_add(s: *mut Handle, full: bool, image: *const u8, size: usize, fault: *mut Fault) -> i32;
     pub fn td_c_begin(s: *mut Handle, full: bool) -> i32;
     pub fn td_c_publish(s: *mut Handle, full: bool, number: *mut u32) -> i32;

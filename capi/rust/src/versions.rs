@@ -26,7 +26,7 @@ impl Codes {
     /// A handle for codes, which has none yet.
     pub fn open() -> Result<Codes, Error> {
         let mut codes = Codes(raw::Handle::closed());
-        done(unsafe { raw::td_c_codes(&mut codes.0, false) })?;
+        done(unsafe { raw::td_c_codes_1(&mut codes.0, false) })?;
         Ok(codes)
     }
 

@@ -49,9 +49,11 @@ kind_told Pointer = (4, 1)
 abbrev pub cell_told : Cell → TdPart
 cell_told c = record { name = c.name.number; has_field = (field_told c.field).0; field = (field_told c.field).1; bytes = (kind_told c.kind).0; is_place = (kind_told c.kind).1 }
 
+-- the entry point of this number: its name and counts; and 0, which means nothing yet
 pub record IsEntry (s : Session) (number : ℕ) (told : TdEntry) : Type 0 where
   pub there : number < length (arc_value s.code).entries
   pub name : told.name ≡ (routine_of (arc_value s.code) (entry_of (arc_value s.code) number).routine).name.number
+  pub unused : told.unused ≡ 0
   pub params : told.param_count ≡ length (entry_of (arc_value s.code) number).params
   pub cells : told.cell_count ≡ length (entry_of (arc_value s.code) number).cells
   pub buffers : told.buffer_count ≡ length (entry_of (arc_value s.code) number).buffers

@@ -39,9 +39,10 @@ pub(crate) fn put(alloc: Global, handle: &mut TdSession, full: bool, content: Sl
     DONE
 }
 
-/// Reads an image, verifies its code and takes room for validations. What the handle held before is freed.
+/// Reads an image, verifies its code and takes room for validations. What the handle held before is freed. The number in the name is
+/// that of the layouts of capi/td.h, so a header of other layouts doesn't link.
 #[unsafe(no_mangle)]
-pub extern "C" fn td_c_open(
+pub extern "C" fn td_c_open_1(
     alloc: Global,
     handle: &mut TdSession,
     full: bool,

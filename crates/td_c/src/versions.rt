@@ -4,8 +4,9 @@ ghost use Rattle.std.specs.Prelude.{◌≡◌, ◌⊎◌, ◌<◌, ◌≤◌, �
 ghost use Rattle.std.specs.Arc.{arc_value};
 ghost use Rattle.td_image.specs.Answer.{IsImage, MayRunOut};
 ghost use Rattle.td_c.specs.Images.{IsFault};
-ghost use Rattle.td_c.specs.Versions.{IsNew, IsAdding, IsBeginning, IsPublishing, IsSeating, IsLoading, IsVersioning, IsVersion, HasVersion, LacksVersion, HasSeat, GoesOn, HasBegun, IsAddition, IsPublication, IsSeatOf};
+ghost use Rattle.td_c.specs.Versions.{IsNew, IsAdding, IsBeginning, IsPublishing, IsSeating, IsLoading, IsVersioning, IsVersion, HasVersion, LacksVersion, HasSeat, GoesOn, MakesSeat, HasBegun, IsAddition, IsPublication, IsSeatOf};
 ghost use Rattle.td_session.specs.Room.{IsFresh};
+ghost use Rattle.td_swap.specs.Seats.{then_split};
 
 use crate::answers::{CLOSED, DONE, MISSING, NO_MEMORY, TOO_MUCH};
 use crate::exports::put;
@@ -18,9 +19,10 @@ use td_session::versions::{Publisher, Reader};
 use td_swap::version::MOST_VERSIONS;
 use td_verify::verify::Verified;
 
-/// A handle for versions, which waits for the first one.
+/// A handle for versions, which waits for the first one. The number in the name is that of the layouts of capi/td.h, so a header of
+/// other layouts doesn't link.
 #[unsafe(no_mangle)]
-pub extern "C" fn td_c_codes(alloc: Global, handle: &mut TdSession, full: bool) -> i32
+pub extern "C" fn td_c_codes_1(alloc: Global, handle: &mut TdSession, full: bool) -> i32
     requires { handle.old.full ≡ full }
     ensures which { (result ≡ pos 0) ⊎ (result ≡ pos 4) }
     ensures new { result ≡ pos 0 → (handle.new.full ≡ true) × IsNew handle.new.value }
@@ -184,7 +186,8 @@ pub extern "C" fn td_c_publish(handle: &mut TdSession, full: bool, number: &mut 
 fn split(publisher: &mut Publisher) -> Result<Reader, i32>
     ensures codes { arc_value publisher.new.codes ≡ arc_value publisher.old.codes }
     ensures kept { publisher.new.seat ≡ publisher.old.seat }
-    ensures unloaded { publisher.new.maker ≡ publisher.old.maker }
+    ensures unloaded { (publisher.new.maker ≡ then_split publisher.old.maker) ⊎ (publisher.new.maker ≡ publisher.old.maker) }
+    ensures made { OnOk result (publisher.new.maker ≡ then_split publisher.old.maker) }
     ensures seat { IfOk result (IsSeatOf publisher.old) }
     ensures code { IfErr result (λ code. code ≡ pos 4) }
 {
@@ -196,6 +199,7 @@ fn split(publisher: &mut Publisher) -> Result<Reader, i32>
 
 fn split_in(slot: &mut Slot) -> Result<Reader, i32>
     ensures kept { GoesOn slot.old slot.new }
+    ensures made { OnOk result (MakesSeat slot.old slot.new) }
     ensures seat { IfOk result (λ r. IsSomeAnd slot.old.publisher (λ p. IsSeatOf p r)) }
     ensures code { IfErr result (λ code. IsSeating slot.old code × (code ≡ pos 0 → ⊥)) }
 {
@@ -221,6 +225,8 @@ pub extern "C" fn td_c_seat(
     ensures kept { full ≡ true → (handle.new.full ≡ true) × GoesOn handle.old.value handle.new.value }
     ensures other { (result ≡ pos 0 → ⊥) → other.new ≡ other.old }
     ensures seat { result ≡ pos 0 → (full ≡ true) × (other.new.full ≡ true) × HasSeat handle.old.value other.new.value }
+    // By the seat that makes others, just one was made.
+    ensures made { result ≡ pos 0 → MakesSeat handle.old.value handle.new.value }
 {
     if !full {
         return CLOSED;

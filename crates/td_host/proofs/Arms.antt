@@ -31,11 +31,12 @@ use Rattle.td_vm.specs.Need.{most_need, level}
 use Rattle.td_swap.specs.declared.version.Version.{Version}
 use Rattle.td_swap.specs.Versions.{version_code}
 use Rattle.td_swap.specs.Views.{new_view}
-use Rattle.td_swap.specs.Seats.{swap_state}
+use Rattle.td_swap.specs.Versions.{CodesState}
+use Rattle.td_swap.specs.Seats.{SwapState, swap_state}
 use Rattle.td_host_actors.specs.Actors.{Service, IsTakerReady}
 use Rattle.td_host_actors.specs.Acting.{most_frames, AreArmed, RoomsFor, StoresInside, post_of}
 use Rattle.td_host_actors.proofs.Posting.{Posting, mail_by, mails_post}
-use Rattle.td_host.specs.Gathered.{FreshWorker, FreshWorkers, FreshGuest, FreshGuests, FreshTaker, FreshTakers, WorkersSeated, GuestsSeated, TakersSeated, Armed, host_at, posts_at, takes_at, draws_at}
+use Rattle.td_host.specs.Gathered.{FreshWorker, FreshWorkers, FreshGuest, FreshGuests, FreshTaker, FreshTakers, WorkersSeated, GuestsSeated, TakersSeated, Armed, host_at, posts_at, takes_at, draws_at, swap_at}
 
 -- ---- posts of a script that is gone through
 pub record Listing (guest : ℕ) (whole : List Step) (before mails : List Mail) (rest : List Step) (number made : ℕ) : Type 0 where
@@ -132,6 +133,10 @@ module _ (names : Post → Type 0) (P : Mail → Type 0) (guest : ℕ) (whole : 
     pub rooms_all : rest ≡ [] → RoomsFor names (mails_of guest whole) rooms
     unfolding mails_from RoomsFor
     rooms_all e = subst (RoomsFor names (mails_of guest whole)) (append-nil rooms) (p.more [] (subst (λ x. RoomsFor names (mails_from guest (number + 1) p.made x) []) (sym e) tt))
+
+-- ---- the seat that makes those of the workers
+pub makes_all : (codes : CodesState) (swap : SwapState) (made workers : ℕ) → swap ≡ swap_at codes made → made ≡ workers → swap ≡ swap_at codes workers
+makes_all codes swap made workers is all = is ∙ ap (swap_at codes) all
 
 -- ---- workers and guests
 module _ {G : Type 0} where

@@ -1,5 +1,5 @@
 -- What all actors did, from what each did.
-use Rattle.std.proofs.Common.{◌≡◌, ◌⊎◌, ℕ, suc, ◌+◌, ◌*◌, ◌<◌, ◌≤◌, true, false, cond, List, [], ◌∷◌, ◌++◌, map, length, Option, Some, None, refl, sym, ap, ◌∙◌, subst, inl, inr, ⊎_elim, arith, append_assoc, length-append}
+use Rattle.std.proofs.Common.{◌≡◌, ◌⊎◌, ℕ, suc, ◌+◌, ◌*◌, ◌<◌, ◌≤◌, true, false, cond, List, [], ◌∷◌, ◌++◌, map, length, Option, Some, None, refl, sym, ap, ◌∙◌, subst, inl, inr, ⊎_elim, arith, add-zero, add_assoc, append_assoc, length-append}
 use Rattle.std.specs.Prelude.{slice_index_or}
 use Rattle.std.specs.List.{All, Contains, sum_by}
 use Rattle.std.proofs.Math.Nat.{suc-mul}
@@ -81,6 +81,10 @@ all_counted n (k ∷ below) above all more =
 one_more_few : (a b c n m : ℕ) → a ≡ b + c → b ≤ n → c ≤ m → a ≤ m + n
 one_more_few a b c n m e h k = omega arith
 
+-- nothing more was gathered
+with_none : (v : SwapView) → v ≡ swap_view v.count (v.made + 0) v.loads (v.ended ++ [])
+with_none v = λ i. swap_view v.count (sym (add-zero v.made) i) v.loads (sym (append-nil v.ended) i)
+
 module _ {G : Type 0} where
   -- the part that an actor hands back, of each kind
   abbrev pub put_of : Actor G → Option (Part Post)
@@ -108,6 +112,13 @@ module _ {G : Type 0} where
   swaps_of (kind.Ring t) = []
   swaps_of (kind.Publisher p) = []
 
+  -- how many seats at the version word its own one made
+  abbrev pub made_of : Actor G → ℕ
+  made_of (kind.Worker w) = w.swap.view.made
+  made_of (kind.Guest g) = 0
+  made_of (kind.Ring t) = 0
+  made_of (kind.Publisher p) = 0
+
   unfoldable pub put_parts : List (Actor G) → List (Part Post)
   put_parts [] = []
   put_parts (a ∷ ds) = cons_opt (put_of a) (put_parts ds)
@@ -123,6 +134,10 @@ module _ {G : Type 0} where
   unfoldable pub swap_lists : List (Actor G) → List (List ℕ)
   swap_lists [] = []
   swap_lists (a ∷ ds) = swaps_of a ++ swap_lists ds
+
+  unfoldable pub swaps_made : List (Actor G) → ℕ
+  swaps_made [] = 0
+  swaps_made (a ∷ ds) = made_of a + swaps_made ds
 
   -- ---- what is gathered
   pub seats_are : (h : HostView) (ds : List (Actor G)) → seats_all h ds ≡ host_view h.opened h.made (h.ended ++ map view_of ds)
@@ -148,17 +163,19 @@ module _ {G : Type 0} where
   draw_one_is h d (kind.Ring r) = refl
   draw_one_is h d (kind.Publisher q) = refl
 
-  swap_one_is : (v : SwapView) (a : Actor G) → swap_one v a ≡ swap_view v.count v.loads (v.ended ++ swaps_of a)
+  swap_one_is : (v : SwapView) (a : Actor G) → swap_one v a ≡ swap_view v.count (v.made + made_of a) v.loads (v.ended ++ swaps_of a)
   swap_one_is v (kind.Worker w) = refl
-  swap_one_is v (kind.Guest g) = ap (swap_view v.count v.loads) (sym (append-nil v.ended))
-  swap_one_is v (kind.Ring r) = ap (swap_view v.count v.loads) (sym (append-nil v.ended))
-  swap_one_is v (kind.Publisher q) = ap (swap_view v.count v.loads) (sym (append-nil v.ended))
+  swap_one_is v (kind.Guest g) = with_none v
+  swap_one_is v (kind.Ring r) = with_none v
+  swap_one_is v (kind.Publisher q) = with_none v
 
-  pub swaps_are : (v : SwapView) (ds : List (Actor G)) → swaps_all v ds ≡ swap_view v.count v.loads (v.ended ++ swap_lists ds)
-  unfolding swaps_all swap_lists
-  swaps_are v [] = ap (swap_view v.count v.loads) (sym (append-nil v.ended))
+  pub swaps_are : (v : SwapView) (ds : List (Actor G)) → swaps_all v ds ≡ swap_view v.count (v.made + swaps_made ds) v.loads (v.ended ++ swap_lists ds)
+  unfolding swaps_all swap_lists swaps_made
+  swaps_are v [] = with_none v
   swaps_are v (a ∷ ds) =
-      ap (λ x. swaps_all x ds) (swap_one_is v a) ∙ (swaps_are (swap_view v.count v.loads (v.ended ++ swaps_of a)) ds ∙ ap (swap_view v.count v.loads) (append_assoc v.ended (swaps_of a) (swap_lists ds)))
+      ap (λ x. swaps_all x ds) (swap_one_is v a)
+      ∙ (swaps_are (swap_view v.count (v.made + made_of a) v.loads (v.ended ++ swaps_of a)) ds
+      ∙ (λ i. swap_view v.count (add_assoc v.made (made_of a) (swaps_made ds) i) v.loads (append_assoc v.ended (swaps_of a) (swap_lists ds) i)))
 
   pub puts_are : (made : ℕ) (ended : List (Part Post)) (p t : Option (Part Post)) (th : Option (Head Post)) (ds : List (Actor G))
       → puts_all (ring_view (Some (head_of made ended)) p th t) ds ≡ ring_view (Some (head_of made (ended ++ put_parts ds))) p th t
@@ -223,12 +240,13 @@ module _ {G : Type 0} where
       pub no_draws : draw_parts ds ≡ []
       pub no_replies : all_replies ds ≡ []
       pub no_swaps : swap_lists ds ≡ []
+      pub none_made : swaps_made ds ≡ 0
       pub no_taking : takes_of_all ds ≡ []
 
     module _ (names : Post → Type 0) (shared : BufferState) (ring : RingState) (opened : List ℕ) where
       pub guests_done : (number n m : ℕ) (ss : List (List Step)) (ds bs : List (Actor G)) → FreshGuests names shared ring opened number n m ss ds → DidAll ds bs → GuestsDone number n m ss bs
-      unfolding DidAll FreshGuests AreStored ArePosted cons_opt put_parts take_parts draw_parts all_replies takes_of_all swap_lists
-      guests_done number n m [] [] [] f d = record { stored_by = tt; posted = tt; as_many = refl; no_takes = refl; no_draws = refl; no_replies = refl; no_swaps = refl; no_taking = refl }
+      unfolding DidAll FreshGuests AreStored ArePosted cons_opt put_parts take_parts draw_parts all_replies takes_of_all swap_lists swaps_made
+      guests_done number n m [] [] [] f d = record { stored_by = tt; posted = tt; as_many = refl; no_takes = refl; no_draws = refl; no_replies = refl; no_swaps = refl; none_made = refl; no_taking = refl }
       guests_done number n m [] [] (b ∷ bs) f d = absurd d
       guests_done number n m [] (a ∷ ds) bs f d = absurd f
       guests_done number n m (s ∷ ss) [] bs f d = absurd f
@@ -258,6 +276,7 @@ module _ {G : Type 0} where
             no_draws = r.no_draws;
             no_replies = r.no_replies;
             no_swaps = r.no_swaps;
+            none_made = ap (λ n. 0 + n) r.none_made;
             no_taking = r.no_taking;
           }
 
@@ -278,11 +297,12 @@ module _ {G : Type 0} where
       pub as_many_draws : length (draw_parts ds) ≡ length ds
       pub no_puts : put_parts ds ≡ []
       pub numbers : swap_lists ds ≡ map (map version_in) shares
+      pub none_made : swaps_made ds ≡ 0
       pub no_taking : takes_of_all ds ≡ []
 
     module _ (shared : BufferState) (ring : RingState) (service : Service) (opened : List ℕ) where
       pub workers_done : (ds bs : List (Actor G)) → FreshWorkers shared ring service opened ds → DidAll ds bs → WorkersDone bs
-      unfolding DidAll FreshWorkers cons_opt In ArePieces AnswerTakes joined all_replies takes_of_all put_parts take_parts draw_parts swap_lists owned
+      unfolding DidAll FreshWorkers cons_opt In ArePieces AnswerTakes joined all_replies takes_of_all put_parts take_parts draw_parts swap_lists swaps_made owned
       workers_done [] [] f d = record {
         shares = [];
         are_pieces = tt;
@@ -299,6 +319,7 @@ module _ {G : Type 0} where
         as_many_draws = refl;
         no_puts = refl;
         numbers = refl;
+        none_made = refl;
         no_taking = refl;
       }
       workers_done [] (b ∷ bs) f d = absurd d
@@ -360,5 +381,6 @@ module _ {G : Type 0} where
             as_many_draws = ap length drew ∙ ap suc r.as_many_draws;
             no_puts = r.no_puts;
             numbers = λ i. (loaded i).view.loads ∷ ((loaded i).view.ended ++ r.numbers i);
+            none_made = λ i. (loaded i).view.made + r.none_made i;
             no_taking = r.no_taking;
           }

@@ -35,7 +35,7 @@ use Rattle.td_host_actors.proofs.Works.{stores-append, no_stores}
 use Rattle.td_host.specs.Served.{In}
 use Rattle.td_host.specs.Hosts.{takes_in}
 use Rattle.td_host.specs.Gathered.{view_of, takes_of_all, all_replies, IsDescribedBy, IsReaderBy, FreshWorkers, FreshGuests, FreshTaker, FreshTakers, WorkersSeated, GuestsSeated, TakersSeated}
-use Rattle.td_host.proofs.Ends.{put_parts, take_parts, draw_parts, swap_lists, cons_opt, DidAll}
+use Rattle.td_host.proofs.Ends.{put_parts, take_parts, draw_parts, swap_lists, swaps_made, cons_opt, DidAll}
 
 -- a taker stores nothing
 message_stores : (next : Next) (message : Option Reply) → stores (message_steps next message) ≡ []
@@ -83,10 +83,11 @@ module _ {G : Type 0} (job : HostJob) (mails : List Mail) where
     pub no_draws : draw_parts ds ≡ []
     pub no_replies : all_replies ds ≡ []
     pub no_swaps : swap_lists ds ≡ []
+    pub none_made : swaps_made ds ≡ 0
 
   module _ (shared : BufferState) (service : Service) where
     pub takers_done : (number : ℕ) (rings : List RingJob) (readers : List ReaderView) (ds bs : List (Actor G)) → FreshTakers shared service job.words number rings readers ds → DidAll job mails ds bs → TakersDone number rings ds bs
-    unfolding DidAll FreshTakers AreTaken all_takes takes_of_all In cons_opt put_parts take_parts draw_parts all_replies swap_lists
+    unfolding DidAll FreshTakers AreTaken all_takes takes_of_all In cons_opt put_parts take_parts draw_parts all_replies swap_lists swaps_made
     takers_done number [] [] [] [] f d = record {
       shares = [];
       are = λ m a. tt;
@@ -100,6 +101,7 @@ module _ {G : Type 0} (job : HostJob) (mails : List Mail) where
       no_draws = refl;
       no_replies = refl;
       no_swaps = refl;
+      none_made = refl;
     }
     takers_done number [] [] [] (b ∷ bs) f d = absurd d
     takers_done number [] [] (a ∷ ds) bs f d = absurd f
@@ -144,6 +146,7 @@ module _ {G : Type 0} (job : HostJob) (mails : List Mail) where
           no_draws = r.no_draws;
           no_replies = r.no_replies;
           no_swaps = r.no_swaps;
+          none_made = ap (λ n. 0 + n) r.none_made;
         }
 
 -- readers of a module are takers' of it

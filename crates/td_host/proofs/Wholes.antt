@@ -1,5 +1,5 @@
 -- All posts are served, from what each actor did and what the ring, the tickets and the buffer tell.
-use Rattle.std.proofs.Common.{◌≡◌, ℕ, suc, ◌+◌, ◌*◌, ◌<◌, ◌≤◌, ◌^◌, ◌-◌, List, [], ◌∷◌, ◌++◌, map, length, Option, Some, None, refl, sym, ap, ◌∙◌, subst, ⊎_elim, arith, append_assoc, length-append}
+use Rattle.std.proofs.Common.{◌≡◌, ℕ, suc, ◌+◌, ◌*◌, ◌<◌, ◌≤◌, ◌^◌, ◌-◌, List, [], ◌∷◌, ◌++◌, map, length, Option, Some, None, refl, sym, ap, ◌∙◌, subst, ⊎_elim, arith, add-zero, zero-add, add_assoc, append_assoc, length-append}
 use Rattle.std.specs.List.{All, Contains, sum_by}
 use Rattle.std.specs.List.Sorted.{IsPermutation}
 use Rattle.std.proofs.lemmas.List.{map-append, length-map, append-nil}
@@ -38,7 +38,7 @@ use Rattle.td_host_actors.specs.Acting.{Answered}
 use Rattle.td_host_actors.specs.Actors.{Service, replies_of}
 use Rattle.td_host.specs.Gathered.{view_of, seats_all, puts_all, takes_all, draws_all, swaps_all, all_replies, takes_of, takes_of_all, IsDescribedBy, Armed}
 use Rattle.td_host.proofs.Shares.{all_taken, drawn_all, drawn_below}
-use Rattle.td_host.proofs.Ends.{put_of, take_of, draw_of, swaps_of, put_parts, take_parts, draw_parts, swap_lists, swaps_are, seats_are, puts_are, takes_are, draws_are, DidAll, did_both, GuestsDone, guests_done, WorkersDone, workers_done, cons_opt}
+use Rattle.td_host.proofs.Ends.{put_of, take_of, draw_of, swaps_of, made_of, put_parts, take_parts, draw_parts, swap_lists, swaps_made, swaps_are, seats_are, puts_are, takes_are, draws_are, DidAll, did_both, GuestsDone, guests_done, WorkersDone, workers_done, cons_opt}
 use Rattle.td_host.proofs.Takings.{TakersDone, takers_done}
 use Rattle.td_host.specs.Hosts.{takes_in}
 use Rattle.td_host.proofs.Unique.{replies_to}
@@ -103,6 +103,11 @@ module _ {G : Type 0} where
   unfolding swap_lists
   numbers-append [] ys = refl
   numbers-append (x ∷ xs) ys = ap (λ l. swaps_of x ++ l) (numbers-append xs ys) ∙ sym (append_assoc (swaps_of x) (swap_lists xs) (swap_lists ys))
+
+  made-append : (xs ys : List (Actor G)) → swaps_made (xs ++ ys) ≡ swaps_made xs + swaps_made ys
+  unfolding swaps_made
+  made-append [] ys = sym (zero-add (swaps_made ys))
+  made-append (x ∷ xs) ys = ap (λ n. made_of x + n) (made-append xs ys) ∙ sym (add_assoc (made_of x) (swaps_made xs) (swaps_made ys))
 
   takings-append : (xs ys : List (Actor G)) → takes_of_all (xs ++ ys) ≡ takes_of_all xs ++ takes_of_all ys
   unfolding takes_of_all
@@ -324,16 +329,24 @@ module _ {G : Type 0} where
             takes_are = record { shares = h.taken_by.shares; are = h.taken_by.are m (h.described m described); takes_are = made_is ∙ (takings_last ∙ h.taken_by.made) };
           }
 
-      -- the lists of numbers are the versions of the replies
-      numbers_are : (count : ℕ) → swaps_all (new_view count) news ≡ swap_view count [] (map (map version_in) h.worked.shares)
-      numbers_are count = swaps_are (new_view count) news
-          ∙ ap (swap_view count []) (of_first swap_lists numbers-append h.stored_by.no_swaps h.taken_by.no_swaps ∙ h.worked.numbers)
+      -- no seat that an actor had made another
+      none_made : swaps_made news ≡ 0
+      none_made =
+          ap swaps_made h.are ∙ (made-append h.workers (h.guests ++ h.takers)
+          ∙ ((λ i. h.worked.none_made i + made-append h.guests h.takers i) ∙ (λ i. 0 + (h.stored_by.none_made i + h.taken_by.none_made i))))
 
-      pub versioned : (count : ℕ) → count ≡ length job.formats → (w : SwapView) → w ≡ swaps_all (new_view count) news → AreVersions w
+      -- the lists of numbers are the versions of the replies
+      numbers_are : (count made : ℕ) → swaps_all (swap_view count made [] []) news ≡ swap_view count made [] (map (map version_in) h.worked.shares)
+      numbers_are count made =
+          let lists : swap_lists news ≡ map (map version_in) h.worked.shares = of_first swap_lists numbers-append h.stored_by.no_swaps h.taken_by.no_swaps ∙ h.worked.numbers in
+          let same : made + swaps_made news ≡ made = ap (λ (n : ℕ). made + n) none_made ∙ add-zero made in
+          swaps_are (swap_view count made [] []) news ∙ (λ i. swap_view count (same i) [] (lists i))
+
+      pub versioned : (count : ℕ) → count ≡ length job.formats → (w : SwapView) → w ≡ swaps_all (swap_view count job.workers [] []) news → AreVersions w
           → (q : PublisherView) → q ≡ publisher_view count (count - 1)
           → (replies : List Reply) → IsPermutation (all_replies news) replies → Versioned job replies h.worked.shares w q
       versioned count counted w w_is runs q q_is replies order =
-          let e = w_is ∙ numbers_are count in
+          let e = w_is ∙ numbers_are count job.workers in
           let ended = ap (λ (x : SwapView). x.ended) e in
           let shares = h.worked.shares in
           let whole : IsPermutation (joined shares) replies = subst (λ l. IsPermutation l replies) (replies_left ∙ sym h.worked.divided) order in
@@ -341,6 +354,7 @@ module _ {G : Type 0} where
           record {
             count = is_count;
             no_load = ap (λ (x : SwapView). x.loads) e;
+            made = ap (λ (x : SwapView). x.made) e;
             as_many = ap length ended ∙ (length-map shares (map version_in) ∙ (same_shares (take_parts h.workers) shares h.worked.of_takes ∙ (h.worked.as_many_takes ∙ h.as_many)));
             each_own = ended;
             each_once = subst (λ l. IsPermutation l (map version_in replies)) (sym (ap joined ended ∙ joined-map version_in shares)) (IsPermutation-map version_in (joined shares) replies whole);
@@ -352,7 +366,7 @@ module _ {G : Type 0} where
           → (v : RingView) → v ≡ with_takes (puts_all posts.view news) (takes_all takes.view news) → Settled v []
           → (k : HostView) → k ≡ seats_all seat.view news → (length k.ended ≡ k.made → Fetched k) → (log : List HistoryEntry) → IsHistoryOf k log
           → (replies : List Reply) → map reply_name replies ≡ map (λ (m : Mail). m.name) mails → IsPermutation (all_replies news) replies
-          → (count : ℕ) → count ≡ length job.formats → (w : SwapView) → w ≡ swaps_all (new_view count) news → AreVersions w
+          → (count : ℕ) → count ≡ length job.formats → (w : SwapView) → w ≡ swaps_all (swap_view count job.workers [] []) news → AreVersions w
           → (q : PublisherView) → q ≡ publisher_view count (count - 1) → (made : List Take) → made ≡ takes_of_all news → ServedVersions m job replies made k v w q
       unfolding served
       served_versions m described perm is v v_is settled k k_is fetched log told replies named order count counted w w_is runs q q_is made made_is = record {

@@ -16,10 +16,12 @@ use Rattle.td_host.specs.Served.{joined, Served}
 
 -- what the seats at the version word know in the end. One list of numbers was gathered for each worker: those that it loaded, which
 -- are the versions of its replies, one load for each, in order; none of these lists falls, and all have numbers of versions alone. So
--- the numbers of all lists together are the versions of the replies, each as often. And the publisher published all versions
+-- the numbers of all lists together are the versions of the replies, each as often. As many seats were made as lists were gathered, and
+-- the seat that made them loaded nothing, so no other seat looked. And the publisher published all versions
 pub record Versioned (job : HostJob) (replies : List Reply) (shares : List (List Reply)) (swaps : SwapView) (publisher : PublisherView) : Type 0 where
   pub count : swaps.count ≡ length job.formats
   pub no_load : swaps.loads ≡ []
+  pub made : swaps.made ≡ job.workers
   pub as_many : length swaps.ended ≡ job.workers
   pub each_own : swaps.ended ≡ map (map version_in) shares
   pub each_once : IsPermutation (joined swaps.ended) (map version_in replies)

@@ -8,10 +8,10 @@ ghost use Rattle.td_posts.specs.Posts.{mails_of, all_mails, mail_named, scattere
 ghost use Rattle.td_posts.specs.Servable.{IsServable};
 ghost use Rattle.td_core.specs.declared.module.Module.{Module};
 ghost use Rattle.td_host_actors.specs.Acting.{PostFits, most_frames, RoomsFor};
-ghost use Rattle.td_host.specs.Hosts.{IsOpened, AreFresh, IsCrew, first_swap};
+ghost use Rattle.td_host.specs.Hosts.{IsOpened, AreFresh, IsCrew};
 ghost use Rattle.td_host_actors.specs.Actors.{service_at};
 ghost use Rattle.td_host_actors.specs.declared.actor.Actor.TheVariants as kind;
-ghost use Rattle.td_host.specs.Gathered.{Armed, IsBounded, host_at, posts_at, takes_at, draws_at, WorkersSeated, GuestsSeated, AreReadersOf, IsReaderBy, IsDescribedBy};
+ghost use Rattle.td_host.specs.Gathered.{Armed, IsBounded, host_at, posts_at, takes_at, draws_at, swap_at, WorkersSeated, GuestsSeated, AreReadersOf, IsReaderBy, IsDescribedBy};
 
 use crate::gather::{Heads, VersionSeats};
 use crate::rings::seat_takers;
@@ -99,11 +99,11 @@ fn seat_workers<J: Naming, G: Drop>(
     requires seat { heads.old.seat ≡ host_at desk.now.shared.table heads.old.seat.view.opened 0 }
     requires takes { heads.old.takes ≡ takes_at desk.now.ring.queue 1 }
     requires drawer { heads.old.drawer ≡ draws_at desk.now.tickets 1 }
-    requires swap { swap.old ≡ first_swap desk.now.codes }
+    requires swap { swap.old ≡ swap_at desk.now.codes 0 }
     requires empty { actors.old.items ≡ [] }
     ensures seated { OnOk result (WorkersSeated desk.now.shared desk.now.ring (service_at desk.now) heads.old.seat.view.opened (length gates.items) heads.new.seat heads.new.takes heads.new.drawer actors.new.items) }
     ensures posts { OnOk result (heads.new.posts ≡ heads.old.posts) }
-    ensures swap { OnOk result (swap.new ≡ swap.old) }
+    ensures swap { OnOk result (swap.new ≡ swap_at desk.now.codes (length gates.items)) }
 {
     for gate in gates {
         let (frames, replies) = worker_rooms(alloc, desk)?;
@@ -198,7 +198,7 @@ fn seat_all<J: Naming, G: Drop>(
 ) -> Result<(), AllocError>
     requires servable { IsServable desk.now.job }
     requires opened { IsOpened desk.now heads.old }
-    requires swap { swap.old ≡ first_swap desk.now.codes }
+    requires swap { swap.old ≡ swap_at desk.now.codes 0 }
     requires readers { AreReadersOf (8 * length desk.now.job.words) desk.now.job.rings descrs.items }
     requires gates { length gates.items ≡ desk.now.job.workers + length desk.now.job.guests }
     requires some { 0 < length desk.now.codes.codes }
@@ -206,7 +206,7 @@ fn seat_all<J: Naming, G: Drop>(
     requires fitting_are_named { (p : Post) → PostFits frames desk.now.job p → J.names p }
     ensures armed { OnOk result ((before : List (Actor G)) × (actors.new.items ≡ before ++ kind.Publisher publisher ∷ [])
         × Armed J.names desk.now.shared desk.now.ring (service_at desk.now) desk.now.job heads.new.seat heads.new.posts heads.new.takes heads.new.drawer before) }
-    ensures swap { OnOk result (swap.new ≡ swap.old) }
+    ensures swap { OnOk result (swap.new ≡ swap_at desk.now.codes desk.now.job.workers) }
     ensures described { (m : Module) → All (IsReaderBy m) descrs.items → OnOk result (All (IsDescribedBy m) actors.new.items) }
 {
     let mut gates = gates;

@@ -65,7 +65,7 @@ pub record RunningWorker (job : HostJob) (count : ℕ) (seat0 seat : SeatState) 
   pub is_seat : (opened : List ℕ) (n : ℕ) → seat0 ≡ read_seat seat0.table opened n [] → seat ≡ read_seat seat0.table opened n steps
   pub is_pass : (n : ℕ) → pass0 ≡ take_pass pass0.queue n [] → pass ≡ take_pass pass0.queue n posts
   pub is_drawer : (n : ℕ) → drawer0 ≡ ticket_seat drawer0.table n [] → drawer ≡ ticket_seat drawer0.table n below
-  pub is_swap : (versions : ℕ) → swap0 ≡ swap_state swap0.table (new_view versions) → swap ≡ swap_state swap0.table (swap_view versions (map version_in replies) [])
+  pub is_swap : (versions : ℕ) → swap0 ≡ swap_state swap0.table (new_view versions) → swap ≡ swap_state swap0.table (swap_view versions 0 (map version_in replies) [])
   pub loaded : loads steps ≡ pieces (all_mails 1 job.guests) replies
   pub stored : stores steps ≡ []
   pub names : map reply_name replies ≡ map (λ (p : Post). p.name) posts
@@ -111,7 +111,7 @@ module _ (job : HostJob) (count : ℕ) where
           is_seat = λ opened n e. read ∙ ap (λ (s : SeatState). seat_state s.table (seat_view s.view.opened s.view.number s.view.guest (s.view.steps ++ more))) (w.is_seat opened n e);
           is_pass = λ n e. took ∙ ap (λ (h : PassState). pass_with h (did_take h.view p)) (w.is_pass n e);
           is_drawer = λ n e. drew ∙ ap (λ (d : DrawerState). drawer_with d (did_draw d.view k)) (w.is_drawer n e);
-          is_swap = λ versions e. looked ∙ (ap (λ (x : SwapState). then_loaded x (version_in r)) (w.is_swap versions e) ∙ ap (λ l. swap_state swap0.table (swap_view versions l [])) (sym (map-append version_in replies (r ∷ []))));
+          is_swap = λ versions e. looked ∙ (ap (λ (x : SwapState). then_loaded x (version_in r)) (w.is_swap versions e) ∙ ap (λ l. swap_state swap0.table (swap_view versions 0 l [])) (sym (map-append version_in replies (r ∷ []))));
           loaded = loads-append w.steps more ∙ ((λ i. w.loaded i ++ loads_placed layout r.loads.list i) ∙ sym (pieces-push mails replies r));
           stored = stores-append w.steps more ∙ (λ i. w.stored i ++ no_stores layout r.loads.list i);
           names = map-append reply_name replies (r ∷ []) ∙ ((λ i. w.names i ++ name i ∷ []) ∙ sym (map-append (λ (x : Post). x.name) w.posts (p ∷ [])));

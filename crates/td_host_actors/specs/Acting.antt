@@ -123,7 +123,7 @@ pub record Answered (job : HostJob) (r : Reply) : Type 0 where
   pub reply : IsReplyTo job mail r
 
 -- the worker drew tickets below the count of posts, and for each of those took one post and answered it, with loads of its own
--- seat, under the version that it then loaded, one load for each; it ended when it had drawn one or more that aren't below the count, or had
+-- seat, under the version that it then loaded, one load for each, by a seat that made no other; it ended when it had drawn one or more that aren't below the count, or had
 -- answered as many posts as there are
 pub record RanWorker (job : HostJob) (count : ℕ) (seat seat' : SeatState) (pass pass' : PassState) (drawer drawer' : DrawerState) (swap swap' : SwapState) (replies : List Reply) : Type 0 where
   pub steps : List Access
@@ -133,7 +133,7 @@ pub record RanWorker (job : HostJob) (count : ℕ) (seat seat' : SeatState) (pas
   pub is_seat : (opened : List ℕ) (n : ℕ) → seat ≡ read_seat seat.table opened n [] → seat' ≡ read_seat seat.table opened n steps
   pub is_pass : (n : ℕ) → pass ≡ take_pass pass.queue n [] → pass' ≡ take_pass pass.queue n posts
   pub is_drawer : (n : ℕ) → drawer ≡ ticket_seat drawer.table n [] → drawer' ≡ ticket_seat drawer.table n (below ++ above)
-  pub is_swap : (versions : ℕ) → swap ≡ swap_state swap.table (new_view versions) → swap' ≡ swap_state swap.table (swap_view versions (map version_in replies) [])
+  pub is_swap : (versions : ℕ) → swap ≡ swap_state swap.table (new_view versions) → swap' ≡ swap_state swap.table (swap_view versions 0 (map version_in replies) [])
   pub loaded : loads steps ≡ pieces (all_mails 1 job.guests) replies
   pub stored : stores steps ≡ []
   pub names : map reply_name replies ≡ map (λ p. p.name) posts

@@ -3,7 +3,7 @@
 ghost use Rattle.std.specs.Prelude.{◌≡◌, ℕ, ◌+◌, ◌<◌, ◌≤◌, ◌^◌, [], None, option_map, length as size_of, IfOk, IsErr, IsOk};
 ghost use Rattle.td_stream.specs.Layouts.{count_in, loadable, layout_or_plain, IsOver};
 ghost use Rattle.td_ir.specs.Entries.{Fits, buffers_of};
-ghost use Rattle.td_vm.specs.Frames.{IsArmed, outcome_in};
+ghost use Rattle.td_vm.specs.Frames.{IsArmed, IsRestEmpty, outcome_in};
 ghost use Rattle.td_run.specs.Runs.{IsRunBy};
 
 use crate::load_count::LoadCount;
@@ -108,6 +108,7 @@ pub fn run_prepared(
     ensures run { (n : ℕ) → message.now ≡ layout_or_plain n prepared.entry.words.layout → IsRunBy code.now
         (record { entry = start.now.entry; args = start.now.args.now; cells = start.now.cells.now; length = n; layout = prepared.entry.words.layout; words = prepared.entry.words.opening; stores = prepared.entry.words.stores })
         (outcome_in frame.new (buffers_of code.now start.now.entry) result.verdict) result.loads.list }
+    ensures rest { IsRestEmpty code.now (buffers_of code.now start.now.entry) frame.new }
     ensures armed { IsArmed code.now frame.new }
 {
     fitting_cells_have_room();
@@ -150,6 +151,7 @@ pub fn run_counted<L: Ledger>(
     ensures run { IsRunBy code.now
         (record { entry = start.now.entry; args = start.now.args.now; cells = start.now.cells.now; length = length; layout = prepared.entry.words.layout; words = prepared.entry.words.opening; stores = prepared.entry.words.stores })
         (outcome_in frame.new (buffers_of code.now start.now.entry) result.verdict) result.loads.list }
+    ensures rest { IsRestEmpty code.now (buffers_of code.now start.now.entry) frame.new }
     ensures armed { IsArmed code.now frame.new }
     ensures counted { load_count.new ≡ load_count.old + size_of result.loads.list }
 {
@@ -181,6 +183,7 @@ pub fn run_in_frame(
     ensures run { IfOk result (λ ran. IsRunBy code.now
         (record { entry = start.now.entry; args = start.now.args.now; cells = start.now.cells.now; length = length; layout = option_map (λ l. l.now) memory.now.layout; words = memory.now.words.now; stores = memory.now.stores.now })
         (outcome_in frame.new (buffers_of code.now start.now.entry) ran.verdict) ran.loads.list) }
+    ensures rest { IsOk result → IsRestEmpty code.now (buffers_of code.now start.now.entry) frame.new }
     ensures armed { IsArmed code.now frame.new }
     ensures untouched { IsErr result → frame.new ≡ frame.old }
     ensures memory { memory.now.words.now ≡ [] → memory.now.stores.now ≡ [] → option_map (λ l. l.now) memory.now.layout ≡ None → IsOk result }

@@ -5,7 +5,7 @@ ghost use Rattle.td_stream.specs.Layouts.{count_in};
 ghost use Rattle.td_stream.specs.Loads.{Carries};
 ghost use Rattle.td_ir.specs.Entries.{Fits, buffers_of, opened_by};
 ghost use Rattle.td_ir.specs.Run.{run};
-ghost use Rattle.td_vm.specs.Frames.{IsArmed, outcome_in};
+ghost use Rattle.td_vm.specs.Frames.{IsArmed, IsRestEmpty, outcome_in};
 ghost use Rattle.td_run.specs.Validation.{IsValidation};
 
 use std::marker::Brand;
@@ -51,6 +51,7 @@ fn validate_counted<W: Words, L: Ledger, C: Counter>(
     ensures told { (b : List ℕ) → Carries layout.now b (W.loads words.new)
         → C.tells result.1 (run code.now entry args.now (opened_by code.now entry frame.old.cells) b).steps }
     ensures cell_count { size_of frame.new.cells ≡ size_of frame.old.cells }
+    ensures rest { IsRestEmpty code.now (buffers_of code.now entry) frame.new }
     ensures armed { IsArmed code.now frame.new }
 {
     code_means();
@@ -66,7 +67,7 @@ fn validate_counted<W: Words, L: Ledger, C: Counter>(
 /// each at most once. On each message that carries these loads the verdict, and the trace, the cells and the copies that the frame is
 /// left with, are those of the code's run (td_vm's law `run_is_bounded` bounds its steps); where it is the code of a module, and every
 /// expression that the meaning evaluates lies in its type's range (as in a module that passed the safety rule), they are those of the
-/// module's meaning.
+/// module's meaning. The buffers behind the entry point's are empty.
 pub fn validate_compiled<W: Words>(
     code: &Verified,
     entry: Entry,
@@ -82,6 +83,7 @@ pub fn validate_compiled<W: Words>(
     ensures reaches { W.reaches words.old words.new }
     ensures validated { IsValidation code.now entry args.now frame.old.cells layout.now (W.loads words.new) (outcome_in frame.new (buffers_of code.now entry) result) }
     ensures cell_count { size_of frame.new.cells ≡ size_of frame.old.cells }
+    ensures rest { IsRestEmpty code.now (buffers_of code.now entry) frame.new }
     ensures armed { IsArmed code.now frame.new }
 {
     let (verdict, _) = validate_counted::<W, Brand, NoCounter>(
@@ -117,6 +119,7 @@ pub fn validate_with_steps<W: Words>(
     ensures told { (b : List ℕ) → Carries layout.now b (W.loads words.new)
         → result.1 ≡ min (run code.now entry args.now (opened_by code.now entry frame.old.cells) b).steps (2 ^ 64 - 1) }
     ensures cell_count { size_of frame.new.cells ≡ size_of frame.old.cells }
+    ensures rest { IsRestEmpty code.now (buffers_of code.now entry) frame.new }
     ensures armed { IsArmed code.now frame.new }
 {
     let (verdict, told) = validate_counted::<W, Brand, StepCounter>(
@@ -154,6 +157,7 @@ pub fn validate_recorded<W: Words>(
     ensures loads { W.loads words.new ≡ loads.new.list }
     ensures validated { IsValidation code.now entry args.now frame.old.cells layout.now loads.new.list (outcome_in frame.new (buffers_of code.now entry) result) }
     ensures cell_count { size_of frame.new.cells ≡ size_of frame.old.cells }
+    ensures rest { IsRestEmpty code.now (buffers_of code.now entry) frame.new }
     ensures armed { IsArmed code.now frame.new }
 {
     let mut recorder = Recorder::over(words, loads);

@@ -1,11 +1,11 @@
 //! Codes of which one is published after the other: what the one who publishes holds, and what each thread holds that asks which one
 //! is published.
 
-ghost use Rattle.std.specs.Prelude.{◌≡◌, ◌+◌, ◌<◌, ◌≤◌, ◌↔◌, Some, IfOk, IfSome, IsSome, IsNone, length, slice_get};
+ghost use Rattle.std.specs.Prelude.{◌≡◌, ◌+◌, ◌<◌, ◌≤◌, ◌↔◌, Some, IfOk, OnOk, OnErr, IfSome, IsSome, IsNone, length, slice_get};
 ghost use Rattle.std.specs.Arc.{arc_value};
 ghost use Rattle.td_swap.specs.declared.version.TheConstants.{MOST_VERSIONS};
 ghost use Rattle.td_swap.specs.Views.{new_view, AreVersions};
-ghost use Rattle.td_swap.specs.Seats.{IsPublishers, IsOwn, swap_state, then_published, then_loaded};
+ghost use Rattle.td_swap.specs.Seats.{IsPublishers, IsOwn, swap_state, then_published, then_loaded, then_split};
 ghost use Rattle.td_session.specs.Room.{IsFresh};
 
 use crate::session::Session;
@@ -55,11 +55,13 @@ impl Publisher {
         Some(self.codes.publish(&mut self.seat))
     }
 
-    /// A seat for another thread, which loaded nothing yet. `AllocError`: the codes are shared too often.
+    /// A seat for another thread, which loaded nothing yet; the seat that makes others made one more. `AllocError`: the codes are
+    /// shared too often, and no seat was made.
     pub fn split(&mut self) -> Result<Reader, AllocError>
         ensures codes { arc_value self.new.codes ≡ arc_value self.old.codes }
         ensures seat { self.new.seat ≡ self.old.seat }
-        ensures unloaded { self.new.maker ≡ self.old.maker }
+        ensures made { OnOk result (self.new.maker ≡ then_split self.old.maker) }
+        ensures unmade { OnErr result (self.new.maker ≡ self.old.maker) }
         ensures shared { IfOk result (λ r. arc_value r.codes ≡ arc_value self.old.codes) }
         ensures fresh { IfOk result (λ r. r.seat ≡ swap_state (arc_value self.old.codes).table (new_view (length (arc_value self.old.codes).codes))) }
     {

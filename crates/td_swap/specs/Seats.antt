@@ -3,7 +3,7 @@ use Rattle.std.specs.Prelude.{◌≡◌, ℕ, ◌+◌, length}
 use Rattle.atomic_table.specs.Seated.{TableId}
 use Rattle.td_swap.specs.declared.view.PublisherView.{PublisherView}
 use Rattle.td_swap.specs.declared.view.SwapView.{SwapView}
-use Rattle.td_swap.specs.Views.{publisher_view, did_load, with_ended}
+use Rattle.td_swap.specs.Views.{publisher_view, did_load, one_more, with_ended}
 use Rattle.td_swap.specs.Versions.{CodesState}
 
 -- the publisher's seat: whose table it is at, and its view
@@ -37,6 +37,10 @@ then_published s = publish_state s.table (publisher_view s.view.count (s.view.nu
 -- the seat after it loaded this number, too
 abbrev pub then_loaded : SwapState → ℕ → SwapState
 then_loaded s n = swap_state s.table (did_load s.view n)
+
+-- the seat after it made another
+abbrev pub then_split : SwapState → SwapState
+then_split s = swap_state s.table (one_more s.view)
 
 -- the seat after it gathered another
 abbrev pub then_gathered : SwapState → SwapState → SwapState

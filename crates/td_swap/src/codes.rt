@@ -4,7 +4,7 @@ ghost use Rattle.std.specs.Prelude.{◌≡◌, ◌+◌, ◌<◌, ◌≤◌, leng
 ghost use Rattle.td_swap.specs.declared.version.TheConstants.{MOST_VERSIONS};
 ghost use Rattle.td_swap.specs.Views.{publisher_view, new_view, AreVersions};
 ghost use Rattle.td_swap.specs.Versions.{version_code, AreNumbered};
-ghost use Rattle.td_swap.specs.Seats.{IsPublishers, IsOwn, publish_state, swap_state, then_published, then_loaded, then_gathered};
+ghost use Rattle.td_swap.specs.Seats.{IsPublishers, IsOwn, publish_state, swap_state, then_published, then_loaded, then_split, then_gathered};
 
 use crate::rule::{Another, First, Gathers, Loads, NeverFalls, Publishes};
 use crate::seats::{PublishSeat, SwapSeat};
@@ -109,10 +109,10 @@ impl Codes {
         &self.versions[number as usize]
     }
 
-    /// Makes a seat that loaded nothing yet. This takes no memory.
+    /// Makes a seat that loaded nothing yet; the seat has made one more. This takes no memory.
     pub fn split(&self, seat: &mut SwapSeat) -> SwapSeat
         requires { IsOwn self.now seat.old }
-        ensures same { seat.new ≡ seat.old }
+        ensures made { seat.new ≡ then_split seat.old }
         ensures given { result ≡ swap_state seat.old.table (new_view seat.old.view.count) }
     {
         SwapSeat {

@@ -14,7 +14,7 @@ impl TableRule<u8, View, usize> for NeverFalls {
 
     ghost holds = { λ _ s. KeepsVersions s };
 
-    ghost first = { λ k. Publisher (publisher_view k 0) };
+    ghost first = { λ k. Publisher (publisher_view k 0) 0 };
 }
 
 /// The publisher's store.
@@ -35,15 +35,16 @@ impl Play<u8, View> for Loads {
     ghost then = { LoadedVersion };
 }
 
-/// The publisher makes the first seat that loads.
+/// The publisher makes a seat that loads: the first one.
 pub(crate) struct First;
 
 impl Split<View> for First {
-    ghost use Rattle.td_swap.specs.Rule.{publisher_in};
+    ghost use Rattle.std.specs.Prelude.{◌+◌};
+    ghost use Rattle.td_swap.specs.Rule.{publisher_in, made_in};
     ghost use Rattle.td_swap.specs.Views.{new_view};
-    ghost use Rattle.td_swap.specs.declared.view.View.TheVariants.{Swap};
+    ghost use Rattle.td_swap.specs.declared.view.View.TheVariants.{Publisher, Swap};
 
-    ghost left = { λ v. v };
+    ghost left = { λ v. Publisher (publisher_in v) (made_in v + 1) };
 
     ghost right = { λ v. Swap (new_view (publisher_in v).count) };
 }
@@ -53,10 +54,10 @@ pub(crate) struct Another;
 
 impl Split<View> for Another {
     ghost use Rattle.td_swap.specs.Rule.{swap_in};
-    ghost use Rattle.td_swap.specs.Views.{new_view};
+    ghost use Rattle.td_swap.specs.Views.{new_view, one_more};
     ghost use Rattle.td_swap.specs.declared.view.View.TheVariants.{Swap};
 
-    ghost left = { λ v. v };
+    ghost left = { λ v. Swap (one_more (swap_in v)) };
 
     ghost right = { λ v. Swap (new_view (swap_in v).count) };
 }

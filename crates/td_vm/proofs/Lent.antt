@@ -56,9 +56,9 @@ lent_roomy k wanted rs lent h e is =
       each = λ j l. let a = taken_at k j rs (omega (arith, l, e)) in let b = h.each j l in omega (arith, a, b);
     })
 
--- an armed frame's buffers, emptied and lent
-pub cleared_rooms : (c : Parts) (f : FrameView) (kept empty lent : List BufferView) → kept ≡ f.copies → IsArmed c f → empty ≡ map empty_with (rooms_of kept) → lent ≡ empty → rooms_of lent ≡ most_rooms c
-cleared_rooms c f kept empty lent k a e l = ap rooms_of (l ∙ e) ∙ rooms_again (rooms_of kept) ∙ ap rooms_of k ∙ a.rooms
+-- an armed frame's buffers, lent and emptied
+pub cleared_rooms : (c : Parts) (f : FrameView) (kept lent empty : List BufferView) → kept ≡ f.copies → IsArmed c f → lent ≡ kept → empty ≡ map empty_with (rooms_of lent) → rooms_of empty ≡ most_rooms c
+cleared_rooms c f kept lent empty k a l e = ap rooms_of e ∙ rooms_again (rooms_of lent) ∙ ap rooms_of (l ∙ k) ∙ a.rooms
 
 -- what buffers hold, of which the last was moved behind what the others held
 pub held_moved : (xs : List (List ℕ)) (us vs : List BufferView) (v : BufferView) → us ≡ vs ++ v ∷ [] → (xs ++ v.held ∷ []) ++ held_by (reverse vs) ≡ xs ++ held_by (reverse us)

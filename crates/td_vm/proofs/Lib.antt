@@ -1,11 +1,9 @@
 mod Stretches
-mod Shapes
-mod Keeps
+mod Calls
+mod Emptying
 mod Turns
 mod Rooms
 mod Told
-mod Effects
-mod Bounds
 mod Places
 mod Lent
 pub mod Alone

@@ -20,8 +20,9 @@ use Rattle.td_vm_step.specs.declared.activation.TraceRoom.{TraceRoom}
 use Rattle.td_vm_step.specs.declared.activation.CodeView.{CodeView}
 use Rattle.td_vm.specs.Need.{called, greatest, need, room_below, most, greatest_of, entry_cells, entry_rooms, most_entry_cells, most_buffers, most_room, most_rooms, registers, cells, level}
 use Rattle.td_vm.specs.Frames.{FrameView, AreBegins, IsArmed}
-use Rattle.td_vm.specs.Machine.{IsRunnable, HasEntryRoom, AreRoomy}
-use Rattle.td_vm.proofs.Keeps.{own_need}
+use Rattle.td_verify_runs.specs.Stretches.{IsRunnable}
+use Rattle.td_vm.specs.Machine.{HasEntryRoom, AreRoomy}
+use Rattle.td_vm.proofs.Calls.{own_need}
 use Rattle.td_vm.proofs.Places.{own_place, own_snoc, length_places}
 
 greatest_same : (s : List Shape) (f g : ℕ → ℕ) (from n : ℕ) → ((k : ℕ) → k < n → called f (shape_at s (from + k)) ≡ called g (shape_at s (from + k))) → greatest s f from n ≡ greatest s g from n

@@ -1,7 +1,6 @@
 -- Turns of loops, calls, and the room of a run.
-use Rattle.std.proofs.Common.{◌≡◌, ℕ, zero, suc, ◌+◌, ◌-◌, ◌*◌, ◌<◌, ◌≤◌, true, false, cond, List, [], ◌∷◌, ◌++◌, length, Option, Some, None, sym, refl, ap, ◌∙◌, subst, arith, take, drop}
+use Rattle.std.proofs.Common.{◌≡◌, ℕ, zero, suc, ◌+◌, ◌-◌, ◌*◌, ◌<◌, ◌≤◌, true, false, cond, List, [], ◌∷◌, ◌++◌, length, sym, refl, ap, ◌∙◌, subst, arith, take, drop}
 use Rattle.std.specs.Prelude.{slice_range, slice_index, slice_set, replicate, nat_eq}
-use Rattle.std.proofs.Math.Nat.{mul-le-mul_left, mul-le-mul_right}
 use Rattle.std.proofs.Math.Seq.{drop-cons, take-suc-set}
 use Rattle.td_num.specs.Numbers.{places_from}
 use Rattle.td_core.specs.declared.outcome.Reason.{Reason}
@@ -15,16 +14,14 @@ use Rattle.td_ir.specs.State.{State, left, registers_from, Exit, after}
 use Rattle.td_ir.specs.State as ir
 use Rattle.td_ir.specs.Run.{places_by, entered, again, turns}
 use Rattle.td_ir.proofs.Begins.{begin_next, begin_up}
-use Rattle.td_verify.specs.declared.shape.Shape.TheVariants.{While, Call, Return}
+use Rattle.td_verify.specs.declared.shape.Shape.TheVariants.{Call}
 use Rattle.td_verify.specs.Shape.{shape, shapes_of}
 use Rattle.td_verify.specs.Operands.{HasRegisters, HasTables, callee_params}
 use Rattle.td_verify.specs.Rules.{CallsWell}
-use Rattle.td_verify.specs.declared.bracket.Bracket.{Bracket}
-use Rattle.td_verify.specs.declared.bracket.Bracket.TheVariants.{Loop}
-use Rattle.td_verify.specs.Brackets.{shape_at, opened, and_then, opening, in_loop, window_bytes}
+use Rattle.td_verify.specs.Brackets.{shape_at, in_loop}
 use Rattle.td_verify.specs.Ways.{MayBeEmpty}
 use Rattle.td_verify.specs.Verify.{IsIn, depths}
-use Rattle.td_verify.specs.Safe.{IsSafe, IsWhole, IsWholeAt, before, looped}
+use Rattle.td_verify.specs.Safe.{IsSafe, looped}
 use Rattle.td_vm_step.specs.declared.activation.TraceRoom.{TraceRoom}
 use Rattle.td_vm_step.specs.declared.activation.CodeView.{CodeView}
 use Rattle.td_vm_step.specs.declared.activation.Level.{Level}
@@ -32,14 +29,14 @@ use Rattle.td_vm_step.specs.declared.activation.BlockExit.{BlockExit}
 use Rattle.td_vm_step.specs.declared.activation.BlockExit.TheVariants.{Returned, Turned, Failed}
 use Rattle.td_vm.specs.Exits.{frames_of, exit_by, way_of, call_way, WhenTurned, WhenReturned, NotTurned, Traced}
 use Rattle.td_vm.specs.Need.{registers, cells, level}
-use Rattle.td_vm.specs.Machine.{Idle, IsRunnable, HasRoom, HasEntryRoom, IsStretch, IsCallee, IdleTurn, IdleReturn, scale, IsKept, AreRoomy}
+use Rattle.td_verify_runs.specs.Stretches.{Idle, IsRunnable, IdleReturn}
+use Rattle.td_vm.specs.Machine.{HasRoom, HasEntryRoom, IsCallee, IsKept, AreRoomy}
 use Rattle.td_vm.specs.declared.level.Spare.{Spare}
 use Rattle.td_stream.specs.Copies.{rooms_of}
 use Rattle.td_vm_step.specs.declared.slate.Slate.{Slate}
 use Rattle.td_vm_step.specs.Stepping.{HasPlaces, IsLent}
-use Rattle.td_vm.proofs.Keeps.{callee_need, goes_on}
+use Rattle.td_vm.proofs.Calls.{callee_need}
 use Rattle.td_vm.proofs.Places.{callee_places, entry_places, own_snoc}
-use Rattle.td_verify.proofs.Flat.{next_opened}
 use Rattle.td_verify.proofs.Sums.{shape_there}
 
 pub none_left : (n : ℕ) → (1 ≤ n → ⊥) → n ≡ 0
@@ -89,45 +86,6 @@ room_stepped l s regs regs' x y h r k e = room_kept l s s regs regs' x y h (spar
 pub one_frame : (t t' : TraceRoom) (f : TraceFrame) → t.count ≡ 0 → frames_of t' ≡ frames_of t ++ f ∷ [] → f ∷ [] ≡ frames_of t'
 one_frame t t' f e h = sym (h ∙ ap (λ k. take k t.frames.items ++ f ∷ []) e)
 
--- a routine from its beginning
-pub whole_stretch : (c : Parts) (n from to : ℕ) → IsRunnable c → n < length c.routines → from ≡ first_of c n → to ≡ end_at c n → IsStretch c n from to
-whole_stretch c n from to r l e f =
-    let b = r.safe.begins n l in
-    let place : IsIn c n from = subst (IsIn c n) (sym e) b.0 in
-    record {
-      place = place;
-      some = omega (arith, place.to, f);
-      within = omega (arith, f);
-      closed = λ q i k. omega (arith, i.to, f);
-      outside = ap window_bytes (ap (opened (shapes_of c)) e ∙ b.1);
-    }
-
-no_window : (p : ℕ) (o : Option (List Bracket)) → window_bytes (opening (Loop p) o) ≡ 0
-no_window p None = refl
-no_window p (Some bs) = refl
-
-pub loop_whole : (c : Parts) (n p t : ℕ) → IsRunnable c → IsIn c n p → shape_at (shapes_of c) p ≡ While t → IsWhole c n p t
-loop_whole c n p t r i e = subst (IsWholeAt c n p) e (r.safe.each n p i).whole
-
--- a loop's body
-pub body_stretch : (c : Parts) (n p t : ℕ) → IsRunnable c → IsIn c n p → shape_at (shapes_of c) p ≡ While t → IsStretch c n (p + 1) t
-body_stretch c n p t r i e =
-    let w = loop_whole c n p t r i e in
-    record {
-      place = record { routine = i.routine; from = omega (arith, i.from); to = omega (arith, w.body, w.behind.to) };
-      some = w.body;
-      within = omega (arith, w.behind.to);
-      closed = λ q j k. r.safe.loops.inside n p t q i e j (k (r.safe.loops.turning n p t i e));
-      outside = ap window_bytes (next_opened (shapes_of c) p ∙ ap (λ j. and_then p j (opened (shapes_of c) p)) e) ∙ no_window p (opened (shapes_of c) p);
-    }
-
--- a turn takes a byte
-pub turn_busy : (c : Parts) (n p t : ℕ) → IsRunnable c → IsIn c n p → shape_at (shapes_of c) p ≡ While t → IdleTurn c n (p + 1) → ⊥
-turn_busy c n p t r i e d =
-    let w = loop_whole c n p t r i e in
-    let q = r.safe.loops.one n p t d.at d.start i e d.within d.same d.is in
-    w.busy (subst (Idle c n (p + 1)) q d.way)
-
 pub no_turn : (c : Parts) (m from : ℕ) (way : BlockExit) → IsRunnable c → m < length c.routines → from ≡ first_of c m → WhenTurned way (looped c from ≡ true) → NotTurned way
 no_turn c m from Returned s h d f = tt
 no_turn c m from Turned s h d f = let e = ap in_loop (s.safe.begins m h).1 in let g = ap (looped c) d in cc
@@ -173,9 +131,6 @@ pub turns_over : (k : ℕ) (body behind : State → Exit) (s : State) → left s
 turns_over zero body behind s h l = refl
 turns_over (suc k) body behind s h l = ap (λ v. cond v (behind s) (again (turns k body behind) (body s))) (is_over s.pos s.end h l)
 
-pub return_outside : (c : Parts) (n p : ℕ) → IsSafe c → IsIn c n p → shape_at (shapes_of c) p ≡ Return → looped c p ≡ false
-return_outside c n p s i e = ap in_loop (subst (IsWholeAt c n p) e (s.each n p i).whole)
-
 -- what the verifier says of a call
 pub callee_at : (c : Parts) (n p x m k site : ℕ) (j : Instr) → IsSafe c → IsIn c n p → j ≡ instruction_of c p → j ≡ instr.Call x m k site → IsCallee c n p m x k
 callee_at c n p x m k site j s i e f =
@@ -187,40 +142,16 @@ callee_at c n p x m k site j s i e f =
     let calls = subst (CallsWell (depths (shapes_of c) (lengths_of c) n) n) shaped a.calls in
     record { place = i; is = shaped; lower = calls.0; arguments = registers_in; cell_map = tables_in.1 }
 
-pub in_code : (c : Parts) (n p : ℕ) → IsRunnable c → IsIn c n p → p < length c.instructions
-in_code c n p r i = let a = begin_up (lengths_of c) (suc n) (length c.routines) (omega (arith, i.routine)) in let w = r.code.whole in omega (arith, i.to, a, w)
-
 pub traced_more : (way : BlockExit) (t : TraceRoom) (m n : ℕ) → m ≤ n → Traced way t m → Traced way t n
 traced_more Returned t m n h k = k
 traced_more Turned t m n h k = k
 traced_more (Failed reason at) t m n h k = (omega (arith, h, k.0), k.1)
-
--- the steps of a whole routine
-pub call_steps : (c : Parts) (m from to s0 s1 p0 p1 p2 : ℕ) → IsRunnable c → m < length c.routines → from ≡ first_of c m → to ≡ end_at c m → scale c from * s1 ≤ scale c from * s0 + (before c m to - before c m from) * (p1 - p0 + 1) → p2 ≡ p1 → s1 ≤ s0 + before c m (end_at c m) * (p2 - p0 + 1)
-call_steps c m from to s0 s1 p0 p1 p2 r l e f h k =
-    let z : scale c from ≡ 1 = ap (λ v. cond v 2 1) (ap (looped c) e ∙ ap in_loop (r.safe.begins m l).1) in
-    let a : before c m to ≡ before c m (end_at c m) = ap (before c m) f in
-    let one : 1 * s1 ≤ 1 * s0 + (before c m to - before c m from) * (p1 - p0 + 1) = subst (λ x. x * s1 ≤ x * s0 + (before c m to - before c m from) * (p1 - p0 + 1)) z h in
-    let two : (before c m to - before c m from) * (p1 - p0 + 1) ≤ before c m (end_at c m) * (p2 - p0 + 1) =
-    (let x : (before c m to - before c m from) * (p1 - p0 + 1) ≤ before c m (end_at c m) * (p1 - p0 + 1) = mul-le-mul_right (p1 - p0 + 1) (omega (arith, a)) in
-    subst (λ p. (before c m to - before c m from) * (p1 - p0 + 1) ≤ before c m (end_at c m) * (p - p0 + 1)) (sym k) x) in
-    omega (arith, one, two)
 
 pub end_is : (c : Parts) (m : ℕ) → end_at c m ≡ first_of c m + (routine_of c m).length
 end_is c m = begin_next c m
 
 pub end_in : (c : Parts) (m : ℕ) → IsRunnable c → m < length c.routines → end_at c m ≤ length c.instructions
 end_in c m r l = let a = begin_up (lengths_of c) (suc m) (length c.routines) (omega (arith, l)) in let w = r.code.whole in omega (arith, a, w)
-
--- the instruction after a call
-pub call_on : (c : Parts) (n p m : ℕ) → IsSafe c → IsIn c n p → shape_at (shapes_of c) p ≡ Call m → (p < p + 1) × IsIn c n (p + 1) × (opened (shapes_of c) (p + 1) ≡ opened (shapes_of c) p)
-call_on c n p m s i e = goes_on c n p (p + 1) (Call m) s i e refl
-
--- an instruction's own step, and what its call or its loop spent
-pub call_spent : (k s0 s1 s2 s3 p1 p2 p3 : ℕ) → s1 ≡ s0 + 1 → s2 ≤ s1 → s3 ≤ s2 + k * (p3 - p2 + 1) → p1 ≤ p2 → s3 ≤ s0 + 1 + k * (p3 - p1 + 1)
-call_spent k s0 s1 s2 s3 p1 p2 p3 e f h l =
-    let x : k * (p3 - p2 + 1) ≤ k * (p3 - p1 + 1) = mul-le-mul_left k (omega (arith, l)) in
-    omega (arith, e, f, h, x)
 
 -- places that are their own
 pub own_more : (xs : List ℕ) (i : ℕ) → i < length xs → take i xs ≡ places_from 0 i → take (i + 1) (slice_set xs i i) ≡ places_from 0 (i + 1)
@@ -244,11 +175,6 @@ entry_room e n inner spare free regs x h ec en ef ep c w pr rc rr tc = subst (λ
   trace = tc;
   trace_room = h.trace_room;
 })
-
-pub within_length : (s0 s1 k p0 p1 n : ℕ) → s1 ≤ s0 + k * (p1 - p0 + 1) → p1 ≤ n → s1 ≤ s0 + k * (n + 1)
-within_length s0 s1 k p0 p1 n h l =
-    let x : k * (p1 - p0 + 1) ≤ k * (n + 1) = mul-le-mul_left k (omega (arith, l)) in
-    omega (arith, h, x)
 
 pub traced_within : (way : BlockExit) (t : TraceRoom) (n : ℕ) → Traced way t n → t.count ≤ length t.frames.items
 traced_within Returned t n h = omega (arith, h)

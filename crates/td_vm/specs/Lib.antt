@@ -4,4 +4,3 @@ pub mod Exits
 pub mod Machine
 pub mod Outcomes
 pub mod Arm
-pub mod Laws

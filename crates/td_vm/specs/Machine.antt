@@ -1,30 +1,23 @@
 -- What the machine rests on, and what its calls keep; of use in this crate alone.
-use Rattle.std.specs.Prelude.{◌≡◌, ℕ, ◌+◌, ◌<◌, ◌≤◌, true, cond, List, length, slice_index}
+use Rattle.std.specs.Prelude.{◌≡◌, ℕ, ◌+◌, ◌<◌, ◌≤◌, List, length, slice_index}
 use Rattle.td_ir.specs.declared.tables.Parts.{Parts}
-use Rattle.td_ir.specs.Tables.{routine_of, lengths_of, end_of}
-use Rattle.td_ir.specs.WellFormed.{IsCode}
+use Rattle.td_ir.specs.Tables.{routine_of}
 use Rattle.td_ir.specs.RunLaws.{RunGoes, RunFails, RunReturns, RunTurns, RunCalls, RunLoops}
-use Rattle.td_verify.specs.declared.shape.Shape.TheVariants.{Call, Return, Again}
+use Rattle.td_verify.specs.declared.shape.Shape.TheVariants.{Call}
 use Rattle.td_verify.specs.Shape.{shapes_of}
-use Rattle.td_verify.specs.Brackets.{shape_at, opened, window_bytes}
-use Rattle.td_verify.specs.Ways.{IdleWay, MayBeEmpty}
+use Rattle.td_verify.specs.Brackets.{shape_at}
 use Rattle.td_verify.specs.Operands.{IsCellMap}
 use Rattle.td_verify.specs.Verify.{IsIn}
-use Rattle.td_verify.specs.Safe.{IsSafe, looped}
 use Rattle.td_vm_step.specs.declared.activation.TraceRoom.{TraceRoom}
 use Rattle.td_stream.specs.Copies.{rooms_of}
 use Rattle.td_vm_step.specs.declared.activation.CodeView.{CodeView}
 use Rattle.td_vm_step.specs.declared.activation.Level.{Level}
 use Rattle.td_vm_step.specs.declared.slate.Slate.{Slate}
 use Rattle.td_vm_step.specs.Stepping.{HasPlaces}
+use Rattle.td_verify_runs.specs.Stretches.{IsRunnable}
 use Rattle.td_vm.specs.declared.level.Spare.{Spare}
 use Rattle.td_vm.specs.Frames.{AreBegins}
 use Rattle.td_vm.specs.Need.{room_below, registers, cells, level}
-
--- tables that fit together, and instructions that keep what the verifier asks of them
-pub record IsRunnable (c : Parts) : Type 0 where
-  pub code : IsCode c
-  pub safe : IsSafe c
 
 -- the laws of run
 pub record AreLaws : Type 0 where
@@ -34,13 +27,6 @@ pub record AreLaws : Type 0 where
   pub turns : RunTurns
   pub calls : RunCalls
   pub loops : RunLoops
-
-abbrev pub Idle : Parts → (n from to : ℕ) → Type 0
-Idle c n from to = IdleWay (shapes_of c) (MayBeEmpty (shapes_of c) (lengths_of c) n) from to
-
--- each step in a loop counts twice
-abbrev pub scale : Parts → ℕ → ℕ
-scale c p = cond (looped c p) 2 1
 
 -- what a run of a routine needs: runnable code, as many registers and places as the routine has, these among the first cells and the pairs of buffers, no frames, and room for its calls
 pub record HasRoom (l : Level) (spare : Spare) (regs : List ℕ) (slate : Slate) : Type 0 where
@@ -60,29 +46,6 @@ pub record IsKept (s t : Spare) : Type 0 where
   pub same_registers : t.registers.ghost_name ≡ s.registers.ghost_name
   pub places : length t.places.now ≡ length s.places.now
   pub registers : length t.registers.now ≡ length s.registers.now
-
--- a routine from its beginning, or a loop's body
-pub record IsStretch (c : Parts) (n first to : ℕ) : Type 0 where
-  pub place : IsIn c n first
-  pub some : first < to
-  pub within : to ≤ end_of c n
-  pub closed : (q : ℕ) → IsIn c n q → (looped c first ≡ true → opened (shapes_of c) q ≡ opened (shapes_of c) first) → q < to
-  pub outside : window_bytes (opened (shapes_of c) first) ≡ 0
-
--- a way with no byte to the end of a turn, and to a return
-pub record IdleTurn (c : Parts) (n first : ℕ) : Type 0 where
-  pub at : ℕ
-  pub start : ℕ
-  pub within : IsIn c n at
-  pub is : shape_at (shapes_of c) at ≡ Again start
-  pub same : opened (shapes_of c) at ≡ opened (shapes_of c) first
-  pub way : Idle c n first at
-
-pub record IdleReturn (c : Parts) (n first : ℕ) : Type 0 where
-  pub at : ℕ
-  pub within : IsIn c n at
-  pub is : shape_at (shapes_of c) at ≡ Return
-  pub way : Idle c n first at
 
 -- the routine that an instruction of routine n calls, with its arguments and its cells
 pub record IsCallee (c : Parts) (n at m first map : ℕ) : Type 0 where

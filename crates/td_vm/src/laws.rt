@@ -4,10 +4,10 @@ ghost use Rattle.std.specs.Prelude.{ℕ, ◌≤◌, List, length};
 ghost use Rattle.td_core.specs.declared.module.Entry.{Entry};
 ghost use Rattle.td_ir.specs.declared.tables.Parts.{Parts};
 ghost use Rattle.td_ir.specs.Entries.{Fits};
-ghost use Rattle.td_vm.specs.Laws.{RunIsBounded};
+ghost use Rattle.td_verify_runs.specs.Laws.{RunIsBounded};
 ghost use Rattle.td_vm.specs.Need.{most_entry_cells};
 
-use td_verify::laws::sound_code_is_safe;
+use td_verify_runs::laws as runs;
 
 /// Cells that fit an entry point of code are no more than a frame has room for that was armed for the code.
 pub fn fitting_cells_have_room()
@@ -19,5 +19,5 @@ pub fn fitting_cells_have_room()
 pub fn run_is_bounded()
     ensures { RunIsBounded }
 {
-    sound_code_is_safe();
+    runs::run_is_bounded();
 }

@@ -5,6 +5,7 @@
 #![tactic(auto)]
 
 mod arm;
+mod buffers;
 mod entry;
 pub mod laws;
 mod level;

@@ -16,7 +16,8 @@ ghost use Rattle.td_verify.specs.Safe.{looped};
 ghost use Rattle.td_stream.specs.StreamInvariant.{IsStream, Later, position, end_of};
 ghost use Rattle.td_vm_step.specs.Stepping.{state_of, Ran, InWindow, IsLent, Hold};
 ghost use Rattle.td_vm.specs.Exits.{frames_of, exit_by, way_of, call_way, loop_exit, WhenTurned, WhenReturned, NotTurned, NotReturned, Traced};
-ghost use Rattle.td_vm.specs.Machine.{AreLaws, HasRoom, IsStretch, IsCallee, IsKept, IdleTurn, IdleReturn};
+ghost use Rattle.td_verify_runs.specs.Stretches.{IsStretch, IdleTurn, IdleReturn};
+ghost use Rattle.td_vm.specs.Machine.{AreLaws, HasRoom, IsCallee, IsKept};
 ghost use Rattle.td_vm.specs.Need.{room_below, level as levels};
 
 use crate::level::{Callee, CodeStretch, Spare};

@@ -1,6 +1,6 @@
 //! Runs a routine over a message, with cells and buffers that are opened first.
 
-ghost use Rattle.std.specs.Prelude.{◌≡◌, ℕ, ◌-◌, ◌*◌, ◌≤◌, List, [], ◌++◌, length, map, take, replicate};
+ghost use Rattle.std.specs.Prelude.{◌≡◌, ℕ, ◌-◌, ◌*◌, ◌≤◌, List, [], ◌++◌, length, map, take, drop, replicate};
 ghost use Rattle.td_ir.specs.Tables.{routine_of};
 ghost use Rattle.td_ir.specs.Run.{run_routine};
 ghost use Rattle.td_stream.specs.Layouts.{count_in};
@@ -34,7 +34,7 @@ fn open_cells(cells: &mut [u64], first: usize)
 
 /// Runs a routine over a message that lies so in words of which none was loaded: with the first cells of a list, as many as the routine
 /// has and two for each of its buffers, which are set to zero, with the first of the buffers, which hold nothing, and a trace that is
-/// emptied first.
+/// emptied first. The other buffers stay.
 pub fn run_message<W: Words, L: Ledger, C: Counter>(
     call: &Call<'_, '_>,
     layout: &Layout,
@@ -53,6 +53,7 @@ pub fn run_message<W: Words, L: Ledger, C: Counter>(
     ensures reaches { W.reaches words.old words.new }
     ensures kept { IsKept spare.old spare.new }
     ensures lent { IsLent slate.old slate.new }
+    ensures rest { drop (length (routine_of call.now.code.parts.now call.now.n).buffers) slate.new.copies.now ≡ drop (length (routine_of call.now.code.parts.now call.now.n).buffers) slate.old.copies.now }
     ensures frames { slate.new.trace.now.count ≤ length slate.new.trace.now.frames.items }
     ensures fetched { IsFetchedOnce layout.now (W.loads words.new) (λ (b : List ℕ).
         IsCodeRun layout.now (routine_of call.now.code.parts.now call.now.n).cells b (W.loads words.new)

@@ -8,12 +8,15 @@ ghost use Rattle.td_ir.specs.Run.{run};
 ghost use Rattle.td_ir.specs.WellFormed.{IsCode};
 ghost use Rattle.td_stream.specs.Layouts.{count_in};
 ghost use Rattle.td_stream.specs.Loads.{IsFetchedOnce};
-ghost use Rattle.td_vm.specs.Frames.{AreBegins, IsArmed, outcome_in};
-ghost use Rattle.td_vm.specs.Machine.{IsRunnable};
-ghost use Rattle.td_vm.specs.Need.{most_need, most_rooms, registers as registers_in, cells as cells_in, level as levels_in};
+ghost use Rattle.td_vm.specs.Frames.{AreBegins, IsArmed, IsRestEmpty, outcome_in};
+ghost use Rattle.td_verify_runs.specs.Stretches.{IsRunnable};
+ghost use Rattle.td_vm.specs.Need.{most_buffers, most_need, most_rooms, registers as registers_in, cells as cells_in, level as levels_in};
 ghost use Rattle.td_vm.specs.Outcomes.{IsCodeRun};
 
-use crate::arm::{NeedKind, begins_of, buffer_count, most_cells, need_of, rooms_for};
+use crate::arm::{
+    NeedKind, begins_of, buffer_count, most_buffers_of, most_cells, need_of, rooms_for,
+};
+use crate::buffers::{buffers_for, empty_all};
 use crate::level::{Call, Spare};
 use crate::message::run_message;
 use crate::outcome::held_by_first;
@@ -24,7 +27,7 @@ use td_core::module::{Entry, NameId};
 use td_core::outcome::{Outcome, Reason, Spot, TraceFrame, Verdict};
 use td_ir::tables::Parts;
 use td_num::items::Items;
-use td_stream::copies::{Buffer, Copies};
+use td_stream::copies::Buffer;
 use td_stream::layout::Layout;
 use td_stream::words::Words;
 use td_verify::laws::sound_code_is_safe;
@@ -46,7 +49,7 @@ pub struct Frame {
     // How many of the cells are in use, behind which are those of the buffers.
     count: usize,
     trace: TraceRoom,
-    copies: Copies,
+    copies: Vec<Buffer>,
     // No lists, and memory for one of what each buffer holds, when the outcome is taken.
     kept: Vec<Items<u8>>,
 }
@@ -69,14 +72,17 @@ impl Model for Frame {
         places = vec_capacity f.places;
         cells = vec_capacity f.cells;
         trace = vec_capacity f.trace.frames;
+        begins = vec_capacity f.begins;
+        copies = vec_capacity f.copies;
+        kept = vec_capacity f.kept;
       };
       cells = take f.count f.cells.items;
       trace = frames_of f.trace;
-      copies = f.copies.buffers.items;
+      copies = f.copies.items;
     } };
 
     ghost invariant = { λ f. (f.count ≤ length f.cells.items) × (f.trace.count ≤ length f.trace.frames.items)
-        × (f.kept.items ≡ []) × (length f.copies.buffers.items ≤ vec_capacity f.kept) };
+        × (f.kept.items ≡ []) × (length f.copies.items ≤ vec_capacity f.kept) };
 }
 
 // The parts of verified code, which can be run.
@@ -179,20 +185,23 @@ fn lists_for(alloc: Global, needs: Needs, cells: u64) -> Result<Lists, AllocErro
 // Buffers for copies, and no lists, with memory for one of what each of them holds.
 #[derive(Drop)]
 struct CopyRoom {
-    copies: Copies,
+    copies: Vec<Buffer>,
     kept: Vec<Items<u8>>,
 }
 
-// Empty buffers, place by place as large as any entry point's. `AllocError`: there was no memory for them.
+// Empty buffers, place by place as large as any entry point's, and memory for just as many lists. `AllocError`: there was no memory for
+// them.
 fn copies_for(alloc: Global, parts: &Parts) -> Result<CopyRoom, AllocError>
     requires { IsCode parts.now }
-    ensures copies { IfOk result (λ room. room.copies.buffers.items ≡ map empty_with (most_rooms parts.now)) }
+    ensures copies { IfOk result (λ room. room.copies.items ≡ map empty_with (most_rooms parts.now)) }
+    ensures copy_memory { IfOk result (λ room. vec_capacity room.copies ≡ most_buffers parts.now) }
     ensures none { IfOk result (λ room. room.kept.items ≡ []) }
-    ensures memory { IfOk result (λ room. size_of room.copies.buffers.items ≤ vec_capacity room.kept) }
+    ensures memory { IfOk result (λ room. vec_capacity room.kept ≡ most_buffers parts.now) }
+    ensures few { IfOk result (λ room. size_of room.copies.items ≤ vec_capacity room.kept) }
 {
     let rooms = rooms_for(alloc, parts)?;
-    let kept = Vec::with_capacity(alloc, rooms.len())?;
-    let copies = Copies::with_rooms(alloc, &rooms)?;
+    let kept = Vec::with_capacity(alloc, most_buffers_of(parts) as usize)?;
+    let copies = buffers_for(alloc, &rooms)?;
     Ok(CopyRoom { copies, kept })
 }
 
@@ -287,7 +296,7 @@ impl Frame {
     pub fn copies(&self) -> &[Buffer]
         ensures { result.now ≡ self.now.copies }
     {
-        self.copies.buffers.as_slice()
+        self.copies.as_slice()
     }
 
     /// The outcome of the last validation, which was by this code from this entry point and had this verdict: with the frame's trace
@@ -304,7 +313,7 @@ impl Frame {
             verdict,
             trace: first_of(self.trace.frames, most),
             cells: first_of(self.cells, count),
-            copies: held_by_first(self.copies.buffers, self.kept, buffers),
+            copies: held_by_first(self.copies, self.kept, buffers),
         }
     }
 }
@@ -313,7 +322,7 @@ impl Frame {
 /// frame was armed for this code, and the arguments and the frame's cells fit the entry point (`td_ir::entries::fits`). It
 /// is handed no allocator and nothing to wait by. Words are loaded only where a byte of them is looked at, in rising order, each at
 /// most once; the verdict, and the frame's trace and cells, are those of `run` on each message that carries these loads, and
-/// so are the count of steps and, as many as the entry point has, the frame's copies.
+/// so are the count of steps and, as many as the entry point has, the frame's copies. The buffers behind these are empty.
 pub fn validate<W: Words, L: Ledger, C: Counter>(
     code: &Verified,
     entry: Entry,
@@ -332,6 +341,7 @@ pub fn validate<W: Words, L: Ledger, C: Counter>(
         IsCodeRun layout.now (size_of frame.old.cells) b (W.loads words.new) (run code.now entry args.now (opened_by code.now entry frame.old.cells) b)
         (outcome_in frame.new (buffers_of code.now entry) result) steps.old steps.new) }
     ensures cell_count { size_of frame.new.cells ≡ size_of frame.old.cells }
+    ensures rest { IsRestEmpty code.now (buffers_of code.now entry) frame.new }
     ensures armed { IsArmed code.now frame.new }
 {
     let parts = runnable(code);
@@ -345,12 +355,12 @@ pub fn validate<W: Words, L: Ledger, C: Counter>(
         n: point.routine as usize,
         args,
     };
-    frame.copies.clear();
+    let copies = frame.copies.as_mut_slice();
+    empty_all(copies);
     let places = frame.places.as_mut_slice();
     let registers = frame.registers.as_mut_slice();
     let mut spare = Spare { places, registers };
     let cells = frame.cells.as_mut_slice();
-    let copies = frame.copies.buffers.as_mut_slice();
     let trace = &mut frame.trace;
     let mut slate = Slate {
         cells,

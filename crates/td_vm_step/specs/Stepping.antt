@@ -1,5 +1,5 @@
 -- What one instruction does to the machine's values; of use in this crate and in td_vm alone.
-use Rattle.std.specs.Prelude.{◌≡◌, ℕ, ◌+◌, ◌-◌, ◌*◌, ◌^◌, ◌<◌, ◌≤◌, Bool, true, false, List, length, slice_index, vec_capacity}
+use Rattle.std.specs.Prelude.{◌≡◌, ℕ, ◌+◌, ◌*◌, ◌^◌, ◌<◌, ◌≤◌, Bool, true, false, List, length, slice_index, vec_capacity}
 use Rattle.td_core.specs.Held.{IsBufferAt, AreHeld}
 use Rattle.td_stream.specs.Copies.{held_by, rooms_of}
 use Rattle.td_stream.specs.declared.load.Load.{Load}
@@ -14,11 +14,10 @@ use Rattle.td_ir.specs.State.{State}
 use Rattle.td_ir.specs.Flow.{Flow, Goes, Fails, Calls, Returns, Loops, Turns, copied}
 use Rattle.td_ir.specs.Flow as ir
 use Rattle.td_ir.specs.Values.{is_zero, is_nonzero}
-use Rattle.td_verify.specs.declared.shape.Shape.{Shape}
-use Rattle.td_verify.specs.declared.shape.Shape.TheVariants.{Straight, Call, While, Open, Close}
 use Rattle.td_verify.specs.Shape.{shape}
 use Rattle.td_verify.specs.Ways.{Leads}
 use Rattle.td_verify.specs.Operands.{HasRegisters, HasTables, HasOperands, callee_params}
+use Rattle.td_verify_runs.specs.Moves.{Passes}
 use Rattle.td_vm_step.specs.declared.activation.Activation.{Activation}
 use Rattle.td_vm_step.specs.declared.activation.Effect.{Effect}
 use Rattle.td_vm_step.specs.declared.activation.Effect.TheVariants as effect
@@ -88,12 +87,6 @@ pub record HasPlaces (c : Parts) (n : ℕ) (places : List ℕ) (first size : ℕ
   pub buffers : (k : ℕ) → k < length (routine_of c n).buffers →
       IsBufferAt (slice_index places ((routine_of c n).cells + 2 * k)) (slice_index places ((routine_of c n).cells + 2 * k + 1)) (slice_index (routine_of c n).buffers k) first rooms
 
--- neither a call nor a loop
-abbrev pub Passes : Shape → Type 0
-Passes (Call m) = ⊥
-Passes (While t) = ⊥
-Passes j = Unit {0}
-
 -- what an effect says of its instruction
 abbrev pub LeadsTo : Effect → ℕ → Instr → Type 0
 LeadsTo (effect.Goes target) pc j = Passes (shape j) × Leads pc (shape j) target
@@ -113,22 +106,6 @@ HasSite j n = Unit {0}
 abbrev pub IsSmall : Effect → Type 0
 IsSmall (effect.Fails reason site pos) = pos < 2 ^ 32
 IsSmall j = Unit {0}
-
--- the bytes that an instruction takes at least
-abbrev pub least : Shape → ℕ
-least (Straight b w) = b
-least j = 0
-
--- the steps that it may take for each byte, its own apart
-abbrev pub more : Shape → ℕ
-more (Straight b w) = w - 1
-more j = 0
-
--- what becomes of the end
-abbrev pub Ends : Shape → (pos before after : ℕ) → Type 0
-Ends (Open k) pos before after = pos + k ≤ after
-Ends Close pos before after = pos ≡ before
-Ends j pos before after = after ≡ before
 
 abbrev pub WhenGoes : Effect → Type 0 → Type 0
 WhenGoes (effect.Fails reason site pos) P = Unit {0}

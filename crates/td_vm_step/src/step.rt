@@ -6,7 +6,8 @@ ghost use Rattle.td_stream.specs.Copies.{rooms_of};
 ghost use Rattle.td_stream.specs.StreamInvariant.{IsStream, Later, position, end_of};
 ghost use Rattle.td_ir.specs.WellFormed.{IsCode};
 ghost use Rattle.td_ir.specs.Flow.{effect};
-ghost use Rattle.td_vm_step.specs.Stepping.{state_of, flow_of, effect_of, Ran, InWindow, IsFine, HasPlaces, IsLent, Hold, LeadsTo, HasSite, IsSmall, WhenGoes, Ends, least};
+ghost use Rattle.td_verify_runs.specs.Moves.{Ends, least};
+ghost use Rattle.td_vm_step.specs.Stepping.{state_of, flow_of, effect_of, Ran, InWindow, IsFine, HasPlaces, IsLent, Hold, LeadsTo, HasSite, IsSmall, WhenGoes};
 
 use crate::activation::{Activation, Current, Effect, Level};
 use crate::copying::{CopyOperands, copy};

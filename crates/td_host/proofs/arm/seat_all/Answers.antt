@@ -1,7 +1,7 @@
 use Rattle.std.proofs.Common.{ℕ, List, length, sym, ap, ◌∙◌, arith, length-append}
 use Rattle.td_words.specs.Seats.{HostState}
 use Rattle.td_host.specs.Gathered.{host_at}
-use Rattle.td_host.proofs.Arms.{arms}
+use Rattle.td_host.proofs.Arms.{arms, makes_all}
 use Rattle.td_host.proofs.Bounds.{bounded}
 use Rattle.td_host.proofs.Takings.{all_described}
 use Rattle.td_host.proofs.arm.seat_all.Goals as goal
@@ -57,7 +57,9 @@ returns-clause-armed g c =
     (c.seat_takers.new.actors.items, c.in_ok-push.ensures.items, arms _ _ _ _ _ _ _ _ _ _ _ _ _ _ _ _ _ _ _ _ _ _ c.in_ok-seat_workers.ensures.seated opened (omega arith) (omega arith) c.in_ok-seat_guests.ensures.seated c.in_ok-seat_guests.ensures.takes c.in_ok-seat_guests.ensures.drawer t.seated t.posts t.takes t.drawer)
 
 pub returns-clause-swap : goal.returns-clause-swap
-returns-clause-swap g c = c.in_ok-seat_workers.ensures.swap
+returns-clause-swap g c =
+    let len = c.in_ok-guest_gates.ensures.len in
+    makes_all c.args.desk.now.codes _ _ c.args.desk.now.job.workers c.in_ok-seat_workers.ensures.swap (omega arith)
 
 pub returns-clause-described : goal.returns-clause-described
 returns-clause-described g c m by =

@@ -9,7 +9,7 @@ use Rattle.td_ring.specs.Tickets.{DrawerState}
 use Rattle.td_posts.specs.declared.reply.Reply.{Reply}
 use Rattle.td_posts.specs.declared.mail.Mail.{Mail}
 use Rattle.td_posts.specs.Posts.{reply_name}
-use Rattle.td_swap.specs.Views.{publisher_view, new_view, AreVersions}
+use Rattle.td_swap.specs.Views.{publisher_view, swap_view, AreVersions}
 use Rattle.td_swap.specs.Seats.{PublishState, SwapState, publish_state}
 use Rattle.td_host_actors.specs.Replies.{IsJobCode, JobCode}
 use Rattle.td_host_actors.specs.declared.actor.Actor.TheVariants as kind
@@ -168,7 +168,7 @@ returns-clause-served g c m described =
     let order = subst (λ (y : List Reply × List Reply). IsPermutation y.0 y.1) (λ i. (found i, sym rs i)) c.put_in_order.ensures.order in
     let n = length d.codes.codes in
     let code : JobCode d.codes.codes d.job = c.requires.code in
-    let numbers = ap (λ (s : SwapState). s.view) e.swap ∙ (ap (λ (s : SwapState). swaps_all s.view c.take_publisher-publisher.new.actors.items) r.is_swap ∙ ap (swaps_all (new_view n)) v) in
+    let numbers = ap (λ (s : SwapState). s.view) e.swap ∙ (ap (λ (s : SwapState). swaps_all s.view c.take_publisher-publisher.new.actors.items) r.is_swap ∙ ap (swaps_all (swap_view n d.job.workers [] [])) v) in
     let publisher = sym (same_publisher x.publisher c.take_publisher-publisher.result end.1) ∙ (x.ran ∙ ap (λ (s : PublishState). publish_state s.table (publisher_view s.view.count (s.view.count - 1))) r.is_publisher) in
     let by = all_left (IsDescribedBy m) olds _ (subst (All (IsDescribedBy m)) r.are described) in
     let made : c.of-2.result ≡ takes_of_all news = c.of-2.ensures ∙ (e.made ∙ (λ i. r.no_take i ++ takes_of_all (v i))) in

@@ -25,9 +25,10 @@ loop-n-preserved c =
     let e = end_is C n in
     let q = ap (first_of C) s in
     let from : c.loop-n.from + c.routine_at.result.now.length ≡ first_of C (n + 1) = omega (arith, i.from, r, e, q) in
-    let items = c.in_ok-push-2.ensures.items in
+    let items = c.push_reserved-in-loop-n.ensures.items in
     record {
       from = from;
-      count = omega (arith, i.count, c.in_ok-push-2.ensures.len);
+      count = omega (arith, i.count, c.push_reserved-in-loop-n.ensures.len);
       each = λ m z. subst (λ ys. slice_index ys m ≡ first_of C m) (sym items) (told_more (first_of C) c.loop-n.begins.items (n + 1) (c.loop-n.from + c.routine_at.result.now.length) i.count (λ k l. i.each k (omega (arith, l))) from m (omega (arith, z)));
+      memory = omega (arith, i.memory, c.push_reserved-in-loop-n.ensures.capacity);
     }

@@ -8,15 +8,17 @@ use Rattle.td_ir.specs.State as ir
 use Rattle.td_ir.proofs.Begins.{begin_up}
 use Rattle.td_verify.specs.Shape.{shape}
 use Rattle.td_stream.specs.StreamInvariant.{position, end_of}
-use Rattle.td_vm_step.specs.Stepping.{Ends}
+use Rattle.td_verify_runs.specs.Moves.{Ends}
 use Rattle.td_vm_step.specs.declared.activation.TraceRoom.{TraceRoom}
 use Rattle.td_stream.proofs.Stages.{later_trans, later_self}
 use Rattle.td_vm_step.proofs.Stretches.{lent_self, lent_trans, hold_on, ran_self}
 use Rattle.td_vm.specs.Exits.{exit_by}
 use Rattle.td_vm.proofs.Stretches.{ran_step, after_once, after_none}
-use Rattle.td_vm.proofs.Shapes.{shape_here}
-use Rattle.td_vm.proofs.Keeps.{fine_at, goes_on}
-use Rattle.td_vm.proofs.Turns.{room_stepped, one_frame, loop_whole, return_outside, in_code, callee_at, spare_same}
+use Rattle.td_verify_runs.proofs.Shapes.{shape_here}
+use Rattle.td_verify_runs.proofs.Ways.{goes_on}
+use Rattle.td_vm.proofs.Calls.{fine_at}
+use Rattle.td_verify_runs.proofs.Stretches.{loop_whole, return_outside, in_code}
+use Rattle.td_vm.proofs.Turns.{room_stepped, one_frame, callee_at, spare_same}
 use Rattle.td_vm.proofs.machine.+machine.Answers.Calls as calls
 use Rattle.td_vm.proofs.machine.+machine.Answers.Steps as steps
 use Rattle.td_vm.proofs.machine.+machine.Answers.Turns as turns

@@ -1,4 +1,4 @@
-use Rattle.std.proofs.Common.{◌≡◌, ℕ, suc, ◌+◌, ◌-◌, ◌*◌, ◌<◌, ◌≤◌, length, true}
+use Rattle.std.proofs.Common.{◌≡◌, ℕ, suc, ◌+◌, ◌-◌, ◌*◌, ◌<◌, ◌≤◌, true}
 use Rattle.td_ir.specs.Tables.{first_of, end_of as end_at}
 use Rattle.td_ir.specs.State.{State, Exit, after}
 use Rattle.td_ir.specs.Run.{turns, block}
@@ -8,7 +8,8 @@ use Rattle.td_verify.specs.Verify.{IsIn}
 use Rattle.td_verify.specs.Safe.{looped}
 use Rattle.td_stream.specs.StreamInvariant.{IsStream, Later, position, end_of}
 use Rattle.td_vm_step.specs.Stepping.{state_of, Ran, InWindow, IsLent, Hold}
-use Rattle.td_vm.specs.Machine.{Idle, HasRoom, IsKept}
+use Rattle.td_verify_runs.specs.Stretches.{Idle}
+use Rattle.td_vm.specs.Machine.{HasRoom, IsKept}
 use Rattle.td_vm.proofs.machine.+machine.Given as goal
 
 abbrev pub decreases-run_block : goal.decreases-run_block

@@ -3,7 +3,7 @@ use Rattle.std.proofs.Common.{rules, ◌≡◌, suc, ◌+◌, ◌<◌, length, a
 use Rattle.std.specs.Prelude.{slice_index}
 use Rattle.td_ir.specs.Tables.{routine_of, map_of, first_of}
 use Rattle.td_ir.specs.State.{State, registers_from}
-use Rattle.td_ir.specs.Run.{places_by, entered, block}
+use Rattle.td_ir.specs.Run.{entered, block}
 use Rattle.td_stream.specs.StreamInvariant.{position, end_of}
 use Rattle.td_stream.specs.Copies.{rooms_of}
 use Rattle.td_stream.proofs.Stages.{later_trans, carried}
@@ -11,8 +11,9 @@ use Rattle.td_vm.specs.Exits.{frames_of}
 use Rattle.td_vm.specs.Need.{room_below, registers, cells, level}
 use Rattle.td_vm.proofs.Stretches.{ran_after}
 use Rattle.td_vm.proofs.Places.{widens}
-use Rattle.td_vm.proofs.Keeps.{callee_need}
-use Rattle.td_vm.proofs.Turns.{callee_room, whole_stretch, no_turn, call_idle, begun, entered_is, call_left, traced_more, length_registers}
+use Rattle.td_vm.proofs.Calls.{callee_need}
+use Rattle.td_verify_runs.proofs.Stretches.{whole_stretch}
+use Rattle.td_vm.proofs.Turns.{callee_room, no_turn, call_idle, begun, entered_is, call_left, traced_more, length_registers}
 use Rattle.td_vm.proofs.machine.+machine.Goals as goal
 
 pub call-split_at_mut-mine-requires : goal.call-split_at_mut-mine-requires

@@ -9,14 +9,16 @@ use Rattle.td_verify.specs.Shape.{shape, shapes_of}
 use Rattle.td_verify.specs.Brackets.{in_loop, window_bytes}
 use Rattle.td_stream.specs.Layouts.{length_in}
 use Rattle.td_stream.specs.StreamInvariant.{position, end_of, length_of}
-use Rattle.td_vm_step.specs.Stepping.{state_of, Ends}
+use Rattle.td_verify_runs.specs.Moves.{Ends}
+use Rattle.td_vm_step.specs.Stepping.{state_of}
 use Rattle.td_stream.proofs.Stages.{later_trans}
 use Rattle.td_vm_step.proofs.Stretches.{lent_trans, hold_on}
 use Rattle.td_vm.specs.Exits.{exit_by}
 use Rattle.td_vm.proofs.Stretches.{ran_trans, ran_step, after_more}
-use Rattle.td_vm.proofs.Shapes.{shape_here}
-use Rattle.td_vm.proofs.Keeps.{kept_on, goes_on, room_on, idle_more, idle_on, empty_up, end_kept}
-use Rattle.td_vm.proofs.Turns.{room_kept, room_stepped, loop_whole, callee_at, call_on, spare_on}
+use Rattle.td_verify_runs.proofs.Shapes.{shape_here}
+use Rattle.td_verify_runs.proofs.Ways.{kept_on, goes_on, room_on, idle_more, idle_on, empty_up, end_kept}
+use Rattle.td_verify_runs.proofs.Stretches.{loop_whole, call_on}
+use Rattle.td_vm.proofs.Turns.{room_kept, room_stepped, callee_at, spare_on}
 use Rattle.td_vm.proofs.machine.+machine.Goals as goal
 
 pub run_block-steps-preserved-in-Goes : goal.run_block-steps-preserved-in-Goes

@@ -7,8 +7,9 @@ use Rattle.td_vm_step.specs.Stepping.{state_of}
 use Rattle.td_stream.proofs.Stages.{later_trans, later_self}
 use Rattle.td_vm_step.proofs.Stretches.{lent_self, lent_trans, hold_on, ran_self, ran_weaker}
 use Rattle.td_vm.proofs.Stretches.{ran_trans, ran_ticked, after_more, after_none}
-use Rattle.td_vm.proofs.Keeps.{grown}
-use Rattle.td_vm.proofs.Turns.{none_left, room_kept, body_stretch, loop_whole, turn_busy, turn_more, turn_fails, turns_over, spare_same, spare_on}
+use Rattle.td_verify_runs.proofs.Stretches.{grown}
+use Rattle.td_verify_runs.proofs.Stretches.{body_stretch, loop_whole, turn_busy}
+use Rattle.td_vm.proofs.Turns.{none_left, room_kept, turn_more, turn_fails, turns_over, spare_same, spare_on}
 use Rattle.td_vm.proofs.machine.+machine.Goals as goal
 
 pub run_turns-turns-init : goal.run_turns-turns-init

@@ -1,8 +1,8 @@
-use Rattle.std.proofs.Common.{◌≡◌, map, ap, ◌∙◌, subst}
+use Rattle.std.proofs.Common.{◌≡◌, ◌+◌, length, map, ap, ◌∙◌, subst}
 use Rattle.td_stream.specs.Copies.{rooms_of, empty_with}
 use Rattle.td_stream.proofs.Rooms.{rooms_again}
 use Rattle.td_ir.specs.declared.tables.Parts.{Parts}
-use Rattle.td_vm.specs.Need.{most_need, most_entry_cells, most_rooms, registers, cells, level}
+use Rattle.td_vm.specs.Need.{most_need, most_entry_cells, most_buffers, most_rooms, registers, cells, level}
 use Rattle.td_vm.specs.Frames.{AreBegins}
 use Rattle.td_vm.proofs.validate.Frame.arm.Goals as goal
 
@@ -17,7 +17,7 @@ returns-in-Ok-clause-armed c =
     let third : c.in_ok-needs.needs.levels ≡ most_need level C = needs.levels ∙ ap (λ (x : Parts). most_need level x) same in
     let fourth : c.most_cells.result ≡ most_entry_cells C = c.most_cells.ensures ∙ ap most_entry_cells same in
     record {
-      begins = subst (λ (x : Parts). AreBegins x c.in_ok-begins.begins.items) same c.in_ok-begins.ensures;
+      begins = subst (λ (x : Parts). AreBegins x c.in_ok-begins.begins.items) same c.in_ok-begins.ensures.begins;
       register_room = lists.registers ∙ first;
       place_room = lists.places ∙ second;
       trace_room = lists.levels ∙ third;
@@ -26,6 +26,9 @@ returns-in-Ok-clause-armed c =
           let p = lists.place_memory ∙ second in
           let k = lists.cell_memory ∙ fourth in
           let t = lists.level_memory ∙ third in
-          λ i. record { registers = r i; places = p i; cells = k i; trace = t i };
+          let b = c.in_ok-begins.ensures.memory ∙ ap (λ (x : Parts). length x.routines + 1) same in
+          let m = c.in-Ok.ensures.copy_memory ∙ ap most_buffers same in
+          let l = c.in-Ok.ensures.memory ∙ ap most_buffers same in
+          λ i. record { registers = r i; places = p i; cells = k i; trace = t i; begins = b i; copies = m i; kept = l i };
       rooms = ap rooms_of (c.in-Ok.ensures.copies ∙ ap (λ (x : Parts). map empty_with (most_rooms x)) same) ∙ rooms_again (most_rooms C);
     }

@@ -1,6 +1,6 @@
 use Rattle.std.proofs.Common.{rules, inr}
 use Rattle.std.specs.Arc.{arc_value}
-use Rattle.td_c.proofs.exports.td_c_open.Goals as goal
+use Rattle.td_c.proofs.exports.td_c_open_1.Goals as goal
 
 -- where there was no memory for a slot, the bytes are an image
 pub returns-in-Ok-clause-refused : goal.returns-in-Ok-clause-refused

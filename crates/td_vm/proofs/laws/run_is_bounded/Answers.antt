@@ -1,5 +1,0 @@
-use Rattle.td_vm.proofs.Bounds.{run_is_bounded}
-use Rattle.td_vm.proofs.laws.run_is_bounded.Goals as goal
-
-pub returns : goal.returns
-returns c = run_is_bounded c.sound_code_is_safe.ensures
