@@ -1,4 +1,4 @@
--- The theorem for code that the verifier accepts.
+-- The theorem for code that the verifier accepts. Cited by other crates.
 use Rattle.std.proofs.Common.{◌≡◌, ℕ, Bool, true, ◌&&◌, List}
 use Rattle.std.specs.Prelude.{nat_lt, nat_eq}
 use Rattle.std.proofs.lemmas.Bool.{lt-ltb}
