@@ -1,5 +1,5 @@
 -- Verified code is laid well: labels stand where jumps lead, and loops end where their blocks do. Cited by other crates.
-use Rattle.std.proofs.Common.{◌≡◌, ℕ, zero, suc, ◌+◌, ◌-◌, ◌<◌, ◌≤◌, ◌⊎◌, inl, inr, Bool, true, false, cond, List, [], ◌∷◌, length, Option, Some, None, refl, sym, ap, ◌∙◌, subst, arith, take, drop}
+use Rattle.std.proofs.Common.{◌≡◌, ℕ, zero, suc, ◌+◌, ◌-◌, ◌<◌, ◌≤◌, ◌⊎◌, inl, inr, Bool, true, false, cond, List, [], ◌∷◌, length, Option, Some, refl, sym, ap, ◌∙◌, subst, arith, take, drop}
 use Rattle.std.specs.Prelude.{nat_eq, slice_get, slice_range}
 use Rattle.std.proofs.lemmas.Option.{get_or_from_slice_get, slice_get_within}
 use Rattle.std.proofs.Math.Seq.{drop-cons}
@@ -14,11 +14,11 @@ use Rattle.td_ir.specs.declared.instructions.Instr.TheVariants as i
 use Rattle.td_ir.specs.declared.tables.Parts.{Parts}
 use Rattle.td_ir.specs.Tables.{instruction_of, lengths_of, begin, first_of, end_of}
 use Rattle.td_verify.specs.declared.shape.Shape.{Shape}
-use Rattle.td_verify.specs.declared.shape.Shape.TheVariants.{Straight, Jump, Branch, Call, Return, Fail, While, Again, Open, Close}
+use Rattle.td_verify.specs.declared.shape.Shape.TheVariants.{While, Again}
 use Rattle.td_verify.specs.declared.bracket.Bracket.{Bracket}
-use Rattle.td_verify.specs.declared.bracket.Bracket.TheVariants.{Window, Loop}
+use Rattle.td_verify.specs.declared.bracket.Bracket.TheVariants.{Loop}
 use Rattle.td_verify.specs.Shape.{shape, shapes_of}
-use Rattle.td_verify.specs.Brackets.{shape_at, opened, and_then, opening, closing_loop, closing_window, in_loop}
+use Rattle.td_verify.specs.Brackets.{shape_at, opened, and_then, opening, closing_loop, in_loop}
 use Rattle.td_verify.specs.Flat.{IsFlat}
 use Rattle.td_verify.specs.Ways.{Leads}
 use Rattle.td_verify.specs.Verify.{IsIn, IsSound, depths}
@@ -32,7 +32,7 @@ use Rattle.td_prog_code.specs.Instructions.{statement}
 use Rattle.td_prog_code.specs.Program.{stated, looped as looped_blocks, put, blocks}
 use Rattle.td_prog.specs.Text.{HasLabel}
 use Rattle.td_prog_steps.specs.Laid.{tail_of, begins_behind, begins, IsBusy, IsLoop, IsJump, IsLaid, AreLaid, IsWellLaid, AreNumbers}
-use Rattle.td_prog_runs.proofs.OpenLoops.{IsPlain, not_looped, behind_again, closed_loop, one_while, one_target, LoopOf, plain_open, loop_of}
+use Rattle.td_prog_runs.proofs.OpenLoops.{IsPlain, not_looped, closed_loop, one_while, one_target, LoopOf, plain_open, loop_of}
 
 either_label : (b : Bool) (x y : Block) (l : ℕ) → HasLabel l x → HasLabel l y → HasLabel l (cond b x y)
 either_label true x y l h k = h

@@ -1,6 +1,5 @@
 -- The loop of verified code that is open at a place.
-use Rattle.std.proofs.Common.{◌≡◌, ℕ, zero, suc, ◌+◌, ◌-◌, ◌<◌, true, false, List, [], ◌∷◌, Option, Some, None, refl, sym, ap, ◌∙◌, subst, arith}
-use Rattle.td_ir.specs.declared.instructions.Instr.TheVariants as i
+use Rattle.std.proofs.Common.{◌≡◌, ℕ, zero, suc, ◌+◌, ◌<◌, true, false, List, [], ◌∷◌, Option, Some, None, refl, sym, ap, ◌∙◌, subst, arith}
 use Rattle.td_ir.specs.declared.tables.Parts.{Parts}
 use Rattle.td_ir.specs.Tables.{lengths_of, begin}
 use Rattle.td_verify.specs.declared.shape.Shape.{Shape}
@@ -14,7 +13,6 @@ use Rattle.td_verify.specs.Ways.{Leads}
 use Rattle.td_verify.specs.Verify.{IsIn}
 use Rattle.td_verify.specs.Safe.{IsSafe, IsWholeAt, Stays, looped}
 use Rattle.td_verify.proofs.Flat.{next_opened}
-use Rattle.td_prog_steps.specs.Laid.{begins}
 
 -- what neither begins nor ends a loop
 abbrev pub IsPlain : Shape → Type 0

@@ -4,15 +4,13 @@ use Rattle.std.specs.Prelude.{nat_lt, nat_eq}
 use Rattle.std.proofs.lemmas.Bool.{lt-ltb}
 use Rattle.td_num.proofs.Truths.{is_eq}
 use Rattle.td_ir.specs.declared.tables.Parts.{Parts}
-use Rattle.td_ir.specs.State.{Way, Returned, Turned, Failed, Stuck}
-use Rattle.td_ir.specs.Run.{run_routine}
 use Rattle.td_ir.specs.WellFormed.{IsCode}
 use Rattle.td_verify.specs.declared.shape.Shape.TheVariants.{While}
 use Rattle.td_verify.specs.Shape.{shapes_of}
 use Rattle.td_verify.specs.Brackets.{shape_at}
 use Rattle.td_verify.specs.Verify.{IsIn, IsSound}
 use Rattle.td_verify.specs.Safe.{IsSafe}
-use Rattle.td_verify_runs.specs.Laws.{IsAnswer, RunAnswers, TurnTakes}
+use Rattle.td_verify_runs.specs.Laws.{RunAnswers, TurnTakes}
 use Rattle.td_prog_steps.specs.Laid.{IsBusy}
 use Rattle.td_prog_runs.specs.Theorem.{CodeInC, SoundCodeInC}
 use Rattle.td_prog_runs.proofs.Laying.{sound_is_laid}

@@ -19,7 +19,7 @@ use Rattle.td_prog_code.specs.Prelude.{prelude}
 use Rattle.td_prog_code.specs.Instructions.{statement, taken, reg}
 use Rattle.td_prog_trees.specs.Agree.{IsKept, state_of, IsGood, Agrees, IsOnward}
 use Rattle.td_prog_trees.proofs.Composing.{Leads, agrees_after}
-use Rattle.td_prog_trees.proofs.Fetching.{asked}
+use Rattle.td_prog_trees.proofs.Leading.{asked}
 use Rattle.td_prog_trees.proofs.Buffers.{IsDone, AreOld}
 use Rattle.td_prog_trees.proofs.CopyHelper.{Copy, Ready, Copied, looping, all_copied}
 use Rattle.td_prog_steps.proofs.Goods.{set_small, other_cell, same_cell, sum_is, end_small}

@@ -17,7 +17,8 @@ use Rattle.td_prog_code.specs.Prelude.{number_helper, prelude}
 use Rattle.td_prog_code.specs.Instructions.{statement, taken}
 use Rattle.td_prog_trees.specs.Agree.{state_of, Agrees, IsOnward}
 use Rattle.td_prog_trees.proofs.Composing.{Leads, agrees_after}
-use Rattle.td_prog_trees.proofs.Fetching.{GivesOrdered, number_gives, asked, some_width}
+use Rattle.td_prog_trees.proofs.Fetching.{GivesOrdered, number_gives, some_width}
+use Rattle.td_prog_trees.proofs.Leading.{asked}
 use Rattle.td_prog_steps.proofs.Goods.{sum_is, end_small, good_taken}
 use Rattle.td_prog_steps.proofs.Activation.{Activation, IsActive}
 use Rattle.td_prog_steps.proofs.Activation as routine

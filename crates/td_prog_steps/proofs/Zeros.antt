@@ -22,7 +22,8 @@ use Rattle.td_prog_code.specs.Prelude.{number_helper, little_helper, prelude}
 use Rattle.td_prog_code.specs.Instructions.{statement, taken, failure}
 use Rattle.td_prog_trees.specs.Agree.{state_of, IsGood, Agrees, IsOnward}
 use Rattle.td_prog_trees.proofs.Composing.{by_cases, Leads, agrees_after}
-use Rattle.td_prog_trees.proofs.Fetching.{number_gives, asked}
+use Rattle.td_prog_trees.proofs.Fetching.{number_gives}
+use Rattle.td_prog_trees.proofs.Leading.{asked}
 use Rattle.td_prog_steps.proofs.Goods.{sum_is, start_small, end_small, good_passed}
 use Rattle.td_prog_steps.proofs.Activation.{Activation, IsActive}
 use Rattle.td_prog_steps.proofs.Activation as routine

@@ -25,7 +25,8 @@ use Rattle.td_prog_code.specs.Instructions.{statement, taken, fails as fails_blo
 use Rattle.td_prog_trees.specs.Agree.{state_of, IsGood, AgreesBy, Agrees, IsOnward}
 use Rattle.td_prog_trees.proofs.Composing.{by_cases, Leads, agrees_after}
 use Rattle.td_prog_trees.proofs.Numbers.{quotient_small}
-use Rattle.td_prog_trees.proofs.Fetching.{number_gives, some_width, asked, places_split}
+use Rattle.td_prog_trees.proofs.Fetching.{number_gives, some_width}
+use Rattle.td_prog_trees.proofs.Leading.{asked, places_split}
 use Rattle.td_prog_steps.proofs.Goods.{small_at, left_is, sum_is, start_small, end_small, good_passed, good_counted}
 use Rattle.td_prog_steps.proofs.Activation.{Activation, IsActive}
 use Rattle.td_prog_steps.proofs.Activation as routine

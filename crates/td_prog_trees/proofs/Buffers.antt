@@ -6,7 +6,7 @@ use Rattle.std.proofs.lemmas.List.{map-append}
 use Rattle.std.proofs.Math.Seq.{take-suc-set}
 use Rattle.td_num.specs.Numbers.{places_from}
 use Rattle.td_prog.specs.Values.{and_then, with_byte}
-use Rattle.td_prog_trees.proofs.Fetching.{places_split}
+use Rattle.td_prog_trees.proofs.Leading.{places_split}
 
 -- Lengths of buffers
 length_at : (bs : List (List ℕ)) (x : ℕ) → length (slice_index_or bs x []) ≡ slice_index (map length bs) x

@@ -16,7 +16,8 @@ use Rattle.td_prog.specs.Run.{no_routine}
 use Rattle.td_prog_code.specs.Prelude.{plus, bytes_from, copy_turn}
 use Rattle.td_prog_trees.specs.Agree.{Extent, IsWithin}
 use Rattle.td_prog_trees.proofs.Composing.{Leads}
-use Rattle.td_prog_trees.proofs.Fetching.{word_gives, word_tree, held_word, asked, places_split, low_is, then, pre, post, same_tree}
+use Rattle.td_prog_trees.proofs.Fetching.{word_gives, word_tree, held_word, low_is}
+use Rattle.td_prog_trees.proofs.Leading.{asked, places_split, then, pre, post, same_tree}
 use Rattle.td_prog_trees.proofs.Buffers.{IsDone, AreOld, puts, byte_more, old_more}
 
 -- A call of td_copy: its extent, how many turns its loop may take, the run's buffer, the helpers that it may call (td_word is one), where the bytes begin,

@@ -1,74 +1,31 @@
 -- Helpers: the number at a position, what is loaded for it, and what it is. Cited by other crates.
-use Rattle.std.proofs.Common.{◌≡◌, ℕ, zero, suc, ◌+◌, ◌-◌, ◌*◌, ◌/◌, ◌%◌, ◌^◌, ◌<◌, ◌≤◌, inl, inr, Bool, true, false, cond, List, [], ◌∷◌, ◌++◌, length, append_assoc, append-nil, refl, sym, ap, ◌∙◌, subst, arith}
+use Rattle.std.proofs.Common.{◌≡◌, ℕ, zero, suc, ◌+◌, ◌-◌, ◌*◌, ◌/◌, ◌%◌, ◌^◌, ◌<◌, ◌≤◌, inl, inr, Bool, true, false, cond, List, [], ◌∷◌, ◌++◌, length, append-nil, refl, sym, ap, ◌∙◌, subst, arith}
 use Rattle.std.specs.Prelude.{nat_lt, nat_le, nat_eq, Some, None}
 use Rattle.std.specs.Int.{w64, swap_bytes}
 use Rattle.std.proofs.lemmas.Nat.{and_mask, mod_below, pow_pos}
 use Rattle.std.proofs.Math.Nat.{mod-eq_of_lt}
-use Rattle.std.proofs.lemmas.Bool.{lt-ltb, le-ltb}
 use Rattle.td_num.specs.Numbers.{places_from, ordered_at}
 use Rattle.td_stream.specs.Digits.{HasDigits}
 use Rattle.td_stream.proofs.Digits.{rising_digits, falling_digits, fits_word}
 use Rattle.td_ir.specs.Values.{bit, order_of}
 use Rattle.td_verify.specs.Operands.{IsWidth}
-use Rattle.td_prog.specs.Tree.{Tree, Done, Loads, bind, answer, loaded}
-use Rattle.td_prog.specs.Syntax.{Var, Pos, Low, Number, More, Add, Sub, And, Shl, Shr, Lt, Num, Get, Binary, Swapped, Block, Ends, Assign, If, Return, CallHelper}
-use Rattle.td_prog.specs.Values.{Locals, written, and_then, applied}
+use Rattle.td_prog.specs.Tree.{Tree, Done, Loads, bind}
+use Rattle.td_prog.specs.Syntax.{Pos, Low, Number, More, Add, Sub, And, Shl, Shr, Lt, Num, Get, Binary, Swapped, Block, Ends, Assign, If, Return, CallHelper}
+use Rattle.td_prog.specs.Values.{Locals, and_then, applied}
 use Rattle.td_prog.specs.Means.{Out, Gave, Continuation, Helpers, nowhere, given, shared, after_helper, block_means}
 use Rattle.td_prog.specs.Run.{declared, no_routine, helpers_below}
 use Rattle.td_prog_code.specs.Prelude.{word, plus, td_word, little_body, number_helper, prelude}
-use Rattle.td_prog_trees.specs.Agree.{Basis, Extent, IsWithin, fresh, behind, IsForward}
+use Rattle.td_prog_trees.specs.Agree.{Basis, Extent, IsWithin, fresh}
 use Rattle.td_prog_trees.specs.Laws.{NumbersAreTaken}
-use Rattle.td_prog_trees.proofs.Composing.{by_cases, Leads, fresh_append, behind_append, forward_append, answer_bind, loaded_bind}
+use Rattle.td_prog_trees.proofs.Composing.{by_cases, Leads}
 use Rattle.td_prog_trees.proofs.Numbers.{quotient_small, one_word, two_words, one_digits, two_digits, low_digits, back_is, sum_small}
+use Rattle.td_prog_trees.proofs.Leading.{places_split, then, load_leads, held_leads, pre, post, asked}
 
 pub some_width : (w : ℕ) → IsWidth w → 0 < w
 some_width w (inl e) = omega (arith, e)
 some_width w (inr (inl e)) = omega (arith, e)
 some_width w (inr (inr (inl e))) = omega (arith, e)
 some_width w (inr (inr (inr e))) = omega (arith, e)
-
--- The words of a number's places
-fresh_none : (next p w : ℕ) → p + w ≤ 8 * next → fresh next (places_from p w) ≡ []
-fresh_none next p zero h = refl
-fresh_none next p (suc w) h =
-    let l : nat_lt (p / 8) next ≡ true = lt-ltb (p / 8) next (omega (arith, h)) in
-    ap (λ b. cond b (fresh next (places_from (p + 1) w)) (p / 8 ∷ fresh (p / 8 + 1) (places_from (p + 1) w))) l ∙ fresh_none next (p + 1) w
-    (omega (arith, h))
-
-behind_none : (next p w : ℕ) → p + w ≤ 8 * next → behind next (places_from p w) ≡ next
-behind_none next p zero h = refl
-behind_none next p (suc w) h =
-    let l : nat_lt (p / 8) next ≡ true = lt-ltb (p / 8) next (omega (arith, h)) in
-    ap (λ b. cond b (behind next (places_from (p + 1) w)) (behind (p / 8 + 1) (places_from (p + 1) w))) l ∙ behind_none next (p + 1) w (omega (arith, h))
-
--- of places that begin in a word that isn't held
-fresh_new : (next p w : ℕ) → next ≤ p / 8 → 0 < w → p % 8 + w ≤ 8 → fresh next (places_from p w) ≡ p / 8 ∷ []
-fresh_new next p zero n s l = absurd (omega (arith, s))
-fresh_new next p (suc w) n s l =
-    let b : nat_lt (p / 8) next ≡ false = le-ltb (p / 8) next n in
-    ap (λ v. cond v (fresh next (places_from (p + 1) w)) (p / 8 ∷ fresh (p / 8 + 1) (places_from (p + 1) w))) b
-    ∙ ap (λ ws. p / 8 ∷ ws) (fresh_none (p / 8 + 1) (p + 1) w (omega (arith, l)))
-
-behind_new : (next p w : ℕ) → next ≤ p / 8 → 0 < w → p % 8 + w ≤ 8 → behind next (places_from p w) ≡ p / 8 + 1
-behind_new next p zero n s l = absurd (omega (arith, s))
-behind_new next p (suc w) n s l =
-    let b : nat_lt (p / 8) next ≡ false = le-ltb (p / 8) next n in
-    ap (λ v. cond v (behind next (places_from (p + 1) w)) (behind (p / 8 + 1) (places_from (p + 1) w))) b
-    ∙ behind_none (p / 8 + 1) (p + 1) w (omega (arith, l))
-
-pub forward_places : (to next p w : ℕ) → next ≤ p / 8 + 1 → p + w ≤ to → IsForward to next (places_from p w)
-forward_places to next p zero h l = tt
-forward_places to next p (suc w) h l = (h, omega (arith, l), forward_places to (p / 8 + 1) (p + 1) w (omega arith) (omega (arith, l)))
-
-pub places_split : (p a b : ℕ) → places_from p (a + b) ≡ places_from p a ++ places_from (p + a) b
-places_split p zero b =
-    let e : p ≡ p + 0 = omega arith in
-    let z : 0 + b ≡ b = omega arith in
-    ap (places_from p) z ∙ ap (λ q. places_from q b) e
-places_split p (suc a) b =
-    let z : suc a + b ≡ suc (a + b) = omega arith in
-    let e : p + 1 + a ≡ p + suc a = omega arith in
-    ap (places_from p) z ∙ ap (λ ps. p ∷ ps) (places_split (p + 1) a b ∙ ap (λ q. places_from (p + 1) a ++ places_from q b) e)
 
 eight_small : (a b c d e f g h : ℕ) → a < 256 → b < 256 → c < 256 → d < 256 → e < 256 → f < 256 → g < 256 → h < 256
     → a * 72057594037927936 + b * 281474976710656 + c * 1099511627776 + d * 4294967296 + e * 16777216 + f * 65536 + g * 256 + h < 2 ^ 64
@@ -102,55 +59,6 @@ module _ (extent : Extent) where
   abbrev Leading : (next next' : ℕ) → Tree Out → Tree Out → List ℕ → Type 0
   Leading next next' y x touched = Leads extent next next' y x touched
 
-  pub then : (n1 n2 n3 : ℕ) (x y z : Tree Out) (t u : List ℕ) → Leading n1 n2 x y t → Leading n2 n3 y z u → Leading n1 n3 x z (t ++ u)
-  then n1 n2 n3 x y z t u h k = record {
-    same = h.same ∙ k.same;
-    words =
-        h.words ∙ ap (λ ws. fresh n1 t ++ ws) (k.words ∙ ap (λ n. fresh n u ++ loaded memory z) (sym h.behind_them))
-        ∙ sym (append_assoc (fresh n1 t) (fresh (behind n1 t) u) (loaded memory z)) ∙ ap (λ ws. ws ++ loaded memory z) (sym (fresh_append n1 t u));
-    behind_them = behind_append n1 t u ∙ ap (λ n. behind n u) h.behind_them ∙ k.behind_them;
-    forward = forward_append to n1 t u h.forward (subst (λ n. IsForward to n u) (sym h.behind_them) k.forward);
-  }
-
-  -- nothing is loaded
-  pub same_tree : (n : ℕ) (x y : Tree Out) → x ≡ y → Leading n n x y []
-  same_tree n x y e = record { same = ap (answer memory) e; words = ap (loaded memory) e; behind_them = refl; forward = tt }
-
-  -- a word is loaded
-  load_leads : (next p w : ℕ) (k : ℕ → Tree Out) (v : ℕ) → memory (p / 8) ≡ v → next ≤ p / 8 → 0 < w → p % 8 + w ≤ 8 → p + w ≤ to
-      → Leading next (p / 8 + 1) (Loads (p / 8) k) (k v) (places_from p w)
-  load_leads next p w k v e n s l inside = record {
-    same = ap (λ x. answer memory (k x)) e;
-    words = ap (λ x. p / 8 ∷ loaded memory (k x)) e ∙ ap (λ ws. ws ++ loaded memory (k v)) (sym (fresh_new next p w n s l));
-    behind_them = behind_new next p w n s l;
-    forward = forward_places to next p w (omega (arith, n)) inside;
-  }
-
-  held_leads : (next p w : ℕ) (x y : Tree Out) → x ≡ y → next ≡ p / 8 + 1 → p % 8 + w ≤ 8 → p + w ≤ to → Leading next (p / 8 + 1) x y (places_from p w)
-  held_leads next p w x y e n l inside = record {
-    same = ap (answer memory) e;
-    words = ap (loaded memory) e ∙ ap (λ ws. ws ++ loaded memory y) (sym (fresh_none next p w (omega (arith, n, l))));
-    behind_them = behind_none next p w (omega (arith, n, l)) ∙ n;
-    forward = forward_places to next p w (omega (arith, n)) inside;
-  }
-
-  pub pre : (n m : ℕ) (x y z : Tree Out) (t : List ℕ) → x ≡ y → Leading n m y z t → Leading n m x z t
-  pre n m x y z t e h = subst (λ u. Leading n m u z t) (sym e) h
-
-  pub post : (n m : ℕ) (x y z : Tree Out) (t : List ℕ) → Leading n m x y t → y ≡ z → Leading n m x z t
-  post n m x y z t h e = subst (λ u. Leading n m x u t) e h
-
-  -- behind a helper's answer
-  pub asked : (n m : ℕ) (tree : Tree Out) (v : ℕ) (t s : Locals) (x : Var) (go : Continuation) (touched : List ℕ)
-      → Leading n m tree (Done (Gave v t)) touched → Leading n m (bind tree (after_helper x s go)) (go (written x v (shared s t))) touched
-  asked n m tree v t s x go touched h = record {
-    same = answer_bind memory tree (after_helper x s go) ∙ ap (λ o. answer memory (after_helper x s go o)) h.same;
-    words = loaded_bind memory tree (after_helper x s go) ∙ ap (λ ws. ws ++ loaded memory (after_helper x s go (answer memory tree)))
-        (h.words ∙ append-nil (fresh n touched)) ∙ ap (λ o. fresh n touched ++ loaded memory (after_helper x s go o)) h.same;
-    behind_them = h.behind_them;
-    forward = h.forward;
-  }
-
   module _ (most : ℕ) where
     pub word_gives : (s : Locals) (p a k : ℕ) → p / 8 ≡ k → s.next ≤ k + 1 → ((w : ℕ) → s.next ≡ w + 1 → s.held ≡ memory w) → 0 < a → p % 8 + a ≤ 8
         → p + a ≤ to
@@ -161,12 +69,12 @@ module _ (extent : Extent) where
         (λ e.
         let le : s.next ≤ p / 8 = grind (arith, e, q) in
         subst (λ j. Leading s.next (j + 1) (Loads j (λ v. ready (k + 1) v)) (ready (k + 1) (memory j)) (places_from p a)) q
-        (load_leads s.next p a (λ v. ready (k + 1) v) (memory (p / 8)) refl le some l inside))
+        (load_leads extent s.next p a (λ v. ready (k + 1) v) (memory (p / 8)) refl le some l inside))
         (λ e.
         let at : s.next ≡ k + 1 = grind (arith, e, n) in
         let at' : s.next ≡ p / 8 + 1 = omega (arith, at, q) in
         subst (λ j. Leading s.next (j + 1) (ready s.next s.held) (ready (k + 1) (memory k)) (places_from p a)) q
-        (held_leads s.next p a (ready s.next s.held) (ready (k + 1) (memory k)) (λ i. ready (at i) (h k at i)) at' l inside))
+        (held_leads extent s.next p a (ready s.next s.held) (ready (k + 1) (memory k)) (λ i. ready (at i) (h k at i)) at' l inside))
       where
         ready : ℕ → ℕ → Tree Out
         ready n v = Done (Gave v (record (declared [] s) { word = k; next = n; held = v }))
@@ -254,17 +162,17 @@ module _ (extent : Extent) where
             to_number : (a : ℕ) → 0 < a → p % 8 + a ≤ 8 → p + a ≤ to
                 → Leading s.next (p / 8 + 1) (little_tree w p s) (means test (vars (p / 8) number 0)) (places_from p a)
             to_number a sa l in_it =
-                pre s.next (p / 8 + 1) (little_tree w p s)
+                pre extent s.next (p / 8 + 1) (little_tree w p s)
                 (bind (word_tree most (p / 8) first_vars)
                 (after_helper Number first_vars (means (Assign Number (Binary Shr (Get Number) (Get Low)) test)))) (means test (vars (p / 8) number 0))
                 (places_from p a)
                 (ap (λ x. bind x (after_helper Number first_vars (means (Assign Number (Binary Shr (Get Number) (Get Low)) test))))
                 (is_word (p / 8) first_vars))
-                (post s.next (p / 8 + 1) (bind (word_tree most (p / 8) first_vars)
+                (post extent s.next (p / 8 + 1) (bind (word_tree most (p / 8) first_vars)
                 (after_helper Number first_vars (means (Assign Number (Binary Shr (Get Number) (Get Low)) test))))
                 (means (Assign Number (Binary Shr (Get Number) (Get Low)) test) (vars (p / 8) (memory (p / 8)) 0)) (means test (vars (p / 8) number 0))
                 (places_from p a)
-                (asked s.next (p / 8 + 1) (word_tree most (p / 8) first_vars) (memory (p / 8)) (held_word memory (p / 8) first_vars) first_vars Number
+                (asked extent s.next (p / 8 + 1) (word_tree most (p / 8) first_vars) (memory (p / 8)) (held_word memory (p / 8) first_vars) first_vars Number
                 (means (Assign Number (Binary Shr (Get Number) (Get Low)) test)) (places_from p a)
                 (word_gives first_vars p a (p / 8) refl n h sa l in_it))
                 (ap (λ r. given r (λ v. means test (vars (p / 8) v 0))) (shr_is p (memory (p / 8)))))
@@ -298,7 +206,7 @@ module _ (extent : Extent) where
                   digits = one_digits memory message holds p w few one
                       (omega (arith, there, inside));
                 })
-                (post s.next (p / 8 + 1) (little_tree w p s) (means test (vars (p / 8) number 0))
+                (post extent s.next (p / 8 + 1) (little_tree w p s) (means test (vars (p / 8) number 0))
                 (Done (Gave (number % 2 ^ (8 * w)) (vars (p / 8) number 0))) (places_from p w)
                 (to_number w some one there)
                 (tested false e ∙ done (p / 8) number 0))
@@ -312,18 +220,18 @@ module _ (extent : Extent) where
                 let u = vars (p / 8) number 0 in
                 let rest : Continuation = (block_means most helpers no_routine [] [] second (means last) []).0 in
                 let loads : Tree Out = bind (word_tree most k u) (after_helper More u rest) in
-                let first_part = post s.next k (little_tree w p s) (means test u) loads (places_from p a)
+                let first_part = post extent s.next k (little_tree w p s) (means test u) loads (places_from p a)
                 (to_number a (omega arith) (omega arith) (omega (arith, there, two)))
                 (tested true e ∙ ap (λ x. bind (helpers 0 (x ∷ []) [] u) (after_helper More u rest)) whole ∙ ap (λ x. bind x (after_helper More u rest))
                 (is_word k u)) in
-                let second_part = asked k (k + 1) (word_tree most k u) (memory k) (held_word memory k u) u More rest (places_from (p + a) (w - a))
+                let second_part = asked extent k (k + 1) (word_tree most k u) (memory k) (held_word memory k u) u More rest (places_from (p + a) (w - a))
                 (word_gives u (p + a) (w - a) k (omega arith) (omega arith) (λ j q. let r : p / 8 ≡ j = omega (arith, q) in ap memory r)
                 (omega (arith, two)) (omega (arith, few)) (omega (arith, there, two))) in
                 let last_step : rest (vars k number (memory k)) ≡ Done (Gave (v % 2 ^ (8 * w)) (vars k v (memory k))) =
                 ap (λ r. given r (λ x. means last (vars k x (memory k)))) (two_is p (omega (arith, two, few))) ∙ done k v (memory k) in
-                let whole_way = then s.next k (k + 1) (little_tree w p s) loads (Done (Gave (v % 2 ^ (8 * w)) (vars k v (memory k)))) (places_from p a)
+                let whole_way = then extent s.next k (k + 1) (little_tree w p s) loads (Done (Gave (v % 2 ^ (8 * w)) (vars k v (memory k)))) (places_from p a)
                 (places_from (p + a) (w - a)) first_part
-                (post k (k + 1) loads (rest (vars k number (memory k))) (Done (Gave (v % 2 ^ (8 * w)) (vars k v (memory k))))
+                (post extent k (k + 1) loads (rest (vars k number (memory k))) (Done (Gave (v % 2 ^ (8 * w)) (vars k v (memory k))))
                 (places_from (p + a) (w - a)) second_part last_step) in
                 let places_are : places_from p a ++ places_from (p + a) (w - a) ≡ places_from p w = sym (places_split p a (w - a)) ∙ ap
                 (places_from p) split in
@@ -386,10 +294,10 @@ module _ (extent : Extent) where
               leads : Leading s.next (k + 1) (big_tree p s) (Done (Gave v t)) (places_from p w)
               leads =
                   let narrow : nat_le 64 (64 - 8 * w) ≡ false = grind (arith, some) in
-                  pre s.next (k + 1) (big_tree p s) (bind (little_tree w p u) (after_helper Number u rest)) (Done (Gave v t)) (places_from p w)
+                  pre extent s.next (k + 1) (big_tree p s) (bind (little_tree w p u) (after_helper Number u rest)) (Done (Gave v t)) (places_from p w)
                   (ap (λ z. bind z (after_helper Number u rest)) (is_little p u))
-                  (post s.next (k + 1) (bind (little_tree w p u) (after_helper Number u rest)) (rest t) (Done (Gave v t)) (places_from p w)
-                  (asked s.next (k + 1) (little_tree w p u) g.gives.value g.gives.final u Number rest (places_from p w) g.gives.leads)
+                  (post extent s.next (k + 1) (bind (little_tree w p u) (after_helper Number u rest)) (rest t) (Done (Gave v t)) (places_from p w)
+                  (asked extent s.next (k + 1) (little_tree w p u) g.gives.value g.gives.final u Number rest (places_from p w) g.gives.leads)
                   (ap (λ b. given (cond b None (Some v)) (λ z. Done (Gave z t))) narrow))
 
       abbrev table : ℕ → Helpers
