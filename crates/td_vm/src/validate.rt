@@ -13,7 +13,9 @@ ghost use Rattle.td_verify_runs.specs.Stretches.{IsRunnable};
 ghost use Rattle.td_vm.specs.Need.{most_buffers, most_need, most_rooms, registers as registers_in, cells as cells_in, level as levels_in};
 ghost use Rattle.td_vm.specs.Outcomes.{IsCodeRun};
 
-use crate::arm::{NeedKind, begins_of, buffer_count, most_cells, need_of, rooms_for};
+use crate::arm::{
+    NeedKind, begins_of, buffer_count, most_buffers_of, most_cells, need_of, rooms_for,
+};
 use crate::buffers::{buffers_for, empty_all};
 use crate::level::{Call, Spare};
 use crate::message::run_message;
@@ -198,7 +200,7 @@ fn copies_for(alloc: Global, parts: &Parts) -> Result<CopyRoom, AllocError>
     ensures few { IfOk result (λ room. size_of room.copies.items ≤ vec_capacity room.kept) }
 {
     let rooms = rooms_for(alloc, parts)?;
-    let kept = Vec::with_capacity(alloc, rooms.len())?;
+    let kept = Vec::with_capacity(alloc, most_buffers_of(parts) as usize)?;
     let copies = buffers_for(alloc, &rooms)?;
     Ok(CopyRoom { copies, kept })
 }
