@@ -6,11 +6,11 @@ use Rattle.td_core.specs.declared.outcome.Spot.{Spot}
 use Rattle.td_prog.specs.Tree.{Tree, Done}
 use Rattle.td_prog.specs.Syntax.{Reg, Get, Ends, Return, Helper}
 use Rattle.td_prog.specs.Values.{Locals}
-use Rattle.td_prog.specs.Means.{Out, Gave, Undefined, Onward, back}
+use Rattle.td_prog.specs.Means.{Out, Gave, Undefined, Continuation, after_routine}
 use Rattle.td_prog.specs.Run.{started, helpers_below}
 
 -- a routine that gives TD_FAILED is undefined
-failed_value : (ty : NameId) (field : Spot) (s t : Locals) (go : Onward) → back ty field s go (Gave (2 ^ 64 - 1) t) ≡ Done Undefined
+failed_value : (ty : NameId) (field : Spot) (s t : Locals) (go : Continuation) → after_routine ty field s go (Gave (2 ^ 64 - 1) t) ≡ Done Undefined
 failed_value ty field s t go = refl
 
 -- a helper's register is a variable as any other

@@ -3,4 +3,5 @@ pub mod Syntax
 pub mod Values
 pub mod Means
 pub mod Run
+pub mod Names
 pub mod Text

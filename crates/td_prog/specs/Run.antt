@@ -1,12 +1,12 @@
--- What programs in a small C mean (own rule): each function calls those before it, so a run is a recursion on their number.
+-- What programs of the small C mean (own rule): each function calls those above it, so a run is a recursion on their number.
 use Rattle.std.specs.Prelude.{ℕ, zero, suc, ◌-◌, ◌++◌, cond, List, [], ◌∷◌, length, replicate, slice_get, nat_eq, nat_lt, ◌+◌, ◌/◌}
 use Rattle.td_num.specs.Numbers.{places_from}
 use Rattle.td_prog.specs.Tree.{Tree, Done, Loads}
 use Rattle.td_prog.specs.Syntax.{Var, Reg, Helper, Program}
 use Rattle.td_prog.specs.Values.{Locals, written}
-use Rattle.td_prog.specs.Means.{Out, Undefined, nowhere, given, Helpers, Routines, both}
+use Rattle.td_prog.specs.Means.{Out, Undefined, nowhere, given, Helpers, Routines, block_means}
 
--- variables that are declared with 0, and what is shared
+-- a function's variables, declared with `= 0`, with these registers; and what all functions share
 abbrev pub declared : List ℕ → Locals → Locals
 declared regs s = record {
   next = s.next;
@@ -36,7 +36,7 @@ with_values (x ∷ xs) (v ∷ vs) s = with_values xs vs (written x v s)
 abbrev pub no_routine : Routines
 no_routine n args places buffers s = Done Undefined
 
--- so many registers as variables name
+-- as many registers as these variables name
 abbrev pub registers_of : List Var → ℕ → ℕ
 registers_of [] n = n
 registers_of (Reg k ∷ xs) n = registers_of xs (cond (nat_lt k n) n (suc k))
@@ -51,7 +51,7 @@ abbrev pub helpers_below : ℕ → List Helper → ℕ → Helpers
 helpers_below most hs zero n vs buffers s = Done Undefined
 helpers_below most hs (suc k) n vs buffers s =
     cond (nat_eq n k)
-    (given (slice_get hs k) (λ h. (both most (helpers_below most hs k) no_routine [] buffers h.body nowhere []).0 (with_values h.params vs (begun h s))))
+    (given (slice_get hs k) (λ h. (block_means most (helpers_below most hs k) no_routine [] buffers h.body nowhere []).0 (with_values h.params vs (begun h s))))
     (helpers_below most hs k n vs buffers s)
 
 -- the first registers are the parameters; a routine begins at the caller's position, and its end is the caller's
@@ -64,7 +64,7 @@ routines_below most p zero n args places buffers s = Done Undefined
 routines_below most p (suc k) n args places buffers s =
     cond (nat_eq n k)
     (given (slice_get p.routines k) (λ f.
-    (both most (helpers_below most p.helpers (length p.helpers)) (routines_below most p k) places buffers f.body nowhere []).0 (entered f.registers args s)))
+    (block_means most (helpers_below most p.helpers (length p.helpers)) (routines_below most p k) places buffers f.body nowhere []).0 (entered f.registers args s)))
     (routines_below most p k n args places buffers s)
 
 -- before the first statement: from byte 0 to a message's end, with cells and buffers; nothing was loaded

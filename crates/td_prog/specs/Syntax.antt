@@ -1,11 +1,14 @@
--- Programs in a small C (own rule): what they consist of. Each construct stands for a text of C (td_prog_text), which is shown beside it.
-use Rattle.std.specs.Prelude.{ℕ, List}
+-- Programs of the small C (own rule): what they consist of. The text of C stands beside each construct; td_prog_text
+-- prints it, and docs/written-c.md says what the C standard says of it.
+use Rattle.std.specs.Prelude.{ℕ, zero, suc, ◌+◌, ◌-◌, List, [], ◌∷◌, ◌++◌}
 use Rattle.td_core.specs.declared.module.NameId.{NameId}
 use Rattle.td_core.specs.declared.outcome.Reason.{Reason}
 use Rattle.td_core.specs.declared.outcome.Spot.{Spot}
 
--- Variables of type uint64_t. Of the run, which all functions share: the word behind the one that was loaded last (`run->next`), and what that load gave (`run->held`). Of a
--- function, by its name in C: the position, the end, where the frame begins, the end outside of the window; registers (`r3`); and for numbers, words and counts.
+-- Variables, all of type uint64_t. All functions share two, in the run that each is passed: `run->next`, the word behind
+-- the one that was loaded last, and `run->held`, what that load gave. The others are a function's own. `pos` is the
+-- position, `end` the end of the message or of the window, `start` the place where the type begins, `outer` the end
+-- outside of the window; `r3` is a register; the last seven are the helpers' and the loops'.
 pub data Var : Type 0 where
   Next : Var
   Held : Var
@@ -22,7 +25,7 @@ pub data Var : Type 0 where
   Room : Var
   Count : Var
 
--- `+ - * / % & | ^ << >>`, and of type int `== != < <=`
+-- `+ - * / % & | ^ << >>`, and `== != < <=`, which give 0 or 1
 pub data Operator : Type 0 where
   Add : Operator
   Sub : Operator
@@ -39,7 +42,13 @@ pub data Operator : Type 0 where
   Lt : Operator
   Le : Operator
 
--- `5`, `pos`, `*c0`, `a + b`, `c ? a : b`, `TD_SWAP(a)`
+-- Expressions, which change nothing:
+--   Num 5             `5`
+--   Get Pos           `pos`
+--   Cell 0            `*c0`
+--   Binary Add a b    `a + b`
+--   Choice c a b      `c ? a : b`
+--   Swapped a         `TD_SWAP(a)`, the eight bytes of a number the other way round
 pub data Expr : Type 0 where
   Num : ℕ → Expr
   Get : Var → Expr
@@ -48,36 +57,42 @@ pub data Expr : Type 0 where
   Choice : Expr → Expr → Expr → Expr
   Swapped : Expr → Expr
 
--- Statements, each with what stands behind it:
---   nothing
---   `x = e;`
---   `*c0 = e;`
---   `b0[e] = (uint8_t)(f);`
---   `switch (y) { case 1: case 4: x = 1; break; default: x = 0; break; }`, of a variable, so that each case is compared at 64 bits
---   `run->held = TD_LOAD(&run->words[word]); run->next = word + 1;`, of this variable alone, which the first of the two leaves as it is
---   `if (e) { .. }`, `while (e) { .. }`
---   `l7:;`, `goto l7;`
---   `return td_fail(run->outcome, TD_PADDING, e, "T", "x", start);`
---   `return e;`
---   `x = td_little_2(run, e, .., b0, ..);`, of a helper that stands above
---   `pos = td_3_T(run, pos, end, r4, r5, c0, .., b0, ..); if (pos == TD_FAILED) return td_frame(run->outcome, "T", "x", start);`, of a routine that stands above
+-- Statements, each with those behind it:
+--   Ends                   nothing
+--   Assign x e             `x = e;`
+--   Store 0 e              `*c0 = e;`
+--   Byte 0 e f             `b0[e] = (uint8_t)(f);`
+--   Member x y (1 ∷ 4)     `switch (y) { case 1: case 4: x = 1; break; default: x = 0; break; }`, of a variable, so that cases
+--                          are compared at 64 bits
+--   Load                   `run->held = TD_LOAD(&run->words[word]); run->next = word + 1;`, always of the variable `word`, which
+--                          the first of the two leaves as it is
+--   If e inner             `if (e) { .. }`
+--   While e inner          `while (e) { .. }`
+--   Label 7                `l7:;`
+--   Goto 7                 `goto l7;`, to a label behind it
+--   Fail r e "T" "x"       `return td_fail(run->outcome, TD_PADDING, e, "T", "x", start);`
+--   Return e               `return e;`
+--   CallHelper x h es bs   `x = td_little_4(run, pos, b0);`, of a helper that stands above
+--   Call 2 1 n cs bs       `pos = td_3_T(run, pos, end, r2, c0, b0); if (pos == TD_FAILED) { return td_frame(run->outcome, "T", "x", start); }`,
+--                          of a routine that stands above, with one argument from r2 on
 pub data Block : Type 0 where
   Ends : Block
-  Let : Var → Expr → Block → Block
+  Assign : Var → Expr → Block → Block
   Store : (cell : ℕ) → Expr → Block → Block
   Byte : (buffer : ℕ) → Expr → Expr → Block → Block
   Member : Var → Var → List ℕ → Block → Block
   Load : Block → Block
-  When : Expr → Block → Block → Block
+  If : Expr → Block → Block → Block
   While : Expr → Block → Block → Block
   Label : ℕ → Block → Block
   Goto : ℕ → Block → Block
   Fail : Reason → Expr → NameId → Spot → Block → Block
   Return : Expr → Block → Block
-  Ask : Var → (helper : ℕ) → List Expr → (buffers : List ℕ) → Block → Block
+  CallHelper : Var → (helper : ℕ) → List Expr → (buffers : List ℕ) → Block → Block
   Call : (first params routine : ℕ) → (cells buffers : List ℕ) → NameId → Spot → Block → Block
 
--- `static inline uint64_t NAME(struct td_run *run, uint64_t pos, .., uint8_t *b0, ..)`: a function that never fails; it calls those before it
+-- A function that never fails: `TD_FUNCTION uint64_t NAME(struct td_run *run, uint64_t pos, .., uint8_t *b0, ..)`. It calls
+-- helpers above it.
 pub record Helper : Type 0 where
   pub name : List ℕ
   pub params : List Var
@@ -85,8 +100,9 @@ pub record Helper : Type 0 where
   pub buffers : ℕ
   pub body : Block
 
--- `static uint64_t NAME(struct td_run *run, uint64_t pos, uint64_t end, uint64_t r0, .., uint64_t *c0, .., uint8_t *b0, ..)`: it gives a position, or fails; it calls helpers,
--- and routines before it. The first of its registers are its parameters
+-- A function that gives a position, or fails: `TD_FUNCTION uint64_t NAME(struct td_run *run, uint64_t pos, uint64_t end,
+-- uint64_t r0, .., uint64_t *c0, .., uint8_t *b0, ..)`. It calls helpers, and routines above it. The first of its registers
+-- are its parameters.
 pub record Function : Type 0 where
   pub name : List ℕ
   pub params : ℕ
@@ -98,3 +114,15 @@ pub record Function : Type 0 where
 pub record Program : Type 0 where
   pub helpers : List Helper
   pub routines : List Function
+
+-- so many registers, from one on
+abbrev pub registers : ℕ → ℕ → List Var
+registers first zero = []
+registers first (suc n) = Reg first ∷ registers (first + 1) n
+
+-- a routine's variables: its parameters, and what it declares with `= 0`
+abbrev pub routine_params : Function → List Var
+routine_params f = Pos ∷ End ∷ registers 0 f.params
+
+abbrev pub routine_locals : Function → List Var
+routine_locals f = Start ∷ Outer ∷ Number ∷ Most ∷ Room ∷ registers f.params (f.registers - f.params)

@@ -9,7 +9,7 @@ use Rattle.td_ir.specs.declared.tables.Parts.{Parts}
 use Rattle.td_ir.specs.Tables.{routine_of, site_of, set_of, map_of, cells_by}
 use Rattle.td_ir.specs.Run.{spot_named}
 use Rattle.td_ir.specs.Values.{reason_of}
-use Rattle.td_prog.specs.Syntax.{Pos, End, Start, Outer, Reg, Number, Most, Room, Add, Sub, Mul, Div, Rem, And, Or, Xor, Shl, Shr, Eq, Ne, Lt, Le, Expr, Num, Get, Cell, Binary, Choice, Block, Ends, Let, Store, Member, When, While, Goto, Fail, Return, Ask, Call}
+use Rattle.td_prog.specs.Syntax.{Pos, End, Start, Outer, Reg, Number, Most, Room, Add, Sub, Mul, Div, Rem, And, Or, Xor, Shl, Shr, Eq, Ne, Lt, Le, Expr, Num, Get, Cell, Binary, Choice, Block, Ends, Assign, Store, Member, If, While, Goto, Fail, Return, CallHelper, Call}
 use Rattle.td_prog_code.specs.Prelude.{little_helper, number_helper, copy_helper}
 
 abbrev pub reg : ℕ → Expr
@@ -21,7 +21,7 @@ left = Binary Sub (Get End) (Get Pos)
 
 -- `pos = pos + e;`
 abbrev pub taken : Expr → Block → Block
-taken size rest = Let Pos (Binary Add (Get Pos) size) rest
+taken size rest = Assign Pos (Binary Add (Get Pos) size) rest
 
 -- operators by number: `a + b`; a zero divisor, and amounts of 64 or more, give 0: `b == 0 ? 0 : a / b`, `b < 64 ? a << b : 0`; what is or'ed with itself stays
 abbrev pub operated : ℕ → (x y : ℕ) → Expr
@@ -53,7 +53,7 @@ module _ (c : Parts) (n : ℕ) where
 
   -- `if (e) { return td_fail(.., TD_LIST_SIZE, start, ..); }`
   abbrev pub fails : Expr → Reason → ℕ → Block → Block
-  fails e reason site rest = When e (failure reason (Get Start) site Ends) rest
+  fails e reason site rest = If e (failure reason (Get Start) site Ends) rest
 
   -- `if (end - pos < e) { return td_fail(.., TD_NOT_ENOUGH, ..); }`
   abbrev pub room : Expr → ℕ → Block → Block
@@ -64,21 +64,21 @@ module _ (c : Parts) (n : ℕ) where
 
   -- `outer = end; end = pos + e;`
   abbrev pub narrowed : Expr → ℕ → Block → Block
-  narrowed size site rest = room size site (Let Outer (Get End) (Let End (Binary Add (Get Pos) size) rest))
+  narrowed size site rest = room size site (Assign Outer (Get End) (Assign End (Binary Add (Get Pos) size) rest))
 
   -- nothing is written of a skip of no bytes
   abbrev pub skipped_by : ℕ → ℕ → Block → Block
   skipped_by bytes site rest = cond (nat_eq bytes 0) rest (skipped (Num bytes) site rest)
 
   abbrev pub narrowed_by : ℕ → ℕ → Block → Block
-  narrowed_by bytes site rest = cond (nat_eq bytes 0) (Let Outer (Get End) (Let End (Get Pos) rest)) (narrowed (Num bytes) site rest)
+  narrowed_by bytes site rest = cond (nat_eq bytes 0) (Assign Outer (Get End) (Assign End (Get Pos) rest)) (narrowed (Num bytes) site rest)
 
   -- `while (pos != end) { number = td_little_1(run, pos); if (number) { return td_fail(.., TD_PADDING, pos, ..); } pos = pos + 1; }`
   abbrev pub zeros : ℕ → Block → Block
   zeros site rest =
       While (Binary Ne (Get Pos) (Get End))
-      (Ask Number (little_helper 1) (Get Pos ∷ []) []
-      (When (Get Number) (failure Padding (Get Pos) site Ends)
+      (CallHelper Number (little_helper 1) (Get Pos ∷ []) []
+      (If (Get Number) (failure Padding (Get Pos) site Ends)
       (taken (Num 1) Ends)))
       rest
 
@@ -86,16 +86,16 @@ module _ (c : Parts) (n : ℕ) where
   -- number = td_little_2(run, pos); pos = pos + 2; most = most - 1; room = room - 1; }`: the lower of the two comes to 0 first
   abbrev pub zeroterm : (bound width site : ℕ) → Block → Block
   zeroterm bound width site rest =
-      Let Most (Binary Div (reg bound) (Num width))
-      (Let Room (Binary Div left (Num width))
-      (Let Number (Num 1)
+      Assign Most (Binary Div (reg bound) (Num width))
+      (Assign Room (Binary Div left (Num width))
+      (Assign Number (Num 1)
       (While (Get Number)
       (fails (Binary Eq (Get Most) (Num 0)) Constraint site
       (fails (Binary Eq (Get Room) (Num 0)) NotEnough site
-      (Ask Number (little_helper width) (Get Pos ∷ []) []
+      (CallHelper Number (little_helper width) (Get Pos ∷ []) []
       (taken (Num width)
-      (Let Most (Binary Sub (Get Most) (Num 1))
-      (Let Room (Binary Sub (Get Room) (Num 1))
+      (Assign Most (Binary Sub (Get Most) (Num 1))
+      (Assign Room (Binary Sub (Get Room) (Num 1))
       Ends))))))
       rest)))
 
@@ -104,11 +104,11 @@ module _ (c : Parts) (n : ℕ) where
   copied size buffer site rest =
       let first = (routine_of c n).cells + 2 * buffer in
       room (reg size) site
-      (Let Most (Num (slice_index (routine_of c n).buffers buffer))
-      (When (Binary Lt (reg size) (Get Most)) (Let Most (reg size) Ends)
+      (Assign Most (Num (slice_index (routine_of c n).buffers buffer))
+      (If (Binary Lt (reg size) (Get Most)) (Assign Most (reg size) Ends)
       (Store first (Get Pos)
       (Store (first + 1) (Get Most)
-      (Ask Number copy_helper (Get Pos ∷ Get Most ∷ []) (buffer ∷ [])
+      (CallHelper Number copy_helper (Get Pos ∷ Get Most ∷ []) (buffer ∷ [])
       (taken (reg size) rest))))))
 
   -- a call of routine m by cell map k
@@ -118,21 +118,21 @@ module _ (c : Parts) (n : ℕ) where
 
   -- an instruction that neither begins nor ends a loop, before what stands behind it
   abbrev pub statement : Instr → Block → Block
-  statement (i.Const into value) rest = Let (Reg into) (Num value) rest
+  statement (i.Const into value) rest = Assign (Reg into) (Num value) rest
   statement (i.Member into source set) rest = Member (Reg into) (Reg source) (set_of c set) rest
-  statement (i.Op into operator x y) rest = Let (Reg into) (operated operator x y) rest
-  statement (i.Bits into source from count) rest = Let (Reg into) (Binary And (Binary Shr (reg source) (Num from)) (Num (2 ^ count - 1))) rest
-  statement (i.Pos into) rest = Let (Reg into) (Get Start) rest
+  statement (i.Op into operator x y) rest = Assign (Reg into) (operated operator x y) rest
+  statement (i.Bits into source from count) rest = Assign (Reg into) (Binary And (Binary Shr (reg source) (Num from)) (Num (2 ^ count - 1))) rest
+  statement (i.Pos into) rest = Assign (Reg into) (Get Start) rest
   statement (i.Jump target) rest = Goto target rest
-  statement (i.JumpIf test target) rest = When (reg test) (Goto target Ends) rest
-  statement (i.JumpUnless test target) rest = When (Binary Eq (reg test) (Num 0)) (Goto target Ends) rest
+  statement (i.JumpIf test target) rest = If (reg test) (Goto target Ends) rest
+  statement (i.JumpUnless test target) rest = If (Binary Eq (reg test) (Num 0)) (Goto target Ends) rest
   statement (i.Call first m k site) rest = called first m k site rest
   statement i.Return rest = Return (Get Pos) rest
   statement (i.Fetch into order width site) rest =
-      room (Num width) site (Ask (Reg into) (number_helper order width) (Get Pos ∷ []) [] (taken (Num width) rest))
+      room (Num width) site (CallHelper (Reg into) (number_helper order width) (Get Pos ∷ []) [] (taken (Num width) rest))
   statement (i.SkipK bytes site) rest = skipped_by bytes site rest
   statement (i.Skip size site) rest = skipped (reg size) site rest
-  statement i.Rest rest = Let Pos (Get End) rest
+  statement i.Rest rest = Assign Pos (Get End) rest
   statement (i.Zeros site) rest = zeros site rest
   statement (i.Zeroterm bound width site) rest = zeroterm bound width site rest
   statement (i.NarrowK bytes site) rest = narrowed_by bytes site rest
@@ -140,9 +140,9 @@ module _ (c : Parts) (n : ℕ) where
   statement (i.Divides size step site) rest = fails (Binary Rem (reg size) (Num step)) ListSize site rest
   statement (i.While target) rest = rest
   statement (i.Again target) rest = rest
-  statement (i.Widen site) rest = fails (Binary Ne (Get Pos) (Get End)) ListSize site (Let End (Get Outer) rest)
+  statement (i.Widen site) rest = fails (Binary Ne (Get Pos) (Get End)) ListSize site (Assign End (Get Outer) rest)
   statement (i.Fail reason site) rest = failure (reason_of reason) (Get Start) site rest
-  statement (i.Get into cell) rest = Let (Reg into) (Cell cell) rest
+  statement (i.Get into cell) rest = Assign (Reg into) (Cell cell) rest
   statement (i.Set source cell) rest = Store cell (reg source) rest
-  statement i.Mark rest = Let Start (Get Pos) rest
+  statement i.Mark rest = Assign Start (Get Pos) rest
   statement (i.Copy size buffer site) rest = copied size buffer site rest

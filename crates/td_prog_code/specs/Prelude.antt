@@ -1,6 +1,6 @@
 -- The helpers that stand at the front of each written program (own rule): they take numbers and bytes out of words, each of which is loaded once.
 use Rattle.std.specs.Prelude.{ℕ, zero, suc, ◌-◌, ◌*◌, ◌^◌, cond, nat_eq, List, [], ◌∷◌, codes}
-use Rattle.td_prog.specs.Syntax.{Next, Held, Pos, Word, Low, Number, More, Room, Count, Add, Sub, Mul, Div, Rem, And, Shl, Shr, Lt, Le, Expr, Num, Get, Binary, Swapped, Block, Ends, Let, Byte, Load, When, While, Return, Ask, Helper}
+use Rattle.td_prog.specs.Syntax.{Next, Held, Pos, Word, Low, Number, More, Room, Count, Add, Sub, Mul, Div, Rem, And, Shl, Shr, Lt, Le, Expr, Num, Get, Binary, Swapped, Block, Ends, Assign, Byte, Load, If, While, Return, CallHelper, Helper}
 
 -- by their numbers
 abbrev pub word_helper : ℕ
@@ -42,7 +42,7 @@ td_word = record {
   params = Word ∷ [];
   locals = [];
   buffers = 0;
-  body = When (Binary Le (Get Next) (Get Word)) (Load Ends) (Return (Get Held) Ends);
+  body = If (Binary Le (Get Next) (Get Word)) (Load Ends) (Return (Get Held) Ends);
 }
 
 -- td_little_2(run, pos): the word of the number's first byte, and where the number goes on in the next word that, too
@@ -56,12 +56,12 @@ td_word = record {
 --   return number & 65535;
 abbrev pub little_body : ℕ → Block
 little_body width =
-    Let Low low
-    (Ask Number word_helper (word ∷ []) []
-    (Let Number (Binary Shr (Get Number) (Get Low))
-    (When (Binary Lt (Num (64 - 8 * width)) (Get Low))
-    (Ask More word_helper (plus word 1 ∷ []) []
-    (Let Number (Binary Add (Get Number) (Binary Shl (Get More) (Binary Sub (Num 64) (Get Low))))
+    Assign Low low
+    (CallHelper Number word_helper (word ∷ []) []
+    (Assign Number (Binary Shr (Get Number) (Get Low))
+    (If (Binary Lt (Num (64 - 8 * width)) (Get Low))
+    (CallHelper More word_helper (plus word 1 ∷ []) []
+    (Assign Number (Binary Add (Get Number) (Binary Shl (Get More) (Binary Sub (Num 64) (Get Low))))
     Ends))
     (Return (Binary And (Get Number) (Num (2 ^ (8 * width) - 1))) Ends))))
 
@@ -72,7 +72,7 @@ little name width = record { name = name; params = Pos ∷ []; locals = Low ∷ 
 --   number = td_little_2(run, pos);
 --   return TD_SWAP(number) >> 48;
 abbrev pub big_body : ℕ → Block
-big_body width = Ask Number (little_helper width) (Get Pos ∷ []) [] (Return (Binary Shr (Swapped (Get Number)) (Num (64 - 8 * width))) Ends)
+big_body width = CallHelper Number (little_helper width) (Get Pos ∷ []) [] (Return (Binary Shr (Swapped (Get Number)) (Num (64 - 8 * width))) Ends)
 
 abbrev pub big : List ℕ → ℕ → Helper
 big name width = record { name = name; params = Pos ∷ []; locals = Number ∷ []; buffers = 0; body = big_body width }
@@ -102,14 +102,14 @@ bytes_from k (suc left) b = Byte 0 (plus (Get Count) k) (Binary Shr (Get Number)
 --   return count;
 abbrev pub copy_turn : Block
 copy_turn =
-    Let Low low
-    (Ask Number word_helper (word ∷ []) []
-    (Let More (Binary Sub (Get Room) (Get Count))
-    (When (Get Low) (Let More (Num 0) Ends)
-    (When (Binary Lt (Num 7) (Get More))
-    (bytes_from 0 8 (Let Pos (plus (Get Pos) 8) (Let Count (plus (Get Count) 8) Ends)))
-    (When (Binary Lt (Get More) (Num 8))
-    (Byte 0 (Get Count) (Binary Shr (Get Number) (Get Low)) (Let Pos (plus (Get Pos) 1) (Let Count (plus (Get Count) 1) Ends)))
+    Assign Low low
+    (CallHelper Number word_helper (word ∷ []) []
+    (Assign More (Binary Sub (Get Room) (Get Count))
+    (If (Get Low) (Assign More (Num 0) Ends)
+    (If (Binary Lt (Num 7) (Get More))
+    (bytes_from 0 8 (Assign Pos (plus (Get Pos) 8) (Assign Count (plus (Get Count) 8) Ends)))
+    (If (Binary Lt (Get More) (Num 8))
+    (Byte 0 (Get Count) (Binary Shr (Get Number) (Get Low)) (Assign Pos (plus (Get Pos) 1) (Assign Count (plus (Get Count) 1) Ends)))
     Ends)))))
 
 abbrev pub td_copy : Helper

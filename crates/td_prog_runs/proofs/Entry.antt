@@ -3,12 +3,11 @@ use Rattle.std.proofs.Common.{◌≡◌, ℕ, zero, suc, ◌+◌, ◌*◌, ◌/�
 use Rattle.std.specs.Prelude.{slice_index_or}
 use Rattle.std.specs.List.{All}
 use Rattle.std.proofs.lemmas.List.{get_or-append-add, get_or-drop, length-drop, length-replicate, length-map}
-use Rattle.std.proofs.lemmas.List.Elements.{All-nil, All-cons}
 use Rattle.std.proofs.Math.Nat.{pow-le-pow_right}
 use Rattle.td_num.specs.Numbers.{bytes_in, places_from}
 use Rattle.td_num.specs.declared.number.Width.{Width}
 use Rattle.td_num.specs.declared.number.Width.TheVariants.{One, Two, Four, Eight}
-use Rattle.td_num.specs.Lists.{Each, AreBytes}
+use Rattle.td_num.specs.Lists.{Each}
 use Rattle.td_num.proofs.Lists.{each_at, each_by, each_append, index_zeros}
 use Rattle.td_core.specs.declared.module.CellKind.{CellKind}
 use Rattle.td_core.specs.declared.module.CellKind.TheVariants.{Number, Pointer}
@@ -27,7 +26,8 @@ use Rattle.td_stream.proofs.Plain.{plain_is}
 use Rattle.td_prog_code.specs.Sentence.{held, IsEnd, HasNumber, HasNumbers, ProgramRuns}
 use Rattle.td_prog_steps.specs.Laid.{AreNumbers}
 use Rattle.td_prog_trees.specs.Agree.{Basis, IsKept}
-use Rattle.td_prog_runs.specs.Theorem.{AreEmpty, IsLeftBy, SoundCodeInC}
+use Rattle.td_prog_runs.specs.Theorem.{Start, IsStart, AreEmpty, IsLeftBy, SoundCodeInC}
+use Rattle.td_prog_steps.specs.Laws.{basis_of}
 use Rattle.td_prog_trees.specs.Laws.{StaysBelow}
 use Rattle.td_prog_trees.proofs.Guarded.{unguarded}
 
@@ -36,7 +36,7 @@ zeros_small zero = tt
 zeros_small (suc k) = (omega arith, zeros_small k)
 
 numbers : (c : Parts) → HasNumbers c → AreNumbers c
-numbers c h p into value e = each_at (HasNumber c) c.instructions p (i.Const into value) h e
+numbers c h p into value e = each_at (HasNumber c) c.instructions p (i.Const into value) h.instructions e
 
 width_small : (w : Width) → 8 * bytes_in w ≤ 64
 width_small One = omega arith
@@ -51,13 +51,11 @@ kind_small Pointer = omega arith
 power_small : (v k : ℕ) → v < 2 ^ k → k ≤ 64 → v < 2 ^ 64
 power_small v k h l = let some : 0 < 2 = omega arith in let p : 2 ^ k ≤ 2 ^ 64 = pow-le-pow_right {n = 2} some l in omega (arith, h, p)
 
-all_bytes : (b : List ℕ) → AreBytes b → All (λ x. x < 256) b
-all_bytes [] h = All-nil (λ x. x < 256)
-all_bytes (x ∷ b) h = All-cons (λ x. x < 256) x b (h 0) (all_bytes b (λ i. h (suc i)))
-
 -- what buffers hold, by their cells
 abbrev Hold : (message ds : List ℕ) → List (List ℕ) → Type 0
-Hold message ds bs = (b : ℕ) → b < length bs → take (slice_index ds (2 * b + 1)) (slice_index_or bs b []) ≡ map (slice_index message) (places_from (slice_index ds (2 * b)) (slice_index ds (2 * b + 1)))
+Hold message ds bs =
+    (b : ℕ) → b < length bs → take (slice_index ds (2 * b + 1)) (slice_index_or bs b []) ≡ map (slice_index message)
+    (places_from (slice_index ds (2 * b)) (slice_index ds (2 * b + 1)))
 
 held_copies : (message ds : List ℕ) (bs : List (List ℕ)) → length ds ≡ 2 * length bs → Hold message ds bs → held ds bs ≡ copies_by message ds
 held_copies message [] bs l h = refl
@@ -70,9 +68,11 @@ held_copies message (p ∷ q ∷ ds) (x ∷ bs) l h =
     (λ j. take (slice_index (p ∷ q ∷ ds) (sym e j)) (slice_index_or bs b [])) ∙ h (suc b) (omega (arith, less))
     ∙ (λ j. map (slice_index message) (places_from (slice_index (p ∷ q ∷ ds) (f j)) (slice_index (p ∷ q ∷ ds) (e j))))) i)
 
-kept_copies : (basis : Basis) (cells : List ℕ) (bs : List (List ℕ)) → IsKept basis cells bs → held (drop basis.first cells) bs ≡ copies_by basis.message (drop basis.first cells)
+kept_copies : (basis : Basis) (cells : List ℕ) (bs : List (List ℕ)) → IsKept basis cells bs
+    → held (drop basis.first cells) bs ≡ copies_by basis.message (drop basis.first cells)
 kept_copies basis cells bs k =
-    let count : length bs ≡ length basis.lengths = (let e = length-map bs length in let f = ap (λ (xs : List ℕ). length xs) k.lengths in omega (arith, e, f)) in
+    let count : length bs ≡ length basis.lengths =
+    (let e = length-map bs length in let f = ap (λ (xs : List ℕ). length xs) k.lengths in omega (arith, e, f)) in
     let d = length-drop basis.first cells in
     let m = k.many in
     held_copies basis.message (drop basis.first cells) bs (omega (arith, d, m, count)) (λ b h.
@@ -81,8 +81,9 @@ kept_copies basis cells bs k =
     (λ z. take ((at (2 * b + 1) ∙ ap (slice_index cells) e) z) (slice_index_or bs b [])) ∙ k.copies b (omega (arith, h, count))
     ∙ (λ z. map (slice_index basis.message) (places_from (sym (at (2 * b)) z) (sym (at (2 * b + 1) ∙ ap (slice_index cells) e) z))))
 
-ends : (basis : Basis) (y : Out) (w : Way) → IsLeftBy basis y w → IsEnd basis.first basis.message y w
-ends basis (Gave v s) (Returned pos cells) h = (h.0, h.1, kept_copies basis s.cells s.buffers h.2 ∙ ap (λ cs. copies_by basis.message (drop basis.first cs)) h.1)
+ends : (basis : Basis) (y : Out) (w : Way) → IsLeftBy basis y w → IsEnd basis.first basis.lengths basis.message y w
+ends basis (Gave v s) (Returned pos cells) h =
+    (h.0, h.1, h.2.lengths, kept_copies basis s.cells s.buffers h.2 ∙ ap (λ cs. copies_by basis.message (drop basis.first cs)) h.1)
 ends basis (Gave v s) (Turned t) h = h
 ends basis (Gave v s) (Failed reason pos trace cells) h = h
 ends basis (Gave v s) Stuck h = h
@@ -93,29 +94,45 @@ ends basis (Refused reason pos trace s) Stuck h = h
 ends basis Undefined w h = absurd h
 
 pub program_runs : SoundCodeInC → ProgramRuns
-program_runs sound_code c names entry size most args cells buffers loads out code sound nums fits short big rooms plays values =
+program_runs sound_code c names entry size most args cells buffers loads out code sound nums fits short enough rooms plays values =
     let e = entry_of c entry.number in
     let n = e.routine in
     let is = code.entries entry.number fits.there in
     let front : length cells ≡ (routine_of c n).cells = fits.cell_count ∙ is.cell_count in
     let behind = length-append cells (replicate (2 * buffers_of c entry) 0) in
     let zeros = length-replicate {A = ℕ} (2 * buffers_of c entry) 0 in
-    let sa = each_by (λ v. v < 2 ^ 64) args 0 (λ k h. power_small (slice_index args k) (8 * bytes_in (param_of e.params k).width) (fits.args_fit k h) (width_small (param_of e.params k).width)) in
+    let sa = each_by (λ v. v < 2 ^ 64) args 0
+    (λ k h. power_small (slice_index args k) (8 * bytes_in (param_of e.params k).width) (fits.args_fit k h) (width_small (param_of e.params k).width)) in
     let sc = each_append (λ v. v < 2 ^ 64) cells (replicate (2 * buffers_of c entry) 0)
-    (each_by (λ v. v < 2 ^ 64) cells 0 (λ k h. power_small (slice_index cells k) (cell_bits (cell_of e.cells k).kind) (fits.cells_fit k h) (kind_small (cell_of e.cells k).kind))) (zeros_small (2 * buffers_of c entry)) in
+    (each_by (λ v. v < 2 ^ 64) cells 0
+    (λ k h. power_small (slice_index cells k) (cell_bits (cell_of e.cells k).kind) (fits.cells_fit k h) (kind_small (cell_of e.cells k).kind)))
+    (zeros_small (2 * buffers_of c entry)) in
     let empty : AreEmpty (routine_of c n).cells (length (routine_of c n).buffers) (opened_by c entry cells) = λ b h.
     (let z : (routine_of c n).cells + 2 * b + 1 ≡ length cells + (2 * b + 1) = omega (arith, front) in ap (slice_index (opened_by c entry cells)) z)
     ∙ get_or-append-add cells (replicate (2 * buffers_of c entry) 0) (2 * b + 1) 0 ∙ index_zeros (2 * buffers_of c entry) (2 * b + 1) in
-    let below : StaysBelow ((size + 7) / 8) (free_run most (program c names) n size args (opened_by c entry cells) buffers) = λ ls y q s.
-    subst (λ k. All (λ (l : Load). l.word < k) ls) ((plain_is size).count)
-    (sound_code c names most n size args (opened_by c entry cells) buffers ls y code sound (numbers c nums) is.there short rooms (omega (arith, behind, zeros, front)) empty big sa sc q s).inside in
-    let free = unguarded ((size + 7) / 8) (free_run most (program c names) n size args (opened_by c entry cells) buffers) loads out below values plays in
-    let r = sound_code c names most n size args (opened_by c entry cells) buffers loads out code sound (numbers c nums) is.there short rooms (omega (arith, behind, zeros, front)) empty big sa sc free values in
+    let start : Start = record { names = names; limit = most; routine = n; size = size; args = args; cells = opened_by c entry cells; buffers = buffers } in
+    let is_start : IsStart c start = record {
+      there = is.there;
+      short = short;
+      enough = enough;
+      rooms = rooms;
+      many = omega (arith, behind, zeros, front);
+      empty = empty;
+      args = sa;
+      cells = sc;
+    } in
+    let tree = free_run most (program c names) n size args (opened_by c entry cells) buffers in
+    let runs = sound_code c start code sound (numbers c nums) is_start in
+    let below : StaysBelow ((size + 7) / 8) tree = λ ls y q s. subst (λ k. All (λ (l : Load). l.word < k) ls) ((plain_is size).count)
+    (runs ls y q s).inside in
+    let r = runs loads out (unguarded ((size + 7) / 8) tree loads out below values plays) values in
     record {
       rising = r.rising;
       inside = r.inside;
       holds = λ b carries bytes.
-          let q = r.holds b carries (all_bytes b bytes) in
-          let g : Basis = record { lengths = map length buffers; first = (routine_of c n).cells; message = b } in
-          (let w = (run_routine c n args (opened_by c entry cells) b).way in subst (λ k. IsEnd k b out w) (sym front) (ends g out w q.0), q.1);
+          let q = r.holds b carries bytes in (
+            let w = (run_routine c n args (opened_by c entry cells) b).way in subst (λ k. IsEnd k (map length buffers) b out w) (sym front)
+                (ends (basis_of c n b buffers) out w q.0),
+            q.1,
+          );
     }

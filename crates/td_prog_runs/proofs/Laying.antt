@@ -1,5 +1,5 @@
--- Verified code is laid well: labels stand where jumps lead, and loops end where their blocks do.
-use Rattle.std.proofs.Common.{◌≡◌, ℕ, zero, suc, ◌+◌, ◌-◌, ◌<◌, ◌≤◌, ◌⊎◌, inl, inr, Bool, true, false, cond, List, [], ◌∷◌, length, Option, Some, None, refl, sym, ap, ◌∙◌, subst, arith, take, drop}
+-- Verified code is laid well: labels stand where jumps lead, and loops end where their blocks do. Cited by other crates.
+use Rattle.std.proofs.Common.{◌≡◌, ℕ, zero, suc, ◌+◌, ◌-◌, ◌<◌, ◌≤◌, ◌⊎◌, inl, inr, Bool, true, false, cond, List, [], ◌∷◌, length, Option, Some, refl, sym, ap, ◌∙◌, subst, arith, take, drop}
 use Rattle.std.specs.Prelude.{nat_eq, slice_get, slice_range}
 use Rattle.std.proofs.lemmas.Option.{get_or_from_slice_get, slice_get_within}
 use Rattle.std.proofs.Math.Seq.{drop-cons}
@@ -14,11 +14,11 @@ use Rattle.td_ir.specs.declared.instructions.Instr.TheVariants as i
 use Rattle.td_ir.specs.declared.tables.Parts.{Parts}
 use Rattle.td_ir.specs.Tables.{instruction_of, lengths_of, begin, first_of, end_of}
 use Rattle.td_verify.specs.declared.shape.Shape.{Shape}
-use Rattle.td_verify.specs.declared.shape.Shape.TheVariants.{Straight, Jump, Branch, Call, Return, Fail, While, Again, Open, Close}
+use Rattle.td_verify.specs.declared.shape.Shape.TheVariants.{While, Again}
 use Rattle.td_verify.specs.declared.bracket.Bracket.{Bracket}
-use Rattle.td_verify.specs.declared.bracket.Bracket.TheVariants.{Window, Loop}
+use Rattle.td_verify.specs.declared.bracket.Bracket.TheVariants.{Loop}
 use Rattle.td_verify.specs.Shape.{shape, shapes_of}
-use Rattle.td_verify.specs.Brackets.{shape_at, opened, and_then, opening, closing_loop, closing_window, in_loop}
+use Rattle.td_verify.specs.Brackets.{shape_at, opened, and_then, opening, closing_loop, in_loop}
 use Rattle.td_verify.specs.Flat.{IsFlat}
 use Rattle.td_verify.specs.Ways.{Leads}
 use Rattle.td_verify.specs.Verify.{IsIn, IsSound, depths}
@@ -30,7 +30,9 @@ use Rattle.td_prog.specs.Syntax.{Block, Ends, Label, Ne, Pos, Get, Binary}
 use Rattle.td_prog.specs.Syntax.{End, While as WhileBlock}
 use Rattle.td_prog_code.specs.Instructions.{statement}
 use Rattle.td_prog_code.specs.Program.{stated, looped as looped_blocks, put, blocks}
-use Rattle.td_prog_steps.specs.Laid.{HasLabel, tail_of, begins_behind, begins, IsBusy, IsLoop, IsJump, IsLaid, AreLaid, IsWellLaid, AreNumbers}
+use Rattle.td_prog.specs.Text.{HasLabel}
+use Rattle.td_prog_steps.specs.Laid.{tail_of, begins_behind, begins, IsBusy, IsLoop, IsJump, IsLaid, AreLaid, IsWellLaid, AreNumbers}
+use Rattle.td_prog_runs.proofs.OpenLoops.{IsPlain, not_looped, closed_loop, one_while, one_target, LoopOf, plain_open, loop_of}
 
 either_label : (b : Bool) (x y : Block) (l : ℕ) → HasLabel l x → HasLabel l y → HasLabel l (cond b x y)
 either_label true x y l h k = h
@@ -66,146 +68,12 @@ still c n (i.Set source cell) rest l h = h
 still c n i.Mark rest l h = h
 still c n (i.Copy size buffer site) rest l h = h
 
--- what neither begins nor ends a loop
-abbrev IsPlain : Shape → Type 0
-IsPlain (Straight b w) = Unit {0}
-IsPlain (Jump t) = Unit {0}
-IsPlain (Branch t) = Unit {0}
-IsPlain (Call m) = Unit {0}
-IsPlain Return = Unit {0}
-IsPlain Fail = Unit {0}
-IsPlain (While t) = ⊥
-IsPlain (Again t) = ⊥
-IsPlain (Open k) = Unit {0}
-IsPlain Close = Unit {0}
-
-not_looped : (x y : Option (List Bracket)) → x ≡ y → in_loop y ≡ false → in_loop x ≡ true → ⊥
-not_looped x y e f t = let g = ap in_loop e in absurd (cc)
-
--- behind a loop that ends nothing is looped
-behind_again : (o : Option (List Bracket)) → IsFlat o → in_loop o ≡ true → in_loop (closing_loop o) ≡ false
-behind_again None f h = absurd f
-behind_again (Some []) f h = refl
-behind_again (Some (Window a m ∷ [])) f h = absurd (cc)
-behind_again (Some (Window a m ∷ b ∷ bs)) f h = absurd f
-behind_again (Some (Loop l ∷ [])) f h = absurd f
-behind_again (Some (Loop l ∷ Window a m ∷ [])) f h = refl
-behind_again (Some (Loop l ∷ Window a m ∷ b ∷ bs)) f h = absurd f
-behind_again (Some (Loop l ∷ Loop a ∷ bs)) f h = absurd f
-
-closed_loop : (o : Option (List Bracket)) → IsFlat o → in_loop (closing_loop o) ≡ false
-closed_loop None f = absurd f
-closed_loop (Some []) f = refl
-closed_loop (Some (Window a m ∷ [])) f = refl
-closed_loop (Some (Window a m ∷ b ∷ bs)) f = absurd f
-closed_loop (Some (Loop l ∷ [])) f = absurd f
-closed_loop (Some (Loop l ∷ Window a m ∷ [])) f = refl
-closed_loop (Some (Loop l ∷ Window a m ∷ b ∷ bs)) f = absurd f
-closed_loop (Some (Loop l ∷ Loop a ∷ bs)) f = absurd f
-
-one_while : (o : Option (List Bracket)) (p l : ℕ) (x : Option (List Bracket)) → IsFlat (opening (Loop p) o) → IsFlat (opening (Loop l) x) → opening (Loop p) o ≡ opening (Loop l) x → p ≡ l
-one_while None p l x f g e = absurd f
-one_while (Some bs) p l None f g e = absurd g
-one_while (Some bs) p l (Some cs) f g e = ap number e
-  where
-    number : Option (List Bracket) → ℕ
-    number None = 0
-    number (Some []) = 0
-    number (Some (Window a m ∷ bs)) = 0
-    number (Some (Loop l ∷ bs)) = l
-
-one_target : (t u : ℕ) → (let z : Shape = While t in z ≡ While u) → t ≡ u
-one_target t u e = ap number e
-  where
-    number : Shape → ℕ
-    number (Straight b w) = 0
-    number (Jump t) = 0
-    number (Branch t) = 0
-    number (Call m) = 0
-    number Return = 0
-    number Fail = 0
-    number (While t) = t
-    number (Again t) = 0
-    number (Open k) = 0
-    number Close = 0
-
 module _ (c : Parts) (safe : IsSafe c) (n : ℕ) where
   abbrev O : ℕ → Option (List Bracket)
   O p = opened (shapes_of c) p
 
   abbrev shape_of : ℕ → Shape
   shape_of p = shape_at (shapes_of c) p
-
-  -- a plain instruction leaves what is open of loops
-  plain_open : (p : ℕ) (z : Shape) → IsIn c n p → shape_of p ≡ z → IsPlain z → (looped c (p + 1) ≡ looped c p) × (looped c (p + 1) ≡ true → O (p + 1) ≡ O p)
-  plain_open p (Straight b w) i e h = let o = next_opened (shapes_of c) p ∙ ap (λ z. and_then p z (O p)) e in (ap in_loop o, λ t. o)
-  plain_open p (Jump t) i e h = let o = next_opened (shapes_of c) p ∙ ap (λ z. and_then p z (O p)) e in (ap in_loop o, λ t. o)
-  plain_open p (Branch t) i e h = let o = next_opened (shapes_of c) p ∙ ap (λ z. and_then p z (O p)) e in (ap in_loop o, λ t. o)
-  plain_open p (Call m) i e h = let o = next_opened (shapes_of c) p ∙ ap (λ z. and_then p z (O p)) e in (ap in_loop o, λ t. o)
-  plain_open p Return i e h = let o = next_opened (shapes_of c) p ∙ ap (λ z. and_then p z (O p)) e in (ap in_loop o, λ t. o)
-  plain_open p Fail i e h = let o = next_opened (shapes_of c) p ∙ ap (λ z. and_then p z (O p)) e in (ap in_loop o, λ t. o)
-  plain_open p (While t) i e h = absurd h
-  plain_open p (Again t) i e h = absurd h
-  plain_open p (Open k) i e h =
-      let none : O p ≡ Some [] = subst (IsWholeAt c n p) e (safe.each n p i).whole in
-      let o : O (p + 1) ≡ Some (Window p k ∷ []) = next_opened (shapes_of c) p ∙ ap (λ z. and_then p z (O p)) e ∙ ap (opening (Window p k)) none in
-      let a = ap in_loop o in let b = ap in_loop none in
-      ((let r : looped c (p + 1) ≡ looped c p = a ∙ sym b in r), λ t. absurd (not_looped (O (p + 1)) (Some (Window p k ∷ [])) o refl t))
-  plain_open p Close i e h =
-      let leads : Leads p (shape_of p) (p + 1) = subst (λ z. Leads p z (p + 1)) (sym e) refl in
-      let o : O (p + 1) ≡ Some [] = subst (λ z. Stays (shapes_of c) p z (p + 1)) e ((safe.each n p i).goes (p + 1) leads).2 in
-      let shut : closing_window (O p) ≡ Some [] = sym (next_opened (shapes_of c) p ∙ ap (λ z. and_then p z (O p)) e) ∙ o in
-      (ap in_loop o ∙ sym (unlooped (O p) (safe.each n p i).flat shut), λ t. absurd (not_looped (O (p + 1)) (Some []) o refl t))
-    where
-      unlooped : (o : Option (List Bracket)) → IsFlat o → closing_window o ≡ Some [] → in_loop o ≡ false
-      unlooped None f q = refl
-      unlooped (Some []) f q = refl
-      unlooped (Some (Window a m ∷ [])) f q = refl
-      unlooped (Some (Window a m ∷ b ∷ bs)) f q = absurd f
-      unlooped (Some (Loop l ∷ [])) f q = absurd f
-      unlooped (Some (Loop l ∷ Window a m ∷ [])) f q = absurd (cc)
-      unlooped (Some (Loop l ∷ Window a m ∷ b ∷ bs)) f q = absurd f
-      unlooped (Some (Loop l ∷ Loop a ∷ bs)) f q = absurd f
-
-  -- the loop that is open at a place
-  record LoopOf (p : ℕ) : Type 0 where
-    loop : ℕ
-    target : ℕ
-    at : IsIn c n loop
-    before : loop < p
-    is : shape_of loop ≡ While target
-    same : O p ≡ O (loop + 1)
-
-  loop_later : (p : ℕ) (z : Shape) → IsIn c n p → shape_of p ≡ z → IsPlain z → (looped c p ≡ true → LoopOf p) → looped c (p + 1) ≡ true → LoopOf (p + 1)
-  loop_later p z i e pl ih h =
-      let q = plain_open p z i e pl in
-      let r = ih (sym q.0 ∙ h) in
-      record { loop = r.loop; target = r.target; at = r.at; before = (let b = r.before in omega (arith, b)); is = r.is; same = q.1 h ∙ r.same }
-
-  loop_by : (p : ℕ) (z : Shape) → IsIn c n p → shape_of p ≡ z → (looped c p ≡ true → LoopOf p) → looped c (p + 1) ≡ true → LoopOf (p + 1)
-  loop_by p (While t) i e ih h = record { loop = p; target = t; at = i; before = omega arith; is = e; same = refl }
-  loop_by p (Again t) i e ih h =
-      let o : O (p + 1) ≡ closing_loop (O p) = next_opened (shapes_of c) p ∙ ap (λ z. and_then p z (O p)) e in
-      absurd (not_looped (O (p + 1)) (closing_loop (O p)) o (closed_loop (O p) (safe.each n p i).flat) h)
-  loop_by p (Straight b w) i e ih h = loop_later p (Straight b w) i e tt ih h
-  loop_by p (Jump t) i e ih h = loop_later p (Jump t) i e tt ih h
-  loop_by p (Branch t) i e ih h = loop_later p (Branch t) i e tt ih h
-  loop_by p (Call m) i e ih h = loop_later p (Call m) i e tt ih h
-  loop_by p Return i e ih h = loop_later p Return i e tt ih h
-  loop_by p Fail i e ih h = loop_later p Fail i e tt ih h
-  loop_by p (Open k) i e ih h = loop_later p (Open k) i e tt ih h
-  loop_by p Close i e ih h = loop_later p Close i e tt ih h
-
-  loop_of : (d p : ℕ) → begin (lengths_of c) n + d ≡ p → IsIn c n p → looped c p ≡ true → LoopOf p
-  loop_of zero p e i h =
-      let same : begin (lengths_of c) n ≡ p = omega (arith, e) in
-      let none : O p ≡ Some [] = subst (λ q. O q ≡ Some []) same (safe.begins n i.routine).1 in
-      absurd (not_looped (O p) (Some []) none refl h)
-  loop_of (suc d) p e i h =
-      let q = begin (lengths_of c) n + d in
-      let there : q + 1 ≡ p = omega (arith, e) in
-      let before : IsIn c n q = record { routine = i.routine; from = omega arith; to = (let t = i.to in omega (arith, there, t)) } in
-      subst LoopOf there (loop_by q (shape_of q) before refl (loop_of d q refl before) (subst (λ x. looped c x ≡ true) (sym there) h))
 
   -- outside of loops one block begins at a place; in a loop one, and one behind the loop
   record Outside (pc : ℕ) (qs : List ℕ) (bs : List Block) : Type 0 where
@@ -218,7 +86,7 @@ module _ (c : Parts) (safe : IsSafe c) (n : ℕ) where
   record Inside (pc : ℕ) (qs : List ℕ) (bs : List Block) : Type 0 where
     inner : Block
     rest : Block
-    within : LoopOf pc
+    within : LoopOf c safe n pc
     bs_is : bs ≡ inner ∷ rest ∷ []
     qs_is : qs ≡ pc ∷ within.target ∷ []
     busy : looped c pc ≡ true
@@ -235,9 +103,10 @@ module _ (c : Parts) (safe : IsSafe c) (n : ℕ) where
   ]
 
   -- before a plain instruction
-  plain_stands : (pc : ℕ) (j : Instr) (qs : List ℕ) (bs : List Block) → IsIn c n pc → shape_of pc ≡ shape j → IsPlain (shape j) → Stands (pc + 1) qs bs → Stands pc (pc ∷ tail_of qs) (stated c n pc j bs)
+  plain_stands : (pc : ℕ) (j : Instr) (qs : List ℕ) (bs : List Block) → IsIn c n pc → shape_of pc ≡ shape j → IsPlain (shape j) → Stands (pc + 1) qs bs
+      → Stands pc (pc ∷ tail_of qs) (stated c n pc j bs)
   plain_stands pc j qs bs i e pl (inl x) =
-      let o = plain_open pc (shape j) i e pl in
+      let o = plain_open c safe n pc (shape j) i e pl in
       inl (record {
         block = Label pc (statement c n j x.block);
         bs_is = ap (stated c n pc j) x.bs_is;
@@ -246,7 +115,7 @@ module _ (c : Parts) (safe : IsSafe c) (n : ℕ) where
         labels = λ q h l f. in_front pc q (statement c n j x.block) h (λ k. still c n j x.block q (x.labels q k l f));
       })
   plain_stands pc j qs bs i e pl (inr x) =
-      let o = plain_open pc (shape j) i e pl in
+      let o = plain_open c safe n pc (shape j) i e pl in
       let same = o.1 x.busy in
       let w = x.within in
       inr (record {
@@ -261,7 +130,7 @@ module _ (c : Parts) (safe : IsSafe c) (n : ℕ) where
       })
     where
       -- the instruction isn't the loop's first
-      earlier : (w : LoopOf (pc + 1)) → O (pc + 1) ≡ O pc → looped c pc ≡ true → w.loop < pc
+      earlier : (w : LoopOf c safe n (pc + 1)) → O (pc + 1) ≡ O pc → looped c pc ≡ true → w.loop < pc
       earlier w same h =
           let b = w.before in
           elim (cases_lt w.loop pc) [
@@ -282,13 +151,14 @@ module _ (c : Parts) (safe : IsSafe c) (n : ℕ) where
   code_from pc = slice_range c.instructions pc (end_of c n)
 
   -- before the end of a turn
-  again_stands : (pc u : ℕ) (qs : List ℕ) (bs : List Block) → IsIn c n pc → shape_of pc ≡ Again u → Stands (pc + 1) qs bs → Stands pc (pc ∷ qs) (Label pc Ends ∷ bs)
+  again_stands : (pc u : ℕ) (qs : List ℕ) (bs : List Block) → IsIn c n pc → shape_of pc ≡ Again u → Stands (pc + 1) qs bs
+      → Stands pc (pc ∷ qs) (Label pc Ends ∷ bs)
   again_stands pc u qs bs i e (inr x) =
       let o : O (pc + 1) ≡ closing_loop (O pc) = next_opened (shapes_of c) pc ∙ ap (λ z. and_then pc z (O pc)) e in
       absurd (not_looped (O (pc + 1)) (closing_loop (O pc)) o (closed_loop (O pc) (safe.each n pc i).flat) x.busy)
   again_stands pc u qs bs i e (inl x) =
       let turns = safe.loops.again n pc u i e in
-      let w = loop_of (pc - begin (lengths_of c) n) pc (let f = i.from in omega (arith, f)) i turns in
+      let w = loop_of c safe n (pc - begin (lengths_of c) n) pc (let f = i.from in omega (arith, f)) i turns in
       let whole : IsWhole c n w.loop w.target = subst (IsWholeAt c n w.loop) w.is (safe.each n w.loop w.at).whole in
       let last : pc ≡ w.target - 1 = safe.loops.one n w.loop w.target pc u w.at w.is i w.same e in
       let next : pc + 1 ≡ w.target = (let b = whole.body in omega (arith, last, b)) in
@@ -300,7 +170,8 @@ module _ (c : Parts) (safe : IsSafe c) (n : ℕ) where
         qs_is = ap (λ z. pc ∷ z) x.qs_is ∙ ap (λ q. pc ∷ q ∷ []) next;
         busy = turns;
         labels = λ q h l f.
-            let in_it = safe.loops.inside n w.loop w.target q w.at w.is (record { routine = i.routine; from = (let b = i.from in omega (arith, b, h)); to = l }) (f ∙ w.same) in
+            let in_it = safe.loops.inside n w.loop w.target q w.at w.is
+            (record { routine = i.routine; from = (let b = i.from in omega (arith, b, h)); to = l }) (f ∙ w.same) in
             inl (omega (arith, h, in_it, next));
         more = λ q h l f. elim (cases_lt pc q) [
           | inl lt ↦ x.labels q (omega (arith, lt)) l f
@@ -309,17 +180,24 @@ module _ (c : Parts) (safe : IsSafe c) (n : ℕ) where
       })
 
   -- before a loop
-  while_stands : (message places : List ℕ) (pc t : ℕ) (qs : List ℕ) (bs : List Block) → IsIn c n pc → shape_of pc ≡ While t → IsBusy c message places n pc → Stands (pc + 1) qs bs
+  while_stands : (message places : List ℕ) (pc t : ℕ) (qs : List ℕ) (bs : List Block) → IsIn c n pc → shape_of pc ≡ While t → IsBusy c message places n pc
+      → Stands (pc + 1) qs bs
       → IsLoop c message places n pc t qs × Stands pc (pc ∷ tail_of (tail_of qs)) (looped_blocks c n pc bs)
   while_stands message places pc t qs bs i e busy (inl x) = let turns = safe.loops.turning n pc t i e in let f = x.free in absurd (cc)
   while_stands message places pc t qs bs i e busy (inr x) =
       let w = x.within in
       let whole : IsWhole c n pc t = subst (IsWholeAt c n pc) e (safe.each n pc i).whole in
-      let next : IsIn c n (pc + 1) = record { routine = i.routine; from = (let f = i.from in omega (arith, f)); to = (let b = whole.body in let z = whole.behind.to in omega (arith, b, z)) } in
+      let next : IsIn c n (pc + 1) = record {
+        routine = i.routine;
+        from = (let f = i.from in omega (arith, f));
+        to =
+            (let b = whole.body in let z = whole.behind.to in omega (arith, b, z));
+      } in
       let mine : O (pc + 1) ≡ opening (Loop pc) (O pc) = next_opened (shapes_of c) pc ∙ ap (λ z. and_then pc z (O pc)) e in
       let its : O (w.loop + 1) ≡ opening (Loop w.loop) (O w.loop) = next_opened (shapes_of c) w.loop ∙ ap (λ z. and_then w.loop z (O w.loop)) w.is in
       let flat = (safe.each n (pc + 1) next).flat in
-      let here : pc ≡ w.loop = one_while (O pc) pc w.loop (O w.loop) (subst IsFlat mine flat) (subst IsFlat (w.same ∙ its) flat) (sym mine ∙ w.same ∙ its) in
+      let here : pc ≡ w.loop = one_while (O pc) pc w.loop (O w.loop) (subst IsFlat mine flat) (subst IsFlat (w.same ∙ its) flat)
+      (sym mine ∙ w.same ∙ its) in
       let target : w.target ≡ t = one_target w.target t (sym w.is ∙ ap shape_of (sym here) ∙ e) in (
         subst (λ z. IsLoop c message places n pc t z) (sym x.qs_is) (target, whole.body, whole.behind.to, busy),
         inl (record {
@@ -350,13 +228,14 @@ module _ (c : Parts) (safe : IsSafe c) (n : ℕ) where
   tables : (pc : ℕ) (j : Instr) → IsKnown pc j → HasTables c n j
   tables pc j k = subst (HasTables c n) k.is (safe.each n pc k.place).tables
 
-  jump_laid : (message places : List ℕ) (pc target : ℕ) (j : Instr) (qs : List ℕ) (bs : List Block) → IsKnown pc j → IsPlain (shape j) → (pc < target) × IsIn c n target × (O target ≡ O pc) → Stands (pc + 1) qs bs → IsJump c message places n pc target bs
+  jump_laid : (message places : List ℕ) (pc target : ℕ) (j : Instr) (qs : List ℕ) (bs : List Block) → IsKnown pc j → IsPlain (shape j)
+      → (pc < target) × IsIn c n target × (O target ≡ O pc) → Stands (pc + 1) qs bs → IsJump c message places n pc target bs
   jump_laid message places pc target j qs bs k pl to (inl x) =
-      let o = plain_open pc (shape j) k.place k.form pl in
+      let o = plain_open c safe n pc (shape j) k.place k.form pl in
       subst (λ z. IsJump c message places n pc target z) (sym x.bs_is)
       (to.0, to.1.to, x.labels target (let l = to.0 in omega (arith, l)) to.1.to (ap in_loop to.2 ∙ sym o.0 ∙ x.free))
   jump_laid message places pc target j qs bs k pl to (inr x) =
-      let o = plain_open pc (shape j) k.place k.form pl in
+      let o = plain_open c safe n pc (shape j) k.place k.form pl in
       subst (λ z. IsJump c message places n pc target z) (sym x.bs_is)
       (to.0, to.1.to, x.labels target (let l = to.0 in omega (arith, l)) to.1.to (to.2 ∙ sym (o.1 x.busy)))
 
@@ -365,33 +244,96 @@ module _ (c : Parts) (safe : IsSafe c) (n : ℕ) where
     Lays pc j qs bs = IsLaid c message places n pc j qs bs × Stands pc (pc ∷ begins_behind j qs) (put c n pc j bs)
 
     lays : (pc : ℕ) (j : Instr) (qs : List ℕ) (bs : List Block) → IsKnown pc j → Stands (pc + 1) qs bs → Lays pc j qs bs
-    lays pc (i.Const into v) qs bs k x = (((leads_on pc (i.Const into v) k (pc + 1) refl).1.to, numbers pc into v k.there), plain_stands pc (i.Const into v) qs bs k.place k.form tt x)
-    lays pc (i.Member into source set) qs bs k x = ((leads_on pc (i.Member into source set) k (pc + 1) refl).1.to, plain_stands pc (i.Member into source set) qs bs k.place k.form tt x)
-    lays pc (i.Op into operator u w) qs bs k x = (((leads_on pc (i.Op into operator u w) k (pc + 1) refl).1.to, operands pc (i.Op into operator u w) k), plain_stands pc (i.Op into operator u w) qs bs k.place k.form tt x)
-    lays pc (i.Bits into source low count) qs bs k x = (((leads_on pc (i.Bits into source low count) k (pc + 1) refl).1.to, (let o = operands pc (i.Bits into source low count) k in let a = o.0 in let b = o.1 in omega (arith, a, b))), plain_stands pc (i.Bits into source low count) qs bs k.place k.form tt x)
+    lays pc (i.Const into v) qs bs k x =
+        (((leads_on pc (i.Const into v) k (pc + 1) refl).1.to, numbers pc into v k.there), plain_stands pc (i.Const into v) qs bs k.place k.form tt x)
+    lays pc (i.Member into source set) qs bs k x =
+        ((leads_on pc (i.Member into source set) k (pc + 1) refl).1.to, plain_stands pc (i.Member into source set) qs bs k.place k.form tt x)
+    lays pc (i.Op into operator u w) qs bs k x = (
+      ((leads_on pc (i.Op into operator u w) k (pc + 1) refl).1.to, operands pc (i.Op into operator u w) k),
+      plain_stands pc
+          (i.Op into operator u w) qs bs k.place k.form tt x,
+    )
+    lays pc (i.Bits into source low count) qs bs k x = (
+      (
+        (leads_on pc (i.Bits into source low count) k (pc + 1) refl).1.to,
+        (let o = operands pc (i.Bits into source low count) k in let a = o.0 in let b = o.1 in omega (arith, a, b)),
+      ),
+      plain_stands pc
+          (i.Bits into source low count) qs bs k.place k.form tt x,
+    )
     lays pc (i.Pos into) qs bs k x = ((leads_on pc (i.Pos into) k (pc + 1) refl).1.to, plain_stands pc (i.Pos into) qs bs k.place k.form tt x)
-    lays pc (i.Jump target) qs bs k x = (jump_laid message places pc target (i.Jump target) qs bs k tt (leads_on pc (i.Jump target) k target refl) x, plain_stands pc (i.Jump target) qs bs k.place k.form tt x)
-    lays pc (i.JumpIf test target) qs bs k x = (((leads_on pc (i.JumpIf test target) k (pc + 1) (inr refl)).1.to, jump_laid message places pc target (i.JumpIf test target) qs bs k tt (leads_on pc (i.JumpIf test target) k target (inl refl)) x), plain_stands pc (i.JumpIf test target) qs bs k.place k.form tt x)
-    lays pc (i.JumpUnless test target) qs bs k x = (((leads_on pc (i.JumpUnless test target) k (pc + 1) (inr refl)).1.to, jump_laid message places pc target (i.JumpUnless test target) qs bs k tt (leads_on pc (i.JumpUnless test target) k target (inl refl)) x), plain_stands pc (i.JumpUnless test target) qs bs k.place k.form tt x)
-    lays pc (i.Call first m map site) qs bs k x = (((leads_on pc (i.Call first m map site) k (pc + 1) refl).1.to, (subst (λ z. CallsWell (depths (shapes_of c) (lengths_of c) n) n z) k.form (safe.each n pc k.place).calls).0, (tables pc (i.Call first m map site) k).1), plain_stands pc (i.Call first m map site) qs bs k.place k.form tt x)
+    lays pc (i.Jump target) qs bs k x = (
+      jump_laid message places pc target (i.Jump target) qs bs k tt (leads_on pc (i.Jump target) k target refl) x,
+      plain_stands pc
+          (i.Jump target) qs bs k.place k.form tt x,
+    )
+    lays pc (i.JumpIf test target) qs bs k x = (
+      (
+        (leads_on pc (i.JumpIf test target) k (pc + 1) (inr refl)).1.to,
+        jump_laid message places pc target (i.JumpIf test target) qs bs k tt
+            (leads_on pc (i.JumpIf test target) k target (inl refl)) x,
+      ),
+      plain_stands pc (i.JumpIf test target) qs bs k.place k.form tt x,
+    )
+    lays pc (i.JumpUnless test target) qs bs k x = (
+      (
+        (leads_on pc (i.JumpUnless test target) k (pc + 1) (inr refl)).1.to,
+        jump_laid message places pc target (i.JumpUnless test target) qs bs k tt
+            (leads_on pc (i.JumpUnless test target) k target (inl refl)) x,
+      ),
+      plain_stands pc (i.JumpUnless test target) qs bs k.place k.form tt x,
+    )
+    lays pc (i.Call first m map site) qs bs k x = (
+      (
+        (leads_on pc (i.Call first m map site) k (pc + 1) refl).1.to,
+        (subst (λ z. CallsWell (depths (shapes_of c) (lengths_of c) n) n z) k.form (safe.each n pc k.place).calls).0,
+        (tables pc (i.Call first m map site) k).1,
+      ),
+      plain_stands pc (i.Call first m map site) qs bs k.place k.form tt x,
+    )
     lays pc i.Return qs bs k x = (tt, plain_stands pc i.Return qs bs k.place k.form tt x)
-    lays pc (i.Fetch into order width site) qs bs k x = (((leads_on pc (i.Fetch into order width site) k (pc + 1) refl).1.to, (operands pc (i.Fetch into order width site) k).1), plain_stands pc (i.Fetch into order width site) qs bs k.place k.form tt x)
-    lays pc (i.SkipK bytes site) qs bs k x = ((leads_on pc (i.SkipK bytes site) k (pc + 1) refl).1.to, plain_stands pc (i.SkipK bytes site) qs bs k.place k.form tt x)
-    lays pc (i.Skip size site) qs bs k x = ((leads_on pc (i.Skip size site) k (pc + 1) refl).1.to, plain_stands pc (i.Skip size site) qs bs k.place k.form tt x)
+    lays pc (i.Fetch into order width site) qs bs k x = (
+      ((leads_on pc (i.Fetch into order width site) k (pc + 1) refl).1.to, (operands pc (i.Fetch into order width site) k).1),
+      plain_stands pc
+          (i.Fetch into order width site) qs bs k.place k.form tt x,
+    )
+    lays pc (i.SkipK bytes site) qs bs k x =
+        ((leads_on pc (i.SkipK bytes site) k (pc + 1) refl).1.to, plain_stands pc (i.SkipK bytes site) qs bs k.place k.form tt x)
+    lays pc (i.Skip size site) qs bs k x =
+        ((leads_on pc (i.Skip size site) k (pc + 1) refl).1.to, plain_stands pc (i.Skip size site) qs bs k.place k.form tt x)
     lays pc i.Rest qs bs k x = ((leads_on pc i.Rest k (pc + 1) refl).1.to, plain_stands pc i.Rest qs bs k.place k.form tt x)
     lays pc (i.Zeros site) qs bs k x = ((leads_on pc (i.Zeros site) k (pc + 1) refl).1.to, plain_stands pc (i.Zeros site) qs bs k.place k.form tt x)
-    lays pc (i.Zeroterm bound width site) qs bs k x = (((leads_on pc (i.Zeroterm bound width site) k (pc + 1) refl).1.to, operands pc (i.Zeroterm bound width site) k), plain_stands pc (i.Zeroterm bound width site) qs bs k.place k.form tt x)
-    lays pc (i.NarrowK bytes site) qs bs k x = ((leads_on pc (i.NarrowK bytes site) k (pc + 1) refl).1.to, plain_stands pc (i.NarrowK bytes site) qs bs k.place k.form tt x)
-    lays pc (i.Narrow size site) qs bs k x = ((leads_on pc (i.Narrow size site) k (pc + 1) refl).1.to, plain_stands pc (i.Narrow size site) qs bs k.place k.form tt x)
-    lays pc (i.Divides size step site) qs bs k x = (((leads_on pc (i.Divides size step site) k (pc + 1) refl).1.to, operands pc (i.Divides size step site) k), plain_stands pc (i.Divides size step site) qs bs k.place k.form tt x)
+    lays pc (i.Zeroterm bound width site) qs bs k x = (
+      ((leads_on pc (i.Zeroterm bound width site) k (pc + 1) refl).1.to, operands pc (i.Zeroterm bound width site) k),
+      plain_stands pc
+          (i.Zeroterm bound width site) qs bs k.place k.form tt x,
+    )
+    lays pc (i.NarrowK bytes site) qs bs k x =
+        ((leads_on pc (i.NarrowK bytes site) k (pc + 1) refl).1.to, plain_stands pc (i.NarrowK bytes site) qs bs k.place k.form tt x)
+    lays pc (i.Narrow size site) qs bs k x =
+        ((leads_on pc (i.Narrow size site) k (pc + 1) refl).1.to, plain_stands pc (i.Narrow size site) qs bs k.place k.form tt x)
+    lays pc (i.Divides size step site) qs bs k x = (
+      ((leads_on pc (i.Divides size step site) k (pc + 1) refl).1.to, operands pc (i.Divides size step site) k),
+      plain_stands pc
+          (i.Divides size step site) qs bs k.place k.form tt x,
+    )
     lays pc (i.While target) qs bs k x = while_stands message places pc target qs bs k.place k.form (busy pc target k.place k.form) x
     lays pc (i.Again target) qs bs k x = (tt, again_stands pc target qs bs k.place k.form x)
     lays pc (i.Widen site) qs bs k x = ((leads_on pc (i.Widen site) k (pc + 1) refl).1.to, plain_stands pc (i.Widen site) qs bs k.place k.form tt x)
     lays pc (i.Fail reason site) qs bs k x = (tt, plain_stands pc (i.Fail reason site) qs bs k.place k.form tt x)
-    lays pc (i.Get into cell) qs bs k x = ((leads_on pc (i.Get into cell) k (pc + 1) refl).1.to, plain_stands pc (i.Get into cell) qs bs k.place k.form tt x)
-    lays pc (i.Set source cell) qs bs k x = (((leads_on pc (i.Set source cell) k (pc + 1) refl).1.to, tables pc (i.Set source cell) k), plain_stands pc (i.Set source cell) qs bs k.place k.form tt x)
+    lays pc (i.Get into cell) qs bs k x =
+        ((leads_on pc (i.Get into cell) k (pc + 1) refl).1.to, plain_stands pc (i.Get into cell) qs bs k.place k.form tt x)
+    lays pc (i.Set source cell) qs bs k x = (
+      ((leads_on pc (i.Set source cell) k (pc + 1) refl).1.to, tables pc (i.Set source cell) k),
+      plain_stands pc
+          (i.Set source cell) qs bs k.place k.form tt x,
+    )
     lays pc i.Mark qs bs k x = ((leads_on pc i.Mark k (pc + 1) refl).1.to, plain_stands pc i.Mark qs bs k.place k.form tt x)
-    lays pc (i.Copy size buffer site) qs bs k x = (((leads_on pc (i.Copy size buffer site) k (pc + 1) refl).1.to, (tables pc (i.Copy size buffer site) k).1), plain_stands pc (i.Copy size buffer site) qs bs k.place k.form tt x)
+    lays pc (i.Copy size buffer site) qs bs k x = (
+      ((leads_on pc (i.Copy size buffer site) k (pc + 1) refl).1.to, (tables pc (i.Copy size buffer site) k).1),
+      plain_stands pc
+          (i.Copy size buffer site) qs bs k.place k.form tt x,
+    )
 
     known : (pc : ℕ) (j : Instr) → IsIn c n pc → slice_get c.instructions pc ≡ Some j → IsKnown pc j
     known pc j place h =
@@ -403,23 +345,36 @@ module _ (c : Parts) (safe : IsSafe c) (n : ℕ) where
         let e : end_of c n - pc ≡ suc (end_of c n - (pc + 1)) = omega (arith, l) in
         let m : suc pc ≡ pc + 1 = omega arith in
         ap (λ k. take k (drop pc c.instructions)) e
-        ∙ ap (λ ys. take (suc (end_of c n - (pc + 1))) ys) (drop-cons c.instructions pc j (slice_get_within c.instructions pc j h) ∙ ap (λ y. y ∷ drop (suc pc) c.instructions) (get_or_from_slice_get c.instructions pc j j h))
+        ∙ ap (λ ys. take (suc (end_of c n - (pc + 1))) ys)
+        (drop-cons c.instructions pc j (slice_get_within c.instructions pc j h) ∙ ap (λ y. y ∷ drop (suc pc) c.instructions)
+        (get_or_from_slice_get c.instructions pc j j h))
         ∙ ap (λ k. j ∷ take (end_of c n - (pc + 1)) (drop k c.instructions)) m
 
-    all_laid : (k pc : ℕ) → pc + k ≡ end_of c n → first_of c n ≤ pc → n < length c.routines → end_of c n ≤ length c.instructions → looped c (end_of c n) ≡ false
+    all_laid : (k pc : ℕ) → pc + k ≡ end_of c n → first_of c n ≤ pc → n < length c.routines → end_of c n ≤ length c.instructions
+        → looped c (end_of c n) ≡ false
         → AreLaid c message places n pc (code_from pc) × Stands pc (begins pc (code_from pc)) (blocks c n pc (code_from pc))
     all_laid zero pc e f l m free =
         let same : end_of c n ≡ pc = omega (arith, e) in
         let z : end_of c n - pc ≡ 0 = omega (arith, e) in
         let nothing : code_from pc ≡ [] = ap (λ k. take k (drop pc c.instructions)) z in
-        subst (λ js. AreLaid c message places n pc js × Stands pc (begins pc js) (blocks c n pc js)) (sym nothing)
-        (tt, inl (record { block = Ends; bs_is = refl; qs_is = refl; free = subst (λ q. looped c q ≡ false) same free; labels = λ q h less g. absurd (omega (arith, h, less, same)) }))
+        subst (λ js. AreLaid c message places n pc js × Stands pc (begins pc js) (blocks c n pc js)) (sym nothing) (
+          tt,
+          inl (record {
+            block = Ends;
+            bs_is = refl;
+            qs_is = refl;
+            free = subst (λ q. looped c q ≡ false) same free;
+            labels = λ q h less g. absurd
+                (omega (arith, h, less, same));
+          }),
+        )
     all_laid (suc k) pc e f l m free =
         let x = got c.instructions pc (omega (arith, e, m)) in
         let place : IsIn c n pc = record { routine = l; from = f; to = omega (arith, e) } in
         let rest = all_laid k (pc + 1) (omega (arith, e)) (omega (arith, f)) l m free in
         let r = lays pc x.0 (begins (pc + 1) (code_from (pc + 1))) (blocks c n (pc + 1) (code_from (pc + 1))) (known pc x.0 place x.1) rest.1 in
-        subst (λ js. AreLaid c message places n pc js × Stands pc (begins pc js) (blocks c n pc js)) (sym (code_next pc x.0 x.1 (omega (arith, e)))) ((r.0, rest.0), r.1)
+        subst (λ js. AreLaid c message places n pc js × Stands pc (begins pc js) (blocks c n pc js)) (sym (code_next pc x.0 x.1 (omega (arith, e))))
+        ((r.0, rest.0), r.1)
 
     some_block : (pc : ℕ) (qs : List ℕ) (bs : List Block) → Stands pc qs bs → 0 < length bs
     some_block pc qs bs (inl x) = subst (λ z. 0 < length z) (sym x.bs_is) (omega arith)
@@ -433,7 +388,8 @@ module _ (c : Parts) (safe : IsSafe c) (n : ℕ) where
         (r.0, some_block (first_of c n) (begins (first_of c n) (code_from (first_of c n))) (blocks c n (first_of c n) (code_from (first_of c n))) r.1)
 
 -- verified code is laid well
-pub sound_is_laid : (c : Parts) → IsCode c → IsSound c → IsSafe c → AreNumbers c → ((message places : List ℕ) (n pc t : ℕ) → IsIn c n pc → shape_at (shapes_of c) pc ≡ While t → IsBusy c message places n pc) → IsWellLaid c
+pub sound_is_laid : (c : Parts) → IsCode c → IsSound c → IsSafe c → AreNumbers c
+    → ((message places : List ℕ) (n pc t : ℕ) → IsIn c n pc → shape_at (shapes_of c) pc ≡ While t → IsBusy c message places n pc) → IsWellLaid c
 sound_is_laid c code sound safe numbers busy = record {
   divided = fits;
   laid = λ message places n l. (routine_laid c safe n message places numbers (busy message places n) l (fits n l) (free n l)).0;
@@ -444,4 +400,6 @@ sound_is_laid c code sound safe numbers busy = record {
     fits n l = let up = begin_up (lengths_of c) (suc n) (length c.routines) l in let w = code.whole in omega (arith, up, w)
 
     free : (n : ℕ) → n < length c.routines → looped c (end_of c n) ≡ false
-    free n l = ap in_loop (opens c (record { whole = code.whole; some = λ n h. (code.routines n h).some; params = λ n h. (code.routines n h).room }) sound (suc n) l)
+    free n l =
+        ap in_loop (opens c (record { whole = code.whole; some = λ n h. (code.routines n h).some; params = λ n h. (code.routines n h).room }) sound
+        (suc n) l)

@@ -1,5 +1,5 @@
 mod Sentence
+mod OpenLoops
 pub mod Laying
-mod Sound
+pub mod Sound
 mod Entry
-mod Text

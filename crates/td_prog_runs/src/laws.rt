@@ -1,15 +1,18 @@
 //! Laws. They do nothing when they are called.
 
-ghost use Rattle.td_prog_code.specs.Sentence.{ProgramRuns, ProgramIsText};
+ghost use Rattle.td_prog_code.specs.Sentence.{ProgramRuns};
 ghost use Rattle.td_prog_runs.specs.Theorem.{CodeInC, SoundCodeInC};
 
+use td_prog_steps::laws::program_agrees;
 use td_verify::laws::sound_code_is_safe;
 use td_verify_runs::laws::{run_answers, turn_takes};
 
 /// The program of code does what the code does, whatever memory gives to its loads.
 pub fn code_in_c()
     ensures { CodeInC }
-{}
+{
+    program_agrees();
+}
 
 /// The same of code that the verifier accepts.
 pub fn sound_code_in_c()
@@ -18,6 +21,7 @@ pub fn sound_code_in_c()
     sound_code_is_safe();
     run_answers();
     turn_takes();
+    code_in_c();
 }
 
 /// The sentence: the program of verified code, from its entry points.
@@ -26,8 +30,3 @@ pub fn program_runs()
 {
     sound_code_in_c();
 }
-
-/// A compiler of C accepts the program: what it names is declared, once.
-pub fn program_is_text()
-    ensures { ProgramIsText }
-{}

@@ -1,12 +1,12 @@
 -- What stays of the variables, and room. Cited by other crates.
-use Rattle.std.proofs.Common.{◌≡◌, ℕ, zero, suc, ◌+◌, ◌-◌, ◌%◌, ◌^◌, ◌<◌, ◌≤◌, true, false, List, [], ◌∷◌, refl, sym, ap, ◌∙◌, arith, slice_index, slice_set, length, map, take, length-set, ◌*◌}
-use Rattle.std.specs.Prelude.{slice_index_or}
+use Rattle.std.proofs.Common.{◌≡◌, ℕ, zero, suc, ◌+◌, ◌-◌, ◌/◌, ◌%◌, ◌^◌, ◌<◌, ◌≤◌, true, false, List, [], ◌∷◌, refl, sym, ap, ◌∙◌, arith, slice_index, slice_set, length, map, take, length-set, ◌*◌}
+use Rattle.std.specs.Prelude.{slice_index_or, nat_lt, nat_le, cond}
 use Rattle.td_num.specs.Numbers.{places_from}
-use Rattle.std.specs.Prelude.{nat_lt, nat_le}
 use Rattle.std.proofs.Math.Nat.{mod-eq_of_lt}
 use Rattle.td_num.specs.Lists.{Each}
 use Rattle.td_prog.specs.Values.{Locals}
-use Rattle.td_prog_trees.specs.Agree.{Basis, IsGood}
+use Rattle.td_prog_trees.specs.Agree.{Extent, IsWithin, IsGood}
+use Rattle.td_prog_trees.proofs.Composing.{by_cases}
 
 pub small_at : (xs : List ℕ) → Each (λ v. v < 2 ^ 64) xs → (k : ℕ) → slice_index xs k < 2 ^ 64
 small_at [] h k = omega arith
@@ -40,17 +40,24 @@ sum_is p v h = mod-eq_of_lt h
 pub cut_is : (p : ℕ) → p < 2 ^ 32 → p % 2 ^ 32 ≡ p
 cut_is p h = mod-eq_of_lt h
 
-pub room_so : (p v e : ℕ) → nat_le (p + v) e ≡ true → p ≤ e → e < 2 ^ 32 → nat_lt ((e + (2 ^ 64 - p)) % 2 ^ 64) v ≡ false
+room_so : (p v e : ℕ) → nat_le (p + v) e ≡ true → p ≤ e → e < 2 ^ 32 → nat_lt ((e + (2 ^ 64 - p)) % 2 ^ 64) v ≡ false
 room_so p v e h l m = ap (λ x. nat_lt x v) (left_is e p l m) ∙ grind arith
 
-pub room_not : (p v e : ℕ) → nat_le (p + v) e ≡ false → p ≤ e → e < 2 ^ 32 → nat_lt ((e + (2 ^ 64 - p)) % 2 ^ 64) v ≡ true
+room_not : (p v e : ℕ) → nat_le (p + v) e ≡ false → p ≤ e → e < 2 ^ 32 → nat_lt ((e + (2 ^ 64 - p)) % 2 ^ 64) v ≡ true
 room_not p v e h l m = ap (λ x. nat_lt x v) (left_is e p l m) ∙ grind arith
+
+-- the test for room: in C of what is left, in code of the position behind
+pub room_test : (p v e : ℕ) → p ≤ e → e < 2 ^ 32 → nat_lt ((e + (2 ^ 64 - p)) % 2 ^ 64) v ≡ cond (nat_le (p + v) e) false true
+room_test p v e l m =
+    by_cases (λ b. nat_lt ((e + (2 ^ 64 - p)) % 2 ^ 64) v ≡ cond b false true) (nat_le (p + v) e) (λ h. room_so p v e h l m) (λ h. room_not p v e h l m)
 
 pub has_room : (p v e : ℕ) → nat_le (p + v) e ≡ true → p + v ≤ e
 has_room p v e h = grind arith
 
-module _ (memory : ℕ → ℕ) (basis : Basis) (from to : ℕ) where
-  pub good_regs : (s : Locals) (k v : ℕ) → v < 2 ^ 64 → IsGood memory basis from to s → IsGood memory basis from to (record s { regs = slice_set s.regs k v })
+module _ (extent : Extent) where
+  open extent use {basis, to}
+
+  pub good_regs : (s : Locals) (k v : ℕ) → v < 2 ^ 64 → IsGood extent s → IsGood extent (record s { regs = slice_set s.regs k v })
   good_regs s k v l g = record {
     begun = g.begun;
     started = g.started;
@@ -64,7 +71,7 @@ module _ (memory : ℕ → ℕ) (basis : Basis) (from to : ℕ) where
     kept = g.kept;
   }
 
-  pub good_cells : (s : Locals) (k v : ℕ) → k < basis.first → v < 2 ^ 64 → IsGood memory basis from to s → IsGood memory basis from to (record s { cells = slice_set s.cells k v })
+  pub good_cells : (s : Locals) (k v : ℕ) → k < basis.first → v < 2 ^ 64 → IsGood extent s → IsGood extent (record s { cells = slice_set s.cells k v })
   good_cells s k v low l g = record {
     begun = g.begun;
     started = g.started;
@@ -85,7 +92,7 @@ module _ (memory : ℕ → ℕ) (basis : Basis) (from to : ℕ) where
     };
   }
 
-  pub good_start : (s : Locals) → IsGood memory basis from to s → IsGood memory basis from to (record s { start = s.pos })
+  pub good_start : (s : Locals) → IsGood extent s → IsGood extent (record s { start = s.pos })
   good_start s g = record {
     begun = omega (arith, g.begun, g.started);
     started = omega arith;
@@ -99,7 +106,7 @@ module _ (memory : ℕ → ℕ) (basis : Basis) (from to : ℕ) where
     kept = g.kept;
   }
 
-  pub good_pos : (s : Locals) (p : ℕ) → s.pos ≤ p → p ≤ s.end → IsGood memory basis from to s → IsGood memory basis from to (record s { pos = p })
+  pub good_pos : (s : Locals) (p : ℕ) → s.pos ≤ p → p ≤ s.end → IsGood extent s → IsGood extent (record s { pos = p })
   good_pos s p l m g = record {
     begun = g.begun;
     started = omega (arith, g.started, l);
@@ -113,7 +120,7 @@ module _ (memory : ℕ → ℕ) (basis : Basis) (from to : ℕ) where
     kept = g.kept;
   }
 
-  pub good_narrow : (s : Locals) (e : ℕ) → s.pos ≤ e → e ≤ s.end → IsGood memory basis from to s → IsGood memory basis from to (record s { outer = s.end; end = e })
+  pub good_narrow : (s : Locals) (e : ℕ) → s.pos ≤ e → e ≤ s.end → IsGood extent s → IsGood extent (record s { outer = s.end; end = e })
   good_narrow s e l m g = record {
     begun = g.begun;
     started = g.started;
@@ -127,7 +134,7 @@ module _ (memory : ℕ → ℕ) (basis : Basis) (from to : ℕ) where
     kept = g.kept;
   }
 
-  pub good_widen : (s : Locals) → IsGood memory basis from to s → IsGood memory basis from to (record s { end = s.outer })
+  pub good_widen : (s : Locals) → IsGood extent s → IsGood extent (record s { end = s.outer })
   good_widen s g = record {
     begun = g.begun;
     started = g.started;
@@ -141,8 +148,68 @@ module _ (memory : ℕ → ℕ) (basis : Basis) (from to : ℕ) where
     kept = g.kept;
   }
 
-  pub start_small : (s : Locals) → to < 2 ^ 32 → IsGood memory basis from to s → s.start < 2 ^ 32
-  start_small s l g = omega (arith, l, g.started, g.within, g.window, g.short)
+  -- the variables after a byte or an element was taken
+  pub good_passed : (s : Locals) (w v a b : ℕ) → 0 < w → s.pos + w ≤ s.end → IsGood extent s
+      → IsGood extent (record s {
+        next = (s.pos + w - 1) / 8 + 1;
+        held = extent.memory
+            ((s.pos + w - 1) / 8);
+        number = v;
+        pos = s.pos + w;
+        most = a;
+        room = b;
+      })
+  good_passed s w v a b some l g = record {
+    begun = g.begun;
+    started = omega (arith, g.started);
+    within = l;
+    window = g.window;
+    short = g.short;
+    ahead = omega (arith, some);
+    held = λ k e. let q : (s.pos + w - 1) / 8 ≡ k = omega (arith, e) in ap extent.memory q;
+    regs = g.regs;
+    cells = g.cells;
+    kept = g.kept;
+  }
 
-  pub end_small : (s : Locals) → to < 2 ^ 32 → IsGood memory basis from to s → s.end < 2 ^ 32
-  end_small s l g = omega (arith, l, g.window, g.short)
+  pub good_counted : (s : Locals) (a b v : ℕ) → IsGood extent s → IsGood extent (record s { most = a; room = b; number = v })
+  good_counted s a b v g = record {
+    begun = g.begun;
+    started = g.started;
+    within = g.within;
+    window = g.window;
+    short = g.short;
+    ahead = g.ahead;
+    held = g.held;
+    regs = g.regs;
+    cells = g.cells;
+    kept = g.kept;
+  }
+
+  -- the variables after a number was taken
+  pub good_taken : (s : Locals) (w into v : ℕ) → 0 < w → s.pos + w ≤ s.end → v < 2 ^ 64 → IsGood extent s
+      → IsGood extent (record s {
+        next = (s.pos + w - 1) / 8 + 1;
+        held = extent.memory
+            ((s.pos + w - 1) / 8);
+        regs = slice_set s.regs into v;
+        pos = s.pos + w;
+      })
+  good_taken s w into v some l fits g = record {
+    begun = g.begun;
+    started = omega (arith, g.started);
+    within = l;
+    window = g.window;
+    short = g.short;
+    ahead = omega (arith, some);
+    held = λ k e. let q : (s.pos + w - 1) / 8 ≡ k = omega (arith, e) in ap extent.memory q;
+    regs = set_small s.regs into v fits g.regs;
+    cells = g.cells;
+    kept = g.kept;
+  }
+
+  pub start_small : (s : Locals) → IsWithin extent → IsGood extent s → s.start < 2 ^ 32
+  start_small s l g = omega (arith, l.short, l.inside, g.started, g.within, g.window, g.short)
+
+  pub end_small : (s : Locals) → IsWithin extent → IsGood extent s → s.end < 2 ^ 32
+  end_small s l g = omega (arith, l.short, l.inside, g.window, g.short)

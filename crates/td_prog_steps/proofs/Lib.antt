@@ -1,8 +1,11 @@
 pub mod Goods
 mod Values
+mod Activation
+mod Steps
 mod Plain
 mod Loading
-mod Scanning
+mod Zeros
+mod Zeroterm
 mod Copying
 mod Loops
 mod Calling

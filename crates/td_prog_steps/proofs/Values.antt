@@ -33,7 +33,8 @@ module _ (places : List ℕ) (s : Locals) (a b : Expr) (m n : ℕ) (ea : value p
   wide : nat_lt n 64 ≡ false → nat_le 64 n ≡ true
   wide h = grind arith
 
-  if_zero : (x y : ℕ) (v : Bool) → nat_eq n 0 ≡ v → x ≡ y → cond (nat_eq (bit v) 0) (cond (nat_eq n 0) None (Some x)) (Some 0) ≡ Some (cond (nat_eq n 0) 0 y)
+  if_zero : (x y : ℕ) (v : Bool) → nat_eq n 0 ≡ v → x ≡ y
+      → cond (nat_eq (bit v) 0) (cond (nat_eq n 0) None (Some x)) (Some 0) ≡ Some (cond (nat_eq n 0) 0 y)
   if_zero x y true e f = ap (λ v. Some (cond v 0 y)) (sym e)
   if_zero x y false e f = ap (λ v. cond v None (Some x)) e ∙ ap Some f ∙ ap (λ v. Some (cond v 0 y)) (sym e)
 
@@ -51,20 +52,28 @@ module _ (places : List ℕ) (s : Locals) (x y : ℕ) where
   either : (v : Bool) → nat_eq x y ≡ v → value places (cond (nat_eq x y) (reg x) (Binary small.Or (reg x) (reg y))) s ≡ Some (bit_or m n)
   either true e =
       let q = eq_is x y e in
-      ap (λ b. value places (cond b (reg x) (Binary small.Or (reg x) (reg y))) s) e ∙ ap Some (sym (or_self m) ∙ ap (λ k. bit_or m (slice_index s.regs k)) q)
+      ap (λ b. value places (cond b (reg x) (Binary small.Or (reg x) (reg y))) s) e ∙ ap Some
+      (sym (or_self m) ∙ ap (λ k. bit_or m (slice_index s.regs k)) q)
   either false e = ap (λ b. value places (cond b (reg x) (Binary small.Or (reg x) (reg y))) s) e
 
   pub operated_is : (o : ℕ) → o ≤ 13 → value places (code.operated o x y) s ≡ Some (operated o m n)
   operated_is zero h = refl
   operated_is (suc zero) h = refl
   operated_is (suc (suc zero)) h = refl
-  operated_is (suc (suc (suc zero))) h = zero_choice places s (reg x) (reg y) m n refl refl (operated 3 m n) small.Div (λ v e. if_zero places s (reg x) (reg y) m n refl refl (m / n) (m / n) v e refl)
-  operated_is (suc (suc (suc (suc zero)))) h = zero_choice places s (reg x) (reg y) m n refl refl (operated 4 m n) small.Rem (λ v e. if_zero places s (reg x) (reg y) m n refl refl (m % n) (m % n) v e refl)
+  operated_is (suc (suc (suc zero))) h =
+      zero_choice places s (reg x) (reg y) m n refl refl (operated 3 m n) small.Div
+      (λ v e. if_zero places s (reg x) (reg y) m n refl refl (m / n) (m / n) v e refl)
+  operated_is (suc (suc (suc (suc zero)))) h =
+      zero_choice places s (reg x) (reg y) m n refl refl (operated 4 m n) small.Rem
+      (λ v e. if_zero places s (reg x) (reg y) m n refl refl (m % n) (m % n) v e refl)
   operated_is (suc (suc (suc (suc (suc zero))))) h = refl
   operated_is (suc (suc (suc (suc (suc (suc zero)))))) h = either (nat_eq x y) refl
   operated_is (suc (suc (suc (suc (suc (suc (suc zero))))))) h = refl
-  operated_is (suc (suc (suc (suc (suc (suc (suc (suc zero)))))))) h = wide_choice places s (reg x) (reg y) m n refl refl (operated 8 m n) small.Shl (λ v e. if_wide places s (reg x) (reg y) m n refl refl ((m * 2 ^ n) % 2 ^ 64) v e)
-  operated_is (suc (suc (suc (suc (suc (suc (suc (suc (suc zero))))))))) h = wide_choice places s (reg x) (reg y) m n refl refl (operated 9 m n) small.Shr (λ v e. if_wide places s (reg x) (reg y) m n refl refl (m / 2 ^ n) v e)
+  operated_is (suc (suc (suc (suc (suc (suc (suc (suc zero)))))))) h =
+      wide_choice places s (reg x) (reg y) m n refl refl (operated 8 m n) small.Shl
+      (λ v e. if_wide places s (reg x) (reg y) m n refl refl ((m * 2 ^ n) % 2 ^ 64) v e)
+  operated_is (suc (suc (suc (suc (suc (suc (suc (suc (suc zero))))))))) h =
+      wide_choice places s (reg x) (reg y) m n refl refl (operated 9 m n) small.Shr (λ v e. if_wide places s (reg x) (reg y) m n refl refl (m / 2 ^ n) v e)
   operated_is (suc (suc (suc (suc (suc (suc (suc (suc (suc (suc zero)))))))))) h = refl
   operated_is (suc (suc (suc (suc (suc (suc (suc (suc (suc (suc (suc zero))))))))))) h = refl
   operated_is (suc (suc (suc (suc (suc (suc (suc (suc (suc (suc (suc (suc zero)))))))))))) h = refl

@@ -1,32 +1,16 @@
 -- Code whose blocks are laid well (draft; each follows of what the verifier promises).
 use Rattle.td_prog_trees.specs.Agree.{Basis}
-use Rattle.std.specs.Prelude.{◌≡◌, ◌⊎◌, ℕ, ◌+◌, ◌*◌, ◌^◌, ◌<◌, ◌≤◌, ◌&&◌, List, [], ◌∷◌, nat_lt, nat_eq, true, length, slice_range, slice_get, slice_index, Some}
+use Rattle.std.specs.Prelude.{◌≡◌, ℕ, ◌+◌, ◌*◌, ◌^◌, ◌<◌, ◌≤◌, ◌&&◌, List, [], ◌∷◌, nat_lt, nat_eq, true, length, slice_range, slice_get, slice_index, Some}
 use Rattle.td_ir.specs.declared.instructions.Instr.{Instr}
 use Rattle.td_ir.specs.declared.instructions.Instr.TheVariants as i
 use Rattle.td_ir.specs.declared.tables.Parts.{Parts}
 use Rattle.td_ir.specs.Tables.{routine_of, first_of, end_of}
 use Rattle.td_ir.specs.State.{State, Turned}
 use Rattle.td_ir.specs.Run.{block}
-use Rattle.td_prog.specs.Syntax.{Block, Ends, Let, Store, Byte, Member, Load, When, While, Label, Goto, Fail, Return, Ask, Call}
+use Rattle.td_prog.specs.Syntax.{Block}
+use Rattle.td_prog.specs.Text.{HasLabel}
 use Rattle.td_verify.specs.Operands.{IsWidth, IsCellMap}
 use Rattle.td_prog_code.specs.Program.{blocks}
-
--- a label stands in a block, not in an inner one
-abbrev pub HasLabel : ℕ → Block → Type 0
-HasLabel l Ends = ⊥
-HasLabel l (Let x e rest) = HasLabel l rest
-HasLabel l (Store k e rest) = HasLabel l rest
-HasLabel l (Byte k e f rest) = HasLabel l rest
-HasLabel l (Member x e numbers rest) = HasLabel l rest
-HasLabel l (Load rest) = HasLabel l rest
-HasLabel l (When e inner rest) = HasLabel l rest
-HasLabel l (While e inner rest) = HasLabel l rest
-HasLabel l (Label m rest) = (l ≡ m) ⊎ HasLabel l rest
-HasLabel l (Goto m rest) = HasLabel l rest
-HasLabel l (Fail reason e ty field rest) = HasLabel l rest
-HasLabel l (Return e rest) = HasLabel l rest
-HasLabel l (Ask x helper es buffers rest) = HasLabel l rest
-HasLabel l (Call first params callee cells buffers ty field rest) = HasLabel l rest
 
 -- where the blocks begin that stand before a place: the instructions behind an Again begin one of their own
 abbrev pub tail_of : List ℕ → List ℕ
@@ -48,12 +32,14 @@ pub record OwnFits (c : Parts) (basis : Basis) (n : ℕ) (places own : List ℕ)
   pub there : (b : ℕ) → b < length (routine_of c n).buffers → slice_index own b < length basis.lengths
   pub cells : (k : ℕ) → k < (routine_of c n).cells → slice_index places k < basis.first
   pub place : (b : ℕ) → b < length (routine_of c n).buffers → slice_index places ((routine_of c n).cells + 2 * b) ≡ basis.first + 2 * slice_index own b
-  pub count : (b : ℕ) → b < length (routine_of c n).buffers → slice_index places ((routine_of c n).cells + 2 * b + 1) ≡ basis.first + 2 * slice_index own b + 1
+  pub count : (b : ℕ) → b < length (routine_of c n).buffers
+      → slice_index places ((routine_of c n).cells + 2 * b + 1) ≡ basis.first + 2 * slice_index own b + 1
 
 -- a turn that ends takes a byte, and leaves the end
 abbrev pub IsBusy : (c : Parts) → (message places : List ℕ) → (n pc : ℕ) → Type 0
 IsBusy c message places n pc =
-    (s t : State) → s.pos ≤ s.end → s.end ≤ s.outer → (block c message n places (pc + 1) s).way ≡ Turned t → (nat_lt s.pos t.pos && nat_eq t.end s.end) ≡ true
+    (s t : State) → s.pos ≤ s.end → s.end ≤ s.outer → (block c message n places (pc + 1) s).way ≡ Turned t →
+    (nat_lt s.pos t.pos && nat_eq t.end s.end) ≡ true
 
 module _ (c : Parts) (message places : List ℕ) (n : ℕ) where
   -- a loop's body stands first, and next what is behind it, which begins at the target
@@ -95,7 +81,8 @@ module _ (c : Parts) (message places : List ℕ) (n : ℕ) where
 -- all routines of code, on each message
 pub record IsWellLaid (c : Parts) : Type 0 where
   pub divided : (n : ℕ) → n < length c.routines → end_of c n ≤ length c.instructions
-  pub laid : (message places : List ℕ) (n : ℕ) → n < length c.routines → AreLaid c message places n (first_of c n) (slice_range c.instructions (first_of c n) (end_of c n))
+  pub laid : (message places : List ℕ) (n : ℕ) → n < length c.routines
+      → AreLaid c message places n (first_of c n) (slice_range c.instructions (first_of c n) (end_of c n))
   pub some : (n : ℕ) → n < length c.routines → 0 < length (blocks c n (first_of c n) (slice_range c.instructions (first_of c n) (end_of c n)))
 
 -- constants are numbers of 64 bits, as their type has it

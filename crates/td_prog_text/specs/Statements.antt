@@ -5,7 +5,7 @@ use Rattle.td_core.specs.declared.outcome.Reason.{Reason}
 use Rattle.td_core.specs.declared.outcome.Reason.TheVariants.{NotEnough, Impossible, ListSize, Action, Constraint, Padding}
 use Rattle.td_core.specs.declared.outcome.Spot.{Spot}
 use Rattle.td_core.specs.declared.outcome.Spot.TheVariants.{Field, Where, Switch}
-use Rattle.td_prog.specs.Syntax.{Var, Reg, Word, Block, Ends, Let, Store, Byte, Member, Load, When, While, Label, Goto, Fail, Return, Ask, Call}
+use Rattle.td_prog.specs.Syntax.{Var, Reg, Word, Block, Ends, Assign, Store, Byte, Member, Load, If, While, Label, Goto, Fail, Return, CallHelper, Call}
 use Rattle.td_prog_text.specs.Expressions.{variable, numeral, expression, pointed}
 
 abbrev pub indented : ℕ → List ℕ → List ℕ
@@ -26,18 +26,18 @@ reason Padding = codes "TD_PADDING"
 -- whether a goto leads to a label
 abbrev pub goes : ℕ → Block → Bool
 goes l Ends = false
-goes l (Let x e rest) = goes l rest
+goes l (Assign x e rest) = goes l rest
 goes l (Store k e rest) = goes l rest
 goes l (Byte b e f rest) = goes l rest
 goes l (Member x y numbers rest) = goes l rest
 goes l (Load rest) = goes l rest
-goes l (When e inner rest) = goes l inner || goes l rest
+goes l (If e inner rest) = goes l inner || goes l rest
 goes l (While e inner rest) = goes l inner || goes l rest
 goes l (Label m rest) = goes l rest
 goes l (Goto m rest) = nat_eq l m || goes l rest
 goes l (Fail r e ty field rest) = goes l rest
 goes l (Return e rest) = goes l rest
-goes l (Ask x helper es buffers rest) = goes l rest
+goes l (CallHelper x helper es buffers rest) = goes l rest
 goes l (Call first params routine cells buffers ty field rest) = goes l rest
 
 abbrev pub cells_text : List ℕ → List ℕ
@@ -73,7 +73,7 @@ module _ (names helpers routines : List (List ℕ)) (whole : Block) where
 
   abbrev pub statements : ℕ → Block → List ℕ
   statements depth Ends = []
-  statements depth (Let x e rest) = indented depth (variable x ++ codes " = " ++ expression e ++ codes ";") ++ statements depth rest
+  statements depth (Assign x e rest) = indented depth (variable x ++ codes " = " ++ expression e ++ codes ";") ++ statements depth rest
   statements depth (Store k e rest) = indented depth (pointed k ++ codes " = " ++ expression e ++ codes ";") ++ statements depth rest
   statements depth (Byte b e f rest) =
       indented depth (codes "b" ++ decimal b ++ codes "[" ++ expression e ++ codes "] = (uint8_t)(" ++ expression f ++ codes ");") ++ statements depth rest
@@ -84,7 +84,7 @@ module _ (names helpers routines : List (List ℕ)) (whole : Block) where
   statements depth (Load rest) =
       indented depth (codes "run->held = TD_LOAD(&run->words[" ++ variable Word ++ codes "]);")
       ++ indented depth (codes "run->next = " ++ variable Word ++ codes " + 1;") ++ statements depth rest
-  statements depth (When e inner rest) =
+  statements depth (If e inner rest) =
       indented depth (codes "if (" ++ expression e ++ codes ") {") ++ statements (depth + 1) inner ++ indented depth (codes "}") ++ statements depth rest
   statements depth (While e inner rest) =
       indented depth (codes "while (" ++ expression e ++ codes ") {") ++ statements (depth + 1) inner ++ indented depth (codes "}") ++ statements depth rest
@@ -93,7 +93,7 @@ module _ (names helpers routines : List (List ℕ)) (whole : Block) where
   statements depth (Fail r e ty field rest) =
       indented depth (codes "return td_fail(run->outcome, " ++ reason r ++ codes ", " ++ expression e ++ codes ", " ++ site ty field) ++ statements depth rest
   statements depth (Return e rest) = indented depth (codes "return " ++ expression e ++ codes ";") ++ statements depth rest
-  statements depth (Ask x helper es buffers rest) =
+  statements depth (CallHelper x helper es buffers rest) =
       indented depth (variable x ++ codes " = " ++ slice_index_or helpers helper [] ++ codes "(run" ++ listed (map expression es) ++ buffers_text buffers ++ codes ");")
       ++ statements depth rest
   statements depth (Call first params routine cells buffers ty field rest) =

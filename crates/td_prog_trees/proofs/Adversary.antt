@@ -1,5 +1,5 @@
 -- From memory that stays to memory that gives any words. Cited by other crates.
-use Rattle.std.proofs.Common.{◌≡◌, ℕ, zero, suc, ◌+◌, ◌*◌, ◌/◌, ◌%◌, ◌^◌, ◌<◌, ◌≤◌, Bool, true, false, cond, List, [], ◌∷◌, map, refl, sym, ap, ◌∙◌, subst, arith, slice_index}
+use Rattle.std.proofs.Common.{◌≡◌, ℕ, zero, suc, ◌+◌, ◌*◌, ◌/◌, ◌%◌, ◌^◌, ◌<◌, ◌≤◌, cond, List, [], ◌∷◌, map, refl, sym, ap, ◌∙◌, subst, arith, slice_index}
 use Rattle.std.specs.Prelude.{nat_eq, nat_lt}
 use Rattle.std.specs.List.{All}
 use Rattle.std.proofs.lemmas.Bool.{ne_eqb, eq-eqb, ltb-false}
@@ -11,10 +11,10 @@ use Rattle.td_stream.specs.declared.load.Load.{Load}
 use Rattle.td_stream.specs.Loads.{IsRising}
 use Rattle.td_stream.proofs.Digits.{shifted}
 use Rattle.td_prog.specs.Tree.{Tree, Done, Loads, Plays, loaded, Holds}
-use Rattle.td_prog.specs.Means.{Out}
 use Rattle.td_prog_trees.specs.Memory.{AreWords}
 use Rattle.td_prog_trees.specs.Agree.{RisesFrom, fresh}
 use Rattle.td_prog_trees.specs.Laws.{PlaysRise}
+use Rattle.td_prog_trees.proofs.Composing.{by_cases}
 
 rises_on : (m k : ℕ) (ws : List ℕ) → k ≤ m → RisesFrom m ws → RisesFrom k ws
 rises_on m k [] h r = tt
@@ -22,25 +22,25 @@ rises_on m k (w ∷ ws) h r = (omega (arith, h, r.0), r.1)
 
 pub fresh_rises : (next : ℕ) (ps : List ℕ) → RisesFrom next (fresh next ps)
 fresh_rises next [] = tt
-fresh_rises next (p ∷ ps) = by (nat_lt (p / 8) next) refl (fresh_rises next ps) (fresh_rises (p / 8 + 1) ps)
-  where
-    by : (b : Bool) → nat_lt (p / 8) next ≡ b → RisesFrom next (fresh next ps) → RisesFrom (p / 8 + 1) (fresh (p / 8 + 1) ps) → RisesFrom next (cond b (fresh next ps) (p / 8 ∷ fresh (p / 8 + 1) ps))
-    by true e h k = h
-    by false e h k = (ltb-false (p / 8) next e, k)
+fresh_rises next (p ∷ ps) =
+    by_cases (λ b. RisesFrom next (cond b (fresh next ps) (p / 8 ∷ fresh (p / 8 + 1) ps))) (nat_lt (p / 8) next)
+    (λ e. fresh_rises next ps) (λ e. (ltb-false (p / 8) next e, fresh_rises (p / 8 + 1) ps))
 
 -- memory that has another word in one place
 abbrev changed : (ℕ → ℕ) → ℕ → ℕ → ℕ → ℕ
 changed memory word v i = cond (nat_eq i word) v (memory i)
 
 -- memories that differ below the words that are loaded give the same
-same_loaded : {X : Type 0} (memory other : ℕ → ℕ) (t : Tree X) (m : ℕ) → ((i : ℕ) → m ≤ i → memory i ≡ other i) → RisesFrom m (loaded other t) → loaded memory t ≡ loaded other t
+same_loaded : {X : Type 0} (memory other : ℕ → ℕ) (t : Tree X) (m : ℕ) → ((i : ℕ) → m ≤ i → memory i ≡ other i) → RisesFrom m (loaded other t)
+    → loaded memory t ≡ loaded other t
 same_loaded memory other (Done x) m h r = refl
 same_loaded memory other (Loads word k) m h r =
     ap (λ v. word ∷ loaded memory (k v)) (h word r.0)
     ∙ ap (λ ws. word ∷ ws) (same_loaded memory other (k (other word)) (word + 1) (λ i l. h i (let q = r.0 in omega (arith, l, q))) r.1)
 
 -- where on each memory that stays the loaded words rise, they do so in each play
-pub play_rises : {X : Type 0} (t : Tree X) (loads : List Load) (y : X) (m : ℕ) → ((memory : ℕ → ℕ) → AreWords memory → RisesFrom m (loaded memory t)) → Plays t loads y → Each (λ (l : Load). l.value < 2 ^ 64) loads
+pub play_rises : {X : Type 0} (t : Tree X) (loads : List Load) (y : X) (m : ℕ) → ((memory : ℕ → ℕ) → AreWords memory → RisesFrom m (loaded memory t))
+    → Plays t loads y → Each (λ (l : Load). l.value < 2 ^ 64) loads
     → RisesFrom m (map (λ (l : Load). l.word) loads)
 play_rises (Done x) [] y m h p s = tt
 play_rises (Done x) (l ∷ loads) y m h p s = absurd p
@@ -56,19 +56,18 @@ play_rises (Loads word k) (l ∷ loads) y m h p s =
     later memory small =
         let other = changed memory word l.value in
         let same : other word ≡ l.value = ap (λ b. cond b l.value (memory word)) (eq-eqb word word refl) in
-        let wordy : AreWords other = λ i. by i (nat_eq i word) in
+        let wordy : AreWords other = λ i. by_cases (λ b. cond b l.value (memory i) < 2 ^ 64) (nat_eq i word) (λ e. s.0) (λ e. small i) in
         let r : RisesFrom (word + 1) (loaded other (k l.value)) = subst (λ v. RisesFrom (word + 1) (loaded other (k v))) same (h other wordy).1 in
         subst (λ ws. RisesFrom (word + 1) ws)
-        (sym (same_loaded memory other (k l.value) (word + 1) (λ i le. sym (ap (λ b. cond b l.value (memory i)) (ne_eqb i word (λ q. omega (arith, le, q))))) r)) r
-      where
-        by : (i : ℕ) (b : Bool) → cond b l.value (memory i) < 2 ^ 64
-        by i true = s.0
-        by i false = small i
+        (sym (same_loaded memory other (k l.value) (word + 1)
+        (λ i le. sym (ap (λ b. cond b l.value (memory i)) (ne_eqb i word (λ q. omega (arith, le, q))))) r)) r
 
 -- loads of rising words
 each_above : (loads : List Load) (m k : ℕ) → k < m → RisesFrom m (map (λ (l : Load). l.word) loads) → All (λ (l : Load). k < l.word) loads
 each_above [] m k h r = All-nil (λ (l : Load). k < l.word)
-each_above (l ∷ loads) m k h r = All-cons (λ (l : Load). k < l.word) l loads (let q = r.0 in omega (arith, h, q)) (each_above loads (l.word + 1) k (let q = r.0 in omega (arith, h, q)) r.1)
+each_above (l ∷ loads) m k h r =
+    All-cons (λ (l : Load). k < l.word) l loads (let q = r.0 in omega (arith, h, q))
+    (each_above loads (l.word + 1) k (let q = r.0 in omega (arith, h, q)) r.1)
 
 pub loads_rise : (loads : List Load) (m : ℕ) → RisesFrom m (map (λ (l : Load). l.word) loads) → IsRising loads
 loads_rise [] m r = tt
@@ -84,13 +83,11 @@ memory_of (l ∷ loads) b i = cond (nat_eq i l.word) l.value (memory_of loads b 
 
 pub memory_wordy : (loads : List Load) (b : List ℕ) → AreBytes b → Each (λ (l : Load). l.value < 2 ^ 64) loads → AreWords (memory_of loads b)
 memory_wordy [] b h s i = rising_small b h (8 * i) 8
-memory_wordy (l ∷ loads) b h s i = by (nat_eq i l.word) (memory_wordy loads b h s.1 i)
-  where
-    by : (v : Bool) → memory_of loads b i < 2 ^ 64 → cond v l.value (memory_of loads b i) < 2 ^ 64
-    by true k = s.0
-    by false k = k
+memory_wordy (l ∷ loads) b h s i =
+    by_cases (λ v. cond v l.value (memory_of loads b i) < 2 ^ 64) (nat_eq i l.word) (λ e. s.0) (λ e. memory_wordy loads b h s.1 i)
 
-holds_more : (loads : List Load) (b : List ℕ) (x : Load) (m : ℕ) → x.word < m → RisesFrom m (map (λ (l : Load). l.word) loads) → (rest : List Load) → Holds (memory_of rest b) loads → Holds (memory_of (x ∷ rest) b) loads
+holds_more : (loads : List Load) (b : List ℕ) (x : Load) (m : ℕ) → x.word < m → RisesFrom m (map (λ (l : Load). l.word) loads) → (rest : List Load)
+    → Holds (memory_of rest b) loads → Holds (memory_of (x ∷ rest) b) loads
 holds_more [] b x m h r rest k = tt
 holds_more (l ∷ loads) b x m h r rest k = (
   ap (λ v. cond v x.value (memory_of rest b l.word)) (ne_eqb l.word x.word (λ e. let q = r.0 in omega (arith, e, h, q))) ∙ k.0,

@@ -6,41 +6,34 @@ use Rattle.td_ir.specs.State.{State, Way, Returned, Turned, Failed, Stuck, Exit,
 use Rattle.td_ir.specs.Run.{again, again_by}
 use Rattle.td_prog.specs.Tree.{Tree, Done, Loads, bind, answer, loaded}
 use Rattle.td_prog.specs.Means.{Out}
-use Rattle.td_prog_trees.specs.Agree.{Basis, fresh, behind, IsForward, IsReturn, IsFailure, AgreesBy, Agrees}
+use Rattle.td_prog_trees.specs.Agree.{Extent, fresh, behind, IsForward, IsReturn, IsFailure, AgreesBy, Agrees}
 
-branch : {X : Type 0} (P : X → Type 0) (v : Bool) (x y : X) → P x → P y → P (cond v x y)
-branch P true x y a b = a
-branch P false x y a b = b
+-- what holds where a test succeeds and where it fails
+pub by_cases : (P : Bool → Type 0) (b : Bool) → (b ≡ true → P true) → (b ≡ false → P false) → P b
+by_cases P true h k = h refl
+by_cases P false h k = k refl
 
 pub fresh_append : (next : ℕ) (xs ys : List ℕ) → fresh next (xs ++ ys) ≡ fresh next xs ++ fresh (behind next xs) ys
 fresh_append next [] ys = refl
-fresh_append next (p ∷ ps) ys = go (nat_lt (p / 8) next) (fresh_append next ps ys) (fresh_append (p / 8 + 1) ps ys)
-  where
-    go : (b : Bool) → fresh next (ps ++ ys) ≡ fresh next ps ++ fresh (behind next ps) ys
-        → fresh (p / 8 + 1) (ps ++ ys) ≡ fresh (p / 8 + 1) ps ++ fresh (behind (p / 8 + 1) ps) ys
-        → cond b (fresh next (ps ++ ys)) (p / 8 ∷ fresh (p / 8 + 1) (ps ++ ys))
-        ≡ cond b (fresh next ps) (p / 8 ∷ fresh (p / 8 + 1) ps) ++ fresh (cond b (behind next ps) (behind (p / 8 + 1) ps)) ys
-    go true h k = h
-    go false h k = ap (λ ws. p / 8 ∷ ws) k
+fresh_append next (p ∷ ps) ys =
+    by_cases
+    (λ b.
+    cond b (fresh next (ps ++ ys)) (p / 8 ∷ fresh (p / 8 + 1) (ps ++ ys))
+    ≡ cond b (fresh next ps) (p / 8 ∷ fresh (p / 8 + 1) ps) ++ fresh (cond b (behind next ps) (behind (p / 8 + 1) ps)) ys)
+    (nat_lt (p / 8) next) (λ e. fresh_append next ps ys) (λ e. ap (λ ws. p / 8 ∷ ws) (fresh_append (p / 8 + 1) ps ys))
 
 pub behind_append : (next : ℕ) (xs ys : List ℕ) → behind next (xs ++ ys) ≡ behind (behind next xs) ys
 behind_append next [] ys = refl
-behind_append next (p ∷ ps) ys = go (nat_lt (p / 8) next) (behind_append next ps ys) (behind_append (p / 8 + 1) ps ys)
-  where
-    go : (b : Bool) → behind next (ps ++ ys) ≡ behind (behind next ps) ys
-        → behind (p / 8 + 1) (ps ++ ys) ≡ behind (behind (p / 8 + 1) ps) ys
-        → cond b (behind next (ps ++ ys)) (behind (p / 8 + 1) (ps ++ ys))
-        ≡ behind (cond b (behind next ps) (behind (p / 8 + 1) ps)) ys
-    go true h k = h
-    go false h k = k
+behind_append next (p ∷ ps) ys =
+    by_cases
+    (λ b. cond b (behind next (ps ++ ys)) (behind (p / 8 + 1) (ps ++ ys)) ≡ behind (cond b (behind next ps) (behind (p / 8 + 1) ps)) ys)
+    (nat_lt (p / 8) next) (λ e. behind_append next ps ys) (λ e. behind_append (p / 8 + 1) ps ys)
 
 -- forward places lead behind their last one
 behind_place : (next p : ℕ) → next ≤ p / 8 + 1 → (ps : List ℕ) → cond (nat_lt (p / 8) next) (behind next ps) (behind (p / 8 + 1) ps) ≡ behind (p / 8 + 1) ps
-behind_place next p l ps = go (nat_lt (p / 8) next) refl
-  where
-    go : (b : Bool) → nat_lt (p / 8) next ≡ b → cond b (behind next ps) (behind (p / 8 + 1) ps) ≡ behind (p / 8 + 1) ps
-    go true e = let h = ltb-true (p / 8) next e in let same : next ≡ p / 8 + 1 = omega (arith, h, l) in ap (λ k. behind k ps) same
-    go false e = refl
+behind_place next p l ps =
+    by_cases (λ b. cond b (behind next ps) (behind (p / 8 + 1) ps) ≡ behind (p / 8 + 1) ps) (nat_lt (p / 8) next)
+    (λ e. let h = ltb-true (p / 8) next e in let same : next ≡ p / 8 + 1 = omega (arith, h, l) in ap (λ k. behind k ps) same) (λ e. refl)
 
 pub forward_append : (to next : ℕ) (xs ys : List ℕ) → IsForward to next xs → IsForward to (behind next xs) ys → IsForward to next (xs ++ ys)
 forward_append to next [] ys h k = k
@@ -54,11 +47,14 @@ pub answer_bind : {X Y : Type 0} (memory : ℕ → ℕ) (t : Tree X) (f : X → 
 answer_bind memory (Done x) f = refl
 answer_bind memory (Loads word k) f = answer_bind memory (k (memory word)) f
 
-pub loaded_bind : {X Y : Type 0} (memory : ℕ → ℕ) (t : Tree X) (f : X → Tree Y) → loaded memory (bind t f) ≡ loaded memory t ++ loaded memory (f (answer memory t))
+pub loaded_bind : {X Y : Type 0} (memory : ℕ → ℕ) (t : Tree X) (f : X → Tree Y)
+    → loaded memory (bind t f) ≡ loaded memory t ++ loaded memory (f (answer memory t))
 loaded_bind memory (Done x) f = refl
 loaded_bind memory (Loads word k) f = ap (λ ws. word ∷ ws) (loaded_bind memory (k (memory word)) f)
 
-module _ (memory : ℕ → ℕ) (basis : Basis) (from to : ℕ) where
+module _ (extent : Extent) where
+  open extent use {memory, to}
+
   -- a tree y that loads the words of these places, and then is as x
   pub record Leads (next next' : ℕ) (y x : Tree Out) (touched : List ℕ) : Type 0 where
     pub same : answer memory y ≡ answer memory x
@@ -66,17 +62,21 @@ module _ (memory : ℕ → ℕ) (basis : Basis) (from to : ℕ) where
     pub behind_them : behind next touched ≡ next'
     pub forward : IsForward to next touched
 
-  both_words : (next next' : ℕ) (y x : Tree Out) (touched more : List ℕ) → Leads next next' y x touched → loaded memory x ≡ fresh next' more → loaded memory y ≡ fresh next (touched ++ more)
+  both_words : (next next' : ℕ) (y x : Tree Out) (touched more : List ℕ) → Leads next next' y x touched → loaded memory x ≡ fresh next' more
+      → loaded memory y ≡ fresh next (touched ++ more)
   both_words next next' y x touched more l h =
       l.words ∙ ap (λ ws. fresh next touched ++ ws) (h ∙ ap (λ k. fresh k more) (sym l.behind_them)) ∙ sym (fresh_append next touched more)
 
-  both_forward : (next next' : ℕ) (y x : Tree Out) (touched more : List ℕ) → Leads next next' y x touched → IsForward to next' more → IsForward to next (touched ++ more)
+  both_forward : (next next' : ℕ) (y x : Tree Out) (touched more : List ℕ) → Leads next next' y x touched → IsForward to next' more
+      → IsForward to next (touched ++ more)
   both_forward next next' y x touched more l h = forward_append to next touched more l.forward (subst (λ k. IsForward to k more) (sym l.behind_them) h)
 
-  after_by : (next next' : ℕ) (y x : Tree Out) (touched more : List ℕ) (w : Way) → Leads next next' y x touched → AgreesBy memory basis from to next' x more w → AgreesBy memory basis from to next y (touched ++ more) w
+  after_by : (next next' : ℕ) (y x : Tree Out) (touched more : List ℕ) (w : Way) → Leads next next' y x touched → AgreesBy extent next' x more w
+      → AgreesBy extent next y (touched ++ more) w
   after_by next next' y x touched more (Returned pos cells) l h =
       let e : behind next' more ≡ behind next (touched ++ more) = ap (λ k. behind k more) (sym l.behind_them) ∙ sym (behind_append next touched more) in (
-        subst (λ o. IsReturn memory basis from to (behind next (touched ++ more)) pos cells o) (sym l.same) (subst (λ k. IsReturn memory basis from to k pos cells (answer memory x)) e h.0),
+        subst (λ o. IsReturn extent (behind next (touched ++ more)) pos cells o) (sym l.same)
+            (subst (λ k. IsReturn extent k pos cells (answer memory x)) e h.0),
         both_words next next' y x touched more l h.1,
         both_forward next next' y x touched more l h.2,
       )
@@ -88,27 +88,31 @@ module _ (memory : ℕ → ℕ) (basis : Basis) (from to : ℕ) where
   )
   after_by next next' y x touched more Stuck l h = tt
 
-  pub agrees_after : (next next' : ℕ) (y x : Tree Out) (touched : List ℕ) (steps : ℕ) (e : Exit) → Leads next next' y x touched → Agrees memory basis from to next' x e → Agrees memory basis from to next y (after touched steps e)
+  pub agrees_after : (next next' : ℕ) (y x : Tree Out) (touched : List ℕ) (steps : ℕ) (e : Exit) → Leads next next' y x touched → Agrees extent next' x e
+      → Agrees extent next y (after touched steps e)
   agrees_after next next' y x touched steps e l h = after_by next next' y x touched e.touched e.way l h
 
   -- what is the same out of both
-  again_after_by : (f : State → Exit) (next : ℕ) (y : Tree Out) (touched more : List ℕ) (steps further : ℕ) (w : Way) → Agrees memory basis from to next y (after touched steps (again_by f more further w))
-      → Agrees memory basis from to next y (again_by f (touched ++ more) (steps + further) w)
+  again_after_by : (f : State → Exit) (next : ℕ) (y : Tree Out) (touched more : List ℕ) (steps further : ℕ) (w : Way)
+      → Agrees extent next y (after touched steps (again_by f more further w)) → Agrees extent next y (again_by f (touched ++ more) (steps + further) w)
   again_after_by f next y touched more steps further (Returned pos cells) h = h
-  again_after_by f next y touched more steps further (Turned t) h = subst (λ xs. AgreesBy memory basis from to next y xs (f t).way) (sym (append_assoc touched more (f t).touched)) h
+  again_after_by f next y touched more steps further (Turned t) h =
+      subst (λ xs. AgreesBy extent next y xs (f t).way) (sym (append_assoc touched more (f t).touched)) h
   again_after_by f next y touched more steps further (Failed reason pos trace cells) h = h
   again_after_by f next y touched more steps further Stuck h = tt
 
-  pub again_after : (f : State → Exit) (next : ℕ) (y : Tree Out) (touched : List ℕ) (steps : ℕ) (e : Exit) → Agrees memory basis from to next y (after touched steps (again f e)) → Agrees memory basis from to next y (again f (after touched steps e))
+  pub again_after : (f : State → Exit) (next : ℕ) (y : Tree Out) (touched : List ℕ) (steps : ℕ) (e : Exit)
+      → Agrees extent next y (after touched steps (again f e)) → Agrees extent next y (again f (after touched steps e))
   again_after f next y touched steps e h = again_after_by f next y touched e.touched steps e.steps e.way h
 
   -- two turns of which one is in the other
-  again_again_by : (f g : State → Exit) (next : ℕ) (y : Tree Out) (touched : List ℕ) (steps : ℕ) (w : Way) → Agrees memory basis from to next y (again_by (λ s. again f (g s)) touched steps w)
-      → Agrees memory basis from to next y (again f (again_by g touched steps w))
+  again_again_by : (f g : State → Exit) (next : ℕ) (y : Tree Out) (touched : List ℕ) (steps : ℕ) (w : Way)
+      → Agrees extent next y (again_by (λ s. again f (g s)) touched steps w) → Agrees extent next y (again f (again_by g touched steps w))
   again_again_by f g next y touched steps (Returned pos cells) h = h
   again_again_by f g next y touched steps (Turned t) h = again_after f next y touched (steps + 1) (g t) h
   again_again_by f g next y touched steps (Failed reason pos trace cells) h = h
   again_again_by f g next y touched steps Stuck h = tt
 
-  pub again_again : (f g : State → Exit) (next : ℕ) (y : Tree Out) (e : Exit) → Agrees memory basis from to next y (again (λ s. again f (g s)) e) → Agrees memory basis from to next y (again f (again g e))
+  pub again_again : (f g : State → Exit) (next : ℕ) (y : Tree Out) (e : Exit) → Agrees extent next y (again (λ s. again f (g s)) e)
+      → Agrees extent next y (again f (again g e))
   again_again f g next y e h = again_again_by f g next y e.touched e.steps e.way h

@@ -1,74 +1,31 @@
 -- Helpers: the number at a position, what is loaded for it, and what it is. Cited by other crates.
-use Rattle.std.proofs.Common.{◌≡◌, ℕ, zero, suc, ◌+◌, ◌-◌, ◌*◌, ◌/◌, ◌%◌, ◌^◌, ◌<◌, ◌≤◌, inl, inr, Bool, true, false, cond, List, [], ◌∷◌, ◌++◌, length, append_assoc, append-nil, refl, sym, ap, ◌∙◌, subst, arith}
+use Rattle.std.proofs.Common.{◌≡◌, ℕ, zero, suc, ◌+◌, ◌-◌, ◌*◌, ◌/◌, ◌%◌, ◌^◌, ◌<◌, ◌≤◌, inl, inr, Bool, true, false, cond, List, [], ◌∷◌, ◌++◌, length, append-nil, refl, sym, ap, ◌∙◌, subst, arith}
 use Rattle.std.specs.Prelude.{nat_lt, nat_le, nat_eq, Some, None}
 use Rattle.std.specs.Int.{w64, swap_bytes}
 use Rattle.std.proofs.lemmas.Nat.{and_mask, mod_below, pow_pos}
 use Rattle.std.proofs.Math.Nat.{mod-eq_of_lt}
-use Rattle.std.proofs.lemmas.Bool.{lt-ltb, le-ltb}
 use Rattle.td_num.specs.Numbers.{places_from, ordered_at}
 use Rattle.td_stream.specs.Digits.{HasDigits}
 use Rattle.td_stream.proofs.Digits.{rising_digits, falling_digits, fits_word}
 use Rattle.td_ir.specs.Values.{bit, order_of}
 use Rattle.td_verify.specs.Operands.{IsWidth}
-use Rattle.td_prog.specs.Tree.{Tree, Done, Loads, bind, answer, loaded}
-use Rattle.td_prog.specs.Syntax.{Var, Pos, Low, Number, More, Add, Sub, And, Shl, Shr, Lt, Num, Get, Binary, Swapped, Block, Ends, Let, When, Return, Ask}
-use Rattle.td_prog.specs.Values.{Locals, written, and_then, applied}
-use Rattle.td_prog.specs.Means.{Out, Gave, Onward, Helpers, nowhere, given, shared, told, both}
+use Rattle.td_prog.specs.Tree.{Tree, Done, Loads, bind}
+use Rattle.td_prog.specs.Syntax.{Pos, Low, Number, More, Add, Sub, And, Shl, Shr, Lt, Num, Get, Binary, Swapped, Block, Ends, Assign, If, Return, CallHelper}
+use Rattle.td_prog.specs.Values.{Locals, and_then, applied}
+use Rattle.td_prog.specs.Means.{Out, Gave, Continuation, Helpers, nowhere, given, shared, after_helper, block_means}
 use Rattle.td_prog.specs.Run.{declared, no_routine, helpers_below}
 use Rattle.td_prog_code.specs.Prelude.{word, plus, td_word, little_body, number_helper, prelude}
-use Rattle.td_prog_trees.specs.Memory.{IsMemory}
-use Rattle.td_prog_trees.specs.Agree.{Basis, fresh, behind, IsForward}
+use Rattle.td_prog_trees.specs.Agree.{Basis, Extent, IsWithin, fresh}
 use Rattle.td_prog_trees.specs.Laws.{NumbersAreTaken}
-use Rattle.td_prog_trees.proofs.Composing.{Leads, fresh_append, behind_append, forward_append, answer_bind, loaded_bind}
+use Rattle.td_prog_trees.proofs.Composing.{by_cases, Leads}
 use Rattle.td_prog_trees.proofs.Numbers.{quotient_small, one_word, two_words, one_digits, two_digits, low_digits, back_is, sum_small}
+use Rattle.td_prog_trees.proofs.Leading.{places_split, then, load_leads, held_leads, pre, post, asked}
 
 pub some_width : (w : ℕ) → IsWidth w → 0 < w
 some_width w (inl e) = omega (arith, e)
 some_width w (inr (inl e)) = omega (arith, e)
 some_width w (inr (inr (inl e))) = omega (arith, e)
 some_width w (inr (inr (inr e))) = omega (arith, e)
-
--- The words of a number's places
-fresh_none : (next p w : ℕ) → p + w ≤ 8 * next → fresh next (places_from p w) ≡ []
-fresh_none next p zero h = refl
-fresh_none next p (suc w) h =
-    let l : nat_lt (p / 8) next ≡ true = lt-ltb (p / 8) next (omega (arith, h)) in
-    ap (λ b. cond b (fresh next (places_from (p + 1) w)) (p / 8 ∷ fresh (p / 8 + 1) (places_from (p + 1) w))) l ∙ fresh_none next (p + 1) w (omega (arith, h))
-
-behind_none : (next p w : ℕ) → p + w ≤ 8 * next → behind next (places_from p w) ≡ next
-behind_none next p zero h = refl
-behind_none next p (suc w) h =
-    let l : nat_lt (p / 8) next ≡ true = lt-ltb (p / 8) next (omega (arith, h)) in
-    ap (λ b. cond b (behind next (places_from (p + 1) w)) (behind (p / 8 + 1) (places_from (p + 1) w))) l ∙ behind_none next (p + 1) w (omega (arith, h))
-
--- of places that begin in a word that isn't held
-fresh_new : (next p w : ℕ) → next ≤ p / 8 → 0 < w → p % 8 + w ≤ 8 → fresh next (places_from p w) ≡ p / 8 ∷ []
-fresh_new next p zero n s l = absurd (omega (arith, s))
-fresh_new next p (suc w) n s l =
-    let b : nat_lt (p / 8) next ≡ false = le-ltb (p / 8) next n in
-    ap (λ v. cond v (fresh next (places_from (p + 1) w)) (p / 8 ∷ fresh (p / 8 + 1) (places_from (p + 1) w))) b
-    ∙ ap (λ ws. p / 8 ∷ ws) (fresh_none (p / 8 + 1) (p + 1) w (omega (arith, l)))
-
-behind_new : (next p w : ℕ) → next ≤ p / 8 → 0 < w → p % 8 + w ≤ 8 → behind next (places_from p w) ≡ p / 8 + 1
-behind_new next p zero n s l = absurd (omega (arith, s))
-behind_new next p (suc w) n s l =
-    let b : nat_lt (p / 8) next ≡ false = le-ltb (p / 8) next n in
-    ap (λ v. cond v (behind next (places_from (p + 1) w)) (behind (p / 8 + 1) (places_from (p + 1) w))) b
-    ∙ behind_none (p / 8 + 1) (p + 1) w (omega (arith, l))
-
-pub forward_places : (to next p w : ℕ) → next ≤ p / 8 + 1 → p + w ≤ to → IsForward to next (places_from p w)
-forward_places to next p zero h l = tt
-forward_places to next p (suc w) h l = (h, omega (arith, l), forward_places to (p / 8 + 1) (p + 1) w (omega arith) (omega (arith, l)))
-
-pub places_split : (p a b : ℕ) → places_from p (a + b) ≡ places_from p a ++ places_from (p + a) b
-places_split p zero b =
-    let e : p ≡ p + 0 = omega arith in
-    let z : 0 + b ≡ b = omega arith in
-    ap (places_from p) z ∙ ap (λ q. places_from q b) e
-places_split p (suc a) b =
-    let z : suc a + b ≡ suc (a + b) = omega arith in
-    let e : p + 1 + a ≡ p + suc a = omega arith in
-    ap (places_from p) z ∙ ap (λ ps. p ∷ ps) (places_split (p + 1) a b ∙ ap (λ q. places_from (p + 1) a ++ places_from q b) e)
 
 eight_small : (a b c d e f g h : ℕ) → a < 256 → b < 256 → c < 256 → d < 256 → e < 256 → f < 256 → g < 256 → h < 256
     → a * 72057594037927936 + b * 281474976710656 + c * 1099511627776 + d * 4294967296 + e * 16777216 + f * 65536 + g * 256 + h < 2 ^ 64
@@ -79,90 +36,48 @@ byte_small n = omega arith
 
 swap_small : (n : ℕ) → swap_bytes w64 n < 2 ^ 64
 swap_small n =
-    eight_small (n % 256) (n / 256 % 256) (n / 65536 % 256) (n / 16777216 % 256) (n / 4294967296 % 256) (n / 1099511627776 % 256) (n / 281474976710656 % 256) (n / 72057594037927936 % 256)
-    (byte_small n) (byte_small (n / 256)) (byte_small (n / 65536)) (byte_small (n / 16777216)) (byte_small (n / 4294967296)) (byte_small (n / 1099511627776)) (byte_small (n / 281474976710656)) (byte_small (n / 72057594037927936))
+    eight_small (n % 256) (n / 256 % 256) (n / 65536 % 256) (n / 16777216 % 256) (n / 4294967296 % 256) (n / 1099511627776 % 256)
+    (n / 281474976710656 % 256) (n / 72057594037927936 % 256)
+    (byte_small n) (byte_small (n / 256)) (byte_small (n / 65536)) (byte_small (n / 16777216)) (byte_small (n / 4294967296))
+    (byte_small (n / 1099511627776)) (byte_small (n / 281474976710656)) (byte_small (n / 72057594037927936))
 
 -- a place's bits in its word
 pub low_is : (p : ℕ) → (p % 8 * 8) % 2 ^ 64 ≡ 8 * (p % 8)
 low_is p = omega arith
 
-module _ (memory : ℕ → ℕ) (basis : Basis) (from to : ℕ) where
+-- td_word, of a word; and the variables that it leaves
+abbrev pub word_tree : (most w : ℕ) → Locals → Tree Out
+word_tree most w s = (block_means most (helpers_below most prelude 0) no_routine [] [] td_word.body nowhere []).0 (record (declared [] s) { word = w })
+
+abbrev pub held_word : (ℕ → ℕ) → ℕ → Locals → Locals
+held_word memory w s = record (declared [] s) { word = w; next = w + 1; held = memory w }
+
+module _ (extent : Extent) where
+  open extent use {memory, basis, to}
+  open basis use {message}
+
   abbrev Leading : (next next' : ℕ) → Tree Out → Tree Out → List ℕ → Type 0
-  Leading next next' y x touched = Leads memory basis from to next next' y x touched
-
-  pub then : (n1 n2 n3 : ℕ) (x y z : Tree Out) (t u : List ℕ) → Leading n1 n2 x y t → Leading n2 n3 y z u → Leading n1 n3 x z (t ++ u)
-  then n1 n2 n3 x y z t u h k = record {
-    same = h.same ∙ k.same;
-    words =
-        h.words ∙ ap (λ ws. fresh n1 t ++ ws) (k.words ∙ ap (λ n. fresh n u ++ loaded memory z) (sym h.behind_them))
-        ∙ sym (append_assoc (fresh n1 t) (fresh (behind n1 t) u) (loaded memory z)) ∙ ap (λ ws. ws ++ loaded memory z) (sym (fresh_append n1 t u));
-    behind_them = behind_append n1 t u ∙ ap (λ n. behind n u) h.behind_them ∙ k.behind_them;
-    forward = forward_append to n1 t u h.forward (subst (λ n. IsForward to n u) (sym h.behind_them) k.forward);
-  }
-
-  -- nothing is loaded
-  pub same_tree : (n : ℕ) (x y : Tree Out) → x ≡ y → Leading n n x y []
-  same_tree n x y e = record { same = ap (answer memory) e; words = ap (loaded memory) e; behind_them = refl; forward = tt }
-
-  -- a word is loaded
-  load_leads : (next p w : ℕ) (k : ℕ → Tree Out) (v : ℕ) → memory (p / 8) ≡ v → next ≤ p / 8 → 0 < w → p % 8 + w ≤ 8 → p + w ≤ to → Leading next (p / 8 + 1) (Loads (p / 8) k) (k v) (places_from p w)
-  load_leads next p w k v e n s l inside = record {
-    same = ap (λ x. answer memory (k x)) e;
-    words = ap (λ x. p / 8 ∷ loaded memory (k x)) e ∙ ap (λ ws. ws ++ loaded memory (k v)) (sym (fresh_new next p w n s l));
-    behind_them = behind_new next p w n s l;
-    forward = forward_places to next p w (omega (arith, n)) inside;
-  }
-
-  held_leads : (next p w : ℕ) (x y : Tree Out) → x ≡ y → next ≡ p / 8 + 1 → p % 8 + w ≤ 8 → p + w ≤ to → Leading next (p / 8 + 1) x y (places_from p w)
-  held_leads next p w x y e n l inside = record {
-    same = ap (answer memory) e;
-    words = ap (loaded memory) e ∙ ap (λ ws. ws ++ loaded memory y) (sym (fresh_none next p w (omega (arith, n, l))));
-    behind_them = behind_none next p w (omega (arith, n, l)) ∙ n;
-    forward = forward_places to next p w (omega (arith, n)) inside;
-  }
-
-  pub pre : (n m : ℕ) (x y z : Tree Out) (t : List ℕ) → x ≡ y → Leading n m y z t → Leading n m x z t
-  pre n m x y z t e h = subst (λ u. Leading n m u z t) (sym e) h
-
-  pub post : (n m : ℕ) (x y z : Tree Out) (t : List ℕ) → Leading n m x y t → y ≡ z → Leading n m x z t
-  post n m x y z t h e = subst (λ u. Leading n m x u t) e h
-
-  -- behind a helper's answer
-  pub asked : (n m : ℕ) (tree : Tree Out) (v : ℕ) (t s : Locals) (x : Var) (go : Onward) (touched : List ℕ) → Leading n m tree (Done (Gave v t)) touched → Leading n m (bind tree (told x s go)) (go (written x v (shared s t))) touched
-  asked n m tree v t s x go touched h = record {
-    same = answer_bind memory tree (told x s go) ∙ ap (λ o. answer memory (told x s go o)) h.same;
-    words = loaded_bind memory tree (told x s go) ∙ ap (λ ws. ws ++ loaded memory (told x s go (answer memory tree))) (h.words ∙ append-nil (fresh n touched)) ∙ ap (λ o. fresh n touched ++ loaded memory (told x s go o)) h.same;
-    behind_them = h.behind_them;
-    forward = h.forward;
-  }
+  Leading next next' y x touched = Leads extent next next' y x touched
 
   module _ (most : ℕ) where
-    -- td_word, of a word
-    abbrev pub word_tree : ℕ → Locals → Tree Out
-    word_tree w s = (both most (helpers_below most prelude 0) no_routine [] [] td_word.body nowhere []).0 (record (declared [] s) { word = w })
-
-    abbrev pub held_word : ℕ → Locals → Locals
-    held_word w s = record (declared [] s) { word = w; next = w + 1; held = memory w }
-
-    pub word_gives : (s : Locals) (p a k : ℕ) → p / 8 ≡ k → s.next ≤ k + 1 → ((w : ℕ) → s.next ≡ w + 1 → s.held ≡ memory w) → 0 < a → p % 8 + a ≤ 8 → p + a ≤ to
-        → Leading s.next (k + 1) (word_tree k s) (Done (Gave (memory k) (held_word k s))) (places_from p a)
-    word_gives s p a k q n h some l inside = by (nat_le s.next k) refl
+    pub word_gives : (s : Locals) (p a k : ℕ) → p / 8 ≡ k → s.next ≤ k + 1 → ((w : ℕ) → s.next ≡ w + 1 → s.held ≡ memory w) → 0 < a → p % 8 + a ≤ 8
+        → p + a ≤ to
+        → Leading s.next (k + 1) (word_tree most k s) (Done (Gave (memory k) (held_word memory k s))) (places_from p a)
+    word_gives s p a k q n h some l inside =
+        by_cases (λ b. Leading s.next (k + 1) (cond (nat_eq (bit b) 0) (ready s.next s.held) (Loads k (λ v. ready (k + 1) v))) (ready (k + 1) (memory k))
+        (places_from p a)) (nat_le s.next k)
+        (λ e.
+        let le : s.next ≤ p / 8 = grind (arith, e, q) in
+        subst (λ j. Leading s.next (j + 1) (Loads j (λ v. ready (k + 1) v)) (ready (k + 1) (memory j)) (places_from p a)) q
+        (load_leads extent s.next p a (λ v. ready (k + 1) v) (memory (p / 8)) refl le some l inside))
+        (λ e.
+        let at : s.next ≡ k + 1 = grind (arith, e, n) in
+        let at' : s.next ≡ p / 8 + 1 = omega (arith, at, q) in
+        subst (λ j. Leading s.next (j + 1) (ready s.next s.held) (ready (k + 1) (memory k)) (places_from p a)) q
+        (held_leads extent s.next p a (ready s.next s.held) (ready (k + 1) (memory k)) (λ i. ready (at i) (h k at i)) at' l inside))
       where
         ready : ℕ → ℕ → Tree Out
         ready n v = Done (Gave v (record (declared [] s) { word = k; next = n; held = v }))
-
-        by : (b : Bool) → nat_le s.next k ≡ b → Leading s.next (k + 1) (cond (nat_eq (bit (nat_le s.next k)) 0) (ready s.next s.held) (Loads k (λ v. ready (k + 1) v))) (ready (k + 1) (memory k)) (places_from p a)
-        by true e =
-            let le : s.next ≤ p / 8 = grind (arith, e, q) in
-            subst (λ b. Leading s.next (k + 1) (cond (nat_eq (bit b) 0) (ready s.next s.held) (Loads k (λ v. ready (k + 1) v))) (ready (k + 1) (memory k)) (places_from p a)) (sym e)
-            (subst (λ j. Leading s.next (j + 1) (Loads j (λ v. ready (k + 1) v)) (ready (k + 1) (memory j)) (places_from p a)) q
-            (load_leads s.next p a (λ v. ready (k + 1) v) (memory (p / 8)) refl le some l inside))
-        by false e =
-            let at : s.next ≡ k + 1 = grind (arith, e, n) in
-            let at' : s.next ≡ p / 8 + 1 = omega (arith, at, q) in
-            subst (λ b. Leading s.next (k + 1) (cond (nat_eq (bit b) 0) (ready s.next s.held) (Loads k (λ v. ready (k + 1) v))) (ready (k + 1) (memory k)) (places_from p a)) (sym e)
-            (subst (λ j. Leading s.next (j + 1) (ready s.next s.held) (ready (k + 1) (memory k)) (places_from p a)) q
-            (held_leads s.next p a (ready s.next s.held) (ready (k + 1) (memory k)) (λ i. ready (at i) (h k at i)) at' l inside))
 
     -- a helper's run: its value, the word that is held then, the places that it looks at
     pub record Gives (tree : Tree Out) (s : Locals) (k : ℕ) (touched : List ℕ) : Type 0 where
@@ -171,7 +86,9 @@ module _ (memory : ℕ → ℕ) (basis : Basis) (from to : ℕ) where
       pub leads : Leading s.next (k + 1) tree (Done (Gave value final)) touched
       pub back : shared s final ≡ record s { next = k + 1; held = memory k }
 
-    module _ (message : List ℕ) (is : IsMemory memory message) (short : length message < 2 ^ 32) (all : to ≤ length message) where
+    module _ (within : IsWithin extent) where
+      open within use {holds, short, inside}
+
       pub record IsNumber (p w v : ℕ) : Type 0 where
         pub fits : v < 2 ^ (8 * w)
         pub digits : HasDigits message p w v
@@ -191,27 +108,30 @@ module _ (memory : ℕ → ℕ) (basis : Basis) (from to : ℕ) where
           let wide : nat_le 64 (8 * (p % 8)) ≡ false = grind arith in
           ap (applied Shr m) (low_is p) ∙ ap (λ b. cond b None (Some (m / 2 ^ (8 * (p % 8))))) wide
 
-      two_is : (p : ℕ) → 0 < p % 8 → and_then (and_then (applied Sub 64 ((p % 8 * 8) % 2 ^ 64)) (applied Shl (memory (p / 8 + 1)))) (applied Add (one_word memory message is p)) ≡ Some (two_words memory message is p)
+      two_is : (p : ℕ) → 0 < p % 8
+          → and_then (and_then (applied Sub 64 ((p % 8 * 8) % 2 ^ 64)) (applied Shl (memory (p / 8 + 1)))) (applied Add (one_word memory message holds p))
+          ≡ Some (two_words memory message holds p)
       two_is p some =
           let o : p % 8 < 8 = mod_below p 8 (omega arith) in
           let m = memory (p / 8 + 1) in
           let k : (64 + (2 ^ 64 - (p % 8 * 8) % 2 ^ 64)) % 2 ^ 64 ≡ 64 - 8 * (p % 8) = omega arith in
           let wide : nat_le 64 (64 - 8 * (p % 8)) ≡ false = grind arith in
           let back = back_is m (p % 8) o in
-          ap (λ n. and_then (applied Shl m n) (applied Add (one_word memory message is p))) k
-          ∙ ap (λ b. and_then (cond b None (Some ((m * 2 ^ (64 - 8 * (p % 8))) % 2 ^ 64))) (applied Add (one_word memory message is p))) wide
-          ∙ ap (λ n. Some ((one_word memory message is p + n) % 2 ^ 64)) back
-          ∙ ap Some (mod-eq_of_lt (sum_small (memory (p / 8)) m (p % 8) o (is.words (p / 8))))
+          ap (λ n. and_then (applied Shl m n) (applied Add (one_word memory message holds p))) k
+          ∙ ap (λ b. and_then (cond b None (Some ((m * 2 ^ (64 - 8 * (p % 8))) % 2 ^ 64))) (applied Add (one_word memory message holds p))) wide
+          ∙ ap (λ n. Some ((one_word memory message holds p + n) % 2 ^ 64)) back
+          ∙ ap Some (mod-eq_of_lt (sum_small (memory (p / 8)) m (p % 8) o (holds.words (p / 8))))
 
-      module _ (helpers : Helpers) (is_word : (w : ℕ) (s : Locals) → helpers 0 (w ∷ []) [] s ≡ word_tree w s) where
+      module _ (helpers : Helpers) (is_word : (w : ℕ) (s : Locals) → helpers 0 (w ∷ []) [] s ≡ word_tree most w s) where
         abbrev pub little_tree : ℕ → ℕ → Locals → Tree Out
-        little_tree w p s = (both most helpers no_routine [] [] (little_body w) nowhere []).0 (record (declared [] s) { pos = p })
+        little_tree w p s = (block_means most helpers no_routine [] [] (little_body w) nowhere []).0 (record (declared [] s) { pos = p })
 
-        pub little_gives : (s : Locals) (p w : ℕ) → s.next ≤ p / 8 + 1 → ((k : ℕ) → s.next ≡ k + 1 → s.held ≡ memory k) → 0 < w → w ≤ 8 → p + w ≤ to → GivesNumber (little_tree w p s) s p w
+        pub little_gives : (s : Locals) (p w : ℕ) → s.next ≤ p / 8 + 1 → ((k : ℕ) → s.next ≡ k + 1 → s.held ≡ memory k) → 0 < w → w ≤ 8 → p + w ≤ to
+            → GivesNumber (little_tree w p s) s p w
         little_gives s p w n h some few there = by (nat_lt (64 - 8 * w) (8 * (p % 8))) refl
           where
             number : ℕ
-            number = one_word memory message is p
+            number = one_word memory message holds p
 
             lo : ℕ
             lo = (p % 8 * 8) % 2 ^ 64
@@ -227,75 +147,104 @@ module _ (memory : ℕ → ℕ) (basis : Basis) (from to : ℕ) where
             last = Return (Binary And (Get Number) (Num (2 ^ (8 * w) - 1))) Ends
 
             second : Block
-            second = Let Number (Binary Add (Get Number) (Binary Shl (Get More) (Binary Sub (Num 64) (Get Low)))) Ends
+            second = Assign Number (Binary Add (Get Number) (Binary Shl (Get More) (Binary Sub (Num 64) (Get Low)))) Ends
 
             test : Block
-            test = When (Binary Lt (Num (64 - 8 * w)) (Get Low)) (Ask More 0 (plus word 1 ∷ []) [] second) last
+            test = If (Binary Lt (Num (64 - 8 * w)) (Get Low)) (CallHelper More 0 (plus word 1 ∷ []) [] second) last
 
-            means : Block → Onward
-            means b = (both most helpers no_routine [] [] b nowhere []).0
+            means : Block → Continuation
+            means b = (block_means most helpers no_routine [] [] b nowhere []).0
 
             held_small : memory (p / 8) < 2 ^ 64
-            held_small = is.words (p / 8)
+            held_small = holds.words (p / 8)
 
             -- the word is held, and its part taken
-            to_number : (a : ℕ) → 0 < a → p % 8 + a ≤ 8 → p + a ≤ to → Leading s.next (p / 8 + 1) (little_tree w p s) (means test (vars (p / 8) number 0)) (places_from p a)
+            to_number : (a : ℕ) → 0 < a → p % 8 + a ≤ 8 → p + a ≤ to
+                → Leading s.next (p / 8 + 1) (little_tree w p s) (means test (vars (p / 8) number 0)) (places_from p a)
             to_number a sa l in_it =
-                pre s.next (p / 8 + 1) (little_tree w p s) (bind (word_tree (p / 8) first_vars) (told Number first_vars (means (Let Number (Binary Shr (Get Number) (Get Low)) test)))) (means test (vars (p / 8) number 0)) (places_from p a)
-                (ap (λ x. bind x (told Number first_vars (means (Let Number (Binary Shr (Get Number) (Get Low)) test)))) (is_word (p / 8) first_vars))
-                (post s.next (p / 8 + 1) (bind (word_tree (p / 8) first_vars) (told Number first_vars (means (Let Number (Binary Shr (Get Number) (Get Low)) test))))
-                (means (Let Number (Binary Shr (Get Number) (Get Low)) test) (vars (p / 8) (memory (p / 8)) 0)) (means test (vars (p / 8) number 0)) (places_from p a)
-                (asked s.next (p / 8 + 1) (word_tree (p / 8) first_vars) (memory (p / 8)) (held_word (p / 8) first_vars) first_vars Number (means (Let Number (Binary Shr (Get Number) (Get Low)) test)) (places_from p a)
+                pre extent s.next (p / 8 + 1) (little_tree w p s)
+                (bind (word_tree most (p / 8) first_vars)
+                (after_helper Number first_vars (means (Assign Number (Binary Shr (Get Number) (Get Low)) test)))) (means test (vars (p / 8) number 0))
+                (places_from p a)
+                (ap (λ x. bind x (after_helper Number first_vars (means (Assign Number (Binary Shr (Get Number) (Get Low)) test))))
+                (is_word (p / 8) first_vars))
+                (post extent s.next (p / 8 + 1) (bind (word_tree most (p / 8) first_vars)
+                (after_helper Number first_vars (means (Assign Number (Binary Shr (Get Number) (Get Low)) test))))
+                (means (Assign Number (Binary Shr (Get Number) (Get Low)) test) (vars (p / 8) (memory (p / 8)) 0)) (means test (vars (p / 8) number 0))
+                (places_from p a)
+                (asked extent s.next (p / 8 + 1) (word_tree most (p / 8) first_vars) (memory (p / 8)) (held_word memory (p / 8) first_vars) first_vars Number
+                (means (Assign Number (Binary Shr (Get Number) (Get Low)) test)) (places_from p a)
                 (word_gives first_vars p a (p / 8) refl n h sa l in_it))
                 (ap (λ r. given r (λ v. means test (vars (p / 8) v 0))) (shr_is p (memory (p / 8)))))
 
             more_tree : Tree Out
-            more_tree = bind (helpers 0 ((p / 8 + 1) % 2 ^ 64 ∷ []) [] (vars (p / 8) number 0)) (told More (vars (p / 8) number 0) (both most helpers no_routine [] [] second (means last) []).0)
+            more_tree =
+                bind (helpers 0 ((p / 8 + 1) % 2 ^ 64 ∷ []) [] (vars (p / 8) number 0))
+                (after_helper More (vars (p / 8) number 0) (block_means most helpers no_routine [] [] second (means last) []).0)
 
-            tested : (b : Bool) → nat_lt (64 - 8 * w) (8 * (p % 8)) ≡ b → means test (vars (p / 8) number 0) ≡ cond (nat_eq (bit b) 0) (means last (vars (p / 8) number 0)) more_tree
+            tested : (b : Bool) → nat_lt (64 - 8 * w) (8 * (p % 8)) ≡ b
+                → means test (vars (p / 8) number 0) ≡ cond (nat_eq (bit b) 0) (means last (vars (p / 8) number 0)) more_tree
             tested b e = ap (λ x. cond (nat_eq (bit x) 0) (means last (vars (p / 8) number 0)) more_tree) (ap (nat_lt (64 - 8 * w)) (low_is p) ∙ e)
 
             done : (k v m : ℕ) → means last (vars k v m) ≡ Done (Gave (v % 2 ^ (8 * w)) (vars k v m))
             done k v m = ap (λ x. Done (Gave x (vars k v m))) (and_mask v (8 * w))
 
-            gives : (k v number more : ℕ) → k ≡ (p + w - 1) / 8 → IsNumber p w v → Leading s.next (k + 1) (little_tree w p s) (Done (Gave v (vars k number more))) (places_from p w) → GivesNumber (little_tree w p s) s p w
+            gives : (k v number more : ℕ) → k ≡ (p + w - 1) / 8 → IsNumber p w v
+                → Leading s.next (k + 1) (little_tree w p s) (Done (Gave v (vars k number more))) (places_from p w) → GivesNumber (little_tree w p s) s p w
             gives k v number more e right l =
                 let x : (x : Gives (little_tree w p s) s ((p + w - 1) / 8) (places_from p w)) × IsNumber p w x.value =
-                subst (λ j. (x : Gives (little_tree w p s) s j (places_from p w)) × IsNumber p w x.value) e (record { value = v; final = vars k number more; leads = l; back = refl }, right) in
+                subst (λ j. (x : Gives (little_tree w p s) s j (places_from p w)) × IsNumber p w x.value) e
+                (record { value = v; final = vars k number more; leads = l; back = refl }, right) in
                 record { gives = x.0; right = x.1 }
 
             by : (b : Bool) → nat_lt (64 - 8 * w) (8 * (p % 8)) ≡ b → GivesNumber (little_tree w p s) s p w
             by false e =
                 let one : p % 8 + w ≤ 8 = grind (arith, e, few) in
                 gives (p / 8) (number % 2 ^ (8 * w)) number 0 (omega (arith, one, some))
-                (record { fits = mod_below number (2 ^ (8 * w)) (pow_pos (8 * w)); digits = one_digits memory message is p w few one (omega (arith, there, all)) })
-                (post s.next (p / 8 + 1) (little_tree w p s) (means test (vars (p / 8) number 0)) (Done (Gave (number % 2 ^ (8 * w)) (vars (p / 8) number 0))) (places_from p w)
+                (record {
+                  fits = mod_below number (2 ^ (8 * w)) (pow_pos (8 * w));
+                  digits = one_digits memory message holds p w few one
+                      (omega (arith, there, inside));
+                })
+                (post extent s.next (p / 8 + 1) (little_tree w p s) (means test (vars (p / 8) number 0))
+                (Done (Gave (number % 2 ^ (8 * w)) (vars (p / 8) number 0))) (places_from p w)
                 (to_number w some one there)
                 (tested false e ∙ done (p / 8) number 0))
             by true e =
                 let two : 8 < p % 8 + w = grind (arith, e, few) in
                 let a = 8 - p % 8 in
                 let k = p / 8 + 1 in
-                let whole : k % 2 ^ 64 ≡ k = omega (arith, there, short, all) in
-                let v = two_words memory message is p in
+                let whole : k % 2 ^ 64 ≡ k = omega (arith, there, short, inside) in
+                let v = two_words memory message holds p in
                 let split : a + (w - a) ≡ w = omega (arith, two) in
                 let u = vars (p / 8) number 0 in
-                let rest : Onward = (both most helpers no_routine [] [] second (means last) []).0 in
-                let loads : Tree Out = bind (word_tree k u) (told More u rest) in
-                let first_part = post s.next k (little_tree w p s) (means test u) loads (places_from p a) (to_number a (omega arith) (omega arith) (omega (arith, there, two)))
-                (tested true e ∙ ap (λ x. bind (helpers 0 (x ∷ []) [] u) (told More u rest)) whole ∙ ap (λ x. bind x (told More u rest)) (is_word k u)) in
-                let second_part = asked k (k + 1) (word_tree k u) (memory k) (held_word k u) u More rest (places_from (p + a) (w - a))
-                (word_gives u (p + a) (w - a) k (omega arith) (omega arith) (λ j q. let r : p / 8 ≡ j = omega (arith, q) in ap memory r) (omega (arith, two)) (omega (arith, few)) (omega (arith, there, two))) in
+                let rest : Continuation = (block_means most helpers no_routine [] [] second (means last) []).0 in
+                let loads : Tree Out = bind (word_tree most k u) (after_helper More u rest) in
+                let first_part = post extent s.next k (little_tree w p s) (means test u) loads (places_from p a)
+                (to_number a (omega arith) (omega arith) (omega (arith, there, two)))
+                (tested true e ∙ ap (λ x. bind (helpers 0 (x ∷ []) [] u) (after_helper More u rest)) whole ∙ ap (λ x. bind x (after_helper More u rest))
+                (is_word k u)) in
+                let second_part = asked extent k (k + 1) (word_tree most k u) (memory k) (held_word memory k u) u More rest (places_from (p + a) (w - a))
+                (word_gives u (p + a) (w - a) k (omega arith) (omega arith) (λ j q. let r : p / 8 ≡ j = omega (arith, q) in ap memory r)
+                (omega (arith, two)) (omega (arith, few)) (omega (arith, there, two))) in
                 let last_step : rest (vars k number (memory k)) ≡ Done (Gave (v % 2 ^ (8 * w)) (vars k v (memory k))) =
                 ap (λ r. given r (λ x. means last (vars k x (memory k)))) (two_is p (omega (arith, two, few))) ∙ done k v (memory k) in
-                let whole_way = then s.next k (k + 1) (little_tree w p s) loads (Done (Gave (v % 2 ^ (8 * w)) (vars k v (memory k)))) (places_from p a) (places_from (p + a) (w - a)) first_part
-                (post k (k + 1) loads (rest (vars k number (memory k))) (Done (Gave (v % 2 ^ (8 * w)) (vars k v (memory k)))) (places_from (p + a) (w - a)) second_part last_step) in
-                let places_are : places_from p a ++ places_from (p + a) (w - a) ≡ places_from p w = sym (places_split p a (w - a)) ∙ ap (places_from p) split in
+                let whole_way = then extent s.next k (k + 1) (little_tree w p s) loads (Done (Gave (v % 2 ^ (8 * w)) (vars k v (memory k)))) (places_from p a)
+                (places_from (p + a) (w - a)) first_part
+                (post extent k (k + 1) loads (rest (vars k number (memory k))) (Done (Gave (v % 2 ^ (8 * w)) (vars k v (memory k))))
+                (places_from (p + a) (w - a)) second_part last_step) in
+                let places_are : places_from p a ++ places_from (p + a) (w - a) ≡ places_from p w = sym (places_split p a (w - a)) ∙ ap
+                (places_from p) split in
                 gives k (v % 2 ^ (8 * w)) v (memory k) (omega (arith, two, few))
-                (record { fits = mod_below v (2 ^ (8 * w)) (pow_pos (8 * w)); digits = low_digits memory message is p w v (two_digits memory message is p w few two (omega (arith, there, all))) })
+                (record {
+                  fits = mod_below v (2 ^ (8 * w)) (pow_pos (8 * w));
+                  digits = low_digits memory message holds p w v
+                      (two_digits memory message holds p w few two (omega (arith, there, inside)));
+                })
                 (subst (λ t. Leading s.next (k + 1) (little_tree w p s) (Done (Gave (v % 2 ^ (8 * w)) (vars k v (memory k)))) t) places_are whole_way)
 
-        rising_gives : (s : Locals) (p w : ℕ) (tree : Tree Out) → tree ≡ little_tree w p s → 0 < w → w ≤ 8 → GivesNumber (little_tree w p s) s p w → GivesOrdered tree s 0 p w
+        rising_gives : (s : Locals) (p w : ℕ) (tree : Tree Out) → tree ≡ little_tree w p s → 0 < w → w ≤ 8 → GivesNumber (little_tree w p s) s p w
+            → GivesOrdered tree s 0 p w
         rising_gives s p w tree e some few g = subst (λ t. GivesOrdered t s 0 p w) (sym e) (record {
           gives = g.gives;
           small = fits_word g.gives.value w few g.right.fits;
@@ -305,12 +254,21 @@ module _ (memory : ℕ → ℕ) (basis : Basis) (from to : ℕ) where
         module _ (outer : Helpers) (w number : ℕ) (is_little : (p : ℕ) (s : Locals) → outer number (p ∷ []) [] s ≡ little_tree w p s) where
           abbrev big_tree : ℕ → Locals → Tree Out
           big_tree p s =
-              (both most outer no_routine [] [] (Ask Number number (Get Pos ∷ []) [] (Return (Binary Shr (Swapped (Get Number)) (Num (64 - 8 * w))) Ends)) nowhere []).0 (record (declared [] s) { pos = p })
+              (block_means most outer no_routine [] []
+              (CallHelper Number number (Get Pos ∷ []) [] (Return (Binary Shr (Swapped (Get Number)) (Num (64 - 8 * w))) Ends)) nowhere []).0
+              (record (declared [] s) { pos = p })
 
           falling_gives : (s : Locals) (p x : ℕ) (tree : Tree Out) → tree ≡ big_tree p s → 0 < w → w ≤ 8
-              → ((u : Locals) → u.next ≡ s.next → ((k : ℕ) → u.next ≡ k + 1 → u.held ≡ memory k) → GivesNumber (little_tree w p u) u p w) → ((k : ℕ) → s.next ≡ k + 1 → s.held ≡ memory k) → GivesOrdered tree s (suc x) p w
+              → ((u : Locals) → u.next ≡ s.next → ((k : ℕ) → u.next ≡ k + 1 → u.held ≡ memory k) → GivesNumber (little_tree w p u) u p w)
+              → ((k : ℕ) → s.next ≡ k + 1 → s.held ≡ memory k) → GivesOrdered tree s (suc x) p w
           falling_gives s p x tree e some few make h = subst (λ t. GivesOrdered t s (suc x) p w) (sym e) (record {
-            gives = record { value = v; final = t; leads = leads; back = ap (λ (z : Locals). record s { next = z.next; held = z.held; cells = z.cells; buffers = z.buffers }) g.gives.back };
+            gives = record {
+              value = v;
+              final = t;
+              leads = leads;
+              back = ap
+                  (λ (z : Locals). record s { next = z.next; held = z.held; cells = z.cells; buffers = z.buffers }) g.gives.back;
+            };
             small = quotient_small (swap_bytes w64 g.gives.value) (2 ^ (64 - 8 * w)) (swap_small g.gives.value);
             right = falling_digits w message p g.gives.value some few g.right.fits g.right.digits;
           })
@@ -327,8 +285,8 @@ module _ (memory : ℕ → ℕ) (basis : Basis) (from to : ℕ) where
               t : Locals
               t = record (shared u g.gives.final) { number = g.gives.value }
 
-              rest : Onward
-              rest = (both most outer no_routine [] [] (Return (Binary Shr (Swapped (Get Number)) (Num (64 - 8 * w))) Ends) nowhere []).0
+              rest : Continuation
+              rest = (block_means most outer no_routine [] [] (Return (Binary Shr (Swapped (Get Number)) (Num (64 - 8 * w))) Ends) nowhere []).0
 
               k : ℕ
               k = (p + w - 1) / 8
@@ -336,10 +294,10 @@ module _ (memory : ℕ → ℕ) (basis : Basis) (from to : ℕ) where
               leads : Leading s.next (k + 1) (big_tree p s) (Done (Gave v t)) (places_from p w)
               leads =
                   let narrow : nat_le 64 (64 - 8 * w) ≡ false = grind (arith, some) in
-                  pre s.next (k + 1) (big_tree p s) (bind (little_tree w p u) (told Number u rest)) (Done (Gave v t)) (places_from p w)
-                  (ap (λ z. bind z (told Number u rest)) (is_little p u))
-                  (post s.next (k + 1) (bind (little_tree w p u) (told Number u rest)) (rest t) (Done (Gave v t)) (places_from p w)
-                  (asked s.next (k + 1) (little_tree w p u) g.gives.value g.gives.final u Number rest (places_from p w) g.gives.leads)
+                  pre extent s.next (k + 1) (big_tree p s) (bind (little_tree w p u) (after_helper Number u rest)) (Done (Gave v t)) (places_from p w)
+                  (ap (λ z. bind z (after_helper Number u rest)) (is_little p u))
+                  (post extent s.next (k + 1) (bind (little_tree w p u) (after_helper Number u rest)) (rest t) (Done (Gave v t)) (places_from p w)
+                  (asked extent s.next (k + 1) (little_tree w p u) g.gives.value g.gives.final u Number rest (places_from p w) g.gives.leads)
                   (ap (λ b. given (cond b None (Some v)) (λ z. Done (Gave z t))) narrow))
 
       abbrev table : ℕ → Helpers
@@ -349,10 +307,14 @@ module _ (memory : ℕ → ℕ) (basis : Basis) (from to : ℕ) where
         abbrev Ordered : ℕ → ℕ → Type 0
         Ordered order w = p + w ≤ to → GivesOrdered (table 9 (number_helper order w) (p ∷ []) [] s) s order p w
 
-        little_one : (k w : ℕ) (is_word : (x : ℕ) (u : Locals) → table k 0 (x ∷ []) [] u ≡ word_tree x u) → (tree : Tree Out) → tree ≡ little_tree (table k) is_word w p s → 0 < w → w ≤ 8 → p + w ≤ to → GivesOrdered tree s 0 p w
-        little_one k w is_word tree e some few l = rising_gives (table k) is_word s p w tree e some few (little_gives (table k) is_word s p w n h some few l)
+        little_one : (k w : ℕ) (is_word : (x : ℕ) (u : Locals) → table k 0 (x ∷ []) [] u ≡ word_tree most x u) → (tree : Tree Out)
+            → tree ≡ little_tree (table k) is_word w p s → 0 < w → w ≤ 8 → p + w ≤ to → GivesOrdered tree s 0 p w
+        little_one k w is_word tree e some few l =
+            rising_gives (table k) is_word s p w tree e some few (little_gives (table k) is_word s p w n h some few l)
 
-        big_one : (k w number x : ℕ) (is_word : (x : ℕ) (u : Locals) → table k 0 (x ∷ []) [] u ≡ word_tree x u) (outer : Helpers) (is_little : (q : ℕ) (u : Locals) → outer number (q ∷ []) [] u ≡ little_tree (table k) is_word w q u) → (tree : Tree Out)
+        big_one : (k w number x : ℕ) (is_word : (x : ℕ) (u : Locals) → table k 0 (x ∷ []) [] u ≡ word_tree most x u) (outer : Helpers)
+            (is_little : (q : ℕ) (u : Locals) → outer number (q ∷ []) [] u ≡ little_tree (table k) is_word w q u)
+            → (tree : Tree Out)
             → tree ≡ big_tree (table k) is_word outer w number is_little p s → 0 < w → w ≤ 8 → p + w ≤ to → GivesOrdered tree s (suc x) p w
         big_one k w number x is_word outer is_little tree e some few l =
             falling_gives (table k) is_word outer w number is_little s p x tree e some few
@@ -385,8 +347,10 @@ module _ (memory : ℕ → ℕ) (basis : Basis) (from to : ℕ) where
 
 pub numbers_are_taken : NumbersAreTaken
 numbers_are_taken memory message most order width pos s is short wide inside next held =
-    let basis : Basis = record { lengths = []; first = 0; message = message } in
-    let g = number_gives memory basis 0 (length message) most message is short (omega arith) s pos next held order width wide inside in
+    let basis : Basis = record { message = message; lengths = []; first = 0 } in
+    let extent : Extent = record { memory = memory; basis = basis; from = 0; to = length message } in
+    let within : IsWithin extent = record { holds = is; short = short; inside = omega arith } in
+    let g = number_gives extent most within s pos next held order width wide inside in
     record {
       final = g.gives.final;
       gives = g.gives.leads.same ∙ ap (λ v. Gave v g.gives.final) g.right;

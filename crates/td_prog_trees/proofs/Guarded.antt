@@ -1,7 +1,6 @@
 -- Where no play loads a word behind so many, the guard is never met. Cited by other crates.
 use Rattle.std.proofs.Common.{◌≡◌, ℕ, ◌^◌, ◌<◌, true, cond, List, [], ◌∷◌, refl, subst, arith}
 use Rattle.std.specs.Prelude.{nat_lt}
-use Rattle.std.specs.List.{All}
 use Rattle.std.proofs.lemmas.Bool.{lt-ltb}
 use Rattle.std.proofs.lemmas.List.Elements.{All-head, All-tail}
 use Rattle.td_num.specs.Lists.{Each}
@@ -32,7 +31,9 @@ zeros_play (Loads w k) =
 
 pub unguarded : GuardIsNeverMet
 unguarded words (Done x) loads y below small p = p
-unguarded words (Loads w k) loads y below small p = by (λ v ls b q r. unguarded words (k v) ls y b q r) loads small (subst (λ b. Plays (cond b (Loads w (λ v. guarded words (k v))) (Done Undefined)) loads y) here p)
+unguarded words (Loads w k) loads y below small p =
+    by (λ v ls b q r. unguarded words (k v) ls y b q r) loads small
+    (subst (λ b. Plays (cond b (Loads w (λ v. guarded words (k v))) (Done Undefined)) loads y) here p)
   where
     first : w < words
     first =
@@ -43,7 +44,8 @@ unguarded words (Loads w k) loads y below small p = by (λ v ls b q r. unguarded
     here : nat_lt w words ≡ true
     here = lt-ltb w words first
 
-    by : ((v : ℕ) (ls : List Load) → StaysBelow words (k v) → AreSmall ls → Plays (guarded words (k v)) ls y → Plays (k v) ls y) → (loads : List Load) → AreSmall loads → Plays (Loads w (λ v. guarded words (k v))) loads y → Plays (Loads w k) loads y
+    by : ((v : ℕ) (ls : List Load) → StaysBelow words (k v) → AreSmall ls → Plays (guarded words (k v)) ls y → Plays (k v) ls y) → (loads : List Load)
+        → AreSmall loads → Plays (Loads w (λ v. guarded words (k v))) loads y → Plays (Loads w k) loads y
     by rec [] small p = p
     by rec (l ∷ ls) small p =
         let m : Load = record { word = w; value = l.value } in

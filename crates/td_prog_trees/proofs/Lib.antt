@@ -3,4 +3,7 @@ pub mod Adversary
 pub mod Guarded
 pub mod Composing
 pub mod Numbers
+pub mod Leading
 pub mod Fetching
+pub mod Buffers
+pub mod CopyHelper

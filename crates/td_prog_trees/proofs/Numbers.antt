@@ -80,7 +80,8 @@ module _ (memory : ℕ → ℕ) (message : List ℕ) (is : IsMemory memory messa
       let c = 8 - p % 8 in
       let o : p % 8 < 8 = mod_below p 8 (omega arith) in
       let sum : c + (w - c) ≡ w = omega (arith, k) in
-      let swap : one_word p + memory (p / 8 + 1) % 2 ^ (8 * (p % 8)) * 2 ^ (8 * c) ≡ memory (p / 8 + 1) % 2 ^ (8 * (p % 8)) * 2 ^ (8 * c) + one_word p = omega arith in
+      let swap : one_word p + memory (p / 8 + 1) % 2 ^ (8 * (p % 8)) * 2 ^ (8 * c) ≡ memory (p / 8 + 1) % 2 ^ (8 * (p % 8)) * 2 ^
+      (8 * c) + one_word p = omega arith in
       subst (λ n. HasDigits message p w n) (sym swap)
       (subst (λ n. HasDigits message p n (memory (p / 8 + 1) % 2 ^ (8 * (p % 8)) * 2 ^ (8 * c) + one_word p)) sum
       (joined_digits message p c (w - c) (memory (p / 8 + 1) % 2 ^ (8 * (p % 8))) (one_word p) (front_small (memory (p / 8)) (p % 8) o (is.words (p / 8)))

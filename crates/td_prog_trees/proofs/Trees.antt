@@ -10,8 +10,11 @@ carried memory (Done x) (l ∷ loads) y p h = absurd p
 carried memory (Loads word k) [] y p h = absurd p
 carried memory (Loads word k) (l ∷ loads) y p h =
     let v : memory word ≡ l.value = ap memory (sym p.0) ∙ h.0 in
-    let r = carried memory (k l.value) loads y p.1 h.1 in
-    (ap (λ x. answer memory (k x)) v ∙ r.0, ap (λ x. word ∷ loaded memory (k x)) v ∙ ap (λ ws. word ∷ ws) r.1 ∙ ap (λ w. w ∷ map (λ (l : Load). l.word) loads) (sym p.0))
+    let r = carried memory (k l.value) loads y p.1 h.1 in (
+      ap (λ x. answer memory (k x)) v ∙ r.0,
+      ap (λ x. word ∷ loaded memory (k x)) v ∙ ap (λ ws. word ∷ ws) r.1 ∙ ap
+          (λ w. w ∷ map (λ (l : Load). l.word) loads) (sym p.0),
+    )
 
 pub plays_are_carried : PlaysAreCarried
 plays_are_carried memory t loads y = carried memory t loads y

@@ -23,7 +23,8 @@ PlaysRise =
 
 -- each play loads words below a number
 abbrev pub StaysBelow : ℕ → Tree Out → Type 0
-StaysBelow words t = (loads : List Load) (y : Out) → Plays t loads y → Each (λ (l : Load). l.value < 2 ^ 64) loads → All (λ (l : Load). l.word < words) loads
+StaysBelow words t =
+    (loads : List Load) (y : Out) → Plays t loads y → Each (λ (l : Load). l.value < 2 ^ 64) loads → All (λ (l : Load). l.word < words) loads
 
 -- A guard behind all loads changes no play.
 abbrev pub GuardIsNeverMet : Type 0
@@ -38,10 +39,12 @@ pub record IsTaken (memory : ℕ → ℕ) (s : Locals) (tree : Tree Out) (touche
   pub words : loaded memory tree ≡ fresh s.next touched
   pub then : shared s final ≡ record s { next = last + 1; held = memory last }
 
--- The number of a width and byte order at a position of the message: where no word behind that of its first byte was loaded, its helper gives it, and loads just the words with a byte of it
+-- The number of a width and byte order at a position of the message: where no word behind that of its first byte was loaded, its helper gives it, and loads
+-- just the words with a byte of it
 -- (one, or two) but for one that is held.
 abbrev pub NumbersAreTaken : Type 0
 NumbersAreTaken =
     (memory : ℕ → ℕ) (message : List ℕ) (most order width pos : ℕ) (s : Locals) →
     IsMemory memory message → length message < 2 ^ 32 → IsWidth width → pos + width ≤ length message → s.next ≤ pos / 8 + 1 → HasHeld memory s →
-    IsTaken memory s (helpers_below most prelude 9 (number_helper order width) (pos ∷ []) [] s) (places_from pos width) (ordered_at (order_of order) message pos width) ((pos + width - 1) / 8)
+    IsTaken memory s (helpers_below most prelude 9 (number_helper order width) (pos ∷ []) [] s) (places_from pos width)
+    (ordered_at (order_of order) message pos width) ((pos + width - 1) / 8)

@@ -1,4 +1,4 @@
--- What is written of code is text that a compiler of C accepts: all names are declared, and labels rise.
+-- The program of verified code is text that a compiler of C accepts.
 use Rattle.std.proofs.Common.{◌≡◌, ℕ, zero, suc, ◌+◌, ◌-◌, ◌*◌, ◌^◌, ◌<◌, ◌≤◌, inl, inr, Bool, true, false, cond, List, [], ◌∷◌, ◌++◌, length, append_assoc, length-append, length-drop, Some, refl, sym, ap, ◌∙◌, subst, arith, take, drop}
 use Rattle.std.specs.Prelude.{nat_eq, slice_get, slice_range, codes}
 use Rattle.std.proofs.lemmas.List.{length-take-le}
@@ -6,11 +6,12 @@ use Rattle.std.proofs.lemmas.Option.{get_or_from_slice_get, slice_get_within}
 use Rattle.std.proofs.Math.Seq.{drop-cons}
 use Rattle.std.proofs.Math.Nat.{pow-le-pow_right}
 use Rattle.td_num.specs.Lists.{Each}
-use Rattle.td_num.proofs.Lists.{got, each_at, each_append}
+use Rattle.td_num.proofs.Lists.{got, each_at, each_append, each_index, each_map}
 use Rattle.td_ir.specs.declared.instructions.Instr.{Instr}
 use Rattle.td_ir.specs.declared.instructions.Instr.TheVariants as i
 use Rattle.td_ir.specs.declared.tables.Parts.{Parts}
-use Rattle.td_ir.specs.Tables.{routine_of, instruction_of, map_of, cells_by, buffer_cells, lengths_of, first_of, end_of}
+use Rattle.td_ir.specs.declared.tables.Routine.{Routine}
+use Rattle.td_ir.specs.Tables.{no_routine, routine_of, instruction_of, map_of, cells_by, buffer_cells, lengths_of, first_of, end_of}
 use Rattle.td_ir.specs.WellFormed.{IsCode}
 use Rattle.td_ir.proofs.Begins.{begin_up}
 use Rattle.td_ir.proofs.Buffers.{buffer_count}
@@ -20,14 +21,24 @@ use Rattle.td_verify.specs.Rules.{CallsWell}
 use Rattle.td_verify.specs.Operands.{HasRegisters, HasTables, HasOperands, IsWidth, IsCellMap, AreBelow, callee_params}
 use Rattle.td_verify.specs.Verify.{IsIn, IsSound, depths}
 use Rattle.td_verify.proofs.Sums.{shape_there}
-use Rattle.td_prog.specs.Syntax.{Expr, Block, Program}
-use Rattle.td_prog.specs.Text.{RoutineHas, IsAsked, IsCalled, IsWritten, IsDeclared, labels, AreRising, IsHelper, IsFunction, AreHelpers, AreFunctions}
+use Rattle.td_prog.specs.Syntax.{Expr, Block, Program, routine_params, routine_locals}
+use Rattle.td_prog.specs.Text.{HasVariable, HelperTakes, RoutineTakes, IsWritten, IsDeclared, labels, AreRising, IsHelper, IsFunction, AreHelpers, AreFunctions}
 use Rattle.td_prog_code.specs.Prelude.{little_helper, number_helper, little, big, td_copy, prelude}
 use Rattle.td_prog_code.specs.Instructions.{statement, operated}
-use Rattle.td_prog_code.specs.Program.{stated, looped, put, blocks, first_block, function, functions, program}
-use Rattle.td_prog_code.specs.Sentence.{HasNumber, HasNumbers, ProgramIsText}
+use Rattle.td_prog_code.specs.Program.{stated, looped, put, blocks, first_block, body, function, functions, program}
+use Rattle.td_prog_code.specs.Sentence.{HasNumber, HasNumbers}
+use Rattle.td_prog_text.specs.Names.{routine_name}
+use Rattle.td_verify.specs.Safe.{IsSafe}
+use Rattle.td_verify_runs.specs.Laws.{TurnTakes}
+use Rattle.td_prog_steps.specs.Laid.{IsWellLaid, AreNumbers}
 use Rattle.td_prog_steps.proofs.Goods.{small_at}
 use Rattle.td_prog_steps.proofs.Whole.{function_at}
+use Rattle.td_prog_runs.proofs.Laying.{sound_is_laid}
+use Rattle.td_prog_runs.proofs.Sound.{busy}
+use Rattle.td_prog_laws.specs.Text.{ProgramIsText}
+use Rattle.td_prog_laws.proofs.Declared.{RoutineHas, has_routine, routine_once, declared_more}
+use Rattle.td_prog_laws.proofs.Gotos.{body_forward}
+use Rattle.td_prog_laws.proofs.Names.{identifiers, names_apart}
 
 each_below : (n : ℕ) (xs : List ℕ) → AreBelow n xs → Each (λ k. k < n) xs
 each_below n [] h = tt
@@ -40,7 +51,7 @@ both_cells a m (b ∷ bs) h = let l = h.0 in (omega (arith, l), (omega (arith, l
 
 -- helpers that take a position
 abbrev IsTaker : ℕ → Type 0
-IsTaker k = (k < 9) × IsAsked 1 0 (slice_get prelude k)
+IsTaker k = (k < 9) × HelperTakes 1 0 (slice_get prelude k)
 
 little_taker : (width : ℕ) → IsWidth width → IsTaker (little_helper width)
 little_taker width (inl e) = subst (λ w. IsTaker (little_helper w)) (sym e) (omega arith, (refl, refl))
@@ -205,9 +216,9 @@ module _ (c : Parts) (names : ℕ → List ℕ) (code : IsCode c) (sound : IsSou
     cell_count : length (cells_by c n m k) ≡ (routine_of c m).cells + 2 * length (routine_of c m).buffers
     cell_count =
         let front = length-take-le (routine_of c m).cells (map_of c k) (let e = h.size in omega (arith, e)) in
-        let both = length-append (take (routine_of c m).cells (map_of c k)) (buffer_cells (routine_of c n).cells (drop (routine_of c m).cells (map_of c k))) in
+        let block_means = length-append (take (routine_of c m).cells (map_of c k)) (buffer_cells (routine_of c n).cells (drop (routine_of c m).cells (map_of c k))) in
         let many = buffer_count (routine_of c n).cells (drop (routine_of c m).cells (map_of c k)) in
-        omega (arith, front, both, many, given_count)
+        omega (arith, front, block_means, many, given_count)
 
     given_each : Each (λ b. b < length (routine_of c n).buffers) (drop (routine_of c m).cells (map_of c k))
     given_each = each_below (length (routine_of c n).buffers) (drop (routine_of c m).cells (map_of c k)) (λ j l. (h.buffers j (omega (arith, l, given_count))).0)
@@ -218,9 +229,9 @@ module _ (c : Parts) (names : ℕ → List ℕ) (code : IsCode c) (sound : IsSou
         (each_below ((routine_of c n).cells + 2 * length (routine_of c n).buffers) (take (routine_of c m).cells (map_of c k)) (λ j l. let b = h.numbers j l in omega (arith, b)))
         (both_cells (routine_of c n).cells (length (routine_of c n).buffers) (drop (routine_of c m).cells (map_of c k)) given_each)
 
-    callee_there : m < length c.routines → IsCalled (routine_of c m).params (length (cells_by c n m k)) (length (drop (routine_of c m).cells (map_of c k))) (slice_get (functions c names 0 (length c.routines)) m)
+    callee_there : m < length c.routines → RoutineTakes (routine_of c m).params (length (cells_by c n m k)) (length (drop (routine_of c m).cells (map_of c k))) (slice_get (functions c names 0 (length c.routines)) m)
     callee_there l =
-        subst (IsCalled (routine_of c m).params (length (cells_by c n m k)) (length (drop (routine_of c m).cells (map_of c k)))) (sym (function_at c names (length c.routines) 0 m l ∙ (let e : 0 + m ≡ m = omega arith in ap (λ n. Some (function c names n)) e)))
+        subst (RoutineTakes (routine_of c m).params (length (cells_by c n m k)) (length (drop (routine_of c m).cells (map_of c k)))) (sym (function_at c names (length c.routines) 0 m l ∙ (let e : 0 + m ≡ m = omega arith in ap (λ n. Some (function c names n)) e)))
         (refl, sym cell_count, sym given_count)
 
   module _ (inside : n < length c.routines) where
@@ -334,7 +345,7 @@ module _ (c : Parts) (names : ℕ → List ℕ) (code : IsCode c) (sound : IsSou
           registers = subst (λ x. HasRegisters (routine_of c n).registers (callee_params c x) x) is (sound n pc place Register);
           tables = subst (HasTables c n) is (sound n pc place Table).0;
           operands = subst HasOperands is (sound n pc place Operand);
-          number = each_at (HasNumber c) c.instructions pc j numbers h;
+          number = each_at (HasNumber c) c.instructions pc j numbers.instructions h;
           calls = subst (λ z. CallsWell (depths (shapes_of c) (lengths_of c) n) n z) (shape_there c pc ∙ ap shape is) (sound n pc place Depth);
         }
 
@@ -364,25 +375,34 @@ module _ (c : Parts) (names : ℕ → List ℕ) (code : IsCode c) (sound : IsSou
     first_is [] h = tt
     first_is (b ∷ bs) h = h.0
 
-    one_is : IsFunction (program c names) n (function c names n)
-    one_is =
+    one_is : IsWellLaid c → IsFunction (program c names) n (function c names n)
+    one_is laid =
         let up = begin_up (lengths_of c) n (suc n) (omega arith) in
         let past = begin_up (lengths_of c) (suc n) (length c.routines) inside in
-        let w = code.whole in (
-          (code.routines n inside).room,
-          (tt, tt, (tt, tt, first_is (blocks c n (first_of c n) (code_from (first_of c n))) (all_are (end_of c n - first_of c n) (first_of c n) (omega (arith, up)) (omega arith) (omega (arith, past, w))))),
-          first_rising c n (first_of c n) (blocks c n (first_of c n) (code_from (first_of c n))) (blocks_rising c n (first_of c n) (code_from (first_of c n))),
-        )
+        let w = code.whole in
+        let first = first_of c n in
+        let own = blocks c n first (code_from first) in
+        let f = function c names n in
+        record {
+          room = (code.routines n inside).room;
+          once = routine_once f;
+          declared = declared_more (program c names) (RoutineHas (routine_of c n).registers) (HasVariable (routine_params f) (routine_locals f)) (has_routine f) f.cells f.buffers 9 n (body c n)
+              (tt, tt, (tt, tt, first_is own (all_are (end_of c n - first) first (omega (arith, up)) (omega arith) (omega (arith, past, w)))));
+          labels = record { once = first_rising c n first own (blocks_rising c n first (code_from first)); behind = body_forward c n first (code_from first) (laid.laid [] [] n inside) };
+        }
 
 -- Helpers
 module _ (p : Program) (same : p.helpers ≡ prelude) where
-  asked : (k args buffers : ℕ) → IsAsked args buffers (slice_get prelude k) → IsAsked args buffers (slice_get p.helpers k)
-  asked k args buffers h = subst (λ hs. IsAsked args buffers (slice_get hs k)) (sym same) h
+  asked : (k args buffers : ℕ) → HelperTakes args buffers (slice_get prelude k) → HelperTakes args buffers (slice_get p.helpers k)
+  asked k args buffers h = subst (λ hs. HelperTakes args buffers (slice_get hs k)) (sym same) h
 
   little_is : (n : ℕ) (name : List ℕ) (width : ℕ) → 0 < n → 64 - 8 * width < 2 ^ 64 → 2 ^ (8 * width) - 1 < 2 ^ 64 → IsHelper p n (little name width)
   little_is n name width some u v =
-      let a = asked 0 1 0 (refl, refl) in (
-        (
+      let a = asked 0 1 0 (refl, refl) in
+      record {
+        once = (refl, (refl, (refl, (refl, (refl, (refl, tt))))));
+        labels = record { once = tt; behind = (tt, tt) };
+        declared = (
           refl,
           ((refl, omega arith), omega arith),
           (
@@ -397,16 +417,18 @@ module _ (p : Program) (same : p.helpers ≡ prelude) where
               ((u, refl), (refl, some, a, (((refl, omega arith), omega arith), tt), tt, (refl, (refl, (refl, (omega arith, refl))), tt)), ((refl, v), tt)),
             ),
           ),
-        ),
-        tt,
-      )
+        );
+      }
 
-  big_is : (n : ℕ) (name : List ℕ) (width : ℕ) → little_helper width < n → IsAsked 1 0 (slice_get prelude (little_helper width)) → 64 - 8 * width < 2 ^ 64 → IsHelper p n (big name width)
-  big_is n name width some h u = ((refl, some, asked (little_helper width) 1 0 h, (refl, tt), tt, ((refl, u), tt)), tt)
+  big_is : (n : ℕ) (name : List ℕ) (width : ℕ) → little_helper width < n → HelperTakes 1 0 (slice_get prelude (little_helper width)) → 64 - 8 * width < 2 ^ 64 → IsHelper p n (big name width)
+  big_is n name width some h u =
+      record { once = (refl, (refl, (refl, (refl, tt)))); labels = record { once = tt; behind = tt }; declared = (refl, some, asked (little_helper width) 1 0 h, (refl, tt), tt, ((refl, u), tt)) }
 
   copy_is : IsHelper p 8 td_copy
-  copy_is = (
-    (
+  copy_is = record {
+    once = (refl, (refl, (refl, (refl, (refl, (refl, (refl, (refl, tt))))))));
+    labels = record { once = tt; behind = ((tt, (tt, (tt, tt))), tt) };
+    declared = (
       (refl, refl),
       (
         refl,
@@ -433,13 +455,12 @@ module _ (p : Program) (same : p.helpers ≡ prelude) where
         ),
       ),
       (refl, tt),
-    ),
-    tt,
-  )
+    );
+  }
 
   all_helpers : AreHelpers p 0 prelude
   all_helpers = (
-    (((refl, refl), (refl, tt), (refl, tt)), tt),
+    record { once = (refl, (refl, (refl, tt))); labels = record { once = tt; behind = (tt, tt) }; declared = ((refl, refl), (refl, tt), (refl, tt)) },
     (
       little_is 1 (codes "td_little_1") 1 (omega arith) (omega arith) (omega arith),
       (
@@ -464,10 +485,27 @@ module _ (p : Program) (same : p.helpers ≡ prelude) where
     ),
   )
 
-pub program_is_text : ProgramIsText
-program_is_text c names code sound numbers few = record { helpers = all_helpers (program c names) refl; routines = all_functions (length c.routines) 0 (omega arith) }
+pub program_is_text : ((c : Parts) → IsCode c → IsSound c → IsSafe c) → TurnTakes → ProgramIsText
+program_is_text safe_of takes c code sound numbers named = record {
+  helpers = all_helpers (program c (routine_name c)) refl;
+  routines = all_functions (length c.routines) 0 (omega arith);
+  identifiers = identifiers c named.spelled named.few;
+  apart = names_apart c named.few;
+  strings = named.spelled;
+}
   where
-    all_functions : (count first : ℕ) → first + count ≤ length c.routines → AreFunctions (program c names) first (functions c names first count)
+    constants : AreNumbers c
+    constants p into value e = each_at (HasNumber c) c.instructions p (i.Const into value) numbers.instructions e
+
+    laid : IsWellLaid c
+    laid = sound_is_laid c code sound (safe_of c code sound) constants (busy takes c code sound)
+
+    few : (n : ℕ) → n < length c.routines → Each (λ v. v < 2 ^ 64) (routine_of c n).buffers
+    few n l =
+        each_map (λ v. v < 2 ^ 32) (λ v. v < 2 ^ 64) (routine_of c n).buffers (λ v h. omega (arith, h))
+        (each_index (λ (r : Routine). Each (λ v. v < 2 ^ 32) r.buffers) c.routines no_routine n numbers.rooms l)
+
+    all_functions : (count first : ℕ) → first + count ≤ length c.routines → AreFunctions (program c (routine_name c)) first (functions c (routine_name c) first count)
     all_functions zero first l = tt
     all_functions (suc count) first l =
-        (one_is c names code sound numbers first (few first (omega (arith, l))) (omega (arith, l)), all_functions count (first + 1) (omega (arith, l)))
+        (one_is c (routine_name c) code sound numbers first (few first (omega (arith, l))) (omega (arith, l)) laid, all_functions count (first + 1) (omega (arith, l)))

@@ -1,0 +1,4 @@
+mod Fitting
+mod Entries
+mod Means
+mod Image

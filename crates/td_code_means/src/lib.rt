@@ -1,0 +1,4 @@
+//! What the code of a module does, from the code's own entry points.
+#![tactic(auto)]
+
+pub mod laws;
