@@ -1,14 +1,15 @@
 """Code as text and as the bytes of an image, and code made at random."""
 
 import functools
-import os
 import random
 import sys
 
 from instructions import FIELDS, FIELDS_OF, NUMBERS, places_of
 
 sys.dont_write_bytecode = True
-sys.path.append(os.path.dirname(os.path.dirname(os.path.dirname(os.path.abspath(__file__)))))
+from program import TOP  # noqa: E402
+
+sys.path.append(TOP)
 from tools import image  # noqa: E402
 
 # The reader of images, which those who import this module use under this name.

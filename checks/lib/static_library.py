@@ -1,5 +1,8 @@
-"""Builds a crate that is a static library over the libraries that stand in the tree. (`rt lib` would prove each library below anew
-after `rt ci`, which leaves no mark beside them of what they were made from. The crate itself is proved by this call, too.)"""
+"""Builds a crate that is a static library over the libraries that stand in the tree. The crate itself is proved by this call, too.
+
+`rt lib` would prove each library below anew after `rt ci`, which leaves no mark beside them of what they were made from. `rt help` has no
+word to build over the libraries as they are, so this calls the toolchain's module `rtlib` by names that are its own (`crates_below`,
+`below`, `compile`): another version may have others, and then COMPILE is the one place to change."""
 
 import os
 import subprocess
