@@ -10,7 +10,8 @@ use std::alloc::{AllocError, Global};
 // The same as `words_of_c`.
 static WORDS: [&[u8]; 115] = [b"auto", b"break", b"case", b"char", b"const", b"continue", b"default", b"do", b"double", b"else", b"enum", b"extern", b"float", b"for", b"goto", b"if", b"inline", b"int", b"long", b"register", b"restrict", b"return", b"short", b"signed", b"sizeof", b"static", b"struct", b"switch", b"typedef", b"union", b"unsigned", b"void", b"volatile", b"while", b"alignas", b"alignof", b"bool", b"constexpr", b"false", b"nullptr", b"static_assert", b"thread_local", b"true", b"typeof", b"typeof_unqual", b"asm", b"fortran", b"and", b"and_eq", b"bitand", b"bitor", b"catch", b"class", b"co_await", b"co_return", b"co_yield", b"compl", b"concept", b"const_cast", b"consteval", b"constinit", b"decltype", b"delete", b"dynamic_cast", b"explicit", b"export", b"final", b"friend", b"import", b"module", b"mutable", b"namespace", b"new", b"noexcept", b"not", b"not_eq", b"operator", b"or", b"or_eq", b"override", b"private", b"protected", b"public", b"reinterpret_cast", b"requires", b"static_cast", b"template", b"this", b"throw", b"try", b"typeid", b"typename", b"using", b"virtual", b"xor", b"xor_eq", b"NULL", b"EOF", b"I", b"errno", b"assert", b"stdin", b"stdout", b"stderr", b"offsetof", b"linux", b"unix", b"i386", b"mips", b"sparc", b"sun", b"vax", b"words", b"length", b"outcome"];
 
-fn is_equal(one: &[u8], other: &[u8]) -> bool
+/// Whether two names are the same bytes.
+pub fn is_equal(one: &[u8], other: &[u8]) -> bool
     ensures { result ≡ bytes_eq one.now other.now }
 {
     one == other
