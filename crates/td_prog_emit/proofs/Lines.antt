@@ -15,8 +15,8 @@ line_is e names members zero h = absurd (h refl)
 line_is e names members (suc n) h = refl
 
 -- what is written in one case alone
-pub chosen : {r : Result (Unit {0}) AllocError} {o n : List ℕ} {ps qs : Pieces} (b : Bool) → b ≡ true → Wrote r o n ps → Wrote r o n (cond b ps qs)
-chosen {r} {o} {n} {ps} {qs} b e w = recut w (ap (λ (z : Bool). text (cond z ps qs)) (sym e))
+pub chosen : {r : Result (Unit {0}) AllocError} {o n : List ℕ} {ps : Pieces} (qs : Pieces) (b : Bool) → b ≡ true → Wrote r o n ps → Wrote r o n (cond b ps qs)
+chosen {r} {o} {n} {ps} qs b e w = recut w (ap (λ (z : Bool). text (cond z ps qs)) (sym e))
 
-pub other : {r : Result (Unit {0}) AllocError} {o n : List ℕ} {ps qs : Pieces} (b : Bool) → b ≡ false → Wrote r o n qs → Wrote r o n (cond b ps qs)
-other {r} {o} {n} {ps} {qs} b e w = recut w (ap (λ (z : Bool). text (cond z ps qs)) (sym e))
+pub other : {r : Result (Unit {0}) AllocError} {o n : List ℕ} (ps : Pieces) {qs : Pieces} (b : Bool) → b ≡ false → Wrote r o n qs → Wrote r o n (cond b ps qs)
+other {r} {o} {n} ps {qs} b e w = recut w (ap (λ (z : Bool). text (cond z ps qs)) (sym e))

@@ -195,7 +195,16 @@ pub fn push_records(
     ensures { Wrote result out.old.items out.new.items (texts.lines (texts.indexed (texts.record_structs parts.now prefix.now entry.now names.now members.now) 0 entry.now.cells)) }
 {
     for k in 0..entry.cells.len() {
-        push_record_at(out, parts, prefix, entry, names, members, k, cell_at(entry, k))?;
+        push_record_at(
+            out,
+            parts,
+            prefix,
+            entry,
+            names,
+            members,
+            k,
+            cell_at(entry, k),
+        )?;
     }
     Ok(())
 }
@@ -240,7 +249,15 @@ pub fn push_copies(
 {
     let routine = entry.routine as usize;
     for k in 0..routine_at(parts, routine).buffers.len() {
-        push_copy_struct(out, parts, prefix, entry, names, k, room_at(parts, routine, k))?;
+        push_copy_struct(
+            out,
+            parts,
+            prefix,
+            entry,
+            names,
+            k,
+            room_at(parts, routine, k),
+        )?;
     }
     Ok(())
 }

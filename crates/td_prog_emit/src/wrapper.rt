@@ -248,7 +248,10 @@ fn push_body(
     ensures { Wrote result out.old.items out.new.items (texts.function_by parts.now prefix.now entry.now names.now members.now) }
 {
     push_entry_head(out, parts, prefix, entry, names)?;
-    push(out, b"\n{\n    struct td_run td_run = {words, 0, 0, outcome};\n")?;
+    push(
+        out,
+        b"\n{\n    struct td_run td_run = {words, 0, 0, outcome};\n",
+    )?;
     push_cells_line(out, entry, names, members, count)?;
     push(out, b"    uint64_t td_position;\n\n")?;
     push_empties(out, entry, names)?;
