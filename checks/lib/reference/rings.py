@@ -1,10 +1,12 @@
 """Rings of descriptors in a guest's memory: their fields in a host job, and where their descriptors stand."""
 
-from .jobs import MESSAGE_LIMIT, check_names, is_whole, require
+from dataclasses import dataclass
+from typing import Any
 
-RINGS_LIMIT = 16
-ENTRIES_LIMIT = 1_024
-TAKES_LIMIT = 4_096
+from limits import MOST_ENTRIES, MOST_MESSAGE, MOST_RINGS, MOST_TAKES
+
+from .jobs import check_names, is_whole, require
+
 FIELDS = ("base", "entries", "most", "takes")
 DESCRIPTOR_WORDS = 2
 # How a take finds a ring: the words of the report, and where a descriptor waits.
@@ -19,42 +21,45 @@ entrypoint typedef struct _DESC(UINT32 room, UINT32 most, mutable DESC_OUT *r) {
 """
 
 
+@dataclass(frozen=True)
 class Ring:
     """The word of the count, how many descriptors there is room for, how long a message may be, and how often the ring is looked at."""
 
-    def __init__(self, base, entries, most, takes):
-        self.base, self.entries, self.most, self.takes = base, entries, most, takes
+    base: int
+    entries: int
+    most: int
+    takes: int
 
-    def end(self):
+    def end(self) -> int:
         return self.base + 1 + DESCRIPTOR_WORDS * self.entries
 
-    def first_word(self, number):
+    def first_word(self, number: int) -> int:
         """The word of the buffer in which descriptor `number` begins."""
         return self.base + 1 + DESCRIPTOR_WORDS * (number % self.entries)
 
-    def standing(self, taken, made):
+    def standing(self, taken: int, made: int) -> str:
         if made == taken:
             return IDLE
         return WAITING if 0 < made - taken <= self.entries else OVERRUN
 
-    def words(self):
+    def words(self) -> int:
         """How many words its takes count for in a job's total."""
         return self.takes * (self.most // 8 + DESCRIPTOR_WORDS)
 
 
-def ring_of(ring, path, words):
+def ring_of(ring: Any, path: str, words: int) -> Ring:
     require(isinstance(ring, dict), "J2", path)
     for name in FIELDS:
         require(is_whole(ring.get(name)), "J2", "%s.%s" % (path, name))
     check_names(ring, set(FIELDS), path + ".%s")
     found = Ring(*[ring[name] for name in FIELDS])
     require(found.end() <= words, "J7", path)
-    require(1 <= found.entries <= ENTRIES_LIMIT and found.most <= MESSAGE_LIMIT and found.takes <= TAKES_LIMIT, "J8", path)
+    require(1 <= found.entries <= MOST_ENTRIES and found.most <= MOST_MESSAGE and found.takes <= MOST_TAKES, "J8", path)
     return found
 
 
-def rings_of(job, words):
+def rings_of(job: dict[str, Any], words: int) -> list[Ring]:
     rings = job.get("rings", [])
     require(isinstance(rings, list), "J2", "rings")
-    require(len(rings) <= RINGS_LIMIT, "J8", "rings")
+    require(len(rings) <= MOST_RINGS, "J8", "rings")
     return [ring_of(ring, "rings[%d]" % index, words) for index, ring in enumerate(rings)]
