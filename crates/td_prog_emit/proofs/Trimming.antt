@@ -1,5 +1,5 @@
 -- Names without `_` at their ends.
-use Rattle.std.proofs.Common.{◌≡◌, ℕ, List, [], ◌∷◌, ◌++◌, Bool, true, false, cond, nat_eq, eqb-true, refl, ap, ◌∙◌}
+use Rattle.std.proofs.Common.{◌≡◌, ℕ, List, [], ◌∷◌, ◌++◌, Bool, true, false, cond, nat_eq, eqb-true, refl, ap}
 use Rattle.td_prog_text.specs.Names.{trimmed, trimmed_by}
 
 pub trimmed_push : (xs : List ℕ) → trimmed (xs ++ 95 ∷ []) ≡ trimmed xs

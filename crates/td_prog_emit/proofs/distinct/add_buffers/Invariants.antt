@@ -1,5 +1,4 @@
 use Rattle.std.proofs.Common.{◌≡◌, map, take}
-use Rattle.td_core.specs.declared.module.NameId.{NameId}
 use Rattle.td_prog_text.specs.Entries.{own}
 use Rattle.td_prog_text.specs.Names.{distinct}
 use Rattle.td_prog_emit.proofs.distinct.add_buffers.Given as goal

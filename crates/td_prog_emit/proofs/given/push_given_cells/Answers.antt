@@ -1,5 +1,4 @@
-use Rattle.std.proofs.Common.{◌<◌, length, refl, arith}
-use Rattle.td_ir.specs.Tables.{cell_of}
+use Rattle.std.proofs.Common.{◌<◌, length, arith}
 use Rattle.td_prog_emit.proofs.Indexed.{written_all, written_more}
 use Rattle.td_prog_text.specs.Entries.{cell_argument}
 use Rattle.td_prog_emit.proofs.given.push_given_cells.Goals as goal
