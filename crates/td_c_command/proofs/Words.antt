@@ -55,11 +55,11 @@ two_names = refl
 
 source : Means (codes "tdc" ∷ codes "c" ∷ codes "point" ∷ []) (record { file = Source; prefix = codes "point" })
 unfolding clap_on_literals command_app named_shape
-source = (refl, refl, refl)
+source = (refl, (refl, refl))
 
 header : Means (codes "tdc" ∷ codes "header" ∷ codes "point" ∷ []) (record { file = Header; prefix = codes "point" })
 unfolding clap_on_literals command_app named_shape
-header = (refl, refl, refl)
+header = (refl, (refl, refl))
 
 -- ---- what a parse found
 

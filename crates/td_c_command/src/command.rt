@@ -41,11 +41,7 @@ fn file_of(word: &str) -> Option<CFile>
 }
 
 // The command of a word and the name behind it.
-fn command_by(
-    alloc: Global,
-    word: &str,
-    name: Option<&str>,
-) -> Result<Option<Command>, AllocError>
+fn command_by(alloc: Global, word: &str, name: Option<&str>) -> Result<Option<Command>, AllocError>
     ensures { IfOk result (IsThe (Fits word.now (option_map (λ text. text.now) name.entry))) }
 {
     match file_of(word) {

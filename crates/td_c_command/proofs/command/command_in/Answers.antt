@@ -1,7 +1,5 @@
-use Rattle.std.proofs.Common.{◌≡◌, ◌∙◌, sym, codes, Option, List, ℕ, subst}
-use Rattle.clap.specs.Walk.{first_of}
+use Rattle.std.proofs.Common.{◌∙◌, codes}
 use Rattle.clap.specs.Words.{found_of, rows_of, subcommand_rows_of}
-use Rattle.clap.specs.Matches.{first_value}
 use Rattle.clap.specs.declared.parser.matches.ArgMatches.TheViews.{out-ArgMatches}
 use Rattle.clap.proofs.WalkLemmas.{first_value-rows}
 use Rattle.td_c_command.proofs.Words.{entered, command_found}

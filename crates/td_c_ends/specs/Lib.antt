@@ -1,0 +1,5 @@
+pub mod Status
+pub mod Causes
+pub mod Lines
+pub mod Errors
+pub mod Passages

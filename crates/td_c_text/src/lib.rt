@@ -1,0 +1,5 @@
+//! The C of a module. The layer above rests on one promise: the bytes of both files are the text of the program of the code
+//! that is written of the module, and that program tells what the module means, whatever memory gives to its loads.
+#![tactic(auto)]
+
+pub mod laws;
