@@ -8,7 +8,8 @@ mod refusal;
 mod status;
 
 pub use finish::{
-    finish_bytes, finish_out_of_memory, finish_refused, finish_unanswered, finish_unread, finish_usage,
+    finish_bytes, finish_out_of_memory, finish_refused, finish_unanswered, finish_unread,
+    finish_usage,
 };
 pub use refusal::{InputError, Refusal, of_module};
 pub use status::Status;
