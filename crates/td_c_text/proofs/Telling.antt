@@ -1,7 +1,5 @@
 -- The numbers of a module text's code are those of the image that it has.
-use Rattle.std.proofs.Common.{◌≡◌, ℕ, List, refl, subst}
-use Rattle.td_core.specs.declared.module.Module.{Module}
-use Rattle.td_ir.specs.declared.tables.Parts.{Parts}
+use Rattle.std.proofs.Common.{ℕ, List, refl, subst}
 use Rattle.td_front.specs.Laws.{OneModuleEach, ModulesAreChecked}
 use Rattle.td_image.specs.Answer as images
 use Rattle.td_image.specs.Answer.{IsImage}
