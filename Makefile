@@ -30,7 +30,7 @@ install-scripts:
 	for folder in $(FOLDERS); do \
 	  find $$folder -name __pycache__ -prune -o -type f -exec install -D -m 644 {} $(AT)/{} \; ; \
 	done
-	install -m 644 -D checks/lib/instructions.py $(AT)/checks/lib/instructions.py
+	for name in instructions limits; do install -m 644 -D checks/lib/$$name.py $(AT)/checks/lib/$$name.py; done
 	for file in $(FILES); do install -m 644 -D $$file $(AT)/$$file; done
 	for name in td $(SCRIPTS); do \
 	  install -m 755 $$name $(AT)/$$name && ln -sf ../$(notdir $(libdir))/td/$$name $(DESTDIR)$(bindir)/$$name; \

@@ -3,14 +3,19 @@ of `bench` or the code of a long text, a function that tells whether it looks ri
 
 import re
 
-INPUT_LIMIT = 4_194_304
-MESSAGE_LIMIT = 1_048_576
-STORES_LIMIT = 65_536
-POSTS_LIMIT = 4_096
-WORDS_LIMIT = 1_048_576
-MOST_DEFINITIONS = 4_000
-MOST_NODES = 60_000
-FIELDS = 256
+from limits import (
+    MOST_BENCHED,
+    MOST_DEFINITIONS,
+    MOST_DEPTH,
+    MOST_FIELDS,
+    MOST_INPUT,
+    MOST_MESSAGE,
+    MOST_NODES,
+    MOST_POSTS,
+    MOST_STORES,
+    MOST_WORDS,
+)
+
 # Elements of the arrays that are as large at each size, so that what grows is an element's type.
 LEVELLED = 32_768
 BY_CASE = 65_536
@@ -32,14 +37,14 @@ def message(size, first, report):
     The struct has 2 KiB, so the validator reads no more of the message, whatever its size: what grows is the reading
     of the job and the making of the memory.
     """
-    fields = ["UINT64 f%d { f%d >= %d };" % (i, i, first if i == 0 else 0) for i in range(FIELDS)]
+    fields = ["UINT64 f%d { f%d >= %d };" % (i, i, first if i == 0 else 0) for i in range(MOST_FIELDS)]
     module = "entrypoint typedef struct _M { %s } M;\n" % " ".join(fields)
     job = '{"entry":"M","length":%d,"bytes":"%s"}\n' % (size, "00" * size)
     return "run", module + "%%\n" + job, report
 
 
 def accepted_message(size):
-    return message(size, 0, "accept %d\n" % (8 * FIELDS) + zero_loads(FIELDS))
+    return message(size, 0, "accept %d\n" % (8 * MOST_FIELDS) + zero_loads(MOST_FIELDS))
 
 
 def refused_message(size):
@@ -76,7 +81,7 @@ ANY = "typedef struct _I { UINT64 x { true }; } I;"
 WIDE = "typedef struct _I { UINT64 x { x == 0 }; } I;"
 VARIABLE = "typedef struct _I { UINT8 n { n <= 3 }; UINT8 d[n]; } I;"
 CHAINED = "typedef struct _I { UINT8 f0; %s } I;" % " ".join(
-    "UINT8 f%d { f%d >= f%d };" % (i, i, i - 1) for i in range(1, FIELDS)
+    "UINT8 f%d { f%d >= f%d };" % (i, i, i - 1) for i in range(1, MOST_FIELDS)
 )
 
 
@@ -218,7 +223,7 @@ def chained_definitions(count):
     """Structs in chains of 32, each with a field of the one before."""
     found = []
     for place in range(count):
-        inner = "UINT8 a;" if place % 32 == 0 else "T%d a; UINT8 b;" % (place - 1)
+        inner = "UINT8 a;" if place % MOST_DEPTH == 0 else "T%d a; UINT8 b;" % (place - 1)
         found.append("typedef struct _T%d { %s } T%d;" % (place, inner, place))
     return checked(found, count, 0)
 
@@ -318,26 +323,26 @@ def hosted_words(count):
 
 
 CASES = [
-    ("message, all 256 fields accepted", "bytes", MESSAGE_LIMIT, accepted_message),
-    ("message, rejected at its first field", "bytes", MESSAGE_LIMIT, refused_message),
-    ("array of bytes", "bytes", MESSAGE_LIMIT, array("", "UINT8 a[:byte-size n];", nothing_loaded)),
-    ("array of tested bytes", "bytes", MESSAGE_LIMIT, array(BYTE, "I a[:byte-size n];", all_zeros_loaded)),
-    ("array of 8-byte structs", "bytes", MESSAGE_LIMIT, array(PAIR, "I a[:byte-size n];", nothing_loaded)),
-    ("array of tested 8-byte structs", "bytes", MESSAGE_LIMIT, array(WIDE, "I a[:byte-size n];", all_zeros_loaded)),
-    ("array of structs of some size", "bytes", MESSAGE_LIMIT, array(VARIABLE, "I a[:byte-size n];", all_zeros_loaded)),
-    ("array of structs of 256 fields", "bytes", MESSAGE_LIMIT, array(CHAINED, "I a[:byte-size n];", all_zeros_loaded)),
-    ("array up to a zero", "bytes", MESSAGE_LIMIT, array("", "UINT8 a[:zeroterm-byte-size-at-most n];", all_ones_loaded, "01")),
-    ("single element of zeros", "bytes", MESSAGE_LIMIT, array("", "all_zeros a[:byte-size-single-element-array n];", all_zeros_loaded)),
-    ("input, one comment", "bytes", INPUT_LIMIT, one_comment),
-    ("input, comments of five bytes", "bytes", INPUT_LIMIT, many_comments),
-    ("input, spaces", "bytes", INPUT_LIMIT, spaces),
-    ("stores to one word", "stores", STORES_LIMIT, stores),
-    ("stores to as many words", "stores", STORES_LIMIT, stores_to_words(list)),
-    ("stores to as many words, last first", "stores", STORES_LIMIT, stores_to_words(reversed)),
+    ("message, all 256 fields accepted", "bytes", MOST_MESSAGE, accepted_message),
+    ("message, rejected at its first field", "bytes", MOST_MESSAGE, refused_message),
+    ("array of bytes", "bytes", MOST_MESSAGE, array("", "UINT8 a[:byte-size n];", nothing_loaded)),
+    ("array of tested bytes", "bytes", MOST_MESSAGE, array(BYTE, "I a[:byte-size n];", all_zeros_loaded)),
+    ("array of 8-byte structs", "bytes", MOST_MESSAGE, array(PAIR, "I a[:byte-size n];", nothing_loaded)),
+    ("array of tested 8-byte structs", "bytes", MOST_MESSAGE, array(WIDE, "I a[:byte-size n];", all_zeros_loaded)),
+    ("array of structs of some size", "bytes", MOST_MESSAGE, array(VARIABLE, "I a[:byte-size n];", all_zeros_loaded)),
+    ("array of structs of 256 fields", "bytes", MOST_MESSAGE, array(CHAINED, "I a[:byte-size n];", all_zeros_loaded)),
+    ("array up to a zero", "bytes", MOST_MESSAGE, array("", "UINT8 a[:zeroterm-byte-size-at-most n];", all_ones_loaded, "01")),
+    ("single element of zeros", "bytes", MOST_MESSAGE, array("", "all_zeros a[:byte-size-single-element-array n];", all_zeros_loaded)),
+    ("input, one comment", "bytes", MOST_INPUT, one_comment),
+    ("input, comments of five bytes", "bytes", MOST_INPUT, many_comments),
+    ("input, spaces", "bytes", MOST_INPUT, spaces),
+    ("stores to one word", "stores", MOST_STORES, stores),
+    ("stores to as many words", "stores", MOST_STORES, stores_to_words(list)),
+    ("stores to as many words, last first", "stores", MOST_STORES, stores_to_words(reversed)),
     ("definitions in chains of 32", "definitions", MOST_DEFINITIONS, chained_definitions),
     ("definitions that name thirteen others", "definitions", MOST_DEFINITIONS, wide_definitions),
     ("constants", "definitions", MOST_DEFINITIONS, constants),
-    ("definitions with long names", "bytes", INPUT_LIMIT, long_names),
+    ("definitions with long names", "bytes", MOST_INPUT, long_names),
     ("cases", "cases", 256, many_cases),
     ("elements of the last case", "cases", 256, elements_by_case),
     ("elements of nested types", "levels", 32, levels_of_types),
@@ -349,10 +354,10 @@ CASES = [
 
 # Left out, with a line that says so, where the program doesn't take the command.
 LATER = [
-    ("tidy, one comment", "bytes", INPUT_LIMIT, tidied_comment),
-    ("tidy, long names", "bytes", INPUT_LIMIT, tidied_names),
+    ("tidy, one comment", "bytes", MOST_INPUT, tidied_comment),
+    ("tidy, long names", "bytes", MOST_INPUT, tidied_names),
     ("tidy, nodes", "nodes", MOST_NODES, tidied_nodes),
-    ("bench", "messages", 10_000, benched),
+    ("bench", "messages", MOST_BENCHED, benched),
     ("code, nodes", "nodes", MOST_NODES, coded(many_nodes)),
     ("code, definitions in chains", "definitions", MOST_DEFINITIONS, coded(chained_definitions)),
     ("code, definitions that name others", "definitions", MOST_DEFINITIONS, coded(wide_definitions)),
@@ -361,7 +366,7 @@ LATER = [
     ("pack, definitions in chains", "definitions", MOST_DEFINITIONS, packed(chained_definitions)),
     ("pack, definitions that name others", "definitions", MOST_DEFINITIONS, packed(wide_definitions)),
     ("pack, cases", "cases", 256, packed(many_cases)),
-    ("host, posts", "posts", POSTS_LIMIT, hosted_posts),
-    ("host, stores", "stores", STORES_LIMIT, hosted_stores),
-    ("host, words of messages", "words", WORDS_LIMIT, hosted_words),
+    ("host, posts", "posts", MOST_POSTS, hosted_posts),
+    ("host, stores", "stores", MOST_STORES, hosted_stores),
+    ("host, words of messages", "words", MOST_WORDS, hosted_words),
 ]

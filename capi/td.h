@@ -40,9 +40,13 @@ typedef enum {
   TD_I6 = 16        /* the verifier refuses the code: the place is the instruction's, the rule 1 to 7 for V1 to V7 */
 } td_code;
 
+/* Headers of written C have the same lines: the first that is included counts. */
+#ifndef TD_REASONS
+#define TD_REASONS
 typedef enum {
   TD_NOT_ENOUGH = 0, TD_IMPOSSIBLE = 1, TD_LIST_SIZE = 2, TD_ACTION = 3, TD_CONSTRAINT = 4, TD_PADDING = 5, TD_NO_REASON = 6
 } td_reason;
+#endif
 
 typedef enum { TD_FIELD = 0, TD_WHERE = 1, TD_SWITCH = 2 } td_spot;
 

@@ -15,7 +15,7 @@ KEYWORDS = set(
     # what headers and compilers may define as macros
     " NULL EOF I errno assert stdin stdout stderr offsetof linux unix i386 mips sparc sun vax"
     # the parameters of each written function
-    " words length outcome".split()
+    " message length outcome".split()
 )
 # Names that C's headers, or the written code, have for themselves.
 TAKEN = re.compile(r"td_\w*|TD_\w*|\w*_t|U?INT\w*|PTRDIFF_\w*|SIZE_\w*|WCHAR_\w*|WINT_\w*|SIG_ATOMIC_\w*|E[A-Z0-9]\w*|SIG\w*")

@@ -1,12 +1,19 @@
 """Images of code, read strictly, as tables (docs/language/images.md)."""
 
 from instructions import FIELDS, FIELDS_OF, NAMES
+from limits import (
+    FIRST_IMAGE_INSTRUCTIONS,
+    FIRST_IMAGE_ROWS,
+    IMAGE_BUFFERS,
+    IMAGE_CELLS,
+    IMAGE_INSTRUCTIONS,
+    IMAGE_MAPPED,
+    IMAGE_PARAMETERS,
+    IMAGE_REGISTERS,
+    IMAGE_ROOM,
+    IMAGE_ROWS,
+)
 
-MOST_CELLS = 64
-MOST_BUFFERS = 16
-MOST_ROOM = 65_536
-MOST_PARAMETERS = 16
-MOST_REGISTERS = 65_535
 NO_FIELD = 0xFFFFFFFF
 TABLES = ("names", "sites", "cell maps", "sets", "routines", "entries", "instructions")
 
@@ -28,14 +35,14 @@ class Version:
         self.most_rows, self.most_instructions = most_rows, most_instructions
         self.has_owners = self.has_dots = is_parted
         self.has_buffers = has_buffers
-        self.most_mapped = MOST_CELLS + (MOST_BUFFERS if has_buffers else 0)
+        self.most_mapped = IMAGE_MAPPED if has_buffers else IMAGE_CELLS
         self.kinds = [kind for kind in NAMES if has_buffers or kind != "Copy"]
 
 
 VERSIONS = {
-    1: Version(65_536, 1_048_576, False, False),
-    2: Version(1_048_576, 4_194_304, True, False),
-    3: Version(1_048_576, 4_194_304, True, True),
+    1: Version(FIRST_IMAGE_ROWS, FIRST_IMAGE_INSTRUCTIONS, False, False),
+    2: Version(IMAGE_ROWS, IMAGE_INSTRUCTIONS, True, False),
+    3: Version(IMAGE_ROWS, IMAGE_INSTRUCTIONS, True, True),
 }
 
 
@@ -129,8 +136,8 @@ class Reader:
 
     def rooms(self, what):
         """The room of each copy buffer."""
-        count = self.at_most(MOST_BUFFERS, "the count of buffers %s" % what) if self.version.has_buffers else 0
-        return [self.number(4, "the room of buffer %d %s" % (k, what), lambda room: 1 <= room <= MOST_ROOM) for k in range(count)]
+        count = self.at_most(IMAGE_BUFFERS, "the count of buffers %s" % what) if self.version.has_buffers else 0
+        return [self.number(4, "the room of buffer %d %s" % (k, what), lambda room: 1 <= room <= IMAGE_ROOM) for k in range(count)]
 
     def routines(self, counts):
         """Of each name, parameters, cells, registers and length, and behind them the room of each buffer."""
@@ -138,10 +145,10 @@ class Reader:
         for number in range(counts[4]):
             what = "of routine %d" % number
             name = self.below(counts[0], "the name %s" % what)
-            params = self.at_most(MOST_PARAMETERS, "the count of parameters %s" % what)
-            cells = self.at_most(MOST_CELLS, "the count of cells %s" % what)
+            params = self.at_most(IMAGE_PARAMETERS, "the count of parameters %s" % what)
+            cells = self.at_most(IMAGE_CELLS, "the count of cells %s" % what)
             registers = self.number(
-                4, "the count of registers %s" % what, lambda count, least=params: least <= count <= MOST_REGISTERS
+                4, "the count of registers %s" % what, lambda count, least=params: least <= count <= IMAGE_REGISTERS
             )
             is_last = number == counts[4] - 1
             length = self.number(

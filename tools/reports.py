@@ -2,6 +2,8 @@
 
 import re
 
+from limits import MOST_GUESTS, MOST_RINGS, MOST_STRETCHES, MOST_SWAPS
+
 LARGEST = 2**64 - 1
 MOST_DIGITS = len(str(LARGEST))
 NUMBER = re.compile(r"0|[1-9][0-9]*")
@@ -12,10 +14,6 @@ CELL = re.compile(r"%s(\.%s)?" % (NAME, NAME))
 BUFFER = re.compile(NAME)
 VALUE = re.compile(r"[0-9a-f]{16}")
 BYTES = re.compile(r"([0-9a-f]{2})+")
-MOST_GUESTS = 16
-MOST_STRETCHES = 64
-MOST_SWAPS = 16
-MOST_RINGS = 16
 REASONS = ("notenough", "constraint", "impossible", "listsize", "action", "padding")
 MODULE_ERROR = re.compile(r"error ([A-Z][0-9]) ([1-9][0-9]*):([1-9][0-9]*) (.+)")
 INPUT_ERROR = re.compile(r"error (Z[0-9]) (.+)")

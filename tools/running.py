@@ -6,8 +6,8 @@ import signal
 import subprocess
 
 from . import TOP
+from limits import MOST_MESSAGE, grouped
 
-MESSAGE = 1_048_576
 HEXADECIMAL = set("0123456789abcdefABCDEF")
 
 
@@ -79,9 +79,9 @@ def filled(name, job, data=None, path=None):
             raise Wrong("%s: the job isn't a JSON object, so the bytes of '%s' have no place in it" % (name, path))
         if "bytes" in fields:
             raise Wrong("%s: the job has `bytes` of its own, so those of '%s' have no place in it" % (name, path))
-        if len(data) > MESSAGE and "stretches" not in fields:
-            said = "%s: the file '%s' has %d bytes, and a message at most 1,048,576: `td-job --skip N --length N` takes a part of it"
-            raise Wrong(said % (name, path, len(data)))
+        if len(data) > MOST_MESSAGE and "stretches" not in fields:
+            said = "%s: the file '%s' has %d bytes, and a message at most %s: `td-job --skip N --length N` takes a part of it"
+            raise Wrong(said % (name, path, len(data), grouped(MOST_MESSAGE)))
         more["bytes"] = data.hex()
     if fields is not None and "length" not in fields and is_bytes(more.get("bytes", fields.get("bytes"))):
         more["length"] = length_of(fields, more.get("bytes", fields.get("bytes")))

@@ -2,9 +2,10 @@
 
 import re
 
+from limits import MOST_GUESTS, MOST_MESSAGE, MOST_POSTS, MOST_STORES, MOST_STRETCHES, grouped
+
 from .running import Wrong
 
-MOST_GUESTS, MOST_STORES, MOST_POSTS, MESSAGE, MOST_STRETCHES = 16, 65_536, 4_096, 1_048_576, 64
 NUMBER = re.compile(r"0|[1-9][0-9]{0,18}")
 MEMORY_ORDER = re.compile(r"[0-9a-fA-F]{16}")
 AS_NUMBER = re.compile(r"0[xX][0-9a-fA-F]{1,16}")
@@ -47,15 +48,15 @@ def step_of(words, line, wrong):
         if digits is None:
             raise wrong(line, "`%s` is no value: 16 hexadecimal digits in memory order, or a number that begins with 0x" % value)
         return Step(line, int(guest), verb, int(word), digits)
-    if not NUMBER.fullmatch(value) or int(value) > MESSAGE:
-        raise wrong(line, "`%s` is no length of a message: at most 1,048,576 bytes" % value)
+    if not NUMBER.fullmatch(value) or int(value) > MOST_MESSAGE:
+        raise wrong(line, "`%s` is no length of a message: at most %s bytes" % (value, grouped(MOST_MESSAGE)))
     return Step(line, int(guest), verb, int(word), int(value))
 
 
 def stretches_of(texts, line, wrong):
     found = [[int(number) for number in STRETCH.fullmatch(text).groups()] for text in texts]
-    if len(found) > MOST_STRETCHES or sum(size for _, size in found) > MESSAGE:
-        raise wrong(line, "a message has at most %d stretches and 1,048,576 bytes" % MOST_STRETCHES)
+    if len(found) > MOST_STRETCHES or sum(size for _, size in found) > MOST_MESSAGE:
+        raise wrong(line, "a message has at most %d stretches and %s bytes" % (MOST_STRETCHES, grouped(MOST_MESSAGE)))
     return found
 
 
@@ -76,7 +77,8 @@ def steps_of(name, path, data):
             steps.append(step_of(words, line, wrong))
     stores = [step for step in steps if step.verb == "store"]
     if len(stores) > MOST_STORES:
-        raise wrong(stores[MOST_STORES].line, "this is store number 65,537, and a job has at most 65,536")
+        said = "this is store number %s, and a job has at most %s" % (grouped(MOST_STORES + 1), grouped(MOST_STORES))
+        raise wrong(stores[MOST_STORES].line, said)
     return steps
 
 
@@ -120,5 +122,6 @@ def guests_of(name, path, steps, words, has_rings=False):
     if not posts and not (has_rings and scripts):
         raise Wrong("%s: the trace '%s' posts no message: a line `1 post 0 LENGTH` posts one that begins at word 0" % (name, path))
     if len(posts) > MOST_POSTS:
-        raise Wrong("%s: the trace '%s', line %d: this is post number 4,097, and a job has at most 4,096" % (name, path, posts[MOST_POSTS].line))
+        said = "%s: the trace '%s', line %d: this is post number %s, and a job has at most %s"
+        raise Wrong(said % (name, path, posts[MOST_POSTS].line, grouped(MOST_POSTS + 1), grouped(MOST_POSTS)))
     return [{"script": script} for script in scripts]

@@ -14,7 +14,7 @@ COMPILERS = ("cc", "gcc", "clang")
 FLAGS = ["-std=c11", "-Wall", "-Wextra", "-Werror", "-Wpedantic", "-Wshadow", "-Wconversion"]
 # What C leaves undefined ends the check.
 SANITIZED = ["-fsanitize=undefined", "-fsanitize-undefined-trap-on-error"]
-REASONS = ("accept", "notenough", "impossible", "listsize", "action", "constraint", "padding")
+REASONS = ("notenough", "impossible", "listsize", "action", "constraint", "padding", "accept")
 MOST_LOADS = 131_072
 MOST_FRAMES = 32
 NUMBERS = {0: ctypes.c_uint32, 8: ctypes.c_uint8, 16: ctypes.c_uint16, 32: ctypes.c_uint32, 64: ctypes.c_uint64}
@@ -48,6 +48,12 @@ uint64_t test_load(const uint64_t *word)
     return value;
 }
 """ % MOST_LOADS
+
+
+def verdict_of(accepted, reason):
+    """The reason's word, if the answer and the reason are one verdict."""
+    word = REASONS[reason] if 0 <= reason < len(REASONS) else ""
+    return word if word and accepted == (word == "accept") else "two verdicts"
 
 
 class Frame(ctypes.Structure):
@@ -107,10 +113,11 @@ class Validator:
         self.complaint = compiled(compiler, words)
         self.library = None if self.complaint else ctypes.CDLL(library)
 
-    def watch(self, words, length, overwrites, stores):
+    def watch(self, words, last, overwrites, stores):
+        """`last` is the byte of the words at which the message ends."""
         numbers = [number for store in sorted(stores, key=lambda store: store[0]) for number in store]
         self.plan = (ctypes.c_uint64 * max(1, len(numbers)))(*numbers)
-        sizes = map(ctypes.c_uint64, (-(-length // 8), overwrites, len(stores)))
+        sizes = map(ctypes.c_uint64, (-(-last // 8), overwrites, len(stores)))
         count, overwrites, stores = sizes
         self.library.test_begin(words, count, overwrites, self.plan, stores)
 
@@ -121,8 +128,8 @@ class Validator:
         loaded = (ctypes.c_uint64 * 2 * MOST_LOADS).in_dll(self.library, "loaded")
         return [(loaded[k][0], loaded[k][1]) for k in range(self.library.test_loads())]
 
-    def run(self, entry, arguments, cells, memory, length, overwrites=False, stores=()):
-        """How a run ends: verdict, position, frames, cells, copies and loads."""
+    def run(self, entry, arguments, cells, memory, length, overwrites=False, stores=(), lead=0):
+        """How a run ends: verdict, position, frames, cells, copies and loads. The message begins behind `lead` bytes of the memory."""
         routine, params, own_cells = self.code.entries[entry][:3]
         rooms = self.code.routines[routine][5:]
         padded = memory + bytes(-len(memory) % 8)
@@ -137,7 +144,7 @@ class Validator:
             structs.append(kind(*[cells[number] for number, _ in members]))
         # What an earlier run left in a buffer is no part of the next one's copy.
         copies = [copy_of(room)(room, (0xAA,) * room) for room in rooms]
-        outcome = Outcome(reason=-1)
+        outcome = Outcome(reason=len(REASONS))
         given = [NUMBERS[bits](value) for (_, bits), value in zip(params, arguments)]
         given += [ctypes.byref(struct) for struct in structs + copies]
         # In the names of C a `_` stands in the place of the dot that the types of parts have.
@@ -145,12 +152,12 @@ class Validator:
         call = getattr(self.library, "%s_validate_%s" % (self.name, entry_name))
         call.restype = ctypes.c_bool
         if self.is_watched:
-            self.watch(words, length, overwrites, stores)
-        accepted = call(ctypes.byref(words), ctypes.c_uint32(length), *given, ctypes.byref(outcome))
+            self.watch(words, lead + length, overwrites, stores)
+        accepted = call(ctypes.byref(words, lead), ctypes.c_uint32(length), *given, ctypes.byref(outcome))
         left = {name: getattr(struct, name) for struct in structs for name, _ in struct._fields_}
         frames = [outcome.frame[k] for k in range(outcome.count)]
         return Ended(
-            REASONS[outcome.reason] if accepted == (outcome.reason == 0) else "two verdicts",
+            verdict_of(accepted, outcome.reason),
             outcome.position,
             [(frame.type.decode(), frame.field.decode(), frame.start) for frame in frames],
             [left["n%d" % number] for number in range(len(own_cells))],
@@ -174,8 +181,8 @@ class Ended:
     def without_loads(self):
         return self.reason, self.position, self.frames, self.cells, self.copies
 
-    def report(self, code, entry):
-        """The report that `td run` writes of such a run."""
+    def report(self, code, entry, stretch=""):
+        """The report that `td run` writes of such a run; `stretch` is how it begins to tell a load's place."""
         verdict = self.reason if self.reason == "accept" else "reject " + self.reason
         lines = ["%s %d" % (verdict, self.position)]
         lines += ["frame %s.%s %d" % frame for frame in self.frames]
@@ -183,14 +190,14 @@ class Ended:
         for (name, field, _), value in zip(own_cells, self.cells):
             lines.append("out %s%s %d" % (code.name(name), "" if field == NO_FIELD else "." + code.name(field), value))
         lines += [("copy %s %s" % (code.name(name), copy.hex())).rstrip() for name, copy in zip(buffers, self.copies)]
-        return lines + ["load %d %016x" % load for load in self.loads]
+        return lines + ["load %s%d %016x" % (stretch, *load) for load in self.loads]
 
     def line(self, code):
         """The line that td_try_code writes of it, in numbers."""
-        verdict = "accept" if self.reason == "accept" else "reject %d" % (REASONS.index(self.reason) - 1)
+        verdict = "accept" if self.reason == "accept" else "reject %d" % REASONS.index(self.reason)
         words = ["%s %d" % (verdict, self.position)]
         for ty, field, start in self.frames:
             spot = field if field in ("where", "switch") else code.names.index(field.encode())
-            words.append("f %d %s %d %d" % (code.names.index(ty.encode()), spot, REASONS.index(self.reason) - 1, start))
+            words.append("f %d %s %d %d" % (code.names.index(ty.encode()), spot, REASONS.index(self.reason), start))
         words += ["c %d" % cell for cell in self.cells] + ["b %s" % (copy.hex() or "-") for copy in self.copies]
         return " ".join(words + ["l %d %d" % load for load in self.loads])

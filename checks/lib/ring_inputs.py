@@ -1,5 +1,7 @@
 """Rings of descriptors made at random, for host jobs, and what guests store to them."""
 
+from limits import MOST_MESSAGE
+
 OTHERS = [None, 1, [], [1], {}, "a", 1.5, -1, 2**64, True]
 
 
@@ -22,7 +24,7 @@ class RingMaker:
     def ring(self, base, given):
         """A ring at a word of the buffer, for messages in the bytes before it, and the text of its words."""
         entries = self.pick([1, 1, 2, 2, 3, 4])
-        ring = {"base": base, "entries": entries, "most": self.pick([8, 64, 64, given, 0, 1_048_576]), "takes": self.pick([0, 1, 2, 3, 3, 5])}
+        ring = {"base": base, "entries": entries, "most": self.pick([8, 64, 64, given, 0, MOST_MESSAGE]), "takes": self.pick([0, 1, 2, 3, 3, 5])}
         return ring, self.count_word(entries) + "".join(word for _ in range(entries) for word in self.descriptor(given))
 
     def ring_stores(self, rings, given):

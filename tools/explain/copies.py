@@ -2,6 +2,7 @@
 
 from types import SimpleNamespace as Tree
 
+from limits import MOST_ROOM
 from reference import safety
 from reference.scopes import bits_of
 from reference.sizes import tree_fields
@@ -9,7 +10,6 @@ from reference.sizes import tree_fields
 from .safety import Whole, known_here, ranged, refined_before
 from .spelling import LEVEL_OF, core_text, parameter_text, quoted, spelled
 
-ROOM_LIMIT = 65_536
 SOUGHT = "a copy is of the bytes of an array of `UINT8`, by `[n]` or `[:byte-size n]`"
 
 
@@ -50,7 +50,7 @@ def without_room(types, at):
 def mends_of_room(module, own, field, greatest, room):
     """More room, or a test of the size."""
     parameter = next(parameter for parameter in own.parameters if parameter.name[1] == field.copy.name[1])
-    if greatest <= ROOM_LIMIT:
+    if greatest <= MOST_ROOM:
         new = "mutable UINT8 *%s[%d]" % (parameter.name[1], greatest)
         said = "give it the room: `%s`, at %s; who hands it a buffer needs one of that room, too." % (new, module.place(parameter.name[2]))
         yield said, [(parameter.room[2], module.end_of(module.index_at(parameter.room[2])), str(greatest))]
@@ -74,7 +74,7 @@ def no_room(module):
 
 def wrong_room(module, parameter):
     value = "`%s`" % parameter.room[1] if parameter.room[0] == "NAME" else str(parameter.room[1])
-    return ["A copy buffer has room for 1 to 65536 bytes, and not for %s." % value,
+    return ["A copy buffer has room for 1 to %d bytes, and not for %s." % (MOST_ROOM, value),
             "mend: write the most bytes that the fields copied to `%s` may have." % parameter.name[1]]  # fmt: skip
 
 

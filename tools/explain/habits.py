@@ -2,9 +2,9 @@
 
 from types import SimpleNamespace as Advice
 
+from limits import MOST_BRACES, MOST_OPERATORS
 from reference.errors import ModuleError
 from reference.tokens import ACTION_WORDS, COPY_WORD, KEYWORDS
-from reference.trees import BRACE_LIMIT, OPERATOR_LIMIT
 
 from . import in_copies, in_definitions, in_expressions, in_fields
 from .grammar import CONSTRUCTS, AskingParser, in_words, innermost, may_stand, open_at, production_of
@@ -228,14 +228,14 @@ def too_deep(module):
     parser = module.parser
     if module.spelling(parser.place) == "{":
         return [
-            "This is the brace number %d that is open at one time in this action; at most %d may be." % (BRACE_LIMIT + 1, BRACE_LIMIT),
+            "This is the brace number %d that is open at one time in this action; at most %d may be." % (MOST_BRACES + 1, MOST_BRACES),
             "mend: join conditions by `&&` in one `if`, or test some of them in the refinement.",
         ]
     first = next((first for name, first in reversed(parser.open) if name == "whole"), parser.place)
     begun = module.place(module.token(first)[2])
     return [
         "The expression that begins at %s has here its operator or opening parenthesis number %d; at most %s may be in one."
-        % (begun, OPERATOR_LIMIT + 1, many(OPERATOR_LIMIT, "operator")),
+        % (begun, MOST_OPERATORS + 1, many(MOST_OPERATORS, "operator")),
         "mend: test its parts as refinements of several fields, or in a `where`; a long list of values is an enum.",
     ]
 

@@ -155,7 +155,7 @@ WORK = {
     ast.LShift: lambda a, b: a << b if b < 64 else None, ast.RShift: lambda a, b: a >> b, ast.BitOr: lambda a, b: a | b, ast.BitAnd: lambda a, b: a & b,
     ast.BitXor: lambda a, b: a ^ b,
 }  # fmt: skip
-MOST_WORDS = 40
+LONGEST_SUM = 40
 
 
 def worked_out(here, first, last):
@@ -168,7 +168,7 @@ def worked_out(here, first, last):
             return None
         words.append(str(value) if kind in ("NUM", "NAME") else "//" if kind == "/" else kind)
     try:
-        return number_of(ast.parse(" ".join(words), mode="eval").body) if len(words) <= MOST_WORDS else None
+        return number_of(ast.parse(" ".join(words), mode="eval").body) if len(words) <= LONGEST_SUM else None
     except (SyntaxError, ArithmeticError, ValueError):
         return None
 

@@ -1,23 +1,38 @@
 """Help on J8: what in a job passes a limit."""
 
+from limits import (
+    MOST_COPIES,
+    MOST_GUESTS,
+    MOST_MESSAGE,
+    MOST_POSTS,
+    MOST_RINGS,
+    MOST_STORES,
+    MOST_STRETCHES,
+    MOST_SWAPS,
+    MOST_VERSIONS,
+    MOST_WORDS,
+    MOST_WORKERS,
+    grouped,
+)
+
 from .job_paths import at_path, list_in, shown
 from .rings import past_a_limit_of_a_ring
 
 # What each limit says, and how it is kept.
 LIMITS = {
-    "length": ("A message has at most 1,048,576 bytes.", "validate the messages of a buffer one by one."),
-    "stretches": ("A message has at most 64 stretches, empty ones too.", "take the empty ones out, and join those that lie behind each other."),
-    "value": ("What is written of a value has at most 1,048,576 bytes.", "write the message in parts, each validated alone."),
-    "stores": ("A job has at most 65,536 stores, a host job as many of all its guests.", "give several jobs."),
-    "workers": ("A host job has 1 to 16 workers.", 'write `"workers":2`.'),
-    "guests": ("A host job has 1 to 16 guests.", 'write at least one: `"guests":[{"script":[["post",0,4]]}]`.'),
-    "rings": ("A job has at most 16 rings.", "give several jobs."),
-    "swaps": ("A job has at most 16 swaps, so 17 versions with its own module.", "leave some out."),
-    "posts": ("All guests post at most 4,096 messages.", "give several jobs."),
-    "words": ("All messages that are posted have at most 1,048,576 words, each counted as often as it is posted.", "give several jobs."),
-    "copies": ("The copy buffers of all posts and takes have at most 16,777,216 bytes.", "give several jobs, or the buffers less room."),
+    "length": ("A message has at most %s bytes." % grouped(MOST_MESSAGE), "validate the messages of a buffer one by one."),
+    "stretches": ("A message has at most %d stretches, empty ones too." % MOST_STRETCHES, "take the empty ones out, and join those that lie behind each other."),
+    "value": ("What is written of a value has at most %s bytes." % grouped(MOST_MESSAGE), "write the message in parts, each validated alone."),
+    "stores": ("A job has at most %s stores, a host job as many of all its guests." % grouped(MOST_STORES), "give several jobs."),
+    "workers": ("A host job has 1 to %d workers." % MOST_WORKERS, 'write `"workers":2`.'),
+    "guests": ("A host job has 1 to %d guests." % MOST_GUESTS, 'write at least one: `"guests":[{"script":[["post",0,4]]}]`.'),
+    "rings": ("A job has at most %d rings." % MOST_RINGS, "give several jobs."),
+    "swaps": ("A job has at most %d swaps, so %d versions with its own module." % (MOST_SWAPS, MOST_VERSIONS), "leave some out."),
+    "posts": ("All guests post at most %s messages." % grouped(MOST_POSTS), "give several jobs."),
+    "words": ("All messages that are posted have at most %s words, each counted as often as it is posted." % grouped(MOST_WORDS), "give several jobs."),
+    "copies": ("The copy buffers of all posts and takes have at most %s bytes." % grouped(MOST_COPIES), "give several jobs, or the buffers less room."),
 }
-MESSAGE = ("A message that is posted has at most 1,048,576 bytes, and 64 stretches.", "post it in parts, each validated alone.")
+MESSAGE = ("A message that is posted has at most %s bytes, and %d stretches." % (grouped(MOST_MESSAGE), MOST_STRETCHES), "post it in parts, each validated alone.")
 COUNTED = ("stretches", "stores", "guests", "rings", "swaps")
 
 

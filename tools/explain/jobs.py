@@ -4,6 +4,7 @@ import difflib
 import json
 import re
 
+from limits import MOST_ENTRIES, MOST_GUESTS, MOST_INPUT, MOST_MESSAGE, MOST_RINGS, MOST_SWAPS, MOST_TAKES, MOST_WORKERS, grouped
 from reference.errors import ModuleError
 from reference.jobs import HEXADECIMAL, arguments_in, is_whole, parts_in
 from reference.modules import module_of
@@ -36,17 +37,17 @@ FORMS = {
     "stores": ("a list; it may be left out", '"stores":[[1,0,"0100000400000000"]]'),
     "stores[i]": ("a list of two whole numbers and a text, [before, word, text]", '[1,0,"0100000400000000"]'),
     "buffer": ("a text of hexadecimal digits", '"buffer":"0100000300000000"'),
-    "workers": ("a whole number, 1 to 16", '"workers":2'),
-    "guests": ("a list of 1 to 16 objects", '"guests":[{"script":[["post",0,4]]}]'),
+    "workers": ("a whole number, 1 to %d" % MOST_WORKERS, '"workers":2'),
+    "guests": ("a list of 1 to %d objects" % MOST_GUESTS, '"guests":[{"script":[["post",0,4]]}]'),
     "guests[i]": ("an object with the field `script` alone", '{"script":[["post",0,4]]}'),
     "guests[i].script": ("a list of steps", '"script":[["store",0,"0100000300000000"],["post",0,4]]'),
-    "rings": ("a list of up to 16 objects; it may be left out", '"rings":[%s]' % RING),
+    "rings": ("a list of up to %d objects; it may be left out" % MOST_RINGS, '"rings":[%s]' % RING),
     "rings[i]": ("an object with the fields `base`, `entries`, `most` and `takes`", RING),
     "rings[i].base": ("a whole number, the word of the buffer with the ring's count", '"base":0'),
-    "rings[i].entries": ("a whole number, 1 to 1,024: how many descriptors there is room for", '"entries":2'),
-    "rings[i].most": ("a whole number, at most 1,048,576: how many bytes a message may have", '"most":8'),
-    "rings[i].takes": ("a whole number, at most 4,096: how often the ring is looked at", '"takes":2'),
-    "swaps": ("a list of up to 16 module texts; it may be left out", '"swaps":["entrypoint typedef struct _P { UINT16 x; } P;"]'),
+    "rings[i].entries": ("a whole number, 1 to %s: how many descriptors there is room for" % grouped(MOST_ENTRIES), '"entries":2'),
+    "rings[i].most": ("a whole number, at most %s: how many bytes a message may have" % grouped(MOST_MESSAGE), '"most":8'),
+    "rings[i].takes": ("a whole number, at most %s: how often the ring is looked at" % grouped(MOST_TAKES), '"takes":2'),
+    "swaps": ("a list of up to %d module texts; it may be left out" % MOST_SWAPS, '"swaps":["entrypoint typedef struct _P { UINT16 x; } P;"]'),
     "swaps[i]": ("a text, a module that takes the place of the one before it", '"entrypoint typedef struct _P { UINT16 x; } P;"'),
     "guests[i].script[i]": ('`["store", word, text]`, `["post", base, length]` or `["post", list]`, a list of `[place, size]`', '["post",0,4]'),
 }
@@ -371,7 +372,8 @@ def not_written(job, place):
 
 def input_as_a_whole(code, text):
     if code == "Z1":
-        return ["An input has at most 4,194,304 bytes, the module, the line `%%%%` and the job together; the module alone has %d." % len(text),
+        said = "An input has at most %s bytes, the module, the line `%%%%` and the job together; the module alone has %d."
+        return [said % (grouped(MOST_INPUT), len(text)),
                 "mend: shorten the module's comments, or the message: two hexadecimal digits stand for one byte."]  # fmt: skip
     if code == "Z3":
         return ["The text by which the descriptors of rings are validated, the program's own, was refused. No input is known that gives this line.",

@@ -1,5 +1,7 @@
 """Help on the rings of a host job: those past the buffer (J7), and past a limit (J8)."""
 
+from limits import MOST_ENTRIES, MOST_MESSAGE, MOST_TAKES, grouped
+
 from .job_paths import at_path
 
 RING_FIELDS = ("base", "entries", "most", "takes")
@@ -24,7 +26,8 @@ def past_ring(job, path):
 
 
 def past_a_limit_of_a_ring(job, path):
-    lines = ["A ring has 1 to 1,024 entries, messages of at most 1,048,576 bytes, and at most 4,096 takes."]
+    said = "A ring has 1 to %s entries, messages of at most %s bytes, and at most %s takes."
+    lines = [said % (grouped(MOST_ENTRIES), grouped(MOST_MESSAGE), grouped(MOST_TAKES))]
     ring = ring_at(job, path)
     if ring:
         lines.append("This one has %d entries, messages of at most %d bytes, and %d takes." % (ring["entries"], ring["most"], ring["takes"]))

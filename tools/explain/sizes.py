@@ -1,12 +1,13 @@
 """Help on K1, K2 and X1: sizes, and limits."""
 
+from limits import MOST_CELLS, MOST_DEPTH, MOST_WEIGHT
 from reference.sizes import COUNTS, Sizing, action_nodes, definition_nodes, element_kind, field_kind, field_lists, fields_kind, tree_fields
 from reference.scopes import full_name
 
 from .spelling import quoted
 
 MOST_SHOWN = 6
-LIMITS = dict(COUNTS, cells=64, depth=32, weight=2**40)
+LIMITS = dict(COUNTS, cells=MOST_CELLS, depth=MOST_DEPTH, weight=MOST_WEIGHT)
 
 
 # ---- K1 and K2.

@@ -64,7 +64,7 @@ class Entry:
 
     def head(self):
         own = ["%s %s" % (WIDTHS[bits], name) for name, bits in self.params]
-        words = ["const uint64_t *words", "uint32_t length"] + own + self.parameters + ["struct td_outcome *outcome"]
+        words = ["const void *message", "uint32_t length"] + own + self.parameters + ["struct td_outcome *outcome"]
         return "bool %s(%s)" % (self.function, ", ".join(words))
 
     def declaration(self):
@@ -77,7 +77,7 @@ class Entry:
 
     def text(self):
         """The function's body: cells are 64-bit numbers while the message is validated."""
-        lines = [self.head(), "{", "    struct td_run td_run = {words, 0, 0, 0, outcome};"]
+        lines = [self.head(), "{", "    struct td_run td_run = td_start(message, outcome);"]
         cells = ["&td_cells[%d]" % k for k in range(len(self.places))]
         if self.places:
             lines.append("    uint64_t td_cells[%d] = {%s};" % (len(cells), ", ".join(place for place, _ in self.places)))
@@ -86,7 +86,7 @@ class Entry:
         own = ", ".join(["&td_run", "length"] + [name for name, _ in self.params] + cells + copies)
         lines += ["    bool td_accepted = %s(%s);" % (function_name(self.code, self.routine), own), ""]
         lines += ["    %s = (%s)td_cells[%d];" % (place, WIDTHS[bits], k) for k, (place, bits) in enumerate(self.places)]
-        lines += ["    if (td_accepted) {", "        outcome->reason = TD_ACCEPTED;"]
+        lines += ["    if (td_accepted) {", "        outcome->reason = TD_NO_REASON;"]
         lines += ["        outcome->position = (uint32_t)td_run.position;", "        outcome->count = 0;", "    }"]
         return lines + ["    return td_accepted;", "}", ""]
 

@@ -26,35 +26,41 @@ HEADER = """\
 extern "C" {{
 #endif
 
+#ifndef TD_REASONS
+#define TD_REASONS
+typedef enum {{
+  TD_NOT_ENOUGH = 0, TD_IMPOSSIBLE = 1, TD_LIST_SIZE = 2, TD_ACTION = 3, TD_CONSTRAINT = 4, TD_PADDING = 5, TD_NO_REASON = 6
+}} td_reason;
+#endif
+
 #ifndef TD_OUTCOME
 #define TD_OUTCOME
 #define TD_LOOK_AT_ANSWER __attribute__((warn_unused_result))
 
-enum td_reason {{ TD_ACCEPTED, TD_NOT_ENOUGH, TD_IMPOSSIBLE, TD_LIST_SIZE, TD_ACTION, TD_CONSTRAINT, TD_PADDING }};
-
 /* A type in which a validation failed, the field at which it stood, and the place at which that began. */
-struct td_frame {{
+struct td_outcome_frame {{
     const char *type;
     const char *field; /* or "where" or "switch" */
     uint32_t start;
 }};
 
-/* How a validation ended. Accepted: `position` is where the message's last part ends, and there are no frames. Else it is where
- * the message fails, and the frames lead there, the innermost first. All places count bytes from the message's start. */
+/* How a validation ended. Accepted: the reason is TD_NO_REASON, `position` is where the message's last part ends, and there are no
+ * frames. Rejected: why, the place where the message fails, and frames that lead there, the innermost first. All places count bytes
+ * from the message's start. */
 struct td_outcome {{
-    enum td_reason reason;
+    td_reason reason;
     uint32_t position;
     uint32_t count;
-    struct td_frame frame[32];
+    struct td_outcome_frame frame[32];
 }};
 #endif
 
 /* Each function answers whether the message is accepted, and says the same in *outcome.
  *
- * `words` are the message's bytes, (length + 7) / 8 whole words, of which each may be read, aligned to 8 bytes. Others may store to
- * them at any time: a word is loaded once or never, in rising order, so the answer is that on the values that were loaded. Don't
- * read the message again: what was checked is what is delivered. Pointers point to distinct objects. What they point to is read
- * first and written at the end, after a rejection too; then its values mean nothing. No memory is taken and nothing waits.
+ * `message` points to the message's first byte, which may be any byte of a word: whole words of 64 bits are loaded, aligned to 8 bytes,
+ * and each that has a byte of the message may be read. Others may store to them at any time: a word is loaded once or never, in
+ * rising order, so the answer is that on the values that were loaded. Don't read the message again: what was checked is what is
+ * delivered. Pointers point to distinct objects. What they point to is read first and written at the end, after a rejection too; then its values mean nothing. No memory is taken and nothing waits.
  */
 
 """
@@ -81,14 +87,26 @@ BEGIN = """\
 #error "the bytes of a word are taken in little-endian order"
 #endif
 
-/* A validation that runs: the word behind the one that was loaded last, what that load gave, and the position. */
+/* A validation that runs: the words, how many bytes the first one has before the message, the word behind the one that was loaded last,
+ * what that load gave, and the position. */
 struct td_run {
     const uint64_t *words;
+    uint64_t lead;
     uint64_t next;
     uint64_t held;
     uint64_t position;
     struct td_outcome *outcome;
 };
+
+"""
+START = """\
+/* A validation of a message that begins at this byte. */
+static inline struct td_run td_start(const void *message, struct td_outcome *outcome)
+{
+    uint64_t lead = (uintptr_t)message & 7;
+
+    return (struct td_run){(const uint64_t *)(const void *)((const unsigned char *)message - lead), lead, 0, 0, 0, outcome};
+}
 
 """
 FRAMES = """\
@@ -97,13 +115,13 @@ static inline bool td_frame(struct td_run *run, const char *type, const char *fi
     struct td_outcome *outcome = run->outcome;
 
     if (outcome->count < sizeof(outcome->frame) / sizeof(outcome->frame[0]))
-        outcome->frame[outcome->count++] = (struct td_frame){type, field, (uint32_t)start};
+        outcome->frame[outcome->count++] = (struct td_outcome_frame){type, field, (uint32_t)start};
     return false;
 }
 
 """
 FAILURES = """\
-static bool td_fail(struct td_run *run, enum td_reason reason, uint64_t position, const char *type, const char *field, uint64_t start)
+static bool td_fail(struct td_run *run, td_reason reason, uint64_t position, const char *type, const char *field, uint64_t start)
 {
     run->outcome->reason = reason;
     run->outcome->position = (uint32_t)position;
@@ -126,11 +144,12 @@ static inline uint64_t td_word(struct td_run *run, uint64_t word)
 /* The number of `width` bytes (1, 2, 4 or 8) at a place, the byte of least weight first. */
 static inline uint64_t td_little(struct td_run *run, uint64_t place, unsigned width)
 {
-    unsigned low = (unsigned)(place & 7) * 8;
-    uint64_t number = td_word(run, place >> 3) >> low;
+    uint64_t at = place + run->lead;
+    unsigned low = (unsigned)(at & 7) * 8;
+    uint64_t number = td_word(run, at >> 3) >> low;
 
     if (low + 8 * width > 64)
-        number |= td_word(run, (place >> 3) + 1) << (64 - low);
+        number |= td_word(run, (at >> 3) + 1) << (64 - low);
     return width == 8 ? number : number & ((UINT64_C(1) << 8 * width) - 1);
 }
 
@@ -181,7 +200,7 @@ def written(code, name, size, digest):
     origin = ORIGIN.format(size=size, digest=digest)
     header = origin + HEADER.format(guard=name.upper())
     header += "".join(line + "\n" for _, entry in entries for line in entry.declaration())
-    text = origin + BEGIN.replace("{name}", name) + helpers_of(uses_of(routines))
+    text = origin + BEGIN.replace("{name}", name) + START + helpers_of(uses_of(routines))
     text += "".join(line + "\n" for routine in routines for line in routine.text())
     text += "".join(line + "\n" for _, entry in entries for line in entry.text())
     return header + FOOTER, text.rstrip("\n") + "\n"

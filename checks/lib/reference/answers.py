@@ -3,6 +3,8 @@
 import sys
 import threading
 
+from limits import MOST_INPUT
+
 from .canonical import canonical
 from .errors import JobError, ModuleError
 from .hosts import Wrong, host_job_of
@@ -11,7 +13,6 @@ from .modules import module_of
 from .runs import Memory, outcome_of
 from .takes import judge
 
-INPUT_LIMIT = 4_194_304
 TOO_LONG = 1, b"", b"error Z1 input too long\n"
 
 
@@ -93,12 +94,12 @@ def hosted(text, report):
             return 3, b"", b"a line that no report has\n"
         return 0, b"", b""
 
-    return of_input(text, judged) if len(text) <= INPUT_LIMIT else TOO_LONG
+    return of_input(text, judged) if len(text) <= MOST_INPUT else TOO_LONG
 
 
 def answer(text, command="run"):
     """The exit status, and what is written to standard output and to standard error."""
-    if len(text) > INPUT_LIMIT:
+    if len(text) > MOST_INPUT:
         return TOO_LONG
     return {"run": reported, "check": checked, "tidy": tidied}[command](text)
 

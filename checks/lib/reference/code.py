@@ -2,11 +2,10 @@
 at for each instruction by itself."""
 
 from instructions import OPERANDS, REGISTERS, places_of
+from limits import MOST_DEPTH, MOST_WEIGHT
 
 SITES = places_of("site")
 OPENS = ("NarrowK", "Narrow")
-MOST_DEPTH = 32
-MOST_WEIGHT = 2**40
 
 
 class Routine:

@@ -2,10 +2,20 @@
 
 import collections
 
+from limits import (
+    MOST_COPIES,
+    MOST_GUESTS,
+    MOST_MESSAGE,
+    MOST_POSTS,
+    MOST_STORES,
+    MOST_STRETCHES,
+    MOST_SWAPS,
+    MOST_WORDS,
+    MOST_WORKERS,
+)
+
 from .errors import JobError, ModuleError
 from .jobs import (
-    MESSAGE_LIMIT,
-    STORES_LIMIT,
     arguments_in,
     arguments_of,
     bytes_of,
@@ -18,18 +28,12 @@ from .jobs import (
     require,
     words_of,
 )
-from .layouts import STRETCHES_LIMIT, Layout, at_word
+from .layouts import Layout, at_word
 from .modules import module_of
 from .rings import rings_of
 from .runs import Memory, outcome_of
 
 FIELDS = {"entry", "args", "buffer", "workers", "guests", "rings", "swaps"}
-WORKERS_LIMIT = 16
-GUESTS_LIMIT = 16
-POSTS_LIMIT = 4_096
-WORDS_LIMIT = 1_048_576
-COPIES_LIMIT = 16_777_216
-SWAPS_LIMIT = 16
 
 # A module that a message may be validated by: the types of its text, and the number of the entry point's among them.
 Version = collections.namedtuple("Version", "types entry")
@@ -87,8 +91,8 @@ def stands_in_turn(events, values):
 def scatter_of(stretches, path, words):
     require(isinstance(stretches, list) and all(map(is_stretch, stretches)), "J2", path)
     require(all(sum(stretch) <= 8 * words for stretch in stretches), "J7", path)
-    require(len(stretches) <= STRETCHES_LIMIT, "J8", path)
-    require(sum(size for _, size in stretches) <= MESSAGE_LIMIT, "J8", path)
+    require(len(stretches) <= MOST_STRETCHES, "J8", path)
+    require(sum(size for _, size in stretches) <= MOST_MESSAGE, "J8", path)
     return Layout(stretches)
 
 
@@ -105,7 +109,7 @@ def step_of(step, path, words):
         return verb, first, int.from_bytes(bytes.fromhex(second), "little")
     require(verb == "post" and is_whole(first) and is_whole(second), "J2", path)
     require(first + -(-second // 8) <= words, "J7", path)
-    require(second <= MESSAGE_LIMIT, "J8", path)
+    require(second <= MOST_MESSAGE, "J8", path)
     return verb, at_word(first, second)
 
 
@@ -138,7 +142,7 @@ def swaps_of(job, made):
     """The versions that are published after the job's module, in their order."""
     swaps, found = job.get("swaps", []), []
     require(isinstance(swaps, list), "J2", "swaps")
-    require(len(swaps) <= SWAPS_LIMIT, "J8", "swaps")
+    require(len(swaps) <= MOST_SWAPS, "J8", "swaps")
     for index, text in enumerate(swaps):
         path = "swaps[%d]" % index
         require(isinstance(text, str), "J2", path)
@@ -154,21 +158,21 @@ def host_job_of(text, known):
     words = words_of(bytes_of(job, "buffer"))
     workers = job.get("workers")
     require(is_whole(workers), "J2", "workers")
-    require(1 <= workers <= WORKERS_LIMIT, "J8", "workers")
+    require(1 <= workers <= MOST_WORKERS, "J8", "workers")
     guests = job.get("guests")
     require(isinstance(guests, list), "J2", "guests")
-    require(1 <= len(guests) <= GUESTS_LIMIT, "J8", "guests")
+    require(1 <= len(guests) <= MOST_GUESTS, "J8", "guests")
     scripts = [script_of(guest, "guests[%d]" % index, len(words)) for index, guest in enumerate(guests)]
     rings = rings_of(job, len(words))
     versions = [Version(known.types, entry), *swaps_of(job, known.types[entry])]
     check_names(job, FIELDS)
     steps = [step for script in scripts for step in script]
     posts = [step for step in steps if step[0] == "post"]
-    require(len(posts) <= POSTS_LIMIT, "J8", "posts")
-    require(len(steps) - len(posts) <= STORES_LIMIT, "J8", "stores")
-    require(sum(len(layout.words) for _, layout in posts) + sum(ring.words() for ring in rings) <= WORDS_LIMIT, "J8", "words")
+    require(len(posts) <= MOST_POSTS, "J8", "posts")
+    require(len(steps) - len(posts) <= MOST_STORES, "J8", "stores")
+    require(sum(len(layout.words) for _, layout in posts) + sum(ring.words() for ring in rings) <= MOST_WORDS, "J8", "words")
     rooms = sum(room for _, room in known.types[entry].buffers)
-    require((len(posts) + sum(ring.takes for ring in rings)) * rooms <= COPIES_LIMIT, "J8", "copies")
+    require((len(posts) + sum(ring.takes for ring in rings)) * rooms <= MOST_COPIES, "J8", "copies")
     return HostJob(versions, arguments, words, workers, scripts, rings)
 
 

@@ -3,13 +3,13 @@
 import json
 import math
 
+from limits import MOST_MESSAGE, MOST_STORES, MOST_STRETCHES
+
 from .errors import JobError
-from .layouts import STRETCHES_LIMIT, Layout, plain
+from .layouts import Layout, plain
 from .writing import Refused, written
 
 HEXADECIMAL = set("0123456789abcdefABCDEF")
-MESSAGE_LIMIT = 1_048_576
-STORES_LIMIT = 65_536
 FIELDS = {"entry", "args", "cells", "bytes", "length", "stretches", "value", "stores"}
 
 
@@ -59,7 +59,7 @@ def numbers_of(job, name, limits, may_lack):
 def stores_of(job, words):
     stores = job.get("stores", [])
     require(isinstance(stores, list), "J2", "stores")
-    require(len(stores) <= STORES_LIMIT, "J8", "stores")
+    require(len(stores) <= MOST_STORES, "J8", "stores")
     for index, store in enumerate(stores):
         path = "stores[%d]" % index
         require(isinstance(store, list) and len(store) == 3 and isinstance(store[2], str), "J2", path)
@@ -119,7 +119,7 @@ def stretches_of(job, given, length):
     """The stretches of a message of this length in so many bytes."""
     stretches = job["stretches"]
     require(isinstance(stretches, list), "J2", "stretches")
-    require(len(stretches) <= STRETCHES_LIMIT, "J8", "stretches")
+    require(len(stretches) <= MOST_STRETCHES, "J8", "stretches")
     for index, stretch in enumerate(stretches):
         path = "stretches[%d]" % index
         require(is_stretch(stretch), "J2", path)
@@ -133,7 +133,7 @@ def layout_of(job, given):
     length, is_listed = job.get("length"), "stretches" in job
     require(is_whole(length), "J2", "length")
     require(is_listed or length <= given, "J7", "length")
-    require(length <= MESSAGE_LIMIT, "J8", "length")
+    require(length <= MOST_MESSAGE, "J8", "length")
     if is_listed:
         return stretches_of(job, given, length), -(-given // 8)
     layout = plain(length)

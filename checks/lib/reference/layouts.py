@@ -3,7 +3,6 @@
 from bisect import bisect_right
 
 BYTES = 8
-STRETCHES_LIMIT = 64
 
 
 class Layout:

@@ -1,10 +1,9 @@
 """Rings of descriptors in a guest's memory: their fields in a host job, and where their descriptors stand."""
 
-from .jobs import MESSAGE_LIMIT, check_names, is_whole, require
+from limits import MOST_ENTRIES, MOST_MESSAGE, MOST_RINGS, MOST_TAKES
 
-RINGS_LIMIT = 16
-ENTRIES_LIMIT = 1_024
-TAKES_LIMIT = 4_096
+from .jobs import check_names, is_whole, require
+
 FIELDS = ("base", "entries", "most", "takes")
 DESCRIPTOR_WORDS = 2
 # How a take finds a ring: the words of the report, and where a descriptor waits.
@@ -49,12 +48,12 @@ def ring_of(ring, path, words):
     check_names(ring, set(FIELDS), path + ".%s")
     found = Ring(*[ring[name] for name in FIELDS])
     require(found.end() <= words, "J7", path)
-    require(1 <= found.entries <= ENTRIES_LIMIT and found.most <= MESSAGE_LIMIT and found.takes <= TAKES_LIMIT, "J8", path)
+    require(1 <= found.entries <= MOST_ENTRIES and found.most <= MOST_MESSAGE and found.takes <= MOST_TAKES, "J8", path)
     return found
 
 
 def rings_of(job, words):
     rings = job.get("rings", [])
     require(isinstance(rings, list), "J2", "rings")
-    require(len(rings) <= RINGS_LIMIT, "J8", "rings")
+    require(len(rings) <= MOST_RINGS, "J8", "rings")
     return [ring_of(ring, "rings[%d]" % index, words) for index, ring in enumerate(rings)]

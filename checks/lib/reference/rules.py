@@ -2,13 +2,14 @@
 
 from types import SimpleNamespace as Record
 
+from limits import MOST_ROOM
+
 from .actions import Actions
 from .expressions import Typing, type_alone
 from .scopes import Breaches, Known, Scope, bits_of, local, meaning
 from .sizes import body_kind, constant_size, field_kind
 from .tokens import NUMBER_TYPES
 
-ROOM_LIMIT = 65_536
 ARRAYS = {"[": "bytes", "[:byte-size": "bytes", "[:byte-size-single-element-array": "single", "[:zeroterm-byte-size-at-most": "zeroterm"}
 
 
@@ -201,7 +202,7 @@ class Elaborator:
         made = None
         if tree.room is not None:
             room = self.constant(scope, tree.room)
-            self.breaches.note_if(room is not None and not 1 <= room <= ROOM_LIMIT, "Y2", tree.room[2])
+            self.breaches.note_if(room is not None and not 1 <= room <= MOST_ROOM, "Y2", tree.room[2])
             room = room or 0
             made = Record(mutable=False, room=room)
             scope.names[name] = local("buffer", buffer=len(buffers), room=room)

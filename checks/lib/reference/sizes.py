@@ -2,15 +2,26 @@
 
 from types import SimpleNamespace as Record
 
+from limits import (
+    MOST_ACTION_NODES,
+    MOST_CASES,
+    MOST_CELLS,
+    MOST_DEFINITIONS,
+    MOST_DEPTH,
+    MOST_FIELDS,
+    MOST_NODES,
+    MOST_PARAMETERS,
+    MOST_WEIGHT,
+    SIZE_CAP,
+)
+
 from .errors import ModuleError
 from .scopes import bits_of, full_name
 from .values import constant_of
 
-SIZE_LIMIT = 2**32
-
 
 def capped(least, most, rest):
-    return min(least, SIZE_LIMIT), most if most is not None and most <= SIZE_LIMIT else None, rest
+    return min(least, SIZE_CAP), most if most is not None and most <= SIZE_CAP else None, rest
 
 
 def constant_size(kind):
@@ -84,7 +95,14 @@ def check_kinds(types):
 
 # ---- Limits, told on trees. Nodes are definitions, parameters, fields, cases, items, statements and expression nodes.
 
-COUNTS = {"definitions": 4000, "fields": 256, "cases": 256, "parameters": 16, "nodes": 60_000, "action": 20_000}
+COUNTS = {
+    "definitions": MOST_DEFINITIONS,
+    "fields": MOST_FIELDS,
+    "cases": MOST_CASES,
+    "parameters": MOST_PARAMETERS,
+    "nodes": MOST_NODES,
+    "action": MOST_ACTION_NODES,
+}
 
 
 def expression_nodes(tree):
@@ -224,6 +242,6 @@ def check_sizes(trees, known):
         sizing.sizes.append(size)
         seen[full_name(tree.part, tree.name[1])] = place
         cells = len(next(types).cells) if tree.kind in ("struct", "casetype") else 0
-        for which, passed in (("cells", cells > 64), ("depth", size.depth > 32), ("weight", size.weight > 2**40)):
+        for which, passed in (("cells", cells > MOST_CELLS), ("depth", size.depth > MOST_DEPTH), ("weight", size.weight > MOST_WEIGHT)):
             if passed:
                 raise ModuleError("X1", tree.name[2], "limit " + which)

@@ -2,11 +2,11 @@
 
 from types import SimpleNamespace as Tree
 
+from limits import MOST_BRACES, MOST_OPERATORS
+
 from .errors import ModuleError
 from .tokens import ACTION_WORDS, ARRAY_WORDS, COPY_WORD
 
-OPERATOR_LIMIT = 256
-BRACE_LIMIT = 16
 # From the loosest; comparisons don't chain.
 LEVELS = ["||"], ["&&"], ["|"], ["^"], ["&"], ["==", "!="], ["<", "<=", ">", ">="], ["<<", ">>"], ["+", "-"], ["*", "/", "%"]
 COMPARISONS = (5, 6)
@@ -43,7 +43,7 @@ class Parser:
 
     def take_counted(self, *kinds):
         """An operator or an opening parenthesis of an expression."""
-        if self.next_is(*kinds) and self.counted == OPERATOR_LIMIT:
+        if self.next_is(*kinds) and self.counted == MOST_OPERATORS:
             raise ModuleError("P2", self.at(), "too deep")
         token = self.take(*kinds)
         self.counted += 1
@@ -109,7 +109,7 @@ class Parser:
     # ---- Statements.
 
     def brace(self):
-        if self.next_is("{") and self.braces == BRACE_LIMIT:
+        if self.next_is("{") and self.braces == MOST_BRACES:
             raise ModuleError("P2", self.at(), "too deep")
         self.take("{")
         self.braces += 1

@@ -3,12 +3,12 @@
 A value is a number, a list, `bytes`, or None for the empty one. A path is a tuple of places from 0.
 """
 
+from limits import MOST_MESSAGE
+
 from .runs import Rejected, Run, opened
 from .scopes import bits_of
 from .tokens import NUMBER_TYPES
 from .values import value_of
-
-WRITTEN_LIMIT = 1_048_576
 
 
 class Refused(Exception):
@@ -53,7 +53,7 @@ class Writer(Run):
         self.written = bytearray()
 
     def want_room(self, count):
-        want(len(self.written) + count <= WRITTEN_LIMIT, "E5", ())
+        want(len(self.written) + count <= MOST_MESSAGE, "E5", ())
 
     def append(self, content):
         self.want_room(len(content))

@@ -12,7 +12,7 @@
 --       }
 --       *n = (uint16_t)td_cells[0];
 --       name->count = (uint32_t)td_cells[2];
---       outcome->reason = TD_ACCEPTED;
+--       outcome->reason = TD_NO_REASON;
 --       outcome->position = (uint32_t)td_position;
 --       outcome->count = 0;
 --       return true;
@@ -46,7 +46,7 @@ pub record CallerBuffer : Type 0 where
   pub count : ℕ
   pub bytes : List ℕ
 
--- `struct td_outcome`: `outcome->reason` (None is TD_ACCEPTED), `outcome->position`, and of `outcome->frame` the first `outcome->count`
+-- `struct td_outcome`: `outcome->reason` (None is TD_NO_REASON), `outcome->position`, and of `outcome->frame` the first `outcome->count`
 pub record CallerOutcome : Type 0 where
   pub reason : Option Reason
   pub position : ℕ

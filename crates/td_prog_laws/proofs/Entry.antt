@@ -1,21 +1,20 @@
 -- What the caller of an entry point is told, by the program's end.
-use Rattle.std.proofs.Common.{◌≡◌, ℕ, zero, suc, ◌+◌, ◌-◌, ◌*◌, ◌%◌, ◌^◌, ◌<◌, ◌≤◌, min, Bool, true, false, cond, List, [], ◌∷◌, ◌++◌, length, length-take, map, Option, Some, None, refl, sym, ap, ◌∙◌, subst, arith, take, drop, replicate}
+use Rattle.std.proofs.Common.{◌≡◌, ℕ, zero, suc, ◌+◌, ◌-◌, ◌*◌, ◌%◌, ◌^◌, ◌<◌, ◌≤◌, true, false, cond, List, [], ◌∷◌, ◌++◌, length, length-take, map, Some, None, refl, sym, ap, ◌∙◌, subst, arith, take, drop, replicate}
 use Rattle.std.specs.Prelude.{nat_eq, slice_index}
 use Rattle.std.proofs.lemmas.Bool.{ne_eqb}
 use Rattle.std.proofs.lemmas.List.{length-map}
 use Rattle.std.proofs.Math.Nat.{mod-eq_of_lt}
-use Rattle.td_num.specs.Lists.{Each, AreBytes}
+use Rattle.td_num.specs.Lists.{Each}
 use Rattle.td_num.specs.Numbers.{places_from}
-use Rattle.td_num.proofs.Lists.{each_index, each_map}
+use Rattle.td_num.proofs.Lists.{each_index}
 use Rattle.td_core.specs.declared.outcome.Reason.{Reason}
 use Rattle.td_core.specs.declared.outcome.TraceFrame.{TraceFrame}
 use Rattle.td_core.specs.Outcome.{copies_by}
 use Rattle.td_stream.specs.declared.load.Load.{Load}
-use Rattle.td_ir.specs.declared.tables.Parts.{Parts}
 use Rattle.td_ir.specs.declared.tables.Routine.{Routine}
 use Rattle.td_ir.specs.declared.tables.EntryPoint.{EntryPoint}
-use Rattle.td_ir.specs.Tables.{no_routine, routine_of, entry_of}
-use Rattle.td_ir.specs.Entries.{opened_by, buffers_of}
+use Rattle.td_ir.specs.Tables.{no_routine, entry_of}
+use Rattle.td_ir.specs.Entries.{opened_by}
 use Rattle.td_ir.specs.State.{Way, Returned, Turned, Failed, Stuck}
 use Rattle.td_ir.specs.Run as ir
 use Rattle.td_verify_runs.specs.Laws.{RunStaysWithin}
@@ -23,8 +22,8 @@ use Rattle.td_prog.specs.Tree.{Tree, Done, Loads, bind, Plays}
 use Rattle.td_prog.specs.Means.{Out, Gave, Refused, Undefined}
 use Rattle.td_prog.specs.Run.{run}
 use Rattle.td_prog_code.specs.Program.{program}
-use Rattle.td_prog_code.specs.Sentence.{held, IsEnd, rooms_of, ProgramRuns}
-use Rattle.td_prog_code.specs.Entry.{CallerBuffer, CallerOutcome, Caller, Answer, Answered, Lost, narrowed, counted, emptied, answer_to, bytes_of, IsTold, EntryRuns}
+use Rattle.td_prog_code.specs.Sentence.{held, IsEnd, ProgramRuns}
+use Rattle.td_prog_code.specs.Entry.{CallerBuffer, CallerOutcome, Caller, Answered, Lost, narrowed, counted, emptied, answer_to, bytes_of, IsTold, EntryRuns}
 use Rattle.td_prog_laws.specs.Frames.{FewFrames}
 
 -- a play that ends with a function of an answer

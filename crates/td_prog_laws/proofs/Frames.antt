@@ -1,26 +1,22 @@
 -- A failure of verified code has no more frames than its routine is deep.
-use Rattle.std.proofs.Common.{◌≡◌, ℕ, zero, suc, ◌+◌, ◌-◌, ◌/◌, ◌<◌, ◌≤◌, min, Bool, true, false, cond, List, [], ◌∷◌, ◌++◌, length, length-append, Option, Some, None, refl, sym, ap, ◌∙◌, subst, arith, take, drop, slice_index}
+use Rattle.std.proofs.Common.{◌≡◌, ℕ, zero, suc, ◌+◌, ◌-◌, ◌/◌, ◌<◌, ◌≤◌, min, Bool, true, false, cond, List, [], ◌∷◌, ◌++◌, length, length-append, Option, Some, None, refl, sym, ap, ◌∙◌, subst, arith, take, drop}
 use Rattle.std.specs.Prelude.{◌%◌, nat_eq, nat_lt, slice_get, slice_range}
 use Rattle.std.proofs.lemmas.Bool.{eqb-true, eqb-false}
-use Rattle.std.proofs.lemmas.Option.{get_or_from_slice_get, none-some, same_Some}
+use Rattle.std.proofs.lemmas.Option.{get_or_from_slice_get}
 use Rattle.td_num.specs.Lists.{Each, first_where}
 use Rattle.td_num.specs.Numbers.{places_from}
-use Rattle.td_core.specs.declared.module.Entry.{Entry}
 use Rattle.td_core.specs.declared.outcome.Reason.{Reason}
 use Rattle.td_core.specs.declared.outcome.Reason.TheVariants.{ListSize}
 use Rattle.td_core.specs.declared.outcome.TraceFrame.{TraceFrame}
 use Rattle.td_ir.specs.declared.instructions.Instr.{Instr}
 use Rattle.td_ir.specs.declared.instructions.Instr.TheVariants as i
 use Rattle.td_ir.specs.declared.tables.Parts.{Parts}
-use Rattle.td_ir.specs.Tables.{instruction_of, routine_of, entry_of, cells_by, lengths_of, first_of, end_of}
-use Rattle.td_ir.specs.WellFormed.{IsCode}
+use Rattle.td_ir.specs.Tables.{instruction_of, routine_of, entry_of, cells_by, first_of, end_of}
 use Rattle.td_ir.specs.Values.{numbers_from, is_zero, is_nonzero}
-use Rattle.td_ir.specs.State.{State, reg, registers_from, left, Way, Returned, Turned, Failed, Stuck, Exit, at_once, after}
+use Rattle.td_ir.specs.State.{State, reg, registers_from, left, Way, Returned, Turned, Failed, Stuck, Exit, at_once}
 use Rattle.td_ir.specs.Flow.{Flow, Goes, Fails, Calls, Returns, Loops, Turns, Effect, effect, has_bytes, zeros_flow, zeroterm_flow, where_so}
-use Rattle.td_ir.specs.Run.{Callees, frame, back, back_by, again, again_by, turns, led, follow, pick, goes, exits, places_by, entered, started, below, calls_of, block, run}
-use Rattle.td_verify.specs.declared.shape.Shape.{Shape}
-use Rattle.td_verify.specs.Shape.{shape, shapes_of}
-use Rattle.td_verify.specs.Brackets.{shape_at}
+use Rattle.td_ir.specs.Run.{Callees, frame, back, back_by, again, again_by, turns, led, pick, goes, exits, places_by, entered, started, below, block}
+use Rattle.td_verify.specs.Shape.{shape}
 use Rattle.td_verify.specs.Verify.{IsIn, IsSound}
 use Rattle.td_verify.proofs.Sums.{shape_there}
 use Rattle.td_prog_laws.specs.Frames.{FewFrames}

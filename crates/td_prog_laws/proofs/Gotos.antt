@@ -1,11 +1,11 @@
 -- Gotos of verified code lead to labels behind them.
-use Rattle.std.proofs.Common.{◌≡◌, ◌⊎◌, ℕ, ◌+◌, ◌<◌, inl, inr, Bool, true, false, cond, List, [], ◌∷◌}
+use Rattle.std.proofs.Common.{ℕ, ◌+◌, inl, inr, Bool, true, false, cond, List, [], ◌∷◌}
 use Rattle.std.specs.Prelude.{nat_eq}
 use Rattle.td_num.specs.Lists.{Each}
 use Rattle.td_ir.specs.declared.instructions.Instr.{Instr}
 use Rattle.td_ir.specs.declared.instructions.Instr.TheVariants as i
 use Rattle.td_ir.specs.declared.tables.Parts.{Parts}
-use Rattle.td_prog.specs.Syntax.{Block, Ends}
+use Rattle.td_prog.specs.Syntax.{Block}
 use Rattle.td_prog.specs.Text.{HasLabel, GoForward}
 use Rattle.td_prog_code.specs.Instructions.{statement}
 use Rattle.td_prog_code.specs.Program.{stated, looped, put, blocks, first_block}

@@ -1,16 +1,16 @@
 -- Names of functions are different identifiers.
-use Rattle.std.proofs.Common.{◌≡◌, ℕ, zero, suc, ◌+◌, ◌-◌, ◌%◌, ◌^◌, ◌<◌, ◌≤◌, Bool, true, false, cond, List, [], ◌∷◌, ◌++◌, length, Option, Some, None, refl, sym, ap, ◌∙◌, subst, arith, drop}
-use Rattle.std.specs.Prelude.{nat_eq, nat_le, ◌||◌, ◌&&◌, map, slice_get, slice_index, slice_index_or, codes, decimal}
+use Rattle.std.proofs.Common.{◌≡◌, ℕ, zero, suc, ◌+◌, ◌%◌, ◌^◌, ◌<◌, Bool, true, false, cond, List, [], ◌∷◌, ◌++◌, length, Some, refl, sym, ap, ◌∙◌, arith, drop}
+use Rattle.std.specs.Prelude.{nat_eq, ◌||◌, ◌&&◌, map, slice_get, slice_index, slice_index_or, codes, decimal}
 use Rattle.std.specs.Str.{bytes_eq}
 use Rattle.std.specs.Str.Parse.{digits_value}
 use Rattle.std.proofs.lemmas.Fmt.{decimal_by_steps, decimal_is_IsNumeral}
 use Rattle.std.proofs.lemmas.Option.{none-some, same_Some}
 use Rattle.std.proofs.Math.Nat.{mod-lt}
 use Rattle.td_num.specs.Lists.{Each, AreApart}
-use Rattle.td_num.proofs.Lists.{each_append, each_index}
+use Rattle.td_num.proofs.Lists.{each_append}
 use Rattle.td_ir.specs.declared.tables.Parts.{Parts}
 use Rattle.td_ir.specs.Tables.{routine_of}
-use Rattle.td_prog.specs.Syntax.{Helper, Function, Program}
+use Rattle.td_prog.specs.Syntax.{Helper, Function}
 use Rattle.td_prog.specs.Names.{is_letter, is_digit, IsIdentifier, IsName}
 use Rattle.td_prog.specs.Text.{function_names}
 use Rattle.td_prog_code.specs.Prelude.{prelude}

@@ -1,5 +1,5 @@
 -- The program of verified code calls as deep as its code.
-use Rattle.std.proofs.Common.{◌≡◌, ℕ, zero, suc, ◌+◌, ◌-◌, ◌<◌, ◌≤◌, Bool, true, false, cond, List, [], ◌∷◌, length, Some, refl, sym, ap, ◌∙◌, subst, arith}
+use Rattle.std.proofs.Common.{◌≡◌, ℕ, zero, suc, ◌+◌, ◌-◌, ◌<◌, Bool, true, false, cond, List, [], ◌∷◌, length, Some, refl, sym, ap, ◌∙◌, subst, arith}
 use Rattle.std.specs.Prelude.{nat_eq, slice_get, slice_range}
 use Rattle.std.proofs.lemmas.Option.{get_or_from_slice_get, slice_get_within, same_Some}
 use Rattle.td_num.specs.Lists.{Each}
@@ -12,7 +12,7 @@ use Rattle.td_verify.specs.Verify.{IsIn, IsSound}
 use Rattle.td_verify.proofs.Sums.{shape_there}
 use Rattle.td_prog.specs.Syntax.{Block, Function}
 use Rattle.td_prog_code.specs.Instructions.{statement}
-use Rattle.td_prog_code.specs.Program.{stated, looped, put, blocks, first_block, body, function, functions, program}
+use Rattle.td_prog_code.specs.Program.{stated, looped, put, blocks, first_block, body, function, functions}
 use Rattle.td_prog_steps.proofs.Whole.{function_at}
 use Rattle.td_prog_laws.specs.Depth.{CallsLower, ProgramIsShallow}
 use Rattle.td_prog_laws.proofs.Depths.{depth, depth_lower, depth_few}

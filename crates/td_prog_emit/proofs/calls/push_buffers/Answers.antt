@@ -1,0 +1,5 @@
+use Rattle.td_prog_emit.proofs.calls.push_buffers.Goals as goal
+use Rattle.td_prog_emit.proofs.Texts.{piece}
+
+pub returns : goal.returns
+returns c = piece c.extend_buffers.ensures

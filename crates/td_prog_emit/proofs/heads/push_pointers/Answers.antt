@@ -1,0 +1,5 @@
+use Rattle.td_prog_emit.proofs.heads.push_pointers.Goals as goal
+use Rattle.td_prog_emit.proofs.Texts.{piece}
+
+pub returns : goal.returns
+returns c = piece c.extend_pointers.ensures

@@ -1,0 +1,6 @@
+use Rattle.std.proofs.Common.{refl}
+use Rattle.td_prog_emit.proofs.Texts.{joined, recut}
+use Rattle.td_prog_emit.proofs.kinds.push_divided.Goals as goal
+
+pub returns : goal.returns
+returns c = recut (joined (c.in_ok-push_register_in.ensures {u = tt}) (joined (c.in_ok-push_numeral_in.ensures {u = tt}) (joined (c.in_ok-push_numeral_in-2.ensures {u = tt}) (joined (c.in_ok-push_binary.ensures {u = tt}) c.push.ensures)))) refl

@@ -1,0 +1,6 @@
+use Rattle.std.proofs.Common.{refl}
+use Rattle.td_prog_emit.proofs.Texts.{joined, recut}
+use Rattle.td_prog_emit.proofs.sets.push_answer.Goals as goal
+
+pub returns : goal.returns
+returns c = recut (joined (c.in_ok-push_begun.ensures {u = tt}) (joined (c.in_ok-push_register_in.ensures {u = tt}) (joined (c.in_ok-push.ensures {u = tt}) c.push_line.ensures))) refl
