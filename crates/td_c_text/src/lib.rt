@@ -3,3 +3,6 @@
 #![tactic(auto)]
 
 pub mod laws;
+mod text;
+
+pub use text::{c_header, c_source};

@@ -1,6 +1,5 @@
 -- How an input that was read is answered: by what a module text is, or why it is none.
-use Rattle.std.proofs.Common.{◌≡◌, ◌⊎◌, inl, inr, ℕ, ◌<◌, ◌≤◌, List, [], length, Result, Ok, Err, refl, subst, sym, ap, ◌∙◌, arith}
-use Rattle.std.specs.Prelude.{MatchResult}
+use Rattle.std.proofs.Common.{◌≡◌, ◌⊎◌, inl, inr, ℕ, ◌<◌, ◌≤◌, List, length, Result, Ok, Err, refl, subst, sym, ap, ◌∙◌, arith}
 use Rattle.std.proofs.lemmas.Bool.{false≢true}
 use Rattle.td_io.specs.States.{SinkState}
 use Rattle.td_core.specs.declared.module.Module.{Module}
@@ -21,7 +20,7 @@ use Rattle.td_c_ends.specs.Errors.{unanswered_status, unanswered_line}
 use Rattle.td_c_ends.specs.Lines.{memory_line, refusal_line}
 use Rattle.td_c_ends.specs.Passages.{Passage, EndsWith}
 use Rattle.td_c_tool.specs.declared.tool.TheConstants.{INPUT_LIMIT}
-use Rattle.td_c_tool.specs.Answers.{Answers, Admits, Refuses, RefusesText, HasEntry, IsFile}
+use Rattle.td_c_tool.specs.Answers.{Refuses, RefusesText, HasEntry, IsFile}
 use Rattle.td_c_tool.specs.Files.{AnswersText, AnswersModule}
 use Rattle.td_c_tool.specs.InputEnds.{AnswersInput}
 use Rattle.td_c_tool.proofs.Calls.{ends_or_fails}

@@ -1,5 +1,6 @@
 -- How a call ends, from how its words were understood, its source was read and its input was answered.
-use Rattle.std.proofs.Common.{◌≡◌, ◌≢◌, inl, inr, ℕ, zero, suc, ◌+◌, ◌<◌, ◌≤◌, List, [], ◌∷◌, length, Option, Some, None, Result, Ok, Err, refl, sym, subst, ◌∙◌, arith}
+use Rattle.std.proofs.Common.{◌≡◌, ◌≢◌, inl, inr, ℕ, zero, suc, ◌+◌, ◌<◌, ◌≤◌, List, [], ◌∷◌, length, Option, Some, None, Result, Ok, Err, Bool, true, false, true≢false, refl, sym, subst, ◌∙◌, arith}
+use Rattle.std.specs.Prelude.{◌↔◌}
 use Rattle.std.specs.Io.KnownBytes.{IsAtEnd}
 use Rattle.td_io.specs.declared.reading.ReadError.{ReadError}
 use Rattle.td_io.specs.declared.reading.ReadError.TheVariants as reading
@@ -19,7 +20,7 @@ use Rattle.td_c_ends.specs.Lines.{usage_line, read_line, memory_line, refusal_li
 use Rattle.td_c_ends.specs.Passages.{Passage, passage, WriteFails, EndsWith, EndsWithOutput, EndsWithLine}
 use Rattle.td_c_tool.specs.declared.tool.TheConstants.{INPUT_LIMIT}
 use Rattle.td_c_tool.specs.Answers.{Admits, Refuses}
-use Rattle.td_c_tool.specs.CallEnds.{CallEnds, StopsReading, ReadFails, NoReadFails, WithinLimit, Held, MayLackMemory, IsOutput, IsErrorLine, EndsAs}
+use Rattle.td_c_tool.specs.CallEnds.{CallEnds, StopsReading, ReadFails, NoReadFails, WithinLimit, Held, IsOutput, IsErrorLine, EndsAs}
 use Rattle.td_c_tool.specs.InputEnds.{InputEnds, AnswersInput}
 
 -- ---- text that goes out
@@ -76,14 +77,14 @@ call_of : (words : List (List ℕ)) (command : Command) (status : Status) (sourc
 call_of words command status source out err means was = record {
   ends = was.ends;
   good = λ h.
-    let P : Command → Type 0 = λ k. Admits k h.1 in
-    (was.usage, was.good h.1 h.3 (subst P (one_command words h.0 command h.2 means) h.4));
+      let P : Command → Type 0 = λ k. Admits k h.1 in
+      (was.usage, was.good h.1 h.3 (subst P (one_command words h.0 command h.2 means) h.4));
   bad = λ h.
-    let P : Command → Type 0 = λ k. IsPrefix k.prefix in
-    (was.usage, was.bad (subst P (one_command words h.0.0 command h.0.1 means) h.0.2) h.1 h.2 h.3 h.4);
+      let P : Command → Type 0 = λ k. IsPrefix k.prefix in
+      (was.usage, was.bad (subst P (one_command words h.0.0 command h.0.1 means) h.0.2) h.1 h.2 h.3 h.4);
   unfit = λ h.
-    let P : Command → Type 0 = λ k. ¬ IsPrefix k.prefix in
-    (was.usage, was.unfit (subst P (one_command words h.0 command h.1 means) h.2));
+      let P : Command → Type 0 = λ k. ¬ IsPrefix k.prefix in
+      (was.usage, was.unfit (subst P (one_command words h.0 command h.1 means) h.2));
   taken = was.taken;
 }
 
@@ -125,7 +126,7 @@ read_call words command source input out err result means named read answered =
       usage = input_never command input out err result at.Usage (λ e. cc) (λ e. cc) (λ e. cc) (λ e. cc) answered.ends;
       good = λ told there admits. let P : List ℕ → Type 0 = λ i. Admits command i in answered.good (subst P (same_input source.before.left told input there read.held) admits);
       bad = λ fit told refusal there refuses. let P : List ℕ → Type 0 = λ i. Refuses i refusal in answered.bad refusal (subst P (same_input source.before.left told input there read.held) refuses);
-      unfit = λ no. absurd (no named);
+      unfit = λ other. absurd (other named);
       taken = read.taken;
     })
 
@@ -188,7 +189,7 @@ unread_call words command source error out err result means named was h =
       usage = unread_never error err result at.Usage (λ e. cc) (λ e. cc) (λ e. cc) (λ e. cc) h.0;
       good = λ input told admits. unread_good command source.before.left error input err result told admits was.long h.0;
       bad = λ fit input refusal told refuses. unread_never error err result at.Done (λ e. cc) (λ e. cc) (λ e. cc) (λ e. cc) h.0;
-      unfit = λ no. absurd (no named);
+      unfit = λ other. absurd (other named);
       taken = was.taken;
     })
 
@@ -210,15 +211,19 @@ never_read state src = record { untouched = refl; taken = took_none (state src).
 
 pub name_call : (words : List (List ℕ)) (command : Command) (status : Status) (source : Passage SourceState) (out err : Passage SinkState)
     → Means words command → ¬ IsPrefix command.prefix → IsUnread source → EndsWithLine at.Refused (refusal_line [] BadName) out err status → CallEnds words status source out err
-name_call words command status source out err means no unread h =
+name_call words command status source out err means unfit unread h =
     call_of words command status source out err means (record {
-      ends = line_ends at.Refused words source (refusal_line [] BadName) out err status (inl (record { command = command; means = means; unfit = no; unread = unread.untouched; line_is = refl })) h;
+      ends = line_ends at.Refused words source (refusal_line [] BadName) out err status (inl (record { command = command; means = means; unfit = unfit; unread = unread.untouched; line_is = refl })) h;
       usage = ends_or_fails at.Refused (refusal_line [] BadName) err status at.Usage h.0 (λ e. cc) (λ e. cc);
-      good = λ input told admits. absurd (no admits.0);
-      bad = λ fit. absurd (no fit);
-      unfit = λ unfit. ends_or_fails at.Refused (refusal_line [] BadName) err status at.Done h.0 (λ e. cc) (λ e. cc);
+      good = λ input told admits. absurd (unfit admits.0);
+      bad = λ fit. absurd (unfit fit);
+      unfit = λ also. ends_or_fails at.Refused (refusal_line [] BadName) err status at.Done h.0 (λ e. cc) (λ e. cc);
       taken = unread.taken;
     })
+
+-- what is no prefix by its test is none
+pub not_prefix : (test : Bool) (name own : List ℕ) → name ≡ own → (test ≡ true) ↔ IsPrefix name → test ≡ false → ¬ IsPrefix own
+not_prefix test name own same is failed fit = true≢false (sym (is.1 (subst IsPrefix (sym same) fit)) ∙ failed)
 
 pub usage_call : (words : List (List ℕ)) (status : Status) (source : Passage SourceState) (out err : Passage SinkState)
     → MeansNone words → IsUnread source → EndsWithLine at.Usage usage_line out err status → CallEnds words status source out err

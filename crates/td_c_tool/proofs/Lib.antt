@@ -1,3 +1,3 @@
 mod Calls
 mod Answered
-mod Laws
+mod Answering

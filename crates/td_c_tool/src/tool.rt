@@ -10,7 +10,9 @@ use crate::answer::answer_input;
 use std::alloc::Global;
 use td_c_command::command::{Command, command_of};
 use td_c_command::is_prefix;
-use td_c_ends::{Refusal, Status, finish_out_of_memory, finish_refused, finish_unread, finish_usage};
+use td_c_ends::{
+    Refusal, Status, finish_out_of_memory, finish_refused, finish_unread, finish_usage,
+};
 use td_io::{Sink, Source, read_whole};
 
 /// How many bytes an input has at most: 4 MiB.

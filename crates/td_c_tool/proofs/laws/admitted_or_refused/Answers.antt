@@ -1,4 +1,4 @@
-use Rattle.td_c_tool.proofs.Laws.{always_one}
+use Rattle.td_c_tool.proofs.Answering.{always_one}
 use Rattle.td_c_tool.proofs.laws.admitted_or_refused.Goals as goal
 
 pub returns : goal.returns

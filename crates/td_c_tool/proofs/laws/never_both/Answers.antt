@@ -1,4 +1,4 @@
-use Rattle.td_c_tool.proofs.Laws.{never_both}
+use Rattle.td_c_tool.proofs.Answering.{never_both}
 use Rattle.td_c_tool.proofs.laws.never_both.Goals as goal
 
 pub returns : goal.returns

@@ -1,4 +1,4 @@
-use Rattle.td_c_tool.proofs.Laws.{one_answer}
+use Rattle.td_c_tool.proofs.Answering.{one_answer}
 use Rattle.td_c_tool.proofs.laws.one_answer.Goals as goal
 
 pub returns : goal.returns

@@ -1,10 +1,9 @@
 -- An input has one answer, or it is refused.
-use Rattle.std.proofs.Common.{◌≡◌, ◌⊎◌, inl, inr, ℕ, ◌<◌, ◌≤◌, List, [], ◌∷◌, length, refl, sym, ap, subst, ◌∙◌}
+use Rattle.std.proofs.Common.{◌≡◌, ◌⊎◌, inl, inr, ℕ, ◌≤◌, List, [], ◌∷◌, length, refl, sym, ap, subst, ◌∙◌}
 use Rattle.std.proofs.lemmas.Bool.{cases_lt}
 use Rattle.td_core.specs.declared.module.Module.{Module}
 use Rattle.td_ir.specs.declared.tables.Parts.{Parts}
-use Rattle.td_front.specs.declared.error.FrontError.{FrontError}
-use Rattle.td_front.specs.ModuleText.{IsModuleText, RefusedBy}
+use Rattle.td_front.specs.ModuleText.{IsModuleText}
 use Rattle.td_front.specs.Laws as front
 use Rattle.td_code.specs.Laws.{CodeIsOne}
 use Rattle.td_c_text.specs.Texts.{IsFileOf}
@@ -14,9 +13,9 @@ use Rattle.td_c_command.specs.declared.command.CFile.{CFile}
 use Rattle.td_c_command.specs.declared.command.CFile.TheVariants.{Source, Header}
 use Rattle.td_c_command.specs.declared.command.Command.{Command}
 use Rattle.td_c_ends.specs.declared.refusal.Refusal.{Refusal}
-use Rattle.td_c_ends.specs.declared.refusal.Refusal.TheVariants.{BadName, TooLong, BadModule, NoEntry}
+use Rattle.td_c_ends.specs.declared.refusal.Refusal.TheVariants.{TooLong, BadModule, NoEntry}
 use Rattle.td_c_tool.specs.declared.tool.TheConstants.{INPUT_LIMIT}
-use Rattle.td_c_tool.specs.Answers.{Answers, Admits, Refuses, HasEntry, IsFile}
+use Rattle.td_c_tool.specs.Answers.{Admits, Refuses, IsFile}
 use Rattle.td_c_tool.specs.Laws.{OneAnswer, NeverBoth, AlwaysOne}
 use Rattle.td_c_tool.proofs.Answered.{not_refused, text_of}
 
@@ -47,9 +46,9 @@ stands_or command input m named short stands (n ∷ ns) some = inl (named, short
 
 short_or : front.AlwaysOne → (command : Command) (input : List ℕ) → IsPrefix command.prefix → length input ≤ INPUT_LIMIT → Admits command input ⊎ ((refusal : Refusal) × Refuses input refusal)
 short_or always command input named short = elim (always input) [
-    | inl stands ↦ stands_or command input stands.0 named short stands.1 stands.0.entries refl
-    | inr refused ↦ inr (BadModule refused.0, (short, refused.1))
-  ]
+  | inl stands ↦ stands_or command input stands.0 named short stands.1 stands.0.entries refl
+  | inr refused ↦ inr (BadModule refused.0, (short, refused.1))
+]
 
 pub always_one : front.AlwaysOne → AlwaysOne
 always_one always command input named = elim (cases_lt INPUT_LIMIT (length input)) [ inl long ↦ inr (TooLong, long) | inr short ↦ short_or always command input named short ]
