@@ -18,6 +18,6 @@ typedef struct {
   uint64_t cells[MOST_CELLS];
 } answer;
 
-/* By the C of td-c, whose headers and td.h name reasons alike, so that no file can have both. */
+/* By the C of td-c. */
 void by_td_c(const message *m, answer *a);
 #endif

@@ -1,6 +1,7 @@
 # What checks/scripts and checks/tools share: cases of a command, its status and all that it writes. `begin NAME` first, `finish` last.
 
-# The last line of the usage of each script that isn't td-check, td-draw or td-image.
+# The last line of the usage of each script that isn't td-check, td-draw or td-image; for those that source this.
+# shellcheck disable=SC2034
 unproved="An unproved script: docs/tools.md says what it shows."
 
 begin() {
@@ -9,6 +10,7 @@ begin() {
     [ -x "$TD" ] || { echo "$check: $TD isn't built"; exit 1; }
     passed=0
     failed=0
+    # shellcheck disable=SC2034
     top=$PWD
     work=$(mktemp -d)
     trap 'rm -rf "$work"' EXIT

@@ -10,7 +10,7 @@ NEXT_GENERATION = b"\x0a\x0d\x0d\x0a"
 FILE_HEADER, PACKET_HEADER = 24, 16
 
 
-def packet(name, path, data, number):
+def packet(name: str, path: str, data: bytes, number: int) -> tuple[bytes, int]:
     """The bytes of a packet, counted from 1, and how many it had on the wire."""
     if data[:4] == NEXT_GENERATION:
         raise Wrong("%s: the file '%s' is a capture of the pcapng format: `editcap -F pcap IN OUT` writes it as pcap" % (name, path))

@@ -127,9 +127,9 @@ def rows_of(known, job):
     told = Told(layout, words, memory.loaded)
     for row in shown.rows:
         row.note = note(row, told)
-    failed = [row for row in shown.rows if row.end is None]
-    if failed:
-        failed[-1].note = ("%s  <-- it failed here" % failed[-1].note).strip()
+    unended = [row for row in shown.rows if row.end is None]
+    if unended:
+        unended[-1].note = ("%s  <-- it failed here" % unended[-1].note).strip()
     value = value_job(known, (number, arguments, cells), accepted, told)
     return shown.rows, answers.written_line(written) + lines + memory.lines(), value
 

@@ -4,27 +4,30 @@ import json
 import os
 import signal
 import subprocess
+from collections.abc import Sequence
+from typing import Any
 
 from . import TOP
 from limits import MOST_MESSAGE, grouped
 
+Ended = subprocess.CompletedProcess[bytes]
 HEXADECIMAL = set("0123456789abcdefABCDEF")
 
 
 class Wrong(Exception):
     """What is printed to standard error, and the status."""
 
-    def __init__(self, said, status=2):
+    def __init__(self, said: str, status: int = 2) -> None:
         super().__init__(said)
         self.status = status
 
 
-def usage_of(document):
+def usage_of(document: str) -> str:
     """The lines of a script's head that say how it is called."""
     return document[document.index("usage:") :].split("\n\n")[0]
 
 
-def read(name, path, usage):
+def read(name: str, path: str, usage: str) -> bytes:
     try:
         with open(path, "rb") as file:
             return file.read()
@@ -32,25 +35,25 @@ def read(name, path, usage):
         raise Wrong("%s: can't read the file '%s'\n%s" % (name, path, usage)) from None
 
 
-def read_both(name, module, job, usage):
+def read_both(name: str, module: str, job: str, usage: str) -> tuple[bytes, bytes]:
     """A format and a job, out of their files. That they stand in the wrong order is said by their ends."""
     if module.endswith(".json") and job.endswith(".3d"):
         raise Wrong("%s: '%s' is the job, and stands behind the format\n%s" % (name, module, usage))
     return read(name, module, usage), read(name, job, usage)
 
 
-def is_of_host(job):
+def is_of_host(job: bytes) -> bool:
     """Whether a job is one of `td host`: it has guests."""
     fields = fields_of(job)
     return fields is not None and "guests" in fields
 
 
-def joined(module, job):
+def joined(module: bytes, job: bytes) -> bytes:
     """An input of `run`: the module as its file has it, ended by a line feed; the marker; the job."""
     return module + (b"" if not module or module.endswith(b"\n") else b"\n") + b"%%\n" + job
 
 
-def fields_of(job):
+def fields_of(job: bytes) -> dict[str, Any] | None:
     """The fields of a job; None where it is no JSON object, which the program then says."""
     try:
         value = json.loads(job.decode("utf-8"))
@@ -59,21 +62,22 @@ def fields_of(job):
     return value if isinstance(value, dict) else None
 
 
-def is_bytes(text):
+def is_bytes(text: object) -> bool:
     return isinstance(text, str) and len(text) % 2 == 0 and set(text) <= HEXADECIMAL
 
 
-def length_of(fields, content):
+def length_of(fields: dict[str, Any], content: str) -> int:
     """The length of a message: that of its bytes, or of its stretches together where they can be read."""
-    stretches = fields.get("stretches")
+    stretches: Any = fields.get("stretches")
     is_list = isinstance(stretches, list) and all(isinstance(pair, list) and len(pair) == 2 and type(pair[1]) is int for pair in stretches)
     return sum(size for _, size in stretches) if is_list else len(content) // 2
 
 
-def filled(name, job, data=None, path=None):
+def filled(name: str, job: bytes, data: bytes | None = None, path: str | None = None) -> bytes:
     """The job with the bytes of a file, where there is one, and with the length of its message where it has none. All else stays as it
     is written."""
-    fields, more = fields_of(job), {}
+    fields = fields_of(job)
+    more: dict[str, Any] = {}
     if data is not None:
         if fields is None:
             raise Wrong("%s: the job isn't a JSON object, so the bytes of '%s' have no place in it" % (name, path))
@@ -92,11 +96,11 @@ def filled(name, job, data=None, path=None):
     return job[:opening] + text.encode() + (b"," if fields else b"") + job[opening:]
 
 
-def program():
+def program() -> str:
     return os.environ.get("TD") or os.path.join(TOP, "td")
 
 
-def started(name, words, text, **outputs):
+def started(name: str, words: Sequence[str], text: bytes, **outputs: Any) -> Ended:
     """Runs the program. It may end before it took its input, and that doesn't end the script."""
     before = signal.signal(signal.SIGPIPE, signal.SIG_IGN)
     try:
@@ -107,16 +111,16 @@ def started(name, words, text, **outputs):
         signal.signal(signal.SIGPIPE, before)
 
 
-def run(name, words, text, capture=True):
+def run(name: str, words: Sequence[str], text: bytes, capture: bool = True) -> Ended:
     """Runs the program; its standard error is ours where `capture` is False or the output alone is captured."""
     return started(name, words, text, stdout=subprocess.PIPE if capture else None)
 
 
-def run_apart(name, words, text):
+def run_apart(name: str, words: Sequence[str], text: bytes) -> Ended:
     """Runs the program; both of its outputs are kept."""
     return started(name, words, text, capture_output=True)
 
 
-def status(code):
+def status(code: int) -> int:
     """The status of a program that a signal ended is that of a shell."""
     return 128 - code if code < 0 else code

@@ -1,6 +1,9 @@
 """Traces of what guests store, as lines (docs/tools.md has the format), and what of them a job can say."""
 
 import re
+from collections.abc import Callable
+from dataclasses import dataclass
+from typing import Any
 
 from limits import MOST_GUESTS, MOST_MESSAGE, MOST_POSTS, MOST_STORES, MOST_STRETCHES, grouped
 
@@ -13,15 +16,23 @@ STRETCH = re.compile(r"(0|[1-9][0-9]{0,18}),(0|[1-9][0-9]{0,18})")
 FORMS = "`GUEST store WORD VALUE`, `GUEST post WORD LENGTH`, `GUEST post PLACE,SIZE ..` or `load`"
 
 
+# The error of a line, by its number and what is wrong.
+Said = Callable[[int, str], Wrong]
+
+
+@dataclass(frozen=True)
 class Step:
-    """A line of a trace: its number, its guest, its verb (`store`, `post`, `load`), the word, and the value's digits or the length. Of a
+    """A line of a trace: its number, its guest (0 of a `load`), its verb (`store`, `post`, `load`), the word, and the value's digits or the length. Of a
     post of stretches the word is None, and these stand in the place of the length."""
 
-    def __init__(self, line, guest, verb, word, value):
-        self.line, self.guest, self.verb, self.word, self.value = line, guest, verb, word, value
+    line: int
+    guest: int
+    verb: str
+    word: int | None
+    value: Any
 
 
-def digits_of(text):
+def digits_of(text: str) -> str | None:
     """The 16 digits of a value in memory order; None where it is none. `0x..` is a number, whose byte of least weight lies first."""
     if MEMORY_ORDER.fullmatch(text):
         return text
@@ -30,17 +41,18 @@ def digits_of(text):
     return None
 
 
-def step_of(words, line, wrong):
+def step_of(words: list[str], line: int, wrong: Said) -> Step:
     if words == ["load"]:
-        return Step(line, None, "load", None, None)
+        return Step(line, 0, "load", None, None)
     is_listed = len(words) > 2 and words[1] == "post" and all(map(STRETCH.fullmatch, words[2:]))
     if not is_listed and (len(words) != 4 or words[1] not in ("store", "post")):
         raise wrong(line, "is none of %s" % FORMS)
-    guest, verb, word, value = words if not is_listed else (*words[:2], None, words[2:])
+    guest, verb = words[:2]
     if not NUMBER.fullmatch(guest) or not 1 <= int(guest) <= MOST_GUESTS:
         raise wrong(line, "`%s` is no guest: they are numbered from 1 to %d" % (guest, MOST_GUESTS))
     if is_listed:
-        return Step(line, int(guest), verb, None, stretches_of(value, line, wrong))
+        return Step(line, int(guest), verb, None, stretches_of(words[2:], line, wrong))
+    word, value = words[2:]
     if not NUMBER.fullmatch(word):
         raise wrong(line, "`%s` is no word: words of 8 bytes are numbered from 0" % word)
     if verb == "store":
@@ -53,17 +65,17 @@ def step_of(words, line, wrong):
     return Step(line, int(guest), verb, int(word), int(value))
 
 
-def stretches_of(texts, line, wrong):
-    found = [[int(number) for number in STRETCH.fullmatch(text).groups()] for text in texts]
+def stretches_of(texts: list[str], line: int, wrong: Said) -> list[list[int]]:
+    found = [[int(number) for number in text.split(",")] for text in texts]
     if len(found) > MOST_STRETCHES or sum(size for _, size in found) > MOST_MESSAGE:
         raise wrong(line, "a message has at most %d stretches and %s bytes" % (MOST_STRETCHES, grouped(MOST_MESSAGE)))
     return found
 
 
-def steps_of(name, path, data):
+def steps_of(name: str, path: str, data: bytes) -> list[Step]:
     """The steps of a trace. Empty lines, and what stands behind a `#`, are left out."""
 
-    def wrong(line, words):
+    def wrong(line: int, words: str) -> Wrong:
         return Wrong("%s: the trace '%s', line %d: %s" % (name, path, line, words))
 
     try:
@@ -82,17 +94,18 @@ def steps_of(name, path, data):
     return steps
 
 
-def stores_of(name, path, steps, words, what="the message"):
+def stores_of(name: str, path: str, steps: list[Step], words: int, what: str = "the message") -> list[list[Any]]:
     """The stores of a run job: those before the first `load` come before load 0, and so on. Which guest made them isn't said there.
     `what` has so many words."""
-    stores, before = [], 0
+    stores: list[list[Any]] = []
+    before = 0
     for step in steps:
         if step.verb == "load":
             before += 1
         elif step.verb == "post":
             said = "%s: the trace '%s', line %d: a run job has one message, and no posts: take --host, or the line out"
             raise Wrong(said % (name, path, step.line))
-        elif step.word >= words:
+        elif step.word is not None and step.word >= words:
             said = "%s: the trace '%s', line %d: %s has %d words, and no word %d"
             raise Wrong(said % (name, path, step.line, what, words, step.word))
         else:
@@ -100,9 +113,9 @@ def stores_of(name, path, steps, words, what="the message"):
     return stores
 
 
-def guests_of(name, path, steps, words, has_rings=False):
+def guests_of(name: str, path: str, steps: list[Step], words: int, has_rings: bool = False) -> list[dict[str, Any]]:
     """The guests of a host job, each with the script of its steps in their order. Where it has rings, they may post nothing."""
-    scripts = [[] for _ in range(max([step.guest or 0 for step in steps], default=0))]
+    scripts: list[list[Any]] = [[] for _ in range(max([step.guest for step in steps], default=0))]
     for step in steps:
         place = (name, path, step.line)
         if step.verb == "load":

@@ -1,15 +1,19 @@
 """Code as text and as the bytes of an image, and code made at random."""
 
 import functools
-import os
 import random
 import sys
 
 from instructions import FIELDS, FIELDS_OF, NUMBERS, places_of
 
 sys.dont_write_bytecode = True
-sys.path.append(os.path.dirname(os.path.dirname(os.path.dirname(os.path.abspath(__file__)))))
-from tools import image as IMAGES  # noqa: E402, F401
+from program import TOP  # noqa: E402
+
+sys.path.append(TOP)
+from tools import image  # noqa: E402
+
+# The reader of images, which those who import this module use under this name.
+IMAGES = image
 
 NO_FIELD = 0xFFFFFFFF
 SITES = places_of("site")

@@ -3,6 +3,7 @@
 import json
 import random
 import re
+from typing import Any
 
 from ring_inputs import RingMaker
 
@@ -13,7 +14,7 @@ STRAY_TOKENS = (
     "@ # #define {:act {:act- {:check [:byte-size [:byte-sizes == = { } ; , ( ) casetype 0x 12a 0xg $ é * / -> && UINT8 x 7 /* \0"
     " . A.T0 module where unit all_bytes all_zeros sizeof this if return abort field_pos true PUINT8 18446744073709551616 : ? ! ~ enum case"
 ).split(" ")
-OTHER_VALUES = [None, 1, [], [1], {}, "a", 1.5, -1, 2**64, True, [[0, 0]], [[0, 0, "00"]], [[0.0, 0, "0" * 16]], [300], [0, 0]]
+OTHER_VALUES: list[Any] = [None, 1, [], [1], {}, "a", 1.5, -1, 2**64, True, [[0, 0]], [[0, 0, "00"]], [[0.0, 0, "0" * 16]], [300], [0, 0]]
 
 
 class Maker(RingMaker):

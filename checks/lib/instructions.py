@@ -55,7 +55,7 @@ FIELD_OF = {operand: field for field, operands in HOLDS.items() for operand in o
 FIELDS_OF = {kind: tuple(FIELD_OF[operand] for operand in operands) for kind, operands in OPERANDS.items()}
 
 
-def places_of(*wanted):
+def places_of(*wanted: str) -> dict[str, int]:
     """Of each kind that has one of these operands, the place of the first among its own."""
     found = {kind: [k for k, operand in enumerate(operands) if operand in wanted] for kind, operands in OPERANDS.items()}
     return {kind: places[0] for kind, places in found.items() if places}

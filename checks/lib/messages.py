@@ -3,11 +3,11 @@
 FORMATS = ["ethernet", "ipv4", "tcp", "rndis"]
 
 
-def little(*numbers):
+def little(*numbers: int) -> bytes:
     return b"".join(number.to_bytes(4, "little") for number in numbers)
 
 
-def message(n):
+def message(n: int) -> tuple[str, list[int], bytes]:
     """The entry point, the arguments and the bytes of message n."""
     payload = 13 * (n // 4) % 1400
     headers = [

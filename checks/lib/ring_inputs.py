@@ -1,8 +1,10 @@
 """Rings of descriptors made at random, for host jobs, and what guests store to them."""
 
+from typing import Any
+
 from limits import MOST_MESSAGE
 
-OTHERS = [None, 1, [], [1], {}, "a", 1.5, -1, 2**64, True]
+OTHERS: list[Any] = [None, 1, [], [1], {}, "a", 1.5, -1, 2**64, True]
 
 
 class RingMaker:

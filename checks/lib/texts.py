@@ -3,16 +3,20 @@
 import glob
 import json
 import os
+from collections.abc import Iterator
+from typing import Any
 
 from inputs import Maker
 from program import TOP
 
 MADE = 400
 SEED = 1
+# A module text, and its job or None.
+Input = tuple[bytes, bytes | None]
 MARKER = b"\n%%\n"
 
 
-def parts(text):
+def parts(text: bytes) -> Input:
     """The module text and the job of an input; no job where no line is the marker."""
     if text.startswith(MARKER[1:]):
         return b"", text[len(MARKER) - 1 :]
@@ -20,7 +24,7 @@ def parts(text):
     return (module + b"\n", job) if marker else (text, None)
 
 
-def inputs_of_cases(path):
+def inputs_of_cases(path: str) -> Iterator[Input]:
     """The modules of a file of cases, each on a line of its own or on the lines below the word."""
     with open(path, "rb") as file:
         lines = file.read().split(b"\n")
@@ -33,7 +37,7 @@ def inputs_of_cases(path):
             yield line[len(b"module ") :] + b"\n", None
 
 
-def found_inputs():
+def found_inputs() -> Iterator[tuple[str, bytes, bytes | None]]:
     """Each input of the repository, and where it stands."""
     for path in sorted(glob.glob(os.path.join(TOP, "cases/**/*.txt"), recursive=True)):
         for module, job in inputs_of_cases(path):
@@ -50,7 +54,7 @@ def found_inputs():
         yield ("made %d" % count, *parts(maker.input()[1]))
 
 
-def plain_jobs():
+def plain_jobs() -> Iterator[tuple[str, dict[str, Any], str]]:
     """Text, job and report of each job of examples/ and formats/ that has no stores and isn't refused."""
     for path in sorted(glob.glob(TOP + "/examples/*/*.json") + glob.glob(TOP + "/formats/*/*.json")):
         folder, report = os.path.dirname(path), path[: -len("json")] + "report"

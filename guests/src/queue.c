@@ -267,7 +267,8 @@ bool queue_start(queue *q) {
   if (!check_open(&q->checker, m)) { fprintf(stderr, "queue %u: no session\n", q->number); return false; }
   q->stop = eventfd(0, EFD_CLOEXEC);
   q->told = q->seen;
-  q->is_lost = q->is_stopping = false;
+  q->is_lost = false;
+  q->is_stopping = false;
   q->is_running = !pthread_create(&q->thread, 0, work, q);
   return q->is_running;
 }

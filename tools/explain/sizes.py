@@ -93,10 +93,6 @@ def rest_not_last(module):
 # ---- X1.
 
 
-def ordinal(number):
-    return "%d%s" % (number, "th" if number % 100 in (11, 12, 13) else {1: "st", 2: "nd", 3: "rd"}.get(number % 10, "th"))
-
-
 def limit_passed(module):
     which = module.error.words.split()[1]
     place = next(place for place, (tree, _, _) in enumerate(module.parser.definitions) if tree.name[2] == module.error.at)

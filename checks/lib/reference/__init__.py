@@ -5,4 +5,6 @@ same inputs. What JSON is, is Python's reading here, and serde_json's in the pro
 corners in which these two differ (lone surrogates, numbers past a float's range, deep nesting).
 """
 
-from .answers import answer  # noqa: F401
+from .answers import answer
+
+__all__ = ["answer"]

@@ -1,7 +1,8 @@
 """Actions: their rules, and what they stand for: lists of ("set", cell, core), ("var", cell), ("if", test, one, other),
 ("return", core) and ("abort",)."""
 
-from .expressions import Core, type_alone
+from .expressions import type_alone
+from .values import Core
 
 
 class Actions:

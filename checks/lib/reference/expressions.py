@@ -4,30 +4,30 @@ A sort is None (nothing is known), "untyped" (a number with a broken part), "tru
 A core expression is a record with `kind`, `type` (its bits; 1 for a truth value), `at`, and its parts.
 """
 
-from types import SimpleNamespace as Core
+from typing import Any
 
 from .scopes import bits_of
 from .tokens import NUMBER_TYPES
+from .values import Core
 
-COMPUTED = set("+ - * / % << >> & ^ |".split())
 COMPARED = set("== != < <= > >=".split())
 
 
-def narrowest(number):
+def narrowest(number: int) -> int:
     return next(bits for bits in (8, 16, 32, 64) if number < 2**bits)
 
 
-def is_number(sort):
+def is_number(sort: Any) -> bool:
     return sort == "untyped" or type(sort) is tuple
 
 
-def type_alone(sort):
+def type_alone(sort: Any) -> int | None:
     if type(sort) is not tuple:
         return None
     return narrowest(sort[1]) if sort[0] == "literal" else sort[1]
 
 
-def type_beside(sort, other):
+def type_beside(sort: Any, other: Any) -> int | None:
     """A literal has the other side's type where it fits, else the narrowest that holds it; two have the wider of theirs."""
     if type(sort) is not tuple or sort[0] != "literal" or type(other) is not tuple:
         return type_alone(sort)
@@ -36,11 +36,11 @@ def type_beside(sort, other):
     return other[1] if sort[1] < 2 ** other[1] else narrowest(sort[1])
 
 
-def number_core(value, bits, at):
+def number_core(value: int, bits: int, at: int | None) -> Core:
     return Core(kind="number", value=value, type=bits, at=at, parts=[])
 
 
-def settled(core, bits):
+def settled(core: Core, bits: int | None) -> Core:
     """A literal in the type that it has here."""
     return number_core(core.value, bits, core.at) if core.kind == "number" and core.type != 1 and bits else core
 

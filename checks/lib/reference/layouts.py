@@ -1,6 +1,7 @@
 """The layout of a message: the stretches of a buffer that it is made of, and its words."""
 
 from bisect import bisect_right
+from collections.abc import Iterable, Sequence
 
 BYTES = 8
 
@@ -9,32 +10,35 @@ class Layout:
     """Stretches of a buffer, `(place, size)` each, in bytes. `is_listed` tells whether a report has the stretch of each load: of a
     message that is given by a list of stretches."""
 
-    def __init__(self, stretches, is_listed=True):
-        self.stretches, self.is_listed = [tuple(stretch) for stretch in stretches], is_listed
+    def __init__(self, stretches: Iterable[Sequence[int]], is_listed: bool = True) -> None:
+        self.stretches: list[tuple[int, int]] = [(place, size) for place, size in stretches]
+        self.is_listed = is_listed
         # Each message word: the stretch, from 0, and the word of the buffer, of which it holds a byte.
         self.words = [(number, word) for number, stretch in enumerate(self.stretches) for word in words_of_stretch(*stretch)]
-        self.ends, self.firsts, self.length, count = [], [], 0, 0
+        self.ends: list[int] = []
+        self.firsts: list[int] = []
+        self.length, count = 0, 0
         for stretch in self.stretches:
             self.length += stretch[1]
             self.ends.append(self.length)
             self.firsts.append(count)
             count += len(words_of_stretch(*stretch))
 
-    def where(self, place):
+    def where(self, place: int) -> tuple[int, int]:
         """The message word in which a byte of the message stands, and the byte's number in that word."""
         number = bisect_right(self.ends, place)
         at, size = self.stretches[number]
         byte = at + place - (self.ends[number] - size)
         return self.firsts[number] + byte // BYTES - at // BYTES, byte % BYTES
 
-    def message(self, memory):
+    def message(self, memory: bytes) -> bytes:
         """The message's bytes in a buffer that stays."""
         return b"".join(memory[place : place + size] for place, size in self.stretches)
 
-    def buffer_word(self, number):
+    def buffer_word(self, number: int) -> int:
         return self.words[number][1]
 
-    def number_of(self, words):
+    def number_of(self, words: Sequence[int]) -> int | None:
         """The number of the message word that a load's line names; None where the message has no such word."""
         if len(words) != 1 + self.is_listed:
             return None
@@ -43,21 +47,21 @@ class Layout:
             return None
         return self.firsts[number] + word - self.stretches[number][0] // BYTES
 
-    def load_line(self, number, value):
+    def load_line(self, number: int, value: int) -> str:
         shown = "%d %d" % self.words[number] if self.is_listed else "%d" % number
         return "load %s %016x\n" % (shown, value)
 
 
-def words_of_stretch(place, size):
+def words_of_stretch(place: int, size: int) -> range:
     """The words of the buffer that hold a byte of a stretch."""
     return range(place // BYTES, (place + size - 1) // BYTES + 1) if size else range(0)
 
 
-def plain(length):
+def plain(length: int) -> Layout:
     """A message that is the first bytes of a buffer."""
     return Layout([(0, length)], False)
 
 
-def at_word(base, length):
+def at_word(base: int, length: int) -> Layout:
     """A message that begins at a word of a buffer."""
     return Layout([(BYTES * base, length)], False)

@@ -1,5 +1,8 @@
 """Rings of descriptors in a guest's memory: their fields in a host job, and where their descriptors stand."""
 
+from dataclasses import dataclass
+from typing import Any
+
 from limits import MOST_ENTRIES, MOST_MESSAGE, MOST_RINGS, MOST_TAKES
 
 from .jobs import check_names, is_whole, require
@@ -18,30 +21,33 @@ entrypoint typedef struct _DESC(UINT32 room, UINT32 most, mutable DESC_OUT *r) {
 """
 
 
+@dataclass(frozen=True)
 class Ring:
     """The word of the count, how many descriptors there is room for, how long a message may be, and how often the ring is looked at."""
 
-    def __init__(self, base, entries, most, takes):
-        self.base, self.entries, self.most, self.takes = base, entries, most, takes
+    base: int
+    entries: int
+    most: int
+    takes: int
 
-    def end(self):
+    def end(self) -> int:
         return self.base + 1 + DESCRIPTOR_WORDS * self.entries
 
-    def first_word(self, number):
+    def first_word(self, number: int) -> int:
         """The word of the buffer in which descriptor `number` begins."""
         return self.base + 1 + DESCRIPTOR_WORDS * (number % self.entries)
 
-    def standing(self, taken, made):
+    def standing(self, taken: int, made: int) -> str:
         if made == taken:
             return IDLE
         return WAITING if 0 < made - taken <= self.entries else OVERRUN
 
-    def words(self):
+    def words(self) -> int:
         """How many words its takes count for in a job's total."""
         return self.takes * (self.most // 8 + DESCRIPTOR_WORDS)
 
 
-def ring_of(ring, path, words):
+def ring_of(ring: Any, path: str, words: int) -> Ring:
     require(isinstance(ring, dict), "J2", path)
     for name in FIELDS:
         require(is_whole(ring.get(name)), "J2", "%s.%s" % (path, name))
@@ -52,7 +58,7 @@ def ring_of(ring, path, words):
     return found
 
 
-def rings_of(job, words):
+def rings_of(job: dict[str, Any], words: int) -> list[Ring]:
     rings = job.get("rings", [])
     require(isinstance(rings, list), "J2", "rings")
     require(len(rings) <= MOST_RINGS, "J8", "rings")

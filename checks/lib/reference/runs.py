@@ -109,7 +109,7 @@ class Run:
         return start
 
     def field(self, field, later, level, values, cells, places, start, end):
-        element, (form, size) = field.element, field.extent
+        element, form = field.element, field.extent[0]
         number, position = None, start
         if form == "once" and element.kind in ("number", "enum"):
             width = bits_of(element.base) // 8

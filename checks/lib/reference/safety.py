@@ -3,30 +3,46 @@
 A fact is a comparison that is known true: (relation, left, right), its sides core expressions.
 """
 
-from types import SimpleNamespace as Core
+import dataclasses
+from typing import Any
 
 from .errors import ModuleError
 from .sizes import field_lists
-from .values import constant_of
+from .values import Core, constant_of
 
 TURNED = {"==": "!=", "!=": "==", "<": ">=", ">=": "<", ">": "<=", "<=": ">"}
 SWAPPED = {"==": "==", "!=": "!=", "<": ">", ">": "<", "<=": ">=", ">=": "<="}
 
 
-def key(core):
+# What `key` gives: equal for two expressions that are the same.
+Key = tuple[Any, ...]
+
+
+@dataclasses.dataclass(frozen=True)
+class Fact:
+    """A comparison that is known true, with the keys of its sides."""
+
+    relation: str
+    left: Core
+    right: Core
+    left_key: Key
+    right_key: Key
+
+
+def key(core: Core) -> Key:
     """Equal for two expressions that are the same: constant parts by their values, each part with its type."""
     value = constant_of(core)
     if value is not None:
         return ("number", core.type, value)
     own = core.level if core.kind == "name" else None
-    return (core.kind, core.type, own) + tuple(key(part) for part in core.parts)
+    return (core.kind, core.type, own, *(key(part) for part in core.parts))
 
 
-def keyed(relation, left, right):
-    return Core(relation=relation, left=left, right=right, left_key=key(left), right_key=key(right))
+def keyed(relation: str, left: Core, right: Core) -> Fact:
+    return Fact(relation, left, right, key(left), key(right))
 
 
-def facts_of(core, holds):
+def facts_of(core: Core, holds: bool) -> list[Fact]:
     """The conjuncts that are known where a truth value holds, or where it doesn't."""
     if core.kind == "!":
         return facts_of(core.parts[0], not holds)
@@ -41,7 +57,7 @@ def facts_of(core, holds):
     return []
 
 
-def cut(core, low, high, facts):
+def cut(core: Core, low: int, high: int, facts: list[Fact]) -> tuple[int, int]:
     mine = key(core)
     for fact in facts:
         for relation, side, other in ((fact.relation, fact.left_key, fact.right), (SWAPPED[fact.relation], fact.right_key, fact.left)):
@@ -121,7 +137,7 @@ def is_safe(core, facts):
         return high * greatest < 2**core.type
     if core.kind in ("/", "%"):
         zero = Core(kind="number", type=b.type, value=0, parts=[])
-        return least >= 1 or any(says(facts, ("!=",), b, Core(**{**vars(zero), "type": bits})) for bits in (8, 16, 32, 64))
+        return least >= 1 or any(says(facts, ("!=",), b, dataclasses.replace(zero, type=bits)) for bits in (8, 16, 32, 64))
     return greatest < a.type
 
 

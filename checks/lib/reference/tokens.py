@@ -1,8 +1,12 @@
 """Tokens: triples of a kind, a value, and the byte at which the token begins."""
 
 import re
+from typing import Any
 
 from .errors import ModuleError
+
+# A kind, a value (of a number its value, else its spelling), and the place.
+Token = tuple[str, Any, int]
 
 KEYWORDS = set(
     "typedef struct casetype enum switch case default entrypoint output where mutable unit all_bytes all_zeros sizeof this"
@@ -22,12 +26,12 @@ WORD = re.compile(rb"[A-Za-z_][A-Za-z0-9_]*")
 MOST_DIGITS = 21
 
 
-def follows(text, at, more=""):
+def follows(text: bytes, at: int, more: str = "") -> bool:
     """Whether a letter, a digit, `_` or one of `more` stands at a place."""
     return at < len(text) and text[at] < 128 and re.match(r"[A-Za-z0-9_%s]" % more, chr(text[at])) is not None
 
 
-def after_trivia(text, at):
+def after_trivia(text: bytes, at: int) -> int | None:
     """The place after the white space or comment that begins here; None where none does."""
     if text[at] in b" \t\r\n":
         return at + 1
@@ -42,13 +46,19 @@ def after_trivia(text, at):
     return None
 
 
-def whole(digits):
+def whole(digits: str) -> int:
     """The number that decimal digits spell; in place of one of 2^64 or more some such number, as Python reads no more than 4,300 digits."""
     return int(digits.lstrip("0")[:MOST_DIGITS] or "0")
 
 
-def number(text, at):
-    spelling = NUMBER.match(text, at).group().decode()
+def spelled(pattern: re.Pattern[bytes], text: bytes, at: int) -> str:
+    """What of the text a pattern takes, at a place where it takes something."""
+    found = pattern.match(text, at)
+    return found.group().decode() if found else ""
+
+
+def number(text: bytes, at: int) -> tuple[Token, int]:
+    spelling = spelled(NUMBER, text, at)
     end = at + len(spelling)
     if follows(text, end):
         raise ModuleError("L1", end, "bad byte")
@@ -58,13 +68,13 @@ def number(text, at):
     return ("NUM", value, at), end
 
 
-def word(text, at):
-    spelling = WORD.match(text, at).group().decode()
+def word(text: bytes, at: int) -> tuple[Token, int]:
+    spelling = spelled(WORD, text, at)
     kind = "INT" if spelling in NUMBER_TYPES else spelling if spelling in KEYWORDS else "NAME"
     return (kind, spelling, at), at + len(spelling)
 
 
-def punctuation(text, at):
+def punctuation(text: bytes, at: int) -> tuple[Token, int]:
     """The longest sign or marked word that begins here."""
     begun = [s for s in PUNCTUATION if text.startswith(s.encode(), at)]
     begun += [w for w in MARKED_WORDS if text.startswith(w.encode(), at) and not follows(text, at + len(w), "-")]
@@ -74,8 +84,9 @@ def punctuation(text, at):
     return (longest, longest, at), at + len(longest)
 
 
-def tokens_of(text):
-    tokens, at = [], 0
+def tokens_of(text: bytes) -> list[Token]:
+    tokens: list[Token] = []
+    at = 0
     while at < len(text):
         after = after_trivia(text, at)
         if after is None:

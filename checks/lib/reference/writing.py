@@ -71,7 +71,7 @@ class Writer(Run):
 
     def write(self, number, values, cells, places, value, path):
         made = self.types[number]
-        given, fields, level = list_of(value, path), made.fields, len(values)
+        given, fields = list_of(value, path), made.fields
         if fields is not None:
             self.count(fields, given, path)
         want(made.guard is None or value_of(made.guard, values), "E3", path)

@@ -12,7 +12,7 @@ use Rattle.td_foreign.specs.declared.noted.TdLoad.{TdLoad}
 use Rattle.td_foreign.specs.Noted.{AreRows}
 use Rattle.td_ir.specs.Entries.{Fits, buffers_of}
 use Rattle.td_stream.specs.Copies.{held_by}
-use Rattle.td_vm.specs.Frames.{FrameView}
+use Rattle.td_vm.specs.Frames.{FrameView, IsRestEmpty}
 use Rattle.td_session.specs.Validated.{IsValidated}
 use Rattle.td_c.specs.declared.answers.Refusal.{Refusal}
 use Rattle.td_c.specs.declared.answers.Refusal.TheVariants.{Past, NoEntry, Unfit}
@@ -76,6 +76,8 @@ pub record HasAnswered (c : Parts) (before frame : FrameView) (answer : Result V
   -- the verdict is that of the code's run, and so is the count of steps
   pub validated : IfOk answer (λ v. IsValidated c (entry_asked asked) (args_of asked) (cells_of asked) layout loads
       (record { verdict = v; trace = frame.trace; cells = cells_of after; copies = copied_by c (entry_asked asked) frame }) after.step_count)
+  -- the copy buffers behind the entry point's hold nothing
+  pub rest : IfOk answer (λ v. IsRestEmpty c (buffers_of c (entry_asked asked)) frame)
   pub told : IfOk answer (λ v. IsTold v frame.trace loads after)
   pub same : SameQuestion asked after
   -- else nothing was loaded, and the call and the room are as before

@@ -4,8 +4,9 @@ ghost use Rattle.std.specs.Prelude.{◌≡◌, ◌≤◌, ◌↔◌, [], Some, I
 ghost use Rattle.std.specs.Arc.{arc_value};
 ghost use Rattle.td_stream.specs.Layouts.{AreWithin, count_in};
 ghost use Rattle.td_stream.specs.Loads.{buffered};
-ghost use Rattle.td_ir.specs.Entries.{Fits};
+ghost use Rattle.td_ir.specs.Entries.{Fits, buffers_of};
 ghost use Rattle.td_foreign.specs.Noted.{IsNoted};
+ghost use Rattle.td_vm.specs.Frames.{IsRestEmpty};
 ghost use Rattle.td_session.specs.Validated.{IsValidated};
 ghost use Rattle.td_c.specs.Asked.{HasAnswered, SameQuestion, entry_asked, args_of, cells_of, copied_by};
 ghost use Rattle.td_c.specs.Numbers.{position_told, reason_told};
@@ -70,6 +71,7 @@ fn run_noted<W: Words>(
     ensures fits { IsSome result.0 ↔ Fits (arc_value session.old.code) entry args.now cells.old }
     ensures validated { IfSome result.0 (λ v. IsValidated (arc_value session.old.code) entry args.now cells.old layout.now (W.loads words.new)
         (record { verdict = v.0; trace = session.new.frame.trace; cells = cells.new; copies = copied_by (arc_value session.old.code) entry session.new.frame }) v.1) }
+    ensures rest { IfSome result.0 (λ v. IsRestEmpty (arc_value session.old.code) (buffers_of (arc_value session.old.code) entry) session.new.frame) }
     ensures reaches { W.reaches words.old words.new }
     ensures unloaded { IsNone result.0 → W.loads words.new ≡ [] }
     ensures unchanged { IsNone result.0 → cells.new ≡ cells.old }
@@ -98,6 +100,7 @@ fn run_session(
     ensures fits { IsSome result.verdict ↔ Fits (arc_value session.old.code) entry args.now cells.old }
     ensures validated { IfSome result.verdict (λ v. IsValidated (arc_value session.old.code) entry args.now cells.old layout.now result.made
         (record { verdict = v.0; trace = session.new.frame.trace; cells = cells.new; copies = copied_by (arc_value session.old.code) entry session.new.frame }) v.1) }
+    ensures rest { IfSome result.verdict (λ v. IsRestEmpty (arc_value session.old.code) (buffers_of (arc_value session.old.code) entry) session.new.frame) }
     ensures unloaded { IsNone result.verdict → result.made ≡ [] }
     ensures unchanged { IsNone result.verdict → cells.new ≡ cells.old }
     ensures kept { IsNone result.verdict → session.new.frame ≡ session.old.frame }
@@ -135,6 +138,7 @@ fn run_front(
     ensures fits { IsSome result.verdict ↔ Fits (arc_value session.old.code) entry args.now (take cell_count cells.old) }
     ensures validated { IfSome result.verdict (λ v. IsValidated (arc_value session.old.code) entry args.now (take cell_count cells.old) layout.now result.made
         (record { verdict = v.0; trace = session.new.frame.trace; cells = take cell_count cells.new; copies = copied_by (arc_value session.old.code) entry session.new.frame }) v.1) }
+    ensures rest { IfSome result.verdict (λ v. IsRestEmpty (arc_value session.old.code) (buffers_of (arc_value session.old.code) entry) session.new.frame) }
     ensures unloaded { IsNone result.verdict → result.made ≡ [] }
     ensures unchanged { IsNone result.verdict → cells.new ≡ cells.old }
     ensures kept { IsNone result.verdict → session.new.frame ≡ session.old.frame }
@@ -164,6 +168,7 @@ fn run_call(
     ensures fits { IsSome result.verdict ↔ Fits (arc_value session.old.code) (entry_asked call.old) (args_of call.old) (cells_of call.old) }
     ensures validated { IfSome result.verdict (λ v. IsValidated (arc_value session.old.code) (entry_asked call.old) (args_of call.old) (cells_of call.old) layout.now result.made
         (record { verdict = v.0; trace = session.new.frame.trace; cells = cells_of call.new; copies = copied_by (arc_value session.old.code) (entry_asked call.old) session.new.frame }) v.1) }
+    ensures rest { IfSome result.verdict (λ v. IsRestEmpty (arc_value session.old.code) (buffers_of (arc_value session.old.code) (entry_asked call.old)) session.new.frame) }
     ensures unloaded { IsNone result.verdict → result.made ≡ [] }
     ensures unchanged { IsNone result.verdict → call.new ≡ call.old }
     ensures kept { IsNone result.verdict → session.new.frame ≡ session.old.frame }

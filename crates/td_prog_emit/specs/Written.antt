@@ -1,9 +1,10 @@
 -- What is written of code, in pieces (own rule).
-use Rattle.std.specs.Prelude.{◌≡◌, ℕ, ◌+◌, ◌-◌, ◌*◌, List, [], ◌∷◌, ◌++◌, codes, decimal, flat_map, map, length, slice_range, Result, OnOk}
+use Rattle.std.specs.Prelude.{◌≡◌, ℕ, ◌+◌, ◌-◌, ◌*◌, ◌^◌, ◌<◌, List, [], ◌∷◌, ◌++◌, codes, decimal, flat_map, map, length, slice_range, Result, OnOk}
 use Rattle.std.specs.declared.alloc.AllocError.{AllocError}
 use Rattle.td_core.specs.declared.outcome.Reason.{Reason}
 use Rattle.td_ir.specs.declared.instructions.Instr.{Instr}
 use Rattle.td_ir.specs.declared.tables.Parts.{Parts}
+use Rattle.td_ir.specs.declared.tables.EntryPoint.{EntryPoint}
 use Rattle.td_ir.specs.Tables.{site_of}
 use Rattle.td_prog.specs.Syntax.{Pos, End, Start, Outer, Low, Number, More, Most, Room, Count, Reg, Shr, Lt, Num, Get, Binary, Block, Ends, Assign, Store, Byte, Member, If, CallHelper, Helper, Function, registers}
 use Rattle.td_prog_code.specs.Prelude.{bytes_from, copy_helper, plus, prelude}
@@ -101,3 +102,9 @@ abbrev pub function_at : Parts → (n params count cells buffers first end : ℕ
 function_at c n params count cells buffers first end =
     head_pieces c n params cells buffers ++ (locals_pieces params count ++ (codes "    start = pos;\n    outer = end;\n"
     ∷ (lines.statements c.names helper_names (routine_names c) (body c n) 1 (first_block c n (blocks c n first (slice_range c.instructions first end))) ++ codes "}\n\n" ∷ [])))
+
+-- an entry point whose tables have no more than a routine may have
+pub record IsSmall (e : EntryPoint) : Type 0 where
+  pub params : length e.params < 2 ^ 16
+  pub cells : length e.cells < 2 ^ 16
+  pub buffers : length e.buffers < 2 ^ 16

@@ -54,8 +54,8 @@ pub fn push_functions(alloc: Global, out: &mut Vec<u8>, parts: &Parts) -> Result
     push_routines(alloc, out, parts)
 }
 
-// The parts of verified code, with what the verifier promises of them.
-fn parts_of(code: &Verified) -> &Parts
+/// The parts of verified code, with what the verifier promises of them.
+pub fn parts_of(code: &Verified) -> &Parts
     ensures same { result.now ≡ code.now }
     ensures code { IsCode result.now }
     ensures sound { IsSound result.now }

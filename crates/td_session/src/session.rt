@@ -7,7 +7,7 @@ ghost use Rattle.td_stream.specs.Layouts.{count_in};
 ghost use Rattle.td_ir.specs.Entries.{Fits, IsEntryNamed, IsFirstNamed, buffers_of};
 ghost use Rattle.td_stream.specs.Copies.{held_by};
 ghost use Rattle.td_ir.specs.WellFormed.{IsCode};
-ghost use Rattle.td_vm.specs.Frames.{IsArmed};
+ghost use Rattle.td_vm.specs.Frames.{IsArmed, IsRestEmpty};
 ghost use Rattle.td_session.specs.Room.{IsFresh};
 ghost use Rattle.td_session.specs.Validated.{IsValidated};
 
@@ -142,6 +142,8 @@ impl Session {
         // many steps.
         ensures validated { IfSome result (λ v. IsValidated (arc_value self.old.code) entry args.now cells.old layout.now (W.loads words.new)
             (record { verdict = v.0; trace = self.new.frame.trace; cells = cells.new; copies = held_by (take (buffers_of (arc_value self.old.code) entry) self.new.frame.copies) }) v.1) }
+        // The buffers behind the entry point's are empty.
+        ensures rest { IfSome result (λ v. IsRestEmpty (arc_value self.old.code) (buffers_of (arc_value self.old.code) entry) self.new.frame) }
         ensures reaches { W.reaches words.old words.new }
         // Else nothing was loaded, and the cells and the session's room are as they were.
         ensures unloaded { IsNone result → W.loads words.new ≡ [] }

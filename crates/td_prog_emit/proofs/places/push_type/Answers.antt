@@ -1,0 +1,5 @@
+use Rattle.td_prog_emit.proofs.Texts.{same_piece}
+use Rattle.td_prog_emit.proofs.places.push_type.Goals as goal
+
+pub returns : goal.returns
+returns c = same_piece c.push.ensures c.type_of.ensures

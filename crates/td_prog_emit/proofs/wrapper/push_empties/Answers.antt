@@ -1,0 +1,13 @@
+use Rattle.std.proofs.Common.{◌<◌, length, refl, arith}
+use Rattle.td_ir.specs.Tables.{buffer_of}
+use Rattle.td_prog_emit.proofs.Indexed.{written_all, written_more}
+use Rattle.td_prog_text.specs.Entries.{emptied}
+use Rattle.td_prog_emit.proofs.wrapper.push_empties.Goals as goal
+
+pub loop-k-preserved : goal.loop-k-preserved
+loop-k-preserved c =
+    let h : c.loop-k.k < length c.args.entry.now.buffers = omega (arith, c.loop-k-test.true, c.len-k-end.ensures) in
+    written_more (emptied c.args.entry.now c.args.names.now) c.args.entry.now.buffers c.loop-k.k _ (buffer_of c.args.entry.now.buffers c.loop-k.k) c.loop-k.invariant refl (c.in_ok-push_empty.ensures {u = tt} (buffer_of c.args.entry.now.buffers c.loop-k.k)) h
+
+pub returns : goal.returns
+returns c = written_all (emptied c.args.entry.now c.args.names.now) c.args.entry.now.buffers c.loop-k.k c.loop-k.invariant (omega (arith, c.loop-k.auto.k-end, c.loop-k-test.false, c.len-k-end.ensures))
