@@ -19,7 +19,8 @@ use td_ir::instructions::Instr;
 use td_ir::tables::Parts;
 use td_verify::shape::{Shape, shape_of};
 
-fn instruction_at(parts: &Parts, pc: usize) -> Instr
+/// An instruction by its place.
+pub fn instruction_at(parts: &Parts, pc: usize) -> Instr
     requires { pc < length parts.now.instructions }
     ensures { result ≡ instruction_of parts.now pc }
 {
