@@ -7,10 +7,10 @@ ghost use Rattle.td_c_text.specs.Texts.{IsCHeader, IsCSource};
 
 use crate::laws::texts_tell_in_c;
 use std::alloc::{AllocError, Global};
-use td_prog_emit as emit;
 use td_code::code_of;
 use td_core::module::Module;
 use td_num::text::Text;
+use td_prog_emit as emit;
 
 /// The file of the functions of a module's C, whose names begin with a prefix, which includes `PREFIX.h`. It is C where the
 /// prefix is a letter, then letters, digits and `_`. `AllocError`: there was no memory for it.
