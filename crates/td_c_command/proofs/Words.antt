@@ -1,4 +1,4 @@
--- What a parse of the words says of their command.
+-- What a parse of the words says of their command. Cited by other crates.
 use Rattle.std.proofs.Common.{◌≡◌, ℕ, List, [], ◌∷◌, codes, Option, Some, None, Result, Ok, Err, Bool, ◌||◌, IfOk, MatchResult, MatchOption, option_map, true, false, refl, sym, subst, ap, ap₂, ◌∙◌}
 use Rattle.std.specs.Prelude.{Box}
 use Rattle.std.specs.Box.{box_value}
@@ -111,7 +111,7 @@ one_found : (found : Found) (a b : Command) → Is found a → Is found b → a 
 one_found None a b one two = absurd one
 one_found (Some found) a b one two = one_fitting found.0 (first_of (codes "NAME") found.1) a b one two
 
--- words mean one command at most. Cited by other crates
+-- words mean one command at most
 pub one_command : (words : List (List ℕ)) (a b : Command) → Means words a → Means words b → a ≡ b
 one_command words a b one two = one_found (subcommand_of command_app words) a b one.1 two.1
 

@@ -1,0 +1,5 @@
+pub mod Answers
+pub mod CallEnds
+pub mod InputEnds
+pub mod Files
+pub mod Laws
